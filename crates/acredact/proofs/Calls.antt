@@ -14,21 +14,24 @@ use Rattle.programs.specs.Failures.{failure_of_stream}
 use Rattle.programs.specs.Streams.{bytes_left}
 use Rattle.programs.specs.Telling.{Tells, TellsBytes, TellsSome}
 use Rattle.programs.specs.declared.errors.Errors.{Errors}
-use Rattle.programs.specs.declared.failure.Failure.TheVariants.{Build, OutOfMemory, Write as NotWritten, WriteZero as TakesNothing}
+use Rattle.programs.specs.declared.failure.Failure.TheVariants.{OutOfMemory, Write as NotWritten, WriteZero as TakesNothing}
 use Rattle.programs.specs.declared.reason.Reason.{Reason}
 use Rattle.programs.proofs.Tellings.{tells-later}
 use Rattle.acredact.specs.Arguments.{has}
 use Rattle.acredact.specs.Calls.{BeginsCall, Call, CallOutcome, IsCountsFailure, IsCountsLine, IsLineOf, IsRunFailure, IsUnreadLine, IsUntouched, MayFail, OutputFails, RestOutcome, RunOutcome, TellsCounts, names_asked, work_by}
-use Rattle.acredact.specs.Counts.{counts_text}
+use Rattle.acredact.specs.Counts.{counts_text, zeros}
 use Rattle.acredact.specs.Files.{AreCut, FilesOutcome, IsDone, Work, are_none, unread_line}
 use Rattle.acredact.specs.Messages.{output_line}
-use Rattle.acredact.specs.Tables.{Secret}
+use Rattle.acredact.specs.Tables.{Secret, secrets_of}
+use Rattle.acredact.specs.Totals.{CountsOfNames}
 use Rattle.acredact.specs.declared.arguments.Word.TheVariants.{Count}
 use Rattle.acredact.specs.declared.clean.Unclean.{Unclean}
 use Rattle.acredact.specs.declared.failure.Failure.{Failure}
 use Rattle.acredact.specs.declared.failure.Failure.TheVariants.{Counts, Other, Unclean as UncleanPiece}
+use Rattle.acredact.specs.declared.patterns.Rule.{Rule}
 use Rattle.acredact.specs.declared.streams.Streams.{Streams}
 use Rattle.acredact.proofs.Done.{concat_both, cut_of, redacted_of, tells_none}
+use Rattle.acredact.proofs.Totals.{totals_told}
 
 -- no line is one
 none_are : (lines : List (List ℕ)) → are_none lines ≡ true → lines ≡ []
@@ -73,14 +76,14 @@ module _ {R : Type 0} {Reads : Readers R} {W E : Type 0} (Writes : Writers W) (K
 
   -- memory may always run out
   pub run_memory : (streams : Streams R W E Reads) → RunOutcome Writes K work (Err (Other OutOfMemory)) streams streams
-  run_memory streams = run_refused streams (Other OutOfMemory) (inr (inl refl))
+  run_memory streams = run_refused streams (Other OutOfMemory) (inl refl)
 
   run_failure : (error : StreamError) (old new : Streams R W E Reads) → FilesOutcome Writes K work (Err error) old new → IsRunFailure (OutputFails old.output new.output) (Other (failure_of_stream error))
   run_failure (Match cause) old new files = absurd files.fails.only
   run_failure (Read fault) old new files = absurd files.fails.only
-  run_failure (Write fault) old new files = inr (inr (inl refl, inl files.fails.write_failed))
-  run_failure WriteZero old new files = inr (inr (inr refl, inr files.fails.took_nothing))
-  run_failure Memory old new files = inr (inl refl)
+  run_failure (Write fault) old new files = inr (inl refl, inl files.fails.write_failed)
+  run_failure WriteZero old new files = inr (inr refl, inr files.fails.took_nothing)
+  run_failure Memory old new files = inl refl
   run_failure PositionLimit old new files = absurd files.fails.only
 
   pub run_fails : (error : StreamError) (old new : Streams R W E Reads) → FilesOutcome Writes K work (Err error) old new → RunOutcome Writes K work (Err (Other (failure_of_stream error))) old new
@@ -112,10 +115,9 @@ module _ {R : Type 0} {Reads : Readers R} {W E : Type 0} (Writes : Writers W) (K
 
 -- why a run fails, and that it is no piece
 run_other : (fails : Type 0) (failure : Failure) (unclean : Unclean) → IsRunFailure fails failure → failure ≡ UncleanPiece unclean → ⊥
-run_other fails failure unclean (inl (error, of)) is = let clash : Other (Build error) ≡ UncleanPiece unclean = sym of ∙ is in cc
-run_other fails failure unclean (inr (inl of)) is = let clash : Other OutOfMemory ≡ UncleanPiece unclean = sym of ∙ is in cc
-run_other fails failure unclean (inr (inr (inl of, why))) is = let clash : Other NotWritten ≡ UncleanPiece unclean = sym of ∙ is in cc
-run_other fails failure unclean (inr (inr (inr of, why))) is = let clash : Other TakesNothing ≡ UncleanPiece unclean = sym of ∙ is in cc
+run_other fails failure unclean (inl of) is = let clash : Other OutOfMemory ≡ UncleanPiece unclean = sym of ∙ is in cc
+run_other fails failure unclean (inr (inl of, why)) is = let clash : Other NotWritten ≡ UncleanPiece unclean = sym of ∙ is in cc
+run_other fails failure unclean (inr (inr of, why)) is = let clash : Other TakesNothing ≡ UncleanPiece unclean = sym of ∙ is in cc
 
 counts_other : (counted : Bool) (failure : Failure) (unclean : Unclean) → IsCountsFailure counted failure → failure ≡ UncleanPiece unclean → ⊥
 counts_other counted failure unclean (some, inl of) is = let clash : Counts ≡ UncleanPiece unclean = sym of ∙ is in cc
@@ -123,7 +125,7 @@ counts_other counted failure unclean (some, inr of) is = let clash : Other OutOf
 
 -- what may be told, and why
 pub may_fail : (call : Call) (fails : Type 0) (failure : Failure) → IsRunFailure fails failure → MayFail call fails failure
-may_fail call fails failure is = inr (inr (inr (inr is)))
+may_fail call fails failure is = inr (inr (inr (inr (inr is))))
 
 -- the files of a call whose patterns were loaded
 module _ {R : Type 0} {Reads : Readers R} {W E : Type 0} (Writes : Writers W) (K : SinkGhosts E) (call : Call) where
@@ -168,36 +170,49 @@ module _ {R : Type 0} {Reads : Readers R} {W E : Type 0} (Writes : Writers W) (K
         let all = lines_both fails (line ∷ lines) more errors are counts first later in
         record { first = line; is_line = All-head (IsLineOf call fails) line (lines ++ more) all.are_lines; more = lines ++ more; are_lines = All-tail (IsLineOf call fails) line (lines ++ more) all.are_lines; written = all.written }
 
+  -- those whose patterns were loaded as these rules, where all was done
+  module _ (rules : List Rule) (counts : List ℕ) (old mid : Streams R W E Reads) where
+    abbrev Counted : Bool → Bool → Type 0
+    Counted counted all = all ≡ true → CountsOfNames (bytes_left old.input) (bytes_left mid.input) (zeros counted rules) counts (work_by call (secrets_of rules)) (names_asked call.given)
+
     -- the counts are told
-    rest_done : (all : Bool) (errors : Errors E) → RunOutcome Writes K (work_by call secrets) (Ok all) old mid
-        → MatchBool (has Count call.given) (TellsCounts K mid.errors errors) (errors ≡ mid.errors) → Tells K (IsCountsLine (has Count call.given)) mid.errors errors
-        → RestOutcome Writes K call secrets (Ok all) old (record mid { errors = errors })
-    rest_done all errors run counts told =
+    rest_done : (all : Bool) (errors : Errors E) → RunOutcome Writes K (work_by call (secrets_of rules)) (Ok all) old mid → Counted (has Count call.given) all
+        → MatchBool (has Count call.given) (TellsCounts K rules counts mid.errors errors) (errors ≡ mid.errors) → Tells K (IsCountsLine (has Count call.given)) mid.errors errors
+        → RestOutcome Writes K call (secrets_of rules) (Ok all) old (record mid { errors = errors })
+    rest_done all errors run grown are_told told =
         let (lines, is_all, (done, first)) = run.done in
-        let cut = cut_of (work_by call secrets) _ lines _ _ _ _ done in
-        let are = λ (fails : Type 0). lines_cut fails lines _ _ _ cut in
+        let cut = cut_of (work_by call (secrets_of rules)) _ lines _ _ _ _ done in
+        let are = λ (fails : Type 0). lines_cut (secrets_of rules) old mid fails lines _ _ _ cut in
         record {
           redacts = λ (is : Ok all ≡ Ok true).
               let so : all ≡ true = cc in
-              redacted_of (work_by call secrets) _ lines _ _ _ _ (none_are lines (sym is_all ∙ so)) done;
+              redacted_of (work_by call (secrets_of rules)) _ lines _ _ _ _ (none_are lines (sym is_all ∙ so)) done;
           begins = inr (lines, cut);
-          quiet = λ none (is : Ok all ≡ Ok true). subst (λ (b : Bool). MatchBool b (TellsCounts K mid.errors errors) (errors ≡ mid.errors)) none counts ∙ run.quiet is;
-          counts = λ some (is : Ok all ≡ Ok true). subst (λ (e : Errors E). TellsCounts K e errors) (run.quiet is) (subst (λ (b : Bool). MatchBool b (TellsCounts K mid.errors errors) (errors ≡ mid.errors)) some counts);
+          quiet = λ none (is : Ok all ≡ Ok true). subst (λ (b : Bool). MatchBool b (TellsCounts K rules counts mid.errors errors) (errors ≡ mid.errors)) none are_told ∙ run.quiet is;
+          counts = λ some (is : Ok all ≡ Ok true).
+              let so : all ≡ true = cc in
+              let (ranges, found, counted) = subst (λ (b : Bool). Counted b all) some grown so in (
+                ranges,
+                found,
+                totals_told K rules ranges counts old.errors errors counted
+                    (subst (λ (e : Errors E). TellsCounts K rules counts e errors) (run.quiet is)
+                    (subst (λ (b : Bool). MatchBool b (TellsCounts K rules counts mid.errors errors) (errors ≡ mid.errors)) some are_told)),
+              );
           partly = λ (is : Ok all ≡ Ok false).
               let so : all ≡ false = cc in
-              some_both _ lines told.told errors (sym so ∙ is_all) (are _) told.are_lines first told.written;
+              some_both (secrets_of rules) old mid _ lines told.told errors (sym so ∙ is_all) (are _) told.are_lines first told.written;
           fails = tt;
           told = tt;
           other = tt;
         }
 
     -- or they are not
-    rest_untold : (all : Bool) (errors : Errors E) (failure : Failure) → RunOutcome Writes K (work_by call secrets) (Ok all) old mid
+    rest_untold : (all : Bool) (errors : Errors E) (failure : Failure) → RunOutcome Writes K (work_by call (secrets_of rules)) (Ok all) old mid
         → IsCountsFailure (has Count call.given) failure → Tells K (IsCountsLine (has Count call.given)) mid.errors errors
-        → RestOutcome Writes K call secrets (Err failure) old (record mid { errors = errors })
+        → RestOutcome Writes K call (secrets_of rules) (Err failure) old (record mid { errors = errors })
     rest_untold all errors failure run fails told =
         let (lines, is_all, (done, first)) = run.done in
-        let cut = cut_of (work_by call secrets) _ lines _ _ _ _ done in
+        let cut = cut_of (work_by call (secrets_of rules)) _ lines _ _ _ _ done in
         record {
           redacts = λ (is : Err failure ≡ Ok true). absurd (cc);
           begins = inr (lines, cut);
@@ -206,20 +221,21 @@ module _ {R : Type 0} {Reads : Readers R} {W E : Type 0} (Writes : Writers W) (K
           partly = λ (is : Err failure ≡ Ok false). absurd (cc);
           fails = elim fails.1 [
             | inl counts ↦ inr (inr (inl (counts, fails.0)))
-            | inr memory ↦ may_fail call _ failure (inr (inl memory))
+            | inr memory ↦ may_fail call _ failure (inl memory)
           ];
           other = λ unclean is. counts_other (has Count call.given) failure unclean fails is;
-          told = lines_both _ lines told.told errors (lines_cut _ lines _ _ _ cut) told.are_lines first told.written;
+          told = lines_both (secrets_of rules) old mid _ lines told.told errors (lines_cut (secrets_of rules) old mid _ lines _ _ _ cut) told.are_lines first told.written;
         }
 
     -- by what is answered of that
-    pub rest_told : (all counted : Bool) (result : Result Bool Failure) (errors : Errors E) → counted ≡ has Count call.given → RunOutcome Writes K (work_by call secrets) (Ok all) old mid
-        → IfOk result (λ done. done ≡ all) → OnOk result (MatchBool counted (TellsCounts K mid.errors errors) (errors ≡ mid.errors))
-        → IfErr result (IsCountsFailure counted) → Tells K (IsCountsLine counted) mid.errors errors → RestOutcome Writes K call secrets result old (record mid { errors = errors })
-    rest_told all counted (Ok done) errors is run same counts fails told =
-        subst (λ (b : Bool). RestOutcome Writes K call secrets (Ok b) old (record mid { errors = errors })) (sym same)
-        (rest_done all errors run (subst (λ (b : Bool). MatchBool b (TellsCounts K mid.errors errors) (errors ≡ mid.errors)) is counts) (subst (λ (b : Bool). Tells K (IsCountsLine b) mid.errors errors) is told))
-    rest_told all counted (Err failure) errors is run same counts fails told =
+    pub rest_told : (all counted : Bool) (result : Result Bool Failure) (errors : Errors E) → counted ≡ has Count call.given → RunOutcome Writes K (work_by call (secrets_of rules)) (Ok all) old mid
+        → Counted counted all → IfOk result (λ done. done ≡ all) → OnOk result (MatchBool counted (TellsCounts K rules counts mid.errors errors) (errors ≡ mid.errors))
+        → IfErr result (IsCountsFailure counted) → Tells K (IsCountsLine counted) mid.errors errors → RestOutcome Writes K call (secrets_of rules) result old (record mid { errors = errors })
+    rest_told all counted (Ok done) errors is run grown same are_told fails told =
+        subst (λ (b : Bool). RestOutcome Writes K call (secrets_of rules) (Ok b) old (record mid { errors = errors })) (sym same)
+        (rest_done all errors run (subst (λ (b : Bool). Counted b all) is grown) (subst (λ (b : Bool). MatchBool b (TellsCounts K rules counts mid.errors errors) (errors ≡ mid.errors)) is are_told)
+        (subst (λ (b : Bool). Tells K (IsCountsLine b) mid.errors errors) is told))
+    rest_told all counted (Err failure) errors is run grown same are_told fails told =
         rest_untold all errors failure run (subst (λ (b : Bool). IsCountsFailure b failure) is fails) (subst (λ (b : Bool). Tells K (IsCountsLine b) mid.errors errors) is told)
 
 -- what holds of some work holds of the same with the same names, pieces and way
@@ -249,7 +265,17 @@ module _ {R : Type 0} {Reads : Readers R} {W E : Type 0} (Writes : Writers W) (K
     refused = refused_from old new input result of.refused;
     begins = begins_from old new input of.begins;
     quiet = of.quiet;
-    counts = of.counts;
+    counts = λ some is. let done = of.counts some is in record {
+      secrets = done.secrets;
+      between = done.between;
+      loaded = done.loaded;
+      redacted = done.redacted;
+      ranges = done.ranges;
+      found = done.found;
+      meanwhile = done.meanwhile;
+      warned = done.warned;
+      counted = done.counted;
+    };
     partly = of.partly;
     fails = of.fails;
     told = of.told;

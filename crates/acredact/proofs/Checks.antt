@@ -12,6 +12,7 @@ use Rattle.programs.specs.Telling.{TellsBytes}
 use Rattle.programs.specs.declared.errors.Errors.{Errors}
 use Rattle.programs.specs.declared.reason.Reason.{Reason}
 use Rattle.programs.proofs.Tellings.{tells-later}
+use Rattle.acredact.specs.Builds.{patterns_by_given}
 use Rattle.acredact.specs.Calls.{Call, IsUnreadLine, gives_pattern, names_asked, reading_by}
 use Rattle.acredact.specs.Checks.{AreSeen, AreUnmatched, CheckFails, CheckOutcome, CheckStatus, IsBuildFailure, IsLookOf, IsUnmatchedCall, Quest, SeesCall, SeesFiles, look_lines, quest_by}
 use Rattle.acredact.specs.Failures.{IsFailureLine}
@@ -21,7 +22,7 @@ use Rattle.acredact.specs.Loading.{AreGiven}
 use Rattle.acredact.specs.Looks.{IsLook, HoldsNoMatch, is_found, is_unread_look, verdict_with}
 use Rattle.acredact.specs.Reads.{OfName}
 use Rattle.acredact.specs.Statuses.{check_status}
-use Rattle.acredact.specs.Tables.{Secret}
+use Rattle.acredact.specs.Tables.{Secret, patterns_in}
 use Rattle.acredact.specs.declared.failure.Failure.{Failure}
 use Rattle.acredact.specs.declared.look.Look.{Look}
 use Rattle.acredact.specs.declared.look.Look.TheVariants.{Clean, Found, Unread}
@@ -198,11 +199,19 @@ are_nothing (line ∷ lines) none = absurd (cc)
 module _ {E : Type 0} (K : SinkGhosts E) (call : Call) (left left' : Option (List ℕ)) (old : Errors E) where
   -- what comes of a check whose patterns were loaded
   pub check_seen : (secrets : List Secret) (between : Option (List ℕ)) (new : Errors E) (result : Result Verdict Failure) → gives_pattern call.given ≡ true → AreGiven (reading_by call) call.given secrets left between
-      → SeesFiles K (quest_by call secrets) (names_asked call.given) result between left' old new → IfErr result IsBuildFailure → CheckOutcome K call result left left' old new
+      → SeesFiles K (quest_by call secrets) (names_asked call.given) result between left' old new → IfErr result (IsBuildFailure (patterns_by_given call.given (patterns_in secrets))) → CheckOutcome K call result left left' old new
   check_seen secrets between new (Ok verdict) some loaded sees fails =
       let (lines, is_all, seen, told) = sees.seen in
       record { seen = (lines, is_all, record { some = some; secrets = secrets; between = between; loaded = loaded; seen = seen }, told); quiet = sees.quiet; told = tt; fails = tt }
-  check_seen secrets between new (Err failure) some loaded sees fails = record { seen = tt; quiet = tt; told = sees.told; fails = inr (inr fails) }
+  check_seen secrets between new (Err failure) some loaded sees fails = record {
+    seen = tt;
+    quiet = tt;
+    told = sees.told;
+    fails = inr (inr (elim fails [
+      | inl refused ↦ inl (secrets, left, between, loaded, refused)
+      | inr memory ↦ inr memory
+    ]));
+  }
 
   -- and of one that ends before
   pub check_refused : (failure : Failure) → CheckFails call failure → CheckOutcome K call (Err failure) left left' old old

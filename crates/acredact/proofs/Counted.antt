@@ -11,6 +11,7 @@ use Rattle.aho_core.specs.ClosureRun.{CalledOn, ClosureRun}
 use Rattle.aho_core.specs.Iteration.{AreFinds}
 use Rattle.aho_core.specs.Laws.{shortest}
 use Rattle.aho_core.specs.Occurrence.{Occurrence}
+use Rattle.aho_core.specs.Patterns.{Patterns}
 use Rattle.aho_core.specs.Replacement.{replaced, replaced_from}
 use Rattle.aho_core.specs.Search.{plain_search}
 use Rattle.aho_core.specs.declared.error.stream.StreamError.{StreamError}
@@ -20,14 +21,17 @@ use Rattle.aho_devices.specs.Refusals.{IsFillRefusal, IsWriteRefusal, is_read_fa
 use Rattle.aho_devices.specs.declared.device.Sink.{Ghosts as SinkGhosts}
 use Rattle.aho_devices.specs.declared.device.Source.{Ghosts as SourceGhosts}
 use Rattle.aho_laws.proofs.Iterations.{finds-exist}
+use Rattle.aho_cover.specs.Counting.{CountsThese}
+use Rattle.aho_cover.proofs.Counted.{counts_none, counts_then}
 use Rattle.aho_automaton.specs.declared.automaton.Automaton.{Ghosts}
 use Rattle.aho_stream.specs.Refills.{is_limit}
 use Rattle.aho_stream.specs.Replacing.{MayBe, SourceGave}
-use Rattle.aho_stream.specs.StreamRun.{CallsOn, CanBegin, RefusesUntouched, RunsOver, SinkTakes}
+use Rattle.aho_stream.specs.StreamRun.{CallsOn, CanBegin, RefusesUntouched, RunsAndLeaves, RunsLent, RunsOver, SinkTakes}
 use Rattle.programs.proofs.Beginnings.{beginning-later, beginning-more}
 use Rattle.acredact.specs.Faults.{IsStreamEnd}
 use Rattle.acredact.specs.Secrets.{BeginsRedaction, Redactor}
 use Rattle.acredact.specs.Streams.{RedactsStream, StreamOutcome, WritesPiece}
+use Rattle.acredact.specs.Totals.{CountsOfStream}
 use Rattle.acredact.proofs.Redactions.{begins_by, begins_nothing, of_finds, redaction_by, some_by, starts_whole, to_finds}
 
 -- an error of a run: of the reading where it stopped, or of a write
@@ -158,6 +162,41 @@ module _ {F W : Type 0} (K : SinkGhosts W) (calls : F → Occurrence → List �
       (takes_later K stopped lent left new result (piece m) (replaced_from haystack m.end ms piece)
       (piece_taken lent m left step.2) (run_takes ms m.end next left result last new step.1 later))
 
+-- a run that comes to its good end counts each match, where the closure counts the one that it is called on
+module _ {F W : Type 0} (K : SinkGhosts W) (calls : F → Occurrence → List ℕ → W → Result Bool StreamError → F → W → Type 0) (stopped : Bool) (haystack : List ℕ)
+    (counts_of : F → List ℕ) (Fits : F → Type 0)
+    (goes_on : (f : F) (m : Occurrence) (matched : List ℕ) (old : W) (goes : Bool) (next : F) (new : W) → Fits f → calls f m matched old (Ok goes) next new
+    → (goes ≡ true) × Fits next × CountsThese (m ∷ []) (counts_of f) (counts_of next)) where
+  pub run_counts : (ms : List Occurrence) (at : ℕ) (f : F) (old : W) (last : F) (new : W) → Fits f → ClosureRun (SinkTakes K stopped) calls haystack at ms f old (Ok tt) last new
+      → Fits last × CountsThese ms (counts_of f) (counts_of last)
+  run_counts [] at f old last new fits run =
+      (subst Fits (sym run.0) fits, subst (λ (g : F). CountsThese [] (counts_of f) (counts_of g)) (sym run.0) (counts_none (counts_of f)))
+  run_counts (m ∷ ms) at f old last new fits (inl refused) = let clash = refused.1 in absurd (cc)
+  run_counts (m ∷ ms) at f old last new fits (inr (lent, gap, (Err reason, next, left, called, ends))) = let clash = ends.0 in absurd (cc)
+  run_counts (m ∷ ms) at f old last new fits (inr (lent, gap, (Ok goes, next, left, called, ends))) =
+      let step = goes_on f m (slice_range haystack m.start m.end) lent goes next left fits called in
+      let later : ClosureRun (SinkTakes K stopped) calls haystack m.end ms next left (Ok tt) last new =
+      subst (λ (b : Bool). MatchBool b (ClosureRun (SinkTakes K stopped) calls haystack m.end ms next left (Ok tt) last new) ((last ≡ next) × SinkTakes K stopped left (drop m.end haystack) (Ok tt) new)) step.0 ends in
+      let rest = run_counts ms m.end next left last new step.1 later in
+      (rest.0, counts_then (m ∷ []) ms (counts_of f) (counts_of next) (counts_of last) step.2 rest.1)
+
+-- of a closure that is lent no less is known
+pub over_lent : {R F W : Type 0} {S : SourceGhosts R} {K : SinkGhosts W} {IsOf : Patterns → Type 0}
+    {calls : Mut F (Bor Occurrence × (Bor (List ℕ) × (MutBor W × Unit {0}))) (Result (Unit {0}) StreamError × (MutBor W × Unit {0}))}
+    {source source' : R} {closure : F} {sink : W} {result : Result (Unit {0}) StreamError} {last : F} {sink' : W}
+    → RunsAndLeaves S K IsOf calls source source' closure sink result last sink' → RunsOver S K IsOf calls source source' closure sink result sink'
+over_lent {last = last} over = record {
+  given = over.given;
+  ended = over.ended;
+  stopped = over.stopped;
+  gives = over.gives;
+  whole = over.whole;
+  read_failed = over.read_failed;
+  limit = over.limit;
+  run = λ p bytes ms of may finds. (last, over.run p bytes ms of may finds);
+  near = λ stopped. let near = over.near stopped in (near.0, near.1, near.2, λ p bytes ms of may finds. (last, near.3 p bytes ms of may finds));
+}
+
 -- none may follow what was given
 no_more : (given : List ℕ) (ended : Bool) → MayBe given ended given
 no_more given true = ([], sym (append-nil given), refl)
@@ -284,12 +323,48 @@ module _ {A R W F : Type 0} (G : Ghosts A) (S : SourceGhosts R) (K : SinkGhosts 
       (subst (λ (s : R). StreamOutcome S K r (Err Memory) source s sink sink') (sym refused.1)
       (subst (λ (k : W). StreamOutcome S K r (Err Memory) source source sink k) (sym refused.2) untouched))
 
-  -- whatever is answered
-  pub counted_of : (result : Result (Unit {0}) StreamError)
-      → (CanBegin G automaton → RefusesUntouched result Memory source source' sink sink' ⊎ RunsOver S K (G.is_of automaton) calls source source' closure sink result sink')
-      → StreamOutcome S K r result source source' sink sink'
-  counted_of result runs =
+  -- whatever is answered, where the closure is lent
+  pub lent_of : (result : Result (Unit {0}) StreamError) (last : F) → (CanBegin G automaton → RunsLent S K (G.is_of automaton) calls source source' closure sink result last sink') → StreamOutcome S K r result source source' sink sink'
+  lent_of result last runs =
       elim (runs can) [
-        | inl memory ↦ no_memory result memory
-        | inr over ↦ ran result over
+        | inl memory ↦ no_memory result memory.0
+        | inr over ↦ ran result (over_lent over)
       ]
+
+  -- and what was counted, where the closure counts into the same borrow all along
+  module _ (last : F) (name_of : F → ℕ) (counts_of : F → List ℕ)
+      (counts : (f : F) (m : Occurrence) (matched : List ℕ) (old : W) (next : F) (new : W) → Fits f → CalledOn calls f m matched old (Ok tt) next new
+      → (name_of next ≡ name_of f) × CountsThese (m ∷ []) (counts_of f) (counts_of next)) where
+    abbrev FitsNamed : F → Type 0
+    FitsNamed f = Fits f × (name_of f ≡ name_of closure)
+
+    abbrev Counted : Type 0
+    Counted = (name_of last ≡ name_of closure) × CountsOfStream S r source source' (counts_of closure) (counts_of last)
+
+    lent_whole : RunsAndLeaves S K (G.is_of automaton) calls source source' closure sink (Ok tt) last sink' → Counted
+    lent_whole over =
+        let finds = finds-exist r.patterns (plain_search over.given) None (le_refl (length over.given)) in
+        let run = over.run r.patterns over.given finds.0 of (no_more over.given over.ended) finds.1 in
+        let counted = run_counts K (CallsOn calls) over.stopped over.given counts_of FitsNamed
+        (λ f m matched old goes next new is called.
+        let step = counts f m matched old next new is.0 called.1 in
+        (called.0, ((goes_on f m matched old next new is.0 called.1).0, step.0 ∙ is.1), step.1))
+        finds.0 0 closure sink last sink' (fits, refl) run in (
+          counted.0.1,
+          record {
+            text = over.given;
+            gives = subst (SourceGave S source source' over.given) over.whole over.gives;
+            ranges = finds.0;
+            found = of_finds r plain over.given finds.0 finds.1;
+            counted = counted.1;
+          },
+        )
+
+    -- whatever is answered
+    pub lent_counts : (result : Result (Unit {0}) StreamError) → (CanBegin G automaton → RunsLent S K (G.is_of automaton) calls source source' closure sink result last sink') → OnOk result Counted
+    lent_counts (Err error) runs = tt
+    lent_counts (Ok tt) runs =
+        elim (runs can) [
+          | inl memory ↦ let clash = memory.0.0 in absurd (cc)
+          | inr over ↦ lent_whole over
+        ]

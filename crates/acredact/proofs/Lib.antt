@@ -9,9 +9,13 @@ mod Counted
 -- what comes of files
 mod OneFile
 mod Done
+-- how often the text of each pattern was written
+mod Totals
 -- how an automaton redacts streams
 mod Suited
 mod Loaded
+-- why patterns are refused
+mod Refused
 -- which pieces are clean, and what follows
 mod Flaws
 mod Free

@@ -25,7 +25,7 @@ use Rattle.acredact.specs.Streams.{RedactsStream, StartsStream}
 use Rattle.acredact.proofs.Redactions.{begins_nothing}
 
 -- a stream that has seen no end before is at its end where it sees one
-ends_by : {P : Type 0} (before after : ℕ) (ended : Bool) → before ≡ 0 → (after ≢ 0 → P) → after ≡ counted ended before → ended ≡ true → P
+pub ends_by : {P : Type 0} (before after : ℕ) (ended : Bool) → before ≡ 0 → (after ≢ 0 → P) → after ≡ counted ended before → ended ≡ true → P
 ends_by before after ended none ends count is =
     ends (λ zero. let one : after ≡ 1 = count ∙ ap (λ (b : Bool). counted b before) is ∙ ap (counted true) none in omega (arith, one, zero))
 
@@ -56,7 +56,7 @@ module _ {R W : Type 0} (S : SourceGhosts R) (K : SinkGhosts W) (r : Redactor) (
   }
 
 -- what an end of a stream means
-reading_whole : (done : Result (Unit {0}) StreamError) → reading_of done ≡ Ok None → done ≡ Ok tt
+pub reading_whole : (done : Result (Unit {0}) StreamError) → reading_of done ≡ Ok None → done ≡ Ok tt
 reading_whole (Ok tt) is = refl
 reading_whole (Err (Match cause)) is = absurd (cc)
 reading_whole (Err (Read fault)) is = absurd (cc)
@@ -111,7 +111,7 @@ reading_unread (Err Memory) = refl
 reading_unread (Err PositionLimit) = refl
 
 -- what is so where a stream has ended
-at_ok : {P : Type 0} (done : Result (Unit {0}) StreamError) → done ≡ Ok tt → OnOk done P → P
+pub at_ok : {P : Type 0} (done : Result (Unit {0}) StreamError) → done ≡ Ok tt → OnOk done P → P
 at_ok {P} done is so = subst (λ (d : Result (Unit {0}) StreamError). OnOk d P) is so
 
 -- what comes of a text, by what comes of a stream over it

@@ -1,5 +1,5 @@
 -- What a cover or a replacement of a stream writes is a redaction, and what it begins is begun.
-use Rattle.std.proofs.Common.{◌≡◌, ◌≢◌, ℕ, ◌≤◌, ◌++◌, List, [], true, false, length, map, refl, sym, ap, subst, ◌∙◌, append-nil, le_refl}
+use Rattle.std.proofs.Common.{◌≡◌, ◌≢◌, ℕ, ◌<◌, ◌≤◌, ◌++◌, List, [], true, false, length, map, refl, sym, ap, subst, ◌∙◌, append-nil, arith, le_refl}
 use Rattle.std.specs.Prelude.{Bool, MatchBool, None, Result, Ok, Err, IfErr, OnErr, OnOk}
 use Rattle.std.specs.Io.{StartsWith}
 use Rattle.std.proofs.Math.Seq.{take-length}
@@ -31,9 +31,10 @@ use Rattle.aho_stream.specs.Refills.{is_limit}
 use Rattle.aho_stream.specs.Replacing.{BeginsReplacing, GaveAsMany, IsStreamFault, MayBe, ReplacesStream}
 use Rattle.aho_stream.specs.StreamRun.{CanBegin}
 use Rattle.acredact.specs.Faults.{IsStreamEnd}
-use Rattle.aho_cover.specs.Covers.{BeginsCovering, CoversStream, LeavesCovered}
+use Rattle.aho_cover.specs.Covers.{BeginsCovering, CountsRuns, CoversStream, LeavesCovered}
 use Rattle.acredact.specs.Secrets.{AreReplaced, BeginsRedaction, IsRedaction, NoByteIsKept, NoneIsWhole, Redactor}
 use Rattle.acredact.specs.Streams.{RedactsStream, StartsStream, StreamOutcome}
+use Rattle.acredact.specs.Totals.{CountsOfStream}
 use Rattle.acredact.proofs.Covered.{none_left}
 
 -- some bytes with an end that was seen are all
@@ -233,3 +234,22 @@ module _ {A R W : Type 0} (G : Ghosts A) (S : SourceGhosts R) (K : SinkGhosts W)
     limit = leaves.limit;
     only = fault_ends error only;
   }
+
+-- what a cover counts
+pub counts_of_cover : {R : Type 0} (S : SourceGhosts R) (r : Redactor) → r.covers ≡ true → (AreSearched : Patterns → Type 0) → AreSearched r.patterns → (source source' : R) (counts counts' : List ℕ)
+    → CountsRuns S AreSearched source source' counts counts' → CountsOfStream S r source source' counts counts'
+counts_of_cover S r covers AreSearched of source source' counts counts' whole =
+    let runs = runs_upto r.patterns whole.given (length whole.given) in
+    let are = runs-made r.patterns whole.given in
+    record { text = whole.given; gives = whole.gives; ranges = runs; found = of_runs r covers whole.given runs are; counted = whole.counted r.patterns runs of are }
+
+-- and where there are no counts
+pub uncounted : {R W : Type 0} (S : SourceGhosts R) {K : SinkGhosts W} (r : Redactor) (source source' : R) (sink sink' : W) (counts : List ℕ) → length counts ≡ 0 → RedactsStream S K r source source' sink sink'
+    → CountsOfStream S r source source' counts counts
+uncounted S r source source' sink sink' counts none whole = record {
+  text = whole.text;
+  gives = whole.gives;
+  ranges = whole.redacts.ranges;
+  found = whole.redacts.found;
+  counted = record { as_many = refl; grown = λ number (within : number < length counts). absurd (omega (arith, within, none)) };
+}

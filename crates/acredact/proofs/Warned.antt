@@ -13,17 +13,20 @@ use Rattle.programs.specs.declared.errors.Errors.{Errors}
 use Rattle.programs.specs.declared.failure.Failure.TheVariants.{OutOfMemory}
 use Rattle.programs.proofs.Tellings.{tells-later}
 use Rattle.acredact.specs.Arguments.{has}
-use Rattle.acredact.specs.Calls.{Call, CallOutcome, IsCountsFailure, IsCountsLine, IsLineOf, IsRunFailure, IsUntouched, OutputFails, RestOutcome, RunOutcome, TellsCounts, WarnedOutcome, names_asked, reading_by, redactor_by_given, work_by}
+use Rattle.acredact.specs.Calls.{Call, CallOutcome, IsBuildRefusal, IsCountsFailure, IsCountsLine, IsLineOf, IsRunFailure, IsUntouched, OutputFails, RestOutcome, RunOutcome, TellsCounts, WarnedOutcome, names_asked, reading_by, redactor_by_given, work_by}
+use Rattle.acredact.specs.Counts.{zeros}
 use Rattle.acredact.specs.Files.{Work}
 use Rattle.acredact.specs.Loading.{AreGiven}
 use Rattle.acredact.specs.Messages.{unclean_line}
 use Rattle.acredact.specs.Pieces.{HasCleanPieces, IsJudged, TellsOfPieces, TellsUnclean, redactor_with}
 use Rattle.acredact.specs.Secrets.{Redactor}
-use Rattle.acredact.specs.Tables.{Secret}
+use Rattle.acredact.specs.Tables.{Secret, secrets_of}
+use Rattle.acredact.specs.Totals.{CountsOfNames}
 use Rattle.acredact.specs.declared.arguments.Word.TheVariants.{Count, Strict}
 use Rattle.acredact.specs.declared.clean.Unclean.{Unclean}
 use Rattle.acredact.specs.declared.failure.Failure.{Failure}
 use Rattle.acredact.specs.declared.failure.Failure.TheVariants.{Other, Unclean as UncleanPiece}
+use Rattle.acredact.specs.declared.patterns.Rule.{Rule}
 use Rattle.acredact.specs.declared.streams.Streams.{Streams}
 use Rattle.acredact.proofs.Calls.{call_refused, may_fail, rest_cut, rest_told, tells_same}
 use Rattle.acredact.proofs.Done.{concat_both}
@@ -77,11 +80,15 @@ told_behind K call old mid new fails (Err failure) first told = tells_both K (Is
 -- no file was read
 module _ {R : Type 0} {Reads : Readers R} {W E : Type 0} (Writes : Writers W) (K : SinkGhosts E) (strict : Bool) (work : Work) where
   pub warned_refused : (streams : Streams R W E Reads) (failure : Failure) → IsRunFailure (OutputFails streams.output streams.output) failure → WarnedOutcome Writes K strict work (Err failure) streams streams
-  warned_refused streams failure fails = inl (failure, refl, refl, inr fails)
+  warned_refused streams failure fails = inl (failure, refl, refl, inr (inr fails))
 
   -- memory may always run out
   pub warned_memory : (streams : Streams R W E Reads) → WarnedOutcome Writes K strict work (Err (Other OutOfMemory)) streams streams
-  warned_memory streams = warned_refused streams (Other OutOfMemory) (inr (inl refl))
+  warned_memory streams = warned_refused streams (Other OutOfMemory) (inl refl)
+
+  -- the library refuses the patterns
+  pub warned_built : (streams : Streams R W E Reads) (failure : Failure) → IsBuildRefusal work.redactor.patterns failure → WarnedOutcome Writes K strict work (Err failure) streams streams
+  warned_built streams failure refused = inl (failure, refl, refl, inr (inl refused))
 
   -- a piece is refused
   pub warned_strict : (streams : Streams R W E Reads) (errors : Errors E) (answer : Option Unclean) (failure : Failure) → IsJudged work.redactor answer
@@ -126,7 +133,17 @@ module _ {R : Type 0} {Reads : Readers R} {W E : Type 0} (Writes : Writers W) (K
             loaded = loaded;
             told = subst (λ (e : Errors E). TellsOfPieces K (has Strict call.given) (redactor_by_given call.given secrets) old.errors e) (sym (rest.quiet none is)) told;
           };
-          counts = λ some is. (errors, record { secrets = secrets; between = bytes_left old.input; loaded = loaded; told = told }, rest.counts some is);
+          counts = λ some is. let (ranges, found, counted) = rest.counts some is in record {
+            secrets = secrets;
+            between = bytes_left old.input;
+            loaded = loaded;
+            redacted = rest.redacts is;
+            ranges = ranges;
+            found = found;
+            meanwhile = errors;
+            warned = told;
+            counted = counted;
+          };
           partly = λ is. some_behind K (IsLineOf call (OutputFails old.output new.output)) old.errors errors new.errors (first _) (rest.partly is);
           fails = rest.fails;
           told = told_behind K call old.errors errors new.errors (OutputFails old.output new.output) result (first _) rest.told;
@@ -140,16 +157,19 @@ module _ {R : Type 0} {Reads : Readers R} {W E : Type 0} (Writes : Writers W) (K
         (subst (λ (f : Failure). CallOutcome Writes K call left (Err f) old old) alike
         (call_refused Writes K call left old.input old why (elim of [
           | inl strict ↦ inr (inr (inr (inl (secrets, left, bytes_left old.input, loaded, strict))))
-          | inr run ↦ may_fail call _ why run
+          | inr (inl refused) ↦ inr (inr (inr (inr (inl (secrets, left, bytes_left old.input, loaded, refused)))))
+          | inr (inr run) ↦ may_fail call _ why run
         ])))
     call_cut failure (inr (errors, told, run)) =
         call_warned mid errors (Err failure) told (rest_cut Writes K call secrets (record old { errors = errors }) mid failure run)
 
-    -- all was done but the counts
-    pub call_told : (all counted : Bool) (result : Result Bool Failure) (errors : Errors E) → counted ≡ has Count call.given → WarnedOutcome Writes K (has Strict call.given) (work_by call secrets) (Ok all) old mid
-        → IfOk result (λ done. done ≡ all) → OnOk result (MatchBool counted (TellsCounts K mid.errors errors) (errors ≡ mid.errors))
-        → IfErr result (IsCountsFailure counted) → Tells K (IsCountsLine counted) mid.errors errors → CallOutcome Writes K call left result old (record mid { errors = errors })
-    call_told all counted result errors is (inl (why, fails, same, of)) done counts untold told = let clash : Ok all ≡ Err why = fails in absurd (cc)
-    call_told all counted result errors is (inr (warned, pieces, run)) done counts untold told =
-        call_warned (record mid { errors = errors }) warned result pieces
-        (rest_told Writes K call secrets (record old { errors = warned }) mid all counted result errors is run done counts untold told)
+  -- all was done but the counts
+  pub call_told : (rules : List Rule) (numbers : List ℕ) (old mid : Streams R W E Reads) → AreGiven (reading_by call) call.given (secrets_of rules) left (bytes_left old.input)
+      → (all counted : Bool) (result : Result Bool Failure) (errors : Errors E) → counted ≡ has Count call.given → WarnedOutcome Writes K (has Strict call.given) (work_by call (secrets_of rules)) (Ok all) old mid
+      → (all ≡ true → CountsOfNames (bytes_left old.input) (bytes_left mid.input) (zeros counted rules) numbers (work_by call (secrets_of rules)) (names_asked call.given))
+      → IfOk result (λ done. done ≡ all) → OnOk result (MatchBool counted (TellsCounts K rules numbers mid.errors errors) (errors ≡ mid.errors))
+      → IfErr result (IsCountsFailure counted) → Tells K (IsCountsLine counted) mid.errors errors → CallOutcome Writes K call left result old (record mid { errors = errors })
+  call_told rules numbers old mid loaded all counted result errors is (inl (why, fails, same, of)) grown done counts untold told = let clash : Ok all ≡ Err why = fails in absurd (cc)
+  call_told rules numbers old mid loaded all counted result errors is (inr (warned, pieces, run)) grown done counts untold told =
+      call_warned (secrets_of rules) old mid loaded (record mid { errors = errors }) warned result pieces
+      (rest_told Writes K call rules numbers (record old { errors = warned }) mid all counted result errors is run grown done counts untold told)

@@ -1,7 +1,8 @@
 -- What a call does, by what its arguments ask for, and what it tells.
-use Rattle.std.specs.Prelude.{◌≡◌, ◌⊎◌, ℕ, ◌||◌, Bool, true, false, List, [], ◌∷◌, Option, Result, Ok, Err, IfErr, IfOk, OnErr, codes, map, unwrap_or, if◌then◌else◌}
+use Rattle.std.specs.Prelude.{◌≡◌, ◌⊎◌, ℕ, ◌||◌, Bool, MatchBool, true, false, List, [], ◌∷◌, Option, Result, Ok, Err, IfErr, IfOk, OnErr, codes, length, map, unwrap_or, if◌then◌else◌}
 use Rattle.std.specs.declared.io.traits.Read.{Ghosts as Readers}
 use Rattle.std.specs.declared.io.traits.Write.{Ghosts as Writers}
+use Rattle.aho_core.specs.Occurrence.{Occurrence}
 use Rattle.aho_core.specs.Patterns.{Patterns}
 use Rattle.aho_core.specs.declared.error.BuildError.{BuildError}
 use Rattle.aho_devices.specs.Counts.{counted}
@@ -15,8 +16,8 @@ use Rattle.programs.specs.declared.failure.Failure.{Failure as OtherFailure}
 use Rattle.programs.specs.declared.failure.Failure.TheVariants.{Build, OutOfMemory, Write, WriteZero}
 use Rattle.programs.specs.declared.reason.Reason.{Reason}
 use Rattle.acredact.specs.Arguments.{Given, GivesNoPattern, RefusesUnclean, covers_asked, has, is_same, last_value}
-use Rattle.acredact.specs.Builds.{patterns_by_given}
-use Rattle.acredact.specs.Counts.{counts_text}
+use Rattle.acredact.specs.Builds.{RefusesPatterns, patterns_by_given}
+use Rattle.acredact.specs.Counts.{counts_text, counts_told}
 use Rattle.acredact.specs.Failures.{IsFailureLine}
 use Rattle.acredact.specs.Files.{AreCut, AreDone, AreFree, AreRedacted, Does, Work, are_none, redactor_of, unread_line, work_of}
 use Rattle.acredact.specs.Loading.{AreGiven, CannotLoadOne, Reading, Rules}
@@ -25,6 +26,7 @@ use Rattle.acredact.specs.Mistakes.{IsMistakeOfCall}
 use Rattle.acredact.specs.Pieces.{IsUnclean, TellsOfPieces}
 use Rattle.acredact.specs.Secrets.{Redactor}
 use Rattle.acredact.specs.Tables.{Secret, patterns_in, piece_by, secrets_of}
+use Rattle.acredact.specs.Totals.{AreTotals, NamesHaveRanges}
 use Rattle.acredact.specs.declared.arguments.Mistake.TheVariants.{NoPattern, OutOfMemory as NoRoom}
 use Rattle.acredact.specs.declared.arguments.Word.TheVariants.{Count, Crlf, AllowEmpty, Strict, File, Pattern as PatternOption, Patterns as PatternFile, Table, With}
 use Rattle.acredact.specs.declared.clean.Unclean.{Unclean}
@@ -93,11 +95,13 @@ OutputFails output output' =
 abbrev pub IsPrintFailure : Type 0 → Failure → Type 0
 IsPrintFailure fails failure = ((failure ≡ Other Write) ⊎ (failure ≡ Other WriteZero)) × fails
 
--- why files are not redacted: the library refuses them, memory runs out, or the output fails
+-- why files are not redacted: memory runs out, or the output fails
 abbrev pub IsRunFailure : (fails : Type 0) → Failure → Type 0
-IsRunFailure fails failure =
-    ((error : BuildError) × (failure ≡ Other (Build error)))
-    ⊎ ((failure ≡ Other OutOfMemory) ⊎ IsPrintFailure fails failure)
+IsRunFailure fails failure = (failure ≡ Other OutOfMemory) ⊎ IsPrintFailure fails failure
+
+-- why patterns are not searched for: the library refuses just these
+abbrev pub IsBuildRefusal : Patterns → Failure → Type 0
+IsBuildRefusal p failure = (error : BuildError) × (failure ≡ Other (Build error)) × RefusesPatterns p error
 
 -- why pieces are refused: one of a cover is not clean
 abbrev pub IsStrictFailure : (strict : Bool) → Redactor → Failure → Type 0
@@ -110,15 +114,22 @@ IsUncleanFailure call failure = (secrets : List Secret) × (left : Option (List 
     × AreGiven (reading_by call) call.given secrets left between
     × IsStrictFailure (has Strict call.given) (redactor_by_given call.given secrets) failure
 
+-- those that were loaded are refused
+abbrev pub IsRefusedCall : Call → Failure → Type 0
+IsRefusedCall call failure = (secrets : List Secret) × (left : Option (List ℕ)) × (between : Option (List ℕ))
+    × AreGiven (reading_by call) call.given secrets left between
+    × IsBuildRefusal (patterns_by_given call.given (patterns_in secrets)) failure
+
 -- why a call ends early: there is no pattern, one of the options cannot be loaded, the counts cannot be written, a piece is not clean,
--- or the files are not redacted
+-- the patterns are refused, or the files are not redacted
 abbrev pub MayFail : Call → (fails : Type 0) → Failure → Type 0
 MayFail call fails failure =
     ((failure ≡ Arguments NoRoom) ⊎ ((failure ≡ Arguments NoPattern) × GivesNoPattern call.given))
     ⊎ (CannotLoadOne (reading_by call) call.given failure
     ⊎ (((failure ≡ Counts) × (has Count call.given ≡ true))
     ⊎ (IsUncleanFailure call failure
-    ⊎ IsRunFailure fails failure)))
+    ⊎ (IsRefusedCall call failure
+    ⊎ IsRunFailure fails failure))))
 
 -- the line that tells why a file was not read to its end, or that the output goes to it
 abbrev pub IsUnreadLine : List (List ℕ) → List ℕ → Type 0
@@ -161,11 +172,22 @@ IsWrongLine arguments line = (failure : Failure) × IsWrongFailure arguments fai
 abbrev pub IsRefusedLine : OtherFailure → List ℕ → Type 0
 IsRefusedLine failure line = IsFailureLine NotText line ⊎ IsFailureLine (Other failure) line
 
--- the counts are told whole
-pub record TellsCounts {E : Type 0} (K : SinkGhosts E) (errors errors' : Errors E) : Type 0 where
-  pub text : List ℕ
-  pub is_text : IsCountsText text
-  pub told : TellsBytes K errors errors' text
+-- the counts of these rules are told whole
+pub record TellsCounts {E : Type 0} (K : SinkGhosts E) (rules : List Rule) (counts : List ℕ) (errors errors' : Errors E) : Type 0 where
+  pub told : TellsBytes K errors errors' (counts_told rules counts)
+  pub whole : errors'.failed ≡ false
+
+-- they are, or nothing is
+abbrev pub TellsAnyCounts : {E : Type 0} → SinkGhosts E → Bool → List Rule → (counts : List ℕ) → (errors errors' : Errors E) → Type 0
+TellsAnyCounts K counted rules counts errors errors' = MatchBool counted (TellsCounts K rules counts errors errors') (errors' ≡ errors)
+
+-- it is told whole how many of these ranges have the text of each pattern in their place
+pub record TellsTotals {E : Type 0} (K : SinkGhosts E) (secrets : List Secret) (ranges : List Occurrence) (errors errors' : Errors E) : Type 0 where
+  pub lines : List ℕ
+  pub one_line : length lines ≡ length secrets
+  pub counts : List ℕ
+  pub totals : AreTotals (length secrets) ranges counts
+  pub told : TellsBytes K errors errors' (counts_text 1 lines counts)
   pub whole : errors'.failed ≡ false
 
 -- of all patterns that were loaded the pieces are told, where they are not clean
@@ -174,10 +196,6 @@ pub record WarnsCall {E : Type 0} (K : SinkGhosts E) (call : Call) (left : Optio
   pub between : Option (List ℕ)
   pub loaded : AreGiven (reading_by call) call.given secrets left between
   pub told : TellsOfPieces K (has Strict call.given) (redactor_by_given call.given secrets) errors errors'
-
--- and then the counts
-abbrev pub CountsCall : {E : Type 0} → SinkGhosts E → Call → Option (List ℕ) → (errors errors' : Errors E) → Type 0
-CountsCall {E} K call left errors errors' = (meanwhile : Errors E) × WarnsCall K call left errors meanwhile × TellsCounts K meanwhile errors'
 
 module _ {R : Type 0} {Reads : Readers R} {W : Type 0} (Writes : Writers W) where
   module _ {E : Type 0} (call : Call) (left : Option (List ℕ)) (streams streams' : Streams R W E Reads) where
@@ -211,6 +229,20 @@ module _ {R : Type 0} {Reads : Readers R} {W : Type 0} (Writes : Writers W) wher
     BeginsCall = (streams'.output ≡ streams.output) ⊎ BeginsFiles
 
   module _ {E : Type 0} (K : SinkGhosts E) where
+    -- all patterns were loaded, and all files were redacted. What pieces are not clean is told, and then how often the text of each
+    -- pattern was written: of how many ranges of the texts of all files it took the place
+    pub record CountsCall (call : Call) (left : Option (List ℕ)) (streams streams' : Streams R W E Reads) : Type 0 where
+      pub secrets : List Secret
+      pub between : Option (List ℕ)
+      pub loaded : AreGiven (reading_by call) call.given secrets left between
+      pub redacted : AreRedacted (work_by call secrets) (names_asked call.given) between (bytes_left streams'.input)
+          (output_bytes Writes streams.output) (output_bytes Writes streams'.output)
+      pub ranges : List Occurrence
+      pub found : NamesHaveRanges (work_by call secrets) (names_asked call.given) ranges between (bytes_left streams'.input)
+      pub meanwhile : Errors E
+      pub warned : TellsOfPieces K (has Strict call.given) (redactor_by_given call.given secrets) streams.errors meanwhile
+      pub counted : TellsTotals K secrets ranges meanwhile streams'.errors
+
     -- nothing was written or told
     pub record IsUntouched (streams streams' : Streams R W E Reads) : Type 0 where
       pub output : streams'.output ≡ streams.output
@@ -223,11 +255,17 @@ module _ {R : Type 0} {Reads : Readers R} {W : Type 0} (Writes : Writers W) wher
       pub refused : IfErr result (λ failure. (unclean : Unclean) → failure ≡ UncleanPiece unclean → IsUntouched streams streams')
       pub begins : BeginsCall call left streams streams'
       pub quiet : has Count call.given ≡ false → result ≡ Ok true → WarnsCall K call left streams.errors streams'.errors
-      pub counts : has Count call.given ≡ true → result ≡ Ok true → CountsCall K call left streams.errors streams'.errors
+      pub counts : has Count call.given ≡ true → result ≡ Ok true → CountsCall call left streams streams'
       pub partly : result ≡ Ok false
           → TellsSome K (IsLineOf call (OutputFails streams.output streams'.output)) streams.errors streams'.errors
       pub fails : IfErr result (MayFail call (OutputFails streams.output streams'.output))
       pub told : OnErr result (Tells K (IsLineOf call (OutputFails streams.output streams'.output)) streams.errors streams'.errors)
+
+    -- of the files of a call it is told how often the text of each pattern was written
+    abbrev pub CountsRest : Call → List Secret → (streams streams' : Streams R W E Reads) → Type 0
+    CountsRest call secrets streams streams' = (ranges : List Occurrence)
+        × NamesHaveRanges (work_by call secrets) (names_asked call.given) ranges (bytes_left streams.input) (bytes_left streams'.input)
+        × TellsTotals K secrets ranges streams.errors streams'.errors
 
     -- what comes of the files of a call whose patterns were loaded and whose pieces were looked at
     pub record RestOutcome (call : Call) (secrets : List Secret) (result : Result Bool Failure) (streams streams' : Streams R W E Reads) : Type 0 where
@@ -236,7 +274,7 @@ module _ {R : Type 0} {Reads : Readers R} {W : Type 0} (Writes : Writers W) wher
       pub begins : (streams'.output ≡ streams.output) ⊎ ((lines : List (List ℕ)) × AreCut (work_by call secrets) (names_asked call.given) lines (bytes_left streams.input) (bytes_left streams'.input)
           (output_bytes Writes streams.output) (output_bytes Writes streams'.output))
       pub quiet : has Count call.given ≡ false → result ≡ Ok true → streams'.errors ≡ streams.errors
-      pub counts : has Count call.given ≡ true → result ≡ Ok true → TellsCounts K streams.errors streams'.errors
+      pub counts : has Count call.given ≡ true → result ≡ Ok true → CountsRest call secrets streams streams'
       pub partly : result ≡ Ok false
           → TellsSome K (IsLineOf call (OutputFails streams.output streams'.output)) streams.errors streams'.errors
       pub fails : IfErr result (MayFail call (OutputFails streams.output streams'.output))
@@ -254,7 +292,8 @@ module _ {R : Type 0} {Reads : Readers R} {W : Type 0} (Writes : Writers W) wher
     abbrev pub WarnedOutcome : (strict : Bool) → Work → Result Bool Failure → (streams streams' : Streams R W E Reads) → Type 0
     WarnedOutcome strict work result streams streams' =
         ((failure : Failure) × (result ≡ Err failure) × (streams' ≡ streams)
-        × (IsStrictFailure strict work.redactor failure ⊎ IsRunFailure (OutputFails streams.output streams.output) failure))
+        × (IsStrictFailure strict work.redactor failure
+        ⊎ (IsBuildRefusal work.redactor.patterns failure ⊎ IsRunFailure (OutputFails streams.output streams.output) failure)))
         ⊎ ((errors : Errors E) × TellsOfPieces K strict work.redactor streams.errors errors × RunOutcome work result (record streams { errors = errors }) streams')
 
     -- the same of a job, where files are redacted by these patterns
@@ -279,6 +318,10 @@ module _ {R : Type 0} {Reads : Readers R} {W : Type 0} (Writes : Writers W) wher
   abbrev pub LeavesNoneAsked : {E F X : Type 0} → Folders F X → F → List Given → (streams streams' : Streams R W E Reads) → Type 0
   LeavesNoneAsked D folder given streams streams' = LeavesNone (call_of D folder given) (bytes_left streams.input) streams streams'
 
+  -- and counted
+  abbrev pub CountsAsked : {E F X : Type 0} → SinkGhosts E → Folders F X → F → List Given → (streams streams' : Streams R W E Reads) → Type 0
+  CountsAsked K D folder given streams streams' = CountsCall K (call_of D folder given) (bytes_left streams.input) streams streams'
+
   -- or some of it, and nothing else is written
   abbrev pub BeginsAsked : {E F X : Type 0} → Folders F X → F → List Given → (streams streams' : Streams R W E Reads) → Type 0
   BeginsAsked D folder given streams streams' = BeginsCall (call_of D folder given) (bytes_left streams.input) streams streams'
@@ -288,9 +331,6 @@ abbrev pub TellsAsked : {R W E F X : Type 0} {Reads : Readers R} → SinkGhosts 
 TellsAsked K D folder given streams streams' =
     TellsSome K (IsLineOf (call_of D folder given) (OutputFails streams.output streams'.output)) streams.errors streams'.errors
 
--- the pieces of a call that asks for this are told, where they are not clean, and then the counts
+-- the pieces of a call that asks for this are told, where they are not clean
 abbrev pub WarnsAsked : {R W E F X : Type 0} {Reads : Readers R} → SinkGhosts E → Folders F X → F → List Given → (streams streams' : Streams R W E Reads) → Type 0
 WarnsAsked K D folder given streams streams' = WarnsCall K (call_of D folder given) (bytes_left streams.input) streams.errors streams'.errors
-
-abbrev pub CountsAsked : {R W E F X : Type 0} {Reads : Readers R} → SinkGhosts E → Folders F X → F → List Given → (streams streams' : Streams R W E Reads) → Type 0
-CountsAsked K D folder given streams streams' = CountsCall K (call_of D folder given) (bytes_left streams.input) streams.errors streams'.errors

@@ -3,18 +3,17 @@ use Rattle.std.specs.Prelude.{◌≡◌, ◌⊎◌, ℕ, ◌<◌, ◌≤◌, ◌
 use Rattle.std.specs.List.{All, concat}
 use Rattle.std.specs.declared.io.traits.Read.{Ghosts as Readers}
 use Rattle.aho_core.specs.Patterns.{Patterns}
-use Rattle.aho_core.specs.declared.error.BuildError.{BuildError}
 use Rattle.aho_devices.specs.declared.adapters.FromRead.{FromRead}
 use Rattle.aho_devices.specs.declared.device.Sink.{Ghosts as SinkGhosts}
 use Rattle.programs.specs.Names.{name_bytes}
 use Rattle.programs.specs.Streams.{bytes_left}
 use Rattle.programs.specs.Telling.{Tells, TellsBytes}
 use Rattle.programs.specs.declared.errors.Errors.{Errors}
-use Rattle.programs.specs.declared.failure.Failure.TheVariants.{Build, OutOfMemory}
+use Rattle.programs.specs.declared.failure.Failure.TheVariants.{OutOfMemory}
 use Rattle.programs.specs.declared.reason.Reason.{Reason}
 use Rattle.acredact.specs.Arguments.{AsksToCheck, Given, GivesNoPattern}
 use Rattle.acredact.specs.Builds.{patterns_by_given}
-use Rattle.acredact.specs.Calls.{Call, IsUnreadLine, call_of, gives_pattern, names_asked, reading_by}
+use Rattle.acredact.specs.Calls.{Call, IsBuildRefusal, IsRefusedCall, IsUnreadLine, call_of, gives_pattern, names_asked, reading_by}
 use Rattle.acredact.specs.Failures.{IsFailureLine}
 use Rattle.acredact.specs.Faults.{IsReadReason}
 use Rattle.acredact.specs.Files.{are_none, unread_line}
@@ -84,15 +83,15 @@ pub record IsUnmatchedCall (call : Call) (left left' : Option (List ℕ)) : Type
   pub loaded : AreGiven (reading_by call) call.given secrets left between
   pub unmatched : AreUnmatched (quest_by call secrets) (names_asked call.given) between left'
 
--- why patterns are not searched for: the library refuses them, or memory runs out
-abbrev pub IsBuildFailure : Failure → Type 0
-IsBuildFailure failure = ((error : BuildError) × (failure ≡ Other (Build error))) ⊎ (failure ≡ Other OutOfMemory)
+-- why patterns are not searched for: the library refuses just these, or memory runs out
+abbrev pub IsBuildFailure : Patterns → Failure → Type 0
+IsBuildFailure p failure = IsBuildRefusal p failure ⊎ (failure ≡ Other OutOfMemory)
 
--- why a check ends early: there is no pattern, one of the options cannot be loaded, or the patterns are not searched for
+-- why a check ends early: there is no pattern, one of the options cannot be loaded, the patterns are refused, or memory runs out
 abbrev pub CheckFails : Call → Failure → Type 0
 CheckFails call failure =
     ((failure ≡ Arguments NoRoom) ⊎ ((failure ≡ Arguments NoPattern) × GivesNoPattern call.given))
-    ⊎ (CannotLoadOne (reading_by call) call.given failure ⊎ IsBuildFailure failure)
+    ⊎ (CannotLoadOne (reading_by call) call.given failure ⊎ (IsRefusedCall call failure ⊎ (failure ≡ Other OutOfMemory)))
 
 module _ {E : Type 0} (K : SinkGhosts E) where
   -- what comes of looking at files by these names, where the error says why not all were looked at

@@ -1,15 +1,10 @@
 -- How many matches of each pattern were replaced, and how that is told.
-use Rattle.std.specs.Prelude.{◌≡◌, ℕ, ◌<◌, ◌≤◌, ◌+◌, ◌-◌, ◌^◌, ◌==◌, min, Bool, List, [], ◌∷◌, ◌++◌, codes, decimal, length, map, if◌then◌else◌, slice_index, slice_set}
+use Rattle.std.specs.Prelude.{ℕ, ◌+◌, ◌-◌, ◌^◌, ◌==◌, min, Bool, List, [], ◌∷◌, ◌++◌, codes, decimal, map, if◌then◌else◌}
 use Rattle.acredact.specs.declared.patterns.Rule.{Rule}
 
--- one match more; a count stops at the greatest number
+-- one more; a number stops at the greatest
 abbrev pub counted_more : ℕ → ℕ
 counted_more count = min (count + 1) (2 ^ 64 - 1)
-
--- a match more of the pattern of this number, if there is a count of it
-pub record CountsOne (number : ℕ) (counts counts' : List ℕ) : Type 0 where
-  pub counted : number < length counts → counts' ≡ slice_set counts number (counted_more (slice_index counts number))
-  pub uncounted : length counts ≤ number → counts' ≡ counts
 
 -- before anything was replaced
 abbrev pub zeros : Bool → List Rule → List ℕ

@@ -16,6 +16,8 @@ pub mod Pieces
 -- what is written of files
 pub mod Reads
 pub mod Files
+-- how often the text of each pattern was written
+pub mod Totals
 -- what the options add to the patterns
 pub mod Loading
 -- which texts hold a match

@@ -23,7 +23,7 @@ pub record CallStatus {R W E : Type 0} {Reads : Readers R} (Writes : Writers W) 
   pub begins : BeginsCall Writes call (bytes_left streams.input) streams streams'
   pub strict : RefusesUnclean call.given → status ≡ 0 → LeavesNone Writes call (bytes_left streams.input) streams streams'
   pub quiet : has Count call.given ≡ false → status ≡ 0 → WarnsCall K call (bytes_left streams.input) streams.errors streams'.errors
-  pub counts : has Count call.given ≡ true → status ≡ 0 → CountsCall K call (bytes_left streams.input) streams.errors streams'.errors
+  pub counts : has Count call.given ≡ true → status ≡ 0 → CountsCall Writes K call (bytes_left streams.input) streams streams'
   pub tells : status ≡ 2 → TellsSome K (IsLineOf call (OutputFails streams.output streams'.output)) streams.errors streams'.errors
 
 -- the same of a call that asks for a redaction

@@ -2,11 +2,12 @@
 
 ghost use Rattle.std.specs.Prelude.{◌≡◌, IfErr, IfSome};
 ghost use Rattle.acredact.specs.Arguments.{all_given};
+ghost use Rattle.acredact.specs.Builds.{patterns_by_given};
 ghost use Rattle.acredact.specs.Checks.{ChecksGiven, EndsCheck, IsBuildFailure, SeesRules, SeesSearched};
 ghost use Rattle.acredact.specs.Looks.{CanLook};
 ghost use Rattle.acredact.specs.Secrets.{IfOf};
 ghost use Rattle.acredact.specs.Statuses.{check_status};
-ghost use Rattle.acredact.specs.Tables.{HaveNoEmpty, secrets_of};
+ghost use Rattle.acredact.specs.Tables.{HaveNoEmpty, patterns_in, secrets_of};
 
 use crate::arguments::{Item, Mistake, Word, has};
 use crate::failure::Failure;
@@ -88,7 +89,8 @@ fn check_rules<'a, F: Folder, I: Read, E: Sink>(
     requires some { HaveNoEmpty (secrets_of rules.now) }
     ensures sees { SeesRules E.Sink F.Folder folder.now (all_given given.now) rules.now
         result input.old input.new errors.old errors.new }
-    ensures fails { IfErr result IsBuildFailure }
+    ensures fails { IfErr result (IsBuildFailure
+        (patterns_by_given (all_given given.now) (patterns_in (secrets_of rules.now)))) }
 {
     let patterns = patterns_of(alloc, rules)?;
     let names = names(alloc, given)?;

@@ -1,12 +1,13 @@
 //! The redaction of files, one after another.
 
-ghost use Rattle.std.specs.Prelude.{◌≡◌, ◌&&◌, ℕ, List, Option, OnOk, false, true};
+ghost use Rattle.std.specs.Prelude.{◌≡◌, ◌&&◌, ℕ, List, None, Ok, Option, OnOk, false, true};
 ghost use Rattle.aho_devices.specs.Counts.{counted};
 ghost use Rattle.programs.specs.Names.{is_input};
 ghost use Rattle.programs.specs.Streams.{bytes_left};
 ghost use Rattle.acredact.specs.Faults.{is_unread, reading_of};
-ghost use Rattle.acredact.specs.Files.{CanDo, FileOutcome, FilesOutcome, JobOutcome, TextOutcome, ToldOutcome, work_of};
-ghost use Rattle.acredact.specs.Secrets.{Redactor};
+ghost use Rattle.acredact.specs.Files.{CanDo, FileOutcome, FilesOutcome, JobOutcome, TextOutcome, ToldJob, work_of};
+ghost use Rattle.acredact.specs.Secrets.{IfOf, Redactor};
+ghost use Rattle.acredact.specs.Totals.{CountsFile, CountsJob, CountsOfText, CountsOpened, CountsTold, JobCounts};
 ghost use Rattle.acredact.specs.Ways.{IfBy, Redacts};
 
 use crate::failure::{tell_output, tell_unread};
@@ -52,6 +53,8 @@ pub fn redact_files<A: Automaton, F: Folder, I: Read, W: Write, E: Sink>(
     requires ready { CanDo A.Automaton automaton.now job.now }
     ensures outcome { JobOutcome W.Write E.Sink A.Automaton F.Folder
         automaton.now job.now result streams.old streams.new }
+    ensures counted { IfOf A.Automaton automaton.now (JobCounts F.Folder job.now
+        result streams.old streams.new counts.old counts.new) }
     ensures flushed { OnOk result (streams.new.output.device.flushed ≡ true) }
 {
     if job.covers {
@@ -71,6 +74,8 @@ fn cover_files<A: Automaton, F: Folder, I: Read, W: Write, E: Sink>(
     requires covers { job.now.covers ≡ true }
     ensures outcome { JobOutcome W.Write E.Sink A.Automaton F.Folder
         automaton.now job.now result streams.old streams.new }
+    ensures counted { IfOf A.Automaton automaton.now (JobCounts F.Folder job.now
+        result streams.old streams.new counts.old counts.new) }
     ensures flushed { OnOk result (streams.new.output.device.flushed ≡ true) }
 {
     let start = StreamCoverStart::new(job.alloc, automaton)?;
@@ -92,6 +97,8 @@ fn replace_files<A: Automaton, F: Folder, I: Read, W: Write, E: Sink>(
     requires plain { job.now.covers ≡ false }
     ensures outcome { JobOutcome W.Write E.Sink A.Automaton F.Folder
         automaton.now job.now result streams.old streams.new }
+    ensures counted { IfOf A.Automaton automaton.now (JobCounts F.Folder job.now
+        result streams.old streams.new counts.old counts.new) }
     ensures flushed { OnOk result (streams.new.output.device.flushed ≡ true) }
 {
     let mut way = Replacing {
@@ -112,6 +119,8 @@ fn redact_flushed<X: Way, F: Folder, I: Read, W: Write, E: Sink>(
     requires ready { (r : Redactor) × Redacts X.Way way.old r }
     ensures outcome { IfBy X.Way way.old (λ r. FilesOutcome W.Write E.Sink
         (work_of F.Folder job.now r) result streams.old streams.new) }
+    ensures counted { IfBy X.Way way.old (CountsJob F.Folder job.now
+        result streams.old streams.new counts.old counts.new) }
     ensures flushed { OnOk result (streams.new.output.device.flushed ≡ true) }
 {
     let all = redact_each(way, job, counts, streams)?;
@@ -129,6 +138,8 @@ fn redact_each<X: Way, F: Folder, I: Read, W: Write, E: Sink>(
     requires ready { (r : Redactor) × Redacts X.Way way.old r }
     ensures outcome { IfBy X.Way way.old (λ r. FilesOutcome W.Write E.Sink
         (work_of F.Folder job.now r) result streams.old streams.new) }
+    ensures counted { IfBy X.Way way.old (CountsJob F.Folder job.now
+        result streams.old streams.new counts.old counts.new) }
 {
     let mut all = true;
     let mut rest = job.names;
@@ -157,8 +168,10 @@ fn redact_told<X: Way, F: Folder, I: Read, W: Write, E: Sink>(
     streams: &mut Streams<'_, I, W, E>,
 ) -> Result<bool, StreamError>
     requires ready { (r : Redactor) × Redacts X.Way way.old r }
-    ensures outcome { IfBy X.Way way.old (λ r. ToldOutcome W.Write E.Sink
-        (work_of F.Folder job.now r) name.now result streams.old streams.new) }
+    ensures outcome { IfBy X.Way way.old (ToldJob W.Write E.Sink F.Folder job.now
+        name.now result streams.old streams.new) }
+    ensures counted { IfBy X.Way way.old (CountsTold F.Folder job.now name.now
+        result streams.old streams.new counts.old counts.new) }
     ensures still { IfBy X.Way way.old (Redacts X.Way way.new) }
 {
     if job.folder.is_output(name) {
@@ -178,8 +191,10 @@ fn redact_apart<X: Way, F: Folder, I: Read, W: Write, E: Sink>(
 ) -> Result<bool, StreamError>
     requires ready { (r : Redactor) × Redacts X.Way way.old r }
     requires apart { F.meets job.now.folder.now name.now false }
-    ensures outcome { IfBy X.Way way.old (λ r. ToldOutcome W.Write E.Sink
-        (work_of F.Folder job.now r) name.now result streams.old streams.new) }
+    ensures outcome { IfBy X.Way way.old (ToldJob W.Write E.Sink F.Folder job.now
+        name.now result streams.old streams.new) }
+    ensures counted { IfBy X.Way way.old (CountsTold F.Folder job.now name.now
+        result streams.old streams.new counts.old counts.new) }
     ensures still { IfBy X.Way way.old (Redacts X.Way way.new) }
 {
     match redact_file(
@@ -210,6 +225,8 @@ fn redact_file<X: Way, F: Folder, I: Read, W: Write>(
     requires ready { (r : Redactor) × Redacts X.Way way.old r }
     ensures outcome { IfBy X.Way way.old (λ r. FileOutcome W.Write
         (work_of F.Folder job.now r) name.now result input.old input.new output.old output.new) }
+    ensures counted { IfBy X.Way way.old (CountsFile F.Folder job.now name.now
+        result input.old input.new counts.old counts.new) }
     ensures still { IfBy X.Way way.old (Redacts X.Way way.new) }
 {
     if is_input(name) {
@@ -238,6 +255,8 @@ fn redact_opened<X: Way, I: Read + Drop, W: Write>(
     requires ready { (r : Redactor) × Redacts X.Way way.old r }
     ensures outcome { IfBy X.Way way.old (λ r. (rest : Option (List ℕ)) × TextOutcome
         W.Write r result (I.remaining reader) rest output.old output.new) }
+    ensures counted { result ≡ Ok None → IfBy X.Way way.old
+        (CountsOpened (I.remaining reader) counts.old counts.new) }
     ensures still { IfBy X.Way way.old (Redacts X.Way way.new) }
 {
     let mut source = FromRead::new(reader);
@@ -254,6 +273,8 @@ fn redact_input<X: Way, I: Read, W: Write>(
     requires ready { (r : Redactor) × Redacts X.Way way.old r }
     ensures outcome { IfBy X.Way way.old (λ r. TextOutcome W.Write r
         result (bytes_left input.old) (bytes_left input.new) output.old output.new) }
+    ensures counted { result ≡ Ok None → IfBy X.Way way.old
+        (CountsOfText (bytes_left input.old) (bytes_left input.new) counts.old counts.new) }
     ensures still { IfBy X.Way way.old (Redacts X.Way way.new) }
     ensures failed { input.new.failures ≡ counted (is_unread result) input.old.failures }
 {

@@ -1,11 +1,12 @@
 //! The redaction of one stream.
 
-ghost use Rattle.std.specs.Prelude.{◌≡◌, ◌<◌, ◌≤◌, [], false, length, slice_index, slice_index_or, slice_set, true};
+ghost use Rattle.std.specs.Prelude.{◌≡◌, ◌∷◌, [], false, slice_index_or, true};
 ghost use Rattle.aho_core.specs.Replacement.{pieces_of};
+ghost use Rattle.aho_cover.specs.Counting.{CountsThese};
 ghost use Rattle.aho_cover.specs.Covers.{IsUnbegunCover};
-ghost use Rattle.acredact.specs.Counts.{CountsOne, counted_more};
 ghost use Rattle.acredact.specs.Secrets.{IfOf, CanRedact, redactor_by};
 ghost use Rattle.acredact.specs.Streams.{StreamOutcome, WritesPiece};
+ghost use Rattle.acredact.specs.Totals.{CountsBy};
 
 use aho_automaton::automaton::Automaton;
 use aho_core::error::StreamError;
@@ -14,7 +15,7 @@ use aho_cover::start::StreamCoverStart;
 use aho_cover::stream::cover_counted;
 use aho_devices::device::{Sink, Source};
 use aho_devices::write::write_whole;
-use aho_stream::replace::{try_stream_replace_all, try_stream_replace_all_with};
+use aho_stream::replace::{try_stream_replace_all, try_stream_replace_all_with_mut};
 use std::alloc::Global;
 
 /// Writes what the source gives to the sink, but in the place of each run of bytes that lie in matches the replacement of the
@@ -36,6 +37,8 @@ pub fn cover<A: Automaton, R: Source, W: Sink>(
     requires unbegun { IsUnbegunCover A.Automaton start.old.automaton.now start.old.progress }
     ensures outcome { IfOf A.Automaton start.old.automaton.now (λ p. StreamOutcome R.Source W.Sink
         (redactor_by p true replacements.now) result source.old source.new sink.old sink.new) }
+    ensures counted { CountsBy A.Automaton R.Source start.old.automaton.now true replacements.now
+        result source.old source.new counts.old counts.new }
     ensures same { start.new.automaton.now ≡ start.old.automaton.now }
     ensures unbegun { IsUnbegunCover A.Automaton start.new.automaton.now start.new.progress }
 {
@@ -74,10 +77,13 @@ pub fn redact_counting<A: Automaton, R: Source, W: Sink>(
     requires ready { CanRedact A.Automaton automaton.now false replacements.now }
     ensures outcome { IfOf A.Automaton automaton.now (λ p. StreamOutcome R.Source W.Sink
         (redactor_by p false replacements.now) result source.old source.new sink.old sink.new) }
+    ensures counted { CountsBy A.Automaton R.Source automaton.now false replacements.now
+        result source.old source.new counts.old counts.new }
 {
-    try_stream_replace_all_with(alloc, automaton, source, sink, |found, _matched, sink| {
+    let mut put = |found: &Match, _matched: &[u8], sink: &mut W| {
         put_counted(counts, replacements, found, sink)
-    })
+    };
+    try_stream_replace_all_with_mut(alloc, automaton, source, sink, &mut put)
 }
 
 /// Counts a match, and writes what stands in its place.
@@ -89,19 +95,17 @@ fn put_counted<W: Sink>(
 ) -> Result<(), StreamError>
     ensures written { WritesPiece W.Sink result sink.old sink.new
         (slice_index_or (pieces_of replacements.now) found.now.pattern []) }
-    ensures counted { CountsOne found.now.pattern counts.old counts.new }
+    ensures counted { CountsThese (found.now ∷ []) counts.old counts.new }
 {
-    let number = found.pattern().as_usize();
-    count_one(counts, number);
-    write_piece(sink, replacements, number)
+    count_match(counts, found);
+    write_piece(sink, replacements, found.pattern().as_usize())
 }
 
-/// One match more of the pattern of this number. A count stops at the greatest number.
-fn count_one(counts: &mut [u64], number: usize)
-    ensures counted { number < length counts.old → counts.new
-        ≡ slice_set counts.old number (counted_more (slice_index counts.old number)) }
-    ensures uncounted { length counts.old ≤ number → counts.new ≡ counts.old }
+/// One match more of its pattern, where that has a count. A count stops at the greatest number.
+fn count_match(counts: &mut [u64], found: &Match)
+    ensures counted { CountsThese (found.now ∷ []) counts.old counts.new }
 {
+    let number = found.pattern().as_usize();
     if number < counts.len() {
         counts[number] = counts[number].saturating_add(1);
     }

@@ -1,10 +1,10 @@
 //! The automaton by which is searched.
 
-ghost use Rattle.std.specs.Prelude.{◌≡◌, IfOk, IsOk};
+ghost use Rattle.std.specs.Prelude.{◌≡◌, IfErr, IfOk, IsOk};
 ghost use Rattle.aho_core.specs.Replacement.{pieces_of};
 ghost use Rattle.aho_core.specs.declared.search.Anchored.TheVariants.{No};
 ghost use Rattle.acredact.specs.Arguments.{all_given};
-ghost use Rattle.acredact.specs.Builds.{patterns_by_given, settings_by_given};
+ghost use Rattle.acredact.specs.Builds.{RefusesPatterns, patterns_by_given, settings_by_given};
 
 use crate::arguments::{Item, Word, has, kind_of};
 use aho_automaton::automaton::Automaton;
@@ -16,11 +16,13 @@ use std::alloc::Global;
 ///
 /// # Errors
 ///
-/// The first pattern or index that is above its limit, or `OutOfMemory`.
+/// The first number, length or index that the patterns ask for above its limit, or `OutOfMemory`.
 pub fn build(alloc: Global, given: &[Item<'_>], patterns: &[&[u8]]) -> Result<NFA, BuildError>
     ensures of { IfOk result (λ nfa. ⟦<NFA as Automaton>⟧.is_of nfa
         (patterns_by_given (all_given given.now) (pieces_of patterns.now))) }
     ensures starts { IfOk result (λ nfa. IsOk (⟦<NFA as Automaton>⟧.start nfa No)) }
+    ensures refused { IfErr result (RefusesPatterns
+        (patterns_by_given (all_given given.now) (pieces_of patterns.now))) }
 {
     builder_of(given).build(alloc, patterns.iter().copied())
 }

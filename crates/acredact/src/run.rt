@@ -1,20 +1,22 @@
 //! A call of the program over its arguments, files and streams.
 
-ghost use Rattle.std.specs.Prelude.{◌≡◌, ◌⊎◌, ◌<◌, ◌≤◌, ℕ, List, MatchBool, IfErr, IfOk, IfSome, OnErr, OnOk, Some, false, length, true};
+ghost use Rattle.std.specs.Prelude.{◌≡◌, ◌⊎◌, ◌<◌, ◌≤◌, ℕ, List, IfErr, IfOk, IfSome, OnErr, OnOk, Some, false, length, true};
 ghost use Rattle.aho_core.specs.Replacement.{pieces_of};
 ghost use Rattle.programs.specs.Arguments.{texts};
 ghost use Rattle.programs.specs.Names.{name_bytes};
 ghost use Rattle.programs.specs.Streams.{WritesBytes};
 ghost use Rattle.programs.specs.Telling.{Tells, TellsBytes, TellsSome};
 ghost use Rattle.acredact.specs.Arguments.{AreMistaken, AsksToRedact, GivesNoPattern, IfAsked, IfChecking, IfNoCheck, IsCheck, RefusesUnclean, all_given, checks_asked, has};
-ghost use Rattle.acredact.specs.Calls.{AskedOutcome, BeginsAsked, CountsAsked, IsCountsFailure, IsCountsLine, IsPrintFailure, IsRefusedLine, IsWrongLine, LeavesNoneAsked, LoadedOutcome, OutputFails, RedactsAsked, TellsAsked, TellsCounts, WarnedJob, WarnedOutcome, WarnsAsked, call_of, gives_pattern, names_asked, text_asked, work_by};
+ghost use Rattle.acredact.specs.Calls.{AskedOutcome, BeginsAsked, CountsAsked, IsCountsFailure, IsCountsLine, IsPrintFailure, IsRefusedLine, IsWrongLine, LeavesNoneAsked, LoadedOutcome, OutputFails, RedactsAsked, TellsAsked, TellsAnyCounts, WarnedJob, WarnedOutcome, WarnsAsked, call_of, gives_pattern, names_asked, text_asked, work_by};
 ghost use Rattle.acredact.specs.Checks.{MatchedAsked, SaysOfCheck, TellsUncheckedAsked, UnmatchedAsked};
+ghost use Rattle.acredact.specs.Counts.{zeros};
 ghost use Rattle.acredact.specs.Failures.{IsFailureLine};
 ghost use Rattle.acredact.specs.Files.{CanDo, FilesOutcome, redactor_of, work_of};
 ghost use Rattle.acredact.specs.Pieces.{IfOfAll, TellsUnclean, pieces_by};
 ghost use Rattle.acredact.specs.Secrets.{IfOf};
 ghost use Rattle.acredact.specs.Statuses.{SaysOfRedaction};
 ghost use Rattle.acredact.specs.Tables.{HaveNoEmpty, secrets_of};
+ghost use Rattle.acredact.specs.Totals.{CountsWork, JobCounts};
 ghost use Rattle.acredact.specs.declared.clean.Unclean.{Unclean};
 ghost use Rattle.acredact.specs.declared.failure.Failure.TheVariants.{Unclean as UncleanPiece};
 ghost use Rattle.acredact.specs.declared.arguments.Word.TheVariants.{Count, Strict};
@@ -104,11 +106,12 @@ pub fn run<F: Folder, I: Read, W: Write, E: Sink>(
     ensures strict { IfAsked arguments.now (λ given. RefusesUnclean given → result ≡ 0
         → LeavesNoneAsked W.Write F.Folder folder.now given streams.old streams.new) }
 
-    // Where all was redacted nothing is told but a piece of a cover that is not clean, and the counts that are asked for.
+    // Where all was redacted nothing is told but a piece of a cover that is not clean, and the counts that are asked for: for each
+    // pattern, how many ranges of all texts were replaced by its text.
     ensures quiet { IfAsked arguments.now (λ given. has Count given ≡ false → result ≡ 0
         → WarnsAsked E.Sink F.Folder folder.now given streams.old streams.new) }
     ensures counts { IfAsked arguments.now (λ given. has Count given ≡ true → result ≡ 0
-        → CountsAsked E.Sink F.Folder folder.now given streams.old streams.new) }
+        → CountsAsked W.Write E.Sink F.Folder folder.now given streams.old streams.new) }
 
     // Else lines say why, and hold nothing of a file's content or of a pattern.
     ensures tells { IfAsked arguments.now (λ given. result ≡ 2
@@ -269,14 +272,33 @@ fn redact_counted<'a, F: Folder, I: Read, W: Write, E: Sink>(
 {
     let counted = has(given, Word::Count);
     let mut counts = counts_of(alloc, rules, counted)?;
+    redact_telling(alloc, given, rules, folder, counts.as_mut_slice(), streams)
+}
+
+/// Redacts all files by these rules, tells what was added to the counts, where they are asked for, and answers whether all files were
+/// read.
+fn redact_telling<'a, F: Folder, I: Read, W: Write, E: Sink>(
+    alloc: Global,
+    given: &[Item<'_>],
+    rules: &[Rule],
+    folder: &F,
+    counts: &mut [u64],
+    streams: &mut Streams<'_, I, W, E>,
+) -> Result<bool, Failure<'a>>
+    requires some { HaveNoEmpty (secrets_of rules.now) }
+    requires none { counts.old ≡ zeros (has Count (all_given given.now)) rules.now }
+    ensures outcome { LoadedOutcome W.Write E.Sink F.Folder
+        folder.now (all_given given.now) rules.now result streams.old streams.new }
+    ensures flushed { OnOk result (streams.new.output.device.flushed ≡ true) }
+{
     // Not by `?`: this error may hold names.
-    match redact_all(alloc, given, rules, folder, counts.as_mut_slice(), streams) {
+    match redact_all(alloc, given, rules, folder, counts, streams) {
         Ok(all) => tell_counted(
             alloc,
             all,
-            counted,
+            has(given, Word::Count),
             rules,
-            counts.as_slice(),
+            counts,
             &mut streams.errors,
         ),
         Err(failure) => Err(failure),
@@ -293,8 +315,7 @@ fn tell_counted<'a, E: Sink>(
     errors: &mut Errors<'_, E>,
 ) -> Result<bool, Failure<'a>>
     ensures all { IfOk result (λ done. done ≡ all) }
-    ensures told { OnOk result (MatchBool counted (TellsCounts E.Sink errors.old errors.new)
-        (errors.new ≡ errors.old)) }
+    ensures told { OnOk result (TellsAnyCounts E.Sink counted rules.now counts.now errors.old errors.new) }
     ensures lines { Tells E.Sink (IsCountsLine counted) errors.old errors.new }
     ensures fails { IfErr result (IsCountsFailure counted) }
 {
@@ -331,6 +352,8 @@ fn redact_all<'a, F: Folder, I: Read, W: Write, E: Sink>(
     ensures outcome { WarnedOutcome W.Write E.Sink (has Strict (all_given given.now))
         (work_by (call_of F.Folder folder.now (all_given given.now)) (secrets_of rules.now))
         result streams.old streams.new }
+    ensures counted { CountsWork (work_by (call_of F.Folder folder.now (all_given given.now)) (secrets_of rules.now))
+        result streams.old streams.new counts.old counts.new }
     ensures flushed { OnOk result (streams.new.output.device.flushed ≡ true) }
 {
     let patterns = patterns_of(alloc, rules)?;
@@ -374,6 +397,8 @@ fn redact_warned<'a, A: Automaton, B: Automaton, F: Folder, I: Read, W: Write, E
     requires pieces { pieces_of job.now.replacements.now ≡ pieces_by judge.now }
     ensures outcome { IfOfAll A.Automaton B.Automaton automaton.now rows.entry judge.now
         (λ p. WarnedJob W.Write E.Sink F.Folder strict job.now p result streams.old streams.new) }
+    ensures counted { IfOfAll A.Automaton B.Automaton automaton.now rows.entry judge.now
+        (JobCounts F.Folder job.now result streams.old streams.new counts.old counts.new) }
     ensures flushed { OnOk result (streams.new.output.device.flushed ≡ true) }
 {
     let unclean = unclean_of(automaton, judge, job.covers);
@@ -419,6 +444,8 @@ fn redact_by<A: Automaton, B: Automaton, F: Folder, I: Read, W: Write, E: Sink>(
     requires rows { IfSome rows (λ rows. CanDo B.Automaton rows.now job.now) }
     ensures outcome { IfOf A.Automaton automaton.now (λ p. IfSome rows.entry (λ rows. B.is_of rows.now p)
         → FilesOutcome W.Write E.Sink (work_of F.Folder job.now (redactor_of job.now p)) result streams.old streams.new) }
+    ensures counted { IfOf A.Automaton automaton.now (λ p. IfSome rows.entry (λ rows. B.is_of rows.now p)
+        → JobCounts F.Folder job.now result streams.old streams.new counts.old counts.new p) }
     ensures flushed { OnOk result (streams.new.output.device.flushed ≡ true) }
 {
     match rows {

@@ -1,7 +1,9 @@
 //! How streams are redacted, one after another.
 
+ghost use Rattle.std.specs.Prelude.{OnOk};
 ghost use Rattle.acredact.specs.Secrets.{Redactor};
 ghost use Rattle.acredact.specs.Streams.{StreamOutcome};
+ghost use Rattle.acredact.specs.Totals.{CountsOfStream};
 
 use crate::redact::{cover, redact, redact_counting};
 use aho_automaton::automaton::Automaton;
@@ -31,6 +33,8 @@ pub trait Way {
         requires ready { (r : Redactor) × by self.old r }
         ensures outcome { (r : Redactor) → by self.old r → StreamOutcome R.Source W.Sink r
             result source.old source.new sink.old sink.new }
+        ensures counted { (r : Redactor) → by self.old r → OnOk result (CountsOfStream R.Source r
+            source.old source.new counts.old counts.new) }
         ensures still { (r : Redactor) → by self.old r → by self.new r };
 }
 

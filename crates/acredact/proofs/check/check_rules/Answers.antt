@@ -1,6 +1,6 @@
 -- Both automata are of the patterns that are asked for.
-use Rattle.std.proofs.Common.{rules, ◌≡◌, ◌≤◌, ◌∙◌, ap, sym, subst, length, map, List, ℕ}
-use Rattle.std.specs.Prelude.{IfSome, IsOk, None, Option, Some, Err, Result}
+use Rattle.std.proofs.Common.{rules, inl, refl, ◌≡◌, ◌≤◌, ◌∙◌, ap, sym, subst, length, map, List, ℕ}
+use Rattle.std.specs.Prelude.{IfErr, IfSome, IsOk, None, Option, Some, Err, Result}
 use Rattle.std.specs.Borrow.{Bor}
 use Rattle.aho_core.specs.Laws.{shortest}
 use Rattle.aho_core.specs.Patterns.{Patterns}
@@ -14,9 +14,9 @@ use Rattle.aho_hybrid.specs.declared.hybrid.Hybrid.{Hybrid}
 use Rattle.programs.specs.Names.{name_bytes}
 use Rattle.programs.specs.Streams.{bytes_left}
 use Rattle.acredact.specs.Arguments.{all_given}
-use Rattle.acredact.specs.Builds.{patterns_by_given}
+use Rattle.acredact.specs.Builds.{RefusesPatterns, patterns_by_given}
 use Rattle.acredact.specs.Calls.{call_of, names_asked}
-use Rattle.acredact.specs.Checks.{SeesFiles, quest_by, quest_of}
+use Rattle.acredact.specs.Checks.{IsBuildFailure, SeesFiles, quest_by, quest_of}
 use Rattle.acredact.specs.Looks.{CanLook}
 use Rattle.acredact.specs.Tables.{patterns_in, secrets_of}
 use Rattle.acredact.specs.declared.failure.Failure.{Failure}
@@ -99,3 +99,10 @@ returns-clause-sees g c =
     let p = patterns_by_given (all_given c.args.given.now) (patterns_in (secrets_of c.args.rules.now)) in
     let after = (goal.at.returns-clause-sees g c).After-as_ref in
     seen_whole g.E.Sink (quest_of g.F.Folder c.args.folder.now p) _ _ _ _ _ _ _ (names_are g after) (c.in_ok-look_by.ensures.sees p (nfa_is g after) (rows_are g after))
+
+pub returns-in_err-nfa-clause-fails : goal.returns-in_err-nfa-clause-fails
+returns-in_err-nfa-clause-fails g c =
+    let is : c.from_residual-in_err-nfa.result ≡ Err (Other (Build c.in_err-nfa.field-0.0)) = search rules in
+    let words = ap pieces_of c.as_slice-words.ensures.value ∙ c.in_ok-patterns.ensures.patterns in
+    subst (λ (r : Result Verdict Failure). IfErr r (IsBuildFailure (patterns_by_given (all_given c.args.given.now) (patterns_in (secrets_of c.args.rules.now))))) (sym is)
+    (inl (c.in_err-nfa.field-0.0, refl, subst (λ (l : List (List ℕ)). RefusesPatterns (patterns_by_given (all_given c.args.given.now) l) c.in_err-nfa.field-0.0) words c.in_err-nfa.ensures.refused))

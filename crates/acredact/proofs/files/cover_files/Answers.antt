@@ -35,3 +35,10 @@ returns-clause-outcome g c = λ p of.
       by = covering_is g.A.Automaton _ _ p _ _ _ of c.requires.covers c.requires.ready c.in_ok-start.ensures.of c.in_ok-start.ensures.unbegun;
       some = some_of g.A.Automaton _ p (g.met.A.Automaton.laws _ _ of).lengths_are c.requires.ready.begins;
     })
+
+pub returns-clause-counted : goal.returns-clause-counted
+returns-clause-counted g c = λ p of.
+    c.redact_flushed.ensures.counted (redactor_of c.args.job.now p) (record {
+      by = covering_is g.A.Automaton _ _ p _ _ _ of c.requires.covers c.requires.ready c.in_ok-start.ensures.of c.in_ok-start.ensures.unbegun;
+      some = some_of g.A.Automaton _ p (g.met.A.Automaton.laws _ _ of).lengths_are c.requires.ready.begins;
+    })

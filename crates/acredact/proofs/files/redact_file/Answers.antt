@@ -2,6 +2,7 @@
 use Rattle.std.proofs.Common.{◌∙◌, sym, refl}
 use Rattle.acredact.specs.Files.{work_of}
 use Rattle.acredact.proofs.OneFile.{file_input, file_opened, file_refused}
+use Rattle.acredact.proofs.Totals.{input_counts, opened_counts}
 use Rattle.acredact.proofs.files.redact_file.Goals as goal
 
 pub returns-then-is_input-clause-outcome : goal.returns-then-is_input-clause-outcome
@@ -15,3 +16,12 @@ returns-in-Ok-clause-outcome g c = λ red by.
 pub returns-in-Err-clause-outcome : goal.returns-in-Err-clause-outcome
 returns-in-Err-clause-outcome g c = λ red by.
     file_refused g.W.Write (work_of g.F.Folder c.args.job.now red) by.some _ _ _ _ (sym c.is_input.ensures.is ∙ c.if-is_input.false) c.in-Err.ensures.refused
+
+pub returns-then-is_input-clause-counted : goal.returns-then-is_input-clause-counted
+returns-then-is_input-clause-counted g c = λ red by whole.
+    input_counts (work_of g.F.Folder c.args.job.now red) c.args.name.now _ _ _ _ (sym c.is_input.ensures.is ∙ c.if-is_input.true) (c.redact_input.ensures.counted whole red by)
+
+pub returns-in-Ok-clause-counted : goal.returns-in-Ok-clause-counted
+returns-in-Ok-clause-counted g c = λ red by whole.
+    let opened = c.redact_opened.ensures.counted whole red by in
+    opened_counts (work_of g.F.Folder c.args.job.now red) c.args.name.now _ _ _ _ (sym c.is_input.ensures.is ∙ c.if-is_input.false) refl _ opened.0 c.in-Ok.ensures.told opened.1

@@ -2,6 +2,7 @@
 use Rattle.std.proofs.Common.{Option, List, ℕ, ap, subst}
 use Rattle.programs.specs.Streams.{bytes_left}
 use Rattle.acredact.specs.Files.{TextOutcome}
+use Rattle.acredact.specs.Totals.{CountsOfText}
 use Rattle.acredact.proofs.files.redact_opened.Goals as goal
 
 pub returns-clause-outcome : goal.returns-clause-outcome
@@ -9,4 +10,11 @@ returns-clause-outcome g c = λ red by. (
   bytes_left c.redact_input.new.input,
   subst (λ (left : Option (List ℕ)). TextOutcome g.W.Write red c.redact_input.result left (bytes_left c.redact_input.new.input) c.args.output.now c.redact_input.new.output)
       (ap g.I.Read.remaining c.new-source.ensures.reader) (c.redact_input.ensures.outcome red by),
+)
+
+pub returns-clause-counted : goal.returns-clause-counted
+returns-clause-counted g c = λ whole red by. (
+  bytes_left c.redact_input.new.input,
+  subst (λ (left : Option (List ℕ)). CountsOfText left (bytes_left c.redact_input.new.input) c.args.counts.now c.redact_input.new.counts red)
+      (ap g.I.Read.remaining c.new-source.ensures.reader) (c.redact_input.ensures.counted whole red by),
 )

@@ -1,13 +1,16 @@
 -- The patterns that were passed are those of the slice.
-use Rattle.std.proofs.Common.{rules, ◌≡◌, ◌∙◌, sym, subst, ap, List, ℕ}
+use Rattle.std.proofs.Common.{rules, refl, ◌≡◌, ◌∙◌, sym, subst, ap, List, ℕ}
 use Rattle.std.proofs.lemmas.Iterator.{items_from_drains, YieldsList-from_slice}
 use Rattle.std.proofs.lemmas.Iterator.Consumers.{YieldsList-from_copied}
 use Rattle.std.proofs.lemmas.List.{map-id}
-use Rattle.std.proofs.lemmas.Result.{IfOk-weaker}
+use Rattle.std.proofs.lemmas.Result.{IfErr-weaker, IfOk-weaker}
 use Rattle.aho_core.specs.Patterns.{Patterns}
 use Rattle.aho_core.specs.Replacement.{pieces_of}
 use Rattle.aho_build.specs.declared.settings.Settings.{Settings}
 use Rattle.aho_corasick.specs.contracts.noncontiguous.NFAAutomaton.TheImpl.{ghosts}
+use Rattle.acredact.specs.Arguments.{all_given}
+use Rattle.acredact.specs.Builds.{patterns_by_given}
+use Rattle.acredact.proofs.Refused.{refuses_by}
 use Rattle.acredact.proofs.rows.build.Goals as goal
 
 pub returns : goal.returns
@@ -23,4 +26,8 @@ returns c =
           (subst (λ ws. ghosts.is_of nfa (made c.builder_of.result ws)) patterns built.2))
           c.build.ensures.built;
       starts = search rules;
+      refused = IfErr-weaker c.build.result _ _
+          (λ error failure. refuses_by _ _ c.args.patterns.now (YieldsList-from_copied (YieldsList-from_slice c.args.patterns.now (cc))) (patterns_by_given (all_given c.args.given.now) (pieces_of c.args.patterns.now)) refl
+          _ c.builder_of.ensures.settings error failure)
+          c.build.ensures.refused;
     }

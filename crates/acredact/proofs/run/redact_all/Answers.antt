@@ -1,5 +1,5 @@
 -- Both automata are of the patterns that are asked for, and there is a replacement for each.
-use Rattle.std.proofs.Common.{rules, ◌≡◌, ◌≤◌, ◌∙◌, ap, sym, subst, length, map, true, List, ℕ}
+use Rattle.std.proofs.Common.{rules, refl, ◌≡◌, ◌≤◌, ◌∙◌, ap, sym, subst, length, map, true, List, ℕ}
 use Rattle.std.specs.Prelude.{Bool, IfSome, IsOk, None, Option, Some, Err, Result}
 use Rattle.std.specs.Borrow.{Bor}
 use Rattle.std.proofs.lemmas.List.{length-map}
@@ -16,18 +16,19 @@ use Rattle.aho_hybrid.specs.declared.hybrid.Hybrid.{Hybrid}
 use Rattle.programs.specs.Asked.{ArePatterns}
 use Rattle.programs.specs.Names.{name_bytes}
 use Rattle.acredact.specs.Arguments.{all_given, covers_asked, has}
-use Rattle.acredact.specs.Builds.{patterns_by_given}
+use Rattle.acredact.specs.Builds.{RefusesPatterns, patterns_by_given}
 use Rattle.acredact.specs.Calls.{WarnedOutcome, call_of, names_asked, pieces_asked, work_by}
 use Rattle.acredact.specs.Secrets.{CanRedact}
 use Rattle.acredact.specs.Tables.{patterns_in, piece_by, secret_of, secrets_of}
+use Rattle.acredact.specs.Totals.{CountsWork}
 use Rattle.acredact.specs.declared.failure.Failure.{Failure}
 use Rattle.acredact.specs.declared.arguments.Word.TheVariants.{Strict}
 use Rattle.acredact.specs.declared.failure.Failure.TheVariants.{Other}
-use Rattle.programs.specs.declared.failure.Failure.TheVariants.{OutOfMemory}
+use Rattle.programs.specs.declared.failure.Failure.TheVariants.{Build, OutOfMemory}
 use Rattle.programs.proofs.Lent.{lent}
 use Rattle.acredact.proofs.Ready.{covers_standard, ready_of, some_shortest}
 use Rattle.acredact.proofs.Calls.{work_as}
-use Rattle.acredact.proofs.Warned.{warned_memory}
+use Rattle.acredact.proofs.Warned.{warned_built, warned_memory}
 use Rattle.acredact.proofs.run.redact_all.Goals.{After-as_ref}
 use Rattle.acredact.proofs.run.redact_all.Given.{Over}
 use Rattle.acredact.proofs.run.redact_all.Goals as goal
@@ -81,12 +82,28 @@ redact_warned-requires g c =
       pieces = ap pieces_of c.as_slice-2.ensures.value ∙ c.in_ok-replacements.ensures.pieces;
     }
 
+pub returns-in_err-nfa-clause-outcome : goal.returns-in_err-nfa-clause-outcome
+returns-in_err-nfa-clause-outcome g c =
+    let work = work_by (call_of g.F.Folder c.args.folder.now (all_given c.args.given.now)) (secrets_of c.args.rules.now) in
+    let is : c.from_residual-in_err-nfa.result ≡ Err (Other (Build c.in_err-nfa.field-0.0)) = search rules in
+    let words = ap pieces_of c.as_slice-words.ensures.value ∙ c.in_ok-patterns.ensures.patterns in
+    subst (λ (r : Result Bool Failure). WarnedOutcome g.W.Write g.E.Sink (has Strict (all_given c.args.given.now)) work r c.args.streams.now c.args.streams.now) (sym is)
+    (warned_built g.W.Write g.E.Sink (has Strict (all_given c.args.given.now)) work c.args.streams.now _
+    (c.in_err-nfa.field-0.0, refl, subst (λ (l : List (List ℕ)). RefusesPatterns (patterns_by_given (all_given c.args.given.now) l) c.in_err-nfa.field-0.0) words c.in_err-nfa.ensures.refused))
+
 pub returns-in_err-rows-clause-outcome : goal.returns-in_err-rows-clause-outcome
 returns-in_err-rows-clause-outcome g c =
     let work = work_by (call_of g.F.Folder c.args.folder.now (all_given c.args.given.now)) (secrets_of c.args.rules.now) in
     let is : c.from_residual-in_err-rows.result ≡ Err (Other OutOfMemory) = search rules in
     subst (λ (r : Result Bool Failure). WarnedOutcome g.W.Write g.E.Sink (has Strict (all_given c.args.given.now)) work r c.args.streams.now c.args.streams.now) (sym is)
     (warned_memory g.W.Write g.E.Sink (has Strict (all_given c.args.given.now)) work c.args.streams.now)
+
+pub returns-clause-counted : goal.returns-clause-counted
+returns-clause-counted g c =
+    let p = patterns_by_given (all_given c.args.given.now) (patterns_in (secrets_of c.args.rules.now)) in
+    let after = (goal.at.returns-clause-counted g c).After-as_ref in
+    work_as (g.F.Folder.holds c.args.folder.now) (g.F.Folder.refuses c.args.folder.now) (g.F.Folder.meets c.args.folder.now) p _ _ _ _ _ _ (names_are g after) (covers_are g after) (pieces_are g after)
+    (λ w. CountsWork w c.redact_warned.result c.args.streams.now c.redact_warned.new.streams c.args.counts.now c.redact_warned.new.counts) (c.redact_warned.ensures.counted p (nfa_is g after) (patterns_are g after) (rows_are g after))
 
 pub returns-clause-outcome : goal.returns-clause-outcome
 returns-clause-outcome g c =

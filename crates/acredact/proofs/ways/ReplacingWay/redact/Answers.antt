@@ -1,7 +1,11 @@
 -- The replacement is that of the automaton's patterns.
-use Rattle.std.proofs.Common.{sym, subst}
+use Rattle.std.proofs.Common.{rules, ◌≡◌, length, sym, subst}
+use Rattle.std.specs.Prelude.{OnOk}
+use Rattle.std.proofs.lemmas.Result.{on_ok_weaker}
 use Rattle.acredact.specs.Secrets.{Redactor}
-use Rattle.acredact.specs.Streams.{StreamOutcome}
+use Rattle.acredact.specs.Streams.{RedactsStream, StreamOutcome}
+use Rattle.acredact.specs.Totals.{CountsOfStream}
+use Rattle.acredact.proofs.Redactions.{uncounted}
 use Rattle.acredact.proofs.ways.ReplacingWay.redact.Goals as goal
 
 pub redact-requires : goal.redact-requires
@@ -19,3 +23,15 @@ pub returns-clause-outcome : goal.returns-clause-outcome
 returns-clause-outcome g c = λ red by.
     subst (λ (q : Redactor). StreamOutcome g.R.Source g.W.Sink q c.redact_counting.result c.args.source.now c.redact_counting.new.source c.args.sink.now c.redact_counting.new.sink) (sym by.is)
     (c.redact_counting.ensures.outcome red.patterns by.of)
+
+pub returns-then-is_empty-clause-counted : goal.returns-then-is_empty-clause-counted
+returns-then-is_empty-clause-counted g c = λ red by.
+    let none : length c.args.counts.now ≡ 0 = search rules in
+    on_ok_weaker c.redact.result (λ whole. uncounted g.R.Source red _ _ _ _ c.args.counts.now none whole)
+    (subst (λ (q : Redactor). OnOk c.redact.result (RedactsStream g.R.Source g.W.Sink q c.args.source.now c.redact.new.source c.args.sink.now c.redact.new.sink)) (sym by.is)
+    (c.redact.ensures.outcome red.patterns by.of).redacted)
+
+pub returns-clause-counted : goal.returns-clause-counted
+returns-clause-counted g c = λ red by.
+    subst (λ (q : Redactor). OnOk c.redact_counting.result (CountsOfStream g.R.Source q c.args.source.now c.redact_counting.new.source c.args.counts.now c.redact_counting.new.counts)) (sym by.is)
+    (c.redact_counting.ensures.counted red.patterns by.of)

@@ -1,0 +1,108 @@
+-- How counts grow by the ranges that are replaced, file after file.
+use Rattle.std.proofs.Common.{◌≡◌, ◌≢◌, ℕ, zero, suc, ◌<◌, true, false, List, [], ◌∷◌, ◌++◌, Option, length, refl, sym, subst, ◌∙◌, append-nil, append_assoc, arith}
+use Rattle.std.specs.Prelude.{slice_index}
+use Rattle.std.specs.Io.KnownBytes.{Consumes, IsAtEnd, Keeps}
+use Rattle.std.proofs.lemmas.List.{length-map}
+use Rattle.aho_core.specs.Occurrence.{Occurrence}
+use Rattle.aho_cover.specs.Counting.{CountsThese}
+use Rattle.aho_cover.proofs.Counted.{counts_none, counts_then}
+use Rattle.aho_devices.specs.declared.device.Sink.{Ghosts as SinkGhosts}
+use Rattle.aho_devices.specs.declared.device.Source.{Ghosts as SourceGhosts}
+use Rattle.programs.specs.Names.{is_input}
+use Rattle.programs.specs.declared.errors.Errors.{Errors}
+use Rattle.acredact.specs.Calls.{TellsCounts, TellsTotals}
+use Rattle.acredact.specs.Counts.{lines_of_rules, zeros}
+use Rattle.acredact.specs.Files.{Work}
+use Rattle.acredact.specs.Secrets.{Redactor}
+use Rattle.acredact.specs.Tables.{secret_of, secrets_of}
+use Rattle.acredact.specs.Totals.{AreTotals, CountsOfName, CountsOfNames, CountsOfStream, CountsOfText, HasRanges, NamesHaveRanges}
+use Rattle.acredact.specs.declared.patterns.Rule.{Rule}
+use Rattle.acredact.proofs.OneFile.{ends_by, known_read, of_folder, of_input}
+
+-- a stream that has ended gave a text
+pub text_counts : {R : Type 0} (S : SourceGhosts R) (r : Redactor) (source source' : R) (before : Option (List ℕ)) (counts counts' : List ℕ)
+    → S.remaining source ≡ before → S.empty_reads source ≡ 0 → (S.empty_reads source' ≢ 0 → IsAtEnd (S.remaining source'))
+    → CountsOfStream S r source source' counts counts' → CountsOfText before (S.remaining source') counts counts' r
+text_counts S r source source' before counts counts' left none ends whole = (
+  whole.ranges,
+  record {
+    text = whole.text;
+    reads = record {
+      read = subst (λ bytes. Consumes bytes (S.remaining source') whole.text) left whole.gives.bytes;
+      ended = ends_by (S.empty_reads source) (S.empty_reads source') true none ends whole.gives.end refl;
+    };
+    found = whole.found;
+  },
+  whole.counted,
+)
+
+known_ranges : (r : Redactor) (ranges : List Occurrence) (told left left' : Option (List ℕ)) → Keeps told left → HasRanges r ranges left left' → HasRanges r ranges told left'
+known_ranges r ranges told left left' kept has =
+    record { text = has.text; reads = record { read = known_read told left left' has.text kept has.reads.read; ended = has.reads.ended }; found = has.found }
+
+module _ (work : Work) (name : List ℕ) (left left' : Option (List ℕ)) (counts counts' : List ℕ) where
+  -- that of the input
+  pub input_counts : is_input name ≡ true → CountsOfText left left' counts counts' work.redactor → CountsOfName left left' counts counts' work name
+  input_counts is (ranges, has, counted) = (ranges, of_input work.holds name (HasRanges work.redactor ranges) left left' is has, counted)
+
+  -- or of the folder
+  pub opened_counts : is_input name ≡ false → left' ≡ left → (opened rest : Option (List ℕ)) → Keeps (work.holds name) opened → CountsOfText opened rest counts counts' work.redactor
+      → CountsOfName left left' counts counts' work name
+  opened_counts is same opened rest kept (ranges, has, counted) =
+      (ranges, of_folder work.holds name (HasRanges work.redactor ranges) left left' is same rest (known_ranges work.redactor ranges (work.holds name) opened rest kept has), counted)
+
+-- some first files were counted, from one state of the input to another
+pub record CountedSoFar (work : Work) (names rest : List (List ℕ)) (old new : Option (List ℕ)) (counts counts' : List ℕ) : Type 0 where
+  pub ranges : List Occurrence
+  pub counted : CountsThese ranges counts counts'
+  pub found : (more : List Occurrence) (left : Option (List ℕ)) → NamesHaveRanges work rest more new left → NamesHaveRanges work names (ranges ++ more) old left
+
+module _ (work : Work) (names : List (List ℕ)) (old : Option (List ℕ)) (counts : List ℕ) where
+  -- before the first
+  pub far_uncounted : CountedSoFar work names names old old counts counts
+  far_uncounted = record { ranges = []; counted = counts_none counts; found = λ more left rest. rest }
+
+  -- one more
+  pub far_counted : (name : List ℕ) (rest : List (List ℕ)) (mid new : Option (List ℕ)) (before after : List ℕ) → CountedSoFar work names (name ∷ rest) old mid counts before
+      → CountsOfName mid new before after work name → CountedSoFar work names rest old new counts after
+  far_counted name rest mid new before after far (first, has, counted) = record {
+    ranges = far.ranges ++ first;
+    counted = counts_then far.ranges first counts before after far.counted counted;
+    found = λ more left rests. subst (λ (l : List Occurrence). NamesHaveRanges work names l old left) (sym (append_assoc far.ranges first more))
+        (far.found (first ++ more) left (first, more, refl, new, has, rests));
+  }
+
+  -- behind all
+  pub all_counted : (new : Option (List ℕ)) (after : List ℕ) → CountedSoFar work names [] old new counts after → CountsOfNames old new counts after work names
+  all_counted new after far = (
+    far.ranges,
+    subst (λ (l : List Occurrence). NamesHaveRanges work names l old new) (append-nil far.ranges) (far.found [] new (refl, refl)),
+    far.counted,
+  )
+
+-- counts begin at zero
+zero_at : (rules : List Rule) (number : ℕ) → slice_index (zeros true rules) number ≡ 0
+zero_at [] number = refl
+zero_at (rule ∷ rules) zero = refl
+zero_at (rule ∷ rules) (suc number) = zero_at rules number
+
+-- so they are the totals
+totals_from : (rules : List Rule) (ranges : List Occurrence) (counts : List ℕ) → CountsThese ranges (zeros true rules) counts → AreTotals (length (secrets_of rules)) ranges counts
+totals_from rules ranges counts grown =
+    let sized : length (zeros true rules) ≡ length (secrets_of rules) = length-map rules (λ rule. 0) ∙ sym (length-map rules secret_of) in
+    record {
+      one_each = grown.as_many ∙ sized;
+      each = λ number within. omega (arith, grown.grown number (subst (λ (n : ℕ). number < n) (sym sized) within), zero_at rules number);
+    }
+
+-- and are told
+pub totals_told : {E : Type 0} (K : SinkGhosts E) (rules : List Rule) (ranges : List Occurrence) (counts : List ℕ) (old new : Errors E) → CountsThese ranges (zeros true rules) counts → TellsCounts K rules counts old new
+    → TellsTotals K (secrets_of rules) ranges old new
+totals_told K rules ranges counts old new grown told = record {
+  lines = lines_of_rules rules;
+  one_line = length-map rules (λ rule. rule.line) ∙ sym (length-map rules secret_of);
+  counts = counts;
+  totals = totals_from rules ranges counts grown;
+  told = told.told;
+  whole = told.whole;
+}

@@ -1,0 +1,101 @@
+-- How often the text of each pattern was written, by the ranges that were replaced of each text, file after file.
+use Rattle.std.specs.Prelude.{◌≡◌, ℕ, ◌-◌, ◌<◌, ◌^◌, min, Bool, true, List, [], ◌∷◌, ◌++◌, Option, None, Result, Ok, OnOk, length, slice_index}
+use Rattle.std.specs.Borrow.{Bor}
+use Rattle.std.specs.declared.io.traits.Read.{Ghosts as Readers}
+use Rattle.aho_core.specs.Occurrence.{Occurrence}
+use Rattle.aho_core.specs.Patterns.{Patterns}
+use Rattle.aho_core.specs.declared.error.stream.StreamError.{StreamError}
+use Rattle.aho_automaton.specs.declared.automaton.Automaton.{Ghosts}
+use Rattle.aho_cover.specs.Counting.{CountsThese, runs_named}
+use Rattle.aho_devices.specs.declared.adapters.FromRead.{FromRead}
+use Rattle.aho_devices.specs.declared.device.Source.{Ghosts as SourceGhosts}
+use Rattle.aho_stream.specs.Replacing.{SourceGave}
+use Rattle.programs.specs.Names.{name_bytes}
+use Rattle.programs.specs.Streams.{bytes_left}
+use Rattle.programs.specs.declared.reason.Reason.{Reason}
+use Rattle.acredact.specs.Files.{Work, redactor_of, work_of}
+use Rattle.acredact.specs.Reads.{OfName, ReadsText}
+use Rattle.acredact.specs.Secrets.{AreReplaced, IfOf, Redactor, redactor_by}
+use Rattle.acredact.specs.declared.files.Job.{Job}
+use Rattle.acredact.specs.declared.folder.Folder.{Ghosts as Folders}
+use Rattle.acredact.specs.declared.streams.Streams.{Streams}
+
+-- a text was read to its end, and these are the ranges of it that are replaced
+pub record HasRanges (r : Redactor) (ranges : List Occurrence) (left left' : Option (List ℕ)) : Type 0 where
+  pub text : List ℕ
+  pub reads : ReadsText text left left'
+  pub found : AreReplaced r text ranges
+
+-- those of the file of a name
+abbrev pub NameHasRanges : Work → List ℕ → List Occurrence → (left left' : Option (List ℕ)) → Type 0
+NameHasRanges work name ranges left left' = OfName work.holds name (HasRanges work.redactor ranges) left left'
+
+-- and those of all files, one after another
+abbrev pub NamesHaveRanges : Work → List (List ℕ) → List Occurrence → (left left' : Option (List ℕ)) → Type 0
+NamesHaveRanges work [] ranges left left' = (ranges ≡ []) × (left' ≡ left)
+NamesHaveRanges work (name ∷ names) ranges left left' =
+    (first : List Occurrence) × (rest : List Occurrence) × (ranges ≡ first ++ rest)
+    × (between : Option (List ℕ)) × NameHasRanges work name first left between × NamesHaveRanges work names rest between left'
+
+-- for each pattern the number of these ranges that have its text in their place; a count stops at the greatest number
+pub record AreTotals (size : ℕ) (ranges : List Occurrence) (counts : List ℕ) : Type 0 where
+  pub one_each : length counts ≡ size
+  pub each : (number : ℕ) → number < size → slice_index counts number ≡ min (runs_named number ranges) (2 ^ 64 - 1)
+
+-- counts have grown by the ranges of a stream that has ended
+pub record CountsOfStream {R : Type 0} (S : SourceGhosts R) (r : Redactor) (source source' : R) (counts counts' : List ℕ) : Type 0 where
+  pub text : List ℕ
+  pub gives : SourceGave S source source' text true
+  pub ranges : List Occurrence
+  pub found : AreReplaced r text ranges
+  pub counted : CountsThese ranges counts counts'
+
+module _ (left left' : Option (List ℕ)) (counts counts' : List ℕ) where
+  -- by those of a text
+  abbrev pub CountsOfText : Redactor → Type 0
+  CountsOfText r = (ranges : List Occurrence) × HasRanges r ranges left left' × CountsThese ranges counts counts'
+
+  -- of the file of a name
+  abbrev pub CountsOfName : Work → List ℕ → Type 0
+  CountsOfName work name = (ranges : List Occurrence) × NameHasRanges work name ranges left left' × CountsThese ranges counts counts'
+
+  -- and of all files
+  abbrev pub CountsOfNames : Work → List (List ℕ) → Type 0
+  CountsOfNames work names = (ranges : List Occurrence) × NamesHaveRanges work names ranges left left' × CountsThese ranges counts counts'
+
+-- whatever an opened file has left afterwards
+abbrev pub CountsOpened : Option (List ℕ) → (counts counts' : List ℕ) → Redactor → Type 0
+CountsOpened left counts counts' r = (rest : Option (List ℕ)) × CountsOfText left rest counts counts' r
+
+-- what an automaton counts in a stream that it covers or not, where that has ended
+abbrev pub CountsBy : {A R : Type 0} → Ghosts A → SourceGhosts R → A → (covers : Bool) → List (Bor (List ℕ)) → Result (Unit {0}) StreamError
+    → (source source' : R) → (counts counts' : List ℕ) → Type 0
+CountsBy G S automaton covers replacements result source source' counts counts' =
+    IfOf G automaton (λ p. OnOk result (CountsOfStream S (redactor_by p covers replacements) source source' counts counts'))
+
+module _ {R : Type 0} {Reads : Readers R} where
+  module _ {F X : Type 0} (D : Folders F X) (job : Job F) where
+    -- where the file of a name was read to its end, counts have grown by its ranges
+    abbrev pub CountsFile : List ℕ → Result (Option Reason) StreamError → (input input' : FromRead R Reads) → (counts counts' : List ℕ) → Redactor → Type 0
+    CountsFile name result input input' counts counts' r =
+        result ≡ Ok None → CountsOfName (bytes_left input) (bytes_left input') counts counts' (work_of D job r) name
+
+    module _ {W E Z : Type 0} where
+      -- the same, where it is answered whether it was
+      abbrev pub CountsTold : List ℕ → Result Bool Z → (streams streams' : Streams R W E Reads) → (counts counts' : List ℕ) → Redactor → Type 0
+      CountsTold name result streams streams' counts counts' r =
+          result ≡ Ok true → CountsOfName (bytes_left streams.input) (bytes_left streams'.input) counts counts' (work_of D job r) name
+
+      -- and of all files
+      abbrev pub CountsJob : Result Bool Z → (streams streams' : Streams R W E Reads) → (counts counts' : List ℕ) → Redactor → Type 0
+      CountsJob result streams streams' counts counts' r =
+          result ≡ Ok true → CountsOfNames (bytes_left streams.input) (bytes_left streams'.input) counts counts' (work_of D job r) (name_bytes job.names.now)
+
+      -- by these patterns
+      abbrev pub JobCounts : Result Bool Z → (streams streams' : Streams R W E Reads) → (counts counts' : List ℕ) → Patterns → Type 0
+      JobCounts result streams streams' counts counts' p = CountsJob result streams streams' counts counts' (redactor_of job p)
+
+  -- the same of some work
+  abbrev pub CountsWork : {W E Z : Type 0} → Work → Result Bool Z → (streams streams' : Streams R W E Reads) → (counts counts' : List ℕ) → Type 0
+  CountsWork work result streams streams' counts counts' =
+      result ≡ Ok true → CountsOfNames (bytes_left streams.input) (bytes_left streams'.input) counts counts' work work.names
