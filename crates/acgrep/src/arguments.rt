@@ -237,6 +237,9 @@ fn read_value<'a>(
         Valued::Offset => given.flags.first = read_number(valued, argument.as_bytes())?,
         Valued::FirstLine => given.flags.first_line = read_number(valued, argument.as_bytes())?,
         Valued::MaxCount => given.flags.most = Some(read_number(valued, argument.as_bytes())?),
+        Valued::After => given.flags.after = Some(read_number(valued, argument.as_bytes())?),
+        Valued::Before => given.flags.before = Some(read_number(valued, argument.as_bytes())?),
+        Valued::Context => given.flags.context = Some(read_number(valued, argument.as_bytes())?),
     }
     Ok(Awaited::Fresh)
 }
@@ -304,7 +307,7 @@ fn read_plain<'a>(given: &mut Given<'a>, argument: &'a [u8]) -> Result<Awaited, 
     }
 }
 
-/// Reads joined letters. `-e`, `-f` and `-m` take what stands behind them.
+/// Reads joined letters. Those of options with an argument take what stands behind them, and digits are a number of lines.
 fn read_letters<'a>(given: &mut Given<'a>, letters: &'a [u8]) -> Result<Awaited, Refusal<'a>>
     ensures read { ReadsBy (letters_by letters.now) given.old given.new result }
     ensures refused { FailsBy (letters_by letters.now (said given.old)) result }
@@ -315,8 +318,12 @@ fn read_letters<'a>(given: &mut Given<'a>, letters: &'a [u8]) -> Result<Awaited,
         if *letter == b'e' || *letter == b'f' {
             return take_source(given, *letter == b'f', behind);
         }
-        if *letter == b'm' {
-            return take_most(given, behind);
+        if let Some(valued) = numbered(*letter) {
+            return take_number(given, valued, behind);
+        }
+        if letter.is_ascii_digit() {
+            rest = take_digits(given, rest)?;
+            continue;
         }
         match switch_of(*letter) {
             Some(switch) => given.flags = given.flags.switched(switch),
@@ -344,17 +351,66 @@ fn take_source<'a>(
     Ok(Awaited::Fresh)
 }
 
-/// Takes what stands behind `-m` for its argument, if it is not empty.
-fn take_most<'a>(given: &mut Given<'a>, behind: &'a [u8]) -> Result<Awaited, Refusal<'a>>
-    ensures read { ReadsBy (most_by behind.now) given.old given.new result }
-    ensures refused { FailsBy (most_by behind.now (said given.old)) result }
-    ensures wrong { TellsBy (wrong_most behind.now) result }
+/// The option of a letter whose argument is a number.
+fn numbered(letter: u8) -> Option<Valued>
+    ensures option { result ≡ numbered letter }
+{
+    match letter {
+        b'm' => Some(Valued::MaxCount),
+        b'A' => Some(Valued::After),
+        b'B' => Some(Valued::Before),
+        b'C' => Some(Valued::Context),
+        _ => None,
+    }
+}
+
+/// Takes what stands behind such a letter for its argument, if it is not empty.
+fn take_number<'a>(
+    given: &mut Given<'a>,
+    valued: Valued,
+    behind: &'a [u8],
+) -> Result<Awaited, Refusal<'a>>
+    ensures read { ReadsBy (numbered_by valued behind.now) given.old given.new result }
+    ensures refused { FailsBy (numbered_by valued behind.now (said given.old)) result }
+    ensures wrong { TellsBy (wrong_numbered valued behind.now) result }
 {
     if behind.is_empty() {
-        return Ok(Awaited::Argument(Valued::MaxCount));
+        return Ok(Awaited::Argument(valued));
     }
-    given.flags.most = Some(read_number(Valued::MaxCount, behind)?);
+    set_number(given, valued, read_number(valued, behind)?);
     Ok(Awaited::Fresh)
+}
+
+/// Sets the number that an option gives.
+fn set_number(given: &mut Given<'_>, valued: Valued, number: u64)
+    ensures set { said given.new ≡ with_number valued number (said given.old) }
+{
+    match valued {
+        Valued::MaxCount => given.flags.most = Some(number),
+        Valued::After => given.flags.after = Some(number),
+        Valued::Before => given.flags.before = Some(number),
+        Valued::Context => given.flags.context = Some(number),
+        _ => {}
+    }
+}
+
+/// Takes the digits at the front of letters for the argument of `-C`, and answers what follows.
+fn take_digits<'a>(given: &mut Given<'a>, letters: &'a [u8]) -> Result<&'a [u8], Refusal<'a>>
+{
+    let count = digits_in(letters);
+    let number = read_number(Valued::Context, &letters[..count])?;
+    given.flags.context = Some(number);
+    Ok(&letters[count..])
+}
+
+/// How many digits stand at the front.
+fn digits_in(letters: &[u8]) -> usize
+{
+    let mut count = 0;
+    while count < letters.len() && letters[count].is_ascii_digit() {
+        count += 1;
+    }
+    count
 }
 
 /// The option that gives a file of patterns, or patterns.

@@ -198,6 +198,7 @@ fn search_names<A: Automaton, F: Open, R: Read, W: Sink, E: Sink>(
         return 2;
     };
     let mut page = Vec::new(alloc);
+    let mut state = State::new(alloc, job.first);
     let seen = search_each(
         automaton,
         job,
@@ -205,6 +206,7 @@ fn search_names<A: Automaton, F: Open, R: Read, W: Sink, E: Sink>(
         names,
         &mut buffer,
         input,
+        &mut state,
         &mut page,
         output,
         errors,
@@ -220,6 +222,7 @@ fn search_each<A: Automaton, F: Open, R: Read, W: Sink, E: Sink>(
     names: &[&[u8]],
     buffer: &mut Buffer,
     input: &mut R,
+    state: &mut State,
     page: &mut Vec<u8>,
     output: &mut W,
     errors: &mut Errors<'_, E>,
@@ -238,7 +241,17 @@ fn search_each<A: Automaton, F: Open, R: Read, W: Sink, E: Sink>(
     let mut rest = names;
     while goes_on(rest, seen) {
         let outcome = search_name(
-            automaton, job, files, rest[0], buffer, input, page, output, errors,
+            automaton,
+            job,
+            files,
+            rest[0],
+            seen.selected,
+            buffer,
+            input,
+            state,
+            page,
+            output,
+            errors,
         );
         seen = seen.after(job.shown, outcome);
         rest = &rest[1..];
@@ -261,8 +274,10 @@ fn search_name<A: Automaton, F: Open, R: Read, W: Sink, E: Sink>(
     job: &Job<'_>,
     files: &F,
     name: &[u8],
+    follows: bool,
     buffer: &mut Buffer,
     input: &mut R,
+    state: &mut State,
     page: &mut Vec<u8>,
     output: &mut W,
     errors: &mut Errors<'_, E>,
@@ -280,11 +295,11 @@ fn search_name<A: Automaton, F: Open, R: Read, W: Sink, E: Sink>(
         errors.old errors.new }
 {
     if is_input(name) {
-        let named = job_for(job, INPUT_NAME);
-        return search_one(automaton, &named, buffer, input, page, output, errors);
+        let named = job_for(job, INPUT_NAME, follows);
+        return search_one(automaton, &named, buffer, input, state, page, output, errors);
     }
-    let named = job_for(job, name);
-    search_named(automaton, &named, files, name, buffer, page, output, errors)
+    let named = job_for(job, name, follows);
+    search_named(automaton, &named, files, name, buffer, state, page, output, errors)
 }
 
 /// Opens the file of a name and searches it.
@@ -294,6 +309,7 @@ fn search_named<A: Automaton, F: Open, W: Sink, E: Sink>(
     files: &F,
     name: &[u8],
     buffer: &mut Buffer,
+    state: &mut State,
     page: &mut Vec<u8>,
     output: &mut W,
     errors: &mut Errors<'_, E>,
@@ -307,7 +323,7 @@ fn search_named<A: Automaton, F: Open, W: Sink, E: Sink>(
         errors.old errors.new }
 {
     match open_named(files, name) {
-        Ok(mut file) => search_one(automaton, job, buffer, &mut file, page, output, errors),
+        Ok(mut file) => search_one(automaton, job, buffer, &mut file, state, page, output, errors),
         Err(error) => {
             let _ = output.flush();
             tell_unread(job, Reason::of(&error), errors);
@@ -322,6 +338,7 @@ fn search_one<A: Automaton, R: Read, W: Sink, E: Sink>(
     job: &Job<'_>,
     buffer: &mut Buffer,
     reader: &mut R,
+    state: &mut State,
     page: &mut Vec<u8>,
     output: &mut W,
     errors: &mut Errors<'_, E>,
@@ -335,10 +352,10 @@ fn search_one<A: Automaton, R: Read, W: Sink, E: Sink>(
     ensures told { TellsOfOutcome E.Sink job.now.hushed job.now.style.name.now result
         errors.old errors.new }
 {
-    let mut state = State::new(job.first);
-    match search_stream(automaton, job, buffer, reader, &mut state, page, output) {
-        Ok(()) => end_file(job, &state, page, output, errors),
-        Err(stop) => break_off(job, &state, &stop, page, output, errors),
+    state.begin(job);
+    match search_stream(automaton, job, buffer, reader, state, page, output) {
+        Ok(()) => end_file(job, state, page, output, errors),
+        Err(stop) => break_off(job, state, &stop, page, output, errors),
     }
 }
 
@@ -469,7 +486,7 @@ fn tell_total<E: Sink>(stop: &Stop, errors: &mut Errors<'_, E>)
 }
 
 /// What is written of the file of this name.
-fn job_for<'a>(job: &Job<'_>, name: &'a [u8]) -> Job<'a>
+fn job_for<'a>(job: &Job<'_>, name: &'a [u8], follows: bool) -> Job<'a>
     ensures named { IsNamed job.now name.now result }
 {
     Job {
@@ -483,9 +500,12 @@ fn job_for<'a>(job: &Job<'_>, name: &'a [u8]) -> Job<'a>
             number: job.style.number,
             offset: job.style.offset,
             color: job.style.color,
+            hyphen: job.style.hyphen,
         },
         first: job.first,
         most: job.most,
         hushed: job.hushed,
+        context: job.context,
+        follows,
     }
 }

@@ -7,8 +7,10 @@
 mod alone;
 mod arguments;
 mod buffer;
+mod context;
 mod failure;
 mod files;
+mod held;
 mod help;
 mod json;
 mod keys;

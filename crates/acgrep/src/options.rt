@@ -35,6 +35,17 @@ pub enum Shown {
     Nothing,
 }
 
+/// How many lines are written around each selected one.
+#[derive(Clone, Copy)]
+pub struct Context {
+    /// How many before it.
+    pub before: u64,
+    /// How many behind it.
+    pub after: u64,
+    /// Whether a line stands between those that do not follow one another.
+    pub parted: bool,
+}
+
 /// What a match of a line has to be.
 #[derive(Clone, Copy, PartialEq, Eq)]
 pub enum Fit {
@@ -75,6 +86,8 @@ pub enum Switch {
     NullNames,
     /// `-q`
     Quiet,
+    /// `--no-group-separator`
+    NoSeparator,
     /// `--json`
     Json,
     /// `-h`
@@ -146,6 +159,14 @@ pub struct Flags {
     pub null: bool,
     /// `-q`: nothing is written.
     pub quiet: bool,
+    /// `-A`: how many lines are written behind each selected one.
+    pub after: Option<u64>,
+    /// `-B`: how many are before it.
+    pub before: Option<u64>,
+    /// `-C`: how many are where the option for that side is not given.
+    pub context: Option<u64>,
+    /// `--no-group-separator`: no line stands between lines that do not follow one another.
+    pub joined: bool,
     /// `--json`: each match is written as a JSON object.
     pub json: bool,
     /// The last of `-h` and `-H`.
@@ -171,7 +192,7 @@ pub struct Flags {
 }
 
 impl Flags {
-    ghost use Rattle.acgrep.specs.Arguments.{fit_by, no_flags, shown_by, switched};
+    ghost use Rattle.acgrep.specs.Arguments.{around_by, asked_around, fit_by, no_flags, shown_by, switched};
 
     /// Where no option is given.
     pub fn new() -> Flags
@@ -190,6 +211,10 @@ impl Flags {
             lacking: false,
             null: false,
             quiet: false,
+            after: None,
+            before: None,
+            context: None,
+            joined: false,
             json: false,
             with_name: None,
             color: Color::Never,
@@ -223,6 +248,31 @@ impl Flags {
         } else {
             Shown::Lines
         }
+    }
+
+    /// How many lines are written around selected ones, if that is asked for and lines or matches are written.
+    pub fn around(&self) -> Option<Context>
+        ensures around { result ≡ around_by self.now }
+    {
+        match self.shown() {
+            Shown::Lines | Shown::Matches => self.asked_around(),
+            _ => None,
+        }
+    }
+
+    /// How many lines are asked for around selected ones.
+    fn asked_around(&self) -> Option<Context>
+        ensures around { result ≡ asked_around self.now }
+    {
+        if self.before.is_none() && self.after.is_none() && self.context.is_none() {
+            return None;
+        }
+        let others = self.context.unwrap_or(0);
+        Some(Context {
+            before: self.before.unwrap_or(others),
+            after: self.after.unwrap_or(others),
+            parted: !self.joined,
+        })
     }
 
     /// What a match has to be: of `-w` and `-x` the latter goes first.
@@ -263,6 +313,7 @@ impl Flags {
             }
             Switch::NullNames => flags.null = true,
             Switch::Quiet => flags.quiet = true,
+            Switch::NoSeparator => flags.joined = true,
             Switch::Json => flags.json = true,
             Switch::NoName => flags.with_name = Some(false),
             Switch::WithName => flags.with_name = Some(true),

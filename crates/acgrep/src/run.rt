@@ -415,6 +415,7 @@ fn job_of(flags: &Flags, terminal: bool, count: usize) -> Job<'static>
             number: flags.number,
             offset: flags.offset,
             color: is_colored(flags.color, terminal),
+            hyphen: false,
         },
         first: Place {
             lines: flags.first_line.wrapping_sub(1),
@@ -422,6 +423,8 @@ fn job_of(flags: &Flags, terminal: bool, count: usize) -> Job<'static>
         },
         most: flags.most,
         hushed: flags.no_messages,
+        context: flags.around(),
+        follows: false,
     }
 }
 

@@ -12,13 +12,15 @@ ghost use Rattle.acgrep.specs.Selected.{FindsNone, ForLines, IsLine, IsNextLine,
 ghost use Rattle.acgrep.specs.Written.{EndsLine, HasMatch, IsMatched, NumbersLines, IsSettled, SamePlace, after_line, after_lines, at_begin, is_full, is_numbered, needs_one, next_count, place_behind, selects};
 
 use crate::alone::has_alone;
+use crate::context::{Trail, search_around};
 use crate::failure::Stop;
 use crate::json::put_objects;
 use crate::lines::{behind, line_end, line_start};
-use crate::options::{Fit, Shown};
+use crate::options::{Context, Fit, Shown};
 use crate::print::{Place, Style, put_colored_line, put_line, put_matches};
 use chromesquid::{Automaton, Input, MatchError, MatchKind, Sink, Span, write_whole};
 use memchr::memchr_iter;
+use std::alloc::Global;
 use std::io::Write;
 
 /// What is written of which lines of a file.
@@ -38,6 +40,10 @@ pub struct Job<'a> {
     pub most: Option<u64>,
     /// Whether nothing is told of files that cannot be read.
     pub hushed: bool,
+    /// How many lines are written around selected ones, where that is asked for.
+    pub context: Option<Context>,
+    /// Whether lines of a file before were written.
+    pub follows: bool,
 }
 
 impl<'a> Job<'a> {
@@ -66,7 +72,7 @@ impl<'a> Job<'a> {
     }
 
     /// Whether a line is selected, by whether it matches.
-    fn selects(&self, matched: bool) -> bool
+    pub fn selects(&self, matched: bool) -> bool
         ensures selects { result ≡ selects matched self.now.invert }
     {
         if self.invert { !matched } else { matched }
@@ -80,7 +86,7 @@ impl<'a> Job<'a> {
     }
 
     /// Whether so many lines are selected as are asked for.
-    fn is_full(&self, count: u64) -> bool
+    pub fn is_full(&self, count: u64) -> bool
         ensures full { result ≡ is_full self.now.most count }
     {
         match self.most {
@@ -89,19 +95,29 @@ impl<'a> Job<'a> {
         }
     }
 
+    /// What is written of the lines around selected ones: under `-v` their matches are shown, and else not.
+    pub fn beside(&self) -> Job<'a>
+        ensures beside { result ≡ beside self.now }
+    {
+        let mut job = *self;
+        job.invert = !self.invert;
+        job.style.hyphen = true;
+        job
+    }
+
     /// Whether no further line changes what is written.
     pub fn is_done(&self, state: &State) -> bool
         ensures only { IsTrue result → 0 < state.now.selected }
         ensures settled { IsTrue result ↔ IsSettled self.now state.now }
     {
-        if self.is_full(state.selected) {
+        if self.is_full(state.selected) && state.trail.is_past() {
             return true;
         }
         self.needs_one() && state.selected > 0
     }
 
     /// Whether what is left of a text is to be searched.
-    fn goes_on(&self, left: &[u8], state: &State) -> bool
+    pub fn goes_on(&self, left: &[u8], state: &State) -> bool
         ensures some { IsTrue result → 0 < length left.now }
         ensures ends { result ≡ false → (left.now ≡ []) ⊎ IsSettled self.now state.now }
     {
@@ -110,23 +126,33 @@ impl<'a> Job<'a> {
 }
 
 /// How far a file was searched.
-#[derive(Clone, Copy)]
+#[derive(Drop)]
 pub struct State {
     /// What stands before the next line.
     pub place: Place,
     /// How many lines were selected.
     pub selected: u64,
+    /// What is known of the lines before it, where lines around selected ones are written.
+    pub trail: Trail,
 }
 
 impl State {
-    /// At the begin of a file whose first line stands there.
-    pub fn new(first: Place) -> State
-        ensures begin { result ≡ at_begin first }
+    /// Where no file was begun.
+    pub fn new(alloc: Global, first: Place) -> State
     {
         State {
             place: first,
             selected: 0,
+            trail: Trail::new(alloc, first),
         }
+    }
+
+    /// Begins a file of which this is written.
+    pub fn begin(&mut self, job: &Job<'_>)
+    {
+        self.place = job.first;
+        self.selected = 0;
+        self.trail.begin(job.follows);
     }
 }
 
@@ -181,6 +207,9 @@ pub fn search_text<A: Automaton, W: Sink>(
     ensures begun { BeginsTextBy A.Automaton W.Sink automaton.now job.now
         state.old state.new output.old output.new text.now result }
 {
+    if let Some(context) = job.context {
+        return search_around(automaton, job, &context, text, state, page, output);
+    }
     let mut rest = text;
     while job.goes_on(rest, state) {
         rest = search_some(automaton, job, rest, state, page, output)?;
@@ -250,7 +279,7 @@ fn pass_matched<A: Automaton, W: Sink>(
 }
 
 /// Whether a line in which a pattern occurs matches.
-fn is_match<A: Automaton>(automaton: &A, job: &Job<'_>, line: &[u8]) -> Result<bool, Stop>
+pub fn is_match<A: Automaton>(automaton: &A, job: &Job<'_>, line: &[u8]) -> Result<bool, Stop>
     requires of { (p : Patterns) × A.is_of automaton.now p }
     ensures any { job.now.fit ≡ AnyPart → IfOk result (λ matched. matched ≡ true) }
     ensures matched { (p : Patterns) → A.is_of automaton.now p → HasMatch p line.now
@@ -400,7 +429,7 @@ fn pass_each<A: Automaton, W: Sink>(
 }
 
 /// The place behind a line and its newline.
-fn behind_line(place: Place, line: &[u8]) -> Place
+pub fn behind_line(place: Place, line: &[u8]) -> Place
     ensures place { result ≡ after_line place line.now }
 {
     Place {
@@ -450,7 +479,7 @@ fn newlines(text: &[u8]) -> u64
 
 /// Writes what is asked of a selected line. It is put together first: where the output cannot be written to the end, what is
 /// there is a beginning of it.
-fn show<A: Automaton, W: Sink>(
+pub fn show<A: Automaton, W: Sink>(
     automaton: &A,
     job: &Job<'_>,
     line: &[u8],
@@ -472,7 +501,7 @@ fn show<A: Automaton, W: Sink>(
 }
 
 /// Puts together what is asked of a selected line.
-fn put_shown<A: Automaton, W: Write>(
+pub fn put_shown<A: Automaton, W: Write>(
     automaton: &A,
     job: &Job<'_>,
     line: &[u8],

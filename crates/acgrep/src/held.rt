@@ -1,0 +1,65 @@
+//! The lines that were passed over last, which are written where the next selected line is near.
+
+ghost use Rattle.std.specs.Prelude.{◌≡◌, ◌≤◌, OnOk, drop, length, vec_len};
+
+use std::alloc::{AllocError, Global};
+
+/// Whole lines, behind what was dropped of the room.
+#[derive(Drop)]
+pub struct Held {
+    room: Vec<u8>,
+    from: usize,
+    ghost within: { from ≤ vec_len room },
+}
+
+impl Held {
+    /// No line.
+    pub fn new(alloc: Global) -> Held
+    {
+        Held {
+            room: Vec::new(alloc),
+            from: 0,
+        }
+    }
+
+    /// The lines, each with its newline.
+    pub fn bytes(&self) -> &[u8]
+    {
+        &self.room[self.from..]
+    }
+
+    /// Forgets all lines.
+    pub fn clear(&mut self)
+    {
+        self.room.clear();
+        self.from = 0;
+    }
+
+    /// Adds a line. What was dropped is first made room where it is more than what is held.
+    pub fn push(&mut self, line: &[u8]) -> Result<(), AllocError>
+    {
+        self.close_up();
+        self.room.extend_from_slice(line)?;
+        self.room.push(b'\n')?;
+        Ok(())
+    }
+
+    /// Drops bytes from the front.
+    pub fn drop_front(&mut self, count: usize)
+        requires within { count ≤ vec_len self.now.room }
+    {
+        self.from += count;
+    }
+
+    /// Moves what is held to the front of the room, where it is the smaller part.
+    fn close_up(&mut self)
+    {
+        let len = self.room.len();
+        if self.from <= len / 2 {
+            return;
+        }
+        self.room.copy_within(self.from..len, 0);
+        self.room.truncate(len - self.from);
+        self.from = 0;
+    }
+}
