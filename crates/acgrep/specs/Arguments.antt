@@ -1,6 +1,7 @@
 -- What the arguments, those after the program's name, say.
 use Rattle.programs.specs.Arguments.{kind_by}
-use Rattle.std.specs.Prelude.{◌≡◌, ℕ, ◌==◌, ◌^◌, ◌||◌, ◌&&◌, nat_lt, Bool, true, false, List, [], ◌∷◌, ◌++◌, Option, Some, None, codes, drop, length, map, take, Result, IfErr, IfOk, OnOk, option_and_then, option_map, if◌then◌else◌}
+use Rattle.std.specs.Prelude.{◌≡◌, ℕ, ◌==◌, ◌^◌, ◌||◌, ◌&&◌, nat_lt, Bool, true, false, List, [], ◌∷◌, ◌++◌, Option, Some, None, codes, drop, is_some, not, unwrap_or, length, map, take, Result, IfErr, IfOk, OnOk, option_and_then, option_map, if◌then◌else◌}
+use Rattle.std.specs.Char.{is_ascii_digit}
 use Rattle.std.specs.Str.{all_ascii_digits, bytes_eq}
 use Rattle.std.specs.List.{after_first, before_first, position_or_len}
 use Rattle.std.specs.Str.Parse.{digits_value}
@@ -10,10 +11,11 @@ use Rattle.acgrep.specs.Long.{option_by}
 use Rattle.acgrep.specs.declared.long.Long.{Long}
 use Rattle.acgrep.specs.declared.long.Long.TheVariants.{Plain, Takes, When}
 use Rattle.acgrep.specs.declared.long.Valued.{Valued}
-use Rattle.acgrep.specs.declared.long.Valued.TheVariants.{Regexp, PatternFile, Kind, Offset, FirstLine, MaxCount}
+use Rattle.acgrep.specs.declared.long.Valued.TheVariants.{Regexp, PatternFile, Kind, Offset, FirstLine, MaxCount, After, Before, Around}
 use Rattle.acgrep.specs.declared.options.Color.{Color}
+use Rattle.acgrep.specs.declared.options.Context.{Context}
 use Rattle.acgrep.specs.declared.options.Switch.{Switch}
-use Rattle.acgrep.specs.declared.options.Switch.TheVariants.{IgnoreCase, MatchCase, Invert, WholeWords, WholeLines, Counts, Numbers, OnlyMatching, Offsets, OnlyNames, OnlyLacking, NullNames, Quiet, Json, NoName, WithName, NoMatchOk, NoMessages, Help, Version, Same}
+use Rattle.acgrep.specs.declared.options.Switch.TheVariants.{IgnoreCase, MatchCase, Invert, WholeWords, WholeLines, Counts, Numbers, OnlyMatching, Offsets, OnlyNames, OnlyLacking, NullNames, Quiet, NoSeparator, Json, NoName, WithName, NoMatchOk, NoMessages, Help, Version, Same}
 use Rattle.acgrep.specs.declared.arguments.Awaited.{Awaited}
 use Rattle.acgrep.specs.declared.arguments.Awaited.TheVariants.{Fresh, Argument, Operands}
 use Rattle.acgrep.specs.declared.arguments.Refusal.{Refusal}
@@ -87,6 +89,7 @@ switched OnlyNames flags = record flags { names = true; lacking = false }
 switched OnlyLacking flags = record flags { names = false; lacking = true }
 switched NullNames flags = record flags { null = true }
 switched Quiet flags = record flags { quiet = true }
+switched NoSeparator flags = record flags { joined = true }
 switched Json flags = record flags { json = true }
 switched NoName flags = record flags { with_name = Some false }
 switched WithName flags = record flags { with_name = Some true }
@@ -134,6 +137,10 @@ abbrev pub taken_by : Bool → List ℕ → Said → ReadSoFar
 taken_by is_file [] s = record { awaits = Argument (source_option is_file); said = s }
 taken_by is_file (first ∷ rest) s = said_so (with_source is_file (first ∷ rest) s)
 
+-- how many lines are asked for around selected ones
+abbrev pub with_around : ℕ → Said → Said
+with_around number s = record s { flags = record s.flags { context = Some number } }
+
 -- the argument of an option
 abbrev pub value_by : Valued → List ℕ → Said → Option ReadSoFar
 value_by Regexp argument s = Some (said_so (with_source false argument s))
@@ -142,19 +149,48 @@ value_by Kind argument s = option_map (λ kind. said_so (record s { flags = reco
 value_by Offset argument s = option_map (λ first. said_so (record s { flags = record s.flags { first = first } })) (number_by argument)
 value_by FirstLine argument s = option_map (λ number. said_so (record s { flags = record s.flags { first_line = number } })) (number_by argument)
 value_by MaxCount argument s = option_map (λ number. said_so (record s { flags = record s.flags { most = Some number } })) (number_by argument)
+value_by After argument s = option_map (λ number. said_so (record s { flags = record s.flags { after = Some number } })) (number_by argument)
+value_by Before argument s = option_map (λ number. said_so (record s { flags = record s.flags { before = Some number } })) (number_by argument)
+value_by Around argument s = option_map (λ number. said_so (with_around number s)) (number_by argument)
 
--- that of `-m` too
-abbrev pub most_by : List ℕ → Said → Option ReadSoFar
-most_by [] s = Some (record { awaits = Argument MaxCount; said = s })
-most_by (first ∷ rest) s = value_by MaxCount (first ∷ rest) s
+-- the option of a letter whose argument is a number
+abbrev pub numbered : ℕ → Option Valued
+numbered letter =
+    if letter == 109 then Some MaxCount
+    else if letter == 65 then Some After
+    else if letter == 66 then Some Before
+    else if letter == 67 then Some Around
+    else None
 
--- joined letters
-abbrev pub letters_by : List ℕ → Said → Option ReadSoFar
-letters_by [] s = Some (said_so s)
-letters_by (letter ∷ rest) s =
+-- that number stands behind its letter too
+abbrev pub numbered_by : Valued → List ℕ → Said → Option ReadSoFar
+numbered_by valued [] s = Some (record { awaits = Argument valued; said = s })
+numbered_by valued (first ∷ rest) s = value_by valued (first ∷ rest) s
+
+-- digits among joined letters are the number of `-C`
+abbrev pub with_digits : List ℕ → Said → Option Said
+with_digits [] s = Some s
+with_digits (digit ∷ digits) s = option_map (λ number. with_around number s) (number_by (digit ∷ digits))
+
+-- a letter that is no digit, and those behind it
+abbrev pub letter_by : ℕ → List ℕ → (Said → Option ReadSoFar) → Said → Option ReadSoFar
+letter_by letter rest follow s =
     if letter == 101 || letter == 102 then Some (taken_by (letter == 102) rest s)
-    else if letter == 109 then most_by rest s
-    else option_and_then (λ switch. letters_by rest (record s { flags = switched switch s.flags })) (switch_by letter)
+    else numbered_or (numbered letter) letter rest follow s
+
+abbrev pub numbered_or : Option Valued → ℕ → List ℕ → (Said → Option ReadSoFar) → Said → Option ReadSoFar
+numbered_or (Some valued) letter rest follow s = numbered_by valued rest s
+numbered_or None letter rest follow s = option_and_then (λ switch. follow (record s { flags = switched switch s.flags })) (switch_by letter)
+
+-- joined letters behind some digits
+abbrev pub letters_from : List ℕ → List ℕ → Said → Option ReadSoFar
+letters_from digits [] s = option_map said_so (with_digits digits s)
+letters_from digits (letter ∷ rest) s =
+    if is_ascii_digit letter then letters_from (digits ++ (letter ∷ [])) rest s
+    else option_and_then (letter_by letter rest (letters_from [] rest)) (with_digits digits s)
+
+abbrev pub letters_by : List ℕ → Said → Option ReadSoFar
+letters_by letters s = letters_from [] letters s
 
 -- when matches are coloured
 abbrev pub color_named : List ℕ → Option Color
@@ -248,6 +284,10 @@ no_flags = record {
   lacking = false;
   null = false;
   quiet = false;
+  after = None;
+  before = None;
+  context = None;
+  joined = false;
   json = false;
   with_name = None;
   color = Never;
@@ -283,6 +323,18 @@ shown_by flags =
     else if flags.json then Objects
     else if flags.only_matching then Matches
     else Lines
+
+-- how many lines are written around selected ones, where that is asked for: of `-A` and `-C` the former goes first, and of `-B`
+-- and `-C`
+abbrev pub around_asked : Flags → Context
+around_asked flags = record {
+  before = unwrap_or flags.before (unwrap_or flags.context 0);
+  after = unwrap_or flags.after (unwrap_or flags.context 0);
+  parted = not flags.joined;
+}
+
+abbrev pub context_by : Flags → Option Context
+context_by flags = if is_some flags.before || (is_some flags.after || is_some flags.context) then Some (around_asked flags) else None
 
 -- what a match has to be: of `-w` and `-x` the latter goes first
 abbrev pub fit_by : Flags → Fit

@@ -239,7 +239,7 @@ fn read_value<'a>(
         Valued::MaxCount => given.flags.most = Some(read_number(valued, argument.as_bytes())?),
         Valued::After => given.flags.after = Some(read_number(valued, argument.as_bytes())?),
         Valued::Before => given.flags.before = Some(read_number(valued, argument.as_bytes())?),
-        Valued::Context => given.flags.context = Some(read_number(valued, argument.as_bytes())?),
+        Valued::Around => given.flags.context = Some(read_number(valued, argument.as_bytes())?),
     }
     Ok(Awaited::Fresh)
 }
@@ -359,7 +359,7 @@ fn numbered(letter: u8) -> Option<Valued>
         b'm' => Some(Valued::MaxCount),
         b'A' => Some(Valued::After),
         b'B' => Some(Valued::Before),
-        b'C' => Some(Valued::Context),
+        b'C' => Some(Valued::Around),
         _ => None,
     }
 }
@@ -389,7 +389,7 @@ fn set_number(given: &mut Given<'_>, valued: Valued, number: u64)
         Valued::MaxCount => given.flags.most = Some(number),
         Valued::After => given.flags.after = Some(number),
         Valued::Before => given.flags.before = Some(number),
-        Valued::Context => given.flags.context = Some(number),
+        Valued::Around => given.flags.context = Some(number),
         _ => {}
     }
 }
@@ -398,7 +398,7 @@ fn set_number(given: &mut Given<'_>, valued: Valued, number: u64)
 fn take_digits<'a>(given: &mut Given<'a>, letters: &'a [u8]) -> Result<&'a [u8], Refusal<'a>>
 {
     let count = digits_in(letters);
-    let number = read_number(Valued::Context, &letters[..count])?;
+    let number = read_number(Valued::Around, &letters[..count])?;
     given.flags.context = Some(number);
     Ok(&letters[count..])
 }

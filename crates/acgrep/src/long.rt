@@ -28,7 +28,7 @@ pub enum Valued {
     /// `-B`
     Before,
     /// `-C`
-    Context,
+    Around,
 }
 
 /// An option by its long name.
@@ -168,7 +168,7 @@ fn or_context(found: Found, name: &[u8]) -> Found
     found
         .or(name, b"after-context", Long::Takes(Valued::After))
         .or(name, b"before-context", Long::Takes(Valued::Before))
-        .or(name, b"context", Long::Takes(Valued::Context))
+        .or(name, b"context", Long::Takes(Valued::Around))
         .or(
             name,
             b"no-group-separator",

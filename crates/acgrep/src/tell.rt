@@ -140,7 +140,7 @@ fn valued_name<'a>(valued: Valued) -> &'a [u8]
         Valued::MaxCount => b"-m",
         Valued::After => b"-A",
         Valued::Before => b"-B",
-        Valued::Context => b"-C",
+        Valued::Around => b"-C",
     }
 }
 
