@@ -6,6 +6,7 @@ pub mod FileTellings
 pub mod FilesBegun
 pub mod Fillings
 pub mod FirstLines
+pub mod Grouped
 pub mod Kept
 pub mod LineLists
 pub mod LongNames

@@ -172,15 +172,16 @@ abbrev pub with_digits : List ℕ → Said → Option Said
 with_digits [] s = Some s
 with_digits (digit ∷ digits) s = option_map (λ number. with_around number s) (number_by (digit ∷ digits))
 
--- a letter that is no digit, and those behind it
+-- a letter that gives no patterns, and those behind it
+abbrev pub numbered_or : Option Valued → ℕ → List ℕ → (Said → Option ReadSoFar) → Said → Option ReadSoFar
+numbered_or (Some valued) letter rest follow s = numbered_by valued rest s
+numbered_or None letter rest follow s = option_and_then (λ switch. follow (record s { flags = switched switch s.flags })) (switch_by letter)
+
+-- one that is no digit
 abbrev pub letter_by : ℕ → List ℕ → (Said → Option ReadSoFar) → Said → Option ReadSoFar
 letter_by letter rest follow s =
     if letter == 101 || letter == 102 then Some (taken_by (letter == 102) rest s)
     else numbered_or (numbered letter) letter rest follow s
-
-abbrev pub numbered_or : Option Valued → ℕ → List ℕ → (Said → Option ReadSoFar) → Said → Option ReadSoFar
-numbered_or (Some valued) letter rest follow s = numbered_by valued rest s
-numbered_or None letter rest follow s = option_and_then (λ switch. follow (record s { flags = switched switch s.flags })) (switch_by letter)
 
 -- joined letters behind some digits
 abbrev pub letters_from : List ℕ → List ℕ → Said → Option ReadSoFar

@@ -5,6 +5,7 @@ use Rattle.aho_core.specs.Patterns.{Patterns}
 use Rattle.acgrep.specs.Lines.{lines}
 use Rattle.acgrep.specs.Printed.{separator_by}
 use Rattle.acgrep.specs.Written.{BeginsLines, IsPassedOver, IsSelected, IsSettled, SearchesPlain, ShowsLine, TellsOfLines, after_line, is_full, one_more}
+use Rattle.acgrep.specs.declared.context.Trail.{Trail}
 use Rattle.acgrep.specs.declared.held.Held.{Held}
 use Rattle.acgrep.specs.declared.options.Context.{Context}
 use Rattle.acgrep.specs.declared.options.Shown.{Shown}
@@ -112,25 +113,31 @@ pub record Walk : Type 0 where
   pub first : Place
   pub held : List (List ℕ)
 
-abbrev pub walk_of : State → Walk
-walk_of state = record {
-  place = state.place;
-  selected = state.selected;
-  due = state.trail.due;
-  some = state.trail.some;
-  apart = state.trail.apart;
-  first = state.trail.first;
-  held = lines (bytes_held state.trail.held);
+abbrev pub walk_by : Place → ℕ → Trail → Walk
+walk_by place selected trail = record {
+  place = place;
+  selected = selected;
+  due = trail.due;
+  some = trail.some;
+  apart = trail.apart;
+  first = trail.first;
+  held = lines (bytes_held trail.held);
 }
 
+abbrev pub walk_of : State → Walk
+walk_of state = walk_by state.place state.selected state.trail
+
 -- at the begin of a file
-pub record IsBegin (job : Job) (walk : Walk) : Type 0 where
-  pub place : walk.place ≡ job.first
-  pub selected : walk.selected ≡ 0
-  pub due : walk.due ≡ 0
-  pub some : walk.some ≡ job.follows
-  pub apart : walk.apart ≡ true
-  pub held : walk.held ≡ []
+pub record IsBegun (follows : Bool) (trail : Trail) : Type 0 where
+  pub due : trail.due ≡ 0
+  pub some : trail.some ≡ follows
+  pub apart : trail.apart ≡ true
+  pub held : lines (bytes_held trail.held) ≡ []
+
+pub record IsBegin (job : Job) (state : State) : Type 0 where
+  pub place : state.place ≡ job.first
+  pub selected : state.selected ≡ 0
+  pub trail : IsBegun job.follows state.trail
 
 -- behind a selected line
 abbrev pub behind_chosen : Context → Walk → List ℕ → Walk
@@ -140,19 +147,20 @@ behind_chosen context w line = record w { place = after_line w.place line; selec
 abbrev pub behind_due : Walk → List ℕ → Walk
 behind_due w line = record w { place = after_line w.place line; due = w.due - 1 }
 
--- without the first held line
-abbrev pub without_first : Walk → Walk
-without_first w = dropped_in w w.held
-
+-- with the first of these held lines gone
 abbrev pub dropped_in : Walk → List (List ℕ) → Walk
 dropped_in w [] = record w { apart = true }
 dropped_in w (line ∷ rest) = record w { first = after_line w.first line; held = rest; apart = true }
 
--- with a held line more
+abbrev pub without_first : Walk → Walk
+without_first w = dropped_in w w.held
+
+-- where the first of held lines stands, before one more
 abbrev pub first_in : Place → Place → List (List ℕ) → Place
 first_in place first [] = place
 first_in place first (line ∷ rest) = first
 
+-- with a held line more
 abbrev pub with_line : Walk → List ℕ → Walk
 with_line w line = record w { first = first_in w.place w.first w.held; held = w.held ++ (line ∷ []) }
 
@@ -191,6 +199,11 @@ PassesBy p job context w line bytes w' false = (bytes ≡ []) × (w' ≡ behind_
 
 abbrev pub IsNotChosen : Patterns → Job → ℕ → List ℕ → Type 0
 IsNotChosen p job count line = (is_full job.most count ≡ true) ⊎ IsPassedOver p job.fit job.invert line
+
+-- whether a line is
+abbrev pub IsChosenBy : Patterns → Job → ℕ → List ℕ → Bool → Type 0
+IsChosenBy p job count line chosen =
+    MatchBool chosen ((is_full job.most count ≡ false) × IsSelected p job.fit job.invert line) (IsNotChosen p job count line)
 
 pub record PassesLine (p : Patterns) (job : Job) (context : Context) (w : Walk) (line bytes : List ℕ) (w' : Walk) : Type 0 where
   pub passed : IsNotChosen p job w.selected line

@@ -1,5 +1,5 @@
 -- What searching by an automaton does, of whatever patterns it is.
-use Rattle.std.specs.Prelude.{◌≡◌, ℕ, Bool, true, List, [], ◌∷◌, Option, Result, IfOk, OnErr, OnOk}
+use Rattle.std.specs.Prelude.{◌≡◌, ℕ, Bool, true, false, List, [], ◌∷◌, Option, Result, IfOk, OnErr, OnOk}
 use Rattle.std.specs.Borrow.{Bor}
 use Rattle.std.specs.Io.KnownBytes.{Appends}
 use Rattle.std.specs.declared.io.traits.Read.{Ghosts as Readers}
@@ -8,7 +8,7 @@ use Rattle.aho_core.specs.Patterns.{Patterns}
 use Rattle.aho_automaton.specs.declared.automaton.Automaton.{Ghosts as Automata}
 use Rattle.aho_devices.specs.declared.device.Sink.{Ghosts as SinkGhosts}
 use Rattle.programs.specs.Names.{name_bytes}
-use Rattle.acgrep.specs.Contexts.{BeginsText, IsNotChosen, SearchesText, ShowsEach, ShowsGroup, WalksBegun, WalksLines, WalksText, walk_of}
+use Rattle.acgrep.specs.Contexts.{BeginsText, IsChosenBy, SearchesText, ShowsEach, ShowsGroup, WalksBegun, WalksLines, WalksText, walk_of}
 use Rattle.acgrep.specs.Files.{AreFilesBegun, BeginsFile, IfBroken, IfSearched, SearchesFile, SearchesReader}
 use Rattle.acgrep.specs.Lines.{lines}
 use Rattle.acgrep.specs.Selected.{ForLines}
@@ -71,20 +71,20 @@ module _ {A W : Type 0} (automata : Automata A) (sinks : SinkGhosts W) (automato
 
   -- that is selected, where more are asked for
   abbrev pub TakesLineBy : {T E : Type 0} → Context → List ℕ → Result T E → Type 0
-  TakesLineBy context line result = (p : Patterns) → automata.is_of automaton p → IsSelected p job.fit job.invert line
+  TakesLineBy context line result = (p : Patterns) → automata.is_of automaton p → IsChosenBy p job before.selected line true
       → OnOk result (WalksLines p job context (walk_of before) (walk_of after) (sinks.taken old) (sinks.taken new) (line ∷ []))
 
   abbrev pub BeginsTakenBy : {T E : Type 0} → Context → List ℕ → Result T E → Type 0
-  BeginsTakenBy context line result = (p : Patterns) → automata.is_of automaton p → IsSelected p job.fit job.invert line
+  BeginsTakenBy context line result = (p : Patterns) → automata.is_of automaton p → IsChosenBy p job before.selected line true
       → OnErr result (WalksBegun p job context (walk_of before) (sinks.taken old) (sinks.taken new) (line ∷ []))
 
   -- that is not
   abbrev pub PassesLineBy : {T E : Type 0} → Context → List ℕ → Result T E → Type 0
-  PassesLineBy context line result = (p : Patterns) → automata.is_of automaton p → IsNotChosen p job before.selected line
+  PassesLineBy context line result = (p : Patterns) → automata.is_of automaton p → IsChosenBy p job before.selected line false
       → OnOk result (WalksLines p job context (walk_of before) (walk_of after) (sinks.taken old) (sinks.taken new) (line ∷ []))
 
   abbrev pub BeginsPassedBy : {T E : Type 0} → Context → List ℕ → Result T E → Type 0
-  BeginsPassedBy context line result = (p : Patterns) → automata.is_of automaton p → IsNotChosen p job before.selected line
+  BeginsPassedBy context line result = (p : Patterns) → automata.is_of automaton p → IsChosenBy p job before.selected line false
       → OnErr result (WalksBegun p job context (walk_of before) (sinks.taken old) (sinks.taken new) (line ∷ []))
 
   -- up to those that are answered

@@ -396,6 +396,12 @@ fn set_number(given: &mut Given<'_>, valued: Valued, number: u64)
 
 /// Takes the digits at the front of letters for the argument of `-C`, and answers what follows.
 fn take_digits<'a>(given: &mut Given<'a>, letters: &'a [u8]) -> Result<&'a [u8], Refusal<'a>>
+    requires some { StartsWithDigit letters.now }
+    ensures shorter { IfOk result (λ rest. length rest.now < length letters.now) }
+    ensures read { IfOk result (λ rest. letters_by letters.now (said given.old) ≡ letters_by rest.now (said given.new)) }
+    ensures refused { FailsBy (letters_by letters.now (said given.old)) result }
+    ensures wrong { TellsBy (wrong_letters letters.now) result }
+    ensures wrong_behind { IfOk result (λ rest. wrong_letters letters.now ≡ wrong_letters rest.now) }
 {
     let count = digits_in(letters);
     let number = read_number(Valued::Around, &letters[..count])?;
@@ -405,6 +411,8 @@ fn take_digits<'a>(given: &mut Given<'a>, letters: &'a [u8]) -> Result<&'a [u8],
 
 /// How many digits stand at the front.
 fn digits_in(letters: &[u8]) -> usize
+    ensures within { result ≤ length letters.now }
+    ensures digits { AreDigits letters.now result }
 {
     let mut count = 0;
     while count < letters.len() && letters[count].is_ascii_digit() {

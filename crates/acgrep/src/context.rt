@@ -1,5 +1,14 @@
 //! The lines around selected ones.
 
+ghost use Rattle.std.specs.Prelude.{◌≡◌, ◌≤◌, ◌<◌, ◌-◌, ◌==◌, ◌^◌, ℕ, IfOk, IsTrue, OnOk, length, true};
+ghost use Rattle.memchr.specs.Find.{Nowhere};
+ghost use Rattle.aho_core.specs.Patterns.{Patterns};
+ghost use Rattle.acgrep.specs.Contexts.{IsChosenBy, bytes_held, separator_if};
+ghost use Rattle.acgrep.specs.Lines.{IsNewline, lines};
+ghost use Rattle.acgrep.specs.Printed.{Puts};
+ghost use Rattle.acgrep.specs.Searched.{BeginsLineAround, BeginsPassedBy, BeginsTakenBy, PassesLineBy, ShowsEachBy, ShowsGroupBy, TakesLineBy, WalksBegunBy, WalksLineBy, WalksTextBy};
+ghost use Rattle.acgrep.specs.Written.{EndsLine, IsMatched, is_full};
+
 use crate::failure::Stop;
 use crate::held::Held;
 use crate::lines::{behind, line_end};
@@ -11,27 +20,30 @@ use std::alloc::{AllocError, Global};
 use std::io;
 use std::io::Write;
 
-/// What is known of the lines before the next one, for the lines around selected ones.
+/// What is known of the lines before the next one.
 #[derive(Drop)]
 pub struct Trail {
     /// How many further lines are written behind the last selected one.
-    due: u64,
+    pub due: u64,
     /// Whether a line was written, of this file or of one before.
-    some: bool,
-    /// Whether a line before the held ones was not written, since the last that was; or the file begins there.
-    apart: bool,
+    pub some: bool,
+    /// Whether the line before the held ones was not written, or the file begins with them.
+    pub apart: bool,
     /// How many lines are held.
     count: u64,
     /// Where the first of them stands.
-    first: Place,
+    pub first: Place,
     /// The lines that were passed over last, at most as many as are written before a selected one.
-    held: Held,
+    pub held: Held,
+    ghost counted: { count ≡ length (lines (bytes_held held)) },
+    ghost whole: { EndsLine (bytes_held held) },
 }
 
 impl Trail {
+    ghost use Rattle.acgrep.specs.Contexts.{IsBegun, holding, walk_by, with_line, without_first};
+
     /// Where no file was begun.
-    pub fn new(alloc: Global, first: Place) -> Trail
-    {
+    pub fn new(alloc: Global, first: Place) -> Trail {
         Trail {
             due: 0,
             some: false,
@@ -44,6 +56,7 @@ impl Trail {
 
     /// Begins a file, by whether lines of another one were written.
     pub fn begin(&mut self, follows: bool)
+        ensures begun { IsBegun follows self.new }
     {
         self.due = 0;
         self.some = follows;
@@ -54,12 +67,18 @@ impl Trail {
 
     /// Whether no further line is written behind the last selected one.
     pub fn is_past(&self) -> bool
+        ensures past { result ≡ (self.now.due == 0) }
     {
         self.due == 0
     }
 
-    /// A selected line was written, and those that were held.
-    fn write(&mut self, after: u64)
+    /// A selected line was written, and those that were held; so many are due behind it.
+    fn restart(&mut self, after: u64)
+        ensures due { self.new.due ≡ after }
+        ensures some { self.new.some ≡ true }
+        ensures apart { self.new.apart ≡ false }
+        ensures first { self.new.first ≡ self.old.first }
+        ensures held { lines (bytes_held self.new.held) ≡ [] }
     {
         self.due = after;
         self.some = true;
@@ -70,6 +89,9 @@ impl Trail {
 
     /// Holds a line that was passed over, of at most so many.
     fn hold(&mut self, most: u64, line: &[u8], place: Place) -> Result<(), AllocError>
+        requires one { Nowhere (IsNewline line.now) 0 (length line.now) }
+        ensures held { (n : ℕ) → OnOk result (walk_by place n self.new
+            ≡ holding most (walk_by place n self.old) line.now) }
     {
         if most == 0 {
             self.apart = true;
@@ -83,24 +105,32 @@ impl Trail {
 
     /// Holds a line more.
     fn push(&mut self, line: &[u8], place: Place) -> Result<(), AllocError>
+        requires one { Nowhere (IsNewline line.now) 0 (length line.now) }
+        requires room { self.now.count < 2 ^ 64 - 1 }
+        ensures held { (n : ℕ) → OnOk result (walk_by place n self.new
+            ≡ with_line (walk_by place n self.old) line.now) }
     {
-        self.held.push(line)?;
         if self.count == 0 {
             self.first = place;
         }
-        self.count = self.count.saturating_add(1);
+        self.held.push(line)?;
+        self.count += 1;
         Ok(())
     }
 
     /// Drops the first line that is held.
     fn drop_first(&mut self)
+        requires some { 0 < self.now.count }
+        ensures dropped { (place : Place) → (n : ℕ) → walk_by place n self.new
+            ≡ without_first (walk_by place n self.old) }
+        ensures counted { self.new.count ≡ self.old.count - 1 }
     {
         let bytes = self.held.bytes();
         let end = line_end(bytes);
         let first = behind_line(self.first, &bytes[..end]);
         self.held.drop_front(end + 1);
         self.first = first;
-        self.count = self.count.saturating_sub(1);
+        self.count -= 1;
         self.apart = true;
     }
 }
@@ -115,6 +145,13 @@ pub fn search_around<A: Automaton, W: Sink>(
     page: &mut Vec<u8>,
     output: &mut W,
 ) -> Result<(), Stop>
+    requires of { (p : Patterns) × A.is_of automaton.now p }
+    ensures walks { WalksTextBy A.Automaton W.Sink automaton.now job.now
+        state.old state.new output.old output.new context.now text.now result }
+
+    // Where it fails a beginning of that is written.
+    ensures begun { WalksBegunBy A.Automaton W.Sink automaton.now job.now
+        state.old state.new output.old output.new context.now text.now result }
 {
     let mut rest = text;
     while job.goes_on(rest, state) {
@@ -135,6 +172,12 @@ fn pass_any<A: Automaton, W: Sink>(
     page: &mut Vec<u8>,
     output: &mut W,
 ) -> Result<(), Stop>
+    requires of { (p : Patterns) × A.is_of automaton.now p }
+    requires one { Nowhere (IsNewline line.now) 0 (length line.now) }
+    ensures walks { WalksLineBy A.Automaton W.Sink automaton.now job.now
+        state.old state.new output.old output.new context.now line.now result }
+    ensures begun { BeginsLineAround A.Automaton W.Sink automaton.now job.now
+        state.old state.new output.old output.new context.now line.now result }
 {
     if is_chosen(automaton, job, line, state.selected)? {
         return pass_chosen(automaton, job, context, line, state, page, output);
@@ -149,6 +192,9 @@ fn is_chosen<A: Automaton>(
     line: &[u8],
     count: u64,
 ) -> Result<bool, Stop>
+    requires of { (p : Patterns) × A.is_of automaton.now p }
+    ensures chosen { (p : Patterns) → A.is_of automaton.now p
+        → IfOk result (IsChosenBy p job.now count line.now) }
 {
     if job.is_full(count) {
         return Ok(false);
@@ -159,6 +205,9 @@ fn is_chosen<A: Automaton>(
 
 /// Whether a line matches.
 fn has_match<A: Automaton>(automaton: &A, job: &Job<'_>, line: &[u8]) -> Result<bool, Stop>
+    requires of { (p : Patterns) × A.is_of automaton.now p }
+    ensures matched { (p : Patterns) → A.is_of automaton.now p
+        → IfOk result (IsMatched p job.now.fit line.now) }
 {
     match automaton.try_find(&Input::new(line))? {
         Some(_) => is_match(automaton, job, line),
@@ -176,11 +225,16 @@ fn pass_chosen<A: Automaton, W: Sink>(
     page: &mut Vec<u8>,
     output: &mut W,
 ) -> Result<(), Stop>
+    requires of { (p : Patterns) × A.is_of automaton.now p }
+    ensures walks { TakesLineBy A.Automaton W.Sink automaton.now job.now
+        state.old state.new output.old output.new context.now line.now result }
+    ensures begun { BeginsTakenBy A.Automaton W.Sink automaton.now job.now
+        state.old state.new output.old output.new context.now line.now result }
 {
     page.clear();
     put_group(automaton, job, context, line, state, page)?;
     write_whole(output, page.as_slice())?;
-    state.trail.write(context.after);
+    state.trail.restart(context.after);
     state.selected = state.selected.saturating_add(1);
     state.place = behind_line(state.place, line);
     Ok(())
@@ -195,15 +249,20 @@ fn put_group<A: Automaton, W: Write>(
     state: &State,
     output: &mut W,
 ) -> Result<(), Stop>
+    requires of { (p : Patterns) × A.is_of automaton.now p }
+    ensures shown { ShowsGroupBy A.Automaton W.Write automaton.now job.now
+        context.now state.now line.now output.old output.new result }
 {
     let trail = &state.trail;
     put_between(job, context.parted && trail.some && trail.apart, output)?;
-    put_before(automaton, job, trail.held.bytes(), trail.first, output)?;
+    put_each_line(automaton, &job.beside(), trail.held.bytes(), trail.first, output)?;
     put_shown(automaton, job, line, state.place, output)
 }
 
 /// Writes the line between lines that do not follow one another, where it is asked for.
 fn put_between<W: Write>(job: &Job<'_>, asked: bool, output: &mut W) -> io::Result<()>
+    ensures written { Puts W.Write output.old output.new result
+        (separator_if asked job.now.style) }
 {
     if asked {
         return put_separator(output, &job.style);
@@ -211,28 +270,30 @@ fn put_between<W: Write>(job: &Job<'_>, asked: bool, output: &mut W) -> io::Resu
     Ok(())
 }
 
-/// Puts together what is asked of lines before a selected one, the first of which stands there.
-fn put_before<A: Automaton, W: Write>(
+/// Puts together what is asked of each line of a text, the first of which stands there.
+fn put_each_line<A: Automaton, W: Write>(
     automaton: &A,
     job: &Job<'_>,
     text: &[u8],
     first: Place,
     output: &mut W,
 ) -> Result<(), Stop>
+    requires of { (p : Patterns) × A.is_of automaton.now p }
+    ensures shown { ShowsEachBy A.Automaton W.Write automaton.now job.now
+        first (lines text.now) output.old output.new result }
 {
-    let beside = job.beside();
     let mut place = first;
     let mut rest = text;
     while !rest.is_empty() {
         let end = line_end(rest);
-        put_shown(automaton, &beside, &rest[..end], place, output)?;
+        put_shown(automaton, job, &rest[..end], place, output)?;
         place = behind_line(place, &rest[..end]);
         rest = behind(rest, end);
     }
     Ok(())
 }
 
-/// Goes over any other line. It is written where it is near behind a selected one, and else held.
+/// Goes over any other line. It is written where it is due behind a selected one, and else held.
 fn pass_beside<A: Automaton, W: Sink>(
     automaton: &A,
     job: &Job<'_>,
@@ -242,13 +303,40 @@ fn pass_beside<A: Automaton, W: Sink>(
     page: &mut Vec<u8>,
     output: &mut W,
 ) -> Result<(), Stop>
+    requires of { (p : Patterns) × A.is_of automaton.now p }
+    requires one { Nowhere (IsNewline line.now) 0 (length line.now) }
+    ensures walks { PassesLineBy A.Automaton W.Sink automaton.now job.now
+        state.old state.new output.old output.new context.now line.now result }
+    ensures begun { BeginsPassedBy A.Automaton W.Sink automaton.now job.now
+        state.old state.new output.old output.new context.now line.now result }
 {
     if state.trail.due > 0 {
-        show(automaton, &job.beside(), line, state.place, page, output)?;
-        state.trail.due -= 1;
-    } else {
-        state.trail.hold(context.before, line, state.place)?;
+        return pass_due(automaton, job, context, line, state, page, output);
     }
+    state.trail.hold(context.before, line, state.place)?;
+    state.place = behind_line(state.place, line);
+    Ok(())
+}
+
+/// Goes over a line that is due behind a selected one.
+fn pass_due<A: Automaton, W: Sink>(
+    automaton: &A,
+    job: &Job<'_>,
+    context: &Context,
+    line: &[u8],
+    state: &mut State,
+    page: &mut Vec<u8>,
+    output: &mut W,
+) -> Result<(), Stop>
+    requires of { (p : Patterns) × A.is_of automaton.now p }
+    requires due { 0 < state.now.trail.due }
+    ensures walks { PassesLineBy A.Automaton W.Sink automaton.now job.now
+        state.old state.new output.old output.new context.now line.now result }
+    ensures begun { BeginsPassedBy A.Automaton W.Sink automaton.now job.now
+        state.old state.new output.old output.new context.now line.now result }
+{
+    show(automaton, &job.beside(), line, state.place, page, output)?;
+    state.trail.due -= 1;
     state.place = behind_line(state.place, line);
     Ok(())
 }

@@ -1,6 +1,6 @@
 //! The lines that were passed over last, which are written where the next selected line is near.
 
-ghost use Rattle.std.specs.Prelude.{◌≡◌, ◌≤◌, OnOk, drop, length, vec_len};
+ghost use Rattle.std.specs.Prelude.{◌≡◌, ◌++◌, ◌∷◌, [], ◌≤◌, OnOk, drop, length, vec_len};
 
 use std::alloc::{AllocError, Global};
 
@@ -13,8 +13,11 @@ pub struct Held {
 }
 
 impl Held {
+    ghost use Rattle.acgrep.specs.Contexts.{bytes_held};
+
     /// No line.
     pub fn new(alloc: Global) -> Held
+        ensures none { bytes_held result ≡ [] }
     {
         Held {
             room: Vec::new(alloc),
@@ -24,12 +27,14 @@ impl Held {
 
     /// The lines, each with its newline.
     pub fn bytes(&self) -> &[u8]
+        ensures bytes { result.now ≡ bytes_held self.now }
     {
         &self.room[self.from..]
     }
 
     /// Forgets all lines.
     pub fn clear(&mut self)
+        ensures none { bytes_held self.new ≡ [] }
     {
         self.room.clear();
         self.from = 0;
@@ -37,6 +42,8 @@ impl Held {
 
     /// Adds a line. What was dropped is first made room where it is more than what is held.
     pub fn push(&mut self, line: &[u8]) -> Result<(), AllocError>
+        ensures more { OnOk result (bytes_held self.new
+            ≡ bytes_held self.old ++ (line.now ++ (10 ∷ []))) }
     {
         self.close_up();
         self.room.extend_from_slice(line)?;
@@ -46,13 +53,15 @@ impl Held {
 
     /// Drops bytes from the front.
     pub fn drop_front(&mut self, count: usize)
-        requires within { count ≤ vec_len self.now.room }
+        requires within { count ≤ length (bytes_held self.now) }
+        ensures rest { bytes_held self.new ≡ drop count (bytes_held self.old) }
     {
         self.from += count;
     }
 
     /// Moves what is held to the front of the room, where it is the smaller part.
     fn close_up(&mut self)
+        ensures same { bytes_held self.new ≡ bytes_held self.old }
     {
         let len = self.room.len();
         if self.from <= len / 2 {

@@ -192,7 +192,7 @@ pub struct Flags {
 }
 
 impl Flags {
-    ghost use Rattle.acgrep.specs.Arguments.{around_by, asked_around, fit_by, no_flags, shown_by, switched};
+    ghost use Rattle.acgrep.specs.Arguments.{context_by, fit_by, no_flags, shown_by, switched};
 
     /// Where no option is given.
     pub fn new() -> Flags
@@ -250,19 +250,10 @@ impl Flags {
         }
     }
 
-    /// How many lines are written around selected ones, if that is asked for and lines or matches are written.
-    pub fn around(&self) -> Option<Context>
-        ensures around { result ≡ around_by self.now }
-    {
-        match self.shown() {
-            Shown::Lines | Shown::Matches => self.asked_around(),
-            _ => None,
-        }
-    }
-
-    /// How many lines are asked for around selected ones.
-    fn asked_around(&self) -> Option<Context>
-        ensures around { result ≡ asked_around self.now }
+    /// How many lines are written around selected ones, if that is asked for: of `-A` and `-C` the former goes first, and of `-B`
+    /// and `-C`.
+    pub fn context(&self) -> Option<Context>
+        ensures context { result ≡ context_by self.now }
     {
         if self.before.is_none() && self.after.is_none() && self.context.is_none() {
             return None;

@@ -423,7 +423,7 @@ fn job_of(flags: &Flags, terminal: bool, count: usize) -> Job<'static>
         },
         most: flags.most,
         hushed: flags.no_messages,
-        context: flags.around(),
+        context: flags.context(),
         follows: false,
     }
 }

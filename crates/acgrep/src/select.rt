@@ -7,9 +7,9 @@ ghost use Rattle.aho_core.specs.declared.search.MatchKind.TheVariants.{LeftmostL
 ghost use Rattle.acgrep.specs.Alone.{asks_alone};
 ghost use Rattle.acgrep.specs.declared.options.Fit.TheVariants.{AnyPart, WholeLine};
 ghost use Rattle.acgrep.specs.Lines.{lines};
-ghost use Rattle.acgrep.specs.Searched.{BeginsInvertedBy, BeginsLineBy, BeginsMatchBy, BeginsOneBy, BeginsOthersBy, BeginsSelectedBy, BeginsTextBy, SearchesSomeBy, SearchesTextBy, TellsInvertedBy, TellsLineBy, TellsMatchBy, TellsOthersBy, WritesLineBy, WritesNextBy};
+ghost use Rattle.acgrep.specs.Searched.{BeginsInvertedBy, BeginsLineBy, BeginsMatchBy, BeginsOneBy, BeginsOthersBy, BeginsSelectedBy, BeginsPlainBy, BeginsTextBy, SearchesPlainBy, SearchesSomeBy, SearchesTextBy, TellsInvertedBy, TellsLineBy, TellsMatchBy, TellsOthersBy, WritesLineBy, WritesNextBy};
 ghost use Rattle.acgrep.specs.Selected.{FindsNone, ForLines, IsLine, IsNextLine, IsNoneSelected};
-ghost use Rattle.acgrep.specs.Written.{EndsLine, HasMatch, IsMatched, NumbersLines, IsSettled, SamePlace, after_line, after_lines, at_begin, is_full, is_numbered, needs_one, next_count, place_behind, selects};
+ghost use Rattle.acgrep.specs.Written.{EndsLine, HasMatch, IsMatched, NumbersLines, IsSettled, SamePlace, after_line, after_lines, is_full, is_numbered, needs_one, next_count, place_behind, selects};
 
 use crate::alone::has_alone;
 use crate::context::{Trail, search_around};
@@ -47,6 +47,18 @@ pub struct Job<'a> {
 }
 
 impl<'a> Job<'a> {
+    ghost use Rattle.acgrep.specs.Contexts.{around_of, beside};
+
+    /// How many lines are written around selected ones: where lines or matches are written, as many as are asked for.
+    fn around(&self) -> Option<Context>
+        ensures around { result ≡ around_of self.now }
+    {
+        match self.shown {
+            Shown::Lines | Shown::Matches => self.context,
+            _ => None,
+        }
+    }
+
     /// Whether the numbers of lines are written.
     fn numbers(&self) -> bool
         ensures numbered { result ≡ is_numbered self.now.shown self.now.style.number }
@@ -137,9 +149,10 @@ pub struct State {
 }
 
 impl State {
+    ghost use Rattle.acgrep.specs.Contexts.{IsBegin};
+
     /// Where no file was begun.
-    pub fn new(alloc: Global, first: Place) -> State
-    {
+    pub fn new(alloc: Global, first: Place) -> State {
         State {
             place: first,
             selected: 0,
@@ -149,6 +162,7 @@ impl State {
 
     /// Begins a file of which this is written.
     pub fn begin(&mut self, job: &Job<'_>)
+        ensures begin { IsBegin job.now self.new }
     {
         self.place = job.first;
         self.selected = 0;
@@ -207,9 +221,29 @@ pub fn search_text<A: Automaton, W: Sink>(
     ensures begun { BeginsTextBy A.Automaton W.Sink automaton.now job.now
         state.old state.new output.old output.new text.now result }
 {
-    if let Some(context) = job.context {
-        return search_around(automaton, job, &context, text, state, page, output);
+    match job.around() {
+        Some(context) => search_around(automaton, job, &context, text, state, page, output),
+        None => search_plain(automaton, job, text, state, page, output),
     }
+}
+
+/// The same where no lines around selected ones are written.
+fn search_plain<A: Automaton, W: Sink>(
+    automaton: &A,
+    job: &Job<'_>,
+    text: &[u8],
+    state: &mut State,
+    page: &mut Vec<u8>,
+    output: &mut W,
+) -> Result<(), Stop>
+    requires of { (p : Patterns) × A.is_of automaton.now p }
+    ensures none { ForLines (A.is_of automaton.now) (λ p.
+        OnOk result (IsNoneSelected p job.now text.now state.new)) }
+    ensures written { SearchesPlainBy A.Automaton W.Sink automaton.now job.now
+        state.old state.new output.old output.new text.now result }
+    ensures begun { BeginsPlainBy A.Automaton W.Sink automaton.now job.now
+        state.old state.new output.old output.new text.now result }
+{
     let mut rest = text;
     while job.goes_on(rest, state) {
         rest = search_some(automaton, job, rest, state, page, output)?;
@@ -233,7 +267,7 @@ fn search_some<'t, A: Automaton, W: Sink>(
         → job.now.fit ≡ AnyPart → OnOk result (FindsNone p state.old state.new text.now)) }
     ensures written { SearchesSomeBy A.Automaton W.Sink automaton.now job.now
         state.old state.new output.old output.new text.now result }
-    ensures begun { BeginsTextBy A.Automaton W.Sink automaton.now job.now
+    ensures begun { BeginsPlainBy A.Automaton W.Sink automaton.now job.now
         state.old state.new output.old output.new text.now result }
 {
     match next_line(automaton, text)? {

@@ -1,0 +1,370 @@
+-- A walk from line to line writes the lines that are near selected ones.
+use Rattle.std.proofs.Common.{◌≡◌, ◌⊎◌, inl, inr, ℕ, suc, ◌+◌, ◌-◌, ◌<◌, ◌≤◌, ◌==◌, Bool, true, false, List, [], ◌∷◌, ◌++◌, length, refl, sym, ◌∙◌, ap, subst, arith, append_assoc, append-nil, length-append}
+use Rattle.std.specs.Prelude.{MatchBool, nat_le, nat_lt, ◌&&◌, if◌then◌else◌}
+use Rattle.std.proofs.Math.ListN.{get_or}
+use Rattle.std.proofs.lemmas.Bool.{cases_Bool, cases_lt, ltb-true, ltb-false, true≢false}
+use Rattle.std.proofs.lemmas.List.{get_or-append-add}
+use Rattle.aho_core.specs.Patterns.{Patterns}
+use Rattle.acgrep.specs.Contexts.{AreChosen, AreWritten, IsBegin, IsNear, IsNotChosen, PassesBy, ShowsEach, ShowsGroup, Steps, TellsAround, TellsWritten, Walk, WalksOver, behind_chosen, behind_due, behind_passed, beside, first_in, holding, separator_if}
+use Rattle.acgrep.specs.Written.{ShowsLine, after_line, after_lines, one_more}
+use Rattle.acgrep.specs.declared.options.Context.{Context}
+use Rattle.acgrep.specs.declared.print.Place.{Place}
+use Rattle.acgrep.specs.declared.print.Style.{Style}
+use Rattle.acgrep.specs.declared.select.Job.{Job}
+use Rattle.acgrep.proofs.Tellings.{after_append}
+
+-- one mark for each of some lines
+abbrev pub marks : Bool → List (List ℕ) → List Bool
+marks mark [] = []
+marks mark (line ∷ rest) = mark ∷ marks mark rest
+
+length_marks : (mark : Bool) (ls : List (List ℕ)) → length (marks mark ls) ≡ length ls
+length_marks mark [] = refl
+length_marks mark (line ∷ rest) = ap suc (length_marks mark rest)
+
+marks_more : (ls : List (List ℕ)) (line : List ℕ) (chosen : List Bool) → marks false (ls ++ (line ∷ [])) ++ chosen ≡ marks false ls ++ (false ∷ chosen)
+marks_more [] line chosen = refl
+marks_more (first ∷ rest) line chosen = ap (λ (l : List Bool). false ∷ l) (marks_more rest line chosen)
+
+-- what stands among the marks of some lines, and behind them
+mark_in : (mark : Bool) (ls : List (List ℕ)) (more : List Bool) (i : ℕ) → i < length ls → get_or (marks mark ls ++ more) i false ≡ mark
+mark_in mark [] more i within = absurd (omega (arith, within))
+mark_in mark (line ∷ rest) more 0 within = refl
+mark_in mark (line ∷ rest) more (suc i) within = mark_in mark rest more i (omega (arith, within))
+
+mark_behind : (mark : Bool) (ls : List (List ℕ)) (more : List Bool) (i : ℕ) → length ls ≤ i → get_or (marks mark ls ++ more) i false ≡ get_or more (i - length ls) false
+mark_behind mark [] more i behind = refl
+mark_behind mark (line ∷ rest) more 0 behind = absurd (omega (arith, behind))
+mark_behind mark (line ∷ rest) more (suc i) behind = mark_behind mark rest more i (omega (arith, behind))
+
+-- no line is chosen up to a place
+unmarked : (ls : List (List ℕ)) (more : List Bool) (i : ℕ) → i ≤ length ls → get_or (marks false ls ++ (false ∷ more)) i false ≡ false
+unmarked [] more 0 within = refl
+unmarked [] more (suc i) within = absurd (omega (arith, within))
+unmarked (line ∷ rest) more 0 within = refl
+unmarked (line ∷ rest) more (suc i) within = unmarked rest more i (omega (arith, within))
+
+unmarked_all : (ls : List (List ℕ)) (i : ℕ) → get_or (marks false ls ++ []) i false ≡ false
+unmarked_all [] i = refl
+unmarked_all (line ∷ rest) 0 = refl
+unmarked_all (line ∷ rest) (suc i) = unmarked_all rest i
+
+none_short : (ls : List (List ℕ)) → length ls ≤ 0 → ls ≡ []
+none_short [] short = refl
+none_short (line ∷ rest) short = absurd (omega (arith, short))
+
+first_more : (place first : Place) (ls : List (List ℕ)) (line : List ℕ) → first_in place first (ls ++ (line ∷ [])) ≡ first
+first_more place first [] line = refl
+first_more place first (other ∷ rest) line = refl
+
+first_same : (place first : Place) (ls : List (List ℕ)) → after_lines first ls ≡ place → first_in place first ls ≡ first
+first_same place first [] is = sym is
+first_same place first (line ∷ rest) is = refl
+
+and_none : (b : Bool) → (b && false) ≡ false
+and_none true = refl
+and_none false = refl
+
+-- where so many lines are due, a line is near too where it is among the first of them
+pub record AreWrittenFrom (context : Context) (due : ℕ) (chosen written : List Bool) : Type 0 where
+  pub as_many : length written ≡ length chosen
+  pub near : (i : ℕ) → get_or written i false ≡ true → (i < due) ⊎ IsNear context chosen i
+  pub all : (i : ℕ) → i < length chosen → (i < due) ⊎ IsNear context chosen i → get_or written i false ≡ true
+
+near_more : (context : Context) (mark : Bool) (chosen : List Bool) (i : ℕ) → IsNear context chosen i → IsNear context (mark ∷ chosen) (suc i)
+near_more context mark chosen i near = record { at = suc near.at; is = near.is; before = omega (arith, near.before); behind = omega (arith, near.behind) }
+
+near_less : (context : Context) (chosen : List Bool) (i : ℕ) → (at : ℕ) → get_or (false ∷ chosen) at false ≡ true → at ≤ suc i + context.before → suc i ≤ at + context.after
+    → IsNear context chosen i
+near_less context chosen i 0 is before behind = absurd (true≢false (sym is))
+near_less context chosen i (suc at) is before behind = record { at = at; is = is; before = omega (arith, before); behind = omega (arith, behind) }
+
+-- a line that is due
+written_due : (context : Context) (due : ℕ) (chosen written : List Bool) → 0 < due → AreWrittenFrom context (due - 1) chosen written
+    → AreWrittenFrom context due (false ∷ chosen) (true ∷ written)
+written_due context due chosen written some rest = record {
+  as_many = ap suc rest.as_many;
+  near = λ i is. due_near i is;
+  all = λ i within near. due_all i within near;
+}
+  where
+    due_near : (i : ℕ) → get_or (true ∷ written) i false ≡ true → (i < due) ⊎ IsNear context (false ∷ chosen) i
+    due_near 0 is = inl some
+    due_near (suc i) is = elim (rest.near i is) [
+      | inl low ↦ inl (omega (arith, low))
+      | inr near ↦ inr (near_more context false chosen i near)
+    ]
+
+    due_all : (i : ℕ) → i < length (false ∷ chosen) → (i < due) ⊎ IsNear context (false ∷ chosen) i → get_or (true ∷ written) i false ≡ true
+    due_all 0 within near = refl
+    due_all (suc i) within (inl low) = rest.all i (omega (arith, within)) (inl (omega (arith, low)))
+    due_all (suc i) within (inr near) = rest.all i (omega (arith, within)) (inr (near_less context chosen i near.at near.is near.before near.behind))
+
+-- a line that no selected one is near
+written_far : (context : Context) (chosen written : List Bool) → ((at : ℕ) → at ≤ context.before → get_or (false ∷ chosen) at false ≡ false)
+    → AreWrittenFrom context 0 chosen written → AreWrittenFrom context 0 (false ∷ chosen) (false ∷ written)
+written_far context chosen written far rest = record {
+  as_many = ap suc rest.as_many;
+  near = λ i is. far_near i is;
+  all = λ i within near. far_all i within near;
+}
+  where
+    far_near : (i : ℕ) → get_or (false ∷ written) i false ≡ true → (i < 0) ⊎ IsNear context (false ∷ chosen) i
+    far_near 0 is = absurd (true≢false (sym is))
+    far_near (suc i) is = elim (rest.near i is) [
+      | inl low ↦ absurd (omega (arith, low))
+      | inr near ↦ inr (near_more context false chosen i near)
+    ]
+
+    far_all : (i : ℕ) → i < length (false ∷ chosen) → (i < 0) ⊎ IsNear context (false ∷ chosen) i → get_or (false ∷ written) i false ≡ true
+    far_all i within (inl low) = absurd (omega (arith, low))
+    far_all 0 within (inr near) = absurd (true≢false (sym near.is ∙ far near.at (omega (arith, near.before))))
+    far_all (suc i) within (inr near) = rest.all i (omega (arith, within)) (inr (near_less context chosen i near.at near.is near.before near.behind))
+
+-- a selected line with the held ones before it
+written_group : (context : Context) (due : ℕ) (held : List (List ℕ)) (chosen written : List Bool) → length held ≤ context.before → due ≤ context.after → (0 < due → length held ≤ 0)
+    → AreWrittenFrom context context.after chosen written → AreWrittenFrom context due (marks false held ++ (true ∷ chosen)) (marks true held ++ (true ∷ written))
+written_group context due held chosen written within most none rest = record {
+  as_many = length-append (marks true held) (true ∷ written) ∙ ap (λ (n : ℕ). n + suc (length written)) (length_marks true held ∙ sym (length_marks false held))
+      ∙ ap (λ (n : ℕ). length (marks false held) + suc n) rest.as_many ∙ sym (length-append (marks false held) (true ∷ chosen));
+  near = λ i is. inr (group_near i is);
+  all = λ i low near. group_all i low near;
+}
+  where
+    n : ℕ
+    n = length held
+
+    there : get_or (marks false held ++ (true ∷ chosen)) n false ≡ true
+    there = mark_behind false held (true ∷ chosen) n (omega arith) ∙ ap (λ (k : ℕ). get_or (true ∷ chosen) k false) (omega arith)
+
+    behind_it : (i k : ℕ) → i ≡ n + suc k → get_or (marks false held ++ (true ∷ chosen)) i false ≡ get_or chosen k false
+    behind_it i k is = mark_behind false held (true ∷ chosen) i (omega (arith, is)) ∙ ap (λ (j : ℕ). get_or (true ∷ chosen) j false) (omega (arith, is))
+
+    written_behind : (i k : ℕ) → i ≡ n + suc k → get_or (marks true held ++ (true ∷ written)) i false ≡ get_or written k false
+    written_behind i k is = mark_behind true held (true ∷ written) i (omega (arith, is)) ∙ ap (λ (j : ℕ). get_or (true ∷ written) j false) (omega (arith, is))
+
+    group_near : (i : ℕ) → get_or (marks true held ++ (true ∷ written)) i false ≡ true → IsNear context (marks false held ++ (true ∷ chosen)) i
+    group_near i is = elim (cases_lt n i) [
+      | inl more ↦
+          let k = i - n - 1 in
+          let at : i ≡ n + suc k = omega (arith, more) in
+          elim (rest.near k (sym (written_behind i k at) ∙ is)) [
+            | inl low ↦ record { at = n; is = there; before = omega (arith, more); behind = omega (arith, low, more) }
+            | inr near ↦ record { at = n + suc near.at; is = behind_it (n + suc near.at) near.at refl ∙ near.is; before = omega (arith, near.before, at); behind = omega (arith, near.behind, at) }
+          ]
+      | inr less ↦ record { at = n; is = there; before = omega (arith, within); behind = omega (arith, less) }
+    ]
+
+    at_behind : (i k at : ℕ) → i ≡ n + suc k → get_or (marks false held ++ (true ∷ chosen)) at false ≡ true → at ≤ i + context.before → i ≤ at + context.after
+        → (k < context.after) ⊎ IsNear context chosen k
+    at_behind i k at is mark before behind = elim (cases_lt n at) [
+      | inl more ↦
+          let j = at - n - 1 in
+          let same : at ≡ n + suc j = omega (arith, more) in
+          inr (record { at = j; is = sym (behind_it at j same) ∙ mark; before = omega (arith, before, is, same); behind = omega (arith, behind, is, same) })
+      | inr less ↦ inl (omega (arith, less, behind, is))
+    ]
+
+    group_all : (i : ℕ) → i < length (marks false held ++ (true ∷ chosen)) → (i < due) ⊎ IsNear context (marks false held ++ (true ∷ chosen)) i
+        → get_or (marks true held ++ (true ∷ written)) i false ≡ true
+    group_all i low near = elim (cases_lt n i) [
+      | inl more ↦
+          let k = i - n - 1 in
+          let at : i ≡ n + suc k = omega (arith, more) in
+          let size = length-append (marks false held) (true ∷ chosen) in
+          let long : k < length chosen = omega (arith, low, size, length_marks false held, at) in
+          let here : (k < context.after) ⊎ IsNear context chosen k = elim near [
+            | inl first ↦ inl (omega (arith, first, most, at))
+            | inr one ↦ at_behind i k one.at at one.is one.before one.behind
+          ] in
+          written_behind i k at ∙ rest.all k long here
+      | inr less ↦ elim (cases_lt i n) [
+        | inl in_held ↦ mark_in true held (true ∷ written) i in_held
+        | inr not ↦ mark_behind true held (true ∷ written) i (omega (arith, not)) ∙ ap (λ (j : ℕ). get_or (true ∷ written) j false) (omega (arith, less, not))
+      ]
+    ]
+
+-- nothing is near where no line follows
+written_none : (context : Context) (due : ℕ) (held : List (List ℕ)) → (0 < due → length held ≤ 0) → AreWrittenFrom context due (marks false held ++ []) (marks false held)
+written_none context due held none = record {
+  as_many = ap length (sym (append-nil (marks false held)));
+  near = λ i is. absurd (true≢false (sym is ∙ ap (λ (l : List Bool). get_or l i false) (sym (append-nil (marks false held))) ∙ unmarked_all held i));
+  all = λ i within near. elim near [
+    | inl low ↦ absurd (omega (arith, none (omega (arith, low)), within, length_marks false held, ap length (append-nil (marks false held))))
+    | inr one ↦ absurd (true≢false (sym one.is ∙ unmarked_all held one.at))
+  ];
+}
+
+module _ (p : Patterns) (job : Job) (context : Context) where
+  -- nothing is written of lines that are not
+  tells_none : (held : List (List ℕ)) (place : Place) (some apart : Bool) → TellsWritten p job context place some apart (held ++ []) (marks false held ++ []) (marks false held) []
+  tells_none [] place some apart = refl
+  tells_none (line ∷ rest) place some apart = tells_none rest (after_line place line) some true
+
+  -- a selected line with the held ones before it
+  tells_group : (held : List (List ℕ)) (place : Place) (some apart : Bool) (before shown more : List ℕ) (line : List ℕ) (rest : List (List ℕ)) (chosen written : List Bool)
+      → ShowsEach p (beside job) place held before → ShowsLine p job (after_lines place held) line shown
+      → TellsWritten p job context (after_line (after_lines place held) line) true false rest chosen written more
+      → TellsWritten p job context place some apart (held ++ (line ∷ rest)) (marks false held ++ (true ∷ chosen)) (marks true held ++ (true ∷ written))
+      (separator_if (context.parted && (some && apart)) job.style ++ (before ++ (shown ++ more)))
+  tells_group [] place some apart before shown more line rest chosen written none shows tells =
+      (shown, more, shows, tells, ap (λ (l : List ℕ). separator_if (context.parted && (some && apart)) job.style ++ (l ++ (shown ++ more))) none)
+  tells_group (first ∷ others) place some apart before shown more line rest chosen written (one, next, is_shown, each, is) shows tells =
+      let unparted : separator_if (context.parted && (true && false)) job.style ≡ [] = ap (λ (b : Bool). separator_if b job.style) (and_none context.parted) in
+      let IH = tells_group others (after_line place first) true false next shown more line rest chosen written each shows tells in
+      (
+        one,
+        next ++ (shown ++ more),
+        is_shown,
+        subst (TellsWritten p job context (after_line place first) true false (others ++ (line ∷ rest)) (marks false others ++ (true ∷ chosen)) (marks true others ++ (true ∷ written)))
+            (ap (λ (l : List ℕ). l ++ (next ++ (shown ++ more))) unparted) IH,
+        ap (λ (l : List ℕ). separator_if (context.parted && (some && apart)) job.style ++ l) (ap (λ (l : List ℕ). l ++ (shown ++ more)) is ∙ append_assoc one next (shown ++ more)),
+      )
+
+abbrev walk : Place → (selected due : ℕ) → (some apart : Bool) → Place → List (List ℕ) → Walk
+walk place selected due some apart first held = record { place = place; selected = selected; due = due; some = some; apart = apart; first = first; held = held }
+
+-- what a walk keeps: held lines stand before its place, and none is held while some are due
+record IsKept (context : Context) (w : Walk) : Type 0 where
+  within : length w.held ≤ context.before
+  most : w.due ≤ context.after
+  none : 0 < w.due → w.held ≡ []
+  joined : 0 < w.due → (w.some ≡ true) × (w.apart ≡ false)
+  placed : after_lines (first_in w.place w.first w.held) w.held ≡ w.place
+
+-- what is told of the held lines and of those behind them
+record Grouped (p : Patterns) (job : Job) (context : Context) (w : Walk) (ls : List (List ℕ)) (bytes : List ℕ) (total : ℕ) : Type 0 where
+  chosen : List Bool
+  written : List Bool
+  are_chosen : AreChosen p job w.selected ls chosen total
+  are_written : AreWrittenFrom context w.due (marks false w.held ++ chosen) written
+  tells : TellsWritten p job context (first_in w.place w.first w.held) w.some w.apart (w.held ++ ls) (marks false w.held ++ chosen) written bytes
+
+-- at the begin of a file
+kept_begin : (context : Context) (place : Place) (selected : ℕ) (some apart : Bool) (first : Place) → IsKept context (walk place selected 0 some apart first [])
+kept_begin context place selected some apart first = record {
+  within = omega arith;
+  most = omega arith;
+  none = λ due. absurd (omega (arith, due));
+  joined = λ due. absurd (omega (arith, due));
+  placed = refl;
+}
+
+-- behind a selected line
+kept_chosen : (context : Context) (place : Place) (selected : ℕ) (first : Place) → IsKept context (walk place selected context.after true false first [])
+kept_chosen context place selected first = record {
+  within = omega arith;
+  most = omega arith;
+  none = λ due. refl;
+  joined = λ due. (refl, refl);
+  placed = refl;
+}
+
+module _ (p : Patterns) (job : Job) (context : Context) where
+  each_start : (held : List (List ℕ)) (place first : Place) (before : List ℕ) → ShowsEach p (beside job) first held before → ShowsEach p (beside job) (first_in place first held) held before
+  each_start [] place first before each = each
+  each_start (line ∷ rest) place first before each = each
+
+  -- one line more: a selected one
+  group_chosen : (place : Place) (selected due : ℕ) (some apart : Bool) (first : Place) (held : List (List ℕ)) (line : List ℕ) (rest : List (List ℕ)) (shown more : List ℕ) (total : ℕ)
+      → IsKept context (walk place selected due some apart first held) → is_full job.most selected ≡ false → IsSelected p job.fit job.invert line
+      → ShowsGroup p job context (walk place selected due some apart first held) line shown
+      → Grouped p job context (walk (after_line place line) (one_more selected) context.after true false first []) rest more total
+      → Grouped p job context (walk place selected due some apart first held) (line ∷ rest) (shown ++ more) total
+  group_chosen place selected due some apart first held line rest shown more total kept goes is (before, one, each, shows, cut) IH =
+      let start = first_in place first held in
+      let sep = separator_if (context.parted && (some && apart)) job.style in
+      let there : after_lines start held ≡ place = kept.placed in
+      let bytes : sep ++ (before ++ (one ++ more)) ≡ shown ++ more =
+      sym (ap (λ (l : List ℕ). l ++ more) cut ∙ append_assoc sep (before ++ one) more ∙ ap (λ (l : List ℕ). sep ++ l) (append_assoc before one more)) in
+      record {
+        chosen = true ∷ IH.chosen;
+        written = marks true held ++ (true ∷ IH.written);
+        are_chosen = (goes, is, IH.are_chosen);
+        are_written = written_group context due held IH.chosen IH.written kept.within kept.most (λ some_due. omega (arith, ap length (kept.none some_due))) IH.are_written;
+        tells = subst (TellsWritten p job context start some apart (held ++ (line ∷ rest)) (marks false held ++ (true ∷ IH.chosen)) (marks true held ++ (true ∷ IH.written))) bytes
+            (tells_group p job context held start some apart before one more line rest IH.chosen IH.written (each_start held place first before each)
+            (subst (λ (at : Place). ShowsLine p job at line one) (sym there) shows)
+            (subst (λ (at : Place). TellsWritten p job context (after_line at line) true false rest IH.chosen IH.written more) (sym there) IH.tells));
+      }
+
+  -- one that is due
+  group_due : (place : Place) (selected due : ℕ) (some apart : Bool) (first : Place) (held : List (List ℕ)) (line : List ℕ) (rest : List (List ℕ)) (shown more : List ℕ) (total : ℕ)
+      → IsKept context (walk place selected due some apart first held) → 0 < due → IsNotChosen p job selected line → ShowsLine p (beside job) place line shown
+      → Grouped p job context (walk (after_line place line) selected (due - 1) some apart first held) rest more total
+      → Grouped p job context (walk place selected due some apart first held) (line ∷ rest) (shown ++ more) total
+  group_due place selected due some apart first held line rest shown more total kept some_due passed shows IH =
+      let none : held ≡ [] = kept.none some_due in
+      let (is_some, is_joined) = kept.joined some_due in
+      let next = after_line place line in
+      let told : TellsWritten p job context next some apart rest IH.chosen IH.written more =
+      subst (λ (h : List (List ℕ)). TellsWritten p job context (first_in next first h) some apart (h ++ rest) (marks false h ++ IH.chosen) IH.written more) none IH.tells in
+      let joined : TellsWritten p job context next true false rest IH.chosen IH.written more =
+      subst (λ (b : Bool). TellsWritten p job context next true b rest IH.chosen IH.written more) is_joined
+      (subst (λ (b : Bool). TellsWritten p job context next b apart rest IH.chosen IH.written more) is_some told) in
+      let unparted : separator_if (context.parted && (some && apart)) job.style ≡ [] =
+      ap (λ (b : Bool). separator_if (context.parted && (some && b)) job.style) is_joined ∙ ap (λ (b : Bool). separator_if (context.parted && b) job.style) (and_none some)
+      ∙ ap (λ (b : Bool). separator_if b job.style) (and_none context.parted) in
+      record {
+        chosen = false ∷ IH.chosen;
+        written = true ∷ IH.written;
+        are_chosen = (passed, IH.are_chosen);
+        are_written = subst (λ (h : List (List ℕ)). AreWrittenFrom context due (marks false h ++ (false ∷ IH.chosen)) (true ∷ IH.written)) (sym none)
+            (written_due context due IH.chosen IH.written some_due (subst (λ (h : List (List ℕ)). AreWrittenFrom context (due - 1) (marks false h ++ IH.chosen) IH.written) none IH.are_written));
+        tells = subst (λ (h : List (List ℕ)). TellsWritten p job context (first_in place first h) some apart (h ++ (line ∷ rest)) (marks false h ++ (false ∷ IH.chosen)) (true ∷ IH.written) (shown ++ more)) (sym none)
+            (shown, more, shows, joined, ap (λ (l : List ℕ). l ++ (shown ++ more)) (sym unparted));
+      }
+
+  -- one that is passed over where none is held
+  group_over : (place : Place) (selected due : ℕ) (some apart : Bool) (first : Place) (line : List ℕ) (rest : List (List ℕ)) (more : List ℕ) (total : ℕ)
+      → due ≡ 0 → context.before ≡ 0 → IsNotChosen p job selected line
+      → Grouped p job context (walk (after_line place line) selected due some true first []) rest more total
+      → Grouped p job context (walk place selected due some apart first []) (line ∷ rest) more total
+  group_over place selected due some apart first line rest more total past zero passed IH = record {
+    chosen = false ∷ IH.chosen;
+    written = false ∷ IH.written;
+    are_chosen = (passed, IH.are_chosen);
+    are_written = subst (λ (n : ℕ). AreWrittenFrom context n (false ∷ IH.chosen) (false ∷ IH.written)) (sym past)
+        (written_far context IH.chosen IH.written (λ at low. ap (λ (n : ℕ). get_or (false ∷ IH.chosen) n false) (omega (arith, low, zero)))
+        (subst (λ (n : ℕ). AreWrittenFrom context n IH.chosen IH.written) past IH.are_written));
+    tells = IH.tells;
+  }
+
+  -- that is held
+  group_held : (place : Place) (selected due : ℕ) (some apart : Bool) (first : Place) (held : List (List ℕ)) (line : List ℕ) (rest : List (List ℕ)) (more : List ℕ) (total : ℕ)
+      → IsNotChosen p job selected line
+      → Grouped p job context (walk (after_line place line) selected due some apart (first_in place first held) (held ++ (line ∷ []))) rest more total
+      → Grouped p job context (walk place selected due some apart first held) (line ∷ rest) more total
+  group_held place selected due some apart first held line rest more total passed IH =
+      let start = first_in place first held in
+      record {
+        chosen = false ∷ IH.chosen;
+        written = IH.written;
+        are_chosen = (passed, IH.are_chosen);
+        are_written = subst (λ (l : List Bool). AreWrittenFrom context due l IH.written) (marks_more held line IH.chosen) IH.are_written;
+        tells = subst (λ (at : Place). TellsWritten p job context at some apart (held ++ (line ∷ rest)) (marks false held ++ (false ∷ IH.chosen)) IH.written more)
+            (first_more (after_line place line) start held line)
+            (subst (λ (l : List Bool). TellsWritten p job context (first_in (after_line place line) start (held ++ (line ∷ []))) some apart (held ++ (line ∷ rest)) l IH.written more) (marks_more held line IH.chosen)
+            (subst (λ (l : List (List ℕ)). TellsWritten p job context (first_in (after_line place line) start (held ++ (line ∷ []))) some apart l (marks false (held ++ (line ∷ [])) ++ IH.chosen) IH.written more)
+            (append_assoc held (line ∷ []) rest) IH.tells));
+      }
+
+  -- and the first held one is not near
+  group_dropped : (place : Place) (selected due : ℕ) (some apart : Bool) (first : Place) (other : List ℕ) (held : List (List ℕ)) (line : List ℕ) (rest : List (List ℕ)) (more : List ℕ) (total : ℕ)
+      → due ≡ 0 → context.before ≤ suc (length held) → after_lines (after_line first other) held ≡ place → IsNotChosen p job selected line
+      → Grouped p job context (walk (after_line place line) selected due some true (first_in place (after_line first other) held) (held ++ (line ∷ []))) rest more total
+      → Grouped p job context (walk place selected due some apart first (other ∷ held)) (line ∷ rest) more total
+  group_dropped place selected due some apart first other held line rest more total past long placed passed IH =
+      let second = after_line first other in
+      let IH' = group_held place selected due some true second held line rest more total passed IH in
+      record {
+        chosen = IH'.chosen;
+        written = false ∷ IH'.written;
+        are_chosen = IH'.are_chosen;
+        are_written = subst (λ (n : ℕ). AreWrittenFrom context n (false ∷ (marks false held ++ (false ∷ IH.chosen))) (false ∷ IH'.written)) (sym past)
+            (written_far context (marks false held ++ (false ∷ IH.chosen)) IH'.written
+            (λ at low. unmarked (other ∷ held) IH.chosen at (omega (arith, low, long)))
+            (subst (λ (n : ℕ). AreWrittenFrom context n (marks false held ++ (false ∷ IH.chosen)) IH'.written) past IH'.are_written));
+        tells = subst (λ (at : Place). TellsWritten p job context at some true (held ++ (line ∷ rest)) (marks false held ++ (false ∷ IH.chosen)) IH'.written more)
+            (first_same place second held placed) IH'.tells;
+      }
