@@ -20,6 +20,7 @@ pub mod Streams
 pub mod StreamsBegun
 pub mod Tellings
 pub mod Unselected
+pub mod Walked
 pub mod Whole
 pub mod WordLists
 mod Told

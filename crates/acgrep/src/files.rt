@@ -139,7 +139,7 @@ pub fn search_files<A: Automaton, F: Open, R: Read, W: Sink, E: Sink>(
 
     // Whatever the status, a beginning of what is asked is written.
     ensures begun { ForLines (A.is_of automaton.now) (λ p.
-        AreFilesBegun p job.now (F.holds files.now.files.now) (files_named files.now)
+        AreFilesBegun p job.now false (F.holds files.now.files.now) (files_named files.now)
         (R.remaining input.old) (W.taken output.old) (W.taken output.new)) }
 
     // What is told tells why a file was not searched; where the status tells of no error, nothing is told.
@@ -284,11 +284,11 @@ fn search_name<A: Automaton, F: Open, R: Read, W: Sink, E: Sink>(
 ) -> Outcome
     requires of { (p : Patterns) × A.is_of automaton.now p }
     ensures searched { ForLines (A.is_of automaton.now) (λ p.
-        IfSearched result (SearchesName p job.now (F.holds files.now) name.now
+        IfSearched result (SearchesName p job.now follows (F.holds files.now) name.now
         (R.remaining input.old) (R.remaining input.new)
         (W.taken output.old) (W.taken output.new))) }
     ensures begun { ForLines (A.is_of automaton.now) (λ p.
-        IfBroken result (BeginsName p job.now (F.holds files.now) name.now
+        IfBroken result (BeginsName p job.now follows (F.holds files.now) name.now
         (R.remaining input.old) (W.taken output.old) (W.taken output.new))) }
     ensures leaves { LeavesInput name.now (R.remaining input.old) (R.remaining input.new) }
     ensures told { TellsOfOutcome E.Sink job.now.hushed (shown_name name.now) result
@@ -487,7 +487,7 @@ fn tell_total<E: Sink>(stop: &Stop, errors: &mut Errors<'_, E>)
 
 /// What is written of the file of this name.
 fn job_for<'a>(job: &Job<'_>, name: &'a [u8], follows: bool) -> Job<'a>
-    ensures named { IsNamed job.now name.now result }
+    ensures named { IsNamed job.now name.now follows result }
 {
     Job {
         shown: job.shown,

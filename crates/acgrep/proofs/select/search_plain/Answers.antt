@@ -3,7 +3,7 @@ use Rattle.std.proofs.Common.{inl, inr, length, refl, ap, subst, arith}
 use Rattle.acgrep.specs.Written.{HasNone}
 use Rattle.acgrep.proofs.Beginnings.{begins_rest, on_err}
 use Rattle.acgrep.proofs.Tellings.{searches_join, searches_start, settled_some}
-use Rattle.acgrep.proofs.select.search_text.Goals as goal
+use Rattle.acgrep.proofs.select.search_plain.Goals as goal
 
 pub loop-rest-init : goal.loop-rest-init
 loop-rest-init g c = record {
