@@ -2,11 +2,11 @@
 use Rattle.std.proofs.Common.{◌≡◌, ◌⊎◌, inl, inr, ℕ, suc, ◌+◌, ◌-◌, ◌<◌, ◌≤◌, ◌==◌, Bool, true, false, List, [], ◌∷◌, ◌++◌, length, refl, sym, ◌∙◌, ap, subst, arith, append_assoc, append-nil, length-append}
 use Rattle.std.specs.Prelude.{MatchBool, nat_le, nat_lt, ◌&&◌, if◌then◌else◌}
 use Rattle.std.proofs.Math.ListN.{get_or}
-use Rattle.std.proofs.lemmas.Bool.{cases_Bool, cases_lt, ltb-true, ltb-false, true≢false}
+use Rattle.std.proofs.lemmas.Bool.{cases_Bool, cases_lt, eqb-true, leb-false, leb-true, ltb-false, ltb-true, true≢false}
 use Rattle.std.proofs.lemmas.List.{get_or-append-add}
 use Rattle.aho_core.specs.Patterns.{Patterns}
-use Rattle.acgrep.specs.Contexts.{AreChosen, AreWritten, IsBegin, IsNear, IsNotChosen, PassesBy, ShowsEach, ShowsGroup, Steps, TellsAround, TellsWritten, Walk, WalksOver, behind_chosen, behind_due, behind_passed, beside, first_in, holding, separator_if}
-use Rattle.acgrep.specs.Written.{ShowsLine, after_line, after_lines, one_more}
+use Rattle.acgrep.specs.Contexts.{AreChosen, AreWritten, IsBegin, IsNear, Holding, IsNotChosen, PassesBy, ShowsEach, ShowsGroup, Steps, TellsAround, TellsWritten, Walk, WalksOver, behind_chosen, behind_due, behind_passed, beside, dropped_of, first_in, holding, separator_if, walk_holding, with_line}
+use Rattle.acgrep.specs.Written.{IsSelected, ShowsLine, after_line, after_lines, is_full, one_more}
 use Rattle.acgrep.specs.declared.options.Context.{Context}
 use Rattle.acgrep.specs.declared.print.Place.{Place}
 use Rattle.acgrep.specs.declared.print.Style.{Style}
@@ -60,6 +60,14 @@ first_more place first (other ∷ rest) line = refl
 first_same : (place first : Place) (ls : List (List ℕ)) → after_lines first ls ≡ place → first_in place first ls ≡ first
 first_same place first [] is = sym is
 first_same place first (line ∷ rest) is = refl
+
+no_room : (n : ℕ) → (n == 0) ≡ false → nat_le n 0 ≡ false
+no_room 0 some = absurd (true≢false some)
+no_room (suc n) some = refl
+
+some_more : (n : ℕ) → (n == 0) ≡ false → 0 < n
+some_more 0 some = absurd (true≢false some)
+some_more (suc n) some = omega arith
 
 and_none : (b : Bool) → (b && false) ≡ false
 and_none true = refl
@@ -367,4 +375,167 @@ module _ (p : Patterns) (job : Job) (context : Context) where
             (subst (λ (n : ℕ). AreWrittenFrom context n (marks false held ++ (false ∷ IH.chosen)) IH'.written) past IH'.are_written));
         tells = subst (λ (at : Place). TellsWritten p job context at some true (held ++ (line ∷ rest)) (marks false held ++ (false ∷ IH.chosen)) IH'.written more)
             (first_same place second held placed) IH'.tells;
+      }
+
+  held_short : (held : List (List ℕ)) (line : List ℕ) (n : ℕ) → length held < n → length (held ++ (line ∷ [])) ≤ n
+  held_short held line n short = omega (arith, short, length-append held (line ∷ []))
+
+  joined_more : (place start : Place) (held : List (List ℕ)) (line : List ℕ) → after_lines start held ≡ place
+      → after_lines (first_in (after_line place line) start (held ++ (line ∷ []))) (held ++ (line ∷ [])) ≡ after_line place line
+  joined_more place start held line there =
+      ap (λ (at : Place). after_lines at (held ++ (line ∷ []))) (first_more (after_line place line) start held line)
+      ∙ after_append held (line ∷ []) start ∙ ap (λ (at : Place). after_line at line) there
+
+  -- where none is due what is kept stays so
+  kept_held : (place : Place) (selected due : ℕ) (some apart : Bool) (first : Place) (held : List (List ℕ)) (line : List ℕ) → due ≡ 0 → length held < context.before
+      → after_lines (first_in place first held) held ≡ place
+      → IsKept context (walk (after_line place line) selected due some apart (first_in place first held) (held ++ (line ∷ [])))
+  kept_held place selected due some apart first held line past short there = record {
+    within = held_short held line context.before short;
+    most = omega (arith, past);
+    none = λ some_due. absurd (omega (arith, some_due, past));
+    joined = λ some_due. absurd (omega (arith, some_due, past));
+    placed = joined_more place (first_in place first held) held line there;
+  }
+
+  kept_due : (place : Place) (selected due : ℕ) (some apart : Bool) (first : Place) (held : List (List ℕ)) (line : List ℕ) → 0 < due
+      → IsKept context (walk place selected due some apart first held) → IsKept context (walk (after_line place line) selected (due - 1) some apart first held)
+  kept_due place selected due some apart first held line some_due kept = record {
+    within = kept.within;
+    most = omega (arith, kept.most);
+    none = λ _. kept.none some_due;
+    joined = λ _. kept.joined some_due;
+    placed = subst (λ (h : List (List ℕ)). after_lines (first_in (after_line place line) first h) h ≡ after_line place line) (sym (kept.none some_due)) refl;
+  }
+
+  kept_over : (place : Place) (selected due : ℕ) (some apart : Bool) (first : Place) → due ≡ 0 → IsKept context (walk place selected due some apart first [])
+  kept_over place selected due some apart first past = record {
+    within = omega arith;
+    most = omega (arith, past);
+    none = λ _. refl;
+    joined = λ some_due. absurd (omega (arith, some_due, past));
+    placed = refl;
+  }
+
+  -- where none is held and none may be
+  over_is : (place : Place) (selected due : ℕ) (some apart : Bool) (first : Place) (line : List ℕ) → (context.before == 0) ≡ true
+      → behind_passed context (walk place selected due some apart first []) line ≡ walk (after_line place line) selected due some true first []
+  over_is place selected due some apart first line zero = rw zero refl
+
+  held_is : (place : Place) (selected due : ℕ) (some apart : Bool) (first : Place) (held : List (List ℕ)) (line : List ℕ) → (context.before == 0) ≡ false → nat_le context.before (length held) ≡ false
+      → behind_passed context (walk place selected due some apart first held) line
+      ≡ walk (after_line place line) selected due some apart (first_in place first held) (held ++ (line ∷ []))
+  held_is place selected due some apart first held line some_asked short = rw some_asked (rw short refl)
+
+  dropped_is : (place : Place) (selected due : ℕ) (some apart : Bool) (first : Place) (other : List ℕ) (held : List (List ℕ)) (line : List ℕ) → (context.before == 0) ≡ false
+      → nat_le context.before (length (other ∷ held)) ≡ true
+      → behind_passed context (walk place selected due some apart first (other ∷ held)) line
+      ≡ walk (after_line place line) selected due some true (first_in place (after_line first other) held) (held ++ (line ∷ []))
+  dropped_is place selected due some apart first other held line some_asked long = rw some_asked (rw long refl)
+
+  -- what is told of a walk
+  pub grouped : (ls : List (List ℕ)) (place : Place) (selected due : ℕ) (some apart : Bool) (first : Place) (held : List (List ℕ)) (w' : Walk) (bytes : List ℕ)
+      → IsKept context (walk place selected due some apart first held) → WalksOver p job context (walk place selected due some apart first held) ls bytes w'
+      → Grouped p job context (walk place selected due some apart first held) ls bytes w'.selected
+  grouped [] place selected due some apart first held w' bytes kept (empty, same) = record {
+    chosen = [];
+    written = marks false held;
+    are_chosen = ap (λ (w : Walk). w.selected) same;
+    are_written = written_none context due held (λ some_due. omega (arith, ap length (kept.none some_due)));
+    tells = subst (TellsWritten p job context (first_in place first held) some apart (held ++ []) (marks false held ++ []) (marks false held)) (sym empty)
+        (tells_none p job context held (first_in place first held) some apart);
+  }
+  grouped (line ∷ rest) place selected due some apart first held w' bytes kept (shown, more, between, inl takes, walks, is) =
+      let w = walk place selected due some apart first held in
+      let next = after_line place line in
+      let IH = grouped rest next (one_more selected) context.after true false first [] w' more (kept_chosen context next (one_more selected) first)
+      (subst (λ (v : Walk). WalksOver p job context v rest more w') takes.behind walks) in
+      subst (λ (l : List ℕ). Grouped p job context w (line ∷ rest) l w'.selected) (sym is)
+      (group_chosen place selected due some apart first held line rest shown more w'.selected kept takes.more takes.selected takes.shows IH)
+  grouped (line ∷ rest) place selected due some apart first [] w' bytes kept (shown, more, between, inr passes, walks, is) =
+      let w = walk place selected due some apart first [] in
+      let next = after_line place line in
+      elim (cases_Bool (nat_lt 0 due)) [
+        | inl yes ↦
+            let some_due : 0 < due = ltb-true 0 due yes in
+            let (shows, behind) = subst (PassesBy p job context w line shown between) yes passes.passes in
+            let IH = grouped rest next selected (due - 1) some apart first [] w' more (kept_due place selected due some apart first [] line some_due kept)
+            (subst (λ (v : Walk). WalksOver p job context v rest more w') behind walks) in
+            subst (λ (l : List ℕ). Grouped p job context w (line ∷ rest) l w'.selected) (sym is)
+            (group_due place selected due some apart first [] line rest shown more w'.selected kept some_due passes.passed shows IH)
+        | inr no ↦
+            let past : due ≡ 0 = omega (arith, ltb-false 0 due no) in
+            let (none, behind) = subst (PassesBy p job context w line shown between) no passes.passes in
+            let same : more ≡ bytes = sym (is ∙ ap (λ (l : List ℕ). l ++ more) none) in
+            elim (cases_Bool (context.before == 0)) [
+              | inl zero ↦
+                  let IH = grouped rest next selected due some true first [] w' more (kept_over next selected due some true first past)
+                  (subst (λ (v : Walk). WalksOver p job context v rest more w') (behind ∙ over_is place selected due some apart first line zero) walks) in
+                  subst (λ (l : List ℕ). Grouped p job context w (line ∷ rest) l w'.selected) same
+                  (group_over place selected due some apart first line rest more w'.selected past (eqb-true context.before 0 zero) passes.passed IH)
+              | inr some_asked ↦
+                  let short : nat_le context.before 0 ≡ false = no_room context.before some_asked in
+                  let IH = grouped rest next selected due some apart place (line ∷ []) w' more
+                  (kept_held place selected due some apart first [] line past (some_more context.before some_asked) refl)
+                  (subst (λ (v : Walk). WalksOver p job context v rest more w') (behind ∙ held_is place selected due some apart first [] line some_asked short) walks) in
+                  subst (λ (l : List ℕ). Grouped p job context w (line ∷ rest) l w'.selected) same
+                  (group_held place selected due some apart first [] line rest more w'.selected passes.passed IH)
+            ]
+      ]
+  grouped (line ∷ rest) place selected due some apart first (other ∷ held) w' bytes kept (shown, more, between, inr passes, walks, is) =
+      let w = walk place selected due some apart first (other ∷ held) in
+      let next = after_line place line in
+      let past : due ≡ 0 = elim (cases_lt 0 due) [
+        | inl some_due ↦ absurd (omega (arith, ap length (kept.none some_due)))
+        | inr none ↦ omega (arith, none)
+      ] in
+      let no : nat_lt 0 due ≡ false = ap (nat_lt 0) past in
+      let (none, behind) = subst (PassesBy p job context w line shown between) no passes.passes in
+      let same : more ≡ bytes = sym (is ∙ ap (λ (l : List ℕ). l ++ more) none) in
+      elim (cases_Bool (context.before == 0)) [
+        | inl zero ↦ absurd (omega (arith, kept.within, eqb-true context.before 0 zero))
+        | inr some_asked ↦ elim (cases_Bool (nat_le context.before (length (other ∷ held)))) [
+          | inl full ↦
+              let long : context.before ≤ suc (length held) = leb-true context.before (length (other ∷ held)) full in
+              let start = first_in place (after_line first other) held in
+              let there : after_lines start held ≡ place = ap (λ (at : Place). after_lines at held) (first_same place (after_line first other) held kept.placed) ∙ kept.placed in
+              let IH = grouped rest next selected due some true start (held ++ (line ∷ [])) w' more
+              (kept_held place selected due some true (after_line first other) held line past (omega (arith, kept.within)) there)
+              (subst (λ (v : Walk). WalksOver p job context v rest more w') (behind ∙ dropped_is place selected due some apart first other held line some_asked full) walks) in
+              subst (λ (l : List ℕ). Grouped p job context w (line ∷ rest) l w'.selected) same
+              (group_dropped place selected due some apart first other held line rest more w'.selected past long kept.placed passes.passed IH)
+          | inr room ↦
+              let short : length (other ∷ held) < context.before = leb-false context.before (length (other ∷ held)) room in
+              let IH = grouped rest next selected due some apart first ((other ∷ held) ++ (line ∷ [])) w' more
+              (kept_held place selected due some apart first (other ∷ held) line past short kept.placed)
+              (subst (λ (v : Walk). WalksOver p job context v rest more w') (behind ∙ held_is place selected due some apart first (other ∷ held) line some_asked room) walks) in
+              subst (λ (l : List ℕ). Grouped p job context w (line ∷ rest) l w'.selected) same
+              (group_held place selected due some apart first (other ∷ held) line rest more w'.selected passes.passed IH)
+        ]
+      ]
+
+  -- what is told of a walk over a whole file
+  pub told_around : (ls : List (List ℕ)) (w w' : Walk) (bytes : List ℕ) → w.place ≡ job.first → w.selected ≡ 0 → w.due ≡ 0 → w.some ≡ job.follows → w.apart ≡ true → w.held ≡ []
+      → WalksOver p job context w ls bytes w' → TellsAround p job context ls bytes w'.selected
+  told_around ls w w' bytes place selected due some apart held walks =
+      let begin = walk job.first 0 0 job.follows true w.first [] in
+      let same : w ≡ begin =
+      ap (λ (at : Place). walk at w.selected w.due w.some w.apart w.first w.held) place
+      ∙ ap (λ (n : ℕ). walk job.first n w.due w.some w.apart w.first w.held) selected
+      ∙ ap (λ (n : ℕ). walk job.first 0 n w.some w.apart w.first w.held) due
+      ∙ ap (λ (b : Bool). walk job.first 0 0 b w.apart w.first w.held) some
+      ∙ ap (λ (b : Bool). walk job.first 0 0 job.follows b w.first w.held) apart
+      ∙ ap (λ (h : List (List ℕ)). walk job.first 0 0 job.follows true w.first h) held in
+      let all = grouped ls job.first 0 0 job.follows true w.first [] w' bytes (kept_begin context job.first 0 job.follows true w.first)
+      (subst (λ (v : Walk). WalksOver p job context v ls bytes w') same walks) in
+      record {
+        chosen = all.chosen;
+        written = all.written;
+        are_chosen = all.are_chosen;
+        are_written = record {
+          as_many = all.are_written.as_many;
+          near = λ i is. elim (all.are_written.near i is) [ inl low ↦ absurd (omega (arith, low)) | inr near ↦ near ];
+          all = λ i low near. all.are_written.all i low (inr near);
+        };
+        tells = all.tells;
       }

@@ -3,12 +3,13 @@ use Rattle.std.proofs.Common.{◌≡◌, ◌⊎◌, inl, inr, ℕ, ◌<◌, ◌�
 use Rattle.std.specs.Prelude.{nat_lt}
 use Rattle.std.specs.Io.KnownBytes.{Appends, Keeps}
 use Rattle.std.proofs.KnownBytes.{Appends-nil, Appends-trans}
-use Rattle.std.proofs.lemmas.Bool.{cases_Bool, ltb-true}
+use Rattle.std.proofs.lemmas.Bool.{cases_Bool, true≢false}
 use Rattle.aho_core.specs.Patterns.{Patterns}
-use Rattle.acgrep.specs.Contexts.{IsNotChosen, PassesBy, Steps, Walk, WalksBegun, WalksLines, WalksOver, WalksText, behind_passed, walk_of}
+use Rattle.acgrep.specs.Contexts.{IsNotChosen, PassesBy, PassesLine, Steps, Walk, WalksBegun, WalksLines, WalksOver, WalksText, behind_chosen, behind_passed, walk_of}
 use Rattle.acgrep.specs.Lines.{lines}
-use Rattle.acgrep.specs.Written.{EndsLine, IsSettled, TellsOfLines, is_full}
+use Rattle.acgrep.specs.Written.{EndsLine, IsPassedOver, IsSettled, TellsOfLines, after_line, is_full}
 use Rattle.acgrep.specs.declared.options.Context.{Context}
+use Rattle.acgrep.specs.declared.print.Place.{Place}
 use Rattle.acgrep.specs.declared.select.Job.{Job}
 use Rattle.acgrep.specs.declared.select.State.{State}
 use Rattle.acgrep.proofs.LineLists.{lines_append}
@@ -35,14 +36,23 @@ module _ (p : Patterns) (job : Job) (context : Context) where
   pub lines_none : (w : Walk) (x y : Option (List ℕ)) → Appends x y [] → WalksLines p job context w w x y []
   lines_none w x y written = record { bytes = []; walks = (refl, refl); written = written }
 
+  -- behind a line that is not chosen
+  by_same : (due : Bool) (w w' : Walk) (line bytes : List ℕ) → PassesBy p job context w line bytes w' due → (w'.selected ≡ w.selected) × (w'.place ≡ after_line w.place line)
+  by_same true w w' line bytes (shows, is) = (ap (λ (v : Walk). v.selected) is, ap (λ (v : Walk). v.place) is)
+  by_same false w w' line bytes (none, is) = (ap (λ (v : Walk). v.selected) is, ap (λ (v : Walk). v.place) is)
+
+  passes_same : (w w' : Walk) (line bytes : List ℕ) → PassesLine p job context w line bytes w' → w'.selected ≡ w.selected
+  passes_same w w' line bytes passes = (by_same (nat_lt 0 w.due) w w' line bytes passes.passes).0
+
+  passes_place : (w w' : Walk) (line bytes : List ℕ) → PassesLine p job context w line bytes w' → w'.place ≡ after_line w.place line
+  passes_place w w' line bytes passes = (by_same (nat_lt 0 w.due) w w' line bytes passes.passes).1
+
   -- where so many lines are selected as are asked for and none is due, nothing more is told
   pub walks_full : (ls : List (List ℕ)) (w : Walk) → is_full job.most w.selected ≡ true → w.due ≡ 0
       → (w' : Walk) × WalksOver p job context w ls [] w' × (w'.selected ≡ w.selected)
   walks_full [] w full past = (w, (refl, refl), refl)
   walks_full (line ∷ rest) w full past =
       let next = behind_passed context w line in
-      let same : next.selected ≡ w.selected = refl in
-      let due : next.due ≡ w.due = refl in
       let (w', walks, is) = walks_full rest next full past in
       let not : nat_lt 0 w.due ≡ false = ap (nat_lt 0) past in
       let step : Steps p job context w line [] next = inr (record { passed = inl full; passes = subst (PassesBy p job context w line [] next) (sym not) (refl, refl) }) in
@@ -150,3 +160,30 @@ module _ (p : Patterns) (job : Job) (context : Context) where
     tells = record { bytes = one.tells.bytes; walks = one.tells.walks; written = Appends-trans x y z [] one.tells.bytes keeps one.tells.written };
     ends = one.ends;
   }
+
+  -- where so many are selected as are asked for no further one is
+  pub walks_same : (ls : List (List ℕ)) (w w' : Walk) (bytes : List ℕ) → is_full job.most w.selected ≡ true → WalksOver p job context w ls bytes w' → w'.selected ≡ w.selected
+  walks_same [] w w' bytes full (none, same) = ap (λ (v : Walk). v.selected) same
+  walks_same (line ∷ rest) w w' bytes full (shown, more, between, inl takes, walks, is) = absurd (true≢false (sym full ∙ takes.more))
+  walks_same (line ∷ rest) w w' bytes full (shown, more, between, inr passes, walks, is) =
+      let same : between.selected ≡ w.selected = passes_same w between line shown passes in
+      walks_same rest between w' more (ap (is_full job.most) same ∙ full) walks ∙ same
+
+  -- the same lines are selected where none around them is written
+  pub walks_tells : (ls : List (List ℕ)) (w w' : Walk) (bytes : List ℕ) → WalksOver p job context w ls bytes w' → (told : List ℕ) × TellsOfLines p job w.place w.selected ls told w'.selected
+  walks_tells [] w w' bytes (none, same) = ([], refl, ap (λ (v : Walk). v.selected) same)
+  walks_tells (line ∷ rest) w w' bytes (shown, more, between, inl takes, walks, is) =
+      let (before, one, each, shows, cut) = takes.shows in
+      let (told, tells) = walks_tells rest (behind_chosen context w line) w' more (subst (λ (v : Walk). WalksOver p job context v rest more w') takes.behind walks) in
+      (one ++ told, inr (takes.more, inl (takes.selected, (one, told, shows, tells, refl))))
+  walks_tells (line ∷ rest) w w' bytes (shown, more, between, inr passes, walks, is) =
+      elim (cases_Bool (is_full job.most w.selected)) [
+        | inl full ↦ ([], inl (full, refl, walks_same (line ∷ rest) w w' bytes full (shown, more, between, inr passes, walks, is)))
+        | inr goes ↦
+            let passed : IsPassedOver p job.fit job.invert line = elim passes.passed [ inl full ↦ absurd (true≢false (sym full ∙ goes)) | inr passed ↦ passed ] in
+            let same : between.selected ≡ w.selected = passes_same w between line shown passes in
+            let there : between.place ≡ after_line w.place line = passes_place w between line shown passes in
+            let (told, tells) = walks_tells rest between w' more walks in
+            (told, inr (goes, inr (passed, subst (λ (n : ℕ). TellsOfLines p job (after_line w.place line) n rest told w'.selected) same
+            (subst (λ (at : Place). TellsOfLines p job at between.selected rest told w'.selected) there tells))))
+      ]

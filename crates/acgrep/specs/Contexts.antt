@@ -113,19 +113,16 @@ pub record Walk : Type 0 where
   pub first : Place
   pub held : List (List ℕ)
 
-abbrev pub walk_by : Place → ℕ → Trail → Walk
-walk_by place selected trail = record {
-  place = place;
-  selected = selected;
-  due = trail.due;
-  some = trail.some;
-  apart = trail.apart;
-  first = trail.first;
-  held = lines (bytes_held trail.held);
-}
-
 abbrev pub walk_of : State → Walk
-walk_of state = walk_by state.place state.selected state.trail
+walk_of state = record {
+  place = state.place;
+  selected = state.selected;
+  due = state.trail.due;
+  some = state.trail.some;
+  apart = state.trail.apart;
+  first = state.trail.first;
+  held = lines (bytes_held state.trail.held);
+}
 
 -- at the begin of a file
 pub record IsBegun (follows : Bool) (trail : Trail) : Type 0 where
@@ -147,32 +144,47 @@ behind_chosen context w line = record w { place = after_line w.place line; selec
 abbrev pub behind_due : Walk → List ℕ → Walk
 behind_due w line = record w { place = after_line w.place line; due = w.due - 1 }
 
--- with the first of these held lines gone
-abbrev pub dropped_in : Walk → List (List ℕ) → Walk
-dropped_in w [] = record w { apart = true }
-dropped_in w (line ∷ rest) = record w { first = after_line w.first line; held = rest; apart = true }
+-- whether a line stands since before the held ones, where these begin, and they
+pub record Holding : Type 0 where
+  pub apart : Bool
+  pub first : Place
+  pub held : List (List ℕ)
 
-abbrev pub without_first : Walk → Walk
-without_first w = dropped_in w w.held
+abbrev pub holding_in : Trail → Holding
+holding_in trail = record { apart = trail.apart; first = trail.first; held = lines (bytes_held trail.held) }
 
--- where the first of held lines stands, before one more
+abbrev pub holding_of : Walk → Holding
+holding_of w = record { apart = w.apart; first = w.first; held = w.held }
+
+-- without the first of them
+abbrev pub dropped_of : Holding → List (List ℕ) → Holding
+dropped_of h [] = record h { apart = true }
+dropped_of h (line ∷ rest) = record { apart = true; first = after_line h.first line; held = rest }
+
+abbrev pub without_first : Holding → Holding
+without_first h = dropped_of h h.held
+
+-- where held lines begin, before one more
 abbrev pub first_in : Place → Place → List (List ℕ) → Place
 first_in place first [] = place
 first_in place first (line ∷ rest) = first
 
--- with a held line more
-abbrev pub with_line : Walk → List ℕ → Walk
-with_line w line = record w { first = first_in w.place w.first w.held; held = w.held ++ (line ∷ []) }
+-- with a line more, which stands there
+abbrev pub with_line : Place → Holding → List ℕ → Holding
+with_line place h line = record h { first = first_in place h.first h.held; held = h.held ++ (line ∷ []) }
 
 -- a line is held, of at most so many
-abbrev pub holding : ℕ → Walk → List ℕ → Walk
-holding most w line =
-    if most == 0 then record w { apart = true }
-    else with_line (if nat_le most (length w.held) then without_first w else w) line
+abbrev pub holding : ℕ → Place → Holding → List ℕ → Holding
+holding most place h line =
+    if most == 0 then record h { apart = true }
+    else with_line place (if nat_le most (length h.held) then without_first h else h) line
 
 -- behind it
+abbrev pub walk_holding : Walk → Place → Holding → Walk
+walk_holding w place h = record w { place = place; apart = h.apart; first = h.first; held = h.held }
+
 abbrev pub behind_passed : Context → Walk → List ℕ → Walk
-behind_passed context w line = record (holding context.before w line) { place = after_line w.place line }
+behind_passed context w line = walk_holding w (after_line w.place line) (holding context.before w.place (holding_of w) line)
 
 -- what is written of lines around a selected one, from a place on
 abbrev pub ShowsEach : Patterns → Job → Place → List (List ℕ) → List ℕ → Type 0

@@ -1,6 +1,6 @@
 //! The lines around selected ones.
 
-ghost use Rattle.std.specs.Prelude.{◌≡◌, ◌≤◌, ◌<◌, ◌-◌, ◌==◌, ◌^◌, ℕ, IfOk, IsTrue, OnOk, length, true};
+ghost use Rattle.std.specs.Prelude.{◌≡◌, ◌≤◌, ◌<◌, ◌-◌, ◌==◌, ◌^◌, IfOk, IsTrue, OnOk, length, true};
 ghost use Rattle.memchr.specs.Find.{Nowhere};
 ghost use Rattle.aho_core.specs.Patterns.{Patterns};
 ghost use Rattle.acgrep.specs.Contexts.{IsChosenBy, bytes_held, separator_if};
@@ -40,7 +40,7 @@ pub struct Trail {
 }
 
 impl Trail {
-    ghost use Rattle.acgrep.specs.Contexts.{IsBegun, holding, walk_by, with_line, without_first};
+    ghost use Rattle.acgrep.specs.Contexts.{IsBegun, holding, holding_in, with_line, without_first};
 
     /// Where no file was begun.
     pub fn new(alloc: Global, first: Place) -> Trail {
@@ -90,8 +90,10 @@ impl Trail {
     /// Holds a line that was passed over, of at most so many.
     fn hold(&mut self, most: u64, line: &[u8], place: Place) -> Result<(), AllocError>
         requires one { Nowhere (IsNewline line.now) 0 (length line.now) }
-        ensures held { (n : ℕ) → OnOk result (walk_by place n self.new
-            ≡ holding most (walk_by place n self.old) line.now) }
+        ensures held { OnOk result (holding_in self.new
+            ≡ holding most place (holding_in self.old) line.now) }
+        ensures due { self.new.due ≡ self.old.due }
+        ensures some { self.new.some ≡ self.old.some }
     {
         if most == 0 {
             self.apart = true;
@@ -107,8 +109,10 @@ impl Trail {
     fn push(&mut self, line: &[u8], place: Place) -> Result<(), AllocError>
         requires one { Nowhere (IsNewline line.now) 0 (length line.now) }
         requires room { self.now.count < 2 ^ 64 - 1 }
-        ensures held { (n : ℕ) → OnOk result (walk_by place n self.new
-            ≡ with_line (walk_by place n self.old) line.now) }
+        ensures held { OnOk result (holding_in self.new
+            ≡ with_line place (holding_in self.old) line.now) }
+        ensures due { self.new.due ≡ self.old.due }
+        ensures some { self.new.some ≡ self.old.some }
     {
         if self.count == 0 {
             self.first = place;
@@ -121,9 +125,10 @@ impl Trail {
     /// Drops the first line that is held.
     fn drop_first(&mut self)
         requires some { 0 < self.now.count }
-        ensures dropped { (place : Place) → (n : ℕ) → walk_by place n self.new
-            ≡ without_first (walk_by place n self.old) }
+        ensures dropped { holding_in self.new ≡ without_first (holding_in self.old) }
         ensures counted { self.new.count ≡ self.old.count - 1 }
+        ensures due { self.new.due ≡ self.old.due }
+        ensures some { self.new.some ≡ self.old.some }
     {
         let bytes = self.held.bytes();
         let end = line_end(bytes);
