@@ -9,10 +9,10 @@ use Rattle.programs.specs.Names.{is_input}
 use Rattle.acgrep.specs.Alone.{asks_alone}
 use Rattle.acgrep.specs.Contexts.{IsBegin, SearchesIn, TellsFile, TellsIn, around_by, around_of, walk_of}
 use Rattle.acgrep.specs.Files.{EndsFile, IfSearched, IsAny, IsNamed, IsRead, SearchesFile, SearchesName, SearchesReader, SomeLine, TellsBy, count_if, known_of, shown_name, total_if}
-use Rattle.acgrep.specs.Lines.{lines}
+use Rattle.acgrep.specs.Lines.{EndsLine, lines}
 use Rattle.acgrep.specs.Printed.{file_line}
 use Rattle.acgrep.specs.Streamed.{SearchesStream, course}
-use Rattle.acgrep.specs.Written.{EachLine, EndsLine, IsPassedOver, IsSelected, IsSettled, ShowsBy, TellsOfLines, is_full, needs_one, one_more}
+use Rattle.acgrep.specs.Written.{EachLine, IsPassedOver, IsSelected, IsSettled, ShowsBy, TellsOfLines, is_full, needs_one, one_more}
 use Rattle.acgrep.specs.declared.files.Outcome.{Outcome}
 use Rattle.acgrep.specs.declared.files.Outcome.TheVariants.{Searched, Unread, Stopped}
 use Rattle.acgrep.specs.declared.options.Context.{Context}

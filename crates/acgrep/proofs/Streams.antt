@@ -6,11 +6,11 @@ use Rattle.std.proofs.KnownBytes.{Appends-trans, Consumes-trans, Consumes-nil, K
 use Rattle.std.proofs.Math.Seq.{drop-append_seam, drop-append-add}
 use Rattle.std.proofs.lemmas.List.{get_or-append-add, length-take-le}
 use Rattle.aho_core.specs.Patterns.{Patterns}
-use Rattle.acgrep.specs.Lines.{IsNewline, lines}
+use Rattle.acgrep.specs.Lines.{EndsLine, IsNewline, lines}
 use Rattle.acgrep.specs.Filled.{FillsBehind, ReadsOn}
 use Rattle.acgrep.specs.Streamed.{ReadsSome, SearchesLines, SearchesStream, SearchesWhole, course}
 use Rattle.acgrep.specs.Contexts.{SearchesIn, SearchesText, around_of}
-use Rattle.acgrep.specs.Written.{EndsLine, IsSettled, SamePlace, SearchesPlain, after_lines}
+use Rattle.acgrep.specs.Written.{IsSettled, SamePlace, SearchesPlain, after_lines}
 use Rattle.acgrep.specs.declared.options.Context.{Context}
 use Rattle.acgrep.specs.declared.print.Place.{Place}
 use Rattle.acgrep.specs.declared.select.Job.{Job}

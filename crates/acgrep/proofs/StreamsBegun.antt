@@ -4,10 +4,10 @@ use Rattle.std.specs.Io.KnownBytes.{Appends, Consumes, Keeps}
 use Rattle.std.proofs.KnownBytes.{Consumes-trans}
 use Rattle.aho_core.specs.Patterns.{Patterns}
 use Rattle.acgrep.specs.Filled.{FillsBehind}
-use Rattle.acgrep.specs.Lines.{IsNewline, lines}
+use Rattle.acgrep.specs.Lines.{EndsLine, IsNewline, lines}
 use Rattle.acgrep.specs.Streamed.{BeginsSome, BeginsStream, BeginsWhole, ReadsSome, SearchesLines, SearchesStream, course}
 use Rattle.acgrep.specs.Contexts.{BeginsIn, BeginsText, SearchesIn, SearchesText, around_of, walk_of}
-use Rattle.acgrep.specs.Written.{BeginsLines, EndsLine, IsSettled, SamePlace, SearchesPlain, after_lines}
+use Rattle.acgrep.specs.Written.{BeginsLines, IsSettled, SamePlace, SearchesPlain, after_lines}
 use Rattle.acgrep.specs.declared.options.Context.{Context}
 use Rattle.acgrep.specs.declared.select.Job.{Job}
 use Rattle.acgrep.specs.declared.select.State.{State}

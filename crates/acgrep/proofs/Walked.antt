@@ -6,8 +6,8 @@ use Rattle.std.proofs.KnownBytes.{Appends-nil, Appends-trans}
 use Rattle.std.proofs.lemmas.Bool.{cases_Bool, true≢false}
 use Rattle.aho_core.specs.Patterns.{Patterns}
 use Rattle.acgrep.specs.Contexts.{IsNotChosen, PassesBy, PassesLine, Steps, Walk, WalksBegun, WalksLines, WalksOver, WalksText, behind_chosen, behind_passed, walk_of}
-use Rattle.acgrep.specs.Lines.{lines}
-use Rattle.acgrep.specs.Written.{EndsLine, IsPassedOver, IsSettled, TellsOfLines, after_line, is_full}
+use Rattle.acgrep.specs.Lines.{EndsLine, lines}
+use Rattle.acgrep.specs.Written.{IsPassedOver, IsSettled, TellsOfLines, after_line, is_full}
 use Rattle.acgrep.specs.declared.options.Context.{Context}
 use Rattle.acgrep.specs.declared.print.Place.{Place}
 use Rattle.acgrep.specs.declared.select.Job.{Job}

@@ -1,12 +1,12 @@
 -- The lines around selected ones: which are written, and what stands between them.
-use Rattle.std.specs.Prelude.{◌≡◌, ◌⊎◌, ℕ, ◌+◌, ◌-◌, ◌<◌, ◌≤◌, ◌==◌, nat_le, nat_lt, Bool, MatchBool, true, false, not, ◌&&◌, List, [], ◌∷◌, ◌++◌, Option, Some, None, codes, drop, length, slice_index_or, if◌then◌else◌}
+use Rattle.std.specs.Prelude.{◌≡◌, ◌⊎◌, ℕ, ◌+◌, ◌-◌, ◌<◌, ◌≤◌, ◌==◌, nat_le, nat_lt, Bool, MatchBool, true, false, not, ◌&&◌, List, [], ◌∷◌, ◌++◌, Option, Some, None, codes, length, slice_index_or, if◌then◌else◌}
 use Rattle.std.specs.Io.KnownBytes.{Appends}
 use Rattle.aho_core.specs.Patterns.{Patterns}
+use Rattle.acgrep.specs.Filled.{bytes_held}
 use Rattle.acgrep.specs.Lines.{lines}
 use Rattle.acgrep.specs.Printed.{separator_by}
 use Rattle.acgrep.specs.Written.{BeginsLines, IsPassedOver, IsSelected, IsSettled, SearchesPlain, ShowsLine, TellsOfLines, after_line, is_full, one_more}
-use Rattle.acgrep.specs.declared.context.Trail.{Trail}
-use Rattle.acgrep.specs.declared.held.Held.{Held}
+use Rattle.acgrep.specs.declared.trail.Trail.{Trail}
 use Rattle.acgrep.specs.declared.options.Context.{Context}
 use Rattle.acgrep.specs.declared.options.Shown.{Shown}
 use Rattle.acgrep.specs.declared.options.Shown.TheVariants.{Lines, Matches, Objects, Count, Names, Lacking, Nothing}
@@ -97,10 +97,6 @@ abbrev pub TellsFile : Patterns → Job → List (List ℕ) → List ℕ → ℕ
 TellsFile p job ls bytes count = TellsIn p job (around_of job) ls bytes count
 
 -- How a search goes from line to line.
-
--- the bytes that are held
-abbrev pub bytes_held : Held → List ℕ
-bytes_held held = drop held.from held.room.items
 
 -- how far it is: the next line's place, how many lines were selected, how many are still due behind the last one, whether one was
 -- written and whether others stand since before the held ones, and those

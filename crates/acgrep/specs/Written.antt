@@ -6,7 +6,7 @@ use Rattle.aho_core.specs.Occurs.{OccursIn}
 use Rattle.aho_core.specs.Patterns.{Patterns}
 use Rattle.aho_core.specs.Search.{plain_search}
 use Rattle.acgrep.specs.Alone.{AreShownOf, IsAloneFrom, asks_alone}
-use Rattle.acgrep.specs.Lines.{IsNewline, lines}
+use Rattle.acgrep.specs.Lines.{EndsLine, IsNewline, lines}
 use Rattle.acgrep.specs.Objects.{objects_by}
 use Rattle.acgrep.specs.Printed.{colored_line_by, line_by, matches_by}
 use Rattle.acgrep.specs.declared.options.Fit.{Fit}
@@ -172,10 +172,6 @@ NumbersLines job = is_numbered job.shown job.style.number ≡ true
 pub record SamePlace (job : Job) (one other : Place) : Type 0 where
   pub bytes : one.bytes ≡ other.bytes
   pub lines : NumbersLines job → one.lines ≡ other.lines
-
--- a text is empty or ends in a newline
-abbrev pub EndsLine : List ℕ → Type 0
-EndsLine text = 0 < length text → IsNewline text (length text - 1)
 
 -- the lines of a text are searched up to those that are left
 pub record SearchesTo (p : Patterns) (job : Job) (before after : State) (old new : Option (List ℕ)) (text left : List ℕ) : Type 0 where

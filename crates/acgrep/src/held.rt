@@ -13,7 +13,7 @@ pub struct Held {
 }
 
 impl Held {
-    ghost use Rattle.acgrep.specs.Contexts.{bytes_held};
+    ghost use Rattle.acgrep.specs.Filled.{bytes_held};
 
     /// No line.
     pub fn new(alloc: Global) -> Held

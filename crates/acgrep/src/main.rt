@@ -25,6 +25,7 @@ mod searcher;
 mod select;
 mod stream;
 mod tell;
+mod trail;
 
 use chromesquid::FromWrite;
 use open::System;
