@@ -1,8 +1,8 @@
 -- A walk from line to line writes the lines that are near selected ones.
-use Rattle.std.proofs.Common.{◌≡◌, ◌⊎◌, inl, inr, ℕ, suc, ◌+◌, ◌-◌, ◌<◌, ◌≤◌, ◌==◌, Bool, true, false, List, [], ◌∷◌, ◌++◌, length, refl, sym, ◌∙◌, ap, subst, arith, append_assoc, append-nil, length-append}
+use Rattle.std.proofs.Common.{◌≡◌, ◌⊎◌, inl, inr, ℕ, suc, zero, ◌+◌, ◌-◌, ◌<◌, ◌≤◌, ◌==◌, Bool, true, false, List, [], ◌∷◌, ◌++◌, length, refl, sym, ◌∙◌, ap, subst, arith, append_assoc, append-nil, length-append}
 use Rattle.std.specs.Prelude.{MatchBool, nat_le, nat_lt, ◌&&◌, if◌then◌else◌}
 use Rattle.std.proofs.Math.ListN.{get_or}
-use Rattle.std.proofs.lemmas.Bool.{cases_Bool, cases_lt, eqb-true, leb-false, leb-true, ltb-false, ltb-true, true≢false}
+use Rattle.std.proofs.lemmas.Bool.{cases_Bool, cases_lt, eqb-true, leb-false, leb-true, lt-leb, ltb-false, ltb-true, true≢false}
 use Rattle.std.proofs.lemmas.List.{get_or-append-add}
 use Rattle.aho_core.specs.Patterns.{Patterns}
 use Rattle.acgrep.specs.Contexts.{AreChosen, AreWritten, IsBegin, IsNear, Holding, IsNotChosen, PassesBy, ShowsEach, ShowsGroup, Steps, TellsAround, TellsWritten, Walk, WalksOver, behind_chosen, behind_due, behind_passed, beside, dropped_of, first_in, holding, separator_if, walk_holding, with_line}
@@ -29,24 +29,26 @@ marks_more (first ∷ rest) line chosen = ap (λ (l : List Bool). false ∷ l) (
 -- what stands among the marks of some lines, and behind them
 mark_in : (mark : Bool) (ls : List (List ℕ)) (more : List Bool) (i : ℕ) → i < length ls → get_or (marks mark ls ++ more) i false ≡ mark
 mark_in mark [] more i within = absurd (omega (arith, within))
-mark_in mark (line ∷ rest) more 0 within = refl
+mark_in mark (line ∷ rest) more zero within = refl
 mark_in mark (line ∷ rest) more (suc i) within = mark_in mark rest more i (omega (arith, within))
 
 mark_behind : (mark : Bool) (ls : List (List ℕ)) (more : List Bool) (i : ℕ) → length ls ≤ i → get_or (marks mark ls ++ more) i false ≡ get_or more (i - length ls) false
-mark_behind mark [] more i behind = refl
-mark_behind mark (line ∷ rest) more 0 behind = absurd (omega (arith, behind))
-mark_behind mark (line ∷ rest) more (suc i) behind = mark_behind mark rest more i (omega (arith, behind))
+mark_behind mark [] more i behind = ap (λ (k : ℕ). get_or more k false) (omega arith)
+mark_behind mark (line ∷ rest) more zero behind = absurd (omega (arith, behind))
+mark_behind mark (line ∷ rest) more (suc i) behind =
+    let less : i - length rest ≡ suc i - length (line ∷ rest) = omega arith in
+    mark_behind mark rest more i (omega (arith, behind)) ∙ ap (λ (k : ℕ). get_or more k false) less
 
 -- no line is chosen up to a place
 unmarked : (ls : List (List ℕ)) (more : List Bool) (i : ℕ) → i ≤ length ls → get_or (marks false ls ++ (false ∷ more)) i false ≡ false
-unmarked [] more 0 within = refl
+unmarked [] more zero within = refl
 unmarked [] more (suc i) within = absurd (omega (arith, within))
-unmarked (line ∷ rest) more 0 within = refl
+unmarked (line ∷ rest) more zero within = refl
 unmarked (line ∷ rest) more (suc i) within = unmarked rest more i (omega (arith, within))
 
 unmarked_all : (ls : List (List ℕ)) (i : ℕ) → get_or (marks false ls ++ []) i false ≡ false
 unmarked_all [] i = refl
-unmarked_all (line ∷ rest) 0 = refl
+unmarked_all (line ∷ rest) zero = refl
 unmarked_all (line ∷ rest) (suc i) = unmarked_all rest i
 
 none_short : (ls : List (List ℕ)) → length ls ≤ 0 → ls ≡ []
@@ -62,11 +64,11 @@ first_same place first [] is = sym is
 first_same place first (line ∷ rest) is = refl
 
 no_room : (n : ℕ) → (n == 0) ≡ false → nat_le n 0 ≡ false
-no_room 0 some = absurd (true≢false some)
-no_room (suc n) some = refl
+no_room zero some = absurd (true≢false some)
+no_room (suc n) some = lt-leb (suc n) 0 (omega arith)
 
 some_more : (n : ℕ) → (n == 0) ≡ false → 0 < n
-some_more 0 some = absurd (true≢false some)
+some_more zero some = absurd (true≢false some)
 some_more (suc n) some = omega arith
 
 and_none : (b : Bool) → (b && false) ≡ false
@@ -84,7 +86,7 @@ near_more context mark chosen i near = record { at = suc near.at; is = near.is; 
 
 near_less : (context : Context) (chosen : List Bool) (i : ℕ) → (at : ℕ) → get_or (false ∷ chosen) at false ≡ true → at ≤ suc i + context.before → suc i ≤ at + context.after
     → IsNear context chosen i
-near_less context chosen i 0 is before behind = absurd (true≢false (sym is))
+near_less context chosen i zero is before behind = absurd (true≢false (sym is))
 near_less context chosen i (suc at) is before behind = record { at = at; is = is; before = omega (arith, before); behind = omega (arith, behind) }
 
 -- a line that is due
@@ -97,14 +99,14 @@ written_due context due chosen written some rest = record {
 }
   where
     due_near : (i : ℕ) → get_or (true ∷ written) i false ≡ true → (i < due) ⊎ IsNear context (false ∷ chosen) i
-    due_near 0 is = inl some
+    due_near zero is = inl some
     due_near (suc i) is = elim (rest.near i is) [
       | inl low ↦ inl (omega (arith, low))
       | inr near ↦ inr (near_more context false chosen i near)
     ]
 
     due_all : (i : ℕ) → i < length (false ∷ chosen) → (i < due) ⊎ IsNear context (false ∷ chosen) i → get_or (true ∷ written) i false ≡ true
-    due_all 0 within near = refl
+    due_all zero within near = refl
     due_all (suc i) within (inl low) = rest.all i (omega (arith, within)) (inl (omega (arith, low)))
     due_all (suc i) within (inr near) = rest.all i (omega (arith, within)) (inr (near_less context chosen i near.at near.is near.before near.behind))
 
@@ -118,7 +120,7 @@ written_far context chosen written far rest = record {
 }
   where
     far_near : (i : ℕ) → get_or (false ∷ written) i false ≡ true → (i < 0) ⊎ IsNear context (false ∷ chosen) i
-    far_near 0 is = absurd (true≢false (sym is))
+    far_near zero is = absurd (true≢false (sym is))
     far_near (suc i) is = elim (rest.near i is) [
       | inl low ↦ absurd (omega (arith, low))
       | inr near ↦ inr (near_more context false chosen i near)
@@ -126,7 +128,7 @@ written_far context chosen written far rest = record {
 
     far_all : (i : ℕ) → i < length (false ∷ chosen) → (i < 0) ⊎ IsNear context (false ∷ chosen) i → get_or (false ∷ written) i false ≡ true
     far_all i within (inl low) = absurd (omega (arith, low))
-    far_all 0 within (inr near) = absurd (true≢false (sym near.is ∙ far near.at (omega (arith, near.before))))
+    far_all zero within (inr near) = absurd (true≢false (sym near.is ∙ far near.at (omega (arith, near.before))))
     far_all (suc i) within (inr near) = rest.all i (omega (arith, within)) (inr (near_less context chosen i near.at near.is near.before near.behind))
 
 -- a selected line with the held ones before it
@@ -143,13 +145,13 @@ written_group context due held chosen written within most none rest = record {
     n = length held
 
     there : get_or (marks false held ++ (true ∷ chosen)) n false ≡ true
-    there = mark_behind false held (true ∷ chosen) n (omega arith) ∙ ap (λ (k : ℕ). get_or (true ∷ chosen) k false) (omega arith)
+    there = let first : n - length held ≡ 0 = omega arith in mark_behind false held (true ∷ chosen) n (omega arith) ∙ ap (λ (k : ℕ). get_or (true ∷ chosen) k false) first
 
     behind_it : (i k : ℕ) → i ≡ n + suc k → get_or (marks false held ++ (true ∷ chosen)) i false ≡ get_or chosen k false
-    behind_it i k is = mark_behind false held (true ∷ chosen) i (omega (arith, is)) ∙ ap (λ (j : ℕ). get_or (true ∷ chosen) j false) (omega (arith, is))
+    behind_it i k is = let more : i - length held ≡ suc k = omega (arith, is) in mark_behind false held (true ∷ chosen) i (omega (arith, is)) ∙ ap (λ (j : ℕ). get_or (true ∷ chosen) j false) more
 
     written_behind : (i k : ℕ) → i ≡ n + suc k → get_or (marks true held ++ (true ∷ written)) i false ≡ get_or written k false
-    written_behind i k is = mark_behind true held (true ∷ written) i (omega (arith, is)) ∙ ap (λ (j : ℕ). get_or (true ∷ written) j false) (omega (arith, is))
+    written_behind i k is = let more : i - length held ≡ suc k = omega (arith, is) in mark_behind true held (true ∷ written) i (omega (arith, is)) ∙ ap (λ (j : ℕ). get_or (true ∷ written) j false) more
 
     group_near : (i : ℕ) → get_or (marks true held ++ (true ∷ written)) i false ≡ true → IsNear context (marks false held ++ (true ∷ chosen)) i
     group_near i is = elim (cases_lt n i) [
@@ -188,7 +190,9 @@ written_group context due held chosen written within most none rest = record {
           written_behind i k at ∙ rest.all k long here
       | inr less ↦ elim (cases_lt i n) [
         | inl in_held ↦ mark_in true held (true ∷ written) i in_held
-        | inr not ↦ mark_behind true held (true ∷ written) i (omega (arith, not)) ∙ ap (λ (j : ℕ). get_or (true ∷ written) j false) (omega (arith, less, not))
+        | inr not ↦
+            let first : i - length held ≡ 0 = omega (arith, less, not) in
+            mark_behind true held (true ∷ written) i (omega (arith, not)) ∙ ap (λ (j : ℕ). get_or (true ∷ written) j false) first
       ]
     ]
 
@@ -229,24 +233,24 @@ module _ (p : Patterns) (job : Job) (context : Context) where
         ap (λ (l : List ℕ). separator_if (context.parted && (some && apart)) job.style ++ l) (ap (λ (l : List ℕ). l ++ (shown ++ more)) is ∙ append_assoc one next (shown ++ more)),
       )
 
-abbrev walk : Place → (selected due : ℕ) → (some apart : Bool) → Place → List (List ℕ) → Walk
+abbrev pub walk : Place → (selected due : ℕ) → (some apart : Bool) → Place → List (List ℕ) → Walk
 walk place selected due some apart first held = record { place = place; selected = selected; due = due; some = some; apart = apart; first = first; held = held }
 
 -- what a walk keeps: held lines stand before its place, and none is held while some are due
-record IsKept (context : Context) (w : Walk) : Type 0 where
-  within : length w.held ≤ context.before
-  most : w.due ≤ context.after
-  none : 0 < w.due → w.held ≡ []
-  joined : 0 < w.due → (w.some ≡ true) × (w.apart ≡ false)
-  placed : after_lines (first_in w.place w.first w.held) w.held ≡ w.place
+pub record IsKept (context : Context) (w : Walk) : Type 0 where
+  pub within : length w.held ≤ context.before
+  pub most : w.due ≤ context.after
+  pub none : 0 < w.due → w.held ≡ []
+  pub joined : 0 < w.due → (w.some ≡ true) × (w.apart ≡ false)
+  pub placed : after_lines (first_in w.place w.first w.held) w.held ≡ w.place
 
 -- what is told of the held lines and of those behind them
-record Grouped (p : Patterns) (job : Job) (context : Context) (w : Walk) (ls : List (List ℕ)) (bytes : List ℕ) (total : ℕ) : Type 0 where
-  chosen : List Bool
-  written : List Bool
-  are_chosen : AreChosen p job w.selected ls chosen total
-  are_written : AreWrittenFrom context w.due (marks false w.held ++ chosen) written
-  tells : TellsWritten p job context (first_in w.place w.first w.held) w.some w.apart (w.held ++ ls) (marks false w.held ++ chosen) written bytes
+pub record Grouped (p : Patterns) (job : Job) (context : Context) (w : Walk) (ls : List (List ℕ)) (bytes : List ℕ) (total : ℕ) : Type 0 where
+  pub chosen : List Bool
+  pub written : List Bool
+  pub are_chosen : AreChosen p job w.selected ls chosen total
+  pub are_written : AreWrittenFrom context w.due (marks false w.held ++ chosen) written
+  pub tells : TellsWritten p job context (first_in w.place w.first w.held) w.some w.apart (w.held ++ ls) (marks false w.held ++ chosen) written bytes
 
 -- at the begin of a file
 kept_begin : (context : Context) (place : Place) (selected : ℕ) (some apart : Bool) (first : Place) → IsKept context (walk place selected 0 some apart first [])
@@ -328,12 +332,12 @@ module _ (p : Patterns) (job : Job) (context : Context) where
       → due ≡ 0 → context.before ≡ 0 → IsNotChosen p job selected line
       → Grouped p job context (walk (after_line place line) selected due some true first []) rest more total
       → Grouped p job context (walk place selected due some apart first []) (line ∷ rest) more total
-  group_over place selected due some apart first line rest more total past zero passed IH = record {
+  group_over place selected due some apart first line rest more total past none passed IH = record {
     chosen = false ∷ IH.chosen;
     written = false ∷ IH.written;
     are_chosen = (passed, IH.are_chosen);
     are_written = subst (λ (n : ℕ). AreWrittenFrom context n (false ∷ IH.chosen) (false ∷ IH.written)) (sym past)
-        (written_far context IH.chosen IH.written (λ at low. ap (λ (n : ℕ). get_or (false ∷ IH.chosen) n false) (omega (arith, low, zero)))
+        (written_far context IH.chosen IH.written (λ at low. let here : at ≡ 0 = omega (arith, low, none) in ap (λ (n : ℕ). get_or (false ∷ IH.chosen) n false) here)
         (subst (λ (n : ℕ). AreWrittenFrom context n IH.chosen IH.written) past IH.are_written));
     tells = IH.tells;
   }
@@ -362,6 +366,7 @@ module _ (p : Patterns) (job : Job) (context : Context) where
       → due ≡ 0 → context.before ≤ suc (length held) → after_lines (after_line first other) held ≡ place → IsNotChosen p job selected line
       → Grouped p job context (walk (after_line place line) selected due some true (first_in place (after_line first other) held) (held ++ (line ∷ []))) rest more total
       → Grouped p job context (walk place selected due some apart first (other ∷ held)) (line ∷ rest) more total
+  unfolding group_held
   group_dropped place selected due some apart first other held line rest more total past long placed passed IH =
       let second = after_line first other in
       let IH' = group_held place selected due some true second held line rest more total passed IH in
@@ -420,7 +425,7 @@ module _ (p : Patterns) (job : Job) (context : Context) where
   -- where none is held and none may be
   over_is : (place : Place) (selected due : ℕ) (some apart : Bool) (first : Place) (line : List ℕ) → (context.before == 0) ≡ true
       → behind_passed context (walk place selected due some apart first []) line ≡ walk (after_line place line) selected due some true first []
-  over_is place selected due some apart first line zero = rw zero refl
+  over_is place selected due some apart first line none = rw none refl
 
   held_is : (place : Place) (selected due : ℕ) (some apart : Bool) (first : Place) (held : List (List ℕ)) (line : List ℕ) → (context.before == 0) ≡ false → nat_le context.before (length held) ≡ false
       → behind_passed context (walk place selected due some apart first held) line
@@ -456,23 +461,23 @@ module _ (p : Patterns) (job : Job) (context : Context) where
       let w = walk place selected due some apart first [] in
       let next = after_line place line in
       elim (cases_Bool (nat_lt 0 due)) [
-        | inl yes ↦
-            let some_due : 0 < due = ltb-true 0 due yes in
-            let (shows, behind) = subst (PassesBy p job context w line shown between) yes passes.passes in
+        | inl is_due ↦
+            let some_due : 0 < due = ltb-true 0 due is_due in
+            let (shows, behind) = subst (PassesBy p job context w line shown between) is_due passes.passes in
             let IH = grouped rest next selected (due - 1) some apart first [] w' more (kept_due place selected due some apart first [] line some_due kept)
             (subst (λ (v : Walk). WalksOver p job context v rest more w') behind walks) in
             subst (λ (l : List ℕ). Grouped p job context w (line ∷ rest) l w'.selected) (sym is)
             (group_due place selected due some apart first [] line rest shown more w'.selected kept some_due passes.passed shows IH)
-        | inr no ↦
-            let past : due ≡ 0 = omega (arith, ltb-false 0 due no) in
-            let (none, behind) = subst (PassesBy p job context w line shown between) no passes.passes in
+        | inr not_due ↦
+            let past : due ≡ 0 = omega (arith, ltb-false 0 due not_due) in
+            let (none, behind) = subst (PassesBy p job context w line shown between) not_due passes.passes in
             let same : more ≡ bytes = sym (is ∙ ap (λ (l : List ℕ). l ++ more) none) in
             elim (cases_Bool (context.before == 0)) [
-              | inl zero ↦
+              | inl empty ↦
                   let IH = grouped rest next selected due some true first [] w' more (kept_over next selected due some true first past)
-                  (subst (λ (v : Walk). WalksOver p job context v rest more w') (behind ∙ over_is place selected due some apart first line zero) walks) in
+                  (subst (λ (v : Walk). WalksOver p job context v rest more w') (behind ∙ over_is place selected due some apart first line empty) walks) in
                   subst (λ (l : List ℕ). Grouped p job context w (line ∷ rest) l w'.selected) same
-                  (group_over place selected due some apart first line rest more w'.selected past (eqb-true context.before 0 zero) passes.passed IH)
+                  (group_over place selected due some apart first line rest more w'.selected past (eqb-true context.before 0 empty) passes.passed IH)
               | inr some_asked ↦
                   let short : nat_le context.before 0 ≡ false = no_room context.before some_asked in
                   let IH = grouped rest next selected due some apart place (line ∷ []) w' more
@@ -489,11 +494,11 @@ module _ (p : Patterns) (job : Job) (context : Context) where
         | inl some_due ↦ absurd (omega (arith, ap length (kept.none some_due)))
         | inr none ↦ omega (arith, none)
       ] in
-      let no : nat_lt 0 due ≡ false = ap (nat_lt 0) past in
-      let (none, behind) = subst (PassesBy p job context w line shown between) no passes.passes in
+      let not_due : nat_lt 0 due ≡ false = ap (nat_lt 0) past in
+      let (none, behind) = subst (PassesBy p job context w line shown between) not_due passes.passes in
       let same : more ≡ bytes = sym (is ∙ ap (λ (l : List ℕ). l ++ more) none) in
       elim (cases_Bool (context.before == 0)) [
-        | inl zero ↦ absurd (omega (arith, kept.within, eqb-true context.before 0 zero))
+        | inl empty ↦ absurd (omega (arith, kept.within, eqb-true context.before 0 empty))
         | inr some_asked ↦ elim (cases_Bool (nat_le context.before (length (other ∷ held)))) [
           | inl full ↦
               let long : context.before ≤ suc (length held) = leb-true context.before (length (other ∷ held)) full in

@@ -158,7 +158,7 @@ full_some (Some most) count full = ltb-true 0 count (and_parts (nat_lt 0 count) 
 
 pub settled_some : (job : Job) (state : State) → IsSettled job state → 0 < state.selected
 settled_some job state (inl (one, some)) = some
-settled_some job state (inr full) = full_some job.most state.selected full
+settled_some job state (inr (full, past)) = full_some job.most state.selected full
 
 -- lines and those behind them
 pub tells_append : (p : Patterns) (job : Job) (ls ms : List (List ℕ)) (place : Place) (count mid total : ℕ) (bytes more : List ℕ)

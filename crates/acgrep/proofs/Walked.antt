@@ -171,7 +171,7 @@ module _ (p : Patterns) (job : Job) (context : Context) where
 
   -- the same lines are selected where none around them is written
   pub walks_tells : (ls : List (List ℕ)) (w w' : Walk) (bytes : List ℕ) → WalksOver p job context w ls bytes w' → (told : List ℕ) × TellsOfLines p job w.place w.selected ls told w'.selected
-  walks_tells [] w w' bytes (none, same) = ([], refl, ap (λ (v : Walk). v.selected) same)
+  walks_tells [] w w' bytes (none, same) = ([], (refl, ap (λ (v : Walk). v.selected) same))
   walks_tells (line ∷ rest) w w' bytes (shown, more, between, inl takes, walks, is) =
       let (before, one, each, shows, cut) = takes.shows in
       let (told, tells) = walks_tells rest (behind_chosen context w line) w' more (subst (λ (v : Walk). WalksOver p job context v rest more w') takes.behind walks) in

@@ -92,8 +92,8 @@ pub record SearchesReader (p : Patterns) (job : Job) (left left' held held' : Op
   pub file : SearchesFile p job left held held' any
   pub reads : IsRead p job left left' any
 
--- the same is written of the file of this name, where `follows` says whether a line of a file before was selected
-pub record IsNamed (job : Job) (bytes : List ℕ) (follows : Bool) (named : Job) : Type 0 where
+-- the same is written of the file of this name, where `later` says whether a line of a file before was selected
+pub record IsNamed (job : Job) (bytes : List ℕ) (later : Bool) (named : Job) : Type 0 where
   pub shown : named.shown ≡ job.shown
   pub invert : named.invert ≡ job.invert
   pub fit : named.fit ≡ job.fit
@@ -108,7 +108,7 @@ pub record IsNamed (job : Job) (bytes : List ℕ) (follows : Bool) (named : Job)
   pub hushed : named.hushed ≡ job.hushed
   pub hyphen : named.style.hyphen ≡ job.style.hyphen
   pub context : named.context ≡ job.context
-  pub follows : named.follows ≡ follows
+  pub follows : named.follows ≡ later
 
 -- how a file is called in what is written
 abbrev pub shown_name : List ℕ → List ℕ

@@ -43,3 +43,10 @@ pub fn behind(text: &[u8], end: usize) -> &[u8]
         &text[text.len()..]
     }
 }
+
+/// A probe.
+pub fn probe(text: &[u8]) -> usize
+    ensures same { result ≡ length text.now }
+{
+    text.len()
+}
