@@ -2,11 +2,13 @@ pub mod AloneTried
 pub mod Around
 pub mod Beginnings
 pub mod Coloring
+pub mod Digits
 pub mod FileTellings
 pub mod FilesBegun
 pub mod Fillings
 pub mod FirstLines
 pub mod Grouped
+pub mod HeldLines
 pub mod Kept
 pub mod LineLists
 pub mod LongNames
@@ -16,6 +18,7 @@ pub mod Numbers
 pub mod Objected
 pub mod PlacesBehind
 pub mod Statuses
+pub mod Stepped
 pub mod Streams
 pub mod StreamsBegun
 pub mod Tellings

@@ -1,6 +1,6 @@
 -- What the arguments, those after the program's name, say.
 use Rattle.programs.specs.Arguments.{kind_by}
-use Rattle.std.specs.Prelude.{◌≡◌, ℕ, ◌==◌, ◌^◌, ◌||◌, ◌&&◌, nat_lt, Bool, true, false, List, [], ◌∷◌, ◌++◌, Option, Some, None, codes, drop, is_some, not, unwrap_or, length, map, take, Result, IfErr, IfOk, OnOk, option_and_then, option_map, if◌then◌else◌}
+use Rattle.std.specs.Prelude.{◌≡◌, ℕ, ◌==◌, ◌^◌, ◌||◌, ◌&&◌, ◌<◌, nat_lt, slice_index, Bool, true, false, List, [], ◌∷◌, ◌++◌, Option, Some, None, codes, drop, is_some, not, unwrap_or, length, map, take, Result, IfErr, IfOk, OnOk, option_and_then, option_map, if◌then◌else◌}
 use Rattle.std.specs.Char.{is_ascii_digit}
 use Rattle.std.specs.Str.{all_ascii_digits, bytes_eq}
 use Rattle.std.specs.List.{after_first, before_first, position_or_len}
@@ -137,21 +137,35 @@ abbrev pub taken_by : Bool → List ℕ → Said → ReadSoFar
 taken_by is_file [] s = record { awaits = Argument (source_option is_file); said = s }
 taken_by is_file (first ∷ rest) s = said_so (with_source is_file (first ∷ rest) s)
 
--- how many lines are asked for around selected ones
-abbrev pub with_around : ℕ → Said → Said
-with_around number s = record s { flags = record s.flags { context = Some number } }
+-- what an option with a number changes
+abbrev pub numbered_in : Valued → ℕ → Flags → Flags
+numbered_in Regexp number flags = flags
+numbered_in PatternFile number flags = flags
+numbered_in Kind number flags = flags
+numbered_in Offset number flags = record flags { first = number }
+numbered_in FirstLine number flags = record flags { first_line = number }
+numbered_in MaxCount number flags = record flags { most = Some number }
+numbered_in After number flags = record flags { after = Some number }
+numbered_in Before number flags = record flags { before = Some number }
+numbered_in Around number flags = record flags { context = Some number }
+
+abbrev pub with_number : Valued → ℕ → Said → Said
+with_number valued number s = record s { flags = numbered_in valued number s.flags }
+
+abbrev pub number_value : Valued → List ℕ → Said → Option ReadSoFar
+number_value valued argument s = option_map (λ number. said_so (with_number valued number s)) (number_by argument)
 
 -- the argument of an option
 abbrev pub value_by : Valued → List ℕ → Said → Option ReadSoFar
 value_by Regexp argument s = Some (said_so (with_source false argument s))
 value_by PatternFile argument s = Some (said_so (with_source true argument s))
 value_by Kind argument s = option_map (λ kind. said_so (record s { flags = record s.flags { kind = kind } })) (kind_by argument)
-value_by Offset argument s = option_map (λ first. said_so (record s { flags = record s.flags { first = first } })) (number_by argument)
-value_by FirstLine argument s = option_map (λ number. said_so (record s { flags = record s.flags { first_line = number } })) (number_by argument)
-value_by MaxCount argument s = option_map (λ number. said_so (record s { flags = record s.flags { most = Some number } })) (number_by argument)
-value_by After argument s = option_map (λ number. said_so (record s { flags = record s.flags { after = Some number } })) (number_by argument)
-value_by Before argument s = option_map (λ number. said_so (record s { flags = record s.flags { before = Some number } })) (number_by argument)
-value_by Around argument s = option_map (λ number. said_so (with_around number s)) (number_by argument)
+value_by Offset argument s = number_value Offset argument s
+value_by FirstLine argument s = number_value FirstLine argument s
+value_by MaxCount argument s = number_value MaxCount argument s
+value_by After argument s = number_value After argument s
+value_by Before argument s = number_value Before argument s
+value_by Around argument s = number_value Around argument s
 
 -- the option of a letter whose argument is a number
 abbrev pub numbered : ℕ → Option Valued
@@ -165,12 +179,17 @@ numbered letter =
 -- that number stands behind its letter too
 abbrev pub numbered_by : Valued → List ℕ → Said → Option ReadSoFar
 numbered_by valued [] s = Some (record { awaits = Argument valued; said = s })
-numbered_by valued (first ∷ rest) s = value_by valued (first ∷ rest) s
+numbered_by valued (first ∷ rest) s = number_value valued (first ∷ rest) s
+
+-- so many digits stand at the front of letters, and then none
+pub record AreDigits (letters : List ℕ) (count : ℕ) : Type 0 where
+  pub all : (k : ℕ) → k < count → is_ascii_digit (slice_index letters k) ≡ true
+  pub ends : count < length letters → is_ascii_digit (slice_index letters count) ≡ false
 
 -- digits among joined letters are the number of `-C`
 abbrev pub with_digits : List ℕ → Said → Option Said
 with_digits [] s = Some s
-with_digits (digit ∷ digits) s = option_map (λ number. with_around number s) (number_by (digit ∷ digits))
+with_digits (digit ∷ digits) s = option_map (λ number. with_number Around number s) (number_by (digit ∷ digits))
 
 -- a letter that gives no patterns, and those behind it
 abbrev pub numbered_or : Option Valued → ℕ → List ℕ → (Said → Option ReadSoFar) → Said → Option ReadSoFar

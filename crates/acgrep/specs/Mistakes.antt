@@ -67,11 +67,11 @@ if_none (Some value) one other = other
 -- of what stands behind the letter of an option whose argument is a number, where it is not empty
 abbrev pub wrong_numbered : Valued → List ℕ → List (List ℕ)
 wrong_numbered valued [] = []
-wrong_numbered valued (first ∷ rest) = wrong_value valued (first ∷ rest)
+wrong_numbered valued (first ∷ rest) = number_parts (valued_name valued) (first ∷ rest)
 
 -- of digits that write no number
 abbrev pub wrong_digits : List ℕ → List (List ℕ)
-wrong_digits digits = wrong_value Around digits
+wrong_digits digits = number_parts (valued_name Around) digits
 
 -- whether digits write a number, or there are none
 abbrev pub digits_value_of : List ℕ → Option ℕ

@@ -3,6 +3,7 @@
 ghost use Rattle.std.specs.Prelude.{◌≡◌};
 ghost use Rattle.acgrep.specs.Arguments.{switch_by};
 
+use crate::long::Valued;
 use chromesquid::MatchKind;
 
 /// When matches are coloured.
@@ -192,7 +193,7 @@ pub struct Flags {
 }
 
 impl Flags {
-    ghost use Rattle.acgrep.specs.Arguments.{context_by, fit_by, no_flags, shown_by, switched};
+    ghost use Rattle.acgrep.specs.Arguments.{context_by, fit_by, no_flags, numbered_in, shown_by, switched};
 
     /// Where no option is given.
     pub fn new() -> Flags
@@ -277,6 +278,23 @@ impl Flags {
         } else {
             Fit::AnyPart
         }
+    }
+
+    /// These with an option whose argument is a number.
+    pub fn numbered(self, valued: Valued, number: u64) -> Flags
+        ensures numbered { result ≡ numbered_in valued number self }
+    {
+        let mut flags = self;
+        match valued {
+            Valued::Offset => flags.first = number,
+            Valued::FirstLine => flags.first_line = number,
+            Valued::MaxCount => flags.most = Some(number),
+            Valued::After => flags.after = Some(number),
+            Valued::Before => flags.before = Some(number),
+            Valued::Around => flags.context = Some(number),
+            Valued::Regexp | Valued::PatternFile | Valued::Kind => {}
+        }
+        flags
     }
 
     /// These with an option that takes no argument.

@@ -1,6 +1,6 @@
 //! What is known of the lines before the next one, for the lines around selected ones.
 
-ghost use Rattle.std.specs.Prelude.{◌≡◌, ◌≤◌, ◌<◌, ◌-◌, ◌==◌, ◌^◌, [], OnOk, false, length, true};
+ghost use Rattle.std.specs.Prelude.{◌≡◌, ◌≤◌, ◌<◌, ◌-◌, ◌==◌, ◌^◌, if◌then◌else◌, [], OnOk, false, length, true};
 ghost use Rattle.memchr.specs.Find.{Nowhere};
 ghost use Rattle.acgrep.specs.Filled.{bytes_held};
 ghost use Rattle.acgrep.specs.Lines.{EndsLine, IsNewline, lines};
@@ -105,10 +105,13 @@ impl Trail {
         ensures due { self.new.due ≡ self.old.due }
         ensures some { self.new.some ≡ self.old.some }
     {
-        if self.count == 0 {
-            self.first = place;
+        let first = first_of(self.count, self.first, place);
+        if let Err(error) = self.held.push(line) {
+            self.count = 0;
+            self.held.clear();
+            return Err(error);
         }
-        self.held.push(line)?;
+        self.first = first;
         self.count += 1;
         Ok(())
     }
@@ -129,4 +132,11 @@ impl Trail {
         self.count -= 1;
         self.apart = true;
     }
+}
+
+/// Where so many held lines and one more begin: the first of them there, and the one more here.
+fn first_of(count: u64, first: Place, place: Place) -> Place
+    ensures first { result ≡ (if count == 0 then place else first) }
+{
+    if count == 0 { place } else { first }
 }

@@ -6,7 +6,10 @@ use Rattle.acgrep.proofs.Streams.{stream_stop}
 use Rattle.acgrep.proofs.StreamsBegun.{stream_begins}
 use Rattle.acgrep.proofs.FileTellings.{reader_searched}
 use Rattle.acgrep.proofs.FilesBegun.{file_begins}
+use Rattle.acgrep.proofs.Digits.{letter_first}
 use Rattle.acgrep.proofs.NamesSearched.{so_far_step}
+use Rattle.acgrep.proofs.HeldLines.{pushed_is}
+use Rattle.acgrep.proofs.Stepped.{takes_lines}
 use Rattle.acgrep.proofs.lines.probe.Goals as goal
 
 pub returns : goal.returns
