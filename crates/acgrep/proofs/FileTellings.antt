@@ -79,7 +79,7 @@ module _ (p : Patterns) (job : Job) where
   tells_some (line ∷ rest) place count bytes total (inr (goes, inr (passed, behind))) zero some = inr (tells_some rest _ count bytes total behind zero some)
 
   -- and where it is, none
-  tells_each : (ls : List (List ℕ)) (place : Place) (count : ℕ) (bytes : List ℕ) (total : ℕ) → TellsOfLines p job place count ls bytes total → total ≡ 0
+  pub tells_each : (ls : List (List ℕ)) (place : Place) (count : ℕ) (bytes : List ℕ) (total : ℕ) → TellsOfLines p job place count ls bytes total → total ≡ 0
       → EachLine (IsPassedOver p job.fit job.invert) ls
   tells_each [] place count bytes total told zero = tt
   tells_each (line ∷ rest) place count bytes total (inl (full, none, same)) zero = absurd (omega (arith, full_some job.most count full, same, zero))

@@ -14,6 +14,7 @@ pub mod LineLists
 pub mod LongNames
 pub mod Mistaken
 pub mod NamesSearched
+pub mod NoneAround
 pub mod NoneInLines
 pub mod Numbers
 pub mod Objected

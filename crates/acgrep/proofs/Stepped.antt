@@ -152,7 +152,19 @@ module _ (p : Patterns) (job : Job) where
         (Appends-trans y z last shown bytes written others);
   }
 
-  pub shows_end : (first place : Place) (x y : Option (List ℕ)) (text rest : List ℕ) → rest ≡ [] → ShowsTo first place x y text rest
+  pub shows_end : (first place : Place) (x y : Option (List ℕ)) (text rest : List ℕ) → length rest ≡ 0 → ShowsTo first place x y text rest
       → (all : List ℕ) × ShowsEach p job first (lines text) all × Appends x y all
-  shows_end first place x y text rest none to =
-      to.follow [] y (subst (λ (l : List ℕ). ShowsEach p job place (lines l) []) (sym none) refl) (Appends-nil y)
+  shows_end first place x y text [] none to = to.follow [] y refl (Appends-nil y)
+  shows_end first place x y text (byte ∷ rest) none to = absurd (omega (arith, none))
+
+-- a selected line behind those that are held before it
+pub group_put : (p : Patterns) (job : Job) (context : Context) (w : Walk) (line : List ℕ) (asked : Bool) (x y z u : Option (List ℕ)) → asked ≡ (context.parted && (w.some && w.apart))
+    → Appends x y (separator_if asked job.style) → (before : List ℕ) × ShowsEach p (beside job) w.first w.held before × Appends y z before → WritesLine p job w.place z u line
+    → (bytes : List ℕ) × ShowsGroup p job context w line bytes × Appends x u bytes
+group_put p job context w line asked x y z u is parted (before, each, held) (shown, shows, written) =
+    let sep = separator_if (context.parted && (w.some && w.apart)) job.style in
+    (
+      sep ++ (before ++ shown),
+      (before, shown, each, shows, refl),
+      Appends-trans x y u sep (before ++ shown) (subst (λ (b : Bool). Appends x y (separator_if b job.style)) is parted) (Appends-trans y z u before shown held written),
+    )

@@ -1,6 +1,6 @@
 //! Searching where the lines around selected ones are written too.
 
-ghost use Rattle.std.specs.Prelude.{◌≡◌, ◌<◌, IfOk, length};
+ghost use Rattle.std.specs.Prelude.{◌≡◌, ◌&&◌, ◌<◌, IfOk, length};
 ghost use Rattle.memchr.specs.Find.{Nowhere};
 ghost use Rattle.aho_core.specs.Patterns.{Patterns};
 ghost use Rattle.acgrep.specs.Contexts.{IsChosenBy, beside, separator_if};
@@ -14,6 +14,7 @@ use crate::lines::{behind, line_end};
 use crate::options::Context;
 use crate::print::{Place, put_separator};
 use crate::select::{Job, State, behind_line, is_match, put_shown, show};
+use crate::trail::Trail;
 use chromesquid::{Automaton, Input, Sink, write_whole};
 use std::io;
 use std::io::Write;
@@ -137,9 +138,16 @@ fn put_group<A: Automaton, W: Write>(
         context.now state.now line.now output.old output.new result }
 {
     let trail = &state.trail;
-    put_between(job, context.parted && trail.some && trail.apart, output)?;
+    put_between(job, is_parted(context, trail), output)?;
     put_each_line(automaton, &job.beside(), trail.held.bytes(), trail.first, output)?;
     put_shown(automaton, job, line, state.place, output)
+}
+
+/// Whether a line stands between the next one and those that were written before.
+fn is_parted(context: &Context, trail: &Trail) -> bool
+    ensures parted { result ≡ (context.now.parted && (trail.now.some && trail.now.apart)) }
+{
+    context.parted && trail.some && trail.apart
 }
 
 /// Writes the line between lines that do not follow one another, where it is asked for.

@@ -7,7 +7,7 @@ use Rattle.acgrep.proofs.StreamsBegun.{stream_begins}
 use Rattle.acgrep.proofs.FileTellings.{reader_searched}
 use Rattle.acgrep.proofs.FilesBegun.{file_begins}
 use Rattle.acgrep.proofs.Digits.{letter_first}
-use Rattle.acgrep.proofs.NoneInLines.{none_by_lines}
+use Rattle.acgrep.proofs.NoneAround.{walks_nothing}
 use Rattle.acgrep.proofs.NamesSearched.{so_far_step}
 use Rattle.acgrep.proofs.HeldLines.{pushed_is}
 use Rattle.acgrep.proofs.Stepped.{takes_lines}
