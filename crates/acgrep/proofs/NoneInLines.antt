@@ -50,7 +50,7 @@ slice_front text end =
     let count : end - 0 ≡ end = omega arith in
     ap (λ (n : ℕ). take n (drop 0 text)) count ∙ ap (take end) (drop_zero text)
 
-slice_back : (text : List ℕ) (at : ℕ) → slice_range text at (length text) ≡ drop at text
+pub slice_back : (text : List ℕ) (at : ℕ) → slice_range text at (length text) ≡ drop at text
 slice_back text at =
     let short : length (drop at text) ≤ length text - at = omega (arith, length-drop at text) in
     take_all (length text - at) (drop at text) short

@@ -27,8 +27,10 @@ loop-rest-preserved g c =
           (c.loop-rest.invariant.shown p is) (c.in_ok-put_shown.ensures.shown p is));
     }
 
-pub returns-clause-shown : goal.returns-clause-shown
-returns-clause-shown g c = λ p is.
-    let none : length c.loop-rest.rest.now ≡ 0 = grind (arith, common_steps, c.is_empty.ensures, c.loop-rest-test.false) in
-    shows_end p c.args.job.now c.args.first c.loop-rest.place (g.W.Write.contents c.args.output.now) (g.W.Write.contents c.loop-rest.output) c.args.text.now c.loop-rest.rest.now none
-    (c.loop-rest.invariant.shown p is)
+pub returns : goal.returns
+returns g c = record {
+  shown = λ p is.
+      let none : length c.loop-rest.rest.now ≡ 0 = grind (arith, common_steps, c.is_empty.ensures, c.loop-rest-test.false) in
+      shows_end p c.args.job.now c.args.first c.loop-rest.place (g.W.Write.contents c.args.output.now) (g.W.Write.contents c.loop-rest.output) c.args.text.now c.loop-rest.rest.now none
+      (c.loop-rest.invariant.shown p is);
+}
