@@ -1,11 +1,11 @@
 -- What stands alone in a line: the longest of what begins together is tried first, and then the shorter ones.
-use Rattle.std.proofs.Common.{◌≡◌, inl, inr, ◌⊎◌, ℕ, suc, ◌+◌, ◌-◌, ◌≤◌, ◌<◌, Bool, true, false, List, [], ◌∷◌, ◌++◌, Option, Some, None, length, refl, sym, ◌∙◌, subst, arith, ap, append_assoc, append-nil}
+use Rattle.std.proofs.Common.{◌≡◌, inl, inr, ◌⊎◌, ℕ, ◌+◌, ◌-◌, ◌≤◌, ◌<◌, true, false, List, [], ◌∷◌, ◌++◌, Option, Some, None, length, refl, sym, ◌∙◌, subst, arith, ap, append_assoc, append-nil}
 use Rattle.std.specs.Prelude.{IfSome}
 use Rattle.std.proofs.lemmas.Bool.{cases_lt, true≢false}
 use Rattle.aho_core.specs.Answer.{IsAnswer}
-use Rattle.aho_core.specs.Best.{IsBest, IsBestOrNone}
+use Rattle.aho_core.specs.Best.{IsBestOrNone}
 use Rattle.aho_core.specs.Occurrence.{Occurrence}
-use Rattle.aho_core.specs.Occurs.{Occurs, OccursIn}
+use Rattle.aho_core.specs.Occurs.{OccursIn}
 use Rattle.aho_core.specs.Order.{IsBefore}
 use Rattle.aho_core.specs.Patterns.{Patterns}
 use Rattle.aho_core.specs.Search.{plain_search}

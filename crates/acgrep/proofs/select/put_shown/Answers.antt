@@ -1,5 +1,5 @@
 -- A coloured line is asked for.
-use Rattle.std.proofs.Common.{◌≡◌, Bool, sym, subst, ◌∙◌}
+use Rattle.std.proofs.Common.{Bool, sym, subst, ◌∙◌}
 use Rattle.std.specs.Prelude.{OnOk}
 use Rattle.std.proofs.lemmas.Result.{on_ok_weaker}
 use Rattle.acgrep.proofs.Tellings.{colored_shows}
