@@ -5,7 +5,7 @@ use Rattle.std.specs.Io.KnownBytes.{Appends, Keeps}
 use Rattle.std.proofs.KnownBytes.{Appends-trans, Keeps-trans}
 use Rattle.aho_core.specs.Patterns.{Patterns}
 use Rattle.acgrep.specs.Alone.{asks_alone}
-use Rattle.acgrep.specs.Contexts.{BeginsIn, IsBegin, WalksBegun, around_by, around_of, walk_of}
+use Rattle.acgrep.specs.Contexts.{BeginsAsked, IsBegin, WalksBegun, around_by, around_of, walk_of}
 use Rattle.acgrep.specs.Files.{AreFilesBegun, BeginsAround, BeginsFile, BeginsFileIn, BeginsPlain, BeginsTotal, IfBroken, total_if}
 use Rattle.acgrep.specs.Lines.{lines}
 use Rattle.acgrep.specs.Streamed.{BeginsStream, course}
@@ -174,7 +174,7 @@ module _ (p : Patterns) (job : Job) where
   no_total Nothing asked context style count is = absurd (cc)
 
   begins_in : (around : Option Context) → around_of job ≡ around → (before state : State) (known held meanwhile held' : Option (List ℕ)) (text : List ℕ) (ls others : List (List ℕ)) → IsBegin job before
-      → IfSome known (λ (all : List ℕ). text ≡ all) → lines text ≡ ls ++ others → BeginsIn p job around before state.selected held meanwhile ls → BeginsTotal job state.selected meanwhile held'
+      → IfSome known (λ (all : List ℕ). text ≡ all) → lines text ≡ ls ++ others → BeginsAsked p job around before state.selected held meanwhile ls → BeginsTotal job state.selected meanwhile held'
       → BeginsFileIn p job around known held held'
   begins_in None is before state known held meanwhile held' text ls others begin of cut begins total =
       plain_begins before state known held meanwhile held' text ls others begin of cut begins total

@@ -5,7 +5,7 @@ use Rattle.std.proofs.Math.ListN.{get_or}
 use Rattle.std.proofs.lemmas.Bool.{cases_Bool, cases_lt, eqb-true, leb-false, leb-true, lt-leb, ltb-false, ltb-true, true≢false}
 use Rattle.std.proofs.lemmas.List.{get_or-append-add}
 use Rattle.aho_core.specs.Patterns.{Patterns}
-use Rattle.acgrep.specs.Contexts.{AreChosen, AreWritten, IsBegin, IsNear, Holding, IsNotChosen, PassesBy, ShowsEach, ShowsGroup, Steps, TellsAround, TellsWritten, Walk, WalksOver, behind_chosen, behind_due, behind_passed, beside, dropped_of, first_in, holding, separator_if, walk_holding, with_line}
+use Rattle.acgrep.specs.Contexts.{AreChosen, AreWritten, IsBegin, IsNearChosen, Holding, IsNotChosen, PassesBy, ShowsEach, ShowsGroup, Steps, TellsAround, TellsWritten, Walk, WalksOver, behind_chosen, behind_due, behind_passed, beside, dropped_of, first_in, holding, separator_if, walk_holding, with_line}
 use Rattle.acgrep.specs.Written.{IsSelected, ShowsLine, after_line, after_lines, is_full, one_more}
 use Rattle.acgrep.specs.declared.options.Context.{Context}
 use Rattle.acgrep.specs.declared.print.Place.{Place}
@@ -78,14 +78,14 @@ and_none false = refl
 -- where so many lines are due, a line is near too where it is among the first of them
 pub record AreWrittenFrom (context : Context) (due : ℕ) (chosen written : List Bool) : Type 0 where
   pub as_many : length written ≡ length chosen
-  pub near : (i : ℕ) → get_or written i false ≡ true → (i < due) ⊎ IsNear context chosen i
-  pub all : (i : ℕ) → i < length chosen → (i < due) ⊎ IsNear context chosen i → get_or written i false ≡ true
+  pub near : (i : ℕ) → get_or written i false ≡ true → (i < due) ⊎ IsNearChosen context chosen i
+  pub all : (i : ℕ) → i < length chosen → (i < due) ⊎ IsNearChosen context chosen i → get_or written i false ≡ true
 
-near_more : (context : Context) (mark : Bool) (chosen : List Bool) (i : ℕ) → IsNear context chosen i → IsNear context (mark ∷ chosen) (suc i)
+near_more : (context : Context) (mark : Bool) (chosen : List Bool) (i : ℕ) → IsNearChosen context chosen i → IsNearChosen context (mark ∷ chosen) (suc i)
 near_more context mark chosen i near = record { at = suc near.at; is = near.is; before = omega (arith, near.before); behind = omega (arith, near.behind) }
 
 near_less : (context : Context) (chosen : List Bool) (i : ℕ) → (at : ℕ) → get_or (false ∷ chosen) at false ≡ true → at ≤ suc i + context.before → suc i ≤ at + context.after
-    → IsNear context chosen i
+    → IsNearChosen context chosen i
 near_less context chosen i zero is before behind = absurd (true≢false (sym is))
 near_less context chosen i (suc at) is before behind = record { at = at; is = is; before = omega (arith, before); behind = omega (arith, behind) }
 
@@ -98,14 +98,14 @@ written_due context due chosen written some rest = record {
   all = λ i within near. due_all i within near;
 }
   where
-    due_near : (i : ℕ) → get_or (true ∷ written) i false ≡ true → (i < due) ⊎ IsNear context (false ∷ chosen) i
+    due_near : (i : ℕ) → get_or (true ∷ written) i false ≡ true → (i < due) ⊎ IsNearChosen context (false ∷ chosen) i
     due_near zero is = inl some
     due_near (suc i) is = elim (rest.near i is) [
       | inl low ↦ inl (omega (arith, low))
       | inr near ↦ inr (near_more context false chosen i near)
     ]
 
-    due_all : (i : ℕ) → i < length (false ∷ chosen) → (i < due) ⊎ IsNear context (false ∷ chosen) i → get_or (true ∷ written) i false ≡ true
+    due_all : (i : ℕ) → i < length (false ∷ chosen) → (i < due) ⊎ IsNearChosen context (false ∷ chosen) i → get_or (true ∷ written) i false ≡ true
     due_all zero within near = refl
     due_all (suc i) within (inl low) = rest.all i (omega (arith, within)) (inl (omega (arith, low)))
     due_all (suc i) within (inr near) = rest.all i (omega (arith, within)) (inr (near_less context chosen i near.at near.is near.before near.behind))
@@ -119,14 +119,14 @@ written_far context chosen written far rest = record {
   all = λ i within near. far_all i within near;
 }
   where
-    far_near : (i : ℕ) → get_or (false ∷ written) i false ≡ true → (i < 0) ⊎ IsNear context (false ∷ chosen) i
+    far_near : (i : ℕ) → get_or (false ∷ written) i false ≡ true → (i < 0) ⊎ IsNearChosen context (false ∷ chosen) i
     far_near zero is = absurd (true≢false (sym is))
     far_near (suc i) is = elim (rest.near i is) [
       | inl low ↦ absurd (omega (arith, low))
       | inr near ↦ inr (near_more context false chosen i near)
     ]
 
-    far_all : (i : ℕ) → i < length (false ∷ chosen) → (i < 0) ⊎ IsNear context (false ∷ chosen) i → get_or (false ∷ written) i false ≡ true
+    far_all : (i : ℕ) → i < length (false ∷ chosen) → (i < 0) ⊎ IsNearChosen context (false ∷ chosen) i → get_or (false ∷ written) i false ≡ true
     far_all i within (inl low) = absurd (omega (arith, low))
     far_all zero within (inr near) = absurd (true≢false (sym near.is ∙ far near.at (omega (arith, near.before))))
     far_all (suc i) within (inr near) = rest.all i (omega (arith, within)) (inr (near_less context chosen i near.at near.is near.before near.behind))
@@ -153,7 +153,7 @@ written_group context due held chosen written within most none rest = record {
     written_behind : (i k : ℕ) → i ≡ n + suc k → get_or (marks true held ++ (true ∷ written)) i false ≡ get_or written k false
     written_behind i k is = let more : i - length held ≡ suc k = omega (arith, is) in mark_behind true held (true ∷ written) i (omega (arith, is)) ∙ ap (λ (j : ℕ). get_or (true ∷ written) j false) more
 
-    group_near : (i : ℕ) → get_or (marks true held ++ (true ∷ written)) i false ≡ true → IsNear context (marks false held ++ (true ∷ chosen)) i
+    group_near : (i : ℕ) → get_or (marks true held ++ (true ∷ written)) i false ≡ true → IsNearChosen context (marks false held ++ (true ∷ chosen)) i
     group_near i is = elim (cases_lt n i) [
       | inl more ↦
           let k = i - n - 1 in
@@ -166,7 +166,7 @@ written_group context due held chosen written within most none rest = record {
     ]
 
     at_behind : (i k at : ℕ) → i ≡ n + suc k → get_or (marks false held ++ (true ∷ chosen)) at false ≡ true → at ≤ i + context.before → i ≤ at + context.after
-        → (k < context.after) ⊎ IsNear context chosen k
+        → (k < context.after) ⊎ IsNearChosen context chosen k
     at_behind i k at is mark before behind = elim (cases_lt n at) [
       | inl more ↦
           let j = at - n - 1 in
@@ -175,7 +175,7 @@ written_group context due held chosen written within most none rest = record {
       | inr less ↦ inl (omega (arith, less, behind, is))
     ]
 
-    group_all : (i : ℕ) → i < length (marks false held ++ (true ∷ chosen)) → (i < due) ⊎ IsNear context (marks false held ++ (true ∷ chosen)) i
+    group_all : (i : ℕ) → i < length (marks false held ++ (true ∷ chosen)) → (i < due) ⊎ IsNearChosen context (marks false held ++ (true ∷ chosen)) i
         → get_or (marks true held ++ (true ∷ written)) i false ≡ true
     group_all i low near = elim (cases_lt n i) [
       | inl more ↦
@@ -183,7 +183,7 @@ written_group context due held chosen written within most none rest = record {
           let at : i ≡ n + suc k = omega (arith, more) in
           let size = length-append (marks false held) (true ∷ chosen) in
           let long : k < length chosen = omega (arith, low, size, length_marks false held, at) in
-          let here : (k < context.after) ⊎ IsNear context chosen k = elim near [
+          let here : (k < context.after) ⊎ IsNearChosen context chosen k = elim near [
             | inl first ↦ inl (omega (arith, first, most, at))
             | inr one ↦ at_behind i k one.at at one.is one.before one.behind
           ] in

@@ -2,7 +2,7 @@
 use Rattle.std.specs.Prelude.{◌≡◌, ◌⊎◌, ℕ, ◌+◌, ◌-◌, ◌<◌, ◌≤◌, ◌==◌, nat_le, nat_lt, Bool, MatchBool, true, false, not, ◌&&◌, List, [], ◌∷◌, ◌++◌, Option, Some, None, codes, length, slice_index_or, if◌then◌else◌}
 use Rattle.std.specs.Io.KnownBytes.{Appends}
 use Rattle.aho_core.specs.Patterns.{Patterns}
-use Rattle.acgrep.specs.Filled.{bytes_held}
+use Rattle.acgrep.specs.Filled.{held_bytes}
 use Rattle.acgrep.specs.Lines.{lines}
 use Rattle.acgrep.specs.Printed.{separator_by}
 use Rattle.acgrep.specs.Written.{BeginsLines, IsPassedOver, IsSelected, IsSettled, SearchesPlain, ShowsLine, TellsOfLines, after_line, is_full, one_more}
@@ -45,7 +45,7 @@ AreChosen p job count (line ∷ rest) (false ∷ chosen) total =
 
 -- a selected line is near the line i: at most so many lines before it are asked for behind a selected one, and at most so many
 -- behind it before one
-pub record IsNear (context : Context) (chosen : List Bool) (i : ℕ) : Type 0 where
+pub record IsNearChosen (context : Context) (chosen : List Bool) (i : ℕ) : Type 0 where
   pub at : ℕ
   pub is : slice_index_or chosen at false ≡ true
   pub before : at ≤ i + context.before
@@ -54,8 +54,8 @@ pub record IsNear (context : Context) (chosen : List Bool) (i : ℕ) : Type 0 wh
 -- the lines that are written are those near a selected one; a selected one is near itself
 pub record AreWritten (context : Context) (chosen written : List Bool) : Type 0 where
   pub as_many : length written ≡ length chosen
-  pub near : (i : ℕ) → slice_index_or written i false ≡ true → IsNear context chosen i
-  pub all : (i : ℕ) → i < length chosen → IsNear context chosen i → slice_index_or written i false ≡ true
+  pub near : (i : ℕ) → slice_index_or written i false ≡ true → IsNearChosen context chosen i
+  pub all : (i : ℕ) → i < length chosen → IsNearChosen context chosen i → slice_index_or written i false ≡ true
 
 -- a line is written by whether it is selected
 abbrev pub job_by : Job → Bool → Job
@@ -117,20 +117,20 @@ walk_of state = record {
   some = state.trail.some;
   apart = state.trail.apart;
   first = state.trail.first;
-  held = lines (bytes_held state.trail.held);
+  held = lines (held_bytes state.trail.held);
 }
 
 -- at the begin of a file
-pub record IsBegun (follows : Bool) (trail : Trail) : Type 0 where
+pub record IsTrailBegun (follows : Bool) (trail : Trail) : Type 0 where
   pub due : trail.due ≡ 0
   pub some : trail.some ≡ follows
   pub apart : trail.apart ≡ true
-  pub held : lines (bytes_held trail.held) ≡ []
+  pub held : lines (held_bytes trail.held) ≡ []
 
 pub record IsBegin (job : Job) (state : State) : Type 0 where
   pub place : state.place ≡ job.first
   pub selected : state.selected ≡ 0
-  pub trail : IsBegun job.follows state.trail
+  pub trail : IsTrailBegun job.follows state.trail
 
 -- behind a selected line
 abbrev pub behind_chosen : Context → Walk → List ℕ → Walk
@@ -147,7 +147,7 @@ pub record Holding : Type 0 where
   pub held : List (List ℕ)
 
 abbrev pub holding_in : Trail → Holding
-holding_in trail = record { apart = trail.apart; first = trail.first; held = lines (bytes_held trail.held) }
+holding_in trail = record { apart = trail.apart; first = trail.first; held = lines (held_bytes trail.held) }
 
 abbrev pub holding_of : Walk → Holding
 holding_of w = record { apart = w.apart; first = w.first; held = w.held }
@@ -263,9 +263,9 @@ abbrev pub SearchesText : Patterns → Job → (before after : State) → (old n
 SearchesText p job before after old new text = SearchesIn p job (around_of job) before after old new text
 
 -- a beginning of what is told of them is written
-abbrev pub BeginsIn : Patterns → Job → Option Context → State → ℕ → (old new : Option (List ℕ)) → List (List ℕ) → Type 0
-BeginsIn p job None before count old new ls = BeginsLines p job before count old new ls
-BeginsIn p job (Some context) before count old new ls = WalksBegun p job context (walk_of before) old new ls
+abbrev pub BeginsAsked : Patterns → Job → Option Context → State → ℕ → (old new : Option (List ℕ)) → List (List ℕ) → Type 0
+BeginsAsked p job None before count old new ls = BeginsLines p job before count old new ls
+BeginsAsked p job (Some context) before count old new ls = WalksBegun p job context (walk_of before) old new ls
 
-abbrev pub BeginsText : Patterns → Job → State → ℕ → (old new : Option (List ℕ)) → List (List ℕ) → Type 0
-BeginsText p job before count old new ls = BeginsIn p job (around_of job) before count old new ls
+abbrev pub BeginsSearched : Patterns → Job → State → ℕ → (old new : Option (List ℕ)) → List (List ℕ) → Type 0
+BeginsSearched p job before count old new ls = BeginsAsked p job (around_of job) before count old new ls

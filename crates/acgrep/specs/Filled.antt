@@ -9,8 +9,8 @@ abbrev pub bytes_buffered : Buffer → List ℕ
 bytes_buffered buffer = take buffer.held buffer.room.items
 
 -- the bytes of held lines
-abbrev pub bytes_held : Held → List ℕ
-bytes_held held = drop held.from held.room.items
+abbrev pub held_bytes : Held → List ℕ
+held_bytes held = drop held.from held.room.items
 
 -- what comes stands behind the bytes before, and nothing comes only at the end
 pub record FillsBehind (before after : List ℕ) (left_before left_after : Option (List ℕ)) (count : ℕ) : Type 0 where

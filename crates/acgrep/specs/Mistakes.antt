@@ -79,14 +79,14 @@ digits_value_of [] = Some 0
 digits_value_of (digit ∷ digits) = number_by (digit ∷ digits)
 
 -- of a letter that gives no patterns, and those behind it
-abbrev pub wrong_or : Option Valued → ℕ → List ℕ → List (List ℕ) → List (List ℕ)
-wrong_or (Some valued) letter rest others = wrong_numbered valued rest
-wrong_or None letter rest others = if_none (switch_by letter) (letter_parts letter) others
+abbrev pub wrong_else : Option Valued → ℕ → List ℕ → List (List ℕ) → List (List ℕ)
+wrong_else (Some valued) letter rest others = wrong_numbered valued rest
+wrong_else None letter rest others = if_none (switch_by letter) (letter_parts letter) others
 
 -- of a letter that is no digit, and those behind it; what stands behind that of an option with an argument is no letter
 abbrev pub wrong_letter : ℕ → List ℕ → List (List ℕ) → List (List ℕ)
 wrong_letter letter rest others =
-    if letter == 101 || letter == 102 then [] else wrong_or (numbered letter) letter rest others
+    if letter == 101 || letter == 102 then [] else wrong_else (numbered letter) letter rest others
 
 -- of joined letters behind some digits: of the first mistake
 abbrev pub wrong_from_digits : List ℕ → List ℕ → List (List ℕ)

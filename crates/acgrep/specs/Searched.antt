@@ -8,7 +8,7 @@ use Rattle.aho_core.specs.Patterns.{Patterns}
 use Rattle.aho_automaton.specs.declared.automaton.Automaton.{Ghosts as Automata}
 use Rattle.aho_devices.specs.declared.device.Sink.{Ghosts as SinkGhosts}
 use Rattle.programs.specs.Names.{name_bytes}
-use Rattle.acgrep.specs.Contexts.{BeginsText, IsChosenBy, SearchesText, ShowsEach, ShowsGroup, WalksBegun, WalksLines, WalksText, walk_of}
+use Rattle.acgrep.specs.Contexts.{BeginsSearched, IsChosenBy, SearchesText, ShowsEach, ShowsGroup, WalksBegun, WalksLines, WalksText, walk_of}
 use Rattle.acgrep.specs.Files.{AreFilesBegun, BeginsFile, IfBroken, IfSearched, SearchesFile, SearchesReader}
 use Rattle.acgrep.specs.Lines.{lines}
 use Rattle.acgrep.specs.Selected.{ForLines}
@@ -40,7 +40,7 @@ module _ {A W : Type 0} (automata : Automata A) (sinks : SinkGhosts W) (automato
 
   abbrev pub BeginsTextBy : {T E : Type 0} → List ℕ → Result T E → Type 0
   BeginsTextBy text result =
-      ForLines (automata.is_of automaton) (λ p. OnErr result (BeginsText p job before after.selected (sinks.taken old) (sinks.taken new) (lines text)))
+      ForLines (automata.is_of automaton) (λ p. OnErr result (BeginsSearched p job before after.selected (sinks.taken old) (sinks.taken new) (lines text)))
 
   -- where no lines around selected ones are asked for
   abbrev pub SearchesPlainBy : {T E : Type 0} → List ℕ → Result T E → Type 0

@@ -13,11 +13,11 @@ pub struct Held {
 }
 
 impl Held {
-    ghost use Rattle.acgrep.specs.Filled.{bytes_held};
+    ghost use Rattle.acgrep.specs.Filled.{held_bytes};
 
     /// No line.
     pub fn new(alloc: Global) -> Held
-        ensures none { bytes_held result ≡ [] }
+        ensures none { held_bytes result ≡ [] }
     {
         Held {
             room: Vec::new(alloc),
@@ -27,14 +27,14 @@ impl Held {
 
     /// The lines, each with its newline.
     pub fn bytes(&self) -> &[u8]
-        ensures bytes { result.now ≡ bytes_held self.now }
+        ensures bytes { result.now ≡ held_bytes self.now }
     {
         &self.room[self.from..]
     }
 
     /// Forgets all lines.
     pub fn clear(&mut self)
-        ensures none { bytes_held self.new ≡ [] }
+        ensures none { held_bytes self.new ≡ [] }
     {
         self.room.clear();
         self.from = 0;
@@ -42,8 +42,8 @@ impl Held {
 
     /// Adds a line. What was dropped is first made room where it is more than what is held.
     pub fn push(&mut self, line: &[u8]) -> Result<(), AllocError>
-        ensures more { OnOk result (bytes_held self.new
-            ≡ bytes_held self.old ++ (line.now ++ (10 ∷ []))) }
+        ensures more { OnOk result (held_bytes self.new
+            ≡ held_bytes self.old ++ (line.now ++ (10 ∷ []))) }
     {
         self.close_up();
         self.room.extend_from_slice(line)?;
@@ -53,15 +53,15 @@ impl Held {
 
     /// Drops bytes from the front.
     pub fn drop_front(&mut self, count: usize)
-        requires within { count ≤ length (bytes_held self.now) }
-        ensures rest { bytes_held self.new ≡ drop count (bytes_held self.old) }
+        requires within { count ≤ length (held_bytes self.now) }
+        ensures rest { held_bytes self.new ≡ drop count (held_bytes self.old) }
     {
         self.from += count;
     }
 
     /// Moves what is held to the front of the room, where it is the smaller part.
     fn close_up(&mut self)
-        ensures same { bytes_held self.new ≡ bytes_held self.old }
+        ensures same { held_bytes self.new ≡ held_bytes self.old }
     {
         let len = self.room.len();
         if self.from <= len / 2 {

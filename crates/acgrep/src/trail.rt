@@ -2,7 +2,7 @@
 
 ghost use Rattle.std.specs.Prelude.{◌≡◌, ◌≤◌, ◌<◌, ◌-◌, ◌==◌, ◌^◌, if◌then◌else◌, [], OnOk, false, length, true};
 ghost use Rattle.memchr.specs.Find.{Nowhere};
-ghost use Rattle.acgrep.specs.Filled.{bytes_held};
+ghost use Rattle.acgrep.specs.Filled.{held_bytes};
 ghost use Rattle.acgrep.specs.Lines.{EndsLine, IsNewline, lines};
 
 use crate::held::Held;
@@ -26,12 +26,12 @@ pub struct Trail {
     pub first: Place,
     /// The lines that were passed over last, at most as many as are written before a selected one.
     pub held: Held,
-    ghost counted: { count ≡ length (lines (bytes_held held)) },
-    ghost whole: { EndsLine (bytes_held held) },
+    ghost counted: { count ≡ length (lines (held_bytes held)) },
+    ghost whole: { EndsLine (held_bytes held) },
 }
 
 impl Trail {
-    ghost use Rattle.acgrep.specs.Contexts.{IsBegun, holding, holding_in, with_line, without_first};
+    ghost use Rattle.acgrep.specs.Contexts.{IsTrailBegun, holding, holding_in, with_line, without_first};
 
     /// Where no file was begun.
     pub fn new(alloc: Global, first: Place) -> Trail {
@@ -47,7 +47,7 @@ impl Trail {
 
     /// Begins a file, by whether lines of another one were written.
     pub fn begin(&mut self, follows: bool)
-        ensures begun { IsBegun follows self.new }
+        ensures begun { IsTrailBegun follows self.new }
     {
         self.due = 0;
         self.some = follows;
@@ -69,7 +69,7 @@ impl Trail {
         ensures some { self.new.some ≡ true }
         ensures apart { self.new.apart ≡ false }
         ensures first { self.new.first ≡ self.old.first }
-        ensures held { lines (bytes_held self.new.held) ≡ [] }
+        ensures held { lines (held_bytes self.new.held) ≡ [] }
     {
         self.due = after;
         self.some = true;
