@@ -223,8 +223,7 @@ module _ (p : Patterns) (job : Job) (context : Context) where
       (shown, more, shows, tells, ap (λ (l : List ℕ). separator_if (context.parted && (some && apart)) job.style ++ (l ++ (shown ++ more))) none)
   tells_group (first ∷ others) place some apart before shown more line rest chosen written (one, next, is_shown, each, is) shows tells =
       let unparted : separator_if (context.parted && (true && false)) job.style ≡ [] = ap (λ (b : Bool). separator_if b job.style) (and_none context.parted) in
-      let IH = tells_group others (after_line place first) true false next shown more line rest chosen written each shows tells in
-      (
+      let IH = tells_group others (after_line place first) true false next shown more line rest chosen written each shows tells in (
         one,
         next ++ (shown ++ more),
         is_shown,

@@ -162,8 +162,7 @@ pub group_put : (p : Patterns) (job : Job) (context : Context) (w : Walk) (line 
     → Appends x y (separator_if asked job.style) → (before : List ℕ) × ShowsEach p (beside job) w.first w.held before × Appends y z before → WritesLine p job w.place z u line
     → (bytes : List ℕ) × ShowsGroup p job context w line bytes × Appends x u bytes
 group_put p job context w line asked x y z u is parted (before, each, held) (shown, shows, written) =
-    let sep = separator_if (context.parted && (w.some && w.apart)) job.style in
-    (
+    let sep = separator_if (context.parted && (w.some && w.apart)) job.style in (
       sep ++ (before ++ shown),
       (before, shown, each, shows, refl),
       Appends-trans x y u sep (before ++ shown) (subst (λ (b : Bool). Appends x y (separator_if b job.style)) is parted) (Appends-trans y z u before shown held written),

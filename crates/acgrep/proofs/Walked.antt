@@ -183,7 +183,15 @@ module _ (p : Patterns) (job : Job) (context : Context) where
             let passed : IsPassedOver p job.fit job.invert line = elim passes.passed [ inl full ↦ absurd (true≢false (sym full ∙ goes)) | inr passed ↦ passed ] in
             let same : between.selected ≡ w.selected = passes_same w between line shown passes in
             let there : between.place ≡ after_line w.place line = passes_place w between line shown passes in
-            let (told, tells) = walks_tells rest between w' more walks in
-            (told, inr (goes, inr (passed, subst (λ (n : ℕ). TellsOfLines p job (after_line w.place line) n rest told w'.selected) same
-            (subst (λ (at : Place). TellsOfLines p job at between.selected rest told w'.selected) there tells))))
+            let (told, tells) = walks_tells rest between w' more walks in (
+              told,
+              inr (
+                goes,
+                inr (
+                  passed,
+                  subst (λ (n : ℕ). TellsOfLines p job (after_line w.place line) n rest told w'.selected) same
+                      (subst (λ (at : Place). TellsOfLines p job at between.selected rest told w'.selected) there tells),
+                ),
+              ),
+            )
       ]

@@ -139,7 +139,13 @@ fn put_group<A: Automaton, W: Write>(
 {
     let trail = &state.trail;
     put_between(job, is_parted(context, trail), output)?;
-    put_each_line(automaton, &job.beside(), trail.held.bytes(), trail.first, output)?;
+    put_each_line(
+        automaton,
+        &job.beside(),
+        trail.held.bytes(),
+        trail.first,
+        output,
+    )?;
     put_shown(automaton, job, line, state.place, output)
 }
 

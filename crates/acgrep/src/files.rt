@@ -296,10 +296,14 @@ fn search_name<A: Automaton, F: Open, R: Read, W: Sink, E: Sink>(
 {
     if is_input(name) {
         let named = job_for(job, INPUT_NAME, follows);
-        return search_one(automaton, &named, buffer, input, state, page, output, errors);
+        return search_one(
+            automaton, &named, buffer, input, state, page, output, errors,
+        );
     }
     let named = job_for(job, name, follows);
-    search_named(automaton, &named, files, name, buffer, state, page, output, errors)
+    search_named(
+        automaton, &named, files, name, buffer, state, page, output, errors,
+    )
 }
 
 /// Opens the file of a name and searches it.
@@ -323,7 +327,9 @@ fn search_named<A: Automaton, F: Open, W: Sink, E: Sink>(
         errors.old errors.new }
 {
     match open_named(files, name) {
-        Ok(mut file) => search_one(automaton, job, buffer, &mut file, state, page, output, errors),
+        Ok(mut file) => search_one(
+            automaton, job, buffer, &mut file, state, page, output, errors,
+        ),
         Err(error) => {
             let _ = output.flush();
             tell_unread(job, Reason::of(&error), errors);

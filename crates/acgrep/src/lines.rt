@@ -43,10 +43,3 @@ pub fn behind(text: &[u8], end: usize) -> &[u8]
         &text[text.len()..]
     }
 }
-
-/// A probe.
-pub fn probe(text: &[u8]) -> usize
-    ensures same { result ≡ length text.now }
-{
-    text.len()
-}

@@ -138,12 +138,7 @@ fn put_file<W: Write>(output: &mut W, style: &Style<'_>) -> io::Result<()>
 }
 
 /// Writes a number where it is asked for.
-fn put_if<W: Write>(
-    output: &mut W,
-    asked: bool,
-    style: &Style<'_>,
-    number: u64,
-) -> io::Result<()>
+fn put_if<W: Write>(output: &mut W, asked: bool, style: &Style<'_>, number: u64) -> io::Result<()>
     ensures written { Puts W.Write output.old output.new result
         (number_if asked style.now number) }
 {
