@@ -1,5 +1,5 @@
 -- What is written of a file, from what was searched of its reader.
-use Rattle.std.proofs.Common.{◌≡◌, inl, inr, ℕ, ◌<◌, Bool, true, List, [], ◌∷◌, ◌++◌, Option, None, Some, IfSome, refl, sym, ◌∙◌, ap, subst, arith, append_assoc, append-nil}
+use Rattle.std.proofs.Common.{◌≡◌, ◌⊎◌, inl, inr, ℕ, ◌<◌, Bool, true, List, [], ◌∷◌, ◌++◌, Option, None, Some, IfSome, refl, sym, ◌∙◌, ap, subst, arith, append_assoc, append-nil}
 use Rattle.std.specs.Prelude.{MatchBool, codes, if◌then◌else◌, nat_lt}
 use Rattle.std.specs.Io.KnownBytes.{Appends, Consumes, IsAtEnd}
 use Rattle.std.proofs.KnownBytes.{Appends-trans}
@@ -7,21 +7,25 @@ use Rattle.std.proofs.lemmas.Bool.{cases_Bool, lt-ltb, ltb-false, ltb-true}
 use Rattle.aho_core.specs.Patterns.{Patterns}
 use Rattle.programs.specs.Names.{is_input}
 use Rattle.acgrep.specs.Alone.{asks_alone}
+use Rattle.acgrep.specs.Contexts.{IsBegin, SearchesIn, TellsFile, TellsIn, around_by, around_of, walk_of}
 use Rattle.acgrep.specs.Files.{EndsFile, IfSearched, IsAny, IsNamed, IsRead, SearchesFile, SearchesName, SearchesReader, SomeLine, TellsBy, count_if, known_of, shown_name, total_if}
-use Rattle.acgrep.specs.Lines.{lines}
+use Rattle.acgrep.specs.Lines.{EndsLine, lines}
 use Rattle.acgrep.specs.Printed.{file_line}
 use Rattle.acgrep.specs.Streamed.{SearchesStream, course}
-use Rattle.acgrep.specs.Written.{EachLine, EndsLine, IsPassedOver, IsSelected, IsSettled, ShowsBy, TellsOfLines, at_begin, needs_one, one_more}
+use Rattle.acgrep.specs.Written.{EachLine, IsPassedOver, IsSelected, IsSettled, ShowsBy, TellsOfLines, is_full, needs_one, one_more}
 use Rattle.acgrep.specs.declared.files.Outcome.{Outcome}
 use Rattle.acgrep.specs.declared.files.Outcome.TheVariants.{Searched, Unread, Stopped}
+use Rattle.acgrep.specs.declared.options.Context.{Context}
 use Rattle.acgrep.specs.declared.options.Shown.{Shown}
 use Rattle.acgrep.specs.declared.options.Shown.TheVariants.{Lines, Matches, Objects, Count, Names, Lacking, Nothing}
 use Rattle.acgrep.specs.declared.print.Place.{Place}
 use Rattle.acgrep.specs.declared.print.Style.{Style}
 use Rattle.acgrep.specs.declared.select.Job.{Job}
 use Rattle.acgrep.specs.declared.select.State.{State}
+use Rattle.acgrep.proofs.Grouped.{told_around}
 use Rattle.acgrep.proofs.LineLists.{lines_append}
 use Rattle.acgrep.proofs.Tellings.{full_some, tells_full}
+use Rattle.acgrep.proofs.Walked.{walks_append, walks_full, walks_tells}
 
 -- where one selected line tells all nothing is written of it
 shows_none : (p : Patterns) (shown : Shown) (alone invert : Bool) (style : Style) (place : Place) (line bytes : List ℕ) → needs_one shown ≡ true
@@ -75,7 +79,7 @@ module _ (p : Patterns) (job : Job) where
   tells_some (line ∷ rest) place count bytes total (inr (goes, inr (passed, behind))) zero some = inr (tells_some rest _ count bytes total behind zero some)
 
   -- and where it is, none
-  tells_each : (ls : List (List ℕ)) (place : Place) (count : ℕ) (bytes : List ℕ) (total : ℕ) → TellsOfLines p job place count ls bytes total → total ≡ 0
+  pub tells_each : (ls : List (List ℕ)) (place : Place) (count : ℕ) (bytes : List ℕ) (total : ℕ) → TellsOfLines p job place count ls bytes total → total ≡ 0
       → EachLine (IsPassedOver p job.fit job.invert) ls
   tells_each [] place count bytes total told zero = tt
   tells_each (line ∷ rest) place count bytes total (inl (full, none, same)) zero = absurd (omega (arith, full_some job.most count full, same, zero))
@@ -92,12 +96,16 @@ module _ (p : Patterns) (job : Job) where
       ]
 
   -- what is written of a whole text
-  by_whole : (shown : Shown) → shown ≡ job.shown → (text told : List ℕ) (count : ℕ) → TellsOfLines p job job.first 0 (lines text) told count
+  by_whole : (shown : Shown) → shown ≡ job.shown → (text told : List ℕ) (count : ℕ) → TellsIn p job (around_by shown job.context) (lines text) told count
       → TellsBy p job shown text (nat_lt 0 count) (told ++ total_if shown job.style count)
-  by_whole Lines is text told count tells = (told, count, tells, ap (λ (shown : Shown). told ++ count_if shown job.style count) is)
-  by_whole Matches is text told count tells = (told, count, tells, ap (λ (shown : Shown). told ++ count_if shown job.style count) is)
-  by_whole Objects is text told count tells = (told, count, tells, ap (λ (shown : Shown). told ++ count_if shown job.style count) is)
-  by_whole Count is text told count tells = (told, count, tells, ap (λ (shown : Shown). told ++ count_if shown job.style count) is)
+  by_whole Lines is text told count tells =
+      (told, count, subst (λ (shown : Shown). TellsIn p job (around_by shown job.context) (lines text) told count) is tells, ap (λ (shown : Shown). told ++ count_if shown job.style count) is)
+  by_whole Matches is text told count tells =
+      (told, count, subst (λ (shown : Shown). TellsIn p job (around_by shown job.context) (lines text) told count) is tells, ap (λ (shown : Shown). told ++ count_if shown job.style count) is)
+  by_whole Objects is text told count tells =
+      (told, count, subst (λ (shown : Shown). TellsIn p job (around_by shown job.context) (lines text) told count) is tells, ap (λ (shown : Shown). told ++ count_if shown job.style count) is)
+  by_whole Count is text told count tells =
+      (told, count, subst (λ (shown : Shown). TellsIn p job (around_by shown job.context) (lines text) told count) is tells, ap (λ (shown : Shown). told ++ count_if shown job.style count) is)
   by_whole Names is text told count tells =
       ap (λ (l : List ℕ). l ++ total_if Names job.style count) (tells_none (lines text) job.first 0 told count (ap needs_one (sym is)) tells)
   by_whole Lacking is text told count tells =
@@ -120,15 +128,15 @@ module _ (p : Patterns) (job : Job) where
   by_front Nothing text count one some = refl
 
   -- all of a text was searched
-  file_whole : (state : State) (known held meanwhile held' : Option (List ℕ)) (text told : List ℕ) → IfSome known (λ (all : List ℕ). text ≡ all)
-      → TellsOfLines p job job.first 0 (lines text) told state.selected → Appends held meanwhile told → (any : Bool) → EndsFile job state.selected meanwhile held' any
-      → SearchesFile p job known held held' any
-  file_whole state known held meanwhile held' text told of tells written any ends =
+  file_whole : (state : State) (known held meanwhile held' : Option (List ℕ)) (text told plain : List ℕ) → IfSome known (λ (all : List ℕ). text ≡ all)
+      → TellsOfLines p job job.first 0 (lines text) plain state.selected → TellsFile p job (lines text) told state.selected → Appends held meanwhile told
+      → (any : Bool) → EndsFile job state.selected meanwhile held' any → SearchesFile p job known held held' any
+  file_whole state known held meanwhile held' text told plain of selects tells written any ends =
       let count = state.selected in
       record {
         text = text;
         of = of;
-        selected = subst (IsAny p job.fit job.invert (lines text)) (sym ends.is_any) (tells_any (lines text) job.first told count tells);
+        selected = subst (IsAny p job.fit job.invert (lines text)) (sym ends.is_any) (tells_any (lines text) job.first plain count selects);
         bytes = told ++ total_if job.shown job.style count;
         tells = subst (λ (any : Bool). TellsBy p job job.shown text any (told ++ total_if job.shown job.style count)) (sym ends.is_any) (by_whole job.shown refl text told count tells);
         written = Appends-trans held meanwhile held' told (total_if job.shown job.style count) written ends.written;
@@ -154,88 +162,164 @@ module _ (p : Patterns) (job : Job) where
         is,
       )
 
+  -- what was told of the lines of a text from the begin of its file on, and of any that follow where nothing more is told
+  pub record TextTold (around : Option Context) (state : State) (held meanwhile : Option (List ℕ)) (text : List ℕ) : Type 0 where
+    pub left : List ℕ
+    pub searched : List (List ℕ)
+    pub cut : lines text ≡ searched ++ lines left
+    pub bytes : List ℕ
+    pub plain : List ℕ
+    pub tells : TellsOfLines p job job.first 0 searched plain state.selected
+    pub file : (later : List (List ℕ)) → (later ≡ []) ⊎ ((is_full job.most state.selected ≡ true) × (state.trail.due ≡ 0)) → TellsIn p job around (searched ++ later) bytes state.selected
+    pub single : around ≡ None → bytes ≡ plain
+    pub written : Appends held meanwhile bytes
+    pub ends : (left ≡ []) ⊎ IsSettled job state
+
+  from_begin : (before : State) (ls : List (List ℕ)) (told : List ℕ) (count : ℕ) → IsBegin job before → TellsOfLines p job before.place before.selected ls told count
+      → TellsOfLines p job job.first 0 ls told count
+  from_begin before ls told count begin tells =
+      subst (λ (at : Place). TellsOfLines p job at 0 ls told count) begin.place (subst (λ (n : ℕ). TellsOfLines p job before.place n ls told count) begin.selected tells)
+
+  text_told : (around : Option Context) (before state : State) (held meanwhile : Option (List ℕ)) (text : List ℕ) → IsBegin job before
+      → SearchesIn p job around before state held meanwhile text → TextTold around state held meanwhile text
+  text_told None before state held meanwhile text begin one =
+      let to = one.searches in
+      let bytes = to.tells.bytes in
+      let tells = from_begin before to.searched bytes state.selected begin to.tells.told in
+      record {
+        left = one.left;
+        searched = to.searched;
+        cut = to.cut;
+        bytes = bytes;
+        plain = bytes;
+        tells = tells;
+        file = λ later h. elim h [
+          | inl none ↦ subst (λ (ls : List (List ℕ)). TellsOfLines p job job.first 0 ls bytes state.selected)
+              (sym (ap (λ (l : List (List ℕ)). to.searched ++ l) none ∙ append-nil to.searched)) tells
+          | inr (full, past) ↦ tells_full p job to.searched later job.first 0 state.selected bytes full tells
+        ];
+        single = λ _. refl;
+        written = to.tells.written;
+        ends = one.ends;
+      }
+  text_told (Some context) before state held meanwhile text begin one =
+      let bytes = one.tells.bytes in
+      let (plain, tells) = walks_tells p job context one.searched (walk_of before) (walk_of state) bytes one.tells.walks in
+      record {
+        left = one.left;
+        searched = one.searched;
+        cut = one.cut;
+        bytes = bytes;
+        plain = plain;
+        tells = from_begin before one.searched plain state.selected begin tells;
+        file = λ later h. elim h [
+          | inl none ↦ subst (λ (ls : List (List ℕ)). TellsIn p job (Some context) ls bytes state.selected)
+              (sym (ap (λ (l : List (List ℕ)). one.searched ++ l) none ∙ append-nil one.searched))
+              (told_around p job context one.searched (walk_of before) (walk_of state) bytes begin.place begin.selected begin.trail.due begin.trail.some begin.trail.apart begin.trail.held one.tells.walks)
+          | inr (full, past) ↦
+              let (w, walks, same) = walks_full p job context later (walk_of state) full past in
+              subst (λ (n : ℕ). TellsIn p job (Some context) (one.searched ++ later) bytes n) same
+              (subst (λ (l : List ℕ). TellsIn p job (Some context) (one.searched ++ later) l w.selected) (append-nil bytes)
+              (told_around p job context (one.searched ++ later) (walk_of before) w (bytes ++ []) begin.place begin.selected begin.trail.due begin.trail.some begin.trail.apart begin.trail.held
+              (walks_append p job context one.searched later (walk_of before) (walk_of state) w bytes [] one.tells.walks walks)))
+        ];
+        single = λ none. absurd (cc);
+        written = one.tells.written;
+        ends = one.ends;
+      }
+
+  one_around : (shown : Shown) (context : Option Context) → needs_one shown ≡ true → around_by shown context ≡ None
+  one_around Lines context one = absurd (cc)
+  one_around Matches context one = absurd (cc)
+  one_around Objects context one = refl
+  one_around Count context one = refl
+  one_around Names context one = refl
+  one_around Lacking context one = refl
+  one_around Nothing context one = refl
+
   -- what was searched of a reader, and what is asked of a file as a whole: it was read to its end
-  read_whole : (state : State) (left left' held meanwhile held' : Option (List ℕ)) (stream : SearchesStream p job (course (at_begin job.first) state held meanwhile left left'))
+  read_whole : (before state : State) (left left' held meanwhile held' : Option (List ℕ)) → IsBegin job before → (stream : SearchesStream p job (course before state held meanwhile left left'))
       → stream.rest ≡ [] → IsAtEnd left' → (any : Bool) → EndsFile job state.selected meanwhile held' any → SearchesReader p job left left' held held' any
-  read_whole state left left' held meanwhile held' stream empty end any ends =
+  read_whole before state left left' held meanwhile held' begin stream empty end any ends =
       let (more, known, none) = text_behind left left' (stream.searched ++ stream.rest) stream.consumed in
       let text = (stream.searched ++ stream.rest) ++ more in
-      let to = stream.searches.searches in
-      let tells = to.tells in
+      let told = text_told (around_of job) before state held meanwhile stream.searched begin stream.searches in
       let all : text ≡ stream.searched = ap (λ (l : List ℕ). (stream.searched ++ stream.rest) ++ l) (none end) ∙ append-nil (stream.searched ++ stream.rest)
       ∙ ap (λ (l : List ℕ). stream.searched ++ l) empty ∙ append-nil stream.searched in
-      let same : lines text ≡ to.searched ++ lines stream.searches.left = ap lines all ∙ to.cut in
+      let same : lines text ≡ told.searched ++ lines told.left = ap lines all ∙ told.cut in
       let read : IsRead p job left left' any = record { bytes = stream.searched ++ stream.rest; read = stream.consumed; ended = inl end } in
-      elim stream.searches.ends [
+      elim told.ends [
         | inl whole ↦
-            let first : lines text ≡ to.searched = same ∙ ap (λ (l : List ℕ). to.searched ++ lines l) whole ∙ append-nil to.searched in
+            let first : lines text ≡ told.searched ++ [] = same ∙ ap (λ (l : List ℕ). told.searched ++ lines l) whole in
             record {
-              file = file_whole state left held meanwhile held' text tells.bytes known
-                  (subst (λ (ls : List (List ℕ)). TellsOfLines p job job.first 0 ls tells.bytes state.selected) (sym first) tells.told) tells.written any ends;
+              file = file_whole state left held meanwhile held' text told.bytes told.plain known
+                  (subst (λ (ls : List (List ℕ)). TellsOfLines p job job.first 0 ls told.plain state.selected) (sym (first ∙ append-nil told.searched)) told.tells)
+                  (subst (λ (ls : List (List ℕ)). TellsFile p job ls told.bytes state.selected) (sym first) (told.file [] (inl refl))) told.written any ends;
               reads = read;
             }
         | inr (inl (one, some)) ↦ record {
-          file = (file_front state left held meanwhile held' text tells.bytes to.searched known tells.told one some
-              (λ (is : SomeLine (IsSelected p job.fit job.invert) to.searched). subst (SomeLine (IsSelected p job.fit job.invert)) (sym same) (some_front (IsSelected p job.fit job.invert) to.searched (lines stream.searches.left) is))
-              tells.written any ends).0;
+          file = (file_front state left held meanwhile held' text told.plain told.searched known told.tells one some
+              (λ (is : SomeLine (IsSelected p job.fit job.invert) told.searched). subst (SomeLine (IsSelected p job.fit job.invert)) (sym same) (some_front (IsSelected p job.fit job.invert) told.searched (lines told.left) is))
+              (subst (Appends held meanwhile) (told.single (one_around job.shown job.context one)) told.written) any ends).0;
           reads = read;
         }
-        | inr (inr full) ↦ record {
-          file = file_whole state left held meanwhile held' text tells.bytes known
-              (subst (λ (ls : List (List ℕ)). TellsOfLines p job job.first 0 ls tells.bytes state.selected) (sym same)
-              (tells_full p job to.searched (lines stream.searches.left) job.first 0 state.selected tells.bytes full tells.told)) tells.written any ends;
+        | inr (inr (full, past)) ↦ record {
+          file = file_whole state left held meanwhile held' text told.bytes told.plain known
+              (subst (λ (ls : List (List ℕ)). TellsOfLines p job job.first 0 ls told.plain state.selected) (sym same)
+              (tells_full p job told.searched (lines told.left) job.first 0 state.selected told.plain full told.tells))
+              (subst (λ (ls : List (List ℕ)). TellsFile p job ls told.bytes state.selected) (sym same) (told.file (lines told.left) (inr (full, past)))) told.written any ends;
           reads = read;
         }
       ]
 
   -- or up to lines behind which nothing more is told
-  read_front : (state : State) (left left' held meanwhile held' : Option (List ℕ)) (stream : SearchesStream p job (course (at_begin job.first) state held meanwhile left left'))
+  read_front : (before state : State) (left left' held meanwhile held' : Option (List ℕ)) → IsBegin job before → (stream : SearchesStream p job (course before state held meanwhile left left'))
       → EndsLine stream.searched → IsSettled job state → (any : Bool) → EndsFile job state.selected meanwhile held' any → SearchesReader p job left left' held held' any
-  read_front state left left' held meanwhile held' stream whole settled any ends =
+  read_front before state left left' held meanwhile held' begin stream whole settled any ends =
       let (more, known, none) = text_behind left left' (stream.searched ++ stream.rest) stream.consumed in
       let text = (stream.searched ++ stream.rest) ++ more in
-      let to = stream.searches.searches in
-      let tells = to.tells in
-      let later = lines stream.searches.left ++ lines (stream.rest ++ more) in
-      let same : lines text ≡ to.searched ++ later =
+      let told = text_told (around_of job) before state held meanwhile stream.searched begin stream.searches in
+      let later = lines told.left ++ lines (stream.rest ++ more) in
+      let same : lines text ≡ told.searched ++ later =
       ap lines (append_assoc stream.searched stream.rest more) ∙ lines_append stream.searched (stream.rest ++ more) whole
-      ∙ ap (λ (l : List (List ℕ)). l ++ lines (stream.rest ++ more)) to.cut ∙ append_assoc to.searched (lines stream.searches.left) (lines (stream.rest ++ more)) in
+      ∙ ap (λ (l : List (List ℕ)). l ++ lines (stream.rest ++ more)) told.cut ∙ append_assoc told.searched (lines told.left) (lines (stream.rest ++ more)) in
       elim settled [
         | inl (one, some) ↦
-            let found = file_front state left held meanwhile held' text tells.bytes to.searched known tells.told one some
-            (λ (is : SomeLine (IsSelected p job.fit job.invert) to.searched). subst (SomeLine (IsSelected p job.fit job.invert)) (sym same) (some_front (IsSelected p job.fit job.invert) to.searched later is))
-            tells.written any ends in
+            let found = file_front state left held meanwhile held' text told.plain told.searched known told.tells one some
+            (λ (is : SomeLine (IsSelected p job.fit job.invert) told.searched). subst (SomeLine (IsSelected p job.fit job.invert)) (sym same) (some_front (IsSelected p job.fit job.invert) told.searched later is))
+            (subst (Appends held meanwhile) (told.single (one_around job.shown job.context one)) told.written) any ends in
             record {
               file = found.0;
               reads = record { bytes = stream.searched ++ stream.rest; read = stream.consumed; ended = inr (inl (one, found.1)) };
             }
-        | inr full ↦
-            let front : lines (stream.searched ++ stream.rest) ≡ to.searched ++ (lines stream.searches.left ++ lines stream.rest) =
-            lines_append stream.searched stream.rest whole ∙ ap (λ (l : List (List ℕ)). l ++ lines stream.rest) to.cut ∙ append_assoc to.searched (lines stream.searches.left) (lines stream.rest) in
+        | inr (full, past) ↦
+            let front : lines (stream.searched ++ stream.rest) ≡ told.searched ++ (lines told.left ++ lines stream.rest) =
+            lines_append stream.searched stream.rest whole ∙ ap (λ (l : List (List ℕ)). l ++ lines stream.rest) told.cut ∙ append_assoc told.searched (lines told.left) (lines stream.rest) in
             record {
-              file = file_whole state left held meanwhile held' text tells.bytes known
-                  (subst (λ (ls : List (List ℕ)). TellsOfLines p job job.first 0 ls tells.bytes state.selected) (sym same)
-                  (tells_full p job to.searched later job.first 0 state.selected tells.bytes full tells.told)) tells.written any ends;
+              file = file_whole state left held meanwhile held' text told.bytes told.plain known
+                  (subst (λ (ls : List (List ℕ)). TellsOfLines p job job.first 0 ls told.plain state.selected) (sym same)
+                  (tells_full p job told.searched later job.first 0 state.selected told.plain full told.tells))
+                  (subst (λ (ls : List (List ℕ)). TellsFile p job ls told.bytes state.selected) (sym same) (told.file later (inr (full, past)))) told.written any ends;
               reads = record {
                 bytes = stream.searched ++ stream.rest;
                 read = stream.consumed;
                 ended = inr (inr (
-                  tells.bytes,
+                  told.plain,
                   state.selected,
-                  subst (λ (ls : List (List ℕ)). TellsOfLines p job job.first 0 ls tells.bytes state.selected) (sym front)
-                      (tells_full p job to.searched (lines stream.searches.left ++ lines stream.rest) job.first 0 state.selected tells.bytes full tells.told),
+                  subst (λ (ls : List (List ℕ)). TellsOfLines p job job.first 0 ls told.plain state.selected) (sym front)
+                      (tells_full p job told.searched (lines told.left ++ lines stream.rest) job.first 0 state.selected told.plain full told.tells),
                   full,
                 ));
               };
             }
       ]
 
-  pub reader_searched : (state : State) (left left' held meanwhile held' : Option (List ℕ)) → SearchesStream p job (course (at_begin job.first) state held meanwhile left left')
+  pub reader_searched : (before state : State) (left left' held meanwhile held' : Option (List ℕ)) → IsBegin job before → SearchesStream p job (course before state held meanwhile left left')
       → (any : Bool) → EndsFile job state.selected meanwhile held' any → SearchesReader p job left left' held held' any
-  reader_searched state left left' held meanwhile held' stream any ends =
+  reader_searched before state left left' held meanwhile held' begin stream any ends =
       elim stream.ends [
-        | inl (empty, end) ↦ read_whole state left left' held meanwhile held' stream empty end any ends
-        | inr (whole, settled) ↦ read_front state left left' held meanwhile held' stream whole settled any ends
+        | inl (empty, end) ↦ read_whole before state left left' held meanwhile held' begin stream empty end any ends
+        | inr (whole, settled) ↦ read_front before state left left' held meanwhile held' begin stream whole settled any ends
       ]
 
 -- what follows where a file was searched
@@ -245,14 +329,14 @@ if_searched Unread P Q follows is = tt
 if_searched Stopped P Q follows is = tt
 
 -- standard input is the file of its name
-pub input_searched : (p : Patterns) (job named : Job) (holds : List ℕ → Option (List ℕ)) (name : List ℕ) (left left' held held' : Option (List ℕ)) → is_input name ≡ true
-    → IsNamed job (codes "(standard input)") named → (any : Bool) → SearchesReader p named left left' held held' any → SearchesName p job holds name left left' held held' any
-input_searched p job named holds name left left' held held' input is any done =
+pub input_searched : (p : Patterns) (job named : Job) (follows : Bool) (holds : List ℕ → Option (List ℕ)) (name : List ℕ) (left left' held held' : Option (List ℕ)) → is_input name ≡ true
+    → IsNamed job (codes "(standard input)") follows named → (any : Bool) → SearchesReader p named left left' held held' any → SearchesName p job follows holds name left left' held held' any
+input_searched p job named follows holds name left left' held held' input is any done =
     let shown : shown_name name ≡ codes "(standard input)" = rw input refl in
     let known : known_of holds name left ≡ left = rw input refl in
     record {
       named = named;
-      is_named = subst (λ (n : List ℕ). IsNamed job n named) (sym shown) is;
+      is_named = subst (λ (n : List ℕ). IsNamed job n follows named) (sym shown) is;
       file = subst (λ (bytes : Option (List ℕ)). SearchesFile p named bytes held held' any) (sym known) done.file;
       reads = subst (λ (b : Bool). MatchBool b (IsRead p named left left' any) (left' ≡ left)) (sym input) done.reads;
     }

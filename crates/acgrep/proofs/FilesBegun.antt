@@ -1,16 +1,19 @@
 -- What is written of a file that is not searched to its end.
-use Rattle.std.proofs.Common.{◌≡◌, inl, inr, ◌⊎◌, ℕ, Bool, List, [], ◌∷◌, ◌++◌, Option, None, Some, IfSome, drop, take, take-append-drop, refl, sym, ◌∙◌, ap, subst, append_assoc, append-nil}
+use Rattle.std.proofs.Common.{arith, ◌≡◌, inl, inr, ◌⊎◌, ℕ, Bool, List, [], ◌∷◌, ◌++◌, Option, None, Some, IfSome, drop, take, take-append-drop, refl, sym, ◌∙◌, ap, subst, append_assoc, append-nil}
+use Rattle.std.specs.Prelude.{◌||◌}
 use Rattle.std.specs.Io.KnownBytes.{Appends, Keeps}
 use Rattle.std.proofs.KnownBytes.{Appends-trans, Keeps-trans}
 use Rattle.aho_core.specs.Patterns.{Patterns}
 use Rattle.acgrep.specs.Alone.{asks_alone}
-use Rattle.acgrep.specs.Files.{AreFilesBegun, BeginsFile, BeginsTotal, IfBroken, total_if}
+use Rattle.acgrep.specs.Contexts.{BeginsAsked, IsBegin, WalksBegun, around_by, around_of, walk_of}
+use Rattle.acgrep.specs.Files.{AreFilesBegun, BeginsAround, BeginsFile, BeginsFileIn, BeginsPlain, BeginsTotal, IfBroken, total_if}
 use Rattle.acgrep.specs.Lines.{lines}
 use Rattle.acgrep.specs.Streamed.{BeginsStream, course}
 use Rattle.aho_devices.specs.Counts.{AppendsBeginning}
-use Rattle.acgrep.specs.Written.{ShowsBy, StartsNext, after_lines, at_begin}
+use Rattle.acgrep.specs.Written.{BeginsLines, ShowsBy, StartsNext, TellsOfLines, after_lines}
 use Rattle.acgrep.specs.declared.files.Outcome.{Outcome}
 use Rattle.acgrep.specs.declared.files.Outcome.TheVariants.{Searched, Unread, Stopped}
+use Rattle.acgrep.specs.declared.options.Context.{Context}
 use Rattle.acgrep.specs.declared.options.Shown.{Shown}
 use Rattle.acgrep.specs.declared.options.Shown.TheVariants.{Lines, Matches, Objects, Count, Names, Lacking, Nothing}
 use Rattle.acgrep.specs.declared.print.Place.{Place}
@@ -19,6 +22,7 @@ use Rattle.acgrep.specs.declared.select.Job.{Job}
 use Rattle.acgrep.specs.declared.select.State.{State}
 use Rattle.acgrep.proofs.Beginnings.{starts_more, starts_none}
 use Rattle.acgrep.proofs.FileTellings.{text_behind}
+use Rattle.acgrep.proofs.Grouped.{told_around}
 use Rattle.acgrep.proofs.LineLists.{lines_append}
 use Rattle.acgrep.proofs.Streams.{keeps_nil}
 
@@ -81,14 +85,12 @@ module _ (p : Patterns) (job : Job) where
   either_none place (line ∷ rest) begun count total missing (inr (goes, selected, starts)) cut =
       one_none p job.shown (asks_alone job.fit) job.invert job.style place line starts.shown begun starts.missing count total missing starts.shows starts.cut cut
 
-  -- a stream that was broken off, and a beginning of what is asked of the file as a whole
-  pub file_begins : (state : State) (left left' held meanwhile held' : Option (List ℕ)) → BeginsStream p job (course (at_begin job.first) state held meanwhile left left')
-      → BeginsTotal job state.selected meanwhile held' → BeginsFile p job left held held'
-  file_begins state left left' held meanwhile held' stream total =
+  -- the lines of a text that was read, and those behind it
+  lines_read : (before state : State) (left left' held meanwhile : Option (List ℕ)) (stream : BeginsStream p job (course before state held meanwhile left left'))
+      → (text : List ℕ) × IfSome left (λ (all : List ℕ). text ≡ all) × (others : List (List ℕ)) × (lines text ≡ lines stream.searched ++ others)
+  lines_read before state left left' held meanwhile stream =
       let (more, known, none) = text_behind left left' (stream.searched ++ stream.rest) stream.consumed in
       let text = (stream.searched ++ stream.rest) ++ more in
-      let begins = stream.begins in
-      let start = after_lines job.first begins.first in
       let (others, cut) : (others : List (List ℕ)) × (lines text ≡ lines stream.searched ++ others) =
       elim stream.ends [
         | inl whole ↦ (lines (stream.rest ++ more), ap lines (append_assoc stream.searched stream.rest more) ∙ lines_append stream.searched (stream.rest ++ more) whole)
@@ -98,41 +100,98 @@ module _ (p : Patterns) (job : Job) where
               ∙ ap (λ (l : List ℕ). stream.searched ++ l) empty ∙ append-nil stream.searched) ∙ sym (append-nil (lines stream.searched)),
         )
       ] in
+      (text, known, others, cut)
+
+  -- lines of which a beginning was told, and a beginning of what is asked of the file as a whole
+  plain_begins : (before state : State) (known held meanwhile held' : Option (List ℕ)) (text : List ℕ) (ls others : List (List ℕ)) → IsBegin job before
+      → IfSome known (λ (all : List ℕ). text ≡ all) → lines text ≡ ls ++ others
+      → BeginsLines p job before state.selected held meanwhile ls → BeginsTotal job state.selected meanwhile held' → BeginsPlain p job known held held'
+  plain_begins before state known held meanwhile held' text ls others begin of cut begins total =
+      let start = after_lines job.first begins.first in
+      let there : after_lines before.place begins.first ≡ start = ap (λ (at : Place). after_lines at begins.first) begin.place in
+      let starts = subst (λ (at : Place). StartsNext p job at state.selected begins.left begins.begun) there begins.starts in
+      let tells = subst (λ (at : Place). TellsOfLines p job at 0 begins.first begins.told state.selected) begin.place
+      (subst (λ (n : ℕ). TellsOfLines p job before.place n begins.first begins.told state.selected) begin.selected begins.tells) in
       let all : lines text ≡ begins.first ++ (begins.left ++ others) = cut ∙ ap (λ (l : List (List ℕ)). l ++ others) begins.cut ∙ append_assoc begins.first begins.left others in
       let written : Appends held held' ((begins.told ++ begins.begun) ++ total.begun) =
       Appends-trans held meanwhile held' (begins.told ++ begins.begun) total.begun begins.written total.written in
-      elim (either_none start begins.left begins.begun state.selected total.begun total.missing begins.starts total.cut) [
+      elim (either_none start begins.left begins.begun state.selected total.begun total.missing starts total.cut) [
         | inl no_line ↦ record {
           text = text;
-          of = known;
+          of = of;
           first = begins.first;
           left = begins.left ++ others;
           cut = all;
           told = begins.told;
           count = state.selected;
-          tells = begins.tells;
+          tells = tells;
           begun = total.begun;
           starts = inr (total.missing, total.cut);
           written = subst (λ (l : List ℕ). Appends held held' (l ++ total.begun)) (ap (λ (l : List ℕ). begins.told ++ l) no_line ∙ append-nil begins.told) written;
         }
         | inr no_total ↦ record {
           text = text;
-          of = known;
+          of = of;
           first = begins.first;
           left = begins.left ++ others;
           cut = all;
           told = begins.told;
           count = state.selected;
-          tells = begins.tells;
+          tells = tells;
           begun = begins.begun;
-          starts = inl (starts_more p job start state.selected begins.left others begins.begun begins.starts);
+          starts = inl (starts_more p job start state.selected begins.left others begins.begun starts);
           written = subst (Appends held held') (ap (λ (l : List ℕ). (begins.told ++ begins.begun) ++ l) no_total ∙ append-nil (begins.told ++ begins.begun)) written;
         }
       ]
 
+  -- the same with lines around selected ones
+  around_begins : (context : Context) (before state : State) (known held meanwhile held' : Option (List ℕ)) (text : List ℕ) (ls others : List (List ℕ)) → IsBegin job before
+      → IfSome known (λ (all : List ℕ). text ≡ all) → lines text ≡ ls ++ others → WalksBegun p job context (walk_of before) held meanwhile ls → Appends meanwhile held' []
+      → BeginsAround p job context known held held'
+  around_begins context before state known held meanwhile held' text ls others begin of cut begins keeps = record {
+    text = text;
+    of = of;
+    first = begins.first;
+    left = begins.left ++ others;
+    cut = cut ∙ ap (λ (l : List (List ℕ)). l ++ others) begins.cut ∙ append_assoc begins.first begins.left others;
+    all = begins.all;
+    count = begins.end.selected;
+    tells = told_around p job context begins.first (walk_of before) begins.end begins.all begin.place begin.selected begin.trail.due begin.trail.some begin.trail.apart begin.trail.held begins.walks;
+    begun = begins.begun;
+    missing = begins.missing;
+    is = begins.is;
+    written = subst (Appends held held') (append-nil begins.begun) (Appends-trans held meanwhile held' begins.begun [] begins.written keeps);
+  }
+
+  -- nothing is asked of a file as a whole where lines around selected ones are written
+  no_total : (shown : Shown) (asked : Option Context) (context : Context) (style : Style) (count : ℕ) → around_by shown asked ≡ Some context → total_if shown style count ≡ []
+  no_total Lines asked context style count is = refl
+  no_total Matches asked context style count is = refl
+  no_total Objects asked context style count is = absurd (cc)
+  no_total Count asked context style count is = absurd (cc)
+  no_total Names asked context style count is = absurd (cc)
+  no_total Lacking asked context style count is = absurd (cc)
+  no_total Nothing asked context style count is = absurd (cc)
+
+  begins_in : (around : Option Context) → around_of job ≡ around → (before state : State) (known held meanwhile held' : Option (List ℕ)) (text : List ℕ) (ls others : List (List ℕ)) → IsBegin job before
+      → IfSome known (λ (all : List ℕ). text ≡ all) → lines text ≡ ls ++ others → BeginsAsked p job around before state.selected held meanwhile ls → BeginsTotal job state.selected meanwhile held'
+      → BeginsFileIn p job around known held held'
+  begins_in None is before state known held meanwhile held' text ls others begin of cut begins total =
+      plain_begins before state known held meanwhile held' text ls others begin of cut begins total
+  begins_in (Some context) is before state known held meanwhile held' text ls others begin of cut begins total =
+      let none : total.begun ≡ [] = nil_front total.begun total.missing (sym (no_total job.shown job.context context job.style state.selected is) ∙ total.cut) in
+      around_begins context before state known held meanwhile held' text ls others begin of cut begins (subst (Appends meanwhile held') none total.written)
+
+  -- a stream that was broken off, and a beginning of what is asked of the file as a whole
+  pub file_begins : (before state : State) (left left' held meanwhile held' : Option (List ℕ)) → IsBegin job before → BeginsStream p job (course before state held meanwhile left left')
+      → BeginsTotal job state.selected meanwhile held' → BeginsFile p job left held held'
+  file_begins before state left left' held meanwhile held' begin stream total =
+      let (text, known, others, cut) = lines_read before state left left' held meanwhile stream in
+      begins_in (around_of job) refl before state left held meanwhile held' text (lines stream.searched) others begin known cut stream.begins total
+
   -- nothing is written of a file
-  pub file_none : (known held held' : Option (List ℕ)) → Keeps held held' → BeginsFile p job known held held'
-  file_none None held held' keeps = record {
+  none_plain : (known held held' : Option (List ℕ)) → Keeps held held' → BeginsPlain p job known held held'
+  none_plain None held held' keeps = record {
     text = [];
     of = tt;
     first = [];
@@ -145,7 +204,7 @@ module _ (p : Patterns) (job : Job) where
     starts = inl refl;
     written = keeps_nil held held' keeps;
   }
-  file_none (Some bytes) held held' keeps = record {
+  none_plain (Some bytes) held held' keeps = record {
     text = bytes;
     of = refl;
     first = [];
@@ -159,14 +218,46 @@ module _ (p : Patterns) (job : Job) where
     written = keeps_nil held held' keeps;
   }
 
+  none_around : (context : Context) (text : List ℕ) (known held held' : Option (List ℕ)) → IfSome known (λ (all : List ℕ). text ≡ all) → Keeps held held' → BeginsAround p job context known held held'
+  none_around context text known held held' of keeps = record {
+    text = text;
+    of = of;
+    first = [];
+    left = lines text;
+    cut = refl;
+    all = [];
+    count = 0;
+    tells = record {
+      chosen = [];
+      written = [];
+      are_chosen = refl;
+      are_written = record { as_many = refl; near = λ i is. absurd (cc); all = λ i low near. absurd (omega (arith, low)) };
+      tells = refl;
+    };
+    begun = [];
+    missing = [];
+    is = refl;
+    written = keeps_nil held held' keeps;
+  }
+
+  none_in : (around : Option Context) (known held held' : Option (List ℕ)) → Keeps held held' → BeginsFileIn p job around known held held'
+  none_in None known held held' keeps = none_plain known held held' keeps
+  none_in (Some context) None held held' keeps = none_around context [] None held held' tt keeps
+  none_in (Some context) (Some bytes) held held' keeps = none_around context bytes (Some bytes) held held' refl keeps
+
+  -- nothing is written of a file
+  pub file_none : (known held held' : Option (List ℕ)) → Keeps held held' → BeginsFile p job known held held'
+  file_none known held held' keeps = none_in (around_of job) known held held' keeps
+
 of_kept : (known known' : Option (List ℕ)) (text : List ℕ) → Keeps known known' → IfSome known' (λ (bytes : List ℕ). text ≡ bytes) → IfSome known (λ (bytes : List ℕ). text ≡ bytes)
 of_kept None known' text keeps of = tt
 of_kept (Some xs) None text keeps of = absurd keeps
 of_kept (Some xs) (Some ys) text keeps of = of ∙ keeps
 
 -- the bytes of the file are those of its reader
-pub file_known : (p : Patterns) (job : Job) (known known' held held' : Option (List ℕ)) → Keeps known known' → BeginsFile p job known' held held' → BeginsFile p job known held held'
-file_known p job known known' held held' keeps begins = record {
+known_in : (around : Option Context) (p : Patterns) (job : Job) (known known' held held' : Option (List ℕ)) → Keeps known known' → BeginsFileIn p job around known' held held'
+    → BeginsFileIn p job around known held held'
+known_in None p job known known' held held' keeps begins = record {
   text = begins.text;
   of = of_kept known known' begins.text keeps begins.of;
   first = begins.first;
@@ -179,17 +270,36 @@ file_known p job known known' held held' keeps begins = record {
   starts = begins.starts;
   written = begins.written;
 }
+known_in (Some context) p job known known' held held' keeps begins = record {
+  text = begins.text;
+  of = of_kept known known' begins.text keeps begins.of;
+  first = begins.first;
+  left = begins.left;
+  cut = begins.cut;
+  all = begins.all;
+  count = begins.count;
+  tells = begins.tells;
+  begun = begins.begun;
+  missing = begins.missing;
+  is = begins.is;
+  written = begins.written;
+}
+
+pub file_known : (p : Patterns) (job : Job) (known known' held held' : Option (List ℕ)) → Keeps known known' → BeginsFile p job known' held held' → BeginsFile p job known held held'
+file_known p job known known' held held' keeps begins = known_in (around_of job) p job known known' held held' keeps begins
 
 module _ (p : Patterns) (job : Job) (holds : List ℕ → Option (List ℕ)) where
   -- nothing is written
-  pub begun_none : (names : List (List ℕ)) (left held held' : Option (List ℕ)) → Keeps held held' → AreFilesBegun p job holds names left held held'
-  begun_none [] left held held' keeps = keeps
-  begun_none (name ∷ names) left held held' keeps = inl keeps
+  pub begun_none : (follows : Bool) (names : List (List ℕ)) (left held held' : Option (List ℕ)) → Keeps held held' → AreFilesBegun p job follows holds names left held held'
+  begun_none follows [] left held held' keeps = keeps
+  begun_none follows (name ∷ names) left held held' keeps = inl keeps
 
   -- the output keeps what it holds
-  pub begun_kept : (held' held'' : Option (List ℕ)) → Keeps held' held'' → (names : List (List ℕ)) (left held : Option (List ℕ)) → AreFilesBegun p job holds names left held held'
-      → AreFilesBegun p job holds names left held held''
-  begun_kept held' held'' kept [] left held begun = Keeps-trans held held' held'' begun kept
-  begun_kept held' held'' kept (name ∷ names) left held (inl keeps) = inl (Keeps-trans held held' held'' keeps kept)
-  begun_kept held' held'' kept (name ∷ names) left held (inr (between, meanwhile, leaves, one, more)) =
-      inr (between, meanwhile, leaves, one, begun_kept held' held'' kept names between meanwhile more)
+  pub begun_kept : (held' held'' : Option (List ℕ)) → Keeps held' held'' → (names : List (List ℕ)) (follows : Bool) (left held : Option (List ℕ)) → AreFilesBegun p job follows holds names left held held'
+      → AreFilesBegun p job follows holds names left held held''
+  begun_kept held' held'' kept [] follows left held begun = Keeps-trans held held' held'' begun kept
+  begun_kept held' held'' kept (name ∷ names) follows left held (inl keeps) = inl (Keeps-trans held held' held'' keeps kept)
+  begun_kept held' held'' kept (name ∷ names) follows left held (inr (between, meanwhile, leaves, inl (any, searched, more))) =
+      inr (between, meanwhile, leaves, inl (any, searched, begun_kept held' held'' kept names (follows || any) between meanwhile more))
+  begun_kept held' held'' kept (name ∷ names) follows left held (inr (between, meanwhile, leaves, inr (broken, more))) =
+      inr (between, meanwhile, leaves, inr (broken, begun_kept held' held'' kept names follows between meanwhile more))

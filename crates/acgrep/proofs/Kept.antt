@@ -1,5 +1,5 @@
 -- What was done is as it was where the output keeps its bytes.
-use Rattle.std.proofs.Common.{◌≡◌, inl, inr, ℕ, Bool, List, [], ◌∷◌, Option, Some, ◌∙◌, subst, sym}
+use Rattle.std.proofs.Common.{false, ◌≡◌, inl, inr, ℕ, Bool, List, [], ◌∷◌, Option, Some, ◌∙◌, subst, sym}
 use Rattle.std.specs.Prelude.{MatchBool}
 use Rattle.std.specs.Io.KnownBytes.{Keeps}
 use Rattle.std.proofs.KnownBytes.{Keeps-trans}
@@ -71,7 +71,7 @@ module _ (held' held'' : Option (List ℕ)) (kept : Keeps held' held'') where
     read = begins.read;
     job = begins.job;
     is_job = begins.is_job;
-    begun = begun_kept (patterns_asked (kind_sought flags) flags.ignore_case (words_sought flags begins.words)) begins.job holds held' held'' kept (or_input names) begins.between held begins.begun;
+    begun = begun_kept (patterns_asked (kind_sought flags) flags.ignore_case (words_sought flags begins.words)) begins.job holds held' held'' kept (or_input names) false begins.between held begins.begun;
   })
 
 -- what was said is one thing alone

@@ -13,9 +13,9 @@ use Rattle.aho_core.specs.declared.search.Span.{Span}
 use Rattle.aho_laws.specs.CutLaws.{moved}
 use Rattle.aho_laws.proofs.ClearCuts.{Occurs-in}
 use Rattle.aho_laws.proofs.SpanTexts.{Occurs-moved, Occurs-moved_back, length_part, moved-zero, moved_back}
-use Rattle.acgrep.specs.Lines.{IsNewline, joined_to, lines}
+use Rattle.acgrep.specs.Lines.{EndsLine, IsNewline, joined_to, lines}
 use Rattle.acgrep.specs.Selected.{HoldNoNewline, IsFirstWith}
-use Rattle.acgrep.specs.Written.{EachLine, EndsLine, HasMatch, HasNone}
+use Rattle.acgrep.specs.Written.{EachLine, HasMatch, HasNone}
 use Rattle.acgrep.proofs.Around.{behind_newline, ends_before, front_newline, newline_behind}
 use Rattle.acgrep.proofs.FirstLines.{lines_first, lines_joined}
 

@@ -53,16 +53,16 @@ status_clean Nothing false = refl
 module _ (p : Patterns) (job : Job) (holds : List ℕ → Option (List ℕ)) (names : List (List ℕ)) (begin held₀ : Option (List ℕ)) where
   -- the files before those of `rest` were searched
   pub record SoFar (rest : List (List ℕ)) (left held : Option (List ℕ)) (seen : Seen) : Type 0 where
-    pub ended : seen.failed ≡ false → seen.ended ≡ true → AreFilesSearched p job holds names begin left held₀ held true × (seen.selected ≡ true)
-    pub on : seen.failed ≡ false → seen.ended ≡ false → (left' held' : Option (List ℕ)) (any : Bool) → AreFilesSearched p job holds rest left left' held held' any
-        → AreFilesSearched p job holds names begin left' held₀ held' (seen.selected || any)
+    pub ended : seen.failed ≡ false → seen.ended ≡ true → AreFilesSearched p job false holds names begin left held₀ held true × (seen.selected ≡ true)
+    pub on : seen.failed ≡ false → seen.ended ≡ false → (left' held' : Option (List ℕ)) (any : Bool) → AreFilesSearched p job seen.selected holds rest left left' held held' any
+        → AreFilesSearched p job false holds names begin left' held₀ held' (seen.selected || any)
     pub finds : OneIsSelected p job holds rest left → OneIsSelected p job holds names begin
     pub found : job.shown ≡ Nothing → seen.selected ≡ true → OneIsSelected p job holds names begin
-    pub begun : (held' : Option (List ℕ)) → AreFilesBegun p job holds rest left held held' → AreFilesBegun p job holds names begin held₀ held'
+    pub begun : (held' : Option (List ℕ)) → AreFilesBegun p job seen.selected holds rest left held held' → AreFilesBegun p job false holds names begin held₀ held'
 
   -- in a file that was searched
-  name_has : (name : List ℕ) (left left' held held' : Option (List ℕ)) → SearchesName p job holds name left left' held held' true → HasSelected p job (known_of holds name left)
-  name_has name left left' held held' searched = (
+  name_has : (follows : Bool) (name : List ℕ) (left left' held held' : Option (List ℕ)) → SearchesName p job follows holds name left left' held held' true → HasSelected p job (known_of holds name left)
+  name_has follows name left left' held held' searched = (
     searched.file.text,
     searched.file.of,
     subst (λ (invert : Bool). IsAny p job.fit invert (lines searched.file.text) true) searched.is_named.invert
@@ -71,19 +71,19 @@ module _ (p : Patterns) (job : Job) (holds : List ℕ → Option (List ℕ)) (na
 
   -- one file more
   pub so_far_step : (name : List ℕ) (rest : List (List ℕ)) (left left' held held' : Option (List ℕ)) (seen : Seen) (outcome : Outcome) → seen.ended ≡ false
-      → SoFar (name ∷ rest) left held seen → LeavesInput name left left' → IfSearched outcome (SearchesName p job holds name left left' held held')
-      → IfBroken outcome (BeginsName p job holds name left held held') → SoFar rest left' held' (seen_after job.shown seen outcome)
+      → SoFar (name ∷ rest) left held seen → LeavesInput name left left' → IfSearched outcome (SearchesName p job seen.selected holds name left left' held held')
+      → IfBroken outcome (BeginsName p job seen.selected holds name left held held') → SoFar rest left' held' (seen_after job.shown seen outcome)
   so_far_step name rest left left' held held' seen (Searched first) goes so_far leaves searched broken = record {
     ended = λ clean ends.
         let enough : is_enough job.shown first ≡ true = subst (λ (b : Bool). (b || is_enough job.shown first) ≡ true) goes ends in
         let only = enough_only job.shown first enough in (
-          subst (AreFilesSearched p job holds names begin left' held₀ held') (or_true seen.selected)
+          subst (AreFilesSearched p job false holds names begin left' held₀ held') (or_true seen.selected)
               (so_far.on clean goes left' held' true (left', held', first, searched, rw enough (refl, Keeps-refl held', refl))),
           ap (λ (b : Bool). seen.selected || b) only.1 ∙ or_true seen.selected,
         );
     on = λ clean next left'' held'' others more.
         let enough : is_enough job.shown first ≡ false = subst (λ (b : Bool). (b || is_enough job.shown first) ≡ false) goes next in
-        subst (AreFilesSearched p job holds names begin left'' held₀ held'') (or_both seen.selected first others)
+        subst (AreFilesSearched p job false holds names begin left'' held₀ held'') (or_both seen.selected first others)
         (so_far.on clean goes left'' held'' (first || others) (left', held', first, searched, rw enough (others, more, refl)));
     finds = λ one. so_far.finds (inr (left', leaves, one));
     found = λ quiet is.
@@ -91,23 +91,23 @@ module _ (p : Patterns) (job : Job) (holds : List ℕ → Option (List ℕ)) (na
           | inl before ↦ so_far.found quiet before
           | inr not ↦
               let here : first ≡ true = subst (λ (b : Bool). (b || first) ≡ true) not is in
-              so_far.finds (inl (name_has name left left' held held' (subst (SearchesName p job holds name left left' held held') here searched)))
+              so_far.finds (inl (name_has seen.selected name left left' held held' (subst (SearchesName p job seen.selected holds name left left' held held') here searched)))
         ];
-    begun = λ held'' more. so_far.begun held'' (inr (left', held', leaves, inl (first, searched), more));
+    begun = λ held'' more. so_far.begun held'' (inr (left', held', leaves, inl (first, searched, more)));
   }
   so_far_step name rest left left' held held' seen Unread goes so_far leaves searched broken = record {
     ended = λ clean ends. absurd (cc);
     on = λ clean next left'' held'' others more. absurd (cc);
     finds = λ one. so_far.finds (inr (left', leaves, one));
     found = so_far.found;
-    begun = λ held'' more. so_far.begun held'' (inr (left', held', leaves, inr broken, more));
+    begun = λ held'' more. so_far.begun held'' (inr (left', held', leaves, inr (broken, more)));
   }
   so_far_step name rest left left' held held' seen Stopped goes so_far leaves searched broken = record {
     ended = λ clean ends. absurd (cc);
     on = λ clean next left'' held'' others more. absurd (cc);
     finds = λ one. so_far.finds (inr (left', leaves, one));
     found = so_far.found;
-    begun = λ held'' more. so_far.begun held'' (inr (left', held', leaves, inr broken, more));
+    begun = λ held'' more. so_far.begun held'' (inr (left', held', leaves, inr (broken, more)));
   }
 
   -- none is left, or nothing more is to be searched
@@ -116,11 +116,11 @@ module _ (p : Patterns) (job : Job) (holds : List ℕ → Option (List ℕ)) (na
   so_far_end rest left held seen ends so_far = record {
     searched = λ clean.
         elim (cases_Bool seen.ended) [
-          | inl is ↦ let (all, selected) = so_far.ended clean is in subst (AreFilesSearched p job holds names begin left held₀ held) (sym selected) all
+          | inl is ↦ let (all, selected) = so_far.ended clean is in subst (AreFilesSearched p job false holds names begin left held₀ held) (sym selected) all
           | inr goes ↦
               let none : rest ≡ [] = elim ends [ inl none ↦ none | inr is ↦ absurd (cc) ] in
-              subst (AreFilesSearched p job holds names begin left held₀ held) (or_false seen.selected)
-              (so_far.on clean goes left held false (subst (λ (l : List (List ℕ)). AreFilesSearched p job holds l left left held held false) (sym none) (refl, Keeps-refl held, refl)))
+              subst (AreFilesSearched p job false holds names begin left held₀ held) (or_false seen.selected)
+              (so_far.on clean goes left held false (subst (λ (l : List (List ℕ)). AreFilesSearched p job seen.selected holds l left left held held false) (sym none) (refl, Keeps-refl held, refl)))
         ];
     found = so_far.found;
   }

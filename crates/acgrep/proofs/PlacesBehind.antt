@@ -4,8 +4,8 @@ use Rattle.std.proofs.lemmas.Bool.{cases_Bool}
 use Rattle.std.proofs.Math.Nat.{mod-add-mod, mod-eq_of_lt, mod-lt}
 use Rattle.std.specs.Prelude.{slice_index}
 use Rattle.memchr.specs.Find.{is_byte, places, places_from}
-use Rattle.acgrep.specs.Lines.{joined_to, lines}
-use Rattle.acgrep.specs.Written.{EndsLine, NumbersLines, SamePlace, after_line, after_lines}
+use Rattle.acgrep.specs.Lines.{EndsLine, joined_to, lines}
+use Rattle.acgrep.specs.Written.{NumbersLines, SamePlace, after_line, after_lines}
 use Rattle.acgrep.specs.declared.print.Place.{Place}
 use Rattle.acgrep.specs.declared.select.Job.{Job}
 use Rattle.acgrep.proofs.FirstLines.{lines_joined}

@@ -6,15 +6,18 @@ use Rattle.std.proofs.KnownBytes.{Appends-trans, Consumes-trans, Consumes-nil, K
 use Rattle.std.proofs.Math.Seq.{drop-append_seam, drop-append-add}
 use Rattle.std.proofs.lemmas.List.{get_or-append-add, length-take-le}
 use Rattle.aho_core.specs.Patterns.{Patterns}
-use Rattle.acgrep.specs.Lines.{IsNewline, lines}
+use Rattle.acgrep.specs.Lines.{EndsLine, IsNewline, lines}
 use Rattle.acgrep.specs.Filled.{FillsBehind, ReadsOn}
 use Rattle.acgrep.specs.Streamed.{ReadsSome, SearchesLines, SearchesStream, SearchesWhole, course}
-use Rattle.acgrep.specs.Written.{EndsLine, IsSettled, SamePlace, SearchesText, after_lines}
+use Rattle.acgrep.specs.Contexts.{SearchesIn, SearchesText, around_of}
+use Rattle.acgrep.specs.Written.{IsSettled, SamePlace, SearchesPlain, after_lines}
+use Rattle.acgrep.specs.declared.options.Context.{Context}
 use Rattle.acgrep.specs.declared.print.Place.{Place}
 use Rattle.acgrep.specs.declared.select.Job.{Job}
 use Rattle.acgrep.specs.declared.select.State.{State}
 use Rattle.acgrep.proofs.Around.{front_newline}
 use Rattle.acgrep.proofs.LineLists.{ends_drop, lines_append}
+use Rattle.acgrep.proofs.Walked.{text_behind_kept, text_join, text_none}
 use Rattle.acgrep.proofs.Tellings.{after_append, same_lines, same_place, same_trans, tells_join}
 
 -- bytes that are kept grow by none
@@ -43,9 +46,9 @@ ends_joined front (byte ∷ back) one other = λ some.
     (subst (λ (b : ℕ). (b == 10) ≡ true) (sym (get_or-append-add front (byte ∷ back) (length (byte ∷ back) - 1) 0)) (other (omega arith)))
 
 module _ (p : Patterns) (job : Job) where
-  pub searches_more : (a b c : State) (x y z : Option (List ℕ)) (front back : List ℕ) → EndsLine front → (IsSettled job b → ⊥)
-      → SearchesText p job a b x y front → SearchesText p job b c y z back → SearchesText p job a c x z (front ++ back)
-  searches_more a b c x y z front back whole goes one other =
+  plain_more : (a b c : State) (x y z : Option (List ℕ)) (front back : List ℕ) → EndsLine front → (IsSettled job b → ⊥)
+      → SearchesPlain p job a b x y front → SearchesPlain p job b c y z back → SearchesPlain p job a c x z (front ++ back)
+  plain_more a b c x y z front back whole goes one other =
       let first = one.searches in
       let second = other.searches in
       let none : one.left ≡ [] = elim one.ends [ inl none ↦ none | inr settled ↦ absurd (goes settled) ] in
@@ -68,6 +71,15 @@ module _ (p : Patterns) (job : Job) where
         };
         ends = other.ends;
       }
+
+  more_in : (around : Option Context) (a b c : State) (x y z : Option (List ℕ)) (front back : List ℕ) → EndsLine front → (IsSettled job b → ⊥)
+      → SearchesIn p job around a b x y front → SearchesIn p job around b c y z back → SearchesIn p job around a c x z (front ++ back)
+  more_in None a b c x y z front back whole goes one other = plain_more a b c x y z front back whole goes one other
+  more_in (Some context) a b c x y z front back whole goes one other = text_join p job context a b c x y z front back whole goes one other
+
+  pub searches_more : (a b c : State) (x y z : Option (List ℕ)) (front back : List ℕ) → EndsLine front → (IsSettled job b → ⊥)
+      → SearchesText p job a b x y front → SearchesText p job b c y z back → SearchesText p job a c x z (front ++ back)
+  searches_more a b c x y z front back whole goes one other = more_in (around_of job) a b c x y z front back whole goes one other
 
   pub stream_step : (a b c : State) (x y z l m n : Option (List ℕ)) (kept rest : List ℕ) (ended : Bool) → (IsSettled job b → ⊥)
       → SearchesLines p job (course a b x y l m) kept → ReadsSome p job (course b c y z m n) kept rest ended → SearchesLines p job (course a c x z l n) rest
@@ -112,8 +124,8 @@ module _ (p : Patterns) (job : Job) where
       (stream_step a b c x y z l m n kept rest ended goes so_far some) last
 
   -- nothing is searched, and what the writer holds stays
-  pub searches_none : (a : State) (x y : Option (List ℕ)) → Keeps x y → SearchesText p job a a x y []
-  searches_none a x y keeps = record {
+  plain_none : (a : State) (x y : Option (List ℕ)) → Keeps x y → SearchesPlain p job a a x y []
+  plain_none a x y keeps = record {
     left = [];
     searches = record {
       at = 0;
@@ -127,6 +139,13 @@ module _ (p : Patterns) (job : Job) where
     ends = inl refl;
   }
 
+  none_in : (around : Option Context) (a : State) (x y : Option (List ℕ)) → Keeps x y → SearchesIn p job around a a x y []
+  none_in None a x y keeps = plain_none a x y keeps
+  none_in (Some context) a x y keeps = text_none p job context a x y (keeps_nil x y keeps)
+
+  pub searches_none : (a : State) (x y : Option (List ℕ)) → Keeps x y → SearchesText p job a a x y []
+  searches_none a x y keeps = none_in (around_of job) a x y keeps
+
   -- at the begin nothing was searched or read
   pub stream_start : (a : State) (x l : Option (List ℕ)) (kept : List ℕ) → kept ≡ [] → SearchesLines p job (course a a x x l l) kept
   stream_start a x l kept none = record {
@@ -137,8 +156,8 @@ module _ (p : Patterns) (job : Job) where
   }
 
   -- what the writer held before stays
-  pub text_kept : (a b : State) (x y z : Option (List ℕ)) (text : List ℕ) → Keeps x y → SearchesText p job a b y z text → SearchesText p job a b x z text
-  text_kept a b x y z text keeps one =
+  plain_kept : (a b : State) (x y z : Option (List ℕ)) (text : List ℕ) → Keeps x y → SearchesPlain p job a b y z text → SearchesPlain p job a b x z text
+  plain_kept a b x y z text keeps one =
       let to = one.searches in
       record {
         left = one.left;
@@ -157,6 +176,13 @@ module _ (p : Patterns) (job : Job) where
         };
         ends = one.ends;
       }
+
+  kept_in : (around : Option Context) (a b : State) (x y z : Option (List ℕ)) (text : List ℕ) → Keeps x y → SearchesIn p job around a b y z text → SearchesIn p job around a b x z text
+  kept_in None a b x y z text keeps one = plain_kept a b x y z text keeps one
+  kept_in (Some context) a b x y z text keeps one = text_behind_kept p job context a b x y z text (keeps_nil x y keeps) one
+
+  pub text_kept : (a b : State) (x y z : Option (List ℕ)) (text : List ℕ) → Keeps x y → SearchesText p job a b y z text → SearchesText p job a b x z text
+  text_kept a b x y z text keeps one = kept_in (around_of job) a b x y z text keeps one
 
   -- a read that gives bytes, and the search of their whole lines
   pub reads_some : (a b : State) (x y z l m : Option (List ℕ)) (kept_before filled kept_after : List ℕ) (count : ℕ) → Keeps x y → FillsBehind kept_before filled l m count

@@ -9,10 +9,10 @@ use Rattle.aho_core.specs.Patterns.{Patterns}
 use Rattle.aho_core.specs.Occurrence.{Occurrence}
 use Rattle.acgrep.proofs.LineLists.{ends_drop}
 use Rattle.acgrep.specs.Alone.{asks_alone}
-use Rattle.acgrep.specs.Lines.{lines}
+use Rattle.acgrep.specs.Lines.{EndsLine, lines}
 use Rattle.acgrep.specs.Objects.{objects_by}
 use Rattle.acgrep.specs.Printed.{WritesColored, color_of, colored_from, colored_line_by, head_of, match_by, matches_by, line_number_at, offset_at, painted, part_of}
-use Rattle.acgrep.specs.Written.{EachLine, EndsLine, HasNone, IsMatched, IsPassedOver, IsSelected, IsSettled, LineOf, DoesMatch, DoesNotMatch, SamePlace, SearchesTo, ShowsBy, TellsOfLines, TellsLines, WritesLine, WritesNext, after_line, after_lines, is_full, is_numbered, next_count, one_more, place_behind, selects}
+use Rattle.acgrep.specs.Written.{EachLine, HasNone, IsMatched, IsPassedOver, IsSelected, IsSettled, LineOf, DoesMatch, DoesNotMatch, SamePlace, SearchesTo, ShowsBy, TellsOfLines, TellsLines, WritesLine, WritesNext, after_line, after_lines, is_full, is_numbered, next_count, one_more, place_behind, selects}
 use Rattle.acgrep.specs.declared.options.Fit.{Fit}
 use Rattle.acgrep.specs.declared.options.Fit.TheVariants.{AnyPart, WholeWord, WholeLine}
 use Rattle.acgrep.specs.declared.options.Shown.{Shown}
@@ -158,7 +158,7 @@ full_some (Some most) count full = ltb-true 0 count (and_parts (nat_lt 0 count) 
 
 pub settled_some : (job : Job) (state : State) → IsSettled job state → 0 < state.selected
 settled_some job state (inl (one, some)) = some
-settled_some job state (inr full) = full_some job.most state.selected full
+settled_some job state (inr (full, past)) = full_some job.most state.selected full
 
 -- lines and those behind them
 pub tells_append : (p : Patterns) (job : Job) (ls ms : List (List ℕ)) (place : Place) (count mid total : ℕ) (bytes more : List ℕ)

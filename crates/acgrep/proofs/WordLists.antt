@@ -12,12 +12,12 @@ use Rattle.memchr.specs.Find.{Nowhere}
 use Rattle.aho_core.specs.declared.search.MatchKind.{MatchKind}
 use Rattle.acgrep.specs.Arguments.{Origin, origin_of}
 use Rattle.programs.specs.Names.{is_input}
-use Rattle.acgrep.specs.Lines.{IsNewline, joined_to, lines}
+use Rattle.acgrep.specs.Lines.{EndsLine, IsNewline, joined_to, lines}
 use Rattle.acgrep.specs.Loading.{AddsText, AddsWords}
 use Rattle.acgrep.specs.Runs.{AreWords, asks_none, kind_sought, origins_of, words_sought}
 use Rattle.acgrep.specs.Searchers.{patterns_asked}
 use Rattle.acgrep.specs.Selected.{HoldNoNewline}
-use Rattle.acgrep.specs.Written.{EachLine, EndsLine}
+use Rattle.acgrep.specs.Written.{EachLine}
 use Rattle.acgrep.specs.declared.arguments.Source.{Source}
 use Rattle.acgrep.specs.declared.options.Flags.{Flags}
 use Rattle.acgrep.proofs.Around.{newline_behind}

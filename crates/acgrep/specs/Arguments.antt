@@ -1,6 +1,7 @@
 -- What the arguments, those after the program's name, say.
 use Rattle.programs.specs.Arguments.{kind_by}
-use Rattle.std.specs.Prelude.{◌≡◌, ℕ, ◌==◌, ◌^◌, ◌||◌, ◌&&◌, nat_lt, Bool, true, false, List, [], ◌∷◌, ◌++◌, Option, Some, None, codes, drop, length, map, take, Result, IfErr, IfOk, OnOk, option_and_then, option_map, if◌then◌else◌}
+use Rattle.std.specs.Prelude.{◌≡◌, ℕ, ◌==◌, ◌^◌, ◌||◌, ◌&&◌, ◌<◌, nat_lt, slice_index, Bool, true, false, List, [], ◌∷◌, ◌++◌, Option, Some, None, codes, drop, is_some, not, unwrap_or, length, map, take, Result, IfErr, IfOk, OnOk, option_and_then, option_map, if◌then◌else◌}
+use Rattle.std.specs.Char.{is_ascii_digit}
 use Rattle.std.specs.Str.{all_ascii_digits, bytes_eq}
 use Rattle.std.specs.List.{after_first, before_first, position_or_len}
 use Rattle.std.specs.Str.Parse.{digits_value}
@@ -10,10 +11,11 @@ use Rattle.acgrep.specs.Long.{option_by}
 use Rattle.acgrep.specs.declared.long.Long.{Long}
 use Rattle.acgrep.specs.declared.long.Long.TheVariants.{Plain, Takes, When}
 use Rattle.acgrep.specs.declared.long.Valued.{Valued}
-use Rattle.acgrep.specs.declared.long.Valued.TheVariants.{Regexp, PatternFile, Kind, Offset, FirstLine, MaxCount}
+use Rattle.acgrep.specs.declared.long.Valued.TheVariants.{Regexp, PatternFile, Kind, Offset, FirstLine, MaxCount, After, Before, Around}
 use Rattle.acgrep.specs.declared.options.Color.{Color}
+use Rattle.acgrep.specs.declared.options.Context.{Context}
 use Rattle.acgrep.specs.declared.options.Switch.{Switch}
-use Rattle.acgrep.specs.declared.options.Switch.TheVariants.{IgnoreCase, MatchCase, Invert, WholeWords, WholeLines, Counts, Numbers, OnlyMatching, Offsets, OnlyNames, OnlyLacking, NullNames, Quiet, Json, NoName, WithName, NoMatchOk, NoMessages, Help, Version, Same}
+use Rattle.acgrep.specs.declared.options.Switch.TheVariants.{IgnoreCase, MatchCase, Invert, WholeWords, WholeLines, Counts, Numbers, OnlyMatching, Offsets, OnlyNames, OnlyLacking, NullNames, Quiet, NoSeparator, Json, NoName, WithName, NoMatchOk, NoMessages, Help, Version, Same}
 use Rattle.acgrep.specs.declared.arguments.Awaited.{Awaited}
 use Rattle.acgrep.specs.declared.arguments.Awaited.TheVariants.{Fresh, Argument, Operands}
 use Rattle.acgrep.specs.declared.arguments.Refusal.{Refusal}
@@ -87,6 +89,7 @@ switched OnlyNames flags = record flags { names = true; lacking = false }
 switched OnlyLacking flags = record flags { names = false; lacking = true }
 switched NullNames flags = record flags { null = true }
 switched Quiet flags = record flags { quiet = true }
+switched NoSeparator flags = record flags { joined = true }
 switched Json flags = record flags { json = true }
 switched NoName flags = record flags { with_name = Some false }
 switched WithName flags = record flags { with_name = Some true }
@@ -134,27 +137,80 @@ abbrev pub taken_by : Bool → List ℕ → Said → ReadSoFar
 taken_by is_file [] s = record { awaits = Argument (source_option is_file); said = s }
 taken_by is_file (first ∷ rest) s = said_so (with_source is_file (first ∷ rest) s)
 
+-- what an option with a number changes
+abbrev pub numbered_in : Valued → ℕ → Flags → Flags
+numbered_in Regexp number flags = flags
+numbered_in PatternFile number flags = flags
+numbered_in Kind number flags = flags
+numbered_in Offset number flags = record flags { first = number }
+numbered_in FirstLine number flags = record flags { first_line = number }
+numbered_in MaxCount number flags = record flags { most = Some number }
+numbered_in After number flags = record flags { after = Some number }
+numbered_in Before number flags = record flags { before = Some number }
+numbered_in Around number flags = record flags { context = Some number }
+
+abbrev pub with_number : Valued → ℕ → Said → Said
+with_number valued number s = record s { flags = numbered_in valued number s.flags }
+
+abbrev pub number_value : Valued → List ℕ → Said → Option ReadSoFar
+number_value valued argument s = option_map (λ number. said_so (with_number valued number s)) (number_by argument)
+
 -- the argument of an option
 abbrev pub value_by : Valued → List ℕ → Said → Option ReadSoFar
 value_by Regexp argument s = Some (said_so (with_source false argument s))
 value_by PatternFile argument s = Some (said_so (with_source true argument s))
 value_by Kind argument s = option_map (λ kind. said_so (record s { flags = record s.flags { kind = kind } })) (kind_by argument)
-value_by Offset argument s = option_map (λ first. said_so (record s { flags = record s.flags { first = first } })) (number_by argument)
-value_by FirstLine argument s = option_map (λ number. said_so (record s { flags = record s.flags { first_line = number } })) (number_by argument)
-value_by MaxCount argument s = option_map (λ number. said_so (record s { flags = record s.flags { most = Some number } })) (number_by argument)
+value_by Offset argument s = number_value Offset argument s
+value_by FirstLine argument s = number_value FirstLine argument s
+value_by MaxCount argument s = number_value MaxCount argument s
+value_by After argument s = number_value After argument s
+value_by Before argument s = number_value Before argument s
+value_by Around argument s = number_value Around argument s
 
--- that of `-m` too
-abbrev pub most_by : List ℕ → Said → Option ReadSoFar
-most_by [] s = Some (record { awaits = Argument MaxCount; said = s })
-most_by (first ∷ rest) s = value_by MaxCount (first ∷ rest) s
+-- the option of a letter whose argument is a number
+abbrev pub numbered : ℕ → Option Valued
+numbered letter =
+    if letter == 109 then Some MaxCount
+    else if letter == 65 then Some After
+    else if letter == 66 then Some Before
+    else if letter == 67 then Some Around
+    else None
 
--- joined letters
-abbrev pub letters_by : List ℕ → Said → Option ReadSoFar
-letters_by [] s = Some (said_so s)
-letters_by (letter ∷ rest) s =
+-- that number stands behind its letter too
+abbrev pub numbered_by : Valued → List ℕ → Said → Option ReadSoFar
+numbered_by valued [] s = Some (record { awaits = Argument valued; said = s })
+numbered_by valued (first ∷ rest) s = number_value valued (first ∷ rest) s
+
+-- so many digits stand at the front of letters, and then none
+pub record AreDigits (letters : List ℕ) (count : ℕ) : Type 0 where
+  pub all : (k : ℕ) → k < count → is_ascii_digit (slice_index letters k) ≡ true
+  pub ends : count < length letters → is_ascii_digit (slice_index letters count) ≡ false
+
+-- digits among joined letters are the number of `-C`
+abbrev pub with_digits : List ℕ → Said → Option Said
+with_digits [] s = Some s
+with_digits (digit ∷ digits) s = option_map (λ number. with_number Around number s) (number_by (digit ∷ digits))
+
+-- a letter that gives no patterns, and those behind it
+abbrev pub numbered_or : Option Valued → ℕ → List ℕ → (Said → Option ReadSoFar) → Said → Option ReadSoFar
+numbered_or (Some valued) letter rest follow s = numbered_by valued rest s
+numbered_or None letter rest follow s = option_and_then (λ switch. follow (record s { flags = switched switch s.flags })) (switch_by letter)
+
+-- one that is no digit
+abbrev pub letter_by : ℕ → List ℕ → (Said → Option ReadSoFar) → Said → Option ReadSoFar
+letter_by letter rest follow s =
     if letter == 101 || letter == 102 then Some (taken_by (letter == 102) rest s)
-    else if letter == 109 then most_by rest s
-    else option_and_then (λ switch. letters_by rest (record s { flags = switched switch s.flags })) (switch_by letter)
+    else numbered_or (numbered letter) letter rest follow s
+
+-- joined letters behind some digits
+abbrev pub letters_from : List ℕ → List ℕ → Said → Option ReadSoFar
+letters_from digits [] s = option_map said_so (with_digits digits s)
+letters_from digits (letter ∷ rest) s =
+    if is_ascii_digit letter then letters_from (digits ++ (letter ∷ [])) rest s
+    else option_and_then (letter_by letter rest (letters_from [] rest)) (with_digits digits s)
+
+abbrev pub letters_by : List ℕ → Said → Option ReadSoFar
+letters_by letters s = letters_from [] letters s
 
 -- when matches are coloured
 abbrev pub color_named : List ℕ → Option Color
@@ -248,6 +304,10 @@ no_flags = record {
   lacking = false;
   null = false;
   quiet = false;
+  after = None;
+  before = None;
+  context = None;
+  joined = false;
   json = false;
   with_name = None;
   color = Never;
@@ -283,6 +343,18 @@ shown_by flags =
     else if flags.json then Objects
     else if flags.only_matching then Matches
     else Lines
+
+-- how many lines are written around selected ones, where that is asked for: of `-A` and `-C` the former goes first, and of `-B`
+-- and `-C`
+abbrev pub around_asked : Flags → Context
+around_asked flags = record {
+  before = unwrap_or flags.before (unwrap_or flags.context 0);
+  after = unwrap_or flags.after (unwrap_or flags.context 0);
+  parted = not flags.joined;
+}
+
+abbrev pub context_by : Flags → Option Context
+context_by flags = if is_some flags.before || (is_some flags.after || is_some flags.context) then Some (around_asked flags) else None
 
 -- what a match has to be: of `-w` and `-x` the latter goes first
 abbrev pub fit_by : Flags → Fit

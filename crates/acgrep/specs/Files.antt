@@ -1,9 +1,10 @@
 -- What is written of files, one after another.
 use Rattle.programs.specs.Answers.{status_of}
 use Rattle.programs.specs.Names.{is_input, name_bytes, or_input}
-use Rattle.std.specs.Prelude.{◌≡◌, ◌⊎◌, ℕ, ◌||◌, nat_lt, Bool, true, false, List, [], ◌∷◌, ◌++◌, Option, IfSome, MatchBool, codes, if◌then◌else◌}
+use Rattle.std.specs.Prelude.{◌≡◌, ◌⊎◌, ℕ, ◌||◌, nat_lt, Bool, true, false, List, [], ◌∷◌, ◌++◌, Option, Some, None, IfSome, MatchBool, codes, if◌then◌else◌}
 use Rattle.std.specs.Io.KnownBytes.{Appends, Consumes, IsAtEnd, Keeps}
 use Rattle.aho_core.specs.Patterns.{Patterns}
+use Rattle.acgrep.specs.Contexts.{TellsAround, TellsFile, around_of}
 use Rattle.acgrep.specs.Filled.{ReadsOn}
 use Rattle.acgrep.specs.Lines.{lines}
 use Rattle.acgrep.specs.Printed.{count_by, file_line}
@@ -12,6 +13,7 @@ use Rattle.acgrep.specs.declared.files.Files.{Files}
 use Rattle.acgrep.specs.declared.files.Outcome.{Outcome}
 use Rattle.acgrep.specs.declared.files.Outcome.TheVariants.{Searched, Unread, Stopped}
 use Rattle.acgrep.specs.declared.files.Seen.{Seen}
+use Rattle.acgrep.specs.declared.options.Context.{Context}
 use Rattle.acgrep.specs.declared.options.Fit.{Fit}
 use Rattle.acgrep.specs.declared.options.Shown.{Shown}
 use Rattle.acgrep.specs.declared.options.Shown.TheVariants.{Lines, Matches, Objects, Count, Names, Lacking, Nothing}
@@ -54,7 +56,7 @@ total_if Nothing style count = []
 -- what is told of each line of a text from the begin of its file on, and the count of selected lines
 abbrev pub TellsEach : Patterns → Job → List ℕ → List ℕ → Type 0
 TellsEach p job text bytes =
-    (told : List ℕ) × (count : ℕ) × TellsOfLines p job job.first 0 (lines text) told count × (bytes ≡ told ++ count_if job.shown job.style count)
+    (told : List ℕ) × (count : ℕ) × TellsFile p job (lines text) told count × (bytes ≡ told ++ count_if job.shown job.style count)
 
 -- what is written of a file with this text: of its lines, its name where one is selected, or where none is, or nothing
 abbrev pub TellsBy : Patterns → Job → Shown → List ℕ → Bool → List ℕ → Type 0
@@ -90,8 +92,8 @@ pub record SearchesReader (p : Patterns) (job : Job) (left left' held held' : Op
   pub file : SearchesFile p job left held held' any
   pub reads : IsRead p job left left' any
 
--- the same is written of the file of this name
-pub record IsNamed (job : Job) (bytes : List ℕ) (named : Job) : Type 0 where
+-- the same is written of the file of this name, where `later` says whether a line of a file before was selected
+pub record IsNamed (job : Job) (bytes : List ℕ) (later : Bool) (named : Job) : Type 0 where
   pub shown : named.shown ≡ job.shown
   pub invert : named.invert ≡ job.invert
   pub fit : named.fit ≡ job.fit
@@ -104,6 +106,9 @@ pub record IsNamed (job : Job) (bytes : List ℕ) (named : Job) : Type 0 where
   pub first : named.first ≡ job.first
   pub most : named.most ≡ job.most
   pub hushed : named.hushed ≡ job.hushed
+  pub hyphen : named.style.hyphen ≡ job.style.hyphen
+  pub context : named.context ≡ job.context
+  pub follows : named.follows ≡ later
 
 -- how a file is called in what is written
 abbrev pub shown_name : List ℕ → List ℕ
@@ -114,9 +119,9 @@ abbrev pub known_of : (List ℕ → Option (List ℕ)) → List ℕ → Option (
 known_of holds name left = if is_input name then left else holds name
 
 -- the file of a name was searched; `left` and `held` are what the input has left and what the output holds
-pub record SearchesName (p : Patterns) (job : Job) (holds : List ℕ → Option (List ℕ)) (name : List ℕ) (left left' held held' : Option (List ℕ)) (any : Bool) : Type 0 where
+pub record SearchesName (p : Patterns) (job : Job) (follows : Bool) (holds : List ℕ → Option (List ℕ)) (name : List ℕ) (left left' held held' : Option (List ℕ)) (any : Bool) : Type 0 where
   pub named : Job
-  pub is_named : IsNamed job (shown_name name) named
+  pub is_named : IsNamed job (shown_name name) follows named
   pub file : SearchesFile p named (known_of holds name left) held held' any
   pub reads : MatchBool (is_input name) (IsRead p named left left' any) (left' ≡ left)
 
@@ -130,14 +135,15 @@ is_enough Names any = false
 is_enough Lacking any = false
 is_enough Nothing any = any
 
--- the files of these names were searched, one after another; `any` says whether a line is selected
-abbrev pub AreFilesSearched : Patterns → Job → (List ℕ → Option (List ℕ)) → List (List ℕ) → (left left' held held' : Option (List ℕ)) → Bool → Type 0
-AreFilesSearched p job holds [] left left' held held' any = (left' ≡ left) × Keeps held held' × (any ≡ false)
-AreFilesSearched p job holds (name ∷ names) left left' held held' any =
-    (between : Option (List ℕ)) × (meanwhile : Option (List ℕ)) × (first : Bool) × SearchesName p job holds name left between held meanwhile first
+-- the files of these names were searched, one after another; `any` says whether a line is selected, and `follows` whether one of a
+-- file before is
+abbrev pub AreFilesSearched : Patterns → Job → Bool → (List ℕ → Option (List ℕ)) → List (List ℕ) → (left left' held held' : Option (List ℕ)) → Bool → Type 0
+AreFilesSearched p job follows holds [] left left' held held' any = (left' ≡ left) × Keeps held held' × (any ≡ false)
+AreFilesSearched p job follows holds (name ∷ names) left left' held held' any =
+    (between : Option (List ℕ)) × (meanwhile : Option (List ℕ)) × (first : Bool) × SearchesName p job follows holds name left between held meanwhile first
     × MatchBool (is_enough job.shown first)
     ((left' ≡ between) × Keeps meanwhile held' × (any ≡ true))
-    ((others : Bool) × AreFilesSearched p job holds names between left' meanwhile held' others × (any ≡ (first || others)))
+    ((others : Bool) × AreFilesSearched p job (follows || first) holds names between left' meanwhile held' others × (any ≡ (first || others)))
 
 -- a file of these bytes, where they are known, has a selected line
 abbrev pub HasSelected : Patterns → Job → Option (List ℕ) → Type 0
@@ -177,7 +183,7 @@ status_by shown seen =
 -- the files of these names were searched, and the status tells it; under `-q` that is all, even where others cannot be read
 abbrev pub AreSearchedOr : Patterns → Job → (List ℕ → Option (List ℕ)) → List (List ℕ) → (left left' held held' : Option (List ℕ)) → ℕ → Type 0
 AreSearchedOr p job holds names left left' held held' status =
-    ((any : Bool) × AreFilesSearched p job holds names left left' held held' any × (status ≡ status_of any))
+    ((any : Bool) × AreFilesSearched p job false holds names left left' held held' any × (status ≡ status_of any))
     ⊎ ((job.shown ≡ Nothing) × (status ≡ 0) × OneIsSelected p job holds names left)
 
 -- what is asked of a file as a whole was written
@@ -187,7 +193,7 @@ pub record EndsFile (job : Job) (count : ℕ) (held held' : Option (List ℕ)) (
 
 -- what was seen is so: where no error was told all were searched, and one selected line that is enough was seen in one of them
 pub record SearchesNames (p : Patterns) (job : Job) (holds : List ℕ → Option (List ℕ)) (names : List (List ℕ)) (left left' held held' : Option (List ℕ)) (seen : Seen) : Type 0 where
-  pub searched : seen.failed ≡ false → AreFilesSearched p job holds names left left' held held' seen.selected
+  pub searched : seen.failed ≡ false → AreFilesSearched p job false holds names left left' held held' seen.selected
   pub found : job.shown ≡ Nothing → seen.selected ≡ true → OneIsSelected p job holds names left
 
 -- a beginning of what is asked of a file as a whole is written, of which so many lines were selected
@@ -199,7 +205,7 @@ pub record BeginsTotal (job : Job) (count : ℕ) (held held' : Option (List ℕ)
 
 -- a file whose bytes are these, where they are known, was not searched to its end, or not all was written: what is told of some
 -- first lines is, and then no more than a beginning of what is shown of the next, or of what is asked of the file as a whole
-pub record BeginsFile (p : Patterns) (job : Job) (known held held' : Option (List ℕ)) : Type 0 where
+pub record BeginsPlain (p : Patterns) (job : Job) (known held held' : Option (List ℕ)) : Type 0 where
   pub text : List ℕ
   pub of : IfSome known (λ bytes. text ≡ bytes)
   pub first : List (List ℕ)
@@ -212,6 +218,28 @@ pub record BeginsFile (p : Patterns) (job : Job) (known held held' : Option (Lis
   pub starts : StartsNext p job (after_lines job.first first) count left begun ⊎ ((missing : List ℕ) × (total_if job.shown job.style count ≡ begun ++ missing))
   pub written : Appends held held' (told ++ begun)
 
+-- with lines around selected ones: a beginning of what is told of some first lines is
+pub record BeginsAround (p : Patterns) (job : Job) (context : Context) (known held held' : Option (List ℕ)) : Type 0 where
+  pub text : List ℕ
+  pub of : IfSome known (λ bytes. text ≡ bytes)
+  pub first : List (List ℕ)
+  pub left : List (List ℕ)
+  pub cut : lines text ≡ first ++ left
+  pub all : List ℕ
+  pub count : ℕ
+  pub tells : TellsAround p job context first all count
+  pub begun : List ℕ
+  pub missing : List ℕ
+  pub is : all ≡ begun ++ missing
+  pub written : Appends held held' begun
+
+abbrev pub BeginsFileIn : Patterns → Job → Option Context → (known held held' : Option (List ℕ)) → Type 0
+BeginsFileIn p job None known held held' = BeginsPlain p job known held held'
+BeginsFileIn p job (Some context) known held held' = BeginsAround p job context known held held'
+
+abbrev pub BeginsFile : Patterns → Job → (known held held' : Option (List ℕ)) → Type 0
+BeginsFile p job known held held' = BeginsFileIn p job (around_of job) known held held'
+
 -- what is so where a file was not searched
 abbrev pub IfBroken : Outcome → Type 0 → Type 0
 IfBroken (Searched any) P = Unit {0}
@@ -219,17 +247,17 @@ IfBroken Unread P = P
 IfBroken Stopped P = P
 
 -- that of the file of a name
-pub record BeginsName (p : Patterns) (job : Job) (holds : List ℕ → Option (List ℕ)) (name : List ℕ) (left held held' : Option (List ℕ)) : Type 0 where
+pub record BeginsName (p : Patterns) (job : Job) (follows : Bool) (holds : List ℕ → Option (List ℕ)) (name : List ℕ) (left held held' : Option (List ℕ)) : Type 0 where
   pub named : Job
-  pub is_named : IsNamed job (shown_name name) named
+  pub is_named : IsNamed job (shown_name name) follows named
   pub file : BeginsFile p named (known_of holds name left) held held'
 
 -- of some first ones of the files of these names, one after another, all that is asked is written, or a beginning of it; and
 -- nothing else
-abbrev pub AreFilesBegun : Patterns → Job → (List ℕ → Option (List ℕ)) → List (List ℕ) → (left held held' : Option (List ℕ)) → Type 0
-AreFilesBegun p job holds [] left held held' = Keeps held held'
-AreFilesBegun p job holds (name ∷ names) left held held' =
+abbrev pub AreFilesBegun : Patterns → Job → Bool → (List ℕ → Option (List ℕ)) → List (List ℕ) → (left held held' : Option (List ℕ)) → Type 0
+AreFilesBegun p job follows holds [] left held held' = Keeps held held'
+AreFilesBegun p job follows holds (name ∷ names) left held held' =
     Keeps held held'
     ⊎ ((between : Option (List ℕ)) × (meanwhile : Option (List ℕ)) × LeavesInput name left between
-    × (((any : Bool) × SearchesName p job holds name left between held meanwhile any) ⊎ BeginsName p job holds name left held meanwhile)
-    × AreFilesBegun p job holds names between meanwhile held')
+    × (((any : Bool) × SearchesName p job follows holds name left between held meanwhile any × AreFilesBegun p job (follows || any) holds names between meanwhile held')
+    ⊎ (BeginsName p job follows holds name left held meanwhile × AreFilesBegun p job follows holds names between meanwhile held')))

@@ -1,11 +1,16 @@
 -- What a read puts behind the bytes that are held.
-use Rattle.std.specs.Prelude.{◌≡◌, ℕ, List, ◌++◌, Option, length, take}
+use Rattle.std.specs.Prelude.{◌≡◌, ℕ, List, ◌++◌, Option, drop, length, take}
 use Rattle.std.specs.Io.KnownBytes.{Consumes, IsAtEnd}
 use Rattle.acgrep.specs.declared.buffer.Buffer.{Buffer}
+use Rattle.acgrep.specs.declared.held.Held.{Held}
 
 -- the bytes that a buffer holds
 abbrev pub bytes_buffered : Buffer → List ℕ
 bytes_buffered buffer = take buffer.held buffer.room.items
+
+-- the bytes of held lines
+abbrev pub held_bytes : Held → List ℕ
+held_bytes held = drop held.from held.room.items
 
 -- what comes stands behind the bytes before, and nothing comes only at the end
 pub record FillsBehind (before after : List ℕ) (left_before left_after : Option (List ℕ)) (count : ℕ) : Type 0 where

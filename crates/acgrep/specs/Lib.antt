@@ -1,5 +1,6 @@
 pub mod Alone
 pub mod Arguments
+pub mod Contexts
 pub mod Files
 pub mod Filled
 pub mod Lines

@@ -1,5 +1,5 @@
 -- The lines of a text.
-use Rattle.std.specs.Prelude.{ℕ, List, [], ◌∷◌, ◌==◌, if◌then◌else◌}
+use Rattle.std.specs.Prelude.{ℕ, ◌<◌, ◌-◌, length, List, [], ◌∷◌, ◌==◌, if◌then◌else◌}
 use Rattle.memchr.specs.Find.{Passes, is_byte}
 
 -- the byte at a place is a newline
@@ -15,3 +15,7 @@ joined_to byte (first ∷ rest) = (byte ∷ first) ∷ rest
 abbrev pub lines : List ℕ → List (List ℕ)
 lines [] = []
 lines (byte ∷ rest) = if byte == 10 then [] ∷ lines rest else joined_to byte (lines rest)
+
+-- a text is empty or ends in a newline
+abbrev pub EndsLine : List ℕ → Type 0
+EndsLine text = 0 < length text → IsNewline text (length text - 1)

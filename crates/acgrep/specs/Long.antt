@@ -6,8 +6,8 @@ use Rattle.acgrep.specs.declared.long.Found.{Found}
 use Rattle.acgrep.specs.declared.long.Found.TheVariants.{Unknown, Begun, Several, Whole}
 use Rattle.acgrep.specs.declared.long.Long.{Long}
 use Rattle.acgrep.specs.declared.long.Long.TheVariants.{Plain, Takes, When}
-use Rattle.acgrep.specs.declared.long.Valued.TheVariants.{Regexp, PatternFile, Kind, Offset, FirstLine, MaxCount}
-use Rattle.acgrep.specs.declared.options.Switch.TheVariants.{IgnoreCase, MatchCase, Invert, WholeWords, WholeLines, Counts, Numbers, OnlyMatching, Offsets, OnlyNames, OnlyLacking, NullNames, Quiet, Json, NoName, WithName, NoMatchOk, NoMessages, Help, Version, Same}
+use Rattle.acgrep.specs.declared.long.Valued.TheVariants.{Regexp, PatternFile, Kind, Offset, FirstLine, MaxCount, After, Before, Around}
+use Rattle.acgrep.specs.declared.options.Switch.TheVariants.{IgnoreCase, MatchCase, Invert, WholeWords, WholeLines, Counts, Numbers, OnlyMatching, Offsets, OnlyNames, OnlyLacking, NullNames, Quiet, NoSeparator, Json, NoName, WithName, NoMatchOk, NoMessages, Help, Version, Same}
 
 -- an option's long name, and what it means
 pub record Name : Type 0 where
@@ -49,6 +49,14 @@ output_options = named (codes "count") (Plain Counts)
     ∷ named (codes "max-count") (Takes MaxCount)
     ∷ []
 
+-- those that say which lines are written around selected ones
+abbrev pub context_options : List Name
+context_options = named (codes "after-context") (Takes After)
+    ∷ named (codes "before-context") (Takes Before)
+    ∷ named (codes "context") (Takes Around)
+    ∷ named (codes "no-group-separator") (Plain NoSeparator)
+    ∷ []
+
 -- and all others
 abbrev pub other_options : List Name
 other_options = named (codes "color") When
@@ -86,7 +94,7 @@ found_among [] asked found = found
 found_among (option ∷ options) asked found = found_among options asked (found_more asked found option.name option.means)
 
 unfoldable pub found_by : List ℕ → Found
-found_by asked = found_among other_options asked (found_among output_options asked (found_among pattern_options asked Unknown))
+found_by asked = found_among other_options asked (found_among context_options asked (found_among output_options asked (found_among pattern_options asked Unknown)))
 
 -- the option that is meant: of this name, or the only one whose name begins so
 abbrev pub meant : Found → Option Long

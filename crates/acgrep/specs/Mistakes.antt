@@ -4,10 +4,11 @@ use Rattle.programs.specs.Telling.{TellsBytes}
 use Rattle.programs.specs.declared.errors.Errors.{Errors}
 use Rattle.programs.specs.declared.reason.Reason.TheVariants.{OutOfMemory as NoMemory}
 use Rattle.aho_devices.specs.declared.device.Sink.{Ghosts as SinkGhosts}
-use Rattle.std.specs.Prelude.{◌≡◌, ◌⊎◌, ℕ, ◌==◌, ◌||◌, nat_lt, List, [], ◌∷◌, Option, Some, None, Result, IfErr, codes, drop, length, take, if◌then◌else◌}
+use Rattle.std.specs.Prelude.{◌≡◌, ◌⊎◌, ℕ, ◌==◌, ◌||◌, nat_lt, List, [], ◌∷◌, ◌++◌, Option, Some, None, Result, IfErr, codes, drop, length, take, if◌then◌else◌}
 use Rattle.std.specs.List.{after_first, before_first, concat, position_or_len}
+use Rattle.std.specs.Char.{is_ascii_digit}
 use Rattle.std.specs.Str.{bytes_eq}
-use Rattle.acgrep.specs.Arguments.{ReadSoFar, Said, argument_by, is_equals, nothing_said, switch_by}
+use Rattle.acgrep.specs.Arguments.{ReadSoFar, Said, argument_by, is_equals, nothing_said, number_by, numbered, switch_by}
 use Rattle.acgrep.specs.Long.{found_by, option_by}
 use Rattle.acgrep.specs.Told.{TellsWrong, color_parts, kind_parts, letter_parts, name_parts, number_parts, several_parts, taken_parts, unargued_parts, valued_name, wrong_parts}
 use Rattle.acgrep.specs.declared.arguments.Awaited.{Awaited}
@@ -20,7 +21,7 @@ use Rattle.acgrep.specs.declared.long.Found.TheVariants.{Unknown, Begun, Several
 use Rattle.acgrep.specs.declared.long.Long.{Long}
 use Rattle.acgrep.specs.declared.long.Long.TheVariants.{Plain, Takes, When}
 use Rattle.acgrep.specs.declared.long.Valued.{Valued}
-use Rattle.acgrep.specs.declared.long.Valued.TheVariants.{Regexp, PatternFile, Kind, Offset, FirstLine, MaxCount}
+use Rattle.acgrep.specs.declared.long.Valued.TheVariants.{Regexp, PatternFile, Kind, Offset, FirstLine, MaxCount, After, Before, Around}
 
 -- what is told of an argument that an option cannot have; any is a pattern or a file's name
 abbrev pub wrong_value : Valued → List ℕ → List (List ℕ)
@@ -30,6 +31,9 @@ wrong_value Kind argument = kind_parts argument
 wrong_value Offset argument = number_parts (valued_name Offset) argument
 wrong_value FirstLine argument = number_parts (valued_name FirstLine) argument
 wrong_value MaxCount argument = number_parts (valued_name MaxCount) argument
+wrong_value After argument = number_parts (valued_name After) argument
+wrong_value Before argument = number_parts (valued_name Before) argument
+wrong_value Around argument = number_parts (valued_name Around) argument
 
 -- of a long name that means no option
 abbrev pub wrong_found : Found → List ℕ → List (List ℕ)
@@ -60,18 +64,39 @@ abbrev pub if_none : {A : Type 0} → Option A → List (List ℕ) → List (Lis
 if_none None one other = one
 if_none (Some value) one other = other
 
--- of what stands behind `-m`, where it is not empty
-abbrev pub wrong_most : List ℕ → List (List ℕ)
-wrong_most [] = []
-wrong_most (first ∷ rest) = wrong_value MaxCount (first ∷ rest)
+-- of what stands behind the letter of an option whose argument is a number, where it is not empty
+abbrev pub wrong_numbered : Valued → List ℕ → List (List ℕ)
+wrong_numbered valued [] = []
+wrong_numbered valued (first ∷ rest) = number_parts (valued_name valued) (first ∷ rest)
 
--- of joined letters, the first of which no option has; what stands behind that of an option with an argument is no letter
+-- of digits that write no number
+abbrev pub wrong_digits : List ℕ → List (List ℕ)
+wrong_digits digits = number_parts (valued_name Around) digits
+
+-- whether digits write a number, or there are none
+abbrev pub digits_value_of : List ℕ → Option ℕ
+digits_value_of [] = Some 0
+digits_value_of (digit ∷ digits) = number_by (digit ∷ digits)
+
+-- of a letter that gives no patterns, and those behind it
+abbrev pub wrong_else : Option Valued → ℕ → List ℕ → List (List ℕ) → List (List ℕ)
+wrong_else (Some valued) letter rest others = wrong_numbered valued rest
+wrong_else None letter rest others = if_none (switch_by letter) (letter_parts letter) others
+
+-- of a letter that is no digit, and those behind it; what stands behind that of an option with an argument is no letter
+abbrev pub wrong_letter : ℕ → List ℕ → List (List ℕ) → List (List ℕ)
+wrong_letter letter rest others =
+    if letter == 101 || letter == 102 then [] else wrong_else (numbered letter) letter rest others
+
+-- of joined letters behind some digits: of the first mistake
+abbrev pub wrong_from_digits : List ℕ → List ℕ → List (List ℕ)
+wrong_from_digits digits [] = if_none (digits_value_of digits) (wrong_digits digits) []
+wrong_from_digits digits (letter ∷ rest) =
+    if is_ascii_digit letter then wrong_from_digits (digits ++ (letter ∷ [])) rest
+    else if_none (digits_value_of digits) (wrong_digits digits) (wrong_letter letter rest (wrong_from_digits [] rest))
+
 abbrev pub wrong_letters : List ℕ → List (List ℕ)
-wrong_letters [] = []
-wrong_letters (letter ∷ rest) =
-    if letter == 101 || letter == 102 then []
-    else if letter == 109 then wrong_most rest
-    else if_none (switch_by letter) (letter_parts letter) (wrong_letters rest)
+wrong_letters letters = wrong_from_digits [] letters
 
 -- of those behind a hyphen
 abbrev pub wrong_plain : List ℕ → List (List ℕ)

@@ -22,12 +22,16 @@ no_color = 27 ∷ (codes "[m" ++ (27 ∷ codes "[K"))
 abbrev pub painted : Bool → List ℕ → List ℕ → List ℕ
 painted color start bytes = if color then start ++ (bytes ++ no_color) else bytes
 
--- a part of what stands before a line: with a colon behind it
-abbrev pub part_by : Bool → List ℕ → List ℕ → List ℕ
-part_by color start bytes = painted color start bytes ++ painted color (color_of (codes "36")) (codes ":")
+-- a part of what stands before a line: with a colon behind it, or a hyphen
+abbrev pub part_by : Style → List ℕ → List ℕ → List ℕ
+part_by style start bytes = painted style.color start bytes ++ painted style.color (color_of (codes "36")) (if style.hyphen then codes "-" else codes ":")
 
-abbrev pub number_by : Bool → ℕ → List ℕ
-number_by color number = part_by color (color_of (codes "32")) (decimal number)
+-- the line between lines that do not follow one another
+abbrev pub separator_by : Style → List ℕ
+separator_by style = painted style.color (color_of (codes "36")) (codes "--") ++ codes "\n"
+
+abbrev pub number_by : Style → ℕ → List ℕ
+number_by style number = part_by style (color_of (codes "32")) (decimal number)
 
 -- the file's name, and what ends it
 abbrev pub name_ended : Style → List ℕ → List ℕ
@@ -36,13 +40,13 @@ name_ended style end = painted style.color (color_of (codes "35")) style.name.no
 -- the file's name, the line's number and an offset, of which each stands there if it is asked for; a name may end in a zero byte
 abbrev pub name_part : Style → List ℕ
 name_part style =
-    if style.with_name then (if style.null then name_ended style (0 ∷ []) else part_by style.color (color_of (codes "35")) style.name.now) else []
+    if style.with_name then (if style.null then name_ended style (0 ∷ []) else part_by style (color_of (codes "35")) style.name.now) else []
 
-abbrev pub number_if : Bool → Bool → ℕ → List ℕ
-number_if asked color number = if asked then number_by color number else []
+abbrev pub number_if : Bool → Style → ℕ → List ℕ
+number_if asked style number = if asked then number_by style number else []
 
 abbrev pub head_of : Style → ℕ → ℕ → List ℕ
-head_of style number offset = name_part style ++ (number_if style.number style.color number ++ number_if style.offset style.color offset)
+head_of style number offset = name_part style ++ (number_if style.number style number ++ number_if style.offset style offset)
 
 -- the number of a line; numbers wrap at 2^64
 abbrev pub line_number_at : Place → ℕ

@@ -5,7 +5,7 @@ use Rattle.aho_core.specs.Patterns.{Patterns}
 use Rattle.aho_core.specs.declared.search.MatchKind.{MatchKind}
 use Rattle.aho_core.specs.declared.search.MatchKind.TheVariants.{LeftmostLongest}
 use Rattle.programs.specs.Arguments.{texts}
-use Rattle.acgrep.specs.Arguments.{Origin, Said, fit_by, origin_of, said_by, shown_by}
+use Rattle.acgrep.specs.Arguments.{Origin, Said, context_by, fit_by, origin_of, said_by, shown_by}
 use Rattle.programs.specs.Names.{is_input, or_input}
 use Rattle.acgrep.specs.Files.{AreFilesBegun, AreSearchedOr}
 use Rattle.acgrep.specs.Lines.{lines}
@@ -144,6 +144,11 @@ pub record IsJob (flags : Flags) (terminal : Bool) (count : ℕ) (job : Job) : T
   pub most : job.most ≡ flags.most
   -- whether nothing is told of those that cannot be read
   pub hushed : job.hushed ≡ flags.no_messages
+  -- how many lines are written around selected ones
+  pub context : job.context ≡ context_by flags
+  -- with colons behind what stands before a line, and no file before the first
+  pub hyphen : job.style.hyphen ≡ false
+  pub follows : job.follows ≡ false
 
 -- these words were searched for in the files of these names, as the flags say
 pub record SearchesWords (holds : List ℕ → Option (List ℕ)) (terminal : Bool) (flags : Flags) (words names : List (List ℕ)) (left left' held held' : Option (List ℕ)) (status : ℕ) : Type 0 where
@@ -193,7 +198,7 @@ pub record BeginsWords (holds : List ℕ → Option (List ℕ)) (terminal : Bool
   pub read : AreWords holds sources left between words
   pub job : Job
   pub is_job : IsJob flags terminal (length names) job
-  pub begun : AreFilesBegun (patterns_asked (kind_sought flags) flags.ignore_case (words_sought flags words)) job holds (or_input names) between held held'
+  pub begun : AreFilesBegun (patterns_asked (kind_sought flags) flags.ignore_case (words_sought flags words)) job false holds (or_input names) between held held'
 
 -- or nothing is
 abbrev pub BeginsFor : (List ℕ → Option (List ℕ)) → Bool → Flags → List Origin → List (List ℕ) → (left held held' : Option (List ℕ)) → Type 0

@@ -1,16 +1,20 @@
 -- What searching by an automaton does, of whatever patterns it is.
-use Rattle.std.specs.Prelude.{◌≡◌, ℕ, Bool, true, List, [], ◌∷◌, Option, Result, IfOk, OnErr, OnOk}
+use Rattle.std.specs.Prelude.{◌≡◌, ℕ, Bool, true, false, List, [], ◌∷◌, Option, Result, IfOk, OnErr, OnOk}
 use Rattle.std.specs.Borrow.{Bor}
+use Rattle.std.specs.Io.KnownBytes.{Appends}
 use Rattle.std.specs.declared.io.traits.Read.{Ghosts as Readers}
+use Rattle.std.specs.declared.io.traits.Write.{Ghosts as Writers}
 use Rattle.aho_core.specs.Patterns.{Patterns}
 use Rattle.aho_automaton.specs.declared.automaton.Automaton.{Ghosts as Automata}
 use Rattle.aho_devices.specs.declared.device.Sink.{Ghosts as SinkGhosts}
 use Rattle.programs.specs.Names.{name_bytes}
+use Rattle.acgrep.specs.Contexts.{BeginsSearched, IsChosenBy, SearchesText, ShowsEach, ShowsGroup, WalksBegun, WalksLines, WalksText, walk_of}
 use Rattle.acgrep.specs.Files.{AreFilesBegun, BeginsFile, IfBroken, IfSearched, SearchesFile, SearchesReader}
 use Rattle.acgrep.specs.Lines.{lines}
 use Rattle.acgrep.specs.Selected.{ForLines}
-use Rattle.acgrep.specs.Written.{BeginsLine, BeginsLines, EachLine, HasMatch, HasNone, IsMatched, IsSelected, SearchesText, SearchesTo, TellsLines, WritesLine, WritesNext}
+use Rattle.acgrep.specs.Written.{BeginsLine, BeginsLines, EachLine, HasMatch, HasNone, IsMatched, IsSelected, SearchesPlain, SearchesTo, TellsLines, WritesLine, WritesNext}
 use Rattle.acgrep.specs.declared.files.Outcome.{Outcome}
+use Rattle.acgrep.specs.declared.options.Context.{Context}
 use Rattle.acgrep.specs.declared.open.Open.{Ghosts as Openers}
 use Rattle.acgrep.specs.declared.print.Place.{Place}
 use Rattle.acgrep.specs.declared.select.Job.{Job}
@@ -36,7 +40,52 @@ module _ {A W : Type 0} (automata : Automata A) (sinks : SinkGhosts W) (automato
 
   abbrev pub BeginsTextBy : {T E : Type 0} → List ℕ → Result T E → Type 0
   BeginsTextBy text result =
+      ForLines (automata.is_of automaton) (λ p. OnErr result (BeginsSearched p job before after.selected (sinks.taken old) (sinks.taken new) (lines text)))
+
+  -- where no lines around selected ones are asked for
+  abbrev pub SearchesPlainBy : {T E : Type 0} → List ℕ → Result T E → Type 0
+  SearchesPlainBy text result =
+      ForLines (automata.is_of automaton) (λ p. OnOk result (SearchesPlain p job before after (sinks.taken old) (sinks.taken new) text))
+
+  abbrev pub BeginsPlainBy : {T E : Type 0} → List ℕ → Result T E → Type 0
+  BeginsPlainBy text result =
       ForLines (automata.is_of automaton) (λ p. OnErr result (BeginsLines p job before after.selected (sinks.taken old) (sinks.taken new) (lines text)))
+
+  -- where they are
+  abbrev pub WalksTextBy : {T E : Type 0} → Context → List ℕ → Result T E → Type 0
+  WalksTextBy context text result =
+      (p : Patterns) → automata.is_of automaton p → OnOk result (WalksText p job context before after (sinks.taken old) (sinks.taken new) text)
+
+  abbrev pub WalksBegunBy : {T E : Type 0} → Context → List ℕ → Result T E → Type 0
+  WalksBegunBy context text result =
+      (p : Patterns) → automata.is_of automaton p → OnErr result (WalksBegun p job context (walk_of before) (sinks.taken old) (sinks.taken new) (lines text))
+
+  -- of one line
+  abbrev pub WalksLineBy : {T E : Type 0} → Context → List ℕ → Result T E → Type 0
+  WalksLineBy context line result = (p : Patterns) → automata.is_of automaton p
+      → OnOk result (WalksLines p job context (walk_of before) (walk_of after) (sinks.taken old) (sinks.taken new) (line ∷ []))
+
+  abbrev pub BeginsLineAround : {T E : Type 0} → Context → List ℕ → Result T E → Type 0
+  BeginsLineAround context line result = (p : Patterns) → automata.is_of automaton p
+      → OnErr result (WalksBegun p job context (walk_of before) (sinks.taken old) (sinks.taken new) (line ∷ []))
+
+  -- that is selected, where more are asked for
+  abbrev pub TakesLineBy : {T E : Type 0} → Context → List ℕ → Result T E → Type 0
+  TakesLineBy context line result = (p : Patterns) → automata.is_of automaton p → IsChosenBy p job before.selected line true
+      → OnOk result (WalksLines p job context (walk_of before) (walk_of after) (sinks.taken old) (sinks.taken new) (line ∷ []))
+
+  abbrev pub BeginsTakenBy : {T E : Type 0} → Context → List ℕ → Result T E → Type 0
+  BeginsTakenBy context line result = (p : Patterns) → automata.is_of automaton p → IsChosenBy p job before.selected line true
+      → OnErr result (WalksBegun p job context (walk_of before) (sinks.taken old) (sinks.taken new) (line ∷ []))
+
+  -- that is not
+  abbrev pub PassesLineBy : {T E : Type 0} → Context → List ℕ → Result T E → Type 0
+  PassesLineBy context line result = (p : Patterns) → automata.is_of automaton p → IsChosenBy p job before.selected line false
+      → OnOk result (WalksLines p job context (walk_of before) (walk_of after) (sinks.taken old) (sinks.taken new) (line ∷ []))
+
+  abbrev pub BeginsPassedBy : {T E : Type 0} → Context → List ℕ → Result T E → Type 0
+  BeginsPassedBy context line result = (p : Patterns) → automata.is_of automaton p → IsChosenBy p job before.selected line false
+      → OnErr result (WalksBegun p job context (walk_of before) (sinks.taken old) (sinks.taken new) (line ∷ []))
 
   -- up to those that are answered
   abbrev pub SearchesSomeBy : {E : Type 0} → List ℕ → Result (Bor (List ℕ)) E → Type 0
@@ -100,4 +149,14 @@ SearchesReaderBy automata readers sinks automaton job reader reader' old new out
 -- of some first ones of the files of these names all that is asked is written, or a beginning of it
 abbrev pub BeginsFilesBy : {A F X R W : Type 0} → Automata A → Openers F X → Readers R → SinkGhosts W → A → Job → F → List (Bor (List ℕ)) → R → W → W → Type 0
 BeginsFilesBy automata openers readers sinks automaton job files names input old new = ForLines (automata.is_of automaton)
-    (λ p. AreFilesBegun p job (openers.holds files) (name_bytes names) (readers.remaining input) (sinks.taken old) (sinks.taken new))
+    (λ p. AreFilesBegun p job false (openers.holds files) (name_bytes names) (readers.remaining input) (sinks.taken old) (sinks.taken new))
+
+-- what is asked of lines around a selected one is written, from a place on
+abbrev pub ShowsEachBy : {A W : Type 0} → Automata A → Writers W → A → Job → Place → List (List ℕ) → W → W → {T E : Type 0} → Result T E → Type 0
+ShowsEachBy automata writers automaton job place ls old new result = (p : Patterns) → automata.is_of automaton p
+    → OnOk result ((bytes : List ℕ) × ShowsEach p job place ls bytes × Appends (writers.contents old) (writers.contents new) bytes)
+
+-- and of a selected one with those held before it
+abbrev pub ShowsGroupBy : {A W : Type 0} → Automata A → Writers W → A → Job → Context → State → List ℕ → W → W → {T E : Type 0} → Result T E → Type 0
+ShowsGroupBy automata writers automaton job context state line old new result = (p : Patterns) → automata.is_of automaton p
+    → OnOk result ((bytes : List ℕ) × ShowsGroup p job context (walk_of state) line bytes × Appends (writers.contents old) (writers.contents new) bytes)

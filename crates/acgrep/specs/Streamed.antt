@@ -4,8 +4,9 @@ use Rattle.std.specs.Io.KnownBytes.{Consumes, IsAtEnd}
 use Rattle.std.specs.declared.io.traits.Read.{Ghosts as Readers}
 use Rattle.aho_core.specs.Patterns.{Patterns}
 use Rattle.aho_devices.specs.declared.device.Sink.{Ghosts as SinkGhosts}
-use Rattle.acgrep.specs.Lines.{lines}
-use Rattle.acgrep.specs.Written.{BeginsLines, EndsLine, IsSettled, SearchesText}
+use Rattle.acgrep.specs.Lines.{EndsLine, lines}
+use Rattle.acgrep.specs.Contexts.{BeginsSearched, SearchesText}
+use Rattle.acgrep.specs.Written.{IsSettled}
 use Rattle.acgrep.specs.declared.select.Job.{Job}
 use Rattle.acgrep.specs.declared.select.State.{State}
 
@@ -73,7 +74,7 @@ pub record BeginsStream (p : Patterns) (job : Job) (c : Course) : Type 0 where
   -- what was read behind them
   pub rest : List ℕ
   pub consumed : Consumes c.left_before c.left_after (searched ++ rest)
-  pub begins : BeginsLines p job c.before c.after.selected c.held_before c.held_after (lines searched)
+  pub begins : BeginsSearched p job c.before c.after.selected c.held_before c.held_after (lines searched)
   -- the lines are whole ones
   pub ends : EndsLine searched ⊎ ((rest ≡ []) × IsAtEnd c.left_after)
 
@@ -85,7 +86,7 @@ pub record BeginsSome (p : Patterns) (job : Job) (c : Course) (kept : List ℕ) 
   pub consumed : Consumes c.left_before c.left_after came
   pub cut : kept ++ came ≡ searched ++ rest
   pub whole : EndsLine searched
-  pub begins : BeginsLines p job c.before c.after.selected c.held_before c.held_after (lines searched)
+  pub begins : BeginsSearched p job c.before c.after.selected c.held_before c.held_after (lines searched)
 
 -- of the whole lines of bytes a beginning of what is told is written
 pub record BeginsWhole (p : Patterns) (job : Job) (before after : State) (old new : Option (List ℕ)) (bytes : List ℕ) : Type 0 where
@@ -93,4 +94,4 @@ pub record BeginsWhole (p : Patterns) (job : Job) (before after : State) (old ne
   pub rest : List ℕ
   pub cut : bytes ≡ searched ++ rest
   pub whole : EndsLine searched
-  pub begins : BeginsLines p job before after.selected old new (lines searched)
+  pub begins : BeginsSearched p job before after.selected old new (lines searched)

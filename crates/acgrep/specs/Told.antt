@@ -19,7 +19,7 @@ use Rattle.acgrep.specs.declared.arguments.Wrong.TheVariants.{NotText, NoPattern
 use Rattle.acgrep.specs.declared.files.Outcome.{Outcome}
 use Rattle.acgrep.specs.declared.files.Outcome.TheVariants.{Searched, Unread, Stopped}
 use Rattle.acgrep.specs.declared.long.Valued.{Valued}
-use Rattle.acgrep.specs.declared.long.Valued.TheVariants.{Regexp, PatternFile, Kind, Offset, FirstLine, MaxCount}
+use Rattle.acgrep.specs.declared.long.Valued.TheVariants.{Regexp, PatternFile, Kind, Offset, FirstLine, MaxCount, After, Before, Around}
 use Rattle.acgrep.specs.declared.options.Flags.{Flags}
 use Rattle.acgrep.specs.declared.options.Shown.{Shown}
 use Rattle.acgrep.specs.declared.options.Shown.TheVariants.{Nothing}
@@ -70,6 +70,9 @@ valued_name Kind = codes "--kind"
 valued_name Offset = codes "--offset"
 valued_name FirstLine = codes "--first-line"
 valued_name MaxCount = codes "-m"
+valued_name After = codes "-A"
+valued_name Before = codes "-B"
+valued_name Around = codes "-C"
 
 -- an option of this name has no argument, or one that is no number
 abbrev pub unargued_parts : List ℕ → List (List ℕ)

@@ -6,7 +6,7 @@ use Rattle.aho_core.specs.Occurs.{OccursIn}
 use Rattle.aho_core.specs.Patterns.{Patterns}
 use Rattle.aho_core.specs.Search.{plain_search}
 use Rattle.acgrep.specs.Alone.{AreShownOf, IsAloneFrom, asks_alone}
-use Rattle.acgrep.specs.Lines.{IsNewline, lines}
+use Rattle.acgrep.specs.Lines.{EndsLine, IsNewline, lines}
 use Rattle.acgrep.specs.Objects.{objects_by}
 use Rattle.acgrep.specs.Printed.{colored_line_by, line_by, matches_by}
 use Rattle.acgrep.specs.declared.options.Fit.{Fit}
@@ -115,10 +115,6 @@ WritesLine p job place old new line =
 abbrev pub place_behind : ℕ → ℕ → Place
 place_behind count offset = record { lines = count; bytes = offset }
 
--- the begin of a file whose first line stands there
-abbrev pub at_begin : Place → State
-at_begin first = record { place = first; selected = 0 }
-
 -- the place behind a line and its newline; numbers wrap at 2^64
 abbrev pub after_line : Place → List ℕ → Place
 after_line place line = record { lines = (place.lines + 1) % 2 ^ 64; bytes = (place.bytes + (length line + 1)) % 2 ^ 64 }
@@ -177,10 +173,6 @@ pub record SamePlace (job : Job) (one other : Place) : Type 0 where
   pub bytes : one.bytes ≡ other.bytes
   pub lines : NumbersLines job → one.lines ≡ other.lines
 
--- a text is empty or ends in a newline
-abbrev pub EndsLine : List ℕ → Type 0
-EndsLine text = 0 < length text → IsNewline text (length text - 1)
-
 -- the lines of a text are searched up to those that are left
 pub record SearchesTo (p : Patterns) (job : Job) (before after : State) (old new : Option (List ℕ)) (text left : List ℕ) : Type 0 where
   -- what is left is the rest of the text
@@ -203,12 +195,12 @@ needs_one Names = true
 needs_one Lacking = true
 needs_one Nothing = true
 
--- such a line was selected, or so many as are asked for
+-- such a line was selected, or so many as are asked for and no line behind the last of them is due
 abbrev pub IsSettled : Job → State → Type 0
-IsSettled job state = ((needs_one job.shown ≡ true) × (0 < state.selected)) ⊎ (is_full job.most state.selected ≡ true)
+IsSettled job state = ((needs_one job.shown ≡ true) × (0 < state.selected)) ⊎ ((is_full job.most state.selected ≡ true) × (state.trail.due ≡ 0))
 
 -- the lines of a text are searched: all of them, or up to a selected one behind which nothing more is told
-pub record SearchesText (p : Patterns) (job : Job) (before after : State) (old new : Option (List ℕ)) (text : List ℕ) : Type 0 where
+pub record SearchesPlain (p : Patterns) (job : Job) (before after : State) (old new : Option (List ℕ)) (text : List ℕ) : Type 0 where
   pub left : List ℕ
   pub searches : SearchesTo p job before after old new text left
   pub ends : (left ≡ []) ⊎ IsSettled job after

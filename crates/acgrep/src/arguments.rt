@@ -3,11 +3,11 @@
 //! Options may be joined, take their argument joined or as the next one, and stand behind files. A long name may be a beginning that
 //! no other option's name has. Two hyphens end the options.
 
-ghost use Rattle.std.specs.Prelude.{◌≡◌, Some, IfOk, IfErr, string_bytes};
+ghost use Rattle.std.specs.Prelude.{◌≡◌, ◌≤◌, ◌<◌, Some, IfOk, IfErr, length, string_bytes};
 ghost use Rattle.programs.specs.Arguments.{kind_by, texts};
-ghost use Rattle.acgrep.specs.Arguments.{FailsBy, ReadsBy, SaysMore, argument_by, color_by, fresh_by, joined_by, letters_by, long_by, most_by, named_by, number_by, plain_by, said, said_by, source_option, so_far, taken_by, turned_by, value_by, with_operand, with_source};
+ghost use Rattle.acgrep.specs.Arguments.{AreDigits, FailsBy, ReadsBy, SaysMore, argument_by, color_by, fresh_by, joined_by, letters_by, long_by, named_by, number_by, numbered, numbered_by, plain_by, said, said_by, source_option, so_far, taken_by, turned_by, value_by, with_operand, with_source};
 ghost use Rattle.acgrep.specs.Long.{option_by};
-ghost use Rattle.acgrep.specs.Mistakes.{IsFirstMistake, TellsBy, mistake_at, wrong_fresh, wrong_joined, wrong_letters, wrong_long, wrong_most, wrong_name, wrong_plain, wrong_value};
+ghost use Rattle.acgrep.specs.Mistakes.{IsFirstMistake, TellsBy, mistake_at, wrong_fresh, wrong_joined, wrong_letters, wrong_long, wrong_name, wrong_numbered, wrong_plain, wrong_value};
 ghost use Rattle.acgrep.specs.Told.{color_parts, kind_parts, number_parts, valued_name};
 
 use crate::long::{Long, Valued, option_of};
@@ -234,9 +234,10 @@ fn read_value<'a>(
         Valued::Regexp => add_source(given, false, argument.as_bytes())?,
         Valued::PatternFile => add_source(given, true, argument.as_bytes())?,
         Valued::Kind => given.flags.kind = read_kind(argument)?,
-        Valued::Offset => given.flags.first = read_number(valued, argument.as_bytes())?,
-        Valued::FirstLine => given.flags.first_line = read_number(valued, argument.as_bytes())?,
-        Valued::MaxCount => given.flags.most = Some(read_number(valued, argument.as_bytes())?),
+        _ => {
+            let number = read_number(valued, argument.as_bytes())?;
+            given.flags = given.flags.numbered(valued, number);
+        }
     }
     Ok(Awaited::Fresh)
 }
@@ -304,7 +305,7 @@ fn read_plain<'a>(given: &mut Given<'a>, argument: &'a [u8]) -> Result<Awaited, 
     }
 }
 
-/// Reads joined letters. `-e`, `-f` and `-m` take what stands behind them.
+/// Reads joined letters. Those of options with an argument take what stands behind them, and digits are a number of lines.
 fn read_letters<'a>(given: &mut Given<'a>, letters: &'a [u8]) -> Result<Awaited, Refusal<'a>>
     ensures read { ReadsBy (letters_by letters.now) given.old given.new result }
     ensures refused { FailsBy (letters_by letters.now (said given.old)) result }
@@ -312,11 +313,16 @@ fn read_letters<'a>(given: &mut Given<'a>, letters: &'a [u8]) -> Result<Awaited,
 {
     let mut rest = letters;
     while let Some((letter, behind)) = rest.split_first() {
+        let digits = digits_in(rest);
+        if digits > 0 {
+            rest = take_digits(given, rest, digits)?;
+            continue;
+        }
         if *letter == b'e' || *letter == b'f' {
             return take_source(given, *letter == b'f', behind);
         }
-        if *letter == b'm' {
-            return take_most(given, behind);
+        if let Some(valued) = numbered(*letter) {
+            return take_number(given, valued, behind);
         }
         match switch_of(*letter) {
             Some(switch) => given.flags = given.flags.switched(switch),
@@ -344,17 +350,71 @@ fn take_source<'a>(
     Ok(Awaited::Fresh)
 }
 
-/// Takes what stands behind `-m` for its argument, if it is not empty.
-fn take_most<'a>(given: &mut Given<'a>, behind: &'a [u8]) -> Result<Awaited, Refusal<'a>>
-    ensures read { ReadsBy (most_by behind.now) given.old given.new result }
-    ensures refused { FailsBy (most_by behind.now (said given.old)) result }
-    ensures wrong { TellsBy (wrong_most behind.now) result }
+/// The option of a letter whose argument is a number.
+fn numbered(letter: u8) -> Option<Valued>
+    ensures option { result ≡ numbered letter }
+{
+    match letter {
+        b'm' => Some(Valued::MaxCount),
+        b'A' => Some(Valued::After),
+        b'B' => Some(Valued::Before),
+        b'C' => Some(Valued::Around),
+        _ => None,
+    }
+}
+
+/// Takes what stands behind such a letter for its argument, if it is not empty.
+fn take_number<'a>(
+    given: &mut Given<'a>,
+    valued: Valued,
+    behind: &'a [u8],
+) -> Result<Awaited, Refusal<'a>>
+    ensures read { ReadsBy (numbered_by valued behind.now) given.old given.new result }
+    ensures refused { FailsBy (numbered_by valued behind.now (said given.old)) result }
+    ensures wrong { TellsBy (wrong_numbered valued behind.now) result }
 {
     if behind.is_empty() {
-        return Ok(Awaited::Argument(Valued::MaxCount));
+        return Ok(Awaited::Argument(valued));
     }
-    given.flags.most = Some(read_number(Valued::MaxCount, behind)?);
+    let number = read_number(valued, behind)?;
+    given.flags = given.flags.numbered(valued, number);
     Ok(Awaited::Fresh)
+}
+
+/// Takes the digits at the front of letters for the argument of `-C`, and answers what follows.
+fn take_digits<'a>(
+    given: &mut Given<'a>,
+    letters: &'a [u8],
+    count: usize,
+) -> Result<&'a [u8], Refusal<'a>>
+    requires digits { AreDigits letters.now count }
+    requires within { count ≤ length letters.now }
+    requires some { 0 < count }
+    ensures shorter { IfOk result (λ rest. length rest.now < length letters.now) }
+    ensures read { IfOk result (λ rest.
+        letters_by letters.now (said given.old) ≡ letters_by rest.now (said given.new)) }
+    ensures refused { FailsBy (letters_by letters.now (said given.old)) result }
+    ensures wrong { TellsBy (wrong_letters letters.now) result }
+    ensures behind { IfOk result (λ rest. wrong_letters letters.now ≡ wrong_letters rest.now) }
+{
+    let number = read_number(Valued::Around, &letters[..count])?;
+    given.flags.context = Some(number);
+    Ok(&letters[count..])
+}
+
+/// How many digits stand at the front of letters.
+fn digits_in(letters: &[u8]) -> usize
+    ensures within { result ≤ length letters.now }
+    ensures digits { AreDigits letters.now result }
+{
+    let mut count = 0;
+    while count < letters.len() {
+        if !letters[count].is_ascii_digit() {
+            return count;
+        }
+        count += 1;
+    }
+    count
 }
 
 /// The option that gives a file of patterns, or patterns.

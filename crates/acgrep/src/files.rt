@@ -139,7 +139,7 @@ pub fn search_files<A: Automaton, F: Open, R: Read, W: Sink, E: Sink>(
 
     // Whatever the status, a beginning of what is asked is written.
     ensures begun { ForLines (A.is_of automaton.now) (λ p.
-        AreFilesBegun p job.now (F.holds files.now.files.now) (files_named files.now)
+        AreFilesBegun p job.now false (F.holds files.now.files.now) (files_named files.now)
         (R.remaining input.old) (W.taken output.old) (W.taken output.new)) }
 
     // What is told tells why a file was not searched; where the status tells of no error, nothing is told.
@@ -198,6 +198,7 @@ fn search_names<A: Automaton, F: Open, R: Read, W: Sink, E: Sink>(
         return 2;
     };
     let mut page = Vec::new(alloc);
+    let mut state = State::new(alloc, job.first);
     let seen = search_each(
         automaton,
         job,
@@ -205,6 +206,7 @@ fn search_names<A: Automaton, F: Open, R: Read, W: Sink, E: Sink>(
         names,
         &mut buffer,
         input,
+        &mut state,
         &mut page,
         output,
         errors,
@@ -220,6 +222,7 @@ fn search_each<A: Automaton, F: Open, R: Read, W: Sink, E: Sink>(
     names: &[&[u8]],
     buffer: &mut Buffer,
     input: &mut R,
+    state: &mut State,
     page: &mut Vec<u8>,
     output: &mut W,
     errors: &mut Errors<'_, E>,
@@ -238,7 +241,17 @@ fn search_each<A: Automaton, F: Open, R: Read, W: Sink, E: Sink>(
     let mut rest = names;
     while goes_on(rest, seen) {
         let outcome = search_name(
-            automaton, job, files, rest[0], buffer, input, page, output, errors,
+            automaton,
+            job,
+            files,
+            rest[0],
+            seen.selected,
+            buffer,
+            input,
+            state,
+            page,
+            output,
+            errors,
         );
         seen = seen.after(job.shown, outcome);
         rest = &rest[1..];
@@ -261,30 +274,36 @@ fn search_name<A: Automaton, F: Open, R: Read, W: Sink, E: Sink>(
     job: &Job<'_>,
     files: &F,
     name: &[u8],
+    follows: bool,
     buffer: &mut Buffer,
     input: &mut R,
+    state: &mut State,
     page: &mut Vec<u8>,
     output: &mut W,
     errors: &mut Errors<'_, E>,
 ) -> Outcome
     requires of { (p : Patterns) × A.is_of automaton.now p }
     ensures searched { ForLines (A.is_of automaton.now) (λ p.
-        IfSearched result (SearchesName p job.now (F.holds files.now) name.now
+        IfSearched result (SearchesName p job.now follows (F.holds files.now) name.now
         (R.remaining input.old) (R.remaining input.new)
         (W.taken output.old) (W.taken output.new))) }
     ensures begun { ForLines (A.is_of automaton.now) (λ p.
-        IfBroken result (BeginsName p job.now (F.holds files.now) name.now
+        IfBroken result (BeginsName p job.now follows (F.holds files.now) name.now
         (R.remaining input.old) (W.taken output.old) (W.taken output.new))) }
     ensures leaves { LeavesInput name.now (R.remaining input.old) (R.remaining input.new) }
     ensures told { TellsOfOutcome E.Sink job.now.hushed (shown_name name.now) result
         errors.old errors.new }
 {
     if is_input(name) {
-        let named = job_for(job, INPUT_NAME);
-        return search_one(automaton, &named, buffer, input, page, output, errors);
+        let named = job_for(job, INPUT_NAME, follows);
+        return search_one(
+            automaton, &named, buffer, input, state, page, output, errors,
+        );
     }
-    let named = job_for(job, name);
-    search_named(automaton, &named, files, name, buffer, page, output, errors)
+    let named = job_for(job, name, follows);
+    search_named(
+        automaton, &named, files, name, buffer, state, page, output, errors,
+    )
 }
 
 /// Opens the file of a name and searches it.
@@ -294,6 +313,7 @@ fn search_named<A: Automaton, F: Open, W: Sink, E: Sink>(
     files: &F,
     name: &[u8],
     buffer: &mut Buffer,
+    state: &mut State,
     page: &mut Vec<u8>,
     output: &mut W,
     errors: &mut Errors<'_, E>,
@@ -307,7 +327,9 @@ fn search_named<A: Automaton, F: Open, W: Sink, E: Sink>(
         errors.old errors.new }
 {
     match open_named(files, name) {
-        Ok(mut file) => search_one(automaton, job, buffer, &mut file, page, output, errors),
+        Ok(mut file) => search_one(
+            automaton, job, buffer, &mut file, state, page, output, errors,
+        ),
         Err(error) => {
             let _ = output.flush();
             tell_unread(job, Reason::of(&error), errors);
@@ -322,6 +344,7 @@ fn search_one<A: Automaton, R: Read, W: Sink, E: Sink>(
     job: &Job<'_>,
     buffer: &mut Buffer,
     reader: &mut R,
+    state: &mut State,
     page: &mut Vec<u8>,
     output: &mut W,
     errors: &mut Errors<'_, E>,
@@ -335,10 +358,10 @@ fn search_one<A: Automaton, R: Read, W: Sink, E: Sink>(
     ensures told { TellsOfOutcome E.Sink job.now.hushed job.now.style.name.now result
         errors.old errors.new }
 {
-    let mut state = State::new(job.first);
-    match search_stream(automaton, job, buffer, reader, &mut state, page, output) {
-        Ok(()) => end_file(job, &state, page, output, errors),
-        Err(stop) => break_off(job, &state, &stop, page, output, errors),
+    state.begin(job);
+    match search_stream(automaton, job, buffer, reader, state, page, output) {
+        Ok(()) => end_file(job, state, page, output, errors),
+        Err(stop) => break_off(job, state, &stop, page, output, errors),
     }
 }
 
@@ -469,8 +492,8 @@ fn tell_total<E: Sink>(stop: &Stop, errors: &mut Errors<'_, E>)
 }
 
 /// What is written of the file of this name.
-fn job_for<'a>(job: &Job<'_>, name: &'a [u8]) -> Job<'a>
-    ensures named { IsNamed job.now name.now result }
+fn job_for<'a>(job: &Job<'_>, name: &'a [u8], follows: bool) -> Job<'a>
+    ensures named { IsNamed job.now name.now follows result }
 {
     Job {
         shown: job.shown,
@@ -483,9 +506,12 @@ fn job_for<'a>(job: &Job<'_>, name: &'a [u8]) -> Job<'a>
             number: job.style.number,
             offset: job.style.offset,
             color: job.style.color,
+            hyphen: job.style.hyphen,
         },
         first: job.first,
         most: job.most,
         hushed: job.hushed,
+        context: job.context,
+        follows,
     }
 }

@@ -42,6 +42,11 @@ Output:
   -H, --with-filename   write the file's name before each line
   -h, --no-filename     do not write it
   -Z, --null            write a zero byte behind a file's name
+  -A, --after-context N write N lines behind each selected one too
+  -B, --before-context N
+                        write N lines before each selected one too
+  -C, --context N, -N   both
+  --no-group-separator  no line '--' between lines that do not follow one another
   --color[=WHEN]        color the output: auto, always or never
 
 Others:

@@ -2,13 +2,13 @@
 
 ghost use Rattle.std.specs.Prelude.{◌≡◌, ◌≤◌, IfOk, IfSome, IsNone, IsSome, OnOk, length};
 ghost use Rattle.std.specs.Io.KnownBytes.{Keeps};
+ghost use Rattle.acgrep.specs.Lines.{EndsLine};
 ghost use Rattle.acgrep.specs.Arguments.{origin_of};
 ghost use Rattle.programs.specs.Names.{is_input};
 ghost use Rattle.acgrep.specs.Loading.{AddsFile, AddsSource, ReadsSources, file_origin};
 ghost use Rattle.acgrep.specs.Origins.{IsFoundIn, begin_of, count_at, piece_at};
 ghost use Rattle.acgrep.specs.Runs.{origins_of};
 ghost use Rattle.acgrep.specs.Told.{MayName, TellsOfFile, TellsOfSources, source_names};
-ghost use Rattle.acgrep.specs.Written.{EndsLine};
 
 use crate::arguments::Source;
 use crate::open::Open;

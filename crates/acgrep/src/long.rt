@@ -1,7 +1,7 @@
 //! The long names of options, and their beginnings.
 
 ghost use Rattle.std.specs.Prelude.{◌≡◌, Some, None, IfErr, IfOk};
-ghost use Rattle.acgrep.specs.Long.{begun_too, found_among, found_by, found_more, is_color, option_by, other_options, output_options, pattern_options};
+ghost use Rattle.acgrep.specs.Long.{begun_too, context_options, found_among, found_by, found_more, is_color, option_by, other_options, output_options, pattern_options};
 ghost use Rattle.acgrep.specs.Mistakes.{wrong_name};
 ghost use Rattle.acgrep.specs.Told.{wrong_parts};
 
@@ -23,6 +23,12 @@ pub enum Valued {
     FirstLine,
     /// `-m`
     MaxCount,
+    /// `-A`
+    After,
+    /// `-B`
+    Before,
+    /// `-C`
+    Around,
 }
 
 /// An option by its long name.
@@ -109,7 +115,8 @@ fn found_of(name: &[u8]) -> Found
 {
     let patterns = or_patterns(Found::Unknown, name);
     let output = or_output(patterns, name);
-    or_others(output, name)
+    let context = or_context(output, name);
+    or_others(context, name)
 }
 
 /// What it means with the options that say what is searched for.
@@ -152,6 +159,21 @@ fn or_output(found: Found, name: &[u8]) -> Found
         .or(name, b"with-filename", Long::Plain(Switch::WithName))
         .or(name, b"no-filename", Long::Plain(Switch::NoName))
         .or(name, b"max-count", Long::Takes(Valued::MaxCount))
+}
+
+/// What it means with those that say which lines are written around selected ones.
+fn or_context(found: Found, name: &[u8]) -> Found
+    ensures found { result ≡ found_among context_options name.now found }
+{
+    found
+        .or(name, b"after-context", Long::Takes(Valued::After))
+        .or(name, b"before-context", Long::Takes(Valued::Before))
+        .or(name, b"context", Long::Takes(Valued::Around))
+        .or(
+            name,
+            b"no-group-separator",
+            Long::Plain(Switch::NoSeparator),
+        )
 }
 
 /// What it means with all other options.

@@ -7,8 +7,10 @@
 mod alone;
 mod arguments;
 mod buffer;
+mod context;
 mod failure;
 mod files;
+mod held;
 mod help;
 mod json;
 mod keys;
@@ -23,6 +25,7 @@ mod searcher;
 mod select;
 mod stream;
 mod tell;
+mod trail;
 
 use chromesquid::FromWrite;
 use open::System;

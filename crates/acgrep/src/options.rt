@@ -3,6 +3,7 @@
 ghost use Rattle.std.specs.Prelude.{◌≡◌};
 ghost use Rattle.acgrep.specs.Arguments.{switch_by};
 
+use crate::long::Valued;
 use chromesquid::MatchKind;
 
 /// When matches are coloured.
@@ -33,6 +34,17 @@ pub enum Shown {
     Lacking,
     /// Nothing.
     Nothing,
+}
+
+/// How many lines are written around each selected one.
+#[derive(Clone, Copy)]
+pub struct Context {
+    /// How many before it.
+    pub before: u64,
+    /// How many behind it.
+    pub after: u64,
+    /// Whether a line stands between those that do not follow one another.
+    pub parted: bool,
 }
 
 /// What a match of a line has to be.
@@ -75,6 +87,8 @@ pub enum Switch {
     NullNames,
     /// `-q`
     Quiet,
+    /// `--no-group-separator`
+    NoSeparator,
     /// `--json`
     Json,
     /// `-h`
@@ -146,6 +160,14 @@ pub struct Flags {
     pub null: bool,
     /// `-q`: nothing is written.
     pub quiet: bool,
+    /// `-A`: how many lines are written behind each selected one.
+    pub after: Option<u64>,
+    /// `-B`: how many are before it.
+    pub before: Option<u64>,
+    /// `-C`: how many are where the option for that side is not given.
+    pub context: Option<u64>,
+    /// `--no-group-separator`: no line stands between lines that do not follow one another.
+    pub joined: bool,
     /// `--json`: each match is written as a JSON object.
     pub json: bool,
     /// The last of `-h` and `-H`.
@@ -171,7 +193,7 @@ pub struct Flags {
 }
 
 impl Flags {
-    ghost use Rattle.acgrep.specs.Arguments.{fit_by, no_flags, shown_by, switched};
+    ghost use Rattle.acgrep.specs.Arguments.{context_by, fit_by, no_flags, numbered_in, shown_by, switched};
 
     /// Where no option is given.
     pub fn new() -> Flags
@@ -190,6 +212,10 @@ impl Flags {
             lacking: false,
             null: false,
             quiet: false,
+            after: None,
+            before: None,
+            context: None,
+            joined: false,
             json: false,
             with_name: None,
             color: Color::Never,
@@ -225,6 +251,22 @@ impl Flags {
         }
     }
 
+    /// How many lines are written around selected ones, if that is asked for: of `-A` and `-C` the former goes first, and of `-B`
+    /// and `-C`.
+    pub fn context(&self) -> Option<Context>
+        ensures context { result ≡ context_by self.now }
+    {
+        if self.before.is_none() && self.after.is_none() && self.context.is_none() {
+            return None;
+        }
+        let others = self.context.unwrap_or(0);
+        Some(Context {
+            before: self.before.unwrap_or(others),
+            after: self.after.unwrap_or(others),
+            parted: !self.joined,
+        })
+    }
+
     /// What a match has to be: of `-w` and `-x` the latter goes first.
     pub fn fit(&self) -> Fit
         ensures fit { result ≡ fit_by self.now }
@@ -236,6 +278,23 @@ impl Flags {
         } else {
             Fit::AnyPart
         }
+    }
+
+    /// These with an option whose argument is a number.
+    pub fn numbered(self, valued: Valued, number: u64) -> Flags
+        ensures numbered { result ≡ numbered_in valued number self }
+    {
+        let mut flags = self;
+        match valued {
+            Valued::Offset => flags.first = number,
+            Valued::FirstLine => flags.first_line = number,
+            Valued::MaxCount => flags.most = Some(number),
+            Valued::After => flags.after = Some(number),
+            Valued::Before => flags.before = Some(number),
+            Valued::Around => flags.context = Some(number),
+            Valued::Regexp | Valued::PatternFile | Valued::Kind => {}
+        }
+        flags
     }
 
     /// These with an option that takes no argument.
@@ -263,6 +322,7 @@ impl Flags {
             }
             Switch::NullNames => flags.null = true,
             Switch::Quiet => flags.quiet = true,
+            Switch::NoSeparator => flags.joined = true,
             Switch::Json => flags.json = true,
             Switch::NoName => flags.with_name = Some(false),
             Switch::WithName => flags.with_name = Some(true),

@@ -2,8 +2,7 @@
 
 ghost use Rattle.std.specs.Prelude.{◌≡◌, ◌++◌, [], IfOk, OnOk, codes};
 ghost use Rattle.aho_core.specs.Replacement.{pieces_of};
-ghost use Rattle.acgrep.specs.Lines.{lines};
-ghost use Rattle.acgrep.specs.Written.{EndsLine};
+ghost use Rattle.acgrep.specs.Lines.{EndsLine, lines};
 
 use crate::lines::{behind, line_end, line_start};
 use std::alloc::{AllocError, Global};

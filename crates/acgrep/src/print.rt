@@ -3,7 +3,7 @@
 ghost use Rattle.std.specs.Iterator.{IsFinite};
 ghost use Rattle.std.specs.Prelude.{◌≡◌, ◌≤◌, IfOk, decimal, drop, true};
 ghost use Rattle.aho_core.specs.Patterns.{Patterns};
-ghost use Rattle.acgrep.specs.Printed.{Puts, PutsColored, PutsColoredBytes, PutsEach, PutsFinds, behind_match, colored_by, colored_from, count_by, file_line, head_of, line_by, match_by, matches_by, name_ended, name_part, number_by, number_if, painted, part_by, part_of};
+ghost use Rattle.acgrep.specs.Printed.{Puts, PutsColored, PutsColoredBytes, PutsEach, PutsFinds, behind_match, colored_by, colored_from, count_by, file_line, head_of, line_by, match_by, matches_by, name_ended, name_part, number_by, number_if, painted, part_by, part_of, separator_by};
 
 use crate::alone::{behind_alone, next_alone};
 use crate::failure::Stop;
@@ -41,6 +41,8 @@ pub struct Style<'a> {
     pub offset: bool,
     /// Whether all that is coloured.
     pub color: bool,
+    /// Whether a hyphen stands behind each part but a zero byte, as in the lines around selected ones, and else a colon.
+    pub hyphen: bool,
 }
 
 /// Where a line stands in its file.
@@ -66,13 +68,29 @@ fn put_painted<W: Write>(output: &mut W, color: bool, start: &[u8], bytes: &[u8]
     Ok(())
 }
 
-/// Writes a part of what stands before a line, and a colon.
-fn put_part<W: Write>(output: &mut W, color: bool, start: &[u8], bytes: &[u8]) -> io::Result<()>
+/// Writes a part of what stands before a line, and a colon or a hyphen.
+fn put_part<W: Write>(
+    output: &mut W,
+    style: &Style<'_>,
+    start: &[u8],
+    bytes: &[u8],
+) -> io::Result<()>
     ensures written { Puts W.Write output.old output.new result
-        (part_by color start.now bytes.now) }
+        (part_by style.now start.now bytes.now) }
 {
-    put_painted(output, color, start, bytes)?;
-    put_painted(output, color, SEPARATOR_COLOR, b":")?;
+    put_painted(output, style.color, start, bytes)?;
+    let mark = if style.hyphen { b"-" } else { b":" };
+    put_painted(output, style.color, SEPARATOR_COLOR, mark)?;
+    Ok(())
+}
+
+/// Writes the line between lines that do not follow one another.
+pub fn put_separator<W: Write>(output: &mut W, style: &Style<'_>) -> io::Result<()>
+    ensures written { Puts W.Write output.old output.new result
+        (separator_by style.now) }
+{
+    put_painted(output, style.color, SEPARATOR_COLOR, b"--")?;
+    output.write_all(b"\n")?;
     Ok(())
 }
 
@@ -84,14 +102,14 @@ pub fn put_digits(number: u64, room: &mut [u8; DIGITS]) -> usize
     write_digits(number, room, DIGITS)
 }
 
-/// Writes a number and a colon.
-fn put_number<W: Write>(output: &mut W, color: bool, number: u64) -> io::Result<()>
+/// Writes a number, and a colon or a hyphen.
+fn put_number<W: Write>(output: &mut W, style: &Style<'_>, number: u64) -> io::Result<()>
     ensures written { Puts W.Write output.old output.new result
-        (number_by color number) }
+        (number_by style.now number) }
 {
     let mut digits = [0; DIGITS];
     let start = put_digits(number, &mut digits);
-    put_part(output, color, NUMBER_COLOR, &digits[start..])
+    put_part(output, style, NUMBER_COLOR, &digits[start..])
 }
 
 /// Writes what stands before a line, or before a match that begins at a place of it.
@@ -100,8 +118,8 @@ fn put_head<W: Write>(output: &mut W, style: &Style<'_>, number: u64, offset: u6
         (head_of style.now number offset) }
 {
     put_file(output, style)?;
-    put_if(output, style.number, style.color, number)?;
-    put_if(output, style.offset, style.color, offset)?;
+    put_if(output, style.number, style, number)?;
+    put_if(output, style.offset, style, offset)?;
     Ok(())
 }
 
@@ -116,16 +134,16 @@ fn put_file<W: Write>(output: &mut W, style: &Style<'_>) -> io::Result<()>
     if style.null {
         return put_ended(output, style, b"\0");
     }
-    put_part(output, style.color, NAME_COLOR, style.name)
+    put_part(output, style, NAME_COLOR, style.name)
 }
 
 /// Writes a number where it is asked for.
-fn put_if<W: Write>(output: &mut W, asked: bool, color: bool, number: u64) -> io::Result<()>
+fn put_if<W: Write>(output: &mut W, asked: bool, style: &Style<'_>, number: u64) -> io::Result<()>
     ensures written { Puts W.Write output.old output.new result
-        (number_if asked color number) }
+        (number_if asked style.now number) }
 {
     if asked {
-        return put_number(output, color, number);
+        return put_number(output, style, number);
     }
     Ok(())
 }

@@ -311,7 +311,7 @@ fn search_by<F: Open, R: Read, W: Sink, E: Sink>(
         (R.remaining input.old) (R.remaining input.new)
         (W.taken output.old) (W.taken output.new) result) }
     ensures begun { ForLines (λ p. IsSearcherOf p searcher.now) (λ p.
-        AreFilesBegun p job.now (F.holds files.now.files.now) (files_named files.now)
+        AreFilesBegun p job.now false (F.holds files.now.files.now) (files_named files.now)
         (R.remaining input.old) (W.taken output.old) (W.taken output.new)) }
     ensures told { TellsOfFiles E.Sink job.now.hushed (files_named files.now)
         job.now.shown result errors.old errors.new }
@@ -415,6 +415,7 @@ fn job_of(flags: &Flags, terminal: bool, count: usize) -> Job<'static>
             number: flags.number,
             offset: flags.offset,
             color: is_colored(flags.color, terminal),
+            hyphen: false,
         },
         first: Place {
             lines: flags.first_line.wrapping_sub(1),
@@ -422,6 +423,8 @@ fn job_of(flags: &Flags, terminal: bool, count: usize) -> Job<'static>
         },
         most: flags.most,
         hushed: flags.no_messages,
+        context: flags.context(),
+        follows: false,
     }
 }
 

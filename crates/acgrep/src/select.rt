@@ -6,19 +6,22 @@ ghost use Rattle.aho_core.specs.Patterns.{Patterns};
 ghost use Rattle.aho_core.specs.declared.search.MatchKind.TheVariants.{LeftmostLongest};
 ghost use Rattle.acgrep.specs.Alone.{asks_alone};
 ghost use Rattle.acgrep.specs.declared.options.Fit.TheVariants.{AnyPart, WholeLine};
-ghost use Rattle.acgrep.specs.Lines.{lines};
-ghost use Rattle.acgrep.specs.Searched.{BeginsInvertedBy, BeginsLineBy, BeginsMatchBy, BeginsOneBy, BeginsOthersBy, BeginsSelectedBy, BeginsTextBy, SearchesSomeBy, SearchesTextBy, TellsInvertedBy, TellsLineBy, TellsMatchBy, TellsOthersBy, WritesLineBy, WritesNextBy};
+ghost use Rattle.acgrep.specs.Lines.{EndsLine, lines};
+ghost use Rattle.acgrep.specs.Searched.{BeginsInvertedBy, BeginsLineBy, BeginsMatchBy, BeginsOneBy, BeginsOthersBy, BeginsSelectedBy, BeginsPlainBy, BeginsTextBy, SearchesPlainBy, SearchesSomeBy, SearchesTextBy, TellsInvertedBy, TellsLineBy, TellsMatchBy, TellsOthersBy, WritesLineBy, WritesNextBy};
 ghost use Rattle.acgrep.specs.Selected.{FindsNone, ForLines, IsLine, IsNextLine, IsNoneSelected};
-ghost use Rattle.acgrep.specs.Written.{EndsLine, HasMatch, IsMatched, NumbersLines, IsSettled, SamePlace, after_line, after_lines, at_begin, is_full, is_numbered, needs_one, next_count, place_behind, selects};
+ghost use Rattle.acgrep.specs.Written.{HasMatch, IsMatched, NumbersLines, IsSettled, SamePlace, after_line, after_lines, is_full, is_numbered, needs_one, next_count, place_behind, selects};
 
 use crate::alone::has_alone;
+use crate::context::search_around;
 use crate::failure::Stop;
 use crate::json::put_objects;
 use crate::lines::{behind, line_end, line_start};
-use crate::options::{Fit, Shown};
+use crate::options::{Context, Fit, Shown};
 use crate::print::{Place, Style, put_colored_line, put_line, put_matches};
+use crate::trail::Trail;
 use chromesquid::{Automaton, Input, MatchError, MatchKind, Sink, Span, write_whole};
 use memchr::memchr_iter;
+use std::alloc::Global;
 use std::io::Write;
 
 /// What is written of which lines of a file.
@@ -38,9 +41,25 @@ pub struct Job<'a> {
     pub most: Option<u64>,
     /// Whether nothing is told of files that cannot be read.
     pub hushed: bool,
+    /// How many lines are written around selected ones, where that is asked for.
+    pub context: Option<Context>,
+    /// Whether lines of a file before were written.
+    pub follows: bool,
 }
 
 impl<'a> Job<'a> {
+    ghost use Rattle.acgrep.specs.Contexts.{around_of, beside};
+
+    /// How many lines are written around selected ones: where lines or matches are written, as many as are asked for.
+    fn around(&self) -> Option<Context>
+        ensures around { result ≡ around_of self.now }
+    {
+        match self.shown {
+            Shown::Lines | Shown::Matches => self.context,
+            _ => None,
+        }
+    }
+
     /// Whether the numbers of lines are written.
     fn numbers(&self) -> bool
         ensures numbered { result ≡ is_numbered self.now.shown self.now.style.number }
@@ -66,7 +85,7 @@ impl<'a> Job<'a> {
     }
 
     /// Whether a line is selected, by whether it matches.
-    fn selects(&self, matched: bool) -> bool
+    pub fn selects(&self, matched: bool) -> bool
         ensures selects { result ≡ selects matched self.now.invert }
     {
         if self.invert { !matched } else { matched }
@@ -80,7 +99,7 @@ impl<'a> Job<'a> {
     }
 
     /// Whether so many lines are selected as are asked for.
-    fn is_full(&self, count: u64) -> bool
+    pub fn is_full(&self, count: u64) -> bool
         ensures full { result ≡ is_full self.now.most count }
     {
         match self.most {
@@ -89,19 +108,29 @@ impl<'a> Job<'a> {
         }
     }
 
+    /// What is written of the lines around selected ones: under `-v` their matches are shown, and else not.
+    pub fn beside(&self) -> Job<'a>
+        ensures beside { result ≡ beside self.now }
+    {
+        let mut job = *self;
+        job.invert = !self.invert;
+        job.style.hyphen = true;
+        job
+    }
+
     /// Whether no further line changes what is written.
     pub fn is_done(&self, state: &State) -> bool
         ensures only { IsTrue result → 0 < state.now.selected }
         ensures settled { IsTrue result ↔ IsSettled self.now state.now }
     {
-        if self.is_full(state.selected) {
+        if self.is_full(state.selected) && state.trail.is_past() {
             return true;
         }
         self.needs_one() && state.selected > 0
     }
 
     /// Whether what is left of a text is to be searched.
-    fn goes_on(&self, left: &[u8], state: &State) -> bool
+    pub fn goes_on(&self, left: &[u8], state: &State) -> bool
         ensures some { IsTrue result → 0 < length left.now }
         ensures ends { result ≡ false → (left.now ≡ []) ⊎ IsSettled self.now state.now }
     {
@@ -110,23 +139,35 @@ impl<'a> Job<'a> {
 }
 
 /// How far a file was searched.
-#[derive(Clone, Copy)]
+#[derive(Drop)]
 pub struct State {
     /// What stands before the next line.
     pub place: Place,
     /// How many lines were selected.
     pub selected: u64,
+    /// What is known of the lines before it, where lines around selected ones are written.
+    pub trail: Trail,
 }
 
 impl State {
-    /// At the begin of a file whose first line stands there.
-    pub fn new(first: Place) -> State
-        ensures begin { result ≡ at_begin first }
-    {
+    ghost use Rattle.acgrep.specs.Contexts.{IsBegin};
+
+    /// Where no file was begun.
+    pub fn new(alloc: Global, first: Place) -> State {
         State {
             place: first,
             selected: 0,
+            trail: Trail::new(alloc, first),
         }
+    }
+
+    /// Begins a file of which this is written.
+    pub fn begin(&mut self, job: &Job<'_>)
+        ensures begin { IsBegin job.now self.new }
+    {
+        self.place = job.first;
+        self.selected = 0;
+        self.trail.begin(job.follows);
     }
 }
 
@@ -181,6 +222,29 @@ pub fn search_text<A: Automaton, W: Sink>(
     ensures begun { BeginsTextBy A.Automaton W.Sink automaton.now job.now
         state.old state.new output.old output.new text.now result }
 {
+    match job.around() {
+        Some(context) => search_around(automaton, job, &context, text, state, page, output),
+        None => search_plain(automaton, job, text, state, page, output),
+    }
+}
+
+/// The same where no lines around selected ones are written.
+fn search_plain<A: Automaton, W: Sink>(
+    automaton: &A,
+    job: &Job<'_>,
+    text: &[u8],
+    state: &mut State,
+    page: &mut Vec<u8>,
+    output: &mut W,
+) -> Result<(), Stop>
+    requires of { (p : Patterns) × A.is_of automaton.now p }
+    ensures none { ForLines (A.is_of automaton.now) (λ p.
+        OnOk result (IsNoneSelected p job.now text.now state.new)) }
+    ensures written { SearchesPlainBy A.Automaton W.Sink automaton.now job.now
+        state.old state.new output.old output.new text.now result }
+    ensures begun { BeginsPlainBy A.Automaton W.Sink automaton.now job.now
+        state.old state.new output.old output.new text.now result }
+{
     let mut rest = text;
     while job.goes_on(rest, state) {
         rest = search_some(automaton, job, rest, state, page, output)?;
@@ -204,7 +268,7 @@ fn search_some<'t, A: Automaton, W: Sink>(
         → job.now.fit ≡ AnyPart → OnOk result (FindsNone p state.old state.new text.now)) }
     ensures written { SearchesSomeBy A.Automaton W.Sink automaton.now job.now
         state.old state.new output.old output.new text.now result }
-    ensures begun { BeginsTextBy A.Automaton W.Sink automaton.now job.now
+    ensures begun { BeginsPlainBy A.Automaton W.Sink automaton.now job.now
         state.old state.new output.old output.new text.now result }
 {
     match next_line(automaton, text)? {
@@ -250,7 +314,7 @@ fn pass_matched<A: Automaton, W: Sink>(
 }
 
 /// Whether a line in which a pattern occurs matches.
-fn is_match<A: Automaton>(automaton: &A, job: &Job<'_>, line: &[u8]) -> Result<bool, Stop>
+pub fn is_match<A: Automaton>(automaton: &A, job: &Job<'_>, line: &[u8]) -> Result<bool, Stop>
     requires of { (p : Patterns) × A.is_of automaton.now p }
     ensures any { job.now.fit ≡ AnyPart → IfOk result (λ matched. matched ≡ true) }
     ensures matched { (p : Patterns) → A.is_of automaton.now p → HasMatch p line.now
@@ -400,7 +464,7 @@ fn pass_each<A: Automaton, W: Sink>(
 }
 
 /// The place behind a line and its newline.
-fn behind_line(place: Place, line: &[u8]) -> Place
+pub fn behind_line(place: Place, line: &[u8]) -> Place
     ensures place { result ≡ after_line place line.now }
 {
     Place {
@@ -450,7 +514,7 @@ fn newlines(text: &[u8]) -> u64
 
 /// Writes what is asked of a selected line. It is put together first: where the output cannot be written to the end, what is
 /// there is a beginning of it.
-fn show<A: Automaton, W: Sink>(
+pub fn show<A: Automaton, W: Sink>(
     automaton: &A,
     job: &Job<'_>,
     line: &[u8],
@@ -472,7 +536,7 @@ fn show<A: Automaton, W: Sink>(
 }
 
 /// Puts together what is asked of a selected line.
-fn put_shown<A: Automaton, W: Write>(
+pub fn put_shown<A: Automaton, W: Write>(
     automaton: &A,
     job: &Job<'_>,
     line: &[u8],

@@ -138,6 +138,9 @@ fn valued_name<'a>(valued: Valued) -> &'a [u8]
         Valued::Offset => b"--offset",
         Valued::FirstLine => b"--first-line",
         Valued::MaxCount => b"-m",
+        Valued::After => b"-A",
+        Valued::Before => b"-B",
+        Valued::Around => b"-C",
     }
 }
 

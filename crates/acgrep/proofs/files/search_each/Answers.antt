@@ -63,4 +63,4 @@ pub returns-clause-begun : goal.returns-clause-begun
 returns-clause-begun g c = λ p is plain.
     let held = g.W.Sink.taken c.loop-rest.output in
     (c.loop-rest.invariant.so_far p is plain).begun held
-    (begun_none p c.args.job.now (g.F.Open.holds c.args.files.now) (name_bytes c.loop-rest.rest.now) (g.R.Read.remaining c.loop-rest.input) held held (Keeps-refl held))
+    (begun_none p c.args.job.now (g.F.Open.holds c.args.files.now) c.loop-rest.seen.selected (name_bytes c.loop-rest.rest.now) (g.R.Read.remaining c.loop-rest.input) held held (Keeps-refl held))

@@ -1,5 +1,5 @@
 -- Standard input is searched where no file is named.
-use Rattle.std.proofs.Common.{◌≡◌, ◌<◌, ℕ, List, length, subst, sym, arith}
+use Rattle.std.proofs.Common.{◌≡◌, ◌<◌, ℕ, false, List, length, subst, sym, arith}
 use Rattle.std.proofs.lemmas.Grind.{common_steps}
 use Rattle.acgrep.specs.Files.{AreFilesBegun, AreSearchedOr}
 use Rattle.acgrep.proofs.NamesSearched.{input_alone, names_asked}
@@ -26,7 +26,7 @@ pub returns-then-is_empty-clause-begun : goal.returns-then-is_empty-clause-begun
 returns-then-is_empty-clause-begun g c = λ p is plain.
     let names = c.args.files.now.names.now in
     let none : length names ≡ 0 = grind (arith, common_steps, c.is_empty.ensures, c.if-is_empty.true) in
-    subst (λ (l : List (List ℕ)). AreFilesBegun p c.args.job.now (g.F.Open.holds c.args.files.now.files.now) l (g.R.Read.remaining c.args.input.now)
+    subst (λ (l : List (List ℕ)). AreFilesBegun p c.args.job.now false (g.F.Open.holds c.args.files.now.files.now) l (g.R.Read.remaining c.args.input.now)
     (g.W.Sink.taken c.args.output.now) (g.W.Sink.taken c.search_names.new.output))
     (sym (input_alone names none)) (c.search_names.ensures.begun p is plain)
 
@@ -34,7 +34,7 @@ pub returns-clause-begun : goal.returns-clause-begun
 returns-clause-begun g c = λ p is plain.
     let names = c.args.files.now.names.now in
     let some : 0 < length names = grind (arith, common_steps, c.is_empty.ensures, c.if-is_empty.false) in
-    subst (λ (l : List (List ℕ)). AreFilesBegun p c.args.job.now (g.F.Open.holds c.args.files.now.files.now) l (g.R.Read.remaining c.args.input.now)
+    subst (λ (l : List (List ℕ)). AreFilesBegun p c.args.job.now false (g.F.Open.holds c.args.files.now.files.now) l (g.R.Read.remaining c.args.input.now)
     (g.W.Sink.taken c.args.output.now) (g.W.Sink.taken c.search_names-2.new.output))
     (sym (names_asked names some)) (c.search_names-2.ensures.begun p is plain)
 

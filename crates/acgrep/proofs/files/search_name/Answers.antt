@@ -32,5 +32,5 @@ returns-then-is_input-clause-searched g c = λ p is plain.
     let left' = g.R.Read.remaining c.search_one.new.reader in
     let held = g.W.Sink.taken c.args.output.now in
     let held' = g.W.Sink.taken c.search_one.new.output in
-    if_searched c.search_one.result (SearchesReader p named left left' held held') (SearchesName p job holds name left left' held held')
-    (input_searched p job named holds name left left' held held' (sym c.is_input.ensures ∙ c.if-is_input.true) c.job_for-named.ensures.named) (c.search_one.ensures.searched p is plain)
+    if_searched c.search_one.result (SearchesReader p named left left' held held') (SearchesName p job c.args.follows holds name left left' held held')
+    (input_searched p job named c.args.follows holds name left left' held held' (sym c.is_input.ensures ∙ c.if-is_input.true) c.job_for-named.ensures.named) (c.search_one.ensures.searched p is plain)

@@ -1,5 +1,5 @@
 -- The status tells what was seen.
-use Rattle.std.proofs.Common.{◌<◌, ℕ, subst, sym}
+use Rattle.std.proofs.Common.{◌<◌, ℕ, false, subst, sym}
 use Rattle.programs.specs.Names.{name_bytes}
 use Rattle.acgrep.specs.Files.{AreSearchedOr}
 use Rattle.std.proofs.KnownBytes.{Keeps-refl}
@@ -24,7 +24,7 @@ returns-clause-searched g c = λ p is plain low.
 pub returns-in_default-clause-begun : goal.returns-in_default-clause-begun
 returns-in_default-clause-begun g c = λ p is plain.
     let held = g.W.Sink.taken c.args.output.now in
-    begun_none p c.args.job.now (g.F.Open.holds c.args.files.now) (name_bytes c.args.names.now) (g.R.Read.remaining c.args.input.now) held held (Keeps-refl held)
+    begun_none p c.args.job.now (g.F.Open.holds c.args.files.now) false (name_bytes c.args.names.now) (g.R.Read.remaining c.args.input.now) held held (Keeps-refl held)
 
 pub returns-in_default-clause-told : goal.returns-in_default-clause-told
 returns-in_default-clause-told g c =

@@ -2,8 +2,6 @@
 use Rattle.std.proofs.Common.{subst}
 use Rattle.acgrep.specs.Files.{EndsFile, SearchesReader}
 use Rattle.acgrep.specs.Streamed.{BeginsStream, SearchesStream, course}
-use Rattle.acgrep.specs.Written.{at_begin}
-use Rattle.acgrep.specs.declared.select.State.{State}
 use Rattle.acgrep.proofs.FileTellings.{if_searched, reader_searched}
 use Rattle.acgrep.proofs.FilesBegun.{file_begins, if_broken, on_broken}
 use Rattle.acgrep.proofs.StreamsBegun.{stream_whole}
@@ -18,10 +16,10 @@ returns-in-Ok-clause-searched g c = λ p is plain.
     let meanwhile = g.W.Sink.taken c.search_stream.new.output in
     let held' = g.W.Sink.taken c.end_file.new.output in
     let state = c.search_stream.new.state in
-    let stream : SearchesStream p job (course (at_begin job.first) state held meanwhile left left') =
-    subst (λ (first : State). SearchesStream p job (course first state held meanwhile left left')) c.new-state.ensures.begin (c.in-Ok.ensures.written p is plain) in
+    let before = c.begin.new.self in
+    let stream : SearchesStream p job (course before state held meanwhile left left') = c.in-Ok.ensures.written p is plain in
     if_searched c.end_file.result (EndsFile job state.selected meanwhile held') (SearchesReader p job left left' held held')
-    (reader_searched p job state left left' held meanwhile held' stream) c.end_file.ensures.ended
+    (reader_searched p job before state left left' held meanwhile held' c.begin.ensures.begin stream) c.end_file.ensures.ended
 
 pub returns-in-Ok-clause-begun : goal.returns-in-Ok-clause-begun
 returns-in-Ok-clause-begun g c = λ p is plain.
@@ -31,10 +29,10 @@ returns-in-Ok-clause-begun g c = λ p is plain.
     let held = g.W.Sink.taken c.args.output.now in
     let meanwhile = g.W.Sink.taken c.search_stream.new.output in
     let state = c.search_stream.new.state in
-    let stream : SearchesStream p job (course (at_begin job.first) state held meanwhile left left') =
-    subst (λ (first : State). SearchesStream p job (course first state held meanwhile left left')) c.new-state.ensures.begin (c.in-Ok.ensures.written p is plain) in
+    let before = c.begin.new.self in
+    let stream : SearchesStream p job (course before state held meanwhile left left') = c.in-Ok.ensures.written p is plain in
     if_broken c.end_file.result
-    (file_begins p job state left left' held meanwhile (g.W.Sink.taken c.end_file.new.output) (stream_whole p job (at_begin job.first) state held meanwhile left left' stream))
+    (file_begins p job before state left left' held meanwhile (g.W.Sink.taken c.end_file.new.output) c.begin.ensures.begin (stream_whole p job before state held meanwhile left left' stream))
     c.end_file.ensures.begun
 
 pub returns-in-Err-clause-begun : goal.returns-in-Err-clause-begun
@@ -45,9 +43,9 @@ returns-in-Err-clause-begun g c = λ p is plain.
     let held = g.W.Sink.taken c.args.output.now in
     let meanwhile = g.W.Sink.taken c.search_stream.new.output in
     let state = c.search_stream.new.state in
-    let stream : BeginsStream p job (course (at_begin job.first) state held meanwhile left left') =
-    subst (λ (first : State). BeginsStream p job (course first state held meanwhile left left')) c.new-state.ensures.begin (c.in-Err.ensures.begun p is plain) in
-    on_broken c.break_off.result (file_begins p job state left left' held meanwhile (g.W.Sink.taken c.break_off.new.output) stream c.break_off.ensures.begun)
+    let before = c.begin.new.self in
+    let stream : BeginsStream p job (course before state held meanwhile left left') = c.in-Err.ensures.begun p is plain in
+    on_broken c.break_off.result (file_begins p job before state left left' held meanwhile (g.W.Sink.taken c.break_off.new.output) c.begin.ensures.begin stream c.break_off.ensures.begun)
 
 pub returns-in-Ok-clause-told : goal.returns-in-Ok-clause-told
 returns-in-Ok-clause-told g c = λ names is. c.end_file.ensures.told names

@@ -1,51 +1,39 @@
--- What is left of the text was not searched yet.
-use Rattle.std.proofs.Common.{inl, inr, length, refl, ap, subst, arith}
-use Rattle.acgrep.specs.Written.{HasNone}
-use Rattle.acgrep.proofs.Beginnings.{begins_rest, on_err}
-use Rattle.acgrep.proofs.Tellings.{searches_join, searches_start, settled_some}
+-- Lines around selected ones are written where they are asked for.
+use Rattle.std.proofs.Common.{◌≡◌, ◌∙◌, Option, None, Some, sym, subst}
+use Rattle.std.specs.Prelude.{OnErr, OnOk}
+use Rattle.std.proofs.lemmas.Result.{on_ok_weaker}
+use Rattle.acgrep.specs.Contexts.{BeginsAsked, SearchesIn, around_of}
+use Rattle.acgrep.specs.Lines.{lines}
+use Rattle.acgrep.specs.declared.options.Context.{Context}
+use Rattle.acgrep.proofs.NoneAround.{walks_nothing}
 use Rattle.acgrep.proofs.select.search_text.Goals as goal
 
-pub loop-rest-init : goal.loop-rest-init
-loop-rest-init g c = record {
-  none = λ p is plain invert part zero. inl refl;
-  searched = λ p is plain. searches_start p c.args.job.now c.args.state.now (g.W.Sink.taken c.args.output.now) c.args.text.now;
-}
+pub returns-in-Some-clause-none : goal.returns-in-Some-clause-none
+returns-in-Some-clause-none g c = λ p is plain.
+    on_ok_weaker c.search_around.result
+    (walks_nothing p c.args.job.now c.in-Some.context c.args.state.now c.search_around.new.state (g.W.Sink.taken c.args.output.now) (g.W.Sink.taken c.search_around.new.output) c.args.text.now plain)
+    (c.search_around.ensures.walks p is)
 
-pub loop-rest-preserved : goal.loop-rest-preserved
-loop-rest-preserved g c =
-    let text = c.args.text.now in
-    let done = c.in_ok-rest.ensures in
-    record {
-      none = λ p is plain invert part zero.
-          let (before, nothing) = done.none p is plain invert part zero in
-          elim (c.loop-rest.invariant.none p is plain invert part before) [
-            | inl same ↦ inr (subst (HasNone p) same nothing)
-            | inr none ↦ inr none
-          ];
-      searched = λ p is plain. searches_join p c.args.job.now c.args.state.now c.loop-rest.state c.search_some.new.state
-          (g.W.Sink.taken c.args.output.now) (g.W.Sink.taken c.loop-rest.output) (g.W.Sink.taken c.search_some.new.output)
-          text c.loop-rest.rest.now c.in_ok-rest.rest.now (c.loop-rest.invariant.searched p is plain) (c.goes_on.ensures.some c.loop-rest-test.true) (done.written p is plain);
-    }
+pub returns-in-Some-clause-written : goal.returns-in-Some-clause-written
+returns-in-Some-clause-written g c = λ p is plain.
+    let around : Some c.in-Some.context ≡ around_of c.args.job.now = sym c.in-Some.is ∙ c.around.ensures.around in
+    subst (λ (asked : Option Context). OnOk c.search_around.result (SearchesIn p c.args.job.now asked c.args.state.now c.search_around.new.state
+    (g.W.Sink.taken c.args.output.now) (g.W.Sink.taken c.search_around.new.output) c.args.text.now)) around (c.search_around.ensures.walks p is)
 
-pub returns-clause-written : goal.returns-clause-written
-returns-clause-written g c = λ p is plain. record {
-  left = c.loop-rest.rest.now;
-  searches = c.loop-rest.invariant.searched p is plain;
-  ends = c.goes_on.ensures.ends c.loop-rest-test.false;
-}
+pub returns-in-Some-clause-begun : goal.returns-in-Some-clause-begun
+returns-in-Some-clause-begun g c = λ p is plain.
+    let around : Some c.in-Some.context ≡ around_of c.args.job.now = sym c.in-Some.is ∙ c.around.ensures.around in
+    subst (λ (asked : Option Context). OnErr c.search_around.result (BeginsAsked p c.args.job.now asked c.args.state.now c.search_around.new.state.selected
+    (g.W.Sink.taken c.args.output.now) (g.W.Sink.taken c.search_around.new.output) (lines c.args.text.now))) around (c.search_around.ensures.begun p is)
 
-pub returns-clause-none : goal.returns-clause-none
-returns-clause-none g c = λ p is plain invert part some zero.
-    elim (c.loop-rest.invariant.none p is plain invert part zero) [
-      | inl same ↦ elim (c.goes_on.ensures.ends c.loop-rest-test.false) [
-        | inl empty ↦ absurd (omega (arith, some, ap length same, ap length empty))
-        | inr settled ↦ absurd (omega (arith, zero, settled_some c.args.job.now c.loop-rest.state settled))
-      ]
-      | inr none ↦ none
-    ]
+pub returns-in-None-clause-written : goal.returns-in-None-clause-written
+returns-in-None-clause-written g c = λ p is plain.
+    let around : None ≡ around_of c.args.job.now = sym c.in-None.is ∙ c.around.ensures.around in
+    subst (λ (asked : Option Context). OnOk c.search_plain.result (SearchesIn p c.args.job.now asked c.args.state.now c.search_plain.new.state
+    (g.W.Sink.taken c.args.output.now) (g.W.Sink.taken c.search_plain.new.output) c.args.text.now)) around (c.search_plain.ensures.written p is plain)
 
-pub returns-in_err-rest-clause-begun : goal.returns-in_err-rest-clause-begun
-returns-in_err-rest-clause-begun g c = λ p is plain.
-    on_err c.from_residual.result (begins_rest p c.args.job.now c.args.state.now c.loop-rest.state c.search_some.new.state.selected
-    (g.W.Sink.taken c.args.output.now) (g.W.Sink.taken c.loop-rest.output) (g.W.Sink.taken c.search_some.new.output)
-    c.args.text.now c.loop-rest.rest.now (c.loop-rest.invariant.searched p is plain) (c.goes_on.ensures.some c.loop-rest-test.true) (c.in_err-rest.ensures.begun p is plain))
+pub returns-in-None-clause-begun : goal.returns-in-None-clause-begun
+returns-in-None-clause-begun g c = λ p is plain.
+    let around : None ≡ around_of c.args.job.now = sym c.in-None.is ∙ c.around.ensures.around in
+    subst (λ (asked : Option Context). OnErr c.search_plain.result (BeginsAsked p c.args.job.now asked c.args.state.now c.search_plain.new.state.selected
+    (g.W.Sink.taken c.args.output.now) (g.W.Sink.taken c.search_plain.new.output) (lines c.args.text.now))) around (c.search_plain.ensures.begun p is plain)

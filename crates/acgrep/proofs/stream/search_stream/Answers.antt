@@ -5,7 +5,8 @@ use Rattle.std.proofs.lemmas.Result.{on_err_weaker}
 use Rattle.std.proofs.KnownBytes.{Consumes-nil}
 use Rattle.acgrep.specs.Streamed.{ReadsSome, course}
 use Rattle.acgrep.specs.Lines.{lines}
-use Rattle.acgrep.specs.Written.{BeginsLines, IsSettled, SearchesText}
+use Rattle.acgrep.specs.Contexts.{BeginsSearched, SearchesText}
+use Rattle.acgrep.specs.Written.{IsSettled}
 use Rattle.acgrep.proofs.Beginnings.{on_err}
 use Rattle.acgrep.proofs.LineLists.{take_zero}
 use Rattle.acgrep.proofs.Streams.{not_done, reads_both, stream_last, stream_start, stream_step, stream_stop}
@@ -78,7 +79,7 @@ returns-then-branch-clause-begun g c = λ p is plain.
     (g.R.Read.remaining c.args.input.now) (g.R.Read.remaining c.loop.input) (g.R.Read.remaining c.read_some.new.input) (take c.loop.buffer.held c.loop.buffer.room.items) kept
     c.in_ok-read_some.field-0
     (not_done c.is_done.result (IsSettled c.args.job.now c.loop.state) c.is_done.ensures.settled.1 c.if-is_done.false) c.if-branch.true (c.loop.invariant.searched p is plain) some)
-    (subst (λ (l : List ℕ). OnErr c.search_text.result (BeginsLines p c.args.job.now c.read_some.new.state c.search_text.new.state.selected (g.W.Sink.taken c.read_some.new.output) (g.W.Sink.taken c.search_text.new.output) (lines l)))
+    (subst (λ (l : List ℕ). OnErr c.search_text.result (BeginsSearched p c.args.job.now c.read_some.new.state c.search_text.new.state.selected (g.W.Sink.taken c.read_some.new.output) (g.W.Sink.taken c.search_text.new.output) (lines l)))
     c.bytes.ensures.bytes (c.search_text.ensures.begun p is plain))
 
 pub returns-clause-begun : goal.returns-clause-begun

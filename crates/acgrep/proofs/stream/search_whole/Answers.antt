@@ -1,7 +1,7 @@
 -- The whole lines are searched, and dropped from the buffer.
 use Rattle.std.proofs.Common.{ℕ, ◌-◌, ◌≡◌, ◌≤◌, ◌<◌, List, length, refl, subst, take}
 use Rattle.acgrep.specs.Lines.{IsNewline, lines}
-use Rattle.acgrep.specs.Written.{BeginsLines, SearchesText}
+use Rattle.acgrep.specs.Contexts.{BeginsSearched, SearchesText}
 use Rattle.acgrep.proofs.Beginnings.{on_err}
 use Rattle.acgrep.proofs.Streams.{whole_searched}
 use Rattle.acgrep.proofs.StreamsBegun.{whole_begins}

@@ -4,7 +4,7 @@ use Rattle.aho_core.specs.Patterns.{Patterns}
 use Rattle.acgrep.specs.Selected.{HoldNoNewline}
 use Rattle.acgrep.specs.Written.{HasNone, SearchesTo}
 use Rattle.acgrep.specs.declared.options.Fit.TheVariants.{AnyPart}
-use Rattle.acgrep.proofs.select.search_text.Given as goal
+use Rattle.acgrep.proofs.select.search_plain.Given as goal
 
 abbrev pub invariant-loop-rest : goal.invariant-loop-rest
 invariant-loop-rest g l = record {

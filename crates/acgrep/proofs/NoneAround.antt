@@ -1,0 +1,27 @@
+-- Where no line of a text was selected nothing occurs in it.
+use Rattle.std.proofs.Common.{◌≡◌, inl, inr, ◌<◌, Bool, false, List, ℕ, [], ◌++◌, Option, sym, ◌∙◌, ap, subst, arith, append-nil}
+use Rattle.aho_core.specs.Patterns.{Patterns}
+use Rattle.acgrep.specs.Contexts.{WalksText, walk_of}
+use Rattle.acgrep.specs.Lines.{lines}
+use Rattle.acgrep.specs.Selected.{HoldNoNewline, IsNoneSelected}
+use Rattle.acgrep.specs.Written.{EachLine, HasNone, IsPassedOver}
+use Rattle.acgrep.specs.declared.options.Context.{Context}
+use Rattle.acgrep.specs.declared.options.Fit.{Fit}
+use Rattle.acgrep.specs.declared.options.Fit.TheVariants.{AnyPart}
+use Rattle.acgrep.specs.declared.select.Job.{Job}
+use Rattle.acgrep.specs.declared.select.State.{State}
+use Rattle.acgrep.proofs.FileTellings.{tells_each}
+use Rattle.acgrep.proofs.NoneInLines.{none_by_lines}
+use Rattle.acgrep.proofs.Tellings.{settled_some}
+use Rattle.acgrep.proofs.Walked.{walks_tells}
+
+pub walks_nothing : (p : Patterns) (job : Job) (context : Context) (a b : State) (x y : Option (List ℕ)) (text : List ℕ) → HoldNoNewline p → WalksText p job context a b x y text
+    → IsNoneSelected p job text b
+walks_nothing p job context a b x y text plain walks invert part some zero =
+    let none : walks.left ≡ [] = elim walks.ends [ inl none ↦ none | inr settled ↦ absurd (omega (arith, zero, settled_some job b settled)) ] in
+    let all : lines text ≡ walks.searched = walks.cut ∙ ap (λ (l : List ℕ). walks.searched ++ lines l) none ∙ append-nil walks.searched in
+    let (told, tells) = walks_tells p job context walks.searched (walk_of a) (walk_of b) walks.tells.bytes walks.tells.walks in
+    let each : EachLine (IsPassedOver p job.fit job.invert) walks.searched = tells_each p job walks.searched a.place a.selected told b.selected tells zero in
+    let plainly : EachLine (IsPassedOver p AnyPart false) walks.searched =
+    subst (λ (b : Bool). EachLine (IsPassedOver p AnyPart b) walks.searched) invert (subst (λ (fit : Fit). EachLine (IsPassedOver p fit job.invert) walks.searched) part each) in
+    none_by_lines p plain text some (subst (EachLine (HasNone p)) (sym all) plainly)

@@ -1,0 +1,169 @@
+-- One line of a walk: what is written of it, and where the walk then is.
+use Rattle.std.proofs.Common.{◌≡◌, ◌⊎◌, inl, inr, ℕ, ◌-◌, ◌≤◌, ◌<◌, Bool, true, false, List, [], ◌∷◌, ◌++◌, Option, Some, length, take, drop, take-append-drop, refl, sym, ◌∙◌, ap, subst, arith, append_assoc, append-nil}
+use Rattle.std.specs.Prelude.{nat_lt, ◌&&◌}
+use Rattle.std.specs.Io.KnownBytes.{Appends}
+use Rattle.std.proofs.KnownBytes.{Appends-nil, Appends-trans}
+use Rattle.std.proofs.lemmas.Bool.{cases_Bool, lt-ltb}
+use Rattle.aho_core.specs.Patterns.{Patterns}
+use Rattle.aho_devices.specs.Counts.{AppendsBeginning}
+use Rattle.acgrep.specs.Contexts.{Holding, IsChosenBy, IsNotChosen, PassesBy, ShowsEach, ShowsGroup, Steps, Walk, WalksBegun, WalksLines, behind_chosen, behind_due, behind_passed, beside, holding, holding_of, separator_if}
+use Rattle.acgrep.specs.Lines.{lines}
+use Rattle.acgrep.specs.Written.{BeginsLine, IsMatched, IsSelected, IsPassedOver, ShowsLine, WritesLine, after_line, is_full, one_more, selects}
+use Rattle.acgrep.specs.declared.options.Context.{Context}
+use Rattle.acgrep.specs.declared.print.Place.{Place}
+use Rattle.acgrep.specs.declared.print.Style.{Style}
+use Rattle.acgrep.specs.declared.select.Job.{Job}
+use Rattle.acgrep.proofs.Grouped.{walk}
+use Rattle.acgrep.proofs.Tellings.{passed_by, selected_by}
+use Rattle.acgrep.proofs.Walked.{begun_behind, begun_more, begun_nothing, lines_join, lines_none, walks_one}
+
+-- two walks are the same where their parts are
+pub walk_same : (a b : Walk) → a.place ≡ b.place → a.selected ≡ b.selected → a.due ≡ b.due → a.some ≡ b.some → a.apart ≡ b.apart → a.first ≡ b.first → a.held ≡ b.held → a ≡ b
+walk_same a b place selected due some apart first held =
+    ap (λ (at : Place). walk at a.selected a.due a.some a.apart a.first a.held) place
+    ∙ ap (λ (n : ℕ). walk b.place n a.due a.some a.apart a.first a.held) selected
+    ∙ ap (λ (n : ℕ). walk b.place b.selected n a.some a.apart a.first a.held) due
+    ∙ ap (λ (t : Bool). walk b.place b.selected b.due t a.apart a.first a.held) some
+    ∙ ap (λ (t : Bool). walk b.place b.selected b.due b.some t a.first a.held) apart
+    ∙ ap (λ (at : Place). walk b.place b.selected b.due b.some b.apart at a.held) first
+    ∙ ap (λ (h : List (List ℕ)). walk b.place b.selected b.due b.some b.apart b.first h) held
+
+-- what was put together of a text is written
+pub page_bytes : (old new : Option (List ℕ)) (before after bytes shown : List ℕ) → before ≡ [] → bytes ≡ after → Appends (Some before) (Some after) shown → bytes ≡ shown
+page_bytes old new before after bytes shown none same is = same ∙ is ∙ ap (λ (l : List ℕ). l ++ shown) none
+
+module _ (p : Patterns) (job : Job) where
+  -- a line is chosen by whether it matches
+  pub chosen_by : (count : ℕ) (line : List ℕ) (matched : Bool) → is_full job.most count ≡ false → IsMatched p job.fit line matched → IsChosenBy p job count line (selects matched job.invert)
+  chosen_by count line matched goes is =
+      elim (cases_Bool (selects matched job.invert)) [
+        | inl yes_selected ↦ subst (IsChosenBy p job count line) (sym yes_selected) (goes, selected_by p job.fit job.invert matched line is yes_selected)
+        | inr not_selected ↦ subst (IsChosenBy p job count line) (sym not_selected) (inr (passed_by p job.fit job.invert matched line is not_selected))
+      ]
+
+  module _ (context : Context) where
+    -- a selected line and those held before it are written
+    pub takes_lines : (w w' : Walk) (line bytes : List ℕ) (x y : Option (List ℕ)) → IsChosenBy p job w.selected line true → ShowsGroup p job context w line bytes → w' ≡ behind_chosen context w line
+        → Appends x y bytes → WalksLines p job context w w' x y (line ∷ [])
+    takes_lines w w' line bytes x y chosen shows is written = record {
+      bytes = bytes;
+      walks = walks_one p job context w w' line bytes (inl (record { more = chosen.0; selected = chosen.1; shows = shows; behind = is }));
+      written = written;
+    }
+
+    -- or a beginning of that
+    pub takes_begun : (w : Walk) (line bytes : List ℕ) (x y : Option (List ℕ)) → IsChosenBy p job w.selected line true → ShowsGroup p job context w line bytes → AppendsBeginning x y bytes
+        → WalksBegun p job context w x y (line ∷ [])
+    takes_begun w line bytes x y chosen shows (n, within, written) = record {
+      first = line ∷ [];
+      left = [];
+      cut = refl;
+      all = bytes;
+      end = behind_chosen context w line;
+      walks = walks_one p job context w (behind_chosen context w line) line bytes (inl (record { more = chosen.0; selected = chosen.1; shows = shows; behind = refl }));
+      begun = take n bytes;
+      missing = drop n bytes;
+      is = sym (take-append-drop n bytes);
+      written = written;
+    }
+
+    due_step : (w w' : Walk) (line bytes : List ℕ) → 0 < w.due → IsNotChosen p job w.selected line → ShowsLine p (beside job) w.place line bytes → w' ≡ behind_due w line
+        → Steps p job context w line bytes w'
+    due_step w w' line bytes some_due passed shows is =
+        inr (record { passed = passed; passes = subst (PassesBy p job context w line bytes w') (sym (lt-ltb 0 w.due some_due)) (shows, is) })
+
+    -- a line that is due is written
+    pub due_lines : (w w' : Walk) (line : List ℕ) (x y : Option (List ℕ)) → 0 < w.due → IsChosenBy p job w.selected line false → WritesLine p (beside job) w.place x y line → w' ≡ behind_due w line
+        → WalksLines p job context w w' x y (line ∷ [])
+    due_lines w w' line x y some_due passed (bytes, shows, written) is = record {
+      bytes = bytes;
+      walks = walks_one p job context w w' line bytes (due_step w w' line bytes some_due passed shows is);
+      written = written;
+    }
+
+    pub due_begun : (w : Walk) (line : List ℕ) (x y : Option (List ℕ)) → 0 < w.due → IsChosenBy p job w.selected line false → BeginsLine p (beside job) w.place x y line
+        → WalksBegun p job context w x y (line ∷ [])
+    due_begun w line x y some_due passed begins =
+        elim begins.starts [
+          | inl none ↦ begun_nothing p job context w x y (line ∷ []) (subst (Appends x y) none begins.written)
+          | inr starts ↦ record {
+            first = line ∷ [];
+            left = [];
+            cut = refl;
+            all = starts.shown;
+            end = behind_due w line;
+            walks = walks_one p job context w (behind_due w line) line starts.shown (due_step w (behind_due w line) line starts.shown some_due passed starts.shows refl);
+            begun = begins.begun;
+            missing = starts.missing;
+            is = starts.cut;
+            written = begins.written;
+          }
+        ]
+
+    -- a line that is passed over is held, and nothing is written
+    pub passed_lines : (w w' : Walk) (line : List ℕ) (x : Option (List ℕ)) → w.due ≡ 0 → IsChosenBy p job w.selected line false → w' ≡ behind_passed context w line
+        → WalksLines p job context w w' x x (line ∷ [])
+    passed_lines w w' line x past passed is = record {
+      bytes = [];
+      walks = walks_one p job context w w' line [] (inr (record { passed = passed; passes = subst (PassesBy p job context w line [] w') (sym (ap (nat_lt 0) past)) (refl, is) }));
+      written = Appends-nil x;
+    }
+
+    -- the lines of a text up to those that are left are searched
+    pub record WalksTo (a b : Walk) (x y : Option (List ℕ)) (text rest : List ℕ) : Type 0 where
+      pub searched : List (List ℕ)
+      pub cut : lines text ≡ searched ++ lines rest
+      pub tells : WalksLines p job context a b x y searched
+
+    pub to_start : (a : Walk) (x : Option (List ℕ)) (text : List ℕ) → WalksTo a a x x text text
+    to_start a x text = record { searched = []; cut = refl; tells = lines_none p job context a x x (Appends-nil x) }
+
+    cut_more : (text rest line left : List ℕ) (searched : List (List ℕ)) → lines text ≡ searched ++ lines rest → lines rest ≡ line ∷ lines left → lines text ≡ (searched ++ (line ∷ [])) ++ lines left
+    cut_more text rest line left searched cut more =
+        cut ∙ ap (λ (l : List (List ℕ)). searched ++ l) more ∙ sym (append_assoc searched (line ∷ []) (lines left))
+
+    pub to_step : (a b c : Walk) (x y z : Option (List ℕ)) (text rest line left : List ℕ) → lines rest ≡ line ∷ lines left → WalksTo a b x y text rest
+        → WalksLines p job context b c y z (line ∷ []) → WalksTo a c x z text left
+    to_step a b c x y z text rest line left more to one = record {
+      searched = to.searched ++ (line ∷ []);
+      cut = cut_more text rest line left to.searched to.cut more;
+      tells = lines_join p job context a b c x y z to.searched (line ∷ []) to.tells one;
+    }
+
+    pub to_begun : (a b : Walk) (x y z : Option (List ℕ)) (text rest line left : List ℕ) → lines rest ≡ line ∷ lines left → WalksTo a b x y text rest
+        → WalksBegun p job context b y z (line ∷ []) → WalksBegun p job context a x z (lines text)
+    to_begun a b x y z text rest line left more to one =
+        subst (WalksBegun p job context a x z) (sym (cut_more text rest line left to.searched to.cut more))
+        (begun_more p job context a x z (to.searched ++ (line ∷ [])) (lines left) (begun_behind p job context a b x y z to.searched (line ∷ []) to.tells one))
+
+  -- lines around a selected one, one after another
+  pub record ShowsTo (first place : Place) (x y : Option (List ℕ)) (text rest : List ℕ) : Type 0 where
+    pub follow : (bytes : List ℕ) (z : Option (List ℕ)) → ShowsEach p job place (lines rest) bytes → Appends y z bytes
+        → (all : List ℕ) × ShowsEach p job first (lines text) all × Appends x z all
+
+  pub shows_start : (first : Place) (x : Option (List ℕ)) (text : List ℕ) → ShowsTo first first x x text text
+  shows_start first x text = record { follow = λ bytes z each written. (bytes, each, written) }
+
+  pub shows_step : (first place : Place) (x y z : Option (List ℕ)) (text rest line left : List ℕ) → lines rest ≡ line ∷ lines left → ShowsTo first place x y text rest
+      → WritesLine p job place y z line → ShowsTo first (after_line place line) x z text left
+  shows_step first place x y z text rest line left more to (shown, shows, written) = record {
+    follow = λ bytes last each others.
+        to.follow (shown ++ bytes) last (subst (λ (ls : List (List ℕ)). ShowsEach p job place ls (shown ++ bytes)) (sym more) (shown, bytes, shows, each, refl))
+        (Appends-trans y z last shown bytes written others);
+  }
+
+  pub shows_end : (first place : Place) (x y : Option (List ℕ)) (text rest : List ℕ) → length rest ≡ 0 → ShowsTo first place x y text rest
+      → (all : List ℕ) × ShowsEach p job first (lines text) all × Appends x y all
+  shows_end first place x y text [] none to = to.follow [] y refl (Appends-nil y)
+  shows_end first place x y text (byte ∷ rest) none to = absurd (omega (arith, none))
+
+-- a selected line behind those that are held before it
+pub group_put : (p : Patterns) (job : Job) (context : Context) (w : Walk) (line : List ℕ) (asked : Bool) (x y z u : Option (List ℕ)) → asked ≡ (context.parted && (w.some && w.apart))
+    → Appends x y (separator_if asked job.style) → (before : List ℕ) × ShowsEach p (beside job) w.first w.held before × Appends y z before → WritesLine p job w.place z u line
+    → (bytes : List ℕ) × ShowsGroup p job context w line bytes × Appends x u bytes
+group_put p job context w line asked x y z u is parted (before, each, held) (shown, shows, written) =
+    let sep = separator_if (context.parted && (w.some && w.apart)) job.style in (
+      sep ++ (before ++ shown),
+      (before, shown, each, shows, refl),
+      Appends-trans x y u sep (before ++ shown) (subst (λ (b : Bool). Appends x y (separator_if b job.style)) is parted) (Appends-trans y z u before shown held written),
+    )

@@ -1,0 +1,197 @@
+-- Walks from line to line, one behind another.
+use Rattle.std.proofs.Common.{◌≡◌, ◌⊎◌, inl, inr, ℕ, ◌<◌, ◌≤◌, Bool, true, false, List, [], ◌∷◌, ◌++◌, Option, None, Some, refl, sym, ◌∙◌, ap, subst, arith, append_assoc, append-nil}
+use Rattle.std.specs.Prelude.{nat_lt}
+use Rattle.std.specs.Io.KnownBytes.{Appends, Keeps}
+use Rattle.std.proofs.KnownBytes.{Appends-nil, Appends-trans}
+use Rattle.std.proofs.lemmas.Bool.{cases_Bool, true≢false}
+use Rattle.aho_core.specs.Patterns.{Patterns}
+use Rattle.acgrep.specs.Contexts.{IsNotChosen, PassesBy, PassesLine, Steps, Walk, WalksBegun, WalksLines, WalksOver, WalksText, behind_chosen, behind_passed, walk_of}
+use Rattle.acgrep.specs.Lines.{EndsLine, lines}
+use Rattle.acgrep.specs.Written.{IsPassedOver, IsSettled, TellsOfLines, after_line, is_full}
+use Rattle.acgrep.specs.declared.options.Context.{Context}
+use Rattle.acgrep.specs.declared.print.Place.{Place}
+use Rattle.acgrep.specs.declared.select.Job.{Job}
+use Rattle.acgrep.specs.declared.select.State.{State}
+use Rattle.acgrep.proofs.LineLists.{lines_append}
+
+module _ (p : Patterns) (job : Job) (context : Context) where
+  pub walks_append : (ls ms : List (List ℕ)) (w w' w'' : Walk) (bytes more : List ℕ) → WalksOver p job context w ls bytes w' → WalksOver p job context w' ms more w''
+      → WalksOver p job context w (ls ++ ms) (bytes ++ more) w''
+  walks_append [] ms w w' w'' bytes more (none, same) behind =
+      subst (λ (l : List ℕ). WalksOver p job context w ms (l ++ more) w'') (sym none) (subst (λ (v : Walk). WalksOver p job context v ms more w'') same behind)
+  walks_append (line ∷ rest) ms w w' w'' bytes more (shown, others, between, step, walks, is) behind =
+      (shown, others ++ more, between, step, walks_append rest ms between w' w'' others more walks behind, ap (λ (l : List ℕ). l ++ more) is ∙ append_assoc shown others more)
+
+  pub walks_one : (w w' : Walk) (line bytes : List ℕ) → Steps p job context w line bytes w' → WalksOver p job context w (line ∷ []) bytes w'
+  walks_one w w' line bytes step = (bytes, [], w', step, (refl, refl), sym (append-nil bytes))
+
+  pub lines_join : (w w' w'' : Walk) (x y z : Option (List ℕ)) (ls ms : List (List ℕ)) → WalksLines p job context w w' x y ls → WalksLines p job context w' w'' y z ms
+      → WalksLines p job context w w'' x z (ls ++ ms)
+  lines_join w w' w'' x y z ls ms one other = record {
+    bytes = one.bytes ++ other.bytes;
+    walks = walks_append ls ms w w' w'' one.bytes other.bytes one.walks other.walks;
+    written = Appends-trans x y z one.bytes other.bytes one.written other.written;
+  }
+
+  pub lines_none : (w : Walk) (x y : Option (List ℕ)) → Appends x y [] → WalksLines p job context w w x y []
+  lines_none w x y written = record { bytes = []; walks = (refl, refl); written = written }
+
+  -- behind a line that is not chosen
+  by_same : (due : Bool) (w w' : Walk) (line bytes : List ℕ) → PassesBy p job context w line bytes w' due → (w'.selected ≡ w.selected) × (w'.place ≡ after_line w.place line)
+  by_same true w w' line bytes (shows, is) = (ap (λ (v : Walk). v.selected) is, ap (λ (v : Walk). v.place) is)
+  by_same false w w' line bytes (none, is) = (ap (λ (v : Walk). v.selected) is, ap (λ (v : Walk). v.place) is)
+
+  passes_same : (w w' : Walk) (line bytes : List ℕ) → PassesLine p job context w line bytes w' → w'.selected ≡ w.selected
+  passes_same w w' line bytes passes = (by_same (nat_lt 0 w.due) w w' line bytes passes.passes).0
+
+  passes_place : (w w' : Walk) (line bytes : List ℕ) → PassesLine p job context w line bytes w' → w'.place ≡ after_line w.place line
+  passes_place w w' line bytes passes = (by_same (nat_lt 0 w.due) w w' line bytes passes.passes).1
+
+  -- where so many lines are selected as are asked for and none is due, nothing more is told
+  pub walks_full : (ls : List (List ℕ)) (w : Walk) → is_full job.most w.selected ≡ true → w.due ≡ 0
+      → (w' : Walk) × WalksOver p job context w ls [] w' × (w'.selected ≡ w.selected)
+  walks_full [] w full past = (w, (refl, refl), refl)
+  walks_full (line ∷ rest) w full past =
+      let next = behind_passed context w line in
+      let (w', walks, is) = walks_full rest next full past in
+      let not : nat_lt 0 w.due ≡ false = ap (nat_lt 0) past in
+      let step : Steps p job context w line [] next = inr (record { passed = inl full; passes = subst (PassesBy p job context w line [] next) (sym not) (refl, refl) }) in
+      (w', ([], [], next, step, walks, refl), is)
+
+  -- a beginning of what is told, behind lines of which all is
+  pub begun_behind : (w w' : Walk) (x y z : Option (List ℕ)) (ls ms : List (List ℕ)) → WalksLines p job context w w' x y ls → WalksBegun p job context w' y z ms
+      → WalksBegun p job context w x z (ls ++ ms)
+  begun_behind w w' x y z ls ms one begins = record {
+    first = ls ++ begins.first;
+    left = begins.left;
+    cut = ap (λ (l : List (List ℕ)). ls ++ l) begins.cut ∙ sym (append_assoc ls begins.first begins.left);
+    all = one.bytes ++ begins.all;
+    end = begins.end;
+    walks = walks_append ls begins.first w w' begins.end one.bytes begins.all one.walks begins.walks;
+    begun = one.bytes ++ begins.begun;
+    missing = begins.missing;
+    is = ap (λ (l : List ℕ). one.bytes ++ l) begins.is ∙ sym (append_assoc one.bytes begins.begun begins.missing);
+    written = Appends-trans x y z one.bytes begins.begun one.written begins.written;
+  }
+
+  -- lines more may follow
+  pub begun_more : (w : Walk) (x y : Option (List ℕ)) (ls ms : List (List ℕ)) → WalksBegun p job context w x y ls → WalksBegun p job context w x y (ls ++ ms)
+  begun_more w x y ls ms begins = record {
+    first = begins.first;
+    left = begins.left ++ ms;
+    cut = ap (λ (l : List (List ℕ)). l ++ ms) begins.cut ∙ append_assoc begins.first begins.left ms;
+    all = begins.all;
+    end = begins.end;
+    walks = begins.walks;
+    begun = begins.begun;
+    missing = begins.missing;
+    is = begins.is;
+    written = begins.written;
+  }
+
+  pub begun_all : (w w' : Walk) (x y : Option (List ℕ)) (ls ms : List (List ℕ)) → WalksLines p job context w w' x y ls → WalksBegun p job context w x y (ls ++ ms)
+  begun_all w w' x y ls ms one = record {
+    first = ls;
+    left = ms;
+    cut = refl;
+    all = one.bytes;
+    end = w';
+    walks = one.walks;
+    begun = one.bytes;
+    missing = [];
+    is = sym (append-nil one.bytes);
+    written = one.written;
+  }
+
+  -- nothing is written
+  pub begun_nothing : (w : Walk) (x y : Option (List ℕ)) (ls : List (List ℕ)) → Appends x y [] → WalksBegun p job context w x y ls
+  begun_nothing w x y ls written = record {
+    first = [];
+    left = ls;
+    cut = refl;
+    all = [];
+    end = w;
+    walks = (refl, refl);
+    begun = [];
+    missing = [];
+    is = refl;
+    written = written;
+  }
+
+  pub begun_kept : (w : Walk) (x y z : Option (List ℕ)) (ls : List (List ℕ)) → Appends x y [] → WalksBegun p job context w y z ls → WalksBegun p job context w x z ls
+  begun_kept w x y z ls keeps begins = record {
+    first = begins.first;
+    left = begins.left;
+    cut = begins.cut;
+    all = begins.all;
+    end = begins.end;
+    walks = begins.walks;
+    begun = begins.begun;
+    missing = begins.missing;
+    is = begins.is;
+    written = Appends-trans x y z [] begins.begun keeps begins.written;
+  }
+
+  pub text_lines : (a b : State) (x y : Option (List ℕ)) (text : List ℕ) (one : WalksText p job context a b x y text) → (IsSettled job b → ⊥) → lines text ≡ one.searched
+  text_lines a b x y text one goes =
+      let none : one.left ≡ [] = elim one.ends [ inl none ↦ none | inr settled ↦ absurd (goes settled) ] in
+      one.cut ∙ ap (λ (l : List ℕ). one.searched ++ lines l) none ∙ append-nil one.searched
+
+  -- a text and one behind it
+  pub text_join : (a b c : State) (x y z : Option (List ℕ)) (front back : List ℕ) → EndsLine front → (IsSettled job b → ⊥)
+      → WalksText p job context a b x y front → WalksText p job context b c y z back → WalksText p job context a c x z (front ++ back)
+  text_join a b c x y z front back whole goes one other = record {
+    left = other.left;
+    searched = one.searched ++ other.searched;
+    cut = lines_append front back whole ∙ ap (λ (l : List (List ℕ)). l ++ lines back) (text_lines a b x y front one goes)
+        ∙ ap (λ (l : List (List ℕ)). one.searched ++ l) other.cut ∙ sym (append_assoc one.searched other.searched (lines other.left));
+    tells = lines_join (walk_of a) (walk_of b) (walk_of c) x y z one.searched other.searched one.tells other.tells;
+    ends = other.ends;
+  }
+
+  pub text_none : (a : State) (x y : Option (List ℕ)) → Appends x y [] → WalksText p job context a a x y []
+  text_none a x y written = record { left = []; searched = []; cut = refl; tells = lines_none (walk_of a) x y written; ends = inl refl }
+
+  pub text_behind_kept : (a b : State) (x y z : Option (List ℕ)) (text : List ℕ) → Appends x y [] → WalksText p job context a b y z text → WalksText p job context a b x z text
+  text_behind_kept a b x y z text keeps one = record {
+    left = one.left;
+    searched = one.searched;
+    cut = one.cut;
+    tells = record { bytes = one.tells.bytes; walks = one.tells.walks; written = Appends-trans x y z [] one.tells.bytes keeps one.tells.written };
+    ends = one.ends;
+  }
+
+  -- where so many are selected as are asked for no further one is
+  pub walks_same : (ls : List (List ℕ)) (w w' : Walk) (bytes : List ℕ) → is_full job.most w.selected ≡ true → WalksOver p job context w ls bytes w' → w'.selected ≡ w.selected
+  walks_same [] w w' bytes full (none, same) = ap (λ (v : Walk). v.selected) same
+  walks_same (line ∷ rest) w w' bytes full (shown, more, between, inl takes, walks, is) = absurd (true≢false (sym full ∙ takes.more))
+  walks_same (line ∷ rest) w w' bytes full (shown, more, between, inr passes, walks, is) =
+      let same : between.selected ≡ w.selected = passes_same w between line shown passes in
+      walks_same rest between w' more (ap (is_full job.most) same ∙ full) walks ∙ same
+
+  -- the same lines are selected where none around them is written
+  pub walks_tells : (ls : List (List ℕ)) (w w' : Walk) (bytes : List ℕ) → WalksOver p job context w ls bytes w' → (told : List ℕ) × TellsOfLines p job w.place w.selected ls told w'.selected
+  walks_tells [] w w' bytes (none, same) = ([], (refl, ap (λ (v : Walk). v.selected) same))
+  walks_tells (line ∷ rest) w w' bytes (shown, more, between, inl takes, walks, is) =
+      let (before, one, each, shows, cut) = takes.shows in
+      let (told, tells) = walks_tells rest (behind_chosen context w line) w' more (subst (λ (v : Walk). WalksOver p job context v rest more w') takes.behind walks) in
+      (one ++ told, inr (takes.more, inl (takes.selected, (one, told, shows, tells, refl))))
+  walks_tells (line ∷ rest) w w' bytes (shown, more, between, inr passes, walks, is) =
+      elim (cases_Bool (is_full job.most w.selected)) [
+        | inl full ↦ ([], inl (full, refl, walks_same (line ∷ rest) w w' bytes full (shown, more, between, inr passes, walks, is)))
+        | inr goes ↦
+            let passed : IsPassedOver p job.fit job.invert line = elim passes.passed [ inl full ↦ absurd (true≢false (sym full ∙ goes)) | inr passed ↦ passed ] in
+            let same : between.selected ≡ w.selected = passes_same w between line shown passes in
+            let there : between.place ≡ after_line w.place line = passes_place w between line shown passes in
+            let (told, tells) = walks_tells rest between w' more walks in (
+              told,
+              inr (
+                goes,
+                inr (
+                  passed,
+                  subst (λ (n : ℕ). TellsOfLines p job (after_line w.place line) n rest told w'.selected) same
+                      (subst (λ (at : Place). TellsOfLines p job at between.selected rest told w'.selected) there tells),
+                ),
+              ),
+            )
+      ]

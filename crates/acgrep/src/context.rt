@@ -1,0 +1,239 @@
+//! Searching where the lines around selected ones are written too.
+
+ghost use Rattle.std.specs.Prelude.{◌≡◌, ◌&&◌, ◌<◌, IfOk, length};
+ghost use Rattle.memchr.specs.Find.{Nowhere};
+ghost use Rattle.aho_core.specs.Patterns.{Patterns};
+ghost use Rattle.acgrep.specs.Contexts.{IsChosenBy, beside, separator_if};
+ghost use Rattle.acgrep.specs.Lines.{IsNewline, lines};
+ghost use Rattle.acgrep.specs.Printed.{Puts};
+ghost use Rattle.acgrep.specs.Searched.{BeginsLineAround, BeginsPassedBy, BeginsTakenBy, PassesLineBy, ShowsEachBy, ShowsGroupBy, TakesLineBy, WalksBegunBy, WalksLineBy, WalksTextBy};
+ghost use Rattle.acgrep.specs.Written.{IsMatched};
+
+use crate::failure::Stop;
+use crate::lines::{behind, line_end};
+use crate::options::Context;
+use crate::print::{Place, put_separator};
+use crate::select::{Job, State, behind_line, is_match, put_shown, show};
+use crate::trail::Trail;
+use chromesquid::{Automaton, Input, Sink, write_whole};
+use std::io;
+use std::io::Write;
+
+/// Searches a text of whole lines, and writes what is asked of those that are selected and of those around them.
+pub fn search_around<A: Automaton, W: Sink>(
+    automaton: &A,
+    job: &Job<'_>,
+    context: &Context,
+    text: &[u8],
+    state: &mut State,
+    page: &mut Vec<u8>,
+    output: &mut W,
+) -> Result<(), Stop>
+    requires of { (p : Patterns) × A.is_of automaton.now p }
+    ensures walks { WalksTextBy A.Automaton W.Sink automaton.now job.now
+        state.old state.new output.old output.new context.now text.now result }
+
+    // Where it fails a beginning of that is written.
+    ensures begun { WalksBegunBy A.Automaton W.Sink automaton.now job.now
+        state.old state.new output.old output.new context.now text.now result }
+{
+    let mut rest = text;
+    while job.goes_on(rest, state) {
+        let end = line_end(rest);
+        pass_any(automaton, job, context, &rest[..end], state, page, output)?;
+        rest = behind(rest, end);
+    }
+    Ok(())
+}
+
+/// Goes over a line.
+fn pass_any<A: Automaton, W: Sink>(
+    automaton: &A,
+    job: &Job<'_>,
+    context: &Context,
+    line: &[u8],
+    state: &mut State,
+    page: &mut Vec<u8>,
+    output: &mut W,
+) -> Result<(), Stop>
+    requires of { (p : Patterns) × A.is_of automaton.now p }
+    requires one { Nowhere (IsNewline line.now) 0 (length line.now) }
+    ensures walks { WalksLineBy A.Automaton W.Sink automaton.now job.now
+        state.old state.new output.old output.new context.now line.now result }
+    ensures begun { BeginsLineAround A.Automaton W.Sink automaton.now job.now
+        state.old state.new output.old output.new context.now line.now result }
+{
+    if is_chosen(automaton, job, line, state.selected)? {
+        return pass_chosen(automaton, job, context, line, state, page, output);
+    }
+    pass_beside(automaton, job, context, line, state, page, output)
+}
+
+/// Whether a line is selected, and more are asked for.
+fn is_chosen<A: Automaton>(
+    automaton: &A,
+    job: &Job<'_>,
+    line: &[u8],
+    count: u64,
+) -> Result<bool, Stop>
+    requires of { (p : Patterns) × A.is_of automaton.now p }
+    ensures chosen { (p : Patterns) → A.is_of automaton.now p
+        → IfOk result (IsChosenBy p job.now count line.now) }
+{
+    if job.is_full(count) {
+        return Ok(false);
+    }
+    let matched = has_match(automaton, job, line)?;
+    Ok(job.selects(matched))
+}
+
+/// Whether a line matches.
+fn has_match<A: Automaton>(automaton: &A, job: &Job<'_>, line: &[u8]) -> Result<bool, Stop>
+    requires of { (p : Patterns) × A.is_of automaton.now p }
+    ensures matched { (p : Patterns) → A.is_of automaton.now p
+        → IfOk result (IsMatched p job.now.fit line.now) }
+{
+    match automaton.try_find(&Input::new(line))? {
+        Some(_) => is_match(automaton, job, line),
+        None => Ok(false),
+    }
+}
+
+/// Goes over a line that is selected, and writes what is asked of it and of those before it.
+fn pass_chosen<A: Automaton, W: Sink>(
+    automaton: &A,
+    job: &Job<'_>,
+    context: &Context,
+    line: &[u8],
+    state: &mut State,
+    page: &mut Vec<u8>,
+    output: &mut W,
+) -> Result<(), Stop>
+    requires of { (p : Patterns) × A.is_of automaton.now p }
+    ensures walks { TakesLineBy A.Automaton W.Sink automaton.now job.now
+        state.old state.new output.old output.new context.now line.now result }
+    ensures begun { BeginsTakenBy A.Automaton W.Sink automaton.now job.now
+        state.old state.new output.old output.new context.now line.now result }
+{
+    page.clear();
+    put_group(automaton, job, context, line, state, page)?;
+    write_whole(output, page.as_slice())?;
+    state.trail.restart(context.after);
+    state.selected = state.selected.saturating_add(1);
+    state.place = behind_line(state.place, line);
+    Ok(())
+}
+
+/// Puts together what is asked of a selected line and of those that are held before it.
+fn put_group<A: Automaton, W: Write>(
+    automaton: &A,
+    job: &Job<'_>,
+    context: &Context,
+    line: &[u8],
+    state: &State,
+    output: &mut W,
+) -> Result<(), Stop>
+    requires of { (p : Patterns) × A.is_of automaton.now p }
+    ensures shown { ShowsGroupBy A.Automaton W.Write automaton.now job.now
+        context.now state.now line.now output.old output.new result }
+{
+    let trail = &state.trail;
+    put_between(job, is_parted(context, trail), output)?;
+    put_each_line(
+        automaton,
+        &job.beside(),
+        trail.held.bytes(),
+        trail.first,
+        output,
+    )?;
+    put_shown(automaton, job, line, state.place, output)
+}
+
+/// Whether a line stands between the next one and those that were written before.
+fn is_parted(context: &Context, trail: &Trail) -> bool
+    ensures parted { result ≡ (context.now.parted && (trail.now.some && trail.now.apart)) }
+{
+    context.parted && trail.some && trail.apart
+}
+
+/// Writes the line between lines that do not follow one another, where it is asked for.
+fn put_between<W: Write>(job: &Job<'_>, asked: bool, output: &mut W) -> io::Result<()>
+    ensures written { Puts W.Write output.old output.new result
+        (separator_if asked job.now.style) }
+{
+    if asked {
+        return put_separator(output, &job.style);
+    }
+    Ok(())
+}
+
+/// Puts together what is asked of each line of a text, the first of which stands there.
+fn put_each_line<A: Automaton, W: Write>(
+    automaton: &A,
+    job: &Job<'_>,
+    text: &[u8],
+    first: Place,
+    output: &mut W,
+) -> Result<(), Stop>
+    requires of { (p : Patterns) × A.is_of automaton.now p }
+    ensures shown { ShowsEachBy A.Automaton W.Write automaton.now job.now
+        first (lines text.now) output.old output.new result }
+{
+    let mut place = first;
+    let mut rest = text;
+    while !rest.is_empty() {
+        let end = line_end(rest);
+        put_shown(automaton, job, &rest[..end], place, output)?;
+        place = behind_line(place, &rest[..end]);
+        rest = behind(rest, end);
+    }
+    Ok(())
+}
+
+/// Goes over any other line. It is written where it is due behind a selected one, and else held.
+fn pass_beside<A: Automaton, W: Sink>(
+    automaton: &A,
+    job: &Job<'_>,
+    context: &Context,
+    line: &[u8],
+    state: &mut State,
+    page: &mut Vec<u8>,
+    output: &mut W,
+) -> Result<(), Stop>
+    requires of { (p : Patterns) × A.is_of automaton.now p }
+    requires one { Nowhere (IsNewline line.now) 0 (length line.now) }
+    ensures walks { PassesLineBy A.Automaton W.Sink automaton.now job.now
+        state.old state.new output.old output.new context.now line.now result }
+    ensures begun { BeginsPassedBy A.Automaton W.Sink automaton.now job.now
+        state.old state.new output.old output.new context.now line.now result }
+{
+    if state.trail.due > 0 {
+        return pass_due(automaton, job, context, line, state, page, output);
+    }
+    state.trail.hold(context.before, line, state.place)?;
+    state.place = behind_line(state.place, line);
+    Ok(())
+}
+
+/// Goes over a line that is due behind a selected one.
+fn pass_due<A: Automaton, W: Sink>(
+    automaton: &A,
+    job: &Job<'_>,
+    context: &Context,
+    line: &[u8],
+    state: &mut State,
+    page: &mut Vec<u8>,
+    output: &mut W,
+) -> Result<(), Stop>
+    requires of { (p : Patterns) × A.is_of automaton.now p }
+    requires due { 0 < state.now.trail.due }
+    ensures walks { PassesLineBy A.Automaton W.Sink automaton.now job.now
+        state.old state.new output.old output.new context.now line.now result }
+    ensures begun { BeginsPassedBy A.Automaton W.Sink automaton.now job.now
+        state.old state.new output.old output.new context.now line.now result }
+{
+    show(automaton, &job.beside(), line, state.place, page, output)?;
+    state.trail.due -= 1;
+    state.place = behind_line(state.place, line);
+    Ok(())
+}

@@ -1,0 +1,142 @@
+//! What is known of the lines before the next one, for the lines around selected ones.
+
+ghost use Rattle.std.specs.Prelude.{◌≡◌, ◌≤◌, ◌<◌, ◌-◌, ◌==◌, ◌^◌, if◌then◌else◌, [], OnOk, false, length, true};
+ghost use Rattle.memchr.specs.Find.{Nowhere};
+ghost use Rattle.acgrep.specs.Filled.{held_bytes};
+ghost use Rattle.acgrep.specs.Lines.{EndsLine, IsNewline, lines};
+
+use crate::held::Held;
+use crate::lines::line_end;
+use crate::print::Place;
+use crate::select::behind_line;
+use std::alloc::{AllocError, Global};
+
+/// What is known of the lines before the next one.
+#[derive(Drop)]
+pub struct Trail {
+    /// How many further lines are written behind the last selected one.
+    pub due: u64,
+    /// Whether a line was written, of this file or of one before.
+    pub some: bool,
+    /// Whether the line before the held ones was not written, or the file begins with them.
+    pub apart: bool,
+    /// How many lines are held.
+    count: u64,
+    /// Where the first of them stands.
+    pub first: Place,
+    /// The lines that were passed over last, at most as many as are written before a selected one.
+    pub held: Held,
+    ghost counted: { count ≡ length (lines (held_bytes held)) },
+    ghost whole: { EndsLine (held_bytes held) },
+}
+
+impl Trail {
+    ghost use Rattle.acgrep.specs.Contexts.{IsTrailBegun, holding, holding_in, with_line, without_first};
+
+    /// Where no file was begun.
+    pub fn new(alloc: Global, first: Place) -> Trail {
+        Trail {
+            due: 0,
+            some: false,
+            apart: true,
+            count: 0,
+            first,
+            held: Held::new(alloc),
+        }
+    }
+
+    /// Begins a file, by whether lines of another one were written.
+    pub fn begin(&mut self, follows: bool)
+        ensures begun { IsTrailBegun follows self.new }
+    {
+        self.due = 0;
+        self.some = follows;
+        self.apart = true;
+        self.count = 0;
+        self.held.clear();
+    }
+
+    /// Whether no further line is written behind the last selected one.
+    pub fn is_past(&self) -> bool
+        ensures past { result ≡ (self.now.due == 0) }
+    {
+        self.due == 0
+    }
+
+    /// A selected line was written, and those that were held; so many are due behind it.
+    pub fn restart(&mut self, after: u64)
+        ensures due { self.new.due ≡ after }
+        ensures some { self.new.some ≡ true }
+        ensures apart { self.new.apart ≡ false }
+        ensures first { self.new.first ≡ self.old.first }
+        ensures held { lines (held_bytes self.new.held) ≡ [] }
+    {
+        self.due = after;
+        self.some = true;
+        self.apart = false;
+        self.count = 0;
+        self.held.clear();
+    }
+
+    /// Holds a line that was passed over, of at most so many.
+    pub fn hold(&mut self, most: u64, line: &[u8], place: Place) -> Result<(), AllocError>
+        requires one { Nowhere (IsNewline line.now) 0 (length line.now) }
+        ensures held { OnOk result (holding_in self.new
+            ≡ holding most place (holding_in self.old) line.now) }
+        ensures due { self.new.due ≡ self.old.due }
+        ensures some { self.new.some ≡ self.old.some }
+    {
+        if most == 0 {
+            self.apart = true;
+            return Ok(());
+        }
+        if self.count >= most {
+            self.drop_first();
+        }
+        self.push(line, place)
+    }
+
+    /// Holds a line more.
+    fn push(&mut self, line: &[u8], place: Place) -> Result<(), AllocError>
+        requires one { Nowhere (IsNewline line.now) 0 (length line.now) }
+        requires room { self.now.count < 2 ^ 64 - 1 }
+        ensures held { OnOk result (holding_in self.new
+            ≡ with_line place (holding_in self.old) line.now) }
+        ensures due { self.new.due ≡ self.old.due }
+        ensures some { self.new.some ≡ self.old.some }
+    {
+        let first = first_of(self.count, self.first, place);
+        if let Err(error) = self.held.push(line) {
+            self.count = 0;
+            self.held.clear();
+            return Err(error);
+        }
+        self.first = first;
+        self.count += 1;
+        Ok(())
+    }
+
+    /// Drops the first line that is held.
+    fn drop_first(&mut self)
+        requires some { 0 < self.now.count }
+        ensures dropped { holding_in self.new ≡ without_first (holding_in self.old) }
+        ensures counted { self.new.count ≡ self.old.count - 1 }
+        ensures due { self.new.due ≡ self.old.due }
+        ensures some { self.new.some ≡ self.old.some }
+    {
+        let bytes = self.held.bytes();
+        let end = line_end(bytes);
+        let first = behind_line(self.first, &bytes[..end]);
+        self.held.drop_front(end + 1);
+        self.first = first;
+        self.count -= 1;
+        self.apart = true;
+    }
+}
+
+/// Where so many held lines and one more begin: the first of them there, and the one more here.
+fn first_of(count: u64, first: Place, place: Place) -> Place
+    ensures first { result ≡ (if count == 0 then place else first) }
+{
+    if count == 0 { place } else { first }
+}
