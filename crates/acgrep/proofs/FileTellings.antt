@@ -1,5 +1,5 @@
 -- What is written of a file, from what was searched of its reader.
-use Rattle.std.proofs.Common.{◌≡◌, ◌⊎◌, inl, inr, ℕ, ◌<◌, Bool, true, List, [], ◌∷◌, ◌++◌, Option, None, Some, IfSome, refl, sym, ◌∙◌, ap, subst, arith, append_assoc, append-nil}
+use Rattle.std.proofs.Common.{◌≡◌, ◌⊎◌, inl, inr, ℕ, ◌<◌, Bool, true, false, List, [], ◌∷◌, ◌++◌, Option, None, Some, IfSome, refl, sym, ◌∙◌, ap, subst, arith, append_assoc, append-nil}
 use Rattle.std.specs.Prelude.{MatchBool, codes, if◌then◌else◌, nat_lt}
 use Rattle.std.specs.Io.KnownBytes.{Appends, Consumes, IsAtEnd}
 use Rattle.std.proofs.KnownBytes.{Appends-trans}
@@ -339,4 +339,17 @@ input_searched p job named follows holds name left left' held held' input is any
       is_named = subst (λ (n : List ℕ). IsNamed job n follows named) (sym shown) is;
       file = subst (λ (bytes : Option (List ℕ)). SearchesFile p named bytes held held' any) (sym known) done.file;
       reads = subst (λ (b : Bool). MatchBool b (IsRead p named left left' any) (left' ≡ left)) (sym input) done.reads;
+    }
+
+-- and any other name is that of a file which is held
+pub file_searched : (p : Patterns) (job named : Job) (follows : Bool) (holds : List ℕ → Option (List ℕ)) (name : List ℕ) (left held held' : Option (List ℕ)) → is_input name ≡ false
+    → IsNamed job name follows named → (any : Bool) → SearchesFile p named (holds name) held held' any → SearchesName p job follows holds name left left held held' any
+file_searched p job named follows holds name left held held' other is any done =
+    let shown : shown_name name ≡ name = rw other refl in
+    let known : known_of holds name left ≡ holds name = rw other refl in
+    record {
+      named = named;
+      is_named = subst (λ (n : List ℕ). IsNamed job n follows named) (sym shown) is;
+      file = subst (λ (bytes : Option (List ℕ)). SearchesFile p named bytes held held' any) (sym known) done;
+      reads = subst (λ (b : Bool). MatchBool b (IsRead p named left left any) (left ≡ left)) (sym other) refl;
     }

@@ -1,12 +1,13 @@
 -- What is written of a file that is not searched to its end.
-use Rattle.std.proofs.Common.{arith, ◌≡◌, inl, inr, ◌⊎◌, ℕ, Bool, List, [], ◌∷◌, ◌++◌, Option, None, Some, IfSome, drop, take, take-append-drop, refl, sym, ◌∙◌, ap, subst, append_assoc, append-nil}
-use Rattle.std.specs.Prelude.{◌||◌}
+use Rattle.std.proofs.Common.{arith, ◌≡◌, inl, inr, ◌⊎◌, ℕ, Bool, true, false, List, [], ◌∷◌, ◌++◌, Option, None, Some, IfSome, drop, take, take-append-drop, refl, sym, ◌∙◌, ap, subst, append_assoc, append-nil}
+use Rattle.programs.specs.Names.{is_input}
+use Rattle.std.specs.Prelude.{◌||◌, codes, if◌then◌else◌}
 use Rattle.std.specs.Io.KnownBytes.{Appends, Keeps}
 use Rattle.std.proofs.KnownBytes.{Appends-trans, Keeps-trans}
 use Rattle.aho_core.specs.Patterns.{Patterns}
 use Rattle.acgrep.specs.Alone.{asks_alone}
 use Rattle.acgrep.specs.Contexts.{BeginsAsked, IsBegin, WalksBegun, around_by, around_of, walk_of}
-use Rattle.acgrep.specs.Files.{AreFilesBegun, BeginsAround, BeginsFile, BeginsFileIn, BeginsPlain, BeginsTotal, IfBroken, total_if}
+use Rattle.acgrep.specs.Files.{AreFilesBegun, BeginsAround, BeginsFile, BeginsFileIn, BeginsName, BeginsPlain, IsNamed, known_of, shown_name, BeginsTotal, IfBroken, total_if}
 use Rattle.acgrep.specs.Lines.{lines}
 use Rattle.acgrep.specs.Streamed.{BeginsStream, course}
 use Rattle.aho_devices.specs.Counts.{AppendsBeginning}
@@ -303,3 +304,27 @@ module _ (p : Patterns) (job : Job) (holds : List ℕ → Option (List ℕ)) whe
       inr (between, meanwhile, leaves, inl (any, searched, begun_kept held' held'' kept names (follows || any) between meanwhile more))
   begun_kept held' held'' kept (name ∷ names) follows left held (inr (between, meanwhile, leaves, inr (broken, more))) =
       inr (between, meanwhile, leaves, inr (broken, begun_kept held' held'' kept names follows between meanwhile more))
+
+-- standard input is the file of its name
+pub input_begun : (p : Patterns) (job named : Job) (follows : Bool) (holds : List ℕ → Option (List ℕ)) (name : List ℕ) (left held held' : Option (List ℕ)) → is_input name ≡ true
+    → IsNamed job (codes "(standard input)") follows named → BeginsFile p named left held held' → BeginsName p job follows holds name left held held'
+input_begun p job named follows holds name left held held' input is begins =
+    let shown : shown_name name ≡ codes "(standard input)" = rw input refl in
+    let known : known_of holds name left ≡ left = rw input refl in
+    record {
+      named = named;
+      is_named = subst (λ (n : List ℕ). IsNamed job n follows named) (sym shown) is;
+      file = subst (λ (bytes : Option (List ℕ)). BeginsFile p named bytes held held') (sym known) begins;
+    }
+
+-- and any other name is that of a file which is held
+pub file_begun : (p : Patterns) (job named : Job) (follows : Bool) (holds : List ℕ → Option (List ℕ)) (name : List ℕ) (left held held' : Option (List ℕ)) → is_input name ≡ false
+    → IsNamed job name follows named → BeginsFile p named (holds name) held held' → BeginsName p job follows holds name left held held'
+file_begun p job named follows holds name left held held' other is begins =
+    let shown : shown_name name ≡ name = rw other refl in
+    let known : known_of holds name left ≡ holds name = rw other refl in
+    record {
+      named = named;
+      is_named = subst (λ (n : List ℕ). IsNamed job n follows named) (sym shown) is;
+      file = subst (λ (bytes : Option (List ℕ)). BeginsFile p named bytes held held') (sym known) begins;
+    }

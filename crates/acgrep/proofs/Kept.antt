@@ -5,6 +5,7 @@ use Rattle.std.specs.Io.KnownBytes.{Keeps}
 use Rattle.std.proofs.KnownBytes.{Keeps-trans}
 use Rattle.std.proofs.lemmas.Bool.{cases_Bool}
 use Rattle.aho_core.specs.Patterns.{Patterns}
+use Rattle.std.specs.Prelude.{◌||◌}
 use Rattle.acgrep.specs.Arguments.{Origin, Said, fit_by}
 use Rattle.programs.specs.Names.{or_input}
 use Rattle.acgrep.specs.Files.{AreFilesSearched, AreSearchedOr, is_enough}
@@ -15,10 +16,10 @@ use Rattle.acgrep.specs.declared.select.Job.{Job}
 use Rattle.acgrep.proofs.FilesBegun.{begun_kept}
 
 module _ (held' held'' : Option (List ℕ)) (kept : Keeps held' held'') where
-  searched_kept : (p : Patterns) (job : Job) (holds : List ℕ → Option (List ℕ)) (names : List (List ℕ)) (left left' held : Option (List ℕ)) (any : Bool)
-      → AreFilesSearched p job holds names left left' held held' any → AreFilesSearched p job holds names left left' held held'' any
-  searched_kept p job holds [] left left' held any are = (are.0, Keeps-trans held held' held'' are.1 kept, are.2)
-  searched_kept p job holds (name ∷ names) left left' held any (between, meanwhile, first, one, more) = (
+  searched_kept : (p : Patterns) (job : Job) (holds : List ℕ → Option (List ℕ)) (names : List (List ℕ)) (follows : Bool) (left left' held : Option (List ℕ)) (any : Bool)
+      → AreFilesSearched p job follows holds names left left' held held' any → AreFilesSearched p job follows holds names left left' held held'' any
+  searched_kept p job holds [] follows left left' held any are = (are.0, Keeps-trans held held' held'' are.1 kept, are.2)
+  searched_kept p job holds (name ∷ names) follows left left' held any (between, meanwhile, first, one, more) = (
     between,
     meanwhile,
     first,
@@ -29,13 +30,13 @@ module _ (held' held'' : Option (List ℕ)) (kept : Keeps held' held'') where
           rw enough (unread, Keeps-trans meanwhile held' held'' same kept, is)
       | inr not ↦
           let (others, are, is) = rw not at more in
-          rw not (others, searched_kept p job holds names between left' meanwhile others are, is)
+          rw not (others, searched_kept p job holds names (follows || first) between left' meanwhile others are, is)
     ],
   )
 
   or_kept : (p : Patterns) (job : Job) (holds : List ℕ → Option (List ℕ)) (names : List (List ℕ)) (left left' held : Option (List ℕ)) (status : ℕ)
       → AreSearchedOr p job holds names left left' held held' status → AreSearchedOr p job holds names left left' held held'' status
-  or_kept p job holds names left left' held status (inl (any, are, is)) = inl (any, searched_kept p job holds names left left' held any are, is)
+  or_kept p job holds names left left' held status (inl (any, are, is)) = inl (any, searched_kept p job holds names false left left' held any are, is)
   or_kept p job holds names left left' held status (inr one) = inr one
 
   -- what was done of a search

@@ -32,5 +32,5 @@ returns-in_err-search_text-clause-begun g c = λ p is plain.
     on_err c.from_residual.result (whole_begins p c.args.job.now c.args.state.now state.selected state held held' bytes whole refl
     (subst (λ (l : List ℕ). whole ≤ length l) same c.whole_lines-whole.ensures.within)
     (subst (λ (l : List ℕ). 0 < whole → IsNewline l (whole - 1)) same c.whole_lines-whole.ensures.newline)
-    (subst (λ (l : List ℕ). BeginsLines p c.args.job.now c.args.state.now state.selected held held' (lines (take whole l)))
+    (subst (λ (l : List ℕ). BeginsSearched p c.args.job.now c.args.state.now state.selected held held' (lines (take whole l)))
     c.bytes-2.ensures.bytes (c.in_err-search_text.ensures.begun p is plain)))
