@@ -1,15 +1,13 @@
 -- A walk from line to line writes the lines that are near selected ones.
 use Rattle.std.proofs.Common.{◌≡◌, ◌⊎◌, inl, inr, ℕ, suc, zero, ◌+◌, ◌-◌, ◌<◌, ◌≤◌, ◌==◌, Bool, true, false, List, [], ◌∷◌, ◌++◌, length, refl, sym, ◌∙◌, ap, subst, arith, append_assoc, append-nil, length-append}
-use Rattle.std.specs.Prelude.{MatchBool, nat_le, nat_lt, ◌&&◌, if◌then◌else◌}
+use Rattle.std.specs.Prelude.{nat_le, nat_lt, ◌&&◌}
 use Rattle.std.proofs.Math.ListN.{get_or}
 use Rattle.std.proofs.lemmas.Bool.{cases_Bool, cases_lt, eqb-true, leb-false, leb-true, lt-leb, ltb-false, ltb-true, true≢false}
-use Rattle.std.proofs.lemmas.List.{get_or-append-add}
 use Rattle.aho_core.specs.Patterns.{Patterns}
-use Rattle.acgrep.specs.Contexts.{AreChosen, AreWritten, IsBegin, IsNearChosen, Holding, IsNotChosen, PassesBy, ShowsEach, ShowsGroup, Steps, TellsAround, TellsWritten, Walk, WalksOver, behind_chosen, behind_due, behind_passed, beside, dropped_of, first_in, holding, separator_if, walk_holding, with_line}
+use Rattle.acgrep.specs.Contexts.{AreChosen, IsNearChosen, IsNotChosen, PassesBy, ShowsEach, ShowsGroup, TellsAround, TellsWritten, Walk, WalksOver, behind_passed, beside, first_in, separator_if}
 use Rattle.acgrep.specs.Written.{IsSelected, ShowsLine, after_line, after_lines, is_full, one_more}
 use Rattle.acgrep.specs.declared.options.Context.{Context}
 use Rattle.acgrep.specs.declared.print.Place.{Place}
-use Rattle.acgrep.specs.declared.print.Style.{Style}
 use Rattle.acgrep.specs.declared.select.Job.{Job}
 use Rattle.acgrep.proofs.Tellings.{after_append}
 

@@ -1,5 +1,5 @@
 -- Lines that are held, and one more or one less of them.
-use Rattle.std.proofs.Common.{◌≡◌, inl, inr, ℕ, suc, zero, ◌+◌, ◌-◌, ◌≤◌, ◌<◌, ◌==◌, Bool, true, false, List, [], ◌∷◌, ◌++◌, length, take, drop, refl, sym, ◌∙◌, ap, subst, arith, add-one, append-nil, length-append}
+use Rattle.std.proofs.Common.{◌≡◌, inl, inr, ℕ, suc, ◌+◌, ◌-◌, ◌≤◌, ◌<◌, ◌==◌, Bool, true, List, [], ◌∷◌, ◌++◌, length, take, drop, refl, sym, ◌∙◌, ap, subst, arith, add-one, length-append}
 use Rattle.std.specs.Prelude.{if◌then◌else◌}
 use Rattle.std.proofs.Math.Seq.{get_or-append_seam}
 use Rattle.std.proofs.lemmas.Bool.{cases_Bool, eqb-true}
@@ -10,7 +10,7 @@ use Rattle.acgrep.specs.Lines.{EndsLine, IsNewline, joined_to, lines}
 use Rattle.acgrep.specs.Written.{after_line}
 use Rattle.acgrep.specs.declared.print.Place.{Place}
 use Rattle.acgrep.proofs.FirstLines.{lines_first, lines_joined}
-use Rattle.acgrep.proofs.LineLists.{ends_drop, lines_append}
+use Rattle.acgrep.proofs.LineLists.{lines_append}
 use Rattle.acgrep.proofs.Streams.{ends_joined}
 
 -- a line with its newline

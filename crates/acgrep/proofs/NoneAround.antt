@@ -1,5 +1,5 @@
 -- Where no line of a text was selected nothing occurs in it.
-use Rattle.std.proofs.Common.{◌≡◌, inl, inr, ◌<◌, Bool, false, List, ℕ, [], ◌++◌, Option, sym, ◌∙◌, ap, subst, arith, append-nil}
+use Rattle.std.proofs.Common.{◌≡◌, inl, inr, Bool, false, List, ℕ, [], ◌++◌, Option, sym, ◌∙◌, ap, subst, arith, append-nil}
 use Rattle.aho_core.specs.Patterns.{Patterns}
 use Rattle.acgrep.specs.Contexts.{WalksText, walk_of}
 use Rattle.acgrep.specs.Lines.{lines}

@@ -6,7 +6,7 @@ use Rattle.aho_core.specs.Occurs.{OccursIn}
 use Rattle.aho_core.specs.Patterns.{Patterns}
 use Rattle.aho_core.specs.Search.{plain_search}
 use Rattle.acgrep.specs.Alone.{AreShownOf, IsAloneFrom, asks_alone}
-use Rattle.acgrep.specs.Lines.{EndsLine, IsNewline, lines}
+use Rattle.acgrep.specs.Lines.{EndsLine, lines}
 use Rattle.acgrep.specs.Objects.{objects_by}
 use Rattle.acgrep.specs.Printed.{colored_line_by, line_by, matches_by}
 use Rattle.acgrep.specs.declared.options.Fit.{Fit}

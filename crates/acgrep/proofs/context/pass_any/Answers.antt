@@ -1,5 +1,5 @@
 -- A line is selected or not.
-use Rattle.std.proofs.Common.{[], ◌∷◌, Bool, subst}
+use Rattle.std.proofs.Common.{[], ◌∷◌, subst}
 use Rattle.std.proofs.KnownBytes.{Appends-nil}
 use Rattle.acgrep.specs.Contexts.{IsChosenBy, walk_of}
 use Rattle.acgrep.proofs.Beginnings.{on_err}

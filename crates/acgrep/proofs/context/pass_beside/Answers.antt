@@ -1,5 +1,5 @@
 -- A line that is passed over is held.
-use Rattle.std.proofs.Common.{◌≡◌, ℕ, refl, ap, arith}
+use Rattle.std.proofs.Common.{◌≡◌, refl, ap, arith}
 use Rattle.acgrep.specs.Contexts.{Holding, walk_of}
 use Rattle.acgrep.proofs.Stepped.{passed_lines, walk_same}
 use Rattle.acgrep.proofs.context.pass_beside.Goals as goal

@@ -1,5 +1,5 @@
 -- What was put together of a selected line and those before it is written, or a beginning of it.
-use Rattle.std.proofs.Common.{◌≡◌, [], ◌∷◌, List, ℕ, refl, subst, sym}
+use Rattle.std.proofs.Common.{◌≡◌, [], ◌∷◌, subst}
 use Rattle.std.specs.Io.KnownBytes.{Appends}
 use Rattle.std.proofs.KnownBytes.{Appends-nil}
 use Rattle.aho_devices.specs.Counts.{AppendsBeginning}

@@ -1,5 +1,4 @@
 -- What was searched of the reader, and what is asked of the file as a whole.
-use Rattle.std.proofs.Common.{subst}
 use Rattle.acgrep.specs.Files.{EndsFile, SearchesReader}
 use Rattle.acgrep.specs.Streamed.{BeginsStream, SearchesStream, course}
 use Rattle.acgrep.proofs.FileTellings.{if_searched, reader_searched}

@@ -1,5 +1,5 @@
 -- One line more is held.
-use Rattle.std.proofs.Common.{◌≡◌, ◌+◌, ◌++◌, ◌∷◌, [], List, ℕ, length, ap, subst, sym, ◌∙◌, arith, length-append}
+use Rattle.std.proofs.Common.{◌≡◌, ◌++◌, ◌∷◌, [], length, ap, subst, sym, ◌∙◌, arith, length-append}
 use Rattle.acgrep.specs.Filled.{held_bytes}
 use Rattle.acgrep.specs.Lines.{EndsLine, lines}
 use Rattle.acgrep.proofs.HeldLines.{ends_more, lines_more, pushed_is}
