@@ -1,6 +1,6 @@
 //! What is known of the lines before the next one, for the lines around selected ones.
 
-ghost use Rattle.std.specs.Prelude.{◌≡◌, ◌<◌, ◌-◌, ◌==◌, ◌^◌, [], OnOk, false, length, true};
+ghost use Rattle.std.specs.Prelude.{◌≡◌, ◌<◌, ◌-◌, ◌==◌, ◌^◌, if◌then◌else◌, [], OnOk, false, length, true};
 ghost use Rattle.memchr.specs.Find.{Nowhere};
 ghost use Rattle.acgrep.specs.Filled.{held_bytes};
 ghost use Rattle.acgrep.specs.Lines.{EndsLine, IsNewline, lines};
