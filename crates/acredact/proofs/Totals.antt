@@ -1,21 +1,20 @@
 -- How counts grow by the ranges that are replaced, file after file.
-use Rattle.std.proofs.Common.{◌≡◌, ◌≢◌, ℕ, zero, suc, ◌<◌, true, false, List, [], ◌∷◌, ◌++◌, Option, length, map, refl, sym, ap, subst, ◌∙◌, append-nil, append_assoc, arith}
+use Rattle.std.proofs.Common.{◌≡◌, ◌≢◌, ℕ, zero, suc, ◌<◌, true, false, List, [], ◌∷◌, ◌++◌, Option, length, refl, sym, subst, ◌∙◌, append-nil, append_assoc, arith}
 use Rattle.std.specs.Prelude.{slice_index}
 use Rattle.std.specs.Io.KnownBytes.{Consumes, IsAtEnd, Keeps}
 use Rattle.std.proofs.lemmas.List.{length-map}
 use Rattle.aho_core.specs.Occurrence.{Occurrence}
-use Rattle.aho_cover.specs.Counting.{CountsThese, runs_named}
+use Rattle.aho_cover.specs.Counting.{CountsThese}
 use Rattle.aho_cover.proofs.Counted.{counts_none, counts_then}
 use Rattle.aho_devices.specs.declared.device.Sink.{Ghosts as SinkGhosts}
 use Rattle.aho_devices.specs.declared.device.Source.{Ghosts as SourceGhosts}
 use Rattle.programs.specs.Names.{is_input}
-use Rattle.programs.specs.Telling.{TellsBytes}
 use Rattle.programs.specs.declared.errors.Errors.{Errors}
 use Rattle.acredact.specs.Calls.{TellsCounts, TellsTotals}
 use Rattle.acredact.specs.Counts.{lines_of_rules, zeros}
 use Rattle.acredact.specs.Files.{Work}
 use Rattle.acredact.specs.Secrets.{Redactor}
-use Rattle.acredact.specs.Tables.{Secret, secret_of, secrets_of}
+use Rattle.acredact.specs.Tables.{secret_of, secrets_of}
 use Rattle.acredact.specs.Totals.{AreTotals, CountsOfName, CountsOfNames, CountsOfStream, CountsOfText, HasRanges, NamesHaveRanges}
 use Rattle.acredact.specs.declared.patterns.Rule.{Rule}
 use Rattle.acredact.proofs.OneFile.{ends_by, known_read, of_folder, of_input}

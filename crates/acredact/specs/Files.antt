@@ -172,6 +172,10 @@ module _ {W : Type 0} (Writes : Writers W) where
         pub untold : OnErr result (streams'.errors ≡ streams.errors)
         pub fails : FailsByOutput result streams.output streams'.output
 
+      -- the same of a file of a job
+      abbrev pub ToldJob : {F X : Type 0} → Folders F X → Job F → List ℕ → Result Bool StreamError → (streams streams' : Streams R W E Reads) → Redactor → Type 0
+      ToldJob D job name result streams streams' r = ToldOutcome (work_of D job r) name result streams streams'
+
       -- what comes of all files
       pub record FilesOutcome (work : Work) (result : Result Bool StreamError) (streams streams' : Streams R W E Reads) : Type 0 where
         pub done : IfOk result (λ all. (lines : List (List ℕ)) × (all ≡ are_none lines) × Does streams streams' (AreDone work work.names lines) lines)

@@ -5,7 +5,7 @@ ghost use Rattle.aho_devices.specs.Counts.{counted};
 ghost use Rattle.programs.specs.Names.{is_input};
 ghost use Rattle.programs.specs.Streams.{bytes_left};
 ghost use Rattle.acredact.specs.Faults.{is_unread, reading_of};
-ghost use Rattle.acredact.specs.Files.{CanDo, FileOutcome, FilesOutcome, JobOutcome, TextOutcome, ToldOutcome, work_of};
+ghost use Rattle.acredact.specs.Files.{CanDo, FileOutcome, FilesOutcome, JobOutcome, TextOutcome, ToldJob, work_of};
 ghost use Rattle.acredact.specs.Secrets.{IfOf, Redactor};
 ghost use Rattle.acredact.specs.Totals.{CountsFile, CountsJob, CountsOfText, CountsOpened, CountsTold, JobCounts};
 ghost use Rattle.acredact.specs.Ways.{IfBy, Redacts};
@@ -178,8 +178,8 @@ fn redact_told<X: Way, F: Folder, I: Read, W: Write, E: Sink>(
     streams: &mut Streams<'_, I, W, E>,
 ) -> Result<bool, StreamError>
     requires ready { (r : Redactor) × Redacts X.Way way.old r }
-    ensures outcome { IfBy X.Way way.old (λ r. ToldOutcome W.Write E.Sink
-        (work_of F.Folder job.now r) name.now result streams.old streams.new) }
+    ensures outcome { IfBy X.Way way.old (ToldJob W.Write E.Sink F.Folder job.now
+        name.now result streams.old streams.new) }
     ensures counted { IfBy X.Way way.old (CountsTold F.Folder job.now name.now
         result streams.old streams.new counts.old counts.new) }
     ensures still { IfBy X.Way way.old (Redacts X.Way way.new) }
@@ -202,8 +202,8 @@ fn redact_apart<X: Way, F: Folder, I: Read, W: Write, E: Sink>(
 ) -> Result<bool, StreamError>
     requires ready { (r : Redactor) × Redacts X.Way way.old r }
     requires apart { F.meets job.now.folder.now name.now false }
-    ensures outcome { IfBy X.Way way.old (λ r. ToldOutcome W.Write E.Sink
-        (work_of F.Folder job.now r) name.now result streams.old streams.new) }
+    ensures outcome { IfBy X.Way way.old (ToldJob W.Write E.Sink F.Folder job.now
+        name.now result streams.old streams.new) }
     ensures counted { IfBy X.Way way.old (CountsTold F.Folder job.now name.now
         result streams.old streams.new counts.old counts.new) }
     ensures still { IfBy X.Way way.old (Redacts X.Way way.new) }
