@@ -1,0 +1,7 @@
+use Rattle.std.proofs.Common.{◌*◌}
+use Rattle.memchr.specs.Find.{Nowhere}
+use Rattle.aho_prefilter.specs.PackedHeads.{MeetsHeadAt}
+use Rattle.aho_prefilter.proofs.packed_heads.PackedHeads.find_in_blocks.Given as goal
+
+abbrev pub invariant-loop-block : goal.invariant-loop-block
+invariant-loop-block l = Nowhere (MeetsHeadAt l.self l.bytes) 0 (l.block * 16)
