@@ -32,6 +32,8 @@ pub mod StridedSound
 pub mod StridedFinds
 -- the last places, copied
 pub mod Copied
+-- blocks of sixteen places
+pub mod Blocks
 -- the places that bits tell
 pub mod Told
 -- words that were added to a packed search with heads meet it where they stand

@@ -1,12 +1,13 @@
 -- What a packed search with heads looks for: places whose first four bytes meet the masks of some group, and whose head is
 -- one of those of the patterns.
-use Rattle.std.specs.Prelude.{◌≡◌, ◌≢◌, ℕ, ◌+◌, ◌-◌, ◌*◌, ◌/◌, ◌^◌, ◌<◌, ◌≤◌, min, Bool, List, [], length, slice_index, slice_index_or, bit_and, nat_lt, if◌then◌else◌, Option}
+use Rattle.std.specs.Prelude.{◌≡◌, ◌≢◌, ◌↔◌, ℕ, ◌+◌, ◌-◌, ◌*◌, ◌/◌, ◌^◌, ◌<◌, ◌≤◌, min, Bool, List, [], length, slice_index, slice_index_or, bit_and, nat_lt, if◌then◌else◌, Option, Some, None}
 use Rattle.std.specs.Int.{bit_at}
 use Rattle.std.specs.List.{fold}
-use Rattle.memchr.specs.Find.{IsFirst}
+use Rattle.memchr.specs.Find.{IsFirst, Nowhere}
 use Rattle.aho_prefilter.specs.Packed.{groups_at, groups_of, masks_with_place, no_masks, packed_none, packed_with_groups}
 use Rattle.aho_prefilter.specs.Heads.{HeadMarks, StandsHead, heads_with, no_heads}
 use Rattle.aho_prefilter.specs.Strided.{caseless}
+use Rattle.aho_prefilter.specs.declared.packed_heads.Block.{Block}
 use Rattle.aho_prefilter.specs.declared.packed_heads.PackedHeads.{PackedHeads}
 
 -- the groups that a place and the three behind it meet; past the end of the bytes zeros stand
@@ -14,9 +15,13 @@ abbrev pub four_groups_at : PackedHeads → List ℕ → ℕ → ℕ
 four_groups_at search bytes at =
     bit_and (groups_at search.packed bytes at) (groups_of search.fourth (slice_index bytes (at + 3)))
 
--- the place meets some group, and the bit of its head is set
+-- the place meets some group
+abbrev pub MeetsFourAt : PackedHeads → List ℕ → ℕ → Type 0
+MeetsFourAt search bytes at = four_groups_at search bytes at ≢ 0
+
+-- and the bit of its head is set
 pub record MeetsHeadAt (search : PackedHeads) (bytes : List ℕ) (at : ℕ) : Type 0 where
-  pub meets : four_groups_at search bytes at ≢ 0
+  pub meets : MeetsFourAt search bytes at
   pub head : StandsHead search.heads bytes at
 
 -- and there are as many bytes as a head has
@@ -32,6 +37,22 @@ IsFirstHeaded search bytes at = IsFirst (MayStartAt search bytes) 0 (length byte
 pub record TellsHeadAt (heads : HeadMarks) (bytes : List ℕ) (from met : ℕ) (at : ℕ) : Type 0 where
   pub told : bit_at met (at - from) ≡ 1
   pub head : StandsHead heads bytes at
+
+-- the bits are those of the places among sixteen from this one on that meet some group
+pub record AreBitsOf (search : PackedHeads) (bytes : List ℕ) (at met : ℕ) : Type 0 where
+  pub few : (k : ℕ) → bit_at met k ≡ 1 → k < 16
+  pub each : (k : ℕ) → k < 16 → (bit_at met k ≡ 1) ↔ MeetsFourAt search bytes (at + k)
+
+-- the first of so many blocks, from one on, of which some places meet a group
+pub record IsBlock (search : PackedHeads) (bytes : List ℕ) (from blocks : ℕ) (block : Block) : Type 0 where
+  pub low : from ≤ block.number
+  pub high : block.number < blocks
+  pub bits : AreBitsOf search bytes (block.number * 16) block.met
+  pub none : Nowhere (MeetsFourAt search bytes) (from * 16) (block.number * 16)
+
+abbrev pub IsNextBlock : PackedHeads → List ℕ → ℕ → ℕ → Option Block → Type 0
+IsNextBlock search bytes from blocks None = Nowhere (MeetsFourAt search bytes) (from * 16) (blocks * 16)
+IsNextBlock search bytes from blocks (Some block) = IsBlock search bytes from blocks block
 
 -- the first four bytes of a word, as a number by which words are ordered
 abbrev pub order_of : Bool → List ℕ → ℕ

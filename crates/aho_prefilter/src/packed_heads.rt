@@ -18,7 +18,7 @@ ghost use Rattle.std.specs.Int.{bit_at};
 ghost use Rattle.memchr.specs.Find.{IsFirst};
 ghost use Rattle.aho_core.specs.Replacement.{pieces_of};
 ghost use Rattle.aho_prefilter.specs.Packed.{HasLanes};
-ghost use Rattle.aho_prefilter.specs.PackedHeads.{HaveSize, IsFirstHeaded, MayStartAt, MeetsHeadAt, TellsHeadAt, count_before, four_groups_at, group_among, order_of, packed_heads_of, packed_heads_with};
+ghost use Rattle.aho_prefilter.specs.PackedHeads.{AreBitsOf, HaveSize, IsFirstHeaded, IsNextBlock, MayStartAt, MeetsHeadAt, TellsHeadAt, count_before, four_groups_at, group_among, order_of, packed_heads_of, packed_heads_with};
 ghost use Rattle.aho_prefilter.specs.Strided.{caseless};
 
 use crate::heads::Heads;
@@ -89,6 +89,14 @@ fn group_among(ignore_case: bool, patterns: &[&[u8]], pattern: &[u8]) -> u8
     1 << (before * 8 / patterns.len()).min(7) as u32
 }
 
+/// A block of sixteen places, some of which meet a group.
+#[derive(Clone, Copy)]
+struct Block {
+    number: usize,
+    /// A bit for each place that does.
+    met: u64,
+}
+
 impl PackedHeads {
     /// The search for these patterns, whose heads have so many bytes.
     pub(crate) fn new(ignore_case: bool, size: usize, patterns: &[&[u8]]) -> PackedHeads
@@ -148,25 +156,43 @@ impl PackedHeads {
         requires within { blocks * 16 ≤ length bytes.now - 15 }
         ensures first { IsFirst (MeetsHeadAt self.now bytes.now) 0 (blocks * 16) result }
     {
-        for block in 0..blocks {
-            if let Some(place) = self.find_in_block(bytes, block * LANES) {
+        let mut from = 0;
+        for _ in 0..blocks {
+            let Some(block) = self.next_block(bytes, from, blocks) else {
+                return None;
+            };
+            let at = block.number * LANES;
+            if let Some(place) = find_head(&self.heads, bytes, at, block.met) {
                 return Some(place);
+            }
+            from = block.number + 1;
+        }
+        None
+    }
+
+    /// The first block, from this one on, of which some places meet a group. It is a function of its own, so that the masks stay
+    /// in registers while it looks.
+    #[inline(never)]
+    fn next_block(&self, bytes: &[u8], from: usize, blocks: usize) -> Option<Block>
+        requires within { blocks * 16 ≤ length bytes.now - 15 }
+        ensures next { IsNextBlock self.now bytes.now from blocks result }
+    {
+        for number in from..blocks {
+            let met = self.places_met(bytes, number * LANES);
+            if met != 0 {
+                return Some(Block { number, met });
             }
         }
         None
     }
 
-    /// The same of one block.
+    /// Which of sixteen places meet some group, a bit for each.
     #[inline(always)]
-    fn find_in_block(&self, bytes: &[u8], at: usize) -> Option<usize>
-        requires within { at + 31 ≤ length bytes.now }
-        ensures first { IsFirst (MeetsHeadAt self.now bytes.now) at (at + 16) result }
+    fn places_met(&self, bytes: &[u8], at: usize) -> u64
+        requires within { at + 19 ≤ length bytes.now }
+        ensures met { AreBitsOf self.now bytes.now at result }
     {
-        let met = lanes_met(self.groups(bytes, at));
-        if met == 0 {
-            return None;
-        }
-        find_head(&self.heads, bytes, at, met)
+        lanes_met(self.groups(bytes, at))
     }
 
     /// The same of the last places.

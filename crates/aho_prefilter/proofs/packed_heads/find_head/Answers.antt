@@ -9,7 +9,7 @@ pub returns-then-left-eq0 : goal.returns-then-left-eq0
 returns-then-left-eq0 c = record { first = Nowhere-left c.args.heads.now c.args.bytes.now c.args.at c.args.met c.loop.left c.loop.place _ c.loop.invariant c.if-left-eq0.true }
 
 pub overflow_add-place : goal.overflow_add-place
-overflow_add-place c = record { fits = omega (arith, c.requires.within, c.type_inv.bytes, next_within c.args.heads.now c.args.bytes.now c.args.at c.args.met c.loop.left c.loop.place _ c.loop.invariant c.requires.few c.if-left-eq0.false) }
+overflow_add-place c = record { fits = omega (arith, c.requires.within, next_within c.args.heads.now c.args.bytes.now c.args.at c.args.met c.loop.left c.loop.place _ c.loop.invariant c.requires.few c.if-left-eq0.false) }
 
 pub stands_at-requires : goal.stands_at-requires
 stands_at-requires c = record { within = omega (arith, c.requires.within, next_within c.args.heads.now c.args.bytes.now c.args.at c.args.met c.loop.left c.loop.place _ c.loop.invariant c.requires.few c.if-left-eq0.false) }
@@ -22,7 +22,7 @@ returns-then-stands_at c = record {
 }
 
 pub overflow_add-place-in-loop : goal.overflow_add-place-in-loop
-overflow_add-place-in-loop c = record { fits = omega (arith, c.requires.within, c.type_inv.bytes, next_within c.args.heads.now c.args.bytes.now c.args.at c.args.met c.loop.left c.loop.place _ c.loop.invariant c.requires.few c.if-left-eq0.false) }
+overflow_add-place-in-loop c = record { fits = omega (arith, c.requires.within, next_within c.args.heads.now c.args.bytes.now c.args.at c.args.met c.loop.left c.loop.place _ c.loop.invariant c.requires.few c.if-left-eq0.false) }
 
 pub loop-preserved : goal.loop-preserved
 loop-preserved c =
