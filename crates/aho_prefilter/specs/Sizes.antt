@@ -27,9 +27,11 @@ shape_of ignore_case words = record {
   ignore_case = ignore_case;
 }
 
--- whether there are a few patterns, and neither one alone nor one of a single byte
+-- whether there are a few patterns, but enough that three bytes of them stand at many places of a text, and long enough
 abbrev pub is_few : Shape → Bool
-is_few s = nat_lt 1 s.count && (nat_lt 1 s.head && (nat_le s.count 32 || (nat_le s.count 100 && nat_le s.head 5)))
+is_few s =
+    nat_le 8 s.count
+    && (nat_le 2 s.head && (nat_le s.count 32 || (nat_le s.count 100 && (nat_le 3 s.head && nat_le s.head 5))))
 
 -- how many bytes a head has, if a packed search with heads is held for patterns of this shape
 abbrev pub few_heads_for : Shape → Option ℕ

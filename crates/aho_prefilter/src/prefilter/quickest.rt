@@ -17,10 +17,10 @@ impl Prefilter {
     /// The prefilter for these patterns where it may be of each kind, or none. `ignore_case` makes an ASCII letter the same in
     /// both cases.
     ///
-    /// It is a packed search with heads for two to thirty-two patterns of two bytes or more each, and for up to a hundred where the
-    /// shortest one has at most five. It is a strided search, if there are more patterns, and each has five bytes or more (six,
-    /// for more than 8,192 patterns). But it is the one of a `PackedBuilder` where that one searches for first bytes of which
-    /// words are not made, or where too many grams of a few letters would be marked.
+    /// It is a packed search with heads for eight to thirty-two patterns of two bytes or more each, and for up to a hundred where
+    /// the shortest has three to five. It is a strided search, if there are more patterns, and each has five bytes or more (six,
+    /// for up to a hundred and for more than 8,192 patterns). But it is the one of a `PackedBuilder` where that one searches for
+    /// first bytes of which words are not made, and for fewer patterns, or where too many grams of a few letters would be marked.
     ///
     /// # Errors
     ///

@@ -51,11 +51,13 @@ impl Shape {
         if self.is_few() { Some(self.head) } else { None }
     }
 
-    /// Whether there are a few patterns, and neither one alone nor one of a single byte.
+    /// Whether there are a few patterns, but enough that three bytes of them stand at many places of a text, and long enough.
     fn is_few(self) -> bool
         ensures few { result ≡ is_few self }
     {
-        self.count > 1 && self.head > 1 && (self.count <= 32 || self.count <= 100 && self.head <= 5)
+        self.count >= 8
+            && self.head >= 2
+            && (self.count <= 32 || self.count <= 100 && self.head >= 3 && self.head <= 5)
     }
 
     /// The sizes for patterns of this shape, if a strided search is held for them.
