@@ -1,4 +1,4 @@
-use Rattle.std.proofs.Common.{◌+◌, ◌≤◌, ◌<◌, arith, refl, true, false, ◌≡◌}
+use Rattle.std.proofs.Common.{arith, refl, true, false, ◌≡◌}
 use Rattle.aho_prefilter.proofs.Told.{AreLeft-all, AreLeft-next, IsFirst-next, Nowhere-left, Nowhere-turns, next_within}
 use Rattle.aho_prefilter.proofs.packed_heads.find_head.Goals as goal
 

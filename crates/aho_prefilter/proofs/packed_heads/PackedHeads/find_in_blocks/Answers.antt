@@ -1,4 +1,4 @@
-use Rattle.std.proofs.Common.{◌+◌, ◌≤◌, arith}
+use Rattle.std.proofs.Common.{arith}
 use Rattle.aho_prefilter.proofs.Blocks.{IsFirst-block, Nowhere-block}
 use Rattle.aho_prefilter.proofs.packed_heads.PackedHeads.find_in_blocks.Goals as goal
 

@@ -1,4 +1,4 @@
-use Rattle.std.proofs.Common.{◌≡◌, ◌+◌, ◌-◌, ◌<◌, ◌≤◌, length, arith}
+use Rattle.std.proofs.Common.{◌+◌, ◌-◌, ◌<◌, ◌≤◌, length, arith}
 use Rattle.aho_prefilter.proofs.Copied.{IsFirst-original, Nowhere-original}
 use Rattle.aho_prefilter.proofs.packed_heads.PackedHeads.find_in_rest.Goals as goal
 

@@ -1,5 +1,5 @@
-use Rattle.std.proofs.Common.{bit_and, get_or, ap, ◌∙◌, ◌≡◌, ◌+◌, ℕ, List, arith}
-use Rattle.aho_prefilter.specs.Packed.{HasLanes, groups_at, groups_of}
+use Rattle.std.proofs.Common.{bit_and, get_or, ap, ◌∙◌, ◌+◌, ℕ, arith}
+use Rattle.aho_prefilter.specs.Packed.{groups_at, groups_of}
 use Rattle.aho_prefilter.proofs.Lanes.{HasLanes-zip2}
 use Rattle.aho_prefilter.proofs.packed_heads.PackedHeads.groups.Goals as goal
 

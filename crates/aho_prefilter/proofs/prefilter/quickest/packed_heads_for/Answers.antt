@@ -1,5 +1,4 @@
-use Rattle.std.proofs.Common.{◌≡◌, ◌≤◌, ◌∙◌, length, sym, ap, arith}
-use Rattle.std.proofs.lemmas.List.{length-map}
+use Rattle.std.proofs.Common.{◌∙◌, sym, ap, arith}
 use Rattle.aho_core.specs.Replacement.{pieces_of}
 use Rattle.aho_prefilter.specs.Sizes.{few_heads_for, shape_of}
 use Rattle.aho_prefilter.proofs.HeldStrided.{few_heads-sized, least_head-each, least_head-few}
