@@ -13,7 +13,7 @@ ghost use Rattle.acgrep.specs.Selected.{ForLines};
 
 use crate::buffer::Buffer;
 use crate::failure::Stop;
-use crate::keys::{INPUT, INPUT_NAME, is_input, open_named};
+use crate::keys::{INPUT, is_input, open_named};
 use crate::open::Open;
 use crate::options::Shown;
 use crate::print::{Style, put_count, put_name};
@@ -295,7 +295,7 @@ fn search_name<A: Automaton, F: Open, R: Read, W: Sink, E: Sink>(
         errors.old errors.new }
 {
     if is_input(name) {
-        let named = job_for(job, INPUT_NAME, follows);
+        let named = job_for(job, job.label, follows);
         return search_one(
             automaton, &named, buffer, input, state, page, output, errors,
         );
@@ -492,7 +492,7 @@ fn tell_total<E: Sink>(stop: &Stop, errors: &mut Errors<'_, E>)
 }
 
 /// What is written of the file of this name.
-fn job_for<'a>(job: &Job<'_>, name: &'a [u8], follows: bool) -> Job<'a>
+fn job_for<'a>(job: &Job<'a>, name: &'a [u8], follows: bool) -> Job<'a>
     ensures named { IsNamed job.now name.now follows result }
 {
     Job {
@@ -507,7 +507,11 @@ fn job_for<'a>(job: &Job<'_>, name: &'a [u8], follows: bool) -> Job<'a>
             offset: job.style.offset,
             color: job.style.color,
             hyphen: job.style.hyphen,
+            tab: job.style.tab,
+            separator: job.style.separator,
+            form: job.style.form,
         },
+        label: job.label,
         first: job.first,
         most: job.most,
         hushed: job.hushed,

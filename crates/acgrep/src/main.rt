@@ -6,10 +6,13 @@
 
 mod alone;
 mod arguments;
+mod base64;
 mod buffer;
 mod context;
 mod failure;
+mod fields;
 mod files;
+mod format;
 mod held;
 mod help;
 mod json;

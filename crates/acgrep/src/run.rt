@@ -23,7 +23,7 @@ use crate::keys::{read_keys, tell_refusal};
 use crate::open::Open;
 use crate::options::{Color, Fit, Flags};
 use crate::patterns::lines_of;
-use crate::print::{Place, Style};
+use crate::print::{Form, Place, Style};
 use crate::searcher::Searcher;
 use crate::select::Job;
 use crate::tell::{tell_memory, tell_write, tell_wrong};
@@ -204,19 +204,18 @@ fn search_asked<F: Open, R: Read, W: Sink, E: Sink>(
         (R.remaining input.old) (W.taken output.old) (W.taken output.new) }
     ensures told { TellsOfCall E.Sink (said given.now) result errors.old errors.new }
 {
-    let flags = &given.flags;
     let sources = given.sources.as_slice();
     let operands = given.operands.as_slice();
     if !sources.is_empty() {
         return search(
-            alloc, flags, terminal, sources, operands, files, input, output, errors,
+            alloc, given, terminal, sources, operands, files, input, output, errors,
         );
     }
     match operands.split_first() {
         Some((pattern, names)) => {
             let first = [Source::Text(*pattern)];
             search(
-                alloc, flags, terminal, &first, names, files, input, output, errors,
+                alloc, given, terminal, &first, names, files, input, output, errors,
             )
         }
         None => {
@@ -248,7 +247,7 @@ fn write_text<W: Sink, E: Sink>(text: &[u8], output: &mut W, errors: &mut Errors
 /// Searches the files of these names for the patterns of these sources.
 fn search<F: Open, R: Read, W: Sink, E: Sink>(
     alloc: Global,
-    flags: &Flags,
+    given: &Given<'_>,
     terminal: bool,
     sources: &[Source<'_>],
     names: &[&[u8]],
@@ -268,6 +267,7 @@ fn search<F: Open, R: Read, W: Sink, E: Sink>(
     ensures told { TellsOfSearch E.Sink flags.now (origins_of sources.now) (name_bytes names.now)
         result errors.old errors.new }
 {
+    let flags = &given.flags;
     let Some(keys) = read_keys(alloc, sources, files, input, errors) else {
         return 2;
     };
@@ -280,7 +280,7 @@ fn search<F: Open, R: Read, W: Sink, E: Sink>(
     if knows_none(flags, words) {
         return 1;
     }
-    let job = job_of(flags, terminal, names.len());
+    let job = job_of(given, terminal, names.len());
     let named = Files {
         alloc,
         names,
@@ -401,9 +401,10 @@ fn are_empty(patterns: &[&[u8]]) -> bool
 }
 
 /// What is written of each of so many files, but for its name.
-fn job_of(flags: &Flags, terminal: bool, count: usize) -> Job<'static>
-    ensures job { IsJob flags.now terminal count result }
+fn job_of<'a>(given: &'a Given<'_>, terminal: bool, count: usize) -> Job<'a>
+    ensures job { IsJob (said given.now) terminal count result }
 {
+    let flags = &given.flags;
     Job {
         shown: flags.shown(),
         invert: inverts(flags),
@@ -416,7 +417,11 @@ fn job_of(flags: &Flags, terminal: bool, count: usize) -> Job<'static>
             offset: flags.offset,
             color: is_colored(flags.color, terminal),
             hyphen: false,
+            tab: flags.tab,
+            separator: given.separator,
+            form: form_of(given),
         },
+        label: given.label,
         first: Place {
             lines: flags.first_line.wrapping_sub(1),
             bytes: flags.first,
@@ -425,6 +430,17 @@ fn job_of(flags: &Flags, terminal: bool, count: usize) -> Job<'static>
         hushed: flags.no_messages,
         context: flags.context(),
         follows: false,
+    }
+}
+
+/// How a match is written with its fields: `--format` goes before `--json`.
+fn form_of<'a>(given: &'a Given<'_>) -> Form<'a>
+    ensures form { form_said result ≡ form_asked (said given.now) }
+{
+    if given.flags.formatted {
+        Form::Pieces(given.format.as_slice())
+    } else {
+        Form::Json
     }
 }
 

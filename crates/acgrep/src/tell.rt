@@ -98,6 +98,12 @@ pub fn tell_wrong<E: Sink>(errors: &mut Errors<'_, E>, wrong: Wrong<'_>)
             b"'\n",
             USAGE,
         ]),
+        Wrong::UnknownField(field) => errors.write(&[
+            b"acgrep: option '--format' has no field '",
+            field,
+            b"'\n",
+            USAGE,
+        ]),
         Wrong::NoNumber(valued, number) => {
             let name = name_beside(valued, number);
             tell_number(name, number, errors)
@@ -141,6 +147,9 @@ fn valued_name<'a>(valued: Valued) -> &'a [u8]
         Valued::After => b"-A",
         Valued::Before => b"-B",
         Valued::Around => b"-C",
+        Valued::Separator => b"--group-separator",
+        Valued::Label => b"--label",
+        Valued::Format => b"--format",
     }
 }
 
