@@ -40,19 +40,19 @@ module _ (held' held'' : Option (List ℕ)) (kept : Keeps held' held'') where
   or_kept p job holds names left left' held status (inr one) = inr one
 
   -- what was done of a search
-  pub searches_kept : (holds : List ℕ → Option (List ℕ)) (terminal : Bool) (flags : Flags) (sources : List Origin) (names : List (List ℕ)) (left left' held : Option (List ℕ)) (status : ℕ)
-      → SearchesFor holds terminal flags sources names left left' held held' status → SearchesFor holds terminal flags sources names left left' held held'' status
-  searches_kept holds terminal flags sources names left left' held status done =
-      let sought = words_sought flags done.words in
-      let p = patterns_asked (kind_sought flags) flags.ignore_case sought in
-      let Passed = SelectsNoLine p (fit_by flags) (inverts flags) done.between left' held held' status in
-      let Found = SearchesWords holds terminal flags sought names done.between left' held held' status in
+  pub searches_kept : (holds : List ℕ → Option (List ℕ)) (terminal : Bool) (given : Said) (sources : List Origin) (names : List (List ℕ)) (left left' held : Option (List ℕ)) (status : ℕ)
+      → SearchesFor holds terminal given sources names left left' held held' status → SearchesFor holds terminal given sources names left left' held held'' status
+  searches_kept holds terminal given sources names left left' held status done =
+      let sought = words_sought given.flags done.words in
+      let p = patterns_asked (kind_sought given.flags) given.flags.ignore_case sought in
+      let Passed = SelectsNoLine p (fit_by given.flags) (inverts given.flags) done.between left' held held' status in
+      let Found = SearchesWords holds terminal given sought names done.between left' held held' status in
       record {
         words = done.words;
         between = done.between;
         read = done.read;
         searched =
-            elim (cases_Bool (knows_none flags sought)) [
+            elim (cases_Bool (knows_none given.flags sought)) [
               | inl none ↦
                   let found : Passed = subst (λ (b : Bool). MatchBool b Passed Found) none done.searched in
                   rw none (record { passed = found.passed; unread = found.unread; unwritten = Keeps-trans held held' held'' found.unwritten kept; none = found.none })
@@ -63,16 +63,16 @@ module _ (held' held'' : Option (List ℕ)) (kept : Keeps held' held'') where
       }
 
   -- what was begun
-  pub begins_held : (holds : List ℕ → Option (List ℕ)) (terminal : Bool) (flags : Flags) (sources : List Origin) (names : List (List ℕ)) (left held : Option (List ℕ))
-      → BeginsFor holds terminal flags sources names left held held' → BeginsFor holds terminal flags sources names left held held''
-  begins_held holds terminal flags sources names left held (inl keeps) = inl (Keeps-trans held held' held'' keeps kept)
-  begins_held holds terminal flags sources names left held (inr begins) = inr (record {
+  pub begins_held : (holds : List ℕ → Option (List ℕ)) (terminal : Bool) (given : Said) (sources : List Origin) (names : List (List ℕ)) (left held : Option (List ℕ))
+      → BeginsFor holds terminal given sources names left held held' → BeginsFor holds terminal given sources names left held held''
+  begins_held holds terminal given sources names left held (inl keeps) = inl (Keeps-trans held held' held'' keeps kept)
+  begins_held holds terminal given sources names left held (inr begins) = inr (record {
     words = begins.words;
     between = begins.between;
     read = begins.read;
     job = begins.job;
     is_job = begins.is_job;
-    begun = begun_kept (patterns_asked (kind_sought flags) flags.ignore_case (words_sought flags begins.words)) begins.job holds held' held'' kept (or_input names) false begins.between held begins.begun;
+    begun = begun_kept (patterns_asked (kind_sought given.flags) given.flags.ignore_case (words_sought given.flags begins.words)) begins.job holds held' held'' kept (or_input names) false begins.between held begins.begun;
   })
 
 -- what was said is one thing alone

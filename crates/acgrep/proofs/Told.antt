@@ -190,12 +190,12 @@ abbrev pub AreWithin : List (List ℕ) → List (List ℕ) → Type 0
 AreWithin names all = (name : List ℕ) → IsOneOf name names → IsOneOf name all
 
 -- and of those that are told
-pub told-cut : (hushed : Bool) (first : List ℕ) (rest : List (List ℕ)) (names all : List (List ℕ)) → files_told hushed names ≡ files_told hushed (first ∷ rest) → AreWithin (files_told hushed names) all
-    → (hushed ≡ false → IsOneOf (shown_name first) all) × AreWithin (files_told hushed rest) all
-told-cut true first rest names all cut within = (λ asked. absurd (cc), λ name is. absurd is)
-told-cut false first rest names all cut within =
-    let both : AreWithin (shown_name first ∷ shown_names rest) all = subst (λ (l : List (List ℕ)). AreWithin l all) cut within in
-    (λ asked. both (shown_name first) (inl refl), λ name is. both name (inr is))
+pub told-cut : (hushed : Bool) (label first : List ℕ) (rest : List (List ℕ)) (names all : List (List ℕ)) → files_told hushed label names ≡ files_told hushed label (first ∷ rest) → AreWithin (files_told hushed label names) all
+    → (hushed ≡ false → IsOneOf (shown_name label first) all) × AreWithin (files_told hushed label rest) all
+told-cut true label first rest names all cut within = (λ asked. absurd (cc), λ name is. absurd is)
+told-cut false label first rest names all cut within =
+    let both : AreWithin (shown_name label first ∷ shown_names label rest) all = subst (λ (l : List (List ℕ)). AreWithin l all) cut within in
+    (λ asked. both (shown_name label first) (inl refl), λ name is. both name (inr is))
 
 -- the first of some names is, and those behind it are
 pub within-cut : (first : List ℕ) (rest names all : List (List ℕ)) → names ≡ first ∷ rest → AreWithin names all → IsOneOf first all × AreWithin rest all

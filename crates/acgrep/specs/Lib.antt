@@ -1,8 +1,10 @@
 pub mod Alone
 pub mod Arguments
+pub mod Base64
 pub mod Contexts
 pub mod Files
 pub mod Filled
+pub mod Formats
 pub mod Lines
 pub mod Loading
 pub mod Long

@@ -3,12 +3,12 @@
 //! Options may be joined, take their argument joined or as the next one, and stand behind files. A long name may be a beginning that
 //! no other option's name has. Two hyphens end the options.
 
-ghost use Rattle.std.specs.Prelude.{◌≡◌, ◌≤◌, ◌<◌, Some, IfOk, IfErr, length, string_bytes};
+ghost use Rattle.std.specs.Prelude.{◌≡◌, ◌≤◌, ◌<◌, Some, IfOk, IfErr, OnOk, length, string_bytes};
 ghost use Rattle.programs.specs.Arguments.{kind_by, texts};
-ghost use Rattle.acgrep.specs.Arguments.{AreDigits, FailsBy, ReadsBy, SaysMore, argument_by, color_by, fresh_by, joined_by, letters_by, long_by, named_by, number_by, numbered, numbered_by, plain_by, said, said_by, source_option, so_far, taken_by, turned_by, value_by, with_operand, with_source};
+ghost use Rattle.acgrep.specs.Arguments.{AreDigits, FailsBy, ReadsBy, SaysMore, argument_by, color_by, fresh_by, joined_by, letters_by, long_by, named_by, number_by, numbered, numbered_by, plain_by, said, said_by, source_option, so_far, taken_by, turned_by, value_by, with_format, with_operand, with_separator, with_source};
 ghost use Rattle.acgrep.specs.Long.{option_by};
 ghost use Rattle.acgrep.specs.Mistakes.{IsFirstMistake, TellsBy, mistake_at, wrong_fresh, wrong_joined, wrong_letters, wrong_long, wrong_name, wrong_numbered, wrong_plain, wrong_value};
-ghost use Rattle.acgrep.specs.Told.{color_parts, kind_parts, number_parts, valued_name};
+ghost use Rattle.acgrep.specs.Told.{color_parts, format_parts, kind_parts, number_parts, valued_name};
 
 use crate::format::{Piece, read_format};
 use crate::long::{Long, Valued, option_of};
@@ -267,8 +267,8 @@ fn set_separator<'a>(given: &mut Given<'a>, argument: &'a [u8])
 
 /// Takes an argument for the format of matches.
 fn set_format<'a>(given: &mut Given<'a>, argument: &'a [u8]) -> Result<(), Refusal<'a>>
-    ensures set { OnOk result (formatted_by argument.now (said given.old) ≡ Some (said given.new)) }
-    ensures refused { FailsBy (formatted_by argument.now (said given.old)) result }
+    ensures set { OnOk result (with_format argument.now (said given.old) ≡ Some (said given.new)) }
+    ensures refused { FailsBy (with_format argument.now (said given.old)) result }
     ensures wrong { TellsBy (format_parts argument.now) result }
 {
     read_format(argument, &mut given.format)?;

@@ -143,7 +143,7 @@ pub fn search_files<A: Automaton, F: Open, R: Read, W: Sink, E: Sink>(
         (R.remaining input.old) (W.taken output.old) (W.taken output.new)) }
 
     // What is told tells why a file was not searched; where the status tells of no error, nothing is told.
-    ensures told { TellsOfFiles E.Sink job.now.hushed (files_named files.now)
+    ensures told { TellsOfFiles E.Sink job.now.hushed job.now.label.now (files_named files.now)
         job.now.shown result errors.old errors.new }
 {
     if files.names.is_empty() {
@@ -190,7 +190,7 @@ fn search_names<A: Automaton, F: Open, R: Read, W: Sink, E: Sink>(
         (W.taken output.old) (W.taken output.new) result) }
     ensures begun { BeginsFilesBy A.Automaton F.Open R.Read W.Sink automaton.now job.now
         files.now names.now input.old output.old output.new }
-    ensures told { TellsOfFiles E.Sink job.now.hushed (name_bytes names.now)
+    ensures told { TellsOfFiles E.Sink job.now.hushed job.now.label.now (name_bytes names.now)
         job.now.shown result errors.old errors.new }
 {
     let Ok(mut buffer) = Buffer::new(alloc) else {
@@ -234,7 +234,7 @@ fn search_each<A: Automaton, F: Open, R: Read, W: Sink, E: Sink>(
         (W.taken output.old) (W.taken output.new) result) }
     ensures begun { BeginsFilesBy A.Automaton F.Open R.Read W.Sink automaton.now job.now
         files.now names.now input.old output.old output.new }
-    ensures told { TellsIf E.Sink (IsMessage (files_told job.now.hushed (name_bytes names.now)))
+    ensures told { TellsIf E.Sink (IsMessage (files_told job.now.hushed job.now.label.now (name_bytes names.now)))
         job.now.hushed result.failed errors.old errors.new }
 {
     let mut seen = Seen::new();
@@ -291,7 +291,7 @@ fn search_name<A: Automaton, F: Open, R: Read, W: Sink, E: Sink>(
         IfBroken result (BeginsName p job.now follows (F.holds files.now) name.now
         (R.remaining input.old) (W.taken output.old) (W.taken output.new))) }
     ensures leaves { LeavesInput name.now (R.remaining input.old) (R.remaining input.new) }
-    ensures told { TellsOfOutcome E.Sink job.now.hushed (shown_name name.now) result
+    ensures told { TellsOfOutcome E.Sink job.now.hushed (shown_name job.now.label.now name.now) result
         errors.old errors.new }
 {
     if is_input(name) {

@@ -2,7 +2,7 @@
 
 ghost use Rattle.std.specs.Prelude.{◌≡◌, ◌≤◌, ◌<◌, ◌∷◌, ◌++◌, [], IfSome, OnOk, Some, length};
 ghost use Rattle.acgrep.specs.Arguments.{FailsBy};
-ghost use Rattle.acgrep.specs.Formats.{front_by, pieces_by, up_to_brace};
+ghost use Rattle.acgrep.specs.Formats.{front_at, front_by, pieces_by, plain_front, up_to_brace};
 ghost use Rattle.acgrep.specs.Mistakes.{TellsBy};
 ghost use Rattle.acgrep.specs.Told.{format_parts};
 
@@ -96,6 +96,7 @@ fn front_of(rest: &[u8]) -> Option<Front>
 
 /// The piece that a byte is: none where it is a brace.
 fn plain_front(byte: u8) -> Option<Front>
+    ensures front { result ≡ plain_front byte }
 {
     if byte == b'{' || byte == b'}' {
         return None;
@@ -104,7 +105,9 @@ fn plain_front(byte: u8) -> Option<Front>
 }
 
 /// A piece of so many bytes.
-fn front(piece: Piece, len: usize) -> Option<Front> {
+fn front(piece: Piece, len: usize) -> Option<Front>
+    ensures front { result ≡ front_at piece len }
+{
     Some(Front { piece, len })
 }
 

@@ -192,7 +192,13 @@ pub fn put_line<W: Write>(
     ensures written { Puts W.Write output.old output.new result
         (line_by style.now place line.now) }
 {
-    put_head(output, style, place.lines.wrapping_add(1), place.bytes, line)?;
+    put_head(
+        output,
+        style,
+        place.lines.wrapping_add(1),
+        place.bytes,
+        line,
+    )?;
     output.write_all(line)?;
     output.write_all(b"\n")?;
     Ok(())
@@ -222,7 +228,13 @@ pub fn put_colored_line<A: Automaton, W: Write>(
     ensures written { PutsColored A.Automaton W.Write automaton.now
         alone style.now place line.now output.old output.new result }
 {
-    put_head(output, style, place.lines.wrapping_add(1), place.bytes, line)?;
+    put_head(
+        output,
+        style,
+        place.lines.wrapping_add(1),
+        place.bytes,
+        line,
+    )?;
     put_colored_bytes(automaton, output, alone, line)?;
     output.write_all(b"\n")?;
     Ok(())

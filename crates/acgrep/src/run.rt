@@ -12,7 +12,7 @@ ghost use Rattle.programs.specs.Telling.{Tells, TellsSome};
 ghost use Rattle.acgrep.specs.Told.{MayTell, TellsCause, TellsOfCall, TellsOfFiles, TellsOfSearch, TellsOfText, TellsRefusal, is_hushed, names_said};
 ghost use Rattle.acgrep.specs.Mistakes.{TellsLacking, TellsMistake, TellsNoPattern, TellsRefused};
 ghost use Rattle.acgrep.specs.Files.{AreFilesBegun, AreSearchedOr, files_named};
-ghost use Rattle.acgrep.specs.Runs.{AsksToSearch, BeginsSearch, BeginsFor, GivesNone, IfSaid, IsJob, Searches, SearchesFor, SearchesSaid, are_empty, asks_none, inverts, is_colored, kind_sought, knows_none, origins_of, selects_none, status_told, takes_any, words_sought};
+ghost use Rattle.acgrep.specs.Runs.{AsksToSearch, BeginsSearch, BeginsFor, GivesNone, IfSaid, IsJob, Searches, SearchesFor, SearchesSaid, are_empty, asks_none, form_asked, form_said, inverts, is_colored, kind_sought, knows_none, origins_of, selects_none, status_told, takes_any, words_sought};
 ghost use Rattle.acgrep.specs.Searchers.{IsSearcherOf};
 ghost use Rattle.acgrep.specs.Selected.{ForLines};
 
@@ -257,14 +257,14 @@ fn search<F: Open, R: Read, W: Sink, E: Sink>(
     errors: &mut Errors<'_, E>,
 ) -> u8
     ensures bound { result ≤ 2 }
-    ensures searches { result < 2 → SearchesFor (F.holds files.now) terminal flags.now
+    ensures searches { result < 2 → SearchesFor (F.holds files.now) terminal (said given.now)
         (origins_of sources.now) (name_bytes names.now)
         (R.remaining input.old) (R.remaining input.new)
         (W.taken output.old) (W.taken output.new) result }
-    ensures begins { BeginsFor (F.holds files.now) terminal flags.now
+    ensures begins { BeginsFor (F.holds files.now) terminal (said given.now)
         (origins_of sources.now) (name_bytes names.now)
         (R.remaining input.old) (W.taken output.old) (W.taken output.new) }
-    ensures told { TellsOfSearch E.Sink flags.now (origins_of sources.now) (name_bytes names.now)
+    ensures told { TellsOfSearch E.Sink (said given.now) (origins_of sources.now) (name_bytes names.now)
         result errors.old errors.new }
 {
     let flags = &given.flags;
@@ -313,7 +313,7 @@ fn search_by<F: Open, R: Read, W: Sink, E: Sink>(
     ensures begun { ForLines (λ p. IsSearcherOf p searcher.now) (λ p.
         AreFilesBegun p job.now false (F.holds files.now.files.now) (files_named files.now)
         (R.remaining input.old) (W.taken output.old) (W.taken output.new)) }
-    ensures told { TellsOfFiles E.Sink job.now.hushed (files_named files.now)
+    ensures told { TellsOfFiles E.Sink job.now.hushed job.now.label.now (files_named files.now)
         job.now.shown result errors.old errors.new }
 {
     match searcher {

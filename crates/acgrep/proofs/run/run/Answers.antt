@@ -1,5 +1,5 @@
 -- What was said was done, and a flush keeps what was written.
-use Rattle.std.proofs.Common.{false, ◌≡◌, ◌<◌, ◌≤◌, ◌∙◌, Option, Some, ap, ℕ, inl, inr, arith, subst, sym}
+use Rattle.std.proofs.Common.{false, ◌||◌, ◌≡◌, ◌<◌, ◌≤◌, ◌∙◌, Option, Some, ap, ℕ, inl, inr, arith, subst, sym}
 use Rattle.programs.specs.Arguments.{texts}
 use Rattle.acgrep.specs.Arguments.{Said, said, said_by, shown_by}
 use Rattle.acgrep.specs.Runs.{AsksToSearch, BeginsSearch, GivesNone, Searches}
@@ -74,7 +74,7 @@ returns-in-Ok-clause-silent g c given is loud low =
     c.answer-status.ensures.bound bound c.finish.ensures.status c.answer-status.ensures.told c.finish.ensures.silent c.finish.ensures.told_before (λ low two. c.finish.ensures.told low two names) in
     let same : said c.in-Ok.given ≡ given = same_said (said_by (texts c.args.arguments.now)) given (said c.in-Ok.given) is c.in-Ok.ensures.read in
     let flags = c.in-Ok.given.flags in
-    told.silent low (λ quiet. not-quiet flags.quiet flags.names flags.lacking flags.count flags.json flags.only_matching quiet (ap (λ (s : Said). s.flags.quiet) same ∙ loud))
+    told.silent low (λ quiet. not-quiet flags.quiet flags.names flags.lacking flags.count (flags.json || flags.formatted) flags.only_matching quiet (ap (λ (s : Said). s.flags.quiet) same ∙ loud))
 
 pub returns-in-Err-clause-tells : goal.returns-in-Err-clause-tells
 returns-in-Err-clause-tells g c =

@@ -38,32 +38,29 @@ as-given P sources items operands names same alike some is =
 pub returns-then-not-is_empty-clause-begins : goal.returns-then-not-is_empty-clause-begins
 returns-then-not-is_empty-clause-begins g c =
     let holds = g.F.Open.holds c.args.files.now in
-    let flags = c.args.given.now.flags in
     let left = g.R.Read.remaining c.args.input.now in
     let held = g.W.Sink.taken c.args.output.now in
     let held' = g.W.Sink.taken c.search.new.output in
     let some : 0 < length c.as_slice-sources.result.now = grind (arith, common_steps, c.is_empty.ensures, c.if-not-is_empty.true) in
-    as-given (λ (sources : List Origin) (names : List (List ℕ)). BeginsFor holds c.args.terminal flags sources names left held held')
+    as-given (λ (sources : List Origin) (names : List (List ℕ)). BeginsFor holds c.args.terminal (said c.args.given.now) sources names left held held')
     c.as_slice-sources.result.now c.args.given.now.sources.items c.as_slice-operands.result.now c.args.given.now.operands.items
     c.as_slice-sources.ensures.value c.as_slice-operands.ensures.value some c.search.ensures.begins
 
 pub returns-then-not-is_empty-clause-searches : goal.returns-then-not-is_empty-clause-searches
 returns-then-not-is_empty-clause-searches g c = λ low.
     let holds = g.F.Open.holds c.args.files.now in
-    let flags = c.args.given.now.flags in
     let left = g.R.Read.remaining c.args.input.now in
     let left' = g.R.Read.remaining c.search.new.input in
     let held = g.W.Sink.taken c.args.output.now in
     let held' = g.W.Sink.taken c.search.new.output in
     let some : 0 < length c.as_slice-sources.result.now = grind (arith, common_steps, c.is_empty.ensures, c.if-not-is_empty.true) in
-    as-given (λ (sources : List Origin) (names : List (List ℕ)). SearchesFor holds c.args.terminal flags sources names left left' held held' c.search.result)
+    as-given (λ (sources : List Origin) (names : List (List ℕ)). SearchesFor holds c.args.terminal (said c.args.given.now) sources names left left' held held' c.search.result)
     c.as_slice-sources.result.now c.args.given.now.sources.items c.as_slice-operands.result.now c.args.given.now.operands.items
     c.as_slice-sources.ensures.value c.as_slice-operands.ensures.value some (c.search.ensures.searches low)
 
 pub returns-then-not-is_empty-clause-told : goal.returns-then-not-is_empty-clause-told
 returns-then-not-is_empty-clause-told g c =
-    let flags = c.args.given.now.flags in
     let some : 0 < length c.as_slice-sources.result.now = grind (arith, common_steps, c.is_empty.ensures, c.if-not-is_empty.true) in
-    as-given (λ (sources : List Origin) (names : List (List ℕ)). TellsOfSearch g.E.Sink flags sources names c.search.result c.args.errors.now c.search.new.errors)
+    as-given (λ (sources : List Origin) (names : List (List ℕ)). TellsOfSearch g.E.Sink (said c.args.given.now) sources names c.search.result c.args.errors.now c.search.new.errors)
     c.as_slice-sources.result.now c.args.given.now.sources.items c.as_slice-operands.result.now c.args.given.now.operands.items
     c.as_slice-sources.ensures.value c.as_slice-operands.ensures.value some c.search.ensures.told
