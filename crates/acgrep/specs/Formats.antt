@@ -1,5 +1,5 @@
 -- The format by which a match is written: bytes, and fields in braces.
-use Rattle.std.specs.Prelude.{ℕ, ◌-◌, ◌==◌, ◌||◌, nat_eq, Bool, List, [], ◌∷◌, Option, Some, None, codes, if◌then◌else◌, option_and_then, option_map}
+use Rattle.std.specs.Prelude.{ℕ, zero, suc, ◌-◌, ◌==◌, ◌||◌, nat_eq, Bool, List, [], ◌∷◌, Option, Some, None, codes, if◌then◌else◌, option_and_then, option_map}
 use Rattle.std.specs.List.{starts_with}
 use Rattle.acgrep.specs.declared.format.Front.{Front}
 use Rattle.acgrep.specs.declared.format.Piece.{Piece}
@@ -33,7 +33,7 @@ front_by format =
 -- its pieces, where the first `skipped` bytes belong to a piece before
 abbrev pub pieces_behind : ℕ → List ℕ → Option (List Piece)
 pieces_behind skipped [] = Some []
-pieces_behind 0 (byte ∷ rest) =
+pieces_behind zero (byte ∷ rest) =
     option_and_then (λ front. option_map (λ pieces. front.piece ∷ pieces) (pieces_behind (front.len - 1) rest)) (front_by (byte ∷ rest))
 pieces_behind (suc skipped) (byte ∷ rest) = pieces_behind skipped rest
 
@@ -52,7 +52,7 @@ else_behind (Some front) field others = others (front.len - 1)
 
 abbrev pub unknown_behind : ℕ → List ℕ → List ℕ
 unknown_behind skipped [] = []
-unknown_behind 0 (byte ∷ rest) = else_behind (front_by (byte ∷ rest)) (up_to_brace (byte ∷ rest)) (λ left. unknown_behind left rest)
+unknown_behind zero (byte ∷ rest) = else_behind (front_by (byte ∷ rest)) (up_to_brace (byte ∷ rest)) (λ left. unknown_behind left rest)
 unknown_behind (suc skipped) (byte ∷ rest) = unknown_behind skipped rest
 
 abbrev pub unknown_in : List ℕ → List ℕ

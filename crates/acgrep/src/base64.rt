@@ -1,7 +1,7 @@
 //! Bytes in base64, as RFC 4648 has it, with `=` at the end.
 
-ghost use Rattle.std.specs.Prelude.{◌≡◌, ◌<◌};
-ghost use Rattle.acgrep.specs.Base64.{base64_of, end_of, four_of, symbol_of};
+ghost use Rattle.std.specs.Prelude.{◌≡◌, ◌<◌, length};
+ghost use Rattle.acgrep.specs.Base64.{base64_of, four_of, symbol_of};
 ghost use Rattle.acgrep.specs.Printed.{Puts};
 
 use std::io;

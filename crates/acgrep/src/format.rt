@@ -74,21 +74,21 @@ fn front_of(rest: &[u8]) -> Option<Front>
     ensures within { IfSome result (λ front. front.len ≤ length rest.now) }
 {
     if rest.starts_with(b"{{") {
-        front(Piece::Byte(b'{'), 2)
+        taking(Piece::Byte(b'{'), 2)
     } else if rest.starts_with(b"}}") {
-        front(Piece::Byte(b'}'), 2)
+        taking(Piece::Byte(b'}'), 2)
     } else if rest.starts_with(b"{path}") {
-        front(Piece::Path, 6)
+        taking(Piece::Path, 6)
     } else if rest.starts_with(b"{line}") {
-        front(Piece::LineNumber, 6)
+        taking(Piece::LineNumber, 6)
     } else if rest.starts_with(b"{start}") {
-        front(Piece::Start, 7)
+        taking(Piece::Start, 7)
     } else if rest.starts_with(b"{end}") {
-        front(Piece::End, 5)
+        taking(Piece::End, 5)
     } else if rest.starts_with(b"{pattern}") {
-        front(Piece::PatternNumber, 9)
+        taking(Piece::PatternNumber, 9)
     } else if rest.starts_with(b"{text}") {
-        front(Piece::Found, 6)
+        taking(Piece::Found, 6)
     } else {
         plain_front(rest[0])
     }
@@ -101,11 +101,11 @@ fn plain_front(byte: u8) -> Option<Front>
     if byte == b'{' || byte == b'}' {
         return None;
     }
-    front(Piece::Byte(byte), 1)
+    taking(Piece::Byte(byte), 1)
 }
 
 /// A piece of so many bytes.
-fn front(piece: Piece, len: usize) -> Option<Front>
+fn taking(piece: Piece, len: usize) -> Option<Front>
     ensures front { result ≡ front_at piece len }
 {
     Some(Front { piece, len })

@@ -3,6 +3,7 @@
 ghost use Rattle.std.specs.Iterator.{IsFinite};
 ghost use Rattle.std.specs.Prelude.{◌≡◌, ◌<◌, ◌++◌, decimal, true};
 ghost use Rattle.aho_core.specs.Patterns.{Patterns};
+ghost use Rattle.std.specs.Str.{is_utf8};
 ghost use Rattle.acgrep.specs.Printed.{Puts, PutsEach};
 ghost use Rattle.acgrep.specs.Objects.{PutsObjects, bytes_named, escaped_byte, fields_told, formatted_by, hex_of, json_by, json_escaped, object_by, objects_by, piece_by};
 
@@ -119,12 +120,22 @@ fn put_bytes<W: Write>(output: &mut W, bytes: &[u8]) -> io::Result<()>
     ensures written { Puts W.Write output.old output.new result
         (bytes_named bytes.now) }
 {
-    if str::from_utf8(bytes).is_ok() {
+    if is_text(bytes) {
         output.write_all(b",\"text\":\"")?;
         return put_escaped(output, bytes);
     }
     output.write_all(b",\"bytes\":\"")?;
     put_base64(output, bytes)
+}
+
+/// Whether bytes are UTF-8.
+fn is_text(bytes: &[u8]) -> bool
+    ensures text { result ≡ is_utf8 bytes.now }
+{
+    match str::from_utf8(bytes) {
+        Ok(_) => true,
+        Err(_) => false,
+    }
 }
 
 /// Writes a match by a format, on a line of its own.
