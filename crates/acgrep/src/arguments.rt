@@ -5,7 +5,7 @@
 
 ghost use Rattle.std.specs.Prelude.{◌≡◌, ◌≤◌, ◌<◌, Some, IfOk, IfErr, OnOk, length, string_bytes};
 ghost use Rattle.programs.specs.Arguments.{kind_by, texts};
-ghost use Rattle.acgrep.specs.Arguments.{AreDigits, FailsBy, ReadsBy, SaysMore, argument_by, color_by, fresh_by, joined_by, letters_by, long_by, named_by, number_by, numbered, numbered_by, plain_by, said, said_by, source_option, so_far, taken_by, turned_by, value_by, with_format, with_operand, with_separator, with_source};
+ghost use Rattle.acgrep.specs.Arguments.{AreDigits, FailsBy, ReadsBy, SaysMore, argument_by, color_by, fresh_by, joined_by, letters_by, long_by, named_by, nothing_said, number_by, numbered, numbered_by, plain_by, said, said_by, source_option, so_far, taken_by, turned_by, value_by, with_format, with_operand, with_separator, with_source};
 ghost use Rattle.acgrep.specs.Long.{option_by};
 ghost use Rattle.acgrep.specs.Mistakes.{IsFirstMistake, TellsBy, mistake_at, wrong_fresh, wrong_joined, wrong_letters, wrong_long, wrong_name, wrong_numbered, wrong_plain, wrong_value};
 ghost use Rattle.acgrep.specs.Told.{color_parts, format_parts, kind_parts, number_parts, valued_name};
@@ -71,6 +71,22 @@ pub struct Given<'a> {
     pub format: Vec<Piece>,
 }
 
+impl<'a> Given<'a> {
+    /// What no argument says.
+    fn new(alloc: Global) -> Given<'a>
+        ensures none { said result ≡ nothing_said }
+    {
+        Given {
+            flags: Flags::new(),
+            sources: Vec::new(alloc),
+            operands: Vec::new(alloc),
+            separator: b"--",
+            label: b"(standard input)",
+            format: Vec::new(alloc),
+        }
+    }
+}
+
 /// Why there is no `Given`.
 #[derive(Clone, Copy)]
 pub enum Refusal<'a> {
@@ -108,14 +124,7 @@ pub fn parse<'a>(alloc: Global, arguments: &'a [String]) -> Result<Given<'a>, Re
     // The first mistake is told.
     ensures wrong { IfErr result (IsFirstMistake (texts arguments.now)) }
 {
-    let mut given = Given {
-        flags: Flags::new(),
-        sources: Vec::new(alloc),
-        operands: Vec::new(alloc),
-        separator: b"--",
-        label: b"(standard input)",
-        format: Vec::new(alloc),
-    };
+    let mut given = Given::new(alloc);
     let mut awaited = Awaited::Fresh;
     let mut left = arguments;
     while let Some((argument, behind)) = left.split_first() {
