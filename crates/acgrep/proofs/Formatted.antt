@@ -1,5 +1,5 @@
 -- A format, one piece after another; and base64, one group after another.
-use Rattle.std.proofs.Common.{◌≡◌, ℕ, zero, suc, ◌+◌, ◌<◌, ◌-◌, ◌==◌, false, List, [], ◌∷◌, ◌++◌, Option, Some, None, ◌∙◌, ap, refl, sym, subst, inl, inr, drop, take, length, slice_index, arith, append_assoc}
+use Rattle.std.proofs.Common.{◌≡◌, ℕ, zero, suc, ◌+◌, ◌<◌, ◌-◌, ◌==◌, false, List, [], ◌∷◌, ◌++◌, Option, Some, None, ◌∙◌, ap, refl, sym, subst, inl, inr, drop, take, length, slice_index, arith, append_assoc, append-nil}
 use Rattle.std.specs.Prelude.{option_map}
 use Rattle.std.proofs.lemmas.Bool.{cases_Bool}
 use Rattle.std.proofs.lemmas.List.{length-drop, take_all}
@@ -57,6 +57,11 @@ pub pieces_more : (items : List Piece) (piece : Piece) (others : Option (List Pi
     → option_map (λ pieces. items ++ pieces) (option_map (λ pieces. piece ∷ pieces) others) ≡ option_map (λ pieces. (items ++ (piece ∷ [])) ++ pieces) others
 pieces_more items piece None = refl
 pieces_more items piece (Some pieces) = ap (λ (l : List Piece). Some l) (sym (append_assoc items (piece ∷ []) pieces))
+
+-- where nothing is left these are all
+pub pieces_end : (rest format : List ℕ) (items : List Piece) → length rest ≡ 0 → pieces_by format ≡ option_map (λ pieces. items ++ pieces) (pieces_by rest) → pieces_by format ≡ Some items
+pieces_end [] format items none read = read ∙ ap (λ (l : List Piece). Some l) (append-nil items)
+pieces_end (byte ∷ rest) format items none read = absurd (omega (arith, none))
 
 -- all that is behind a place of a list
 pub rest_behind : (xs : List ℕ) (at : ℕ) → take (length xs - at) (drop at xs) ≡ drop at xs

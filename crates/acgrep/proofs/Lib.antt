@@ -7,6 +7,7 @@ pub mod FileTellings
 pub mod FilesBegun
 pub mod Fillings
 pub mod FirstLines
+pub mod FormatTexts
 pub mod Formatted
 pub mod Grouped
 pub mod HeldLines

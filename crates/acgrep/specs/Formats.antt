@@ -1,6 +1,6 @@
 -- The format by which a match is written: bytes, and fields in braces.
 use Rattle.std.specs.Prelude.{ℕ, zero, suc, ◌-◌, ◌==◌, ◌||◌, nat_eq, Bool, List, [], ◌∷◌, Option, Some, None, codes, if◌then◌else◌, option_and_then, option_map}
-use Rattle.std.specs.List.{starts_with}
+use Rattle.std.specs.List.{flat_map, starts_with}
 use Rattle.acgrep.specs.declared.format.Front.{Front}
 use Rattle.acgrep.specs.declared.format.Piece.{Piece}
 use Rattle.acgrep.specs.declared.format.Piece.TheVariants.{Byte, Path, LineNumber, Start, End, PatternNumber, Found}
@@ -39,6 +39,20 @@ pieces_behind (suc skipped) (byte ∷ rest) = pieces_behind skipped rest
 
 abbrev pub pieces_by : List ℕ → Option (List Piece)
 pieces_by format = pieces_behind 0 format
+
+-- how a piece stands in a format: a brace is doubled, and a field is its name in braces
+abbrev pub piece_text : Piece → List ℕ
+piece_text (Byte byte) = if (byte == 123) || (byte == 125) then byte ∷ byte ∷ [] else byte ∷ []
+piece_text Path = codes "{path}"
+piece_text LineNumber = codes "{line}"
+piece_text Start = codes "{start}"
+piece_text End = codes "{end}"
+piece_text PatternNumber = codes "{pattern}"
+piece_text Found = codes "{text}"
+
+-- a format is its pieces, one after another
+abbrev pub format_text : List Piece → List ℕ
+format_text pieces = flat_map (λ piece. piece_text piece) pieces
 
 -- what stands up to a brace that closes a field, and that brace
 abbrev pub up_to_brace : List ℕ → List ℕ

@@ -4,7 +4,8 @@ use Rattle.std.proofs.lemmas.Grind.{common_steps}
 use Rattle.std.specs.Prelude.{option_map}
 use Rattle.acgrep.specs.Formats.{front_by, pieces_by, unknown_in}
 use Rattle.acgrep.specs.declared.format.Piece.{Piece}
-use Rattle.acgrep.proofs.Formatted.{pieces_more, pieces_step, rest_behind, unknown_step}
+use Rattle.acgrep.proofs.FormatTexts.{whole_text}
+use Rattle.acgrep.proofs.Formatted.{pieces_end, pieces_more, pieces_step, rest_behind, unknown_step}
 use Rattle.acgrep.proofs.format.read_format.Goals as goal
 
 pub loop-rest-preserved : goal.loop-rest-preserved
@@ -24,3 +25,8 @@ loop-rest-preserved c =
           ∙ ap (λ (l : List Piece). option_map (λ pieces. l ++ pieces) (pieces_by left)) (sym c.in_ok-add_piece-in-Some.ensures.added);
       unknown = c.loop-rest.invariant.unknown ∙ unknown_step rest front some c.in-Some.ensures.some is ∙ ap unknown_in behind;
     }
+
+pub returns-clause-whole : goal.returns-clause-whole
+returns-clause-whole c =
+    let none : length c.loop-rest.rest.now ≡ 0 = grind (arith, common_steps, c.is_empty.ensures, c.loop-rest-test.false) in
+    whole_text c.args.format.now c.loop-rest.pieces.items (pieces_end c.loop-rest.rest.now c.args.format.now c.loop-rest.pieces.items none c.loop-rest.invariant.read)
