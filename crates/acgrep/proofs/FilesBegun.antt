@@ -1,7 +1,7 @@
 -- What is written of a file that is not searched to its end.
 use Rattle.std.proofs.Common.{arith, ◌≡◌, inl, inr, ◌⊎◌, ℕ, Bool, true, false, List, [], ◌∷◌, ◌++◌, Option, None, Some, IfSome, drop, take, take-append-drop, refl, sym, ◌∙◌, ap, subst, append_assoc, append-nil}
 use Rattle.programs.specs.Names.{is_input}
-use Rattle.std.specs.Prelude.{◌||◌, codes}
+use Rattle.std.specs.Prelude.{◌||◌}
 use Rattle.std.specs.Io.KnownBytes.{Appends, Keeps}
 use Rattle.std.proofs.KnownBytes.{Appends-trans, Keeps-trans}
 use Rattle.aho_core.specs.Patterns.{Patterns}

@@ -11,7 +11,6 @@ use Rattle.programs.specs.Names.{or_input}
 use Rattle.acgrep.specs.Files.{AreFilesSearched, AreSearchedOr, is_enough}
 use Rattle.acgrep.specs.Runs.{BeginsFor, SelectsNoLine, SearchesFor, SearchesWords, inverts, kind_sought, knows_none, words_sought}
 use Rattle.acgrep.specs.Searchers.{patterns_asked}
-use Rattle.acgrep.specs.declared.options.Flags.{Flags}
 use Rattle.acgrep.specs.declared.select.Job.{Job}
 use Rattle.acgrep.proofs.FilesBegun.{begun_kept}
 
