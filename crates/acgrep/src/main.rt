@@ -6,10 +6,12 @@
 
 mod alone;
 mod arguments;
+mod below;
 mod buffer;
 mod context;
 mod failure;
 mod files;
+mod folders;
 mod held;
 mod help;
 mod json;
@@ -26,6 +28,7 @@ mod select;
 mod stream;
 mod tell;
 mod trail;
+mod walk;
 
 use chromesquid::FromWrite;
 use open::System;

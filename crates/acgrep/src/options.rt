@@ -83,6 +83,8 @@ pub enum Switch {
     OnlyNames,
     /// `-L`
     OnlyLacking,
+    /// `-r`
+    Recursive,
     /// `-Z`
     NullNames,
     /// `-q`
@@ -122,6 +124,7 @@ pub fn switch_of(letter: u8) -> Option<Switch>
         b'b' => Some(Switch::Offsets),
         b'l' => Some(Switch::OnlyNames),
         b'L' => Some(Switch::OnlyLacking),
+        b'r' => Some(Switch::Recursive),
         b'Z' => Some(Switch::NullNames),
         b'q' => Some(Switch::Quiet),
         b's' => Some(Switch::NoMessages),
@@ -156,6 +159,8 @@ pub struct Flags {
     pub names: bool,
     /// `-L`, and no `-l` behind it: files without one are.
     pub lacking: bool,
+    /// `-r`: the files below folders are searched.
+    pub recursive: bool,
     /// `-Z`: a zero byte stands behind a file's name.
     pub null: bool,
     /// `-q`: nothing is written.
@@ -210,6 +215,7 @@ impl Flags {
             offset: false,
             names: false,
             lacking: false,
+            recursive: false,
             null: false,
             quiet: false,
             after: None,
@@ -320,6 +326,7 @@ impl Flags {
                 flags.names = false;
                 flags.lacking = true;
             }
+            Switch::Recursive => flags.recursive = true,
             Switch::NullNames => flags.null = true,
             Switch::Quiet => flags.quiet = true,
             Switch::NoSeparator => flags.joined = true,

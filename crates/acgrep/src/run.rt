@@ -17,7 +17,9 @@ ghost use Rattle.acgrep.specs.Searchers.{IsSearcherOf};
 ghost use Rattle.acgrep.specs.Selected.{ForLines};
 
 use crate::arguments::{Given, Refusal, Source, Wrong, parse};
+use crate::below::search_operands;
 use crate::files::{Files, search_files};
+use crate::folders::Folders;
 use crate::help::{HELP, VERSION};
 use crate::keys::{read_keys, tell_refusal};
 use crate::open::Open;
@@ -35,7 +37,7 @@ use std::io::Read;
 
 /// Does what the arguments after the program's name ask for, and answers the exit status: 0 where a line was selected, 1 where
 /// none was, or 0 there too under `--no-match-ok`, and 2 where an error occurred. `terminal` says whether the output is a terminal with colours.
-pub fn run<F: Open, R: Read, W: Sink, E: Sink>(
+pub fn run<F: Open + Folders, R: Read, W: Sink, E: Sink>(
     alloc: Global,
     arguments: &[String],
     terminal: bool,
@@ -141,7 +143,7 @@ fn finish<W: Sink, E: Sink>(status: u8, output: &mut W, errors: &mut Errors<'_, 
 }
 
 /// Does what right arguments ask for.
-fn answer<F: Open, R: Read, W: Sink, E: Sink>(
+fn answer<F: Open + Folders, R: Read, W: Sink, E: Sink>(
     alloc: Global,
     given: &Given<'_>,
     terminal: bool,
@@ -184,7 +186,7 @@ fn status_told(no_match_ok: bool, status: u8) -> u8
 }
 
 /// Searches as the arguments say. Where no option gives patterns the first operand does.
-fn search_asked<F: Open, R: Read, W: Sink, E: Sink>(
+fn search_asked<F: Open + Folders, R: Read, W: Sink, E: Sink>(
     alloc: Global,
     given: &Given<'_>,
     terminal: bool,
@@ -246,7 +248,7 @@ fn write_text<W: Sink, E: Sink>(text: &[u8], output: &mut W, errors: &mut Errors
 }
 
 /// Searches the files of these names for the patterns of these sources.
-fn search<F: Open, R: Read, W: Sink, E: Sink>(
+fn search<F: Open + Folders, R: Read, W: Sink, E: Sink>(
     alloc: Global,
     flags: &Flags,
     terminal: bool,
@@ -280,14 +282,15 @@ fn search<F: Open, R: Read, W: Sink, E: Sink>(
     if knows_none(flags, words) {
         return 1;
     }
-    let job = job_of(flags, terminal, names.len());
     let named = Files {
         alloc,
         names,
         files,
     };
     match Searcher::build(alloc, kind_sought(flags), flags.ignore_case, words) {
-        Ok(searcher) => search_by(&searcher, &job, &named, input, output, errors),
+        Ok(searcher) => search_operands(
+            &searcher, flags, terminal, &named, input, output, errors,
+        ),
         Err(error) => {
             tell_refusal(&keys, sources, &error, errors);
             2
@@ -296,7 +299,7 @@ fn search<F: Open, R: Read, W: Sink, E: Sink>(
 }
 
 /// Searches these files by an automaton.
-fn search_by<F: Open, R: Read, W: Sink, E: Sink>(
+pub fn search_by<F: Open, R: Read, W: Sink, E: Sink>(
     searcher: &Searcher,
     job: &Job<'_>,
     files: &Files<'_, F>,
@@ -400,9 +403,9 @@ fn are_empty(patterns: &[&[u8]]) -> bool
     true
 }
 
-/// What is written of each of so many files, but for its name.
-fn job_of(flags: &Flags, terminal: bool, count: usize) -> Job<'static>
-    ensures job { IsJob flags.now terminal count result }
+/// What is written of each file, but for its name. `several` says whether names stand before lines where nothing is said of that.
+pub fn job_of(flags: &Flags, terminal: bool, several: bool) -> Job<'static>
+    ensures job { IsJob flags.now terminal several result }
 {
     Job {
         shown: flags.shown(),
@@ -410,7 +413,7 @@ fn job_of(flags: &Flags, terminal: bool, count: usize) -> Job<'static>
         fit: flags.fit(),
         style: Style {
             name: b"",
-            with_name: has_name(flags.with_name, count),
+            with_name: flags.with_name.unwrap_or(several),
             null: flags.null,
             number: flags.number,
             offset: flags.offset,
@@ -425,16 +428,6 @@ fn job_of(flags: &Flags, terminal: bool, count: usize) -> Job<'static>
         hushed: flags.no_messages,
         context: flags.context(),
         follows: false,
-    }
-}
-
-/// Whether names stand before the lines of so many files.
-fn has_name(asked: Option<bool>, count: usize) -> bool
-    ensures { result ≡ unwrap_or asked (nat_lt 1 count) }
-{
-    match asked {
-        Some(with_name) => with_name,
-        None => count > 1,
     }
 }
 

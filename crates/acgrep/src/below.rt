@@ -1,0 +1,116 @@
+//! Searching the files that operands name, with those below folders where that is asked for.
+
+use crate::files::Files;
+use crate::folders::Folders;
+use crate::open::Open;
+use crate::options::Flags;
+use crate::run::{job_of, search_by};
+use crate::searcher::Searcher;
+use crate::tell::{tell_fault, tell_memory};
+use crate::walk::{Unread, walk};
+use chromesquid::Sink;
+use programs::errors::Errors;
+use std::alloc::{AllocError, Global};
+use std::io::Read;
+
+/// Searches the files that these operands name.
+pub fn search_operands<F: Open + Folders, R: Read, W: Sink, E: Sink>(
+    searcher: &Searcher,
+    flags: &Flags,
+    terminal: bool,
+    operands: &Files<'_, F>,
+    input: &mut R,
+    output: &mut W,
+    errors: &mut Errors<'_, E>,
+) -> u8 {
+    if flags.recursive {
+        return search_below(searcher, flags, terminal, operands, input, output, errors);
+    }
+    let job = job_of(flags, terminal, operands.names.len() > 1);
+    search_by(searcher, &job, operands, input, output, errors)
+}
+
+/// Searches them, and the files below those that are folders.
+fn search_below<F: Open + Folders, R: Read, W: Sink, E: Sink>(
+    searcher: &Searcher,
+    flags: &Flags,
+    terminal: bool,
+    operands: &Files<'_, F>,
+    input: &mut R,
+    output: &mut W,
+    errors: &mut Errors<'_, E>,
+) -> u8 {
+    let Ok(found) = walk(operands.alloc, operands.files, operands.names) else {
+        tell_memory(errors);
+        return 2;
+    };
+    let Ok(names) = slices_of(operands.alloc, found.names.as_slice()) else {
+        tell_memory(errors);
+        return 2;
+    };
+    let job = job_of(
+        flags,
+        terminal,
+        !is_alone(operands.names, names.as_slice()),
+    );
+    let named = Files {
+        alloc: operands.alloc,
+        names: names.as_slice(),
+        files: operands.files,
+    };
+    tell_each(flags.no_messages, found.unread.as_slice(), errors);
+    let status = search_found(searcher, &job, &named, input, output, errors);
+    status_below(flags.quiet, found.unread.is_empty(), status)
+}
+
+/// The status of a search, by whether all could be read: an error goes before all but a selected line under `-q`.
+fn status_below(quiet: bool, all: bool, status: u8) -> u8 {
+    if all || quiet && status == 0 {
+        status
+    } else {
+        2
+    }
+}
+
+/// Searches these files. Where there is none, standard input is not read.
+fn search_found<F: Open, R: Read, W: Sink, E: Sink>(
+    searcher: &Searcher,
+    job: &crate::select::Job<'_>,
+    files: &Files<'_, F>,
+    input: &mut R,
+    output: &mut W,
+    errors: &mut Errors<'_, E>,
+) -> u8 {
+    if files.names.is_empty() {
+        return 1;
+    }
+    search_by(searcher, job, files, input, output, errors)
+}
+
+/// Tells what cannot be looked at, and which folders cannot be read, if that is asked for.
+fn tell_each<E: Sink>(hushed: bool, unread: &[Unread], errors: &mut Errors<'_, E>) {
+    if hushed {
+        return;
+    }
+    let mut rest = unread;
+    while let Some((first, behind)) = rest.split_first() {
+        tell_fault(first.name.as_slice(), first.reason, errors);
+        rest = behind;
+    }
+}
+
+/// Whether the only operand is the only file.
+fn is_alone(operands: &[&[u8]], files: &[&[u8]]) -> bool {
+    operands.len() == 1 && files.len() == 1 && operands[0] == files[0]
+}
+
+/// The bytes of these names.
+fn slices_of(alloc: Global, names: &[Vec<u8>]) -> Result<Vec<&[u8]>, AllocError> {
+    let mut slices = Vec::new(alloc);
+    let mut rest = names;
+    while let Some((first, behind)) = rest.split_first() {
+        slices.push(first.as_slice())?;
+        rest = behind;
+    }
+    Ok(slices)
+}
