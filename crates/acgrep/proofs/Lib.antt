@@ -19,6 +19,7 @@ pub mod NoneInLines
 pub mod Numbers
 pub mod Objected
 pub mod PlacesBehind
+pub mod Reaching
 pub mod Statuses
 pub mod Stepped
 pub mod Streams
@@ -26,6 +27,7 @@ pub mod StreamsBegun
 pub mod Tellings
 pub mod Unselected
 pub mod Walked
+pub mod Walking
 pub mod Whole
 pub mod WordLists
 mod Told

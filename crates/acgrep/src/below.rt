@@ -1,11 +1,24 @@
 //! Searching the files that operands name, with those below folders where that is asked for.
 
+ghost use Rattle.std.specs.Prelude.{◌≡◌, ◌≤◌, ◌<◌, IfOk, false, true};
+ghost use Rattle.aho_core.specs.Patterns.{Patterns};
+ghost use Rattle.programs.specs.Names.{name_bytes};
+ghost use Rattle.acgrep.specs.Files.{AreFilesBegun, AreSearchedOr};
+ghost use Rattle.acgrep.specs.Folders.{known_by, missed_of, tree_of};
+ghost use Rattle.acgrep.specs.Listed.{bytes_of};
+ghost use Rattle.acgrep.specs.Reached.{TellsMissed};
+ghost use Rattle.acgrep.specs.Runs.{BeginsOrKeeps, SearchesReached, is_alone, status_reached};
+ghost use Rattle.acgrep.specs.Searchers.{IsSearcherOf};
+ghost use Rattle.acgrep.specs.Selected.{ForLines};
+ghost use Rattle.acgrep.specs.Told.{TellsOfFiles, TellsOfReached};
+
 use crate::files::Files;
 use crate::folders::Folders;
 use crate::open::Open;
 use crate::options::Flags;
 use crate::run::{job_of, search_by};
 use crate::searcher::Searcher;
+use crate::select::Job;
 use crate::tell::{tell_fault, tell_memory};
 use crate::walk::{Unread, walk};
 use chromesquid::Sink;
@@ -22,7 +35,20 @@ pub fn search_operands<F: Open + Folders, R: Read, W: Sink, E: Sink>(
     input: &mut R,
     output: &mut W,
     errors: &mut Errors<'_, E>,
-) -> u8 {
+) -> u8
+    requires of { (p : Patterns) × IsSearcherOf p searcher.now }
+    ensures bound { result ≤ 2 }
+    ensures searched { ForLines (λ p. IsSearcherOf p searcher.now) (λ p. result < 2
+        → SearchesReached (known_by F.Open F.Folders operands.now.files.now) terminal flags.now p
+        (name_bytes operands.now.names.now) (R.remaining input.old) (R.remaining input.new)
+        (W.taken output.old) (W.taken output.new) result) }
+    ensures begun { ForLines (λ p. IsSearcherOf p searcher.now) (λ p.
+        BeginsOrKeeps (known_by F.Open F.Folders operands.now.files.now) terminal flags.now p
+        (name_bytes operands.now.names.now) (R.remaining input.old)
+        (W.taken output.old) (W.taken output.new)) }
+    ensures told { TellsOfReached E.Sink (tree_of F.Folders operands.now.files.now) flags.now
+        (name_bytes operands.now.names.now) result errors.old errors.new }
+{
     if flags.recursive {
         return search_below(searcher, flags, terminal, operands, input, output, errors);
     }
@@ -39,7 +65,21 @@ fn search_below<F: Open + Folders, R: Read, W: Sink, E: Sink>(
     input: &mut R,
     output: &mut W,
     errors: &mut Errors<'_, E>,
-) -> u8 {
+) -> u8
+    requires of { (p : Patterns) × IsSearcherOf p searcher.now }
+    requires recursive { flags.now.recursive ≡ true }
+    ensures bound { result ≤ 2 }
+    ensures searched { ForLines (λ p. IsSearcherOf p searcher.now) (λ p. result < 2
+        → SearchesReached (known_by F.Open F.Folders operands.now.files.now) terminal flags.now p
+        (name_bytes operands.now.names.now) (R.remaining input.old) (R.remaining input.new)
+        (W.taken output.old) (W.taken output.new) result) }
+    ensures begun { ForLines (λ p. IsSearcherOf p searcher.now) (λ p.
+        BeginsOrKeeps (known_by F.Open F.Folders operands.now.files.now) terminal flags.now p
+        (name_bytes operands.now.names.now) (R.remaining input.old)
+        (W.taken output.old) (W.taken output.new)) }
+    ensures told { TellsOfReached E.Sink (tree_of F.Folders operands.now.files.now) flags.now
+        (name_bytes operands.now.names.now) result errors.old errors.new }
+{
     let Ok(found) = walk(operands.alloc, operands.files, operands.names) else {
         tell_memory(errors);
         return 2;
@@ -60,12 +100,14 @@ fn search_below<F: Open + Folders, R: Read, W: Sink, E: Sink>(
     };
     tell_each(flags.no_messages, found.unread.as_slice(), errors);
     let status = search_found(searcher, &job, &named, input, output, errors);
-    status_below(flags.quiet, found.unread.is_empty(), status)
+    status_below(flags, found.unread.as_slice(), status)
 }
 
 /// The status of a search, by whether all could be read: an error goes before all but a selected line under `-q`.
-fn status_below(quiet: bool, all: bool, status: u8) -> u8 {
-    if all || quiet && status == 0 {
+fn status_below(flags: &Flags, unread: &[Unread], status: u8) -> u8
+    ensures status { result ≡ status_reached flags.now (missed_of unread.now) status }
+{
+    if unread.is_empty() || flags.quiet && status == 0 {
         status
     } else {
         2
@@ -75,12 +117,24 @@ fn status_below(quiet: bool, all: bool, status: u8) -> u8 {
 /// Searches these files. Where there is none, standard input is not read.
 fn search_found<F: Open, R: Read, W: Sink, E: Sink>(
     searcher: &Searcher,
-    job: &crate::select::Job<'_>,
+    job: &Job<'_>,
     files: &Files<'_, F>,
     input: &mut R,
     output: &mut W,
     errors: &mut Errors<'_, E>,
-) -> u8 {
+) -> u8
+    requires of { (p : Patterns) × IsSearcherOf p searcher.now }
+    ensures bound { result ≤ 2 }
+    ensures searched { ForLines (λ p. IsSearcherOf p searcher.now) (λ p. result < 2
+        → AreSearchedOr p job.now (F.holds files.now.files.now) (name_bytes files.now.names.now)
+        (R.remaining input.old) (R.remaining input.new)
+        (W.taken output.old) (W.taken output.new) result) }
+    ensures begun { ForLines (λ p. IsSearcherOf p searcher.now) (λ p.
+        AreFilesBegun p job.now false (F.holds files.now.files.now) (name_bytes files.now.names.now)
+        (R.remaining input.old) (W.taken output.old) (W.taken output.new)) }
+    ensures told { TellsOfFiles E.Sink job.now.hushed (name_bytes files.now.names.now)
+        job.now.shown result errors.old errors.new }
+{
     if files.names.is_empty() {
         return 1;
     }
@@ -88,7 +142,9 @@ fn search_found<F: Open, R: Read, W: Sink, E: Sink>(
 }
 
 /// Tells what cannot be looked at, and which folders cannot be read, if that is asked for.
-fn tell_each<E: Sink>(hushed: bool, unread: &[Unread], errors: &mut Errors<'_, E>) {
+fn tell_each<E: Sink>(hushed: bool, unread: &[Unread], errors: &mut Errors<'_, E>)
+    ensures told { TellsMissed E.Sink hushed (missed_of unread.now) errors.old errors.new }
+{
     if hushed {
         return;
     }
@@ -100,12 +156,16 @@ fn tell_each<E: Sink>(hushed: bool, unread: &[Unread], errors: &mut Errors<'_, E
 }
 
 /// Whether the only operand is the only file.
-fn is_alone(operands: &[&[u8]], files: &[&[u8]]) -> bool {
+fn is_alone(operands: &[&[u8]], files: &[&[u8]]) -> bool
+    ensures { result ≡ is_alone (name_bytes operands.now) (name_bytes files.now) }
+{
     operands.len() == 1 && files.len() == 1 && operands[0] == files[0]
 }
 
 /// The bytes of these names.
-fn slices_of(alloc: Global, names: &[Vec<u8>]) -> Result<Vec<&[u8]>, AllocError> {
+fn slices_of(alloc: Global, names: &[Vec<u8>]) -> Result<Vec<&[u8]>, AllocError>
+    ensures slices { IfOk result (λ slices. name_bytes slices.items ≡ bytes_of names.now) }
+{
     let mut slices = Vec::new(alloc);
     let mut rest = names;
     while let Some((first, behind)) = rest.split_first() {

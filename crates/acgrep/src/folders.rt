@@ -1,8 +1,8 @@
 //! What looks at names, and lists folders.
 
-ghost use Rattle.std.specs.Prelude.{ℕ, Bool, List, Option, None, IfOk, IfSome};
+ghost use Rattle.std.specs.Prelude.{◌≡◌, ℕ, Bool, List, Option, None, IfOk, IfSome};
 ghost use Rattle.std.specs.List.Sorted.{IsPermutation};
-ghost use Rattle.acgrep.specs.Folders.{bytes_of};
+ghost use Rattle.acgrep.specs.Listed.{bytes_of};
 ghost use Rattle.acgrep.specs.declared.folders.Kind.{Kind};
 
 use crate::open::System;

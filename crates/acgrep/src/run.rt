@@ -9,9 +9,10 @@ ghost use Rattle.programs.specs.Arguments.{texts};
 ghost use Rattle.acgrep.specs.Arguments.{said, said_by};
 ghost use Rattle.programs.specs.Names.{name_bytes};
 ghost use Rattle.programs.specs.Telling.{Tells, TellsSome};
-ghost use Rattle.acgrep.specs.Told.{MayTell, TellsCause, TellsOfCall, TellsOfFiles, TellsOfSearch, TellsOfText, TellsRefusal, is_hushed, names_said};
+ghost use Rattle.acgrep.specs.Told.{MaySaid, MayTell, TellsCause, TellsOfCall, TellsOfFiles, TellsOfSearch, TellsOfText, TellsRefusal, is_hushed};
 ghost use Rattle.acgrep.specs.Mistakes.{TellsLacking, TellsMistake, TellsNoPattern, TellsRefused};
 ghost use Rattle.acgrep.specs.Files.{AreFilesBegun, AreSearchedOr, files_named};
+ghost use Rattle.acgrep.specs.Folders.{known_by, tree_of};
 ghost use Rattle.acgrep.specs.Runs.{AsksToSearch, BeginsSearch, BeginsFor, GivesNone, IfSaid, IsJob, Searches, SearchesFor, SearchesSaid, are_empty, asks_none, inverts, is_colored, kind_sought, knows_none, origins_of, selects_none, status_told, takes_any, words_sought};
 ghost use Rattle.acgrep.specs.Searchers.{IsSearcherOf};
 ghost use Rattle.acgrep.specs.Selected.{ForLines};
@@ -64,23 +65,23 @@ pub fn run<F: Open + Folders, R: Read, W: Sink, E: Sink>(
 
     // Where the status tells of no error, the patterns were searched for in the files, one after another.
     ensures searches { IfSaid arguments.now (λ said. AsksToSearch said.flags → result < 2
-        → Searches (F.holds files.now) terminal said
+        → Searches (known_by F.Open F.Folders files.now) terminal said
         (R.remaining input.old) (R.remaining input.new)
         (W.taken output.old) (W.taken output.new) result) }
 
     // Whatever the status, what is written is a beginning of what is asked: the files are told one after another, and one that
     // cannot be read, or to whose end the output cannot be written, by some first lines and a beginning of what follows.
     ensures begins { IfSaid arguments.now (λ said. AsksToSearch said.flags
-        → BeginsSearch (F.holds files.now) terminal said
+        → BeginsSearch (known_by F.Open F.Folders files.now) terminal said
         (R.remaining input.old) (W.taken output.old) (W.taken output.new)) }
 
     // Where the status tells of no error nothing is told, but under `-q` of files that cannot be read. Where it tells of one, a line
     // says why: whole, unless writing it failed. Under `-s` no line names a file that is searched, and there may be none.
-    ensures tells { Tells E.Sink (MayTell (names_said (said_by (texts arguments.now)))) errors.old errors.new }
+    ensures tells { Tells E.Sink (MaySaid (tree_of F.Folders files.now) (said_by (texts arguments.now))) errors.old errors.new }
     ensures silent { IfSaid arguments.now (λ said. said.flags.quiet ≡ false
         → result < 2 → errors.new ≡ errors.old) }
     ensures says_why { is_hushed (said_by (texts arguments.now)) ≡ false → result ≡ 2
-        → TellsSome E.Sink (MayTell (names_said (said_by (texts arguments.now))))
+        → TellsSome E.Sink (MaySaid (tree_of F.Folders files.now) (said_by (texts arguments.now)))
         errors.old errors.new }
 
     // All output was flushed where the status tells of no error.
@@ -157,13 +158,13 @@ fn answer<F: Open + Folders, R: Read, W: Sink, E: Sink>(
     ensures lacking { AsksToSearch given.now.flags → GivesNone (said given.now)
         → TellsNoPattern E.Sink errors.old errors.new }
     ensures searches { AsksToSearch given.now.flags → result < 2
-        → Searches (F.holds files.now) terminal (said given.now)
+        → Searches (known_by F.Open F.Folders files.now) terminal (said given.now)
         (R.remaining input.old) (R.remaining input.new)
         (W.taken output.old) (W.taken output.new) result }
     ensures begins { AsksToSearch given.now.flags
-        → BeginsSearch (F.holds files.now) terminal (said given.now)
+        → BeginsSearch (known_by F.Open F.Folders files.now) terminal (said given.now)
         (R.remaining input.old) (W.taken output.old) (W.taken output.new) }
-    ensures told { TellsOfCall E.Sink (said given.now) result errors.old errors.new }
+    ensures told { TellsOfCall E.Sink (tree_of F.Folders files.now) (said given.now) result errors.old errors.new }
 {
     if given.flags.version {
         return write_text(VERSION, output, errors);
@@ -199,12 +200,12 @@ fn search_asked<F: Open + Folders, R: Read, W: Sink, E: Sink>(
     ensures patternless { GivesNone (said given.now) → result ≡ 2 }
     ensures lacking { GivesNone (said given.now)
         → TellsNoPattern E.Sink errors.old errors.new }
-    ensures searches { result < 2 → SearchesSaid (F.holds files.now) terminal (said given.now)
+    ensures searches { result < 2 → SearchesSaid (known_by F.Open F.Folders files.now) terminal (said given.now)
         (R.remaining input.old) (R.remaining input.new)
         (W.taken output.old) (W.taken output.new) result }
-    ensures begins { BeginsSearch (F.holds files.now) terminal (said given.now)
+    ensures begins { BeginsSearch (known_by F.Open F.Folders files.now) terminal (said given.now)
         (R.remaining input.old) (W.taken output.old) (W.taken output.new) }
-    ensures told { TellsOfCall E.Sink (said given.now) result errors.old errors.new }
+    ensures told { TellsOfCall E.Sink (tree_of F.Folders files.now) (said given.now) result errors.old errors.new }
 {
     let flags = &given.flags;
     let sources = given.sources.as_slice();
@@ -260,15 +261,15 @@ fn search<F: Open + Folders, R: Read, W: Sink, E: Sink>(
     errors: &mut Errors<'_, E>,
 ) -> u8
     ensures bound { result ≤ 2 }
-    ensures searches { result < 2 → SearchesFor (F.holds files.now) terminal flags.now
+    ensures searches { result < 2 → SearchesFor (known_by F.Open F.Folders files.now) terminal flags.now
         (origins_of sources.now) (name_bytes names.now)
         (R.remaining input.old) (R.remaining input.new)
         (W.taken output.old) (W.taken output.new) result }
-    ensures begins { BeginsFor (F.holds files.now) terminal flags.now
+    ensures begins { BeginsFor (known_by F.Open F.Folders files.now) terminal flags.now
         (origins_of sources.now) (name_bytes names.now)
         (R.remaining input.old) (W.taken output.old) (W.taken output.new) }
-    ensures told { TellsOfSearch E.Sink flags.now (origins_of sources.now) (name_bytes names.now)
-        result errors.old errors.new }
+    ensures told { TellsOfSearch E.Sink (tree_of F.Folders files.now) flags.now
+        (origins_of sources.now) (name_bytes names.now) result errors.old errors.new }
 {
     let Some(keys) = read_keys(alloc, sources, files, input, errors) else {
         return 2;

@@ -8,7 +8,8 @@ use Rattle.acgrep.specs.Runs.{BeginsFor, SearchesFor, names_by, origins_of, sour
 use Rattle.acgrep.specs.declared.arguments.Source.{Source}
 use Rattle.programs.proofs.Lines.{some-one}
 use Rattle.acgrep.specs.Arguments.{Origin, said, shown_by}
-use Rattle.acgrep.specs.Told.{MayTell, TellsOfSearch, names_said, wrong_parts}
+use Rattle.acgrep.specs.Folders.{known_by, tree_of}
+use Rattle.acgrep.specs.Told.{MaySaid, TellsOfSearch, wrong_parts}
 use Rattle.acgrep.specs.declared.arguments.Wrong.TheVariants.{NoPattern}
 use Rattle.acgrep.proofs.Told.{status-some}
 use Rattle.acgrep.proofs.run.search_asked.Goals as goal
@@ -18,9 +19,10 @@ returns-in-None-clause-begins g c = inl (Keeps-refl (g.W.Sink.taken c.args.outpu
 
 pub returns-in-None-clause-told : goal.returns-in-None-clause-told
 returns-in-None-clause-told g c =
-    let names = names_said (Some (said c.args.given.now)) in
-    status-some g.E.Sink (MayTell names) c.args.given.now.flags.no_messages (shown_by c.args.given.now.flags) c.args.errors.now c.tell_wrong.new.errors
-    (some-one g.E.Sink (MayTell names) c.args.errors.now c.tell_wrong.new.errors (concat (wrong_parts NoPattern)) (inr (NoPattern, refl)) c.tell_wrong.ensures.told)
+    let tree = tree_of g.F.Folders c.args.files.now in
+    let May = MaySaid tree (Some (said c.args.given.now)) in
+    status-some g.E.Sink May c.args.given.now.flags.no_messages (shown_by c.args.given.now.flags) c.args.errors.now c.tell_wrong.new.errors
+    (some-one g.E.Sink May c.args.errors.now c.tell_wrong.new.errors (concat (wrong_parts NoPattern)) (inl (inr (NoPattern, refl))) c.tell_wrong.ensures.told)
 
 -- where options give patterns, all operands name files
 all-named : (P : List Origin → List (List ℕ) → Type 0) (sources : List Source) (operands : List (List ℕ)) → 0 < length sources → P (origins_of sources) operands
@@ -37,26 +39,26 @@ as-given P sources items operands names same alike some is =
 
 pub returns-then-not-is_empty-clause-begins : goal.returns-then-not-is_empty-clause-begins
 returns-then-not-is_empty-clause-begins g c =
-    let holds = g.F.Open.holds c.args.files.now in
+    let known = known_by g.F.Open g.F.Folders c.args.files.now in
     let flags = c.args.given.now.flags in
     let left = g.R.Read.remaining c.args.input.now in
     let held = g.W.Sink.taken c.args.output.now in
     let held' = g.W.Sink.taken c.search.new.output in
     let some : 0 < length c.as_slice-sources.result.now = grind (arith, common_steps, c.is_empty.ensures, c.if-not-is_empty.true) in
-    as-given (λ (sources : List Origin) (names : List (List ℕ)). BeginsFor holds c.args.terminal flags sources names left held held')
+    as-given (λ (sources : List Origin) (names : List (List ℕ)). BeginsFor known c.args.terminal flags sources names left held held')
     c.as_slice-sources.result.now c.args.given.now.sources.items c.as_slice-operands.result.now c.args.given.now.operands.items
     c.as_slice-sources.ensures.value c.as_slice-operands.ensures.value some c.search.ensures.begins
 
 pub returns-then-not-is_empty-clause-searches : goal.returns-then-not-is_empty-clause-searches
 returns-then-not-is_empty-clause-searches g c = λ low.
-    let holds = g.F.Open.holds c.args.files.now in
+    let known = known_by g.F.Open g.F.Folders c.args.files.now in
     let flags = c.args.given.now.flags in
     let left = g.R.Read.remaining c.args.input.now in
     let left' = g.R.Read.remaining c.search.new.input in
     let held = g.W.Sink.taken c.args.output.now in
     let held' = g.W.Sink.taken c.search.new.output in
     let some : 0 < length c.as_slice-sources.result.now = grind (arith, common_steps, c.is_empty.ensures, c.if-not-is_empty.true) in
-    as-given (λ (sources : List Origin) (names : List (List ℕ)). SearchesFor holds c.args.terminal flags sources names left left' held held' c.search.result)
+    as-given (λ (sources : List Origin) (names : List (List ℕ)). SearchesFor known c.args.terminal flags sources names left left' held held' c.search.result)
     c.as_slice-sources.result.now c.args.given.now.sources.items c.as_slice-operands.result.now c.args.given.now.operands.items
     c.as_slice-sources.ensures.value c.as_slice-operands.ensures.value some (c.search.ensures.searches low)
 
@@ -64,6 +66,6 @@ pub returns-then-not-is_empty-clause-told : goal.returns-then-not-is_empty-claus
 returns-then-not-is_empty-clause-told g c =
     let flags = c.args.given.now.flags in
     let some : 0 < length c.as_slice-sources.result.now = grind (arith, common_steps, c.is_empty.ensures, c.if-not-is_empty.true) in
-    as-given (λ (sources : List Origin) (names : List (List ℕ)). TellsOfSearch g.E.Sink flags sources names c.search.result c.args.errors.now c.search.new.errors)
+    as-given (λ (sources : List Origin) (names : List (List ℕ)). TellsOfSearch g.E.Sink (tree_of g.F.Folders c.args.files.now) flags sources names c.search.result c.args.errors.now c.search.new.errors)
     c.as_slice-sources.result.now c.args.given.now.sources.items c.as_slice-operands.result.now c.args.given.now.operands.items
     c.as_slice-sources.ensures.value c.as_slice-operands.ensures.value some c.search.ensures.told
