@@ -1,5 +1,5 @@
 -- Without a pattern nothing is written.
-use Rattle.std.proofs.Common.{◌≡◌, Some, inl, inr, refl, ℕ, ◌<◌, List, [], ◌∷◌, Bor, length, subst, arith}
+use Rattle.std.proofs.Common.{◌≡◌, Some, inl, inr, refl, ℕ, ◌<◌, List, [], ◌∷◌, Bor, length, subst, sym, ◌∙◌, arith}
 use Rattle.std.proofs.KnownBytes.{Keeps-refl}
 use Rattle.std.proofs.lemmas.Grind.{common_steps}
 use Rattle.std.specs.List.{concat}
@@ -12,6 +12,7 @@ use Rattle.acgrep.specs.Folders.{known_by, tree_of}
 use Rattle.acgrep.specs.Told.{MaySaid, TellsOfSearch, wrong_parts}
 use Rattle.acgrep.specs.declared.arguments.Wrong.TheVariants.{NoPattern}
 use Rattle.acgrep.proofs.Told.{status-some}
+use Rattle.acgrep.proofs.Walking.{all-gone}
 use Rattle.acgrep.proofs.run.search_asked.Goals as goal
 
 pub returns-in-None-clause-begins : goal.returns-in-None-clause-begins
@@ -69,3 +70,19 @@ returns-then-not-is_empty-clause-told g c =
     as-given (λ (sources : List Origin) (names : List (List ℕ)). TellsOfSearch g.E.Sink (tree_of g.F.Folders c.args.files.now) flags sources names c.search.result c.args.errors.now c.search.new.errors)
     c.as_slice-sources.result.now c.args.given.now.sources.items c.as_slice-operands.result.now c.args.given.now.operands.items
     c.as_slice-sources.ensures.value c.as_slice-operands.ensures.value some c.search.ensures.told
+
+-- where none does the first operand gives them
+as-first : (P : List Origin → List (List ℕ) → Type 0) (items : List Source) (operands : List (Bor (List ℕ))) (pattern : Bor (List ℕ)) (names : List (Bor (List ℕ))) → items ≡ [] → operands ≡ pattern ∷ names
+    → P (record { is_file = false; bytes = pattern.now } ∷ []) (name_bytes names) → P (sources_by (origins_of items) (name_bytes operands)) (names_by (origins_of items) (name_bytes operands))
+as-first P items operands pattern names none cut is =
+    subst (λ (l : List Source). P (sources_by (origins_of l) (name_bytes operands)) (names_by (origins_of l) (name_bytes operands))) (sym none)
+    (subst (λ (l : List (Bor (List ℕ))). P (sources_by [] (name_bytes l)) (names_by [] (name_bytes l))) (sym cut) is)
+
+pub returns-in-Some-clause-told : goal.returns-in-Some-clause-told
+returns-in-Some-clause-told g c =
+    let given = c.args.given.now in
+    let empty : length c.as_slice-sources.result.now ≡ 0 = grind (arith, common_steps, c.is_empty.ensures, c.if-not-is_empty.false) in
+    let none : given.sources.items ≡ [] = sym c.as_slice-sources.ensures.value ∙ all-gone c.as_slice-sources.result.now empty in
+    let cut : given.operands.items ≡ c.in-Some.pattern.now ∷ c.in-Some.names.now = sym c.as_slice-operands.ensures.value ∙ c.in-Some.ensures.cases.0 in
+    as-first (λ (sources : List Origin) (names : List (List ℕ)). TellsOfSearch g.E.Sink (tree_of g.F.Folders c.args.files.now) given.flags sources names c.search-in-Some.result c.args.errors.now c.search-in-Some.new.errors)
+    given.sources.items given.operands.items c.in-Some.pattern.now c.in-Some.names.now none cut c.search-in-Some.ensures.told
