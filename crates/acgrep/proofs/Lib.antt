@@ -21,6 +21,7 @@ pub mod NoneInLines
 pub mod Numbers
 pub mod Objected
 pub mod PlacesBehind
+pub mod Reaching
 pub mod Statuses
 pub mod Stepped
 pub mod Streams
@@ -28,6 +29,7 @@ pub mod StreamsBegun
 pub mod Tellings
 pub mod Unselected
 pub mod Walked
+pub mod Walking
 pub mod Whole
 pub mod WordLists
 mod Told

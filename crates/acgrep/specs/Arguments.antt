@@ -17,7 +17,7 @@ use Rattle.acgrep.specs.declared.long.Valued.TheVariants.{Regexp, PatternFile, K
 use Rattle.acgrep.specs.declared.options.Color.{Color}
 use Rattle.acgrep.specs.declared.options.Context.{Context}
 use Rattle.acgrep.specs.declared.options.Switch.{Switch}
-use Rattle.acgrep.specs.declared.options.Switch.TheVariants.{IgnoreCase, MatchCase, Invert, WholeWords, WholeLines, Counts, Numbers, OnlyMatching, Offsets, OnlyNames, OnlyLacking, NullNames, Quiet, NoSeparator, InitialTab, Json, NoName, WithName, NoMatchOk, NoMessages, Help, Version, Same}
+use Rattle.acgrep.specs.declared.options.Switch.TheVariants.{IgnoreCase, MatchCase, Invert, WholeWords, WholeLines, Counts, Numbers, OnlyMatching, Offsets, OnlyNames, OnlyLacking, Recursive, NullNames, Quiet, NoSeparator, InitialTab, Json, NoName, WithName, NoMatchOk, NoMessages, Help, Version, Same}
 use Rattle.acgrep.specs.declared.arguments.Awaited.{Awaited}
 use Rattle.acgrep.specs.declared.arguments.Awaited.TheVariants.{Fresh, Argument, Operands}
 use Rattle.acgrep.specs.declared.arguments.Refusal.{Refusal}
@@ -74,6 +74,7 @@ switch_by letter =
     else if letter == 98 then Some Offsets
     else if letter == 108 then Some OnlyNames
     else if letter == 76 then Some OnlyLacking
+    else if letter == 114 then Some Recursive
     else if letter == 90 then Some NullNames
     else if letter == 84 then Some InitialTab
     else if letter == 113 then Some Quiet
@@ -97,6 +98,7 @@ switched OnlyMatching flags = record flags { only_matching = true }
 switched Offsets flags = record flags { offset = true }
 switched OnlyNames flags = record flags { names = true; lacking = false }
 switched OnlyLacking flags = record flags { names = false; lacking = true }
+switched Recursive flags = record flags { recursive = true }
 switched NullNames flags = record flags { null = true }
 switched Quiet flags = record flags { quiet = true }
 switched NoSeparator flags = record flags { joined = true }
@@ -330,6 +332,7 @@ no_flags = record {
   offset = false;
   names = false;
   lacking = false;
+  recursive = false;
   null = false;
   quiet = false;
   after = None;

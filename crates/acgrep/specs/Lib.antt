@@ -4,14 +4,17 @@ pub mod Base64
 pub mod Contexts
 pub mod Files
 pub mod Filled
+pub mod Folders
 pub mod Formats
 pub mod Lines
+pub mod Listed
 pub mod Loading
 pub mod Long
 pub mod Mistakes
 pub mod Objects
 pub mod Origins
 pub mod Printed
+pub mod Reached
 pub mod Runs
 pub mod Searched
 pub mod Searchers

@@ -12,8 +12,9 @@ use Rattle.programs.specs.declared.errors.Errors.{Errors}
 use Rattle.programs.specs.declared.reason.Reason.{Reason}
 use Rattle.acgrep.specs.Arguments.{Origin, Said, shown_by}
 use Rattle.acgrep.specs.Files.{shown_name}
+use Rattle.acgrep.specs.Folders.{Tree}
 use Rattle.acgrep.specs.Formats.{unknown_in}
-use Rattle.acgrep.specs.Runs.{names_by, origins_of, sources_by}
+use Rattle.acgrep.specs.Runs.{AreReached, names_by, origins_of, sources_by}
 use Rattle.acgrep.specs.declared.arguments.Source.{Source}
 use Rattle.acgrep.specs.declared.arguments.Wrong.{Wrong}
 use Rattle.acgrep.specs.declared.arguments.Wrong.TheVariants.{NotText, NoPattern, UnknownLetter, UnknownName, Ambiguous, NoArgument, TakesNone, UnknownKind, UnknownColor, UnknownField, NoNumber}
@@ -153,6 +154,14 @@ abbrev pub is_hushed : Option Said → Bool
 is_hushed None = false
 is_hushed (Some said) = said.flags.no_messages
 
+-- a line of a recursive call may name a file that an operand names, or what cannot be looked at or read
+pub record NamesReached (tree : Tree) (given : Said) (names : List (List ℕ)) (line : List ℕ) : Type 0 where
+  pub recursive : given.flags.recursive ≡ true
+  pub files : List (List ℕ)
+  pub unread : List (List ℕ)
+  pub reached : AreReached tree given.flags names files unread
+  pub message : IsMessage (if given.flags.no_messages then [] else (shown_names given.label files ++ unread)) line
+
 -- a file that cannot be read, or nothing more can be searched
 abbrev pub stopped_if : Bool → Outcome
 stopped_if false = Unread
@@ -161,6 +170,15 @@ stopped_if true = Stopped
 -- a line that a call may write to standard error whose arguments name these files
 abbrev pub MayTell : List (List ℕ) → List ℕ → Type 0
 MayTell names line = IsMessage names line ⊎ IsUsage line
+
+-- or, where a search is recursive, such a line
+abbrev pub MaySay : Tree → Said → List Origin → List (List ℕ) → List ℕ → Type 0
+MaySay tree given sources names line =
+    MayTell (names_told given.flags.no_messages given.label sources names) line ⊎ NamesReached tree given names line
+
+abbrev pub MaySaid : Tree → Option Said → List ℕ → Type 0
+MaySaid tree None line = MayTell [] line
+MaySaid tree (Some said) line = MaySay tree said (sources_by said.sources said.operands) (names_by said.sources said.operands) line
 
 -- where `hushed` is so nothing is told of files that cannot be read
 module _ {E : Type 0} (K : SinkGhosts E) (IsLine : List ℕ → Type 0) (hushed : Bool) where
@@ -211,10 +229,15 @@ module _ {E : Type 0} (K : SinkGhosts E) where
   TellsOfText status old new = (hushed : Bool) → (shown : Shown) → (names : List (List ℕ)) → TellsStatus K (MayTell names) hushed shown status old new
 
   -- and of a search for the patterns of these sources
-  abbrev pub TellsOfSearch : Said → List Origin → List (List ℕ) → ℕ → Errors E → Errors E → Type 0
-  TellsOfSearch given sources names status old new =
-      TellsStatus K (MayTell (names_told given.flags.no_messages given.label sources names)) given.flags.no_messages (shown_by given.flags) status old new
+  abbrev pub TellsOfSearch : Tree → Said → List Origin → List (List ℕ) → ℕ → Errors E → Errors E → Type 0
+  TellsOfSearch tree given sources names status old new =
+      TellsStatus K (MaySay tree given sources names) given.flags.no_messages (shown_by given.flags) status old new
+
+  -- and of what a search finds for the files that operands name
+  abbrev pub TellsOfReached : Tree → Said → List (List ℕ) → ℕ → Errors E → Errors E → Type 0
+  TellsOfReached tree given names status old new =
+      TellsStatus K (MaySay tree given [] names) given.flags.no_messages (shown_by given.flags) status old new
 
   -- and of a call whose arguments say this
-  abbrev pub TellsOfCall : Said → ℕ → Errors E → Errors E → Type 0
-  TellsOfCall given status old new = TellsStatus K (MayTell (names_said (Some given))) given.flags.no_messages (shown_by given.flags) status old new
+  abbrev pub TellsOfCall : Tree → Said → ℕ → Errors E → Errors E → Type 0
+  TellsOfCall tree given status old new = TellsStatus K (MaySaid tree (Some given)) given.flags.no_messages (shown_by given.flags) status old new

@@ -57,6 +57,12 @@ Output:
   --no-group-separator  no such line
   --color[=WHEN]        color the output: auto, always or never
 
+Folders:
+  -r, --recursive       search the files below each FILE that is a folder, in the
+                        order of their names' bytes; the working folder where no
+                        FILE is given. Links below a folder are not followed, and
+                        devices there are not read
+
 Others:
   -s, --no-messages     do not tell of files that cannot be read
   --no-match-ok         end with 0 where no line is selected too

@@ -7,11 +7,13 @@
 mod alone;
 mod arguments;
 mod base64;
+mod below;
 mod buffer;
 mod context;
 mod failure;
 mod fields;
 mod files;
+mod folders;
 mod format;
 mod held;
 mod help;
@@ -29,6 +31,7 @@ mod select;
 mod stream;
 mod tell;
 mod trail;
+mod walk;
 
 use chromesquid::FromWrite;
 use open::System;

@@ -83,6 +83,8 @@ pub enum Switch {
     OnlyNames,
     /// `-L`
     OnlyLacking,
+    /// `-r`
+    Recursive,
     /// `-Z`
     NullNames,
     /// `-q`
@@ -124,6 +126,7 @@ pub fn switch_of(letter: u8) -> Option<Switch>
         b'b' => Some(Switch::Offsets),
         b'l' => Some(Switch::OnlyNames),
         b'L' => Some(Switch::OnlyLacking),
+        b'r' => Some(Switch::Recursive),
         b'Z' => Some(Switch::NullNames),
         b'T' => Some(Switch::InitialTab),
         b'q' => Some(Switch::Quiet),
@@ -159,6 +162,8 @@ pub struct Flags {
     pub names: bool,
     /// `-L`, and no `-l` behind it: files without one are.
     pub lacking: bool,
+    /// `-r`: the files below folders are searched.
+    pub recursive: bool,
     /// `-Z`: a zero byte stands behind a file's name.
     pub null: bool,
     /// `-q`: nothing is written.
@@ -217,6 +222,7 @@ impl Flags {
             offset: false,
             names: false,
             lacking: false,
+            recursive: false,
             null: false,
             quiet: false,
             after: None,
@@ -334,6 +340,7 @@ impl Flags {
                 flags.names = false;
                 flags.lacking = true;
             }
+            Switch::Recursive => flags.recursive = true,
             Switch::NullNames => flags.null = true,
             Switch::Quiet => flags.quiet = true,
             Switch::NoSeparator => flags.joined = true,
