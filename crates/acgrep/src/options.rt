@@ -85,6 +85,8 @@ pub enum Switch {
     OnlyLacking,
     /// `-r`
     Recursive,
+    /// `-R`
+    Follow,
     /// `-Z`
     NullNames,
     /// `-q`
@@ -125,6 +127,7 @@ pub fn switch_of(letter: u8) -> Option<Switch>
         b'l' => Some(Switch::OnlyNames),
         b'L' => Some(Switch::OnlyLacking),
         b'r' => Some(Switch::Recursive),
+        b'R' => Some(Switch::Follow),
         b'Z' => Some(Switch::NullNames),
         b'q' => Some(Switch::Quiet),
         b's' => Some(Switch::NoMessages),
@@ -159,8 +162,10 @@ pub struct Flags {
     pub names: bool,
     /// `-L`, and no `-l` behind it: files without one are.
     pub lacking: bool,
-    /// `-r`: the files below folders are searched.
+    /// `-r` and `-R`: the files below folders are searched.
     pub recursive: bool,
+    /// `-R`: links below folders are followed too, and devices there are read.
+    pub follow: bool,
     /// `-Z`: a zero byte stands behind a file's name.
     pub null: bool,
     /// `-q`: nothing is written.
@@ -216,6 +221,7 @@ impl Flags {
             names: false,
             lacking: false,
             recursive: false,
+            follow: false,
             null: false,
             quiet: false,
             after: None,
@@ -327,6 +333,10 @@ impl Flags {
                 flags.lacking = true;
             }
             Switch::Recursive => flags.recursive = true,
+            Switch::Follow => {
+                flags.recursive = true;
+                flags.follow = true;
+            }
             Switch::NullNames => flags.null = true,
             Switch::Quiet => flags.quiet = true,
             Switch::NoSeparator => flags.joined = true,
