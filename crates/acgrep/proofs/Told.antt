@@ -21,7 +21,7 @@ use Rattle.acgrep.specs.Arguments.{Said, origin_of}
 use Rattle.acgrep.specs.Files.{is_enough, seen_after, shown_name, status_by}
 use Rattle.acgrep.specs.Folders.{Tree}
 use Rattle.acgrep.specs.Runs.{origins_of}
-use Rattle.acgrep.specs.Told.{IsMessage, IsToldCause, MayName, MaySaid, MayTell, TellsIf, TellsOutcome, TellsStatus, files_told, names_said, shown_names, source_names}
+use Rattle.acgrep.specs.Told.{IsMessage, IsToldCause, MayName, MaySaid, MayTell, TellsIf, TellsOutcome, TellsStatus, files_told, loop_text, names_said, shown_names, source_names}
 use Rattle.acgrep.specs.declared.arguments.Source.{Source}
 use Rattle.acgrep.specs.declared.arguments.Source.TheVariants.{File}
 use Rattle.acgrep.specs.declared.files.Seen.{Seen}
@@ -77,6 +77,13 @@ module _ {E : Type 0} (K : SinkGhosts E) (names : List (List ℕ)) where
       let m : Message = record { name = Some name; line = None; cause = reason_text reason } in
       tells-message old new m may (inl (reason, refl)) told
 
+  -- one of a folder that stands in itself
+  pub tells-loop : (old new : Errors E) (name : List ℕ) → MayName names name
+      → TellsBytes K old new (message_by (codes "acgrep") (record { name = Some name; line = None; cause = loop_text })) → TellsSome K (IsMessage names) old new
+  tells-loop old new name may told =
+      let m : Message = record { name = Some name; line = None; cause = loop_text } in
+      tells-message old new m may (inr (inr (inr refl))) told
+
   -- why the patterns are refused
   pub tells-build : (old new : Errors E) (name : List ℕ) (line : Option ℕ) (error : BuildError) → MayName names name
       → TellsBytes K old new (message_by (codes "acgrep") (record { name = Some name; line = line; cause = build_error_text error })) → TellsSome K (IsMessage names) old new
@@ -89,7 +96,7 @@ module _ {E : Type 0} (K : SinkGhosts E) (names : List (List ℕ)) where
       → TellsBytes K old new (message_by (codes "acgrep") (record { name = Some (codes "search"); line = None; cause = match_error_text error })) → TellsSome K (IsMessage names) old new
   tells-search old new error told =
       let m : Message = record { name = Some (codes "search"); line = None; cause = match_error_text error } in
-      tells-message old new m (inl (inr (inl refl))) (inr (inr (error, refl))) told
+      tells-message old new m (inl (inr (inl refl))) (inr (inr (inl (error, refl)))) told
 
 -- an element of a list is among the names of all
 pub among-at : {X : Type 0} (f : X → List ℕ) (xs : List X) (i : ℕ) (d : X) → i < length xs → IsOneOf (f (get_or xs i d)) (map f xs)

@@ -25,8 +25,8 @@ holds-put tree folder names ordered listed permuted sorted = record { listed = b
     by (Some k) is = IsPermutation-trans k names ordered is permuted
 
 -- no name stands for no file
-nothing-there : (tree : Tree) {files unread : List (List ℕ)} → AreFiles tree [] files unread → (files ≡ []) × (unread ≡ [])
-nothing-there tree none = (refl, refl)
+nothing-there : (tree : Tree) (follow : Bool) {files unread : List (List ℕ)} → AreFiles tree follow [] files unread → (files ≡ []) × (unread ≡ [])
+nothing-there tree follow none = (refl, refl)
 
 -- an element goes from the end of one list to the front of another
 pub moved : {X Y : Type 0} (f : X → Y) (front : List X) (last : X) (behind : List Y) → map f (front ++ (last ∷ [])) ++ behind ≡ map f front ++ (f last ∷ behind)
@@ -41,52 +41,52 @@ sorted-map f lt (x ∷ xs) sorted = λ k d low high.
     let here : get_or (map f (x ∷ xs)) k d ≡ f (get_or (x ∷ xs) k x) = get_or-map f (x ∷ xs) k x d (omega (arith, within)) in
     ap (λ (y : _). lt y (get_or (map f (x ∷ xs)) k d)) next ∙ ap (λ (y : _). lt (f (get_or (x ∷ xs) (k + 1) x)) y) here ∙ sorted k x low within
 
-module _ (tree : Tree) (operands : List (List ℕ)) where
+module _ (tree : Tree) (follow : Bool) (operands : List (List ℕ)) where
   -- a walk goes on
-  pub begins-then : (before after : List Spot) (old new : Found) → Begins tree operands before old → Finds tree before after old new → Begins tree operands after new
+  pub begins-then : (before after : List Spot) (old new : Found) → Begins tree follow operands before old → Finds tree follow before after old new → Begins tree follow operands after new
   begins-then before after old new so_far step = record {
     leads = λ files unread are.
         let all = so_far.leads (step.files ++ files) (step.unread ++ unread) (step.leads files unread are) in
         let names : bytes_of old.names.items ++ (step.files ++ files) ≡ bytes_of new.names.items ++ files = sym (append_assoc (bytes_of old.names.items) step.files files) ∙ ap (λ l. l ++ files) (sym step.names) in
         let others : missed_of old.unread.items ++ (step.unread ++ unread) ≡ missed_of new.unread.items ++ unread = sym (append_assoc (missed_of old.unread.items) step.unread unread) ∙ ap (λ l. l ++ unread) (sym step.missed) in
-        subst (λ (l : List (List ℕ)). AreBelow tree operands (bytes_of new.names.items ++ files) l) others
-        (subst (λ (l : List (List ℕ)). AreBelow tree operands l (missed_of old.unread.items ++ (step.unread ++ unread))) names all);
+        subst (λ (l : List (List ℕ)). AreBelow tree follow operands (bytes_of new.names.items ++ files) l) others
+        (subst (λ (l : List (List ℕ)). AreBelow tree follow operands l (missed_of old.unread.items ++ (step.unread ++ unread))) names all);
   }
 
   -- and ends where nothing is left
-  pub begins-end : (found : Found) → Begins tree operands [] found → AreBelow tree operands (bytes_of found.names.items) (missed_of found.unread.items)
+  pub begins-end : (found : Found) → Begins tree follow operands [] found → AreBelow tree follow operands (bytes_of found.names.items) (missed_of found.unread.items)
   begins-end found so_far =
-      subst (λ (l : List (List ℕ)). AreBelow tree operands (bytes_of found.names.items) l) (append-nil (missed_of found.unread.items))
-      (subst (λ (l : List (List ℕ)). AreBelow tree operands l (missed_of found.unread.items ++ [])) (append-nil (bytes_of found.names.items)) (so_far.leads [] [] none))
+      subst (λ (l : List (List ℕ)). AreBelow tree follow operands (bytes_of found.names.items) l) (append-nil (missed_of found.unread.items))
+      (subst (λ (l : List (List ℕ)). AreBelow tree follow operands l (missed_of found.unread.items ++ [])) (append-nil (bytes_of found.names.items)) (so_far.leads [] [] none))
 
   -- it begins at operands, if there are some
-  pub begins-given : (found : Found) → 0 < length operands → bytes_of found.names.items ≡ [] → missed_of found.unread.items ≡ [] → Begins tree operands (map operand operands) found
+  pub begins-given : (found : Found) → 0 < length operands → bytes_of found.names.items ≡ [] → missed_of found.unread.items ≡ [] → Begins tree follow operands (map operand operands) found
   begins-given found some clean empty = record {
     leads = λ files unread are.
-        subst (λ (l : List (List ℕ)). AreBelow tree operands (l ++ files) (missed_of found.unread.items ++ unread)) (sym clean)
-        (subst (λ (l : List (List ℕ)). AreBelow tree operands files (l ++ unread)) (sym empty) (given operands some files unread are));
+        subst (λ (l : List (List ℕ)). AreBelow tree follow operands (l ++ files) (missed_of found.unread.items ++ unread)) (sym clean)
+        (subst (λ (l : List (List ℕ)). AreBelow tree follow operands files (l ++ unread)) (sym empty) (given operands some files unread are));
   }
     where
-      given : (names : List (List ℕ)) → 0 < length names → (files unread : List (List ℕ)) → AreFiles tree (map operand names) files unread → AreBelow tree names files unread
+      given : (names : List (List ℕ)) → 0 < length names → (files unread : List (List ℕ)) → AreFiles tree follow (map operand names) files unread → AreBelow tree follow names files unread
       given [] some files unread are = absurd (omega (arith, some))
       given (name ∷ names) some files unread are = are
 
 -- or in the working folder
-module _ (tree : Tree) (found : Found) where
+module _ (tree : Tree) (follow : Bool) (found : Found) where
   pub begins-here : (names : List (List ℕ)) (spots : List Spot) → IfSome (tree.lists (codes ".")) (λ known. IsPermutation known names) → PutsInside names [] [] spots
-      → bytes_of found.names.items ≡ [] → missed_of found.unread.items ≡ [] → Begins tree [] spots found
+      → bytes_of found.names.items ≡ [] → missed_of found.unread.items ≡ [] → Begins tree follow [] spots found
   begins-here names spots listed puts clean empty = record {
     leads = λ files unread are.
-        let all : AreFiles tree (map (inside []) puts.ordered) files unread = subst (λ (l : List Spot). AreFiles tree l files unread) (puts.put ∙ append-nil (map (inside []) puts.ordered)) are in
-        subst (λ (l : List (List ℕ)). AreBelow tree [] (l ++ files) (missed_of found.unread.items ++ unread)) (sym clean)
-        (subst (λ (l : List (List ℕ)). AreBelow tree [] files (l ++ unread)) (sym empty) (inl (puts.ordered, holds-put tree (codes ".") names puts.ordered listed puts.permuted puts.sorted, all)));
+        let all : AreFiles tree follow (map (inside []) puts.ordered) files unread = subst (λ (l : List Spot). AreFiles tree follow l files unread) (puts.put ∙ append-nil (map (inside []) puts.ordered)) are in
+        subst (λ (l : List (List ℕ)). AreBelow tree follow [] (l ++ files) (missed_of found.unread.items ++ unread)) (sym clean)
+        (subst (λ (l : List (List ℕ)). AreBelow tree follow [] files (l ++ unread)) (sym empty) (inl (puts.ordered, holds-put tree (codes ".") names puts.ordered listed puts.permuted puts.sorted, all)));
   }
 
   -- which may be unreadable
-  pub begins-nowhere : bytes_of found.names.items ≡ [] → missed_of found.unread.items ≡ codes "." ∷ [] → Begins tree [] [] found
+  pub begins-nowhere : bytes_of found.names.items ≡ [] → missed_of found.unread.items ≡ codes "." ∷ [] → Begins tree follow [] [] found
   begins-nowhere clean missing = record {
     leads = λ files unread are.
-        let (no_files, no_others) = nothing-there tree are in
+        let (no_files, no_others) = nothing-there tree follow are in
         inr (ap (λ l. bytes_of found.names.items ++ l) no_files ∙ append-nil (bytes_of found.names.items) ∙ clean, ap (λ l. missed_of found.unread.items ++ l) no_others ∙ append-nil (missed_of found.unread.items) ∙ missing);
   }
 
@@ -96,8 +96,8 @@ pub enters-put : (tree : Tree) (folder : List ℕ) (names : List (List ℕ)) (be
 enters-put tree folder names before after found listed puts = inl (puts.ordered, holds-put tree folder names puts.ordered listed puts.permuted puts.sorted, puts.put, refl)
 
 -- what is found at a name
-module _ (tree : Tree) (spot : Spot) (spots : List Spot) (old new : Found) where
-  pub finds-input : is_standard spot ≡ true → bytes_of new.names.items ≡ bytes_of old.names.items ++ (spot.name ∷ []) → new.unread ≡ old.unread → Finds tree (spot ∷ spots) spots old new
+module _ (tree : Tree) (follow : Bool) (spot : Spot) (spots : List Spot) (old new : Found) where
+  pub finds-input : is_standard spot ≡ true → bytes_of new.names.items ≡ bytes_of old.names.items ++ (spot.name ∷ []) → new.unread ≡ old.unread → Finds tree follow (spot ∷ spots) spots old new
   finds-input is grown same = record {
     files = spot.name ∷ [];
     unread = [];
@@ -106,17 +106,17 @@ module _ (tree : Tree) (spot : Spot) (spots : List Spot) (old new : Found) where
     leads = λ more others are. input is are;
   }
 
-  pub finds-looked : (kind : Kind) → is_standard spot ≡ false → IsKind tree spot kind → is_folder kind ≡ false → bytes_of new.names.items ≡ bytes_of old.names.items ++ files_by kind spot
-      → new.unread ≡ old.unread → Finds tree (spot ∷ spots) spots old new
+  pub finds-looked : (kind : Kind) → is_standard spot ≡ false → IsKind tree follow spot kind → is_folder kind ≡ false → bytes_of new.names.items ≡ bytes_of old.names.items ++ files_by follow kind spot
+      → new.unread ≡ old.unread → Finds tree follow (spot ∷ spots) spots old new
   finds-looked kind other is plain grown same = record {
-    files = files_by kind spot;
+    files = files_by follow kind spot;
     unread = [];
     names = grown;
     missed = ap (λ u. missed_of u.items) same ∙ sym (append-nil (missed_of old.unread.items));
     leads = λ more others are. looked kind other is plain are;
   }
 
-  pub finds-missed : is_standard spot ≡ false → new.names ≡ old.names → missed_of new.unread.items ≡ missed_of old.unread.items ++ (spot.name ∷ []) → Finds tree (spot ∷ spots) spots old new
+  pub finds-missed : is_standard spot ≡ false → new.names ≡ old.names → missed_of new.unread.items ≡ missed_of old.unread.items ++ (spot.name ∷ []) → Finds tree follow (spot ∷ spots) spots old new
   finds-missed other same grown = record {
     files = [];
     unread = spot.name ∷ [];
@@ -125,15 +125,15 @@ module _ (tree : Tree) (spot : Spot) (spots : List Spot) (old new : Found) where
     leads = λ more others are. missed other are;
   }
 
-  pub finds-entered : (after : List Spot) → is_standard spot ≡ false → IsKind tree spot Folder → Enters tree spot.name spots after old new → Finds tree (spot ∷ spots) after old new
+  pub finds-entered : (after : List Spot) → is_standard spot ≡ false → IsKind tree follow spot Folder → Enters tree spot.name spots after old new → Finds tree follow (spot ∷ spots) after old new
   finds-entered after other is (inl (names, holds, put, same)) = record {
     files = [];
     unread = [];
     names = ap (λ f. bytes_of f.names.items) same ∙ sym (append-nil (bytes_of old.names.items));
     missed = ap (λ f. missed_of f.unread.items) same ∙ sym (append-nil (missed_of old.unread.items));
-    leads = λ more others are. entered names other is holds (subst (λ (l : List Spot). AreFiles tree l more others) put are);
+    leads = λ more others are. entered names other is holds (subst (λ (l : List Spot). AreFiles tree follow l more others) put are);
   }
-  finds-entered after other is (inr (put, same, grown)) = subst (λ (l : List Spot). Finds tree (spot ∷ spots) l old new) (sym put) (finds-missed other same grown)
+  finds-entered after other is (inr (put, same, grown)) = subst (λ (l : List Spot). Finds tree follow (spot ∷ spots) l old new) (sym put) (finds-missed other same grown)
 
 -- the names that were read are those of the folder
 pub listed-as : (tree : Tree) (given folder : List ℕ) (names : List (List ℕ)) → given ≡ folder → IfSome (tree.lists given) (λ known. IsPermutation known names)
@@ -141,11 +141,11 @@ pub listed-as : (tree : Tree) (given folder : List ℕ) (names : List (List ℕ)
 listed-as tree given folder names same listed = subst (λ (name : List ℕ). IfSome (tree.lists name) (λ known. IsPermutation known names)) same listed
 
 -- what is a folder is that kind
-pub folder-alone : (tree : Tree) (spot : Spot) (kind : Kind) → is_folder kind ≡ true → IsKind tree spot kind → IsKind tree spot Folder
-folder-alone tree spot File is known = absurd (cc)
-folder-alone tree spot Folder is known = known
-folder-alone tree spot Link is known = absurd (cc)
-folder-alone tree spot Device is known = absurd (cc)
+pub folder-alone : (tree : Tree) (follow : Bool) (spot : Spot) (kind : Kind) → is_folder kind ≡ true → IsKind tree follow spot kind → IsKind tree follow spot Folder
+folder-alone tree follow spot File is known = absurd (cc)
+folder-alone tree follow spot Folder is known = known
+folder-alone tree follow spot Link is known = absurd (cc)
+folder-alone tree follow spot Device is known = absurd (cc)
 
 -- an operand more is put down
 pub put-more : (spots : List Spot) (rest : List (Bor (List ℕ))) (d : Bor (List ℕ)) → 0 < length rest

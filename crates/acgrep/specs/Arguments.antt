@@ -17,7 +17,7 @@ use Rattle.acgrep.specs.declared.long.Valued.TheVariants.{Regexp, PatternFile, K
 use Rattle.acgrep.specs.declared.options.Color.{Color}
 use Rattle.acgrep.specs.declared.options.Context.{Context}
 use Rattle.acgrep.specs.declared.options.Switch.{Switch}
-use Rattle.acgrep.specs.declared.options.Switch.TheVariants.{IgnoreCase, MatchCase, Invert, WholeWords, WholeLines, Counts, Numbers, OnlyMatching, Offsets, OnlyNames, OnlyLacking, Recursive, NullNames, Quiet, NoSeparator, InitialTab, Json, NoName, WithName, NoMatchOk, NoMessages, Help, Version, Same}
+use Rattle.acgrep.specs.declared.options.Switch.TheVariants.{IgnoreCase, MatchCase, Invert, WholeWords, WholeLines, Counts, Numbers, OnlyMatching, Offsets, OnlyNames, OnlyLacking, Recursive, Follow, NullNames, Quiet, NoSeparator, InitialTab, Json, NoName, WithName, NoMatchOk, NoMessages, Help, Version, Same}
 use Rattle.acgrep.specs.declared.arguments.Awaited.{Awaited}
 use Rattle.acgrep.specs.declared.arguments.Awaited.TheVariants.{Fresh, Argument, Operands}
 use Rattle.acgrep.specs.declared.arguments.Refusal.{Refusal}
@@ -75,6 +75,7 @@ switch_by letter =
     else if letter == 108 then Some OnlyNames
     else if letter == 76 then Some OnlyLacking
     else if letter == 114 then Some Recursive
+    else if letter == 82 then Some Follow
     else if letter == 90 then Some NullNames
     else if letter == 84 then Some InitialTab
     else if letter == 113 then Some Quiet
@@ -99,6 +100,7 @@ switched Offsets flags = record flags { offset = true }
 switched OnlyNames flags = record flags { names = true; lacking = false }
 switched OnlyLacking flags = record flags { names = false; lacking = true }
 switched Recursive flags = record flags { recursive = true }
+switched Follow flags = record flags { recursive = true; follow = true }
 switched NullNames flags = record flags { null = true }
 switched Quiet flags = record flags { quiet = true }
 switched NoSeparator flags = record flags { joined = true }
@@ -333,6 +335,7 @@ no_flags = record {
   names = false;
   lacking = false;
   recursive = false;
+  follow = false;
   null = false;
   quiet = false;
   after = None;

@@ -1,5 +1,5 @@
 -- Which files the operands of a recursive search name.
-use Rattle.std.specs.Prelude.{◌≡◌, ◌⊎◌, ℕ, ◌&&◌, nat_eq, Bool, true, false, List, [], ◌∷◌, ◌++◌, Option, IfSome, codes, map, if◌then◌else◌}
+use Rattle.std.specs.Prelude.{◌≡◌, ◌⊎◌, ℕ, ◌&&◌, ◌||◌, nat_eq, Bool, true, false, List, [], ◌∷◌, ◌++◌, Option, IfSome, codes, map, if◌then◌else◌}
 use Rattle.std.specs.List.{ends_with}
 use Rattle.std.specs.List.Sorted.{IsPermutation, IsSorted}
 use Rattle.std.specs.Cmp.Lexicographic.{slice_cmp}
@@ -56,9 +56,13 @@ inside folder name = record { name = joined folder name; given = false }
 abbrev pub is_standard : Spot → Bool
 is_standard spot = spot.given && is_input spot.name
 
--- a name stands for this, as far as is known: links that are operands are followed
-abbrev pub IsKind : Tree → Spot → Kind → Type 0
-IsKind tree spot kind = IfSome (tree.kinds spot.given spot.name) (λ known. kind ≡ known)
+-- links are followed that are operands, and others where `follow` is so
+abbrev pub is_followed : Bool → Spot → Bool
+is_followed follow spot = spot.given || follow
+
+-- a name stands for this, as far as is known
+abbrev pub IsKind : Tree → Bool → Spot → Kind → Type 0
+IsKind tree follow spot kind = IfSome (tree.kinds (is_followed follow spot) spot.name) (λ known. kind ≡ known)
 
 abbrev pub is_folder : Kind → Bool
 is_folder File = false
@@ -66,15 +70,15 @@ is_folder Folder = true
 is_folder Link = false
 is_folder Device = false
 
--- whether it is searched: a file is, and a device that is an operand
+-- whether it is searched: a file is, and a device where a link would be followed
 abbrev pub is_searched : Kind → Bool → Bool
-is_searched File given = true
-is_searched Folder given = false
-is_searched Link given = false
-is_searched Device given = given
+is_searched File followed = true
+is_searched Folder followed = false
+is_searched Link followed = false
+is_searched Device followed = followed
 
-abbrev pub files_by : Kind → Spot → List (List ℕ)
-files_by kind spot = if is_searched kind spot.given then spot.name ∷ [] else []
+abbrev pub files_by : Bool → Kind → Spot → List (List ℕ)
+files_by follow kind spot = if is_searched kind (is_followed follow spot) then spot.name ∷ [] else []
 
 -- a folder holds these names, as far as is known, and they are in the order of their bytes
 pub record Holds (tree : Tree) (folder : List ℕ) (names : List (List ℕ)) : Type 0 where
@@ -82,30 +86,30 @@ pub record Holds (tree : Tree) (folder : List ℕ) (names : List (List ℕ)) : T
   pub ordered : IsSorted (slice_cmp nat_cmp) names
 
 -- names stand for these files, one after another. A folder stands for what it holds. What cannot be looked at, or be read as a folder,
--- is left out, and told
-pub data AreFiles (tree : Tree) : List Spot → (files unread : List (List ℕ)) → Type 0 where
-  none : AreFiles tree [] [] []
+-- is left out, and told; and so is a folder that stands in itself, as links can have it
+pub data AreFiles (tree : Tree) (follow : Bool) : List Spot → (files unread : List (List ℕ)) → Type 0 where
+  none : AreFiles tree follow [] [] []
   input : {spot : Spot} {spots : List Spot} {files unread : List (List ℕ)}
-      → is_standard spot ≡ true → AreFiles tree spots files unread → AreFiles tree (spot ∷ spots) (spot.name ∷ files) unread
+      → is_standard spot ≡ true → AreFiles tree follow spots files unread → AreFiles tree follow (spot ∷ spots) (spot.name ∷ files) unread
   missed : {spot : Spot} {spots : List Spot} {files unread : List (List ℕ)}
-      → is_standard spot ≡ false → AreFiles tree spots files unread → AreFiles tree (spot ∷ spots) files (spot.name ∷ unread)
+      → is_standard spot ≡ false → AreFiles tree follow spots files unread → AreFiles tree follow (spot ∷ spots) files (spot.name ∷ unread)
   looked : {spot : Spot} {spots : List Spot} {files unread : List (List ℕ)} (kind : Kind)
-      → is_standard spot ≡ false → IsKind tree spot kind → is_folder kind ≡ false
-      → AreFiles tree spots files unread → AreFiles tree (spot ∷ spots) (files_by kind spot ++ files) unread
+      → is_standard spot ≡ false → IsKind tree follow spot kind → is_folder kind ≡ false
+      → AreFiles tree follow spots files unread → AreFiles tree follow (spot ∷ spots) (files_by follow kind spot ++ files) unread
   entered : {spot : Spot} {spots : List Spot} {files unread : List (List ℕ)} (names : List (List ℕ))
-      → is_standard spot ≡ false → IsKind tree spot Folder → Holds tree spot.name names
-      → AreFiles tree (map (inside spot.name) names ++ spots) files unread → AreFiles tree (spot ∷ spots) files unread
+      → is_standard spot ≡ false → IsKind tree follow spot Folder → Holds tree spot.name names
+      → AreFiles tree follow (map (inside spot.name) names ++ spots) files unread → AreFiles tree follow (spot ∷ spots) files unread
 
 -- those below the working folder, unless that cannot be read
-abbrev pub AreHere : Tree → (files unread : List (List ℕ)) → Type 0
-AreHere tree files unread =
-    ((names : List (List ℕ)) × Holds tree (codes ".") names × AreFiles tree (map (inside []) names) files unread)
+abbrev pub AreHere : Tree → Bool → (files unread : List (List ℕ)) → Type 0
+AreHere tree follow files unread =
+    ((names : List (List ℕ)) × Holds tree (codes ".") names × AreFiles tree follow (map (inside []) names) files unread)
     ⊎ ((files ≡ []) × (unread ≡ codes "." ∷ []))
 
 -- these files are named by operands, or are below them; where there is no operand, those below the working folder
-abbrev pub AreBelow : Tree → (operands files unread : List (List ℕ)) → Type 0
-AreBelow tree [] files unread = AreHere tree files unread
-AreBelow tree (name ∷ names) files unread = AreFiles tree (map operand (name ∷ names)) files unread
+abbrev pub AreBelow : Tree → Bool → (operands files unread : List (List ℕ)) → Type 0
+AreBelow tree follow [] files unread = AreHere tree follow files unread
+AreBelow tree follow (name ∷ names) files unread = AreFiles tree follow (map operand (name ∷ names)) files unread
 
 -- what is still to be looked at
 abbrev pub spot_of : Pending → Spot
@@ -119,12 +123,12 @@ abbrev pub missed_of : List Unread → List (List ℕ)
 missed_of unread = map (λ missed. missed.name.items) unread
 
 -- what was found between two times: whatever files the names behind stand for, those before stand for these and them
-pub record Finds (tree : Tree) (before after : List Spot) (old new : Found) : Type 0 where
+pub record Finds (tree : Tree) (follow : Bool) (before after : List Spot) (old new : Found) : Type 0 where
   pub files : List (List ℕ)
   pub unread : List (List ℕ)
   pub names : bytes_of new.names.items ≡ bytes_of old.names.items ++ files
   pub missed : missed_of new.unread.items ≡ missed_of old.unread.items ++ unread
-  pub leads : (more others : List (List ℕ)) → AreFiles tree after more others → AreFiles tree before (files ++ more) (unread ++ others)
+  pub leads : (more others : List (List ℕ)) → AreFiles tree follow after more others → AreFiles tree follow before (files ++ more) (unread ++ others)
 
 -- the names of a folder, in order, were put before what is still to be looked at
 pub record PutsInside (names : List (List ℕ)) (folder : List ℕ) (old new : List Spot) : Type 0 where
@@ -140,6 +144,6 @@ Enters tree folder before after old new =
     ⊎ ((after ≡ before) × (new.names ≡ old.names) × (missed_of new.unread.items ≡ missed_of old.unread.items ++ (folder ∷ [])))
 
 -- a walk begins at these names: whatever files they stand for, those are named by the operands
-pub record Begins (tree : Tree) (operands : List (List ℕ)) (spots : List Spot) (found : Found) : Type 0 where
-  pub leads : (files unread : List (List ℕ)) → AreFiles tree spots files unread
-      → AreBelow tree operands (bytes_of found.names.items ++ files) (missed_of found.unread.items ++ unread)
+pub record Begins (tree : Tree) (follow : Bool) (operands : List (List ℕ)) (spots : List Spot) (found : Found) : Type 0 where
+  pub leads : (files unread : List (List ℕ)) → AreFiles tree follow spots files unread
+      → AreBelow tree follow operands (bytes_of found.names.items ++ files) (missed_of found.unread.items ++ unread)

@@ -7,7 +7,7 @@ use Rattle.acgrep.specs.declared.long.Found.TheVariants.{Unknown, Begun, Several
 use Rattle.acgrep.specs.declared.long.Long.{Long}
 use Rattle.acgrep.specs.declared.long.Long.TheVariants.{Plain, Takes, When}
 use Rattle.acgrep.specs.declared.long.Valued.TheVariants.{Regexp, PatternFile, Kind, Offset, FirstLine, MaxCount, After, Before, Around, Separator, Label, Format}
-use Rattle.acgrep.specs.declared.options.Switch.TheVariants.{IgnoreCase, MatchCase, Invert, WholeWords, WholeLines, Counts, Numbers, OnlyMatching, Offsets, OnlyNames, OnlyLacking, NullNames, Recursive, Quiet, NoSeparator, InitialTab, Json, NoName, WithName, NoMatchOk, NoMessages, Help, Version, Same}
+use Rattle.acgrep.specs.declared.options.Switch.TheVariants.{IgnoreCase, MatchCase, Invert, WholeWords, WholeLines, Counts, Numbers, OnlyMatching, Offsets, OnlyNames, OnlyLacking, NullNames, Recursive, Follow, Quiet, NoSeparator, InitialTab, Json, NoName, WithName, NoMatchOk, NoMessages, Help, Version, Same}
 
 -- an option's long name, and what it means
 pub record Name : Type 0 where
@@ -68,6 +68,7 @@ other_options = named (codes "color") When
     ∷ named (codes "offset") (Takes Offset)
     ∷ named (codes "first-line") (Takes FirstLine)
     ∷ named (codes "recursive") (Plain Recursive)
+    ∷ named (codes "dereference-recursive") (Plain Follow)
     ∷ named (codes "no-match-ok") (Plain NoMatchOk)
     ∷ named (codes "no-messages") (Plain NoMessages)
     ∷ named (codes "line-buffered") (Plain Same)

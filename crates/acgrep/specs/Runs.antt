@@ -173,7 +173,7 @@ pub record IsJob (given : Said) (terminal several : Bool) (job : Job) : Type 0 w
 
 -- these are the files that operands name, with those below folders where that is asked for; some names cannot be looked at or read
 abbrev pub AreReached : Tree → Flags → (names files unread : List (List ℕ)) → Type 0
-AreReached tree flags names files unread = MatchBool flags.recursive (AreBelow tree names files unread) ((files ≡ or_input names) × (unread ≡ []))
+AreReached tree flags names files unread = MatchBool flags.recursive (AreBelow tree flags.follow names files unread) ((files ≡ or_input names) × (unread ≡ []))
 
 -- whether the only operand is the only file
 abbrev pub is_alone : (names files : List (List ℕ)) → Bool

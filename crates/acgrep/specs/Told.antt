@@ -29,10 +29,14 @@ use Rattle.acgrep.specs.declared.options.Shown.TheVariants.{Nothing}
 abbrev pub others_told : List (List ℕ)
 others_told = codes "write error" ∷ codes "search" ∷ codes "patterns" ∷ codes "pattern" ∷ []
 
--- a call of the system failed, or the patterns or the search were refused
+-- what is told of a folder that stands in itself
+abbrev pub loop_text : List ℕ
+loop_text = codes "warning: recursive directory loop"
+
+-- a call of the system failed, the patterns or the search were refused, or a folder stands in itself
 abbrev pub IsToldCause : List ℕ → Type 0
 IsToldCause cause = ((reason : Reason) × (cause ≡ reason_text reason))
-    ⊎ (((error : BuildError) × (cause ≡ build_error_text error)) ⊎ ((error : MatchErrorKind) × (cause ≡ match_error_text error)))
+    ⊎ (((error : BuildError) × (cause ≡ build_error_text error)) ⊎ (((error : MatchErrorKind) × (cause ≡ match_error_text error)) ⊎ (cause ≡ loop_text)))
 
 -- that, or one of these files
 abbrev pub MayName : List (List ℕ) → List ℕ → Type 0

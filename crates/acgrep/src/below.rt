@@ -21,7 +21,7 @@ use crate::options::Flags;
 use crate::run::{job_of, search_by};
 use crate::searcher::Searcher;
 use crate::select::Job;
-use crate::tell::{tell_fault, tell_memory};
+use crate::tell::{tell_memory, tell_missed};
 use crate::walk::{Unread, walk};
 use chromesquid::Sink;
 use programs::errors::Errors;
@@ -82,7 +82,12 @@ fn search_below<F: Open + Folders, R: Read, W: Sink, E: Sink>(
     ensures told { TellsOfReached E.Sink (tree_of F.Folders operands.now.files.now) (said given.now)
         (name_bytes operands.now.names.now) result errors.old errors.new }
 {
-    let Ok(found) = walk(operands.alloc, operands.files, operands.names) else {
+    let Ok(found) = walk(
+        operands.alloc,
+        operands.files,
+        given.flags.follow,
+        operands.names,
+    ) else {
         tell_memory(errors);
         return 2;
     };
@@ -152,7 +157,7 @@ fn tell_each<E: Sink>(hushed: bool, unread: &[Unread], errors: &mut Errors<'_, E
     }
     let mut rest = unread;
     while let Some((first, behind)) = rest.split_first() {
-        tell_fault(first.name.as_slice(), first.reason, errors);
+        tell_missed(first.name.as_slice(), first.reason, errors);
         rest = behind;
     }
 }

@@ -9,6 +9,7 @@ use crate::open::System;
 use std::alloc::{AllocError, Global};
 use std::fs::{FileType, Files};
 use std::io::Read;
+use std::os::unix::fs::MetadataExt;
 use std::{fs, io};
 
 /// What a name stands for.
@@ -24,6 +25,15 @@ pub enum Kind {
     Device,
 }
 
+/// What tells a folder from all others: the number of its device, and its own there.
+#[derive(Clone, Copy, PartialEq, Eq)]
+pub struct Identity {
+    /// That of its device.
+    pub device: u64,
+    /// Its own.
+    pub number: u64,
+}
+
 /// What looks at names, and lists folders.
 pub trait Folders {
     /// What a name stands for, where it is known, and where links are followed or not.
@@ -36,6 +46,9 @@ pub trait Folders {
     fn look(&self, name: &str, follow: bool) -> io::Result<Kind>
         ensures told { IfOk result (λ kind.
             IfSome (kinds self.now follow name.now) (λ known. kind ≡ known)) };
+
+    /// What tells the folder of this name from all others, where links are followed.
+    fn identity(&self, name: &str) -> io::Result<Identity>;
 
     /// The names in the folder of this name, in any order, but for `.` and `..`.
     fn list(&self, alloc: Global, name: &str) -> io::Result<Vec<Vec<u8>>>
@@ -51,6 +64,14 @@ impl<'a, R: Files> Folders for System<'a, R> {
             fs::symlink_metadata(self.rt, name)?
         };
         Ok(kind_of(found.file_type()))
+    }
+
+    fn identity(&self, name: &str) -> io::Result<Identity> {
+        let found = fs::metadata(self.rt, name)?;
+        Ok(Identity {
+            device: found.dev(),
+            number: found.ino(),
+        })
     }
 
     fn list(&self, alloc: Global, name: &str) -> io::Result<Vec<Vec<u8>>> {

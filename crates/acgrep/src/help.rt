@@ -62,6 +62,8 @@ Folders:
                         order of their names' bytes; the working folder where no
                         FILE is given. Links below a folder are not followed, and
                         devices there are not read
+  -R, --dereference-recursive
+                        the same, but they are
 
 Others:
   -s, --no-messages     do not tell of files that cannot be read

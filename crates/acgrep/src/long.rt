@@ -196,6 +196,7 @@ fn or_others(found: Found, name: &[u8]) -> Found
         .or(name, b"offset", Long::Takes(Valued::Offset))
         .or(name, b"first-line", Long::Takes(Valued::FirstLine))
         .or(name, b"recursive", Long::Plain(Switch::Recursive))
+        .or(name, b"dereference-recursive", Long::Plain(Switch::Follow))
         .or(name, b"no-match-ok", Long::Plain(Switch::NoMatchOk))
         .or(name, b"no-messages", Long::Plain(Switch::NoMessages))
         .or(name, b"line-buffered", Long::Plain(Switch::Same))

@@ -85,6 +85,8 @@ pub enum Switch {
     OnlyLacking,
     /// `-r`
     Recursive,
+    /// `-R`
+    Follow,
     /// `-Z`
     NullNames,
     /// `-q`
@@ -127,6 +129,7 @@ pub fn switch_of(letter: u8) -> Option<Switch>
         b'l' => Some(Switch::OnlyNames),
         b'L' => Some(Switch::OnlyLacking),
         b'r' => Some(Switch::Recursive),
+        b'R' => Some(Switch::Follow),
         b'Z' => Some(Switch::NullNames),
         b'T' => Some(Switch::InitialTab),
         b'q' => Some(Switch::Quiet),
@@ -162,8 +165,10 @@ pub struct Flags {
     pub names: bool,
     /// `-L`, and no `-l` behind it: files without one are.
     pub lacking: bool,
-    /// `-r`: the files below folders are searched.
+    /// `-r` and `-R`: the files below folders are searched.
     pub recursive: bool,
+    /// `-R`: links below folders are followed too, and devices there are read.
+    pub follow: bool,
     /// `-Z`: a zero byte stands behind a file's name.
     pub null: bool,
     /// `-q`: nothing is written.
@@ -223,6 +228,7 @@ impl Flags {
             names: false,
             lacking: false,
             recursive: false,
+            follow: false,
             null: false,
             quiet: false,
             after: None,
@@ -341,6 +347,10 @@ impl Flags {
                 flags.lacking = true;
             }
             Switch::Recursive => flags.recursive = true,
+            Switch::Follow => {
+                flags.recursive = true;
+                flags.follow = true;
+            }
             Switch::NullNames => flags.null = true,
             Switch::Quiet => flags.quiet = true,
             Switch::NoSeparator => flags.joined = true,

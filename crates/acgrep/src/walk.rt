@@ -3,10 +3,11 @@
 ghost use Rattle.std.specs.Prelude.{◌≡◌, [], ◌∷◌, ◌++◌, IfOk, IfSome, OnOk, false, map};
 ghost use Rattle.std.specs.List.Sorted.{IsPermutation};
 ghost use Rattle.programs.specs.Names.{name_bytes};
-ghost use Rattle.acgrep.specs.Folders.{AreBelow, Begins, Enters, Finds, IsKind, PutsInside, between, is_folder, is_searched, is_standard, joined, missed_of, operand, spot_of, spots_of, tree_of};
+ghost use Rattle.acgrep.specs.Folders.{AreBelow, Begins, Enters, Finds, IsKind, PutsInside, between, is_folder, is_followed, is_searched, is_standard, joined, missed_of, operand, spot_of, spots_of, tree_of};
 ghost use Rattle.acgrep.specs.Listed.{bytes_of};
 
-use crate::folders::{Folders, Kind};
+use crate::failure::Stop;
+use crate::folders::{Folders, Identity, Kind};
 use crate::keys::is_input;
 use programs::reason::Reason;
 use std::alloc::{AllocError, Global};
@@ -31,8 +32,8 @@ pub struct Found {
 pub struct Unread {
     /// Its name.
     pub name: Vec<u8>,
-    /// Why.
-    pub reason: Reason,
+    /// Why: no reason means that it is a folder in which it stands itself.
+    pub reason: Option<Reason>,
 }
 
 /// A name that is still to be looked at.
@@ -42,6 +43,8 @@ struct Pending {
     name: Vec<u8>,
     /// Whether it is an operand.
     given: bool,
+    /// The folders in which it stands, where links are followed.
+    above: Vec<Identity>,
 }
 
 impl Found {
@@ -67,42 +70,44 @@ impl Found {
     }
 
     /// Something more that cannot be read.
-    fn miss(&mut self, name: Vec<u8>, error: &io::Error) -> Result<(), AllocError>
+    fn miss(&mut self, name: Vec<u8>, reason: Option<Reason>) -> Result<(), AllocError>
         ensures names { self.new.names ≡ self.old.names }
         ensures unread { OnOk result
             (missed_of self.new.unread.items ≡ missed_of self.old.unread.items ++ (name.items ∷ [])) }
     {
-        let reason = Reason::of(error);
         self.unread.push(Unread { name, reason })?;
         Ok(())
     }
 }
 
 /// The files that these operands name: themselves, and those below folders. Where there is no operand, those below the working folder.
+/// `follow` says whether links below folders are followed.
 pub fn walk<F: Folders>(
     alloc: Global,
     files: &F,
+    follow: bool,
     operands: &[&[u8]],
-) -> Result<Found, AllocError>
-    ensures found { IfOk result (λ found. AreBelow (tree_of F.Folders files.now) (name_bytes operands.now)
+) -> Result<Found, Stop>
+    ensures found { IfOk result (λ found. AreBelow (tree_of F.Folders files.now) follow (name_bytes operands.now)
         (bytes_of found.names.items) (missed_of found.unread.items)) }
 {
     let mut found = Found::new(alloc);
     let mut pending = VecDeque::new(alloc);
-    begin(alloc, files, operands, &mut pending, &mut found)?;
+    begin(alloc, files, follow, operands, &mut pending, &mut found)?;
     for _ in 0..u64::MAX {
         let Some(spot) = pending.pop_front() else {
             return Ok(found);
         };
-        pass(alloc, files, spot, &mut pending, &mut found)?;
+        pass(alloc, files, follow, spot, &mut pending, &mut found)?;
     }
-    Err(AllocError)
+    Err(Stop::Read(Reason::Fault))
 }
 
 /// Puts down where a walk begins.
 fn begin<F: Folders>(
     alloc: Global,
     files: &F,
+    follow: bool,
     operands: &[&[u8]],
     pending: &mut VecDeque<Pending>,
     found: &mut Found,
@@ -110,15 +115,18 @@ fn begin<F: Folders>(
     requires none { pending.old.items ≡ [] }
     requires nothing { found.old.names.items ≡ [] }
     requires nowhere { found.old.unread.items ≡ [] }
-    ensures begun { OnOk result (Begins (tree_of F.Folders files.now) (name_bytes operands.now)
+    ensures begun { OnOk result (Begins (tree_of F.Folders files.now) follow (name_bytes operands.now)
         (spots_of pending.new.items) found.new) }
 {
     if !operands.is_empty() {
         return put_given(alloc, operands, pending);
     }
     match list_named(alloc, files, HERE) {
-        Ok(names) => put_first(alloc, names, b"", pending),
-        Err(error) => found.miss(Vec::from_slice(alloc, HERE)?, &error),
+        Ok(names) => {
+            let above = Vec::new(alloc);
+            put_first(alloc, names, b"", above.as_slice(), pending)
+        }
+        Err(error) => found.miss(Vec::from_slice(alloc, HERE)?, Some(Reason::of(&error))),
     }
 }
 
@@ -134,7 +142,12 @@ fn put_given(
     let mut rest = operands;
     while !rest.is_empty() {
         let name = Vec::from_slice(alloc, rest[0])?;
-        pending.push_back(Pending { name, given: true })?;
+        let above = Vec::new(alloc);
+        pending.push_back(Pending {
+            name,
+            given: true,
+            above,
+        })?;
         rest = &rest[1..];
     }
     Ok(())
@@ -144,19 +157,20 @@ fn put_given(
 fn pass<F: Folders>(
     alloc: Global,
     files: &F,
+    follow: bool,
     spot: Pending,
     pending: &mut VecDeque<Pending>,
     found: &mut Found,
 ) -> Result<(), AllocError>
-    ensures finds { OnOk result (Finds (tree_of F.Folders files.now)
+    ensures finds { OnOk result (Finds (tree_of F.Folders files.now) follow
         (spot_of spot ∷ spots_of pending.old.items) (spots_of pending.new.items) found.old found.new) }
 {
     if is_standard(&spot) {
         return found.add(spot.name);
     }
-    match look_at(files, spot.name.as_slice(), spot.given) {
-        Ok(kind) => take(alloc, files, kind, spot, pending, found),
-        Err(error) => found.miss(spot.name, &error),
+    match look_at(files, spot.name.as_slice(), is_followed(follow, &spot)) {
+        Ok(kind) => take(alloc, files, follow, kind, spot, pending, found),
+        Err(error) => found.miss(spot.name, Some(Reason::of(&error))),
     }
 }
 
@@ -167,24 +181,32 @@ fn is_standard(spot: &Pending) -> bool
     spot.given && is_input(spot.name.as_slice())
 }
 
+/// Whether a link of this name is followed.
+fn is_followed(follow: bool, spot: &Pending) -> bool
+    ensures { result ≡ is_followed follow (spot_of spot.now) }
+{
+    spot.given || follow
+}
+
 /// Takes what a name stands for.
 fn take<F: Folders>(
     alloc: Global,
     files: &F,
+    follow: bool,
     kind: Kind,
     spot: Pending,
     pending: &mut VecDeque<Pending>,
     found: &mut Found,
 ) -> Result<(), AllocError>
     requires other { is_standard (spot_of spot) ≡ false }
-    requires kind { IsKind (tree_of F.Folders files.now) (spot_of spot) kind }
-    ensures finds { OnOk result (Finds (tree_of F.Folders files.now)
+    requires kind { IsKind (tree_of F.Folders files.now) follow (spot_of spot) kind }
+    ensures finds { OnOk result (Finds (tree_of F.Folders files.now) follow
         (spot_of spot ∷ spots_of pending.old.items) (spots_of pending.new.items) found.old found.new) }
 {
     if is_folder(kind) {
-        return enter(alloc, files, spot.name, pending, found);
+        return enter(alloc, files, follow, spot, pending, found);
     }
-    if is_searched(kind, spot.given) {
+    if is_searched(kind, is_followed(follow, &spot)) {
         return found.add(spot.name);
     }
     Ok(())
@@ -200,11 +222,40 @@ fn is_folder(kind: Kind) -> bool
     }
 }
 
-/// Puts down what a folder holds.
+/// Puts down what a folder holds, unless it stands in itself.
 fn enter<F: Folders>(
     alloc: Global,
     files: &F,
+    follow: bool,
+    spot: Pending,
+    pending: &mut VecDeque<Pending>,
+    found: &mut Found,
+) -> Result<(), AllocError>
+    ensures entered { OnOk result (Enters (tree_of F.Folders files.now) spot.name.items
+        (spots_of pending.old.items) (spots_of pending.new.items) found.old found.new) }
+{
+    if !follow {
+        return open_folder(alloc, files, spot.name, spot.above.as_slice(), pending, found);
+    }
+    match identity_of(files, spot.name.as_slice()) {
+        Ok(identity) => {
+            if stands_in(identity, spot.above.as_slice()) {
+                return found.miss(spot.name, None);
+            }
+            let mut above = Vec::from_slice(alloc, spot.above.as_slice())?;
+            above.push(identity)?;
+            open_folder(alloc, files, spot.name, above.as_slice(), pending, found)
+        }
+        Err(error) => found.miss(spot.name, Some(Reason::of(&error))),
+    }
+}
+
+/// Puts down what a folder holds, which stands in these and itself.
+fn open_folder<F: Folders>(
+    alloc: Global,
+    files: &F,
     name: Vec<u8>,
+    above: &[Identity],
     pending: &mut VecDeque<Pending>,
     found: &mut Found,
 ) -> Result<(), AllocError>
@@ -212,18 +263,38 @@ fn enter<F: Folders>(
         (spots_of pending.old.items) (spots_of pending.new.items) found.old found.new) }
 {
     match list_named(alloc, files, name.as_slice()) {
-        Ok(names) => put_first(alloc, names, name.as_slice(), pending),
-        Err(error) => found.miss(name, &error),
+        Ok(names) => put_first(alloc, names, name.as_slice(), above, pending),
+        Err(error) => found.miss(name, Some(Reason::of(&error))),
     }
 }
 
-/// Whether something that is no folder is searched: a file, or a device that is an operand.
-fn is_searched(kind: Kind, given: bool) -> bool
-    ensures { result ≡ is_searched kind given }
+/// Whether a folder is one of these.
+fn stands_in(identity: Identity, above: &[Identity]) -> bool {
+    let mut rest = above;
+    while let Some((first, behind)) = rest.split_first() {
+        if *first == identity {
+            return true;
+        }
+        rest = behind;
+    }
+    false
+}
+
+/// What tells a folder from all others.
+fn identity_of<F: Folders>(files: &F, name: &[u8]) -> io::Result<Identity> {
+    match str::from_utf8(name) {
+        Ok(text) => files.identity(text),
+        Err(_) => Err(io::Error::from(ErrorKind::InvalidInput)),
+    }
+}
+
+/// Whether something that is no folder is searched: a file, and a device where links are followed.
+fn is_searched(kind: Kind, follow: bool) -> bool
+    ensures { result ≡ is_searched kind follow }
 {
     match kind {
         Kind::File => true,
-        Kind::Device => given,
+        Kind::Device => follow,
         Kind::Folder | Kind::Link => false,
     }
 }
@@ -233,6 +304,7 @@ fn put_first(
     alloc: Global,
     names: Vec<Vec<u8>>,
     folder: &[u8],
+    above: &[Identity],
     pending: &mut VecDeque<Pending>,
 ) -> Result<(), AllocError>
     ensures put { OnOk result (PutsInside (bytes_of names.items) folder.now
@@ -242,7 +314,12 @@ fn put_first(
     left.sort()?;
     while let Some(last) = left.pop() {
         let name = joined(alloc, folder, last.as_slice())?;
-        pending.push_front(Pending { name, given: false })?;
+        let above = Vec::from_slice(alloc, above)?;
+        pending.push_front(Pending {
+            name,
+            given: false,
+            above,
+        })?;
     }
     Ok(())
 }
@@ -269,7 +346,7 @@ fn between(folder: &[u8], name: &[u8]) -> &'static [u8]
     if folder.ends_with(b"/") { b"" } else { b"/" }
 }
 
-/// What a name stands for. A link is followed where the name is an operand.
+/// What a name stands for. A link is followed where that is asked for.
 fn look_at<F: Folders>(files: &F, name: &[u8], follow: bool) -> io::Result<Kind>
     ensures told { IfOk result (λ kind.
         IfSome (F.kinds files.now follow name.now) (λ known. kind ≡ known)) }

@@ -16,5 +16,5 @@ loop-rest-preserved c =
     let before = spots_of c.loop-rest.pending.items in
     let name : c.in_ok-name.name.items ≡ (get_or rest 0 d).now = c.in_ok-name.ensures.items in
     let grown : spots_of c.push_back.new.self.items ≡ before ++ (operand (get_or rest 0 d).now ∷ []) =
-    ap spots_of c.in_ok-push_back.ensures.items ∙ map-append spot_of c.loop-rest.pending.items (record { name = c.in_ok-name.name; given = true } ∷ []) ∙ ap (λ (n : List ℕ). before ++ (operand n ∷ [])) name in
+    ap spots_of c.in_ok-push_back.ensures.items ∙ map-append spot_of c.loop-rest.pending.items _ ∙ ap (λ (n : List ℕ). before ++ (operand n ∷ [])) name in
     ap (λ (l : List Spot). l ++ map operand (name_bytes (take (length rest - 1) (drop 1 rest)))) grown ∙ put-more before rest d some ∙ c.loop-rest.invariant

@@ -4,7 +4,7 @@ use Rattle.std.proofs.lemmas.Result.{on_ok_weaker}
 use Rattle.acgrep.specs.Folders.{Enters, PutsInside, spots_of, tree_of}
 use Rattle.acgrep.specs.Listed.{bytes_of}
 use Rattle.acgrep.proofs.Walking.{enters-put, listed-as}
-use Rattle.acgrep.proofs.walk.enter.Goals as goal
+use Rattle.acgrep.proofs.walk.open_folder.Goals as goal
 
 pub returns-in-Ok : goal.returns-in-Ok
 returns-in-Ok g c =
