@@ -235,7 +235,14 @@ fn enter<F: Folders>(
         (spots_of pending.old.items) (spots_of pending.new.items) found.old found.new) }
 {
     if !follow {
-        return open_folder(alloc, files, spot.name, spot.above.as_slice(), pending, found);
+        return open_folder(
+            alloc,
+            files,
+            spot.name,
+            spot.above.as_slice(),
+            pending,
+            found,
+        );
     }
     match identity_of(files, spot.name.as_slice()) {
         Ok(identity) => {
