@@ -5,7 +5,7 @@ use Rattle.std.specs.List.{starts_with}
 use Rattle.std.proofs.lemmas.Bool.{cases_Bool}
 use Rattle.std.proofs.lemmas.Bool.Decides.{Decides-eqb}
 use Rattle.std.proofs.lemmas.Slice.Eq.{starts_is}
-use Rattle.acgrep.specs.Formats.{format_text, front_at, front_by, piece_text, pieces_behind, pieces_by, plain_front}
+use Rattle.acgrep.specs.Formats.{format_text, front_at, front_by, piece_text, pieces_behind, format_pieces, plain_front}
 use Rattle.acgrep.specs.declared.format.Front.{Front}
 use Rattle.acgrep.specs.declared.format.Piece.{Piece}
 use Rattle.acgrep.specs.declared.format.Piece.TheVariants.{Byte, Path, LineNumber, Start, End, PatternNumber, Found}
@@ -87,6 +87,6 @@ text_behind (byte ∷ rest) zero pieces is = text_of_front byte rest pieces (fro
 text_behind (byte ∷ rest) (suc skipped) pieces is = text_behind rest skipped pieces is
 
 -- the pieces of a format, one after another, are the format
-pub whole_text : (format : List ℕ) (pieces : List Piece) → pieces_by format ≡ Some pieces → format_text pieces ≡ format
+pub whole_text : (format : List ℕ) (pieces : List Piece) → format_pieces format ≡ Some pieces → format_text pieces ≡ format
 whole_text [] pieces is = text_behind [] zero pieces is
 whole_text (byte ∷ rest) pieces is = text_behind (byte ∷ rest) zero pieces is

@@ -5,12 +5,12 @@ use Rattle.std.proofs.lemmas.Bool.{cases_Bool}
 use Rattle.std.proofs.lemmas.List.{length-drop, take_all}
 use Rattle.memchr.specs.Find.{Nowhere, Passes, is_byte}
 use Rattle.acgrep.specs.Base64.{base64_of, four_of}
-use Rattle.acgrep.specs.Formats.{front_by, pieces_behind, pieces_by, unknown_behind, unknown_in, up_to_brace}
+use Rattle.acgrep.specs.Formats.{front_by, pieces_behind, format_pieces, unknown_behind, unknown_in, up_to_brace}
 use Rattle.acgrep.specs.declared.format.Front.{Front}
 use Rattle.acgrep.specs.declared.format.Piece.{Piece}
 
 -- what belongs to a piece before is passed over
-pub pieces_skip : (skipped : ℕ) (format : List ℕ) → pieces_behind skipped format ≡ pieces_by (drop skipped format)
+pub pieces_skip : (skipped : ℕ) (format : List ℕ) → pieces_behind skipped format ≡ format_pieces (drop skipped format)
 pieces_skip zero [] = refl
 pieces_skip zero (byte ∷ rest) = refl
 pieces_skip (suc skipped) [] = refl
@@ -31,11 +31,11 @@ drop_piece (suc len) byte rest some =
 
 -- the first piece, and those behind it
 pub pieces_step : (format : List ℕ) (front : Front) → 0 < length format → 0 < front.len → front_by format ≡ Some front
-    → pieces_by format ≡ option_map (λ pieces. front.piece ∷ pieces) (pieces_by (drop front.len format))
+    → format_pieces format ≡ option_map (λ pieces. front.piece ∷ pieces) (format_pieces (drop front.len format))
 pieces_step [] front some long is = absurd (omega (arith, some))
 pieces_step (byte ∷ rest) front some long is =
     rw is (ap (λ (o : Option (List Piece)). option_map (λ pieces. front.piece ∷ pieces) o)
-    (pieces_skip (front.len - 1) rest ∙ ap pieces_by (sym (drop_piece front.len byte rest long))))
+    (pieces_skip (front.len - 1) rest ∙ ap format_pieces (sym (drop_piece front.len byte rest long))))
 
 pub unknown_step : (format : List ℕ) (front : Front) → 0 < length format → 0 < front.len → front_by format ≡ Some front
     → unknown_in format ≡ unknown_in (drop front.len format)
@@ -44,7 +44,7 @@ unknown_step (byte ∷ rest) front some long is =
     rw is (unknown_skip (front.len - 1) rest ∙ ap unknown_in (sym (drop_piece front.len byte rest long)))
 
 -- where there is no first piece the format is none, and that is told
-pub pieces_none : (format : List ℕ) → 0 < length format → front_by format ≡ None → pieces_by format ≡ None
+pub pieces_none : (format : List ℕ) → 0 < length format → front_by format ≡ None → format_pieces format ≡ None
 pieces_none [] some is = absurd (omega (arith, some))
 pieces_none (byte ∷ rest) some is = rw is refl
 
@@ -59,7 +59,7 @@ pieces_more items piece None = refl
 pieces_more items piece (Some pieces) = ap (λ (l : List Piece). Some l) (sym (append_assoc items (piece ∷ []) pieces))
 
 -- where nothing is left these are all
-pub pieces_end : (rest format : List ℕ) (items : List Piece) → length rest ≡ 0 → pieces_by format ≡ option_map (λ pieces. items ++ pieces) (pieces_by rest) → pieces_by format ≡ Some items
+pub pieces_end : (rest format : List ℕ) (items : List Piece) → length rest ≡ 0 → format_pieces format ≡ option_map (λ pieces. items ++ pieces) (format_pieces rest) → format_pieces format ≡ Some items
 pieces_end [] format items none read = read ∙ ap (λ (l : List Piece). Some l) (append-nil items)
 pieces_end (byte ∷ rest) format items none read = absurd (omega (arith, none))
 

@@ -7,7 +7,7 @@ use Rattle.std.specs.List.{after_first, before_first, position_or_len}
 use Rattle.std.specs.Str.Parse.{digits_value}
 use Rattle.aho_core.specs.declared.search.MatchKind.TheVariants.{LeftmostLongest}
 use Rattle.acgrep.specs.declared.arguments.Given.{Given}
-use Rattle.acgrep.specs.Formats.{pieces_by}
+use Rattle.acgrep.specs.Formats.{format_pieces}
 use Rattle.acgrep.specs.Long.{option_by}
 use Rattle.acgrep.specs.declared.format.Piece.{Piece}
 use Rattle.acgrep.specs.declared.long.Long.{Long}
@@ -182,7 +182,7 @@ abbrev pub with_pieces : Said → List Piece → Said
 with_pieces s pieces = record s { flags = record s.flags { formatted = true }; format = pieces }
 
 abbrev pub with_format : List ℕ → Said → Option Said
-with_format argument s = option_map (λ pieces. with_pieces s pieces) (pieces_by argument)
+with_format argument s = option_map (λ pieces. with_pieces s pieces) (format_pieces argument)
 
 -- the argument of an option
 abbrev pub value_by : Valued → List ℕ → Said → Option ReadSoFar

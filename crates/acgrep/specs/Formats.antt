@@ -37,8 +37,8 @@ pieces_behind zero (byte ∷ rest) =
     option_and_then (λ front. option_map (λ pieces. front.piece ∷ pieces) (pieces_behind (front.len - 1) rest)) (front_by (byte ∷ rest))
 pieces_behind (suc skipped) (byte ∷ rest) = pieces_behind skipped rest
 
-abbrev pub pieces_by : List ℕ → Option (List Piece)
-pieces_by format = pieces_behind 0 format
+abbrev pub format_pieces : List ℕ → Option (List Piece)
+format_pieces format = pieces_behind 0 format
 
 -- how a piece stands in a format: a brace is doubled, and a field is its name in braces
 abbrev pub piece_text : Piece → List ℕ

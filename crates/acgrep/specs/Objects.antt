@@ -81,26 +81,26 @@ json_by fields = codes "{\"file\":\"" ++ (json_escaped fields.path ++ (codes "\"
     ++ (bytes_named fields.text ++ codes "\"}\n")))))))
 
 -- what a piece of a format stands for
-abbrev pub piece_by : FieldsTold → Piece → List ℕ
-piece_by fields (Byte byte) = byte ∷ []
-piece_by fields Path = fields.path
-piece_by fields LineNumber = decimal fields.line
-piece_by fields Start = decimal fields.start
-piece_by fields End = decimal fields.end
-piece_by fields PatternNumber = decimal fields.pattern
-piece_by fields Found = fields.text
+abbrev pub stands_for : FieldsTold → Piece → List ℕ
+stands_for fields (Byte byte) = byte ∷ []
+stands_for fields Path = fields.path
+stands_for fields LineNumber = decimal fields.line
+stands_for fields Start = decimal fields.start
+stands_for fields End = decimal fields.end
+stands_for fields PatternNumber = decimal fields.pattern
+stands_for fields Found = fields.text
 
 -- a match by a format, on a line of its own: its pieces, one after another
 abbrev pub formatted_by : List Piece → FieldsTold → List ℕ
-formatted_by pieces fields = flat_map (λ piece. piece_by fields piece) pieces ++ codes "\n"
+formatted_by pieces fields = flat_map (λ piece. stands_for fields piece) pieces ++ codes "\n"
 
-abbrev pub form_by : Form → FieldsTold → List ℕ
-form_by Json fields = json_by fields
-form_by (Pieces pieces) fields = formatted_by pieces.now fields
+abbrev pub object_in : Form → FieldsTold → List ℕ
+object_in Json fields = json_by fields
+object_in (Pieces pieces) fields = formatted_by pieces.now fields
 
 -- a match of a line, so or so: nothing of an empty one
 abbrev pub object_by : Style → Place → List ℕ → Occurrence → List ℕ
-object_by style place line m = if m.start == m.end then [] else form_by style.form (fields_by style place line m)
+object_by style place line m = if m.start == m.end then [] else object_in style.form (fields_by style place line m)
 
 -- one match after another
 abbrev pub objects_by : Style → Place → List ℕ → List Occurrence → List ℕ

@@ -2,7 +2,7 @@
 
 ghost use Rattle.std.specs.Prelude.{◌≡◌, ◌≤◌, ◌<◌, ◌∷◌, ◌++◌, [], IfSome, OnOk, Some, length};
 ghost use Rattle.acgrep.specs.Arguments.{FailsBy};
-ghost use Rattle.acgrep.specs.Formats.{format_text, front_at, front_by, pieces_by, plain_front, up_to_brace};
+ghost use Rattle.acgrep.specs.Formats.{format_text, front_at, front_by, format_pieces, plain_front, up_to_brace};
 ghost use Rattle.acgrep.specs.Mistakes.{TellsBy};
 ghost use Rattle.acgrep.specs.Told.{format_parts};
 
@@ -40,9 +40,9 @@ pub struct Front {
 
 /// Reads a format, in place of the pieces of another one.
 pub fn read_format<'a>(format: &'a [u8], pieces: &mut Vec<Piece>) -> Result<(), Refusal<'a>>
-    ensures read { OnOk result (pieces_by format.now ≡ Some pieces.new.items) }
+    ensures read { OnOk result (format_pieces format.now ≡ Some pieces.new.items) }
     ensures whole { OnOk result (format_text pieces.new.items ≡ format.now) }
-    ensures refused { FailsBy (pieces_by format.now) result }
+    ensures refused { FailsBy (format_pieces format.now) result }
     ensures wrong { TellsBy (format_parts format.now) result }
 {
     pieces.clear();

@@ -5,7 +5,7 @@ ghost use Rattle.std.specs.Prelude.{◌≡◌, ◌<◌, ◌++◌, decimal, true}
 ghost use Rattle.aho_core.specs.Patterns.{Patterns};
 ghost use Rattle.std.specs.Str.{is_utf8};
 ghost use Rattle.acgrep.specs.Printed.{Puts, PutsEach};
-ghost use Rattle.acgrep.specs.Objects.{PutsObjects, bytes_named, escaped_byte, fields_told, formatted_by, hex_of, json_by, json_escaped, object_by, objects_by, piece_by};
+ghost use Rattle.acgrep.specs.Objects.{PutsObjects, bytes_named, escaped_byte, fields_told, formatted_by, hex_of, json_by, json_escaped, object_by, objects_by, stands_for};
 
 use crate::alone::{behind_alone, next_alone};
 use crate::base64::put_base64;
@@ -152,7 +152,7 @@ fn put_formatted<W: Write>(output: &mut W, pieces: &[Piece], fields: &Fields<'_>
 /// Writes what a piece of a format stands for.
 fn put_piece<W: Write>(output: &mut W, piece: Piece, fields: &Fields<'_>) -> io::Result<()>
     ensures written { Puts W.Write output.old output.new result
-        (piece_by (fields_told fields.now) piece) }
+        (stands_for (fields_told fields.now) piece) }
 {
     match piece {
         Piece::Byte(byte) => output.write_all(&[byte]),

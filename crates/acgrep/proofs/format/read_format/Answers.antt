@@ -2,7 +2,7 @@
 use Rattle.std.proofs.Common.{◌≡◌, ℕ, ◌<◌, ◌-◌, ◌∷◌, ◌++◌, [], List, Option, Some, ◌∙◌, ap, sym, arith, length, take, drop}
 use Rattle.std.proofs.lemmas.Grind.{common_steps}
 use Rattle.std.specs.Prelude.{option_map}
-use Rattle.acgrep.specs.Formats.{front_by, pieces_by, unknown_in}
+use Rattle.acgrep.specs.Formats.{front_by, format_pieces, unknown_in}
 use Rattle.acgrep.specs.declared.format.Piece.{Piece}
 use Rattle.acgrep.proofs.FormatTexts.{whole_text}
 use Rattle.acgrep.proofs.Formatted.{pieces_end, pieces_more, pieces_step, rest_behind, unknown_step}
@@ -20,9 +20,9 @@ loop-rest-preserved c =
     record {
       read = c.loop-rest.invariant.read
           ∙ ap (λ (o : Option (List Piece)). option_map (λ pieces. items ++ pieces) o) (pieces_step rest front some c.in-Some.ensures.some is)
-          ∙ pieces_more items front.piece (pieces_by (drop front.len rest))
-          ∙ ap (λ (l : List ℕ). option_map (λ pieces. (items ++ (front.piece ∷ [])) ++ pieces) (pieces_by l)) behind
-          ∙ ap (λ (l : List Piece). option_map (λ pieces. l ++ pieces) (pieces_by left)) (sym c.in_ok-add_piece-in-Some.ensures.added);
+          ∙ pieces_more items front.piece (format_pieces (drop front.len rest))
+          ∙ ap (λ (l : List ℕ). option_map (λ pieces. (items ++ (front.piece ∷ [])) ++ pieces) (format_pieces l)) behind
+          ∙ ap (λ (l : List Piece). option_map (λ pieces. l ++ pieces) (format_pieces left)) (sym c.in_ok-add_piece-in-Some.ensures.added);
       unknown = c.loop-rest.invariant.unknown ∙ unknown_step rest front some c.in-Some.ensures.some is ∙ ap unknown_in behind;
     }
 
