@@ -88,11 +88,7 @@ fn search_below<F: Open + Folders, R: Read, W: Sink, E: Sink>(
         tell_memory(errors);
         return 2;
     };
-    let job = job_of(
-        flags,
-        terminal,
-        !is_alone(operands.names, names.as_slice()),
-    );
+    let job = job_of(flags, terminal, !is_alone(operands.names, names.as_slice()));
     let named = Files {
         alloc: operands.alloc,
         names: names.as_slice(),

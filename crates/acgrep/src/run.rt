@@ -289,9 +289,7 @@ fn search<F: Open + Folders, R: Read, W: Sink, E: Sink>(
         files,
     };
     match Searcher::build(alloc, kind_sought(flags), flags.ignore_case, words) {
-        Ok(searcher) => search_operands(
-            &searcher, flags, terminal, &named, input, output, errors,
-        ),
+        Ok(searcher) => search_operands(&searcher, flags, terminal, &named, input, output, errors),
         Err(error) => {
             tell_refusal(&keys, sources, &error, errors);
             2

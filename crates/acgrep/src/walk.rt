@@ -79,11 +79,7 @@ impl Found {
 }
 
 /// The files that these operands name: themselves, and those below folders. Where there is no operand, those below the working folder.
-pub fn walk<F: Folders>(
-    alloc: Global,
-    files: &F,
-    operands: &[&[u8]],
-) -> Result<Found, AllocError>
+pub fn walk<F: Folders>(alloc: Global, files: &F, operands: &[&[u8]]) -> Result<Found, AllocError>
     ensures found { IfOk result (λ found. AreBelow (tree_of F.Folders files.now) (name_bytes operands.now)
         (bytes_of found.names.items) (missed_of found.unread.items)) }
 {

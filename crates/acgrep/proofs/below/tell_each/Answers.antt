@@ -32,5 +32,5 @@ returns g c =
     let gone : c.loop-first.rest.now ≡ [] = all-gone c.loop-first.rest.now c.in_default.ensures.cases in
     record {
       told = subst (λ (hushed : Bool). TellsMissed g.E.Sink hushed all c.args.errors.now c.loop-first.errors) (sym c.if-hushed.false)
-      (told-end g.E.Sink all (missed_of c.loop-first.rest.now) c.args.errors.now c.loop-first.errors (ap (λ l. length (missed_of l)) gone) c.loop-first.invariant);
+          (told-end g.E.Sink all (missed_of c.loop-first.rest.now) c.args.errors.now c.loop-first.errors (ap (λ l. length (missed_of l)) gone) c.loop-first.invariant);
     }

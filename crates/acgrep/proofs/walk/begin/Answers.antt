@@ -18,9 +18,9 @@ returns-then-not-is_empty g c =
     let some : 0 < length names = subst (λ (n : ℕ). 0 < n) (sym (length-map c.args.operands.now (λ name. name.now))) full in
     record {
       begun = on_ok_weaker c.put_given.result
-      (λ put. subst (λ (l : List Spot). Begins tree names l found) (sym (put ∙ ap (λ l. spots_of l ++ map operand names) c.requires.none))
-      (begins-given tree names found some (ap bytes_of c.requires.nothing) (ap missed_of c.requires.nowhere)))
-      c.put_given.ensures.put;
+          (λ put. subst (λ (l : List Spot). Begins tree names l found) (sym (put ∙ ap (λ l. spots_of l ++ map operand names) c.requires.none))
+          (begins-given tree names found some (ap bytes_of c.requires.nothing) (ap missed_of c.requires.nowhere)))
+          c.put_given.ensures.put;
     }
 
 pub returns-in-Ok : goal.returns-in-Ok
@@ -33,10 +33,10 @@ returns-in-Ok g c =
     let after = spots_of c.put_first.new.pending.items in
     record {
       begun = on_ok_weaker c.put_first.result
-      (λ put. subst (λ (operands : List (List ℕ)). Begins tree operands after found) (sym none)
-      (begins-here tree found names after c.in-Ok.ensures.told (subst (λ (l : List Spot). PutsInside names [] l after) (ap spots_of c.requires.none) put)
-      (ap bytes_of c.requires.nothing) (ap missed_of c.requires.nowhere)))
-      c.put_first.ensures.put;
+          (λ put. subst (λ (operands : List (List ℕ)). Begins tree operands after found) (sym none)
+          (begins-here tree found names after c.in-Ok.ensures.told (subst (λ (l : List Spot). PutsInside names [] l after) (ap spots_of c.requires.none) put)
+          (ap bytes_of c.requires.nothing) (ap missed_of c.requires.nowhere)))
+          c.put_first.ensures.put;
     }
 
 pub returns-in_ok-from_slice-in-Err : goal.returns-in_ok-from_slice-in-Err
@@ -47,9 +47,9 @@ returns-in_ok-from_slice-in-Err g c =
     let none : name_bytes c.args.operands.now ≡ [] = ap name_bytes (all-gone c.args.operands.now empty) in
     record {
       begun = on_ok_weaker c.miss.result
-      (λ grown. subst (λ (operands : List (List ℕ)). Begins tree operands (spots_of c.args.pending.now.items) found) (sym none)
-      (subst (λ (l : List Spot). Begins tree [] l found) (sym (ap spots_of c.requires.none))
-      (begins-nowhere tree found (ap (λ n. bytes_of n.items) c.miss.ensures.names ∙ ap bytes_of c.requires.nothing)
-      (grown ∙ ap (λ l. missed_of l ++ (c.in_ok-from_slice-in-Err.field-0.items ∷ [])) c.requires.nowhere ∙ ap (λ (n : List ℕ). n ∷ []) c.in_ok-from_slice-in-Err.ensures.items))))
-      c.miss.ensures.unread;
+          (λ grown. subst (λ (operands : List (List ℕ)). Begins tree operands (spots_of c.args.pending.now.items) found) (sym none)
+          (subst (λ (l : List Spot). Begins tree [] l found) (sym (ap spots_of c.requires.none))
+          (begins-nowhere tree found (ap (λ n. bytes_of n.items) c.miss.ensures.names ∙ ap bytes_of c.requires.nothing)
+          (grown ∙ ap (λ l. missed_of l ++ (c.in_ok-from_slice-in-Err.field-0.items ∷ [])) c.requires.nowhere ∙ ap (λ (n : List ℕ). n ∷ []) c.in_ok-from_slice-in-Err.ensures.items))))
+          c.miss.ensures.unread;
     }

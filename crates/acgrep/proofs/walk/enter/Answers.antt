@@ -14,8 +14,8 @@ returns-in-Ok g c =
     let after = spots_of c.put_first.new.pending.items in
     record {
       entered = on_ok_weaker c.put_first.result
-      (λ put. enters-put tree c.args.name.items names before after c.args.found.now
-      (listed-as tree c.as_slice.result.now c.args.name.items names c.as_slice.ensures.value c.in-Ok.ensures.told)
-      (subst (λ (folder : List ℕ). PutsInside names folder before after) c.as_slice-in-Ok.ensures.value put))
-      c.put_first.ensures.put;
+          (λ put. enters-put tree c.args.name.items names before after c.args.found.now
+          (listed-as tree c.as_slice.result.now c.args.name.items names c.as_slice.ensures.value c.in-Ok.ensures.told)
+          (subst (λ (folder : List ℕ). PutsInside names folder before after) c.as_slice-in-Ok.ensures.value put))
+          c.put_first.ensures.put;
     }

@@ -13,9 +13,9 @@ returns-then-is_folder g c =
     let spot = spot_of c.args.spot in
     record {
       finds = on_ok_weaker c.enter.result
-      (finds-entered tree spot (spots_of c.args.pending.now.items) c.args.found.now c.enter.new.found (spots_of c.enter.new.pending.items) c.requires.other
-      (folder-alone tree spot c.args.kind (sym c.is_folder.ensures ∙ c.if-is_folder.true) c.requires.kind))
-      c.enter.ensures.entered;
+          (finds-entered tree spot (spots_of c.args.pending.now.items) c.args.found.now c.enter.new.found (spots_of c.enter.new.pending.items) c.requires.other
+          (folder-alone tree spot c.args.kind (sym c.is_folder.ensures ∙ c.if-is_folder.true) c.requires.kind))
+          c.enter.ensures.entered;
     }
 
 pub returns-then-is_searched : goal.returns-then-is_searched
@@ -25,9 +25,9 @@ returns-then-is_searched g c =
     let searched : is_searched c.args.kind c.args.spot.given ≡ true = sym c.is_searched.ensures ∙ c.if-is_searched.true in
     record {
       finds = on_ok_weaker c.add.result
-      (λ grown. finds-looked tree spot (spots_of c.args.pending.now.items) c.args.found.now c.add.new.self c.args.kind c.requires.other c.requires.kind
-      (sym c.is_folder.ensures ∙ c.if-is_folder.false) (rw searched grown) c.add.ensures.unread)
-      c.add.ensures.names;
+          (λ grown. finds-looked tree spot (spots_of c.args.pending.now.items) c.args.found.now c.add.new.self c.args.kind c.requires.other c.requires.kind
+          (sym c.is_folder.ensures ∙ c.if-is_folder.false) (rw searched grown) c.add.ensures.unread)
+          c.add.ensures.names;
     }
 
 pub returns : goal.returns
@@ -37,5 +37,5 @@ returns g c =
     let passed : is_searched c.args.kind c.args.spot.given ≡ false = sym c.is_searched.ensures ∙ c.if-is_searched.false in
     record {
       finds = finds-looked tree spot (spots_of c.args.pending.now.items) c.args.found.now c.args.found.now c.args.kind c.requires.other c.requires.kind
-      (sym c.is_folder.ensures ∙ c.if-is_folder.false) (rw passed (sym (append-nil (bytes_of c.args.found.now.names.items)))) refl;
+          (sym c.is_folder.ensures ∙ c.if-is_folder.false) (rw passed (sym (append-nil (bytes_of c.args.found.now.names.items)))) refl;
     }
