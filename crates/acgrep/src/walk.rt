@@ -123,11 +123,27 @@ fn begin<F: Folders>(
     }
     match list_named(alloc, files, HERE) {
         Ok(names) => {
-            let above = Vec::new(alloc);
+            let above = around_here(alloc, files, follow)?;
             put_first(alloc, names, b"", above.as_slice(), pending)
         }
         Err(error) => found.miss(Vec::from_slice(alloc, HERE)?, Some(Reason::of(&error))),
     }
+}
+
+/// What stands around the names in the working folder: that folder, where links are followed and it can be told from others.
+fn around_here<F: Folders>(
+    alloc: Global,
+    files: &F,
+    follow: bool,
+) -> Result<Vec<Identity>, AllocError> {
+    let mut around = Vec::new(alloc);
+    if !follow {
+        return Ok(around);
+    }
+    if let Ok(identity) = identity_of(files, HERE) {
+        around.push(identity)?;
+    }
+    Ok(around)
 }
 
 /// Puts down the operands.

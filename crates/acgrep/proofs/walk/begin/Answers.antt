@@ -23,8 +23,8 @@ returns-then-not-is_empty g c =
           c.put_given.ensures.put;
     }
 
-pub returns-in-Ok : goal.returns-in-Ok
-returns-in-Ok g c =
+pub returns-in_ok-above-in-Ok : goal.returns-in_ok-above-in-Ok
+returns-in_ok-above-in-Ok g c =
     let tree = tree_of g.F.Folders c.args.files.now in
     let found = c.args.found.now in
     let empty : length c.args.operands.now ≡ 0 = grind (arith, common_steps, c.is_empty.ensures, c.if-not-is_empty.false) in
