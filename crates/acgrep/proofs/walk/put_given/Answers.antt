@@ -1,5 +1,5 @@
 -- An operand more was put down.
-use Rattle.std.proofs.Common.{◌≡◌, [], ◌∷◌, ◌++◌, ◌-◌, true, ◌∙◌, ◌<◌, ℕ, List, Bor, length, take, drop, map, ap, arith}
+use Rattle.std.proofs.Common.{◌≡◌, [], ◌∷◌, ◌++◌, ◌-◌, ◌∙◌, ◌<◌, ℕ, List, Bor, length, take, drop, map, ap, arith}
 use Rattle.std.proofs.Math.ListN.{get_or}
 use Rattle.std.proofs.lemmas.Grind.{common_steps}
 use Rattle.std.proofs.lemmas.List.{map-append}
