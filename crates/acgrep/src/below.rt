@@ -6,9 +6,9 @@ ghost use Rattle.programs.specs.Names.{name_bytes};
 ghost use Rattle.acgrep.specs.Arguments.{said};
 ghost use Rattle.acgrep.specs.Files.{AreFilesBegun, AreSearchedOr};
 ghost use Rattle.acgrep.specs.Folders.{known_by, missed_of, tree_of};
-ghost use Rattle.acgrep.specs.Listed.{bytes_of};
-ghost use Rattle.acgrep.specs.Reached.{TellsMissed};
-ghost use Rattle.acgrep.specs.Runs.{BeginsOrKeeps, SearchesReached, is_alone, status_reached};
+ghost use Rattle.acgrep.specs.Listed.{listed_bytes};
+ghost use Rattle.acgrep.specs.Reached.{SearchesOperands, TellsMissed};
+ghost use Rattle.acgrep.specs.Runs.{BeginsOrKeeps, is_alone, status_reached};
 ghost use Rattle.acgrep.specs.Searchers.{IsSearcherOf};
 ghost use Rattle.acgrep.specs.Selected.{ForLines};
 ghost use Rattle.acgrep.specs.Told.{TellsOfFiles, TellsOfReached};
@@ -40,10 +40,9 @@ pub fn search_operands<F: Open + Folders, R: Read, W: Sink, E: Sink>(
 ) -> u8
     requires of { (p : Patterns) × IsSearcherOf p searcher.now }
     ensures bound { result ≤ 2 }
-    ensures searched { ForLines (λ p. IsSearcherOf p searcher.now) (λ p. result < 2
-        → SearchesReached (known_by F.Open F.Folders operands.now.files.now) terminal (said given.now) p
-        (name_bytes operands.now.names.now) (R.remaining input.old) (R.remaining input.new)
-        (W.taken output.old) (W.taken output.new) result) }
+    ensures searched { SearchesOperands F.Open F.Folders R.Read W.Sink operands.now.files.now
+        operands.now.names.now searcher.now terminal (said given.now)
+        input.old input.new output.old output.new result }
     ensures begun { ForLines (λ p. IsSearcherOf p searcher.now) (λ p.
         BeginsOrKeeps (known_by F.Open F.Folders operands.now.files.now) terminal (said given.now) p
         (name_bytes operands.now.names.now) (R.remaining input.old)
@@ -71,10 +70,9 @@ fn search_below<F: Open + Folders, R: Read, W: Sink, E: Sink>(
     requires of { (p : Patterns) × IsSearcherOf p searcher.now }
     requires recursive { given.now.flags.recursive ≡ true }
     ensures bound { result ≤ 2 }
-    ensures searched { ForLines (λ p. IsSearcherOf p searcher.now) (λ p. result < 2
-        → SearchesReached (known_by F.Open F.Folders operands.now.files.now) terminal (said given.now) p
-        (name_bytes operands.now.names.now) (R.remaining input.old) (R.remaining input.new)
-        (W.taken output.old) (W.taken output.new) result) }
+    ensures searched { SearchesOperands F.Open F.Folders R.Read W.Sink operands.now.files.now
+        operands.now.names.now searcher.now terminal (said given.now)
+        input.old input.new output.old output.new result }
     ensures begun { ForLines (λ p. IsSearcherOf p searcher.now) (λ p.
         BeginsOrKeeps (known_by F.Open F.Folders operands.now.files.now) terminal (said given.now) p
         (name_bytes operands.now.names.now) (R.remaining input.old)
@@ -167,7 +165,7 @@ fn is_alone(operands: &[&[u8]], files: &[&[u8]]) -> bool
 
 /// The bytes of these names.
 fn slices_of(alloc: Global, names: &[Vec<u8>]) -> Result<Vec<&[u8]>, AllocError>
-    ensures slices { IfOk result (λ slices. name_bytes slices.items ≡ bytes_of names.now) }
+    ensures slices { IfOk result (λ slices. name_bytes slices.items ≡ listed_bytes names.now) }
 {
     let mut slices = Vec::new(alloc);
     let mut rest = names;
