@@ -1,5 +1,5 @@
 -- Where there is a file standard input is not searched in its place.
-use Rattle.std.proofs.Common.{◌≡◌, ◌<◌, false, List, ℕ, length, subst, sym, arith}
+use Rattle.std.proofs.Common.{◌<◌, false, List, ℕ, length, subst, sym, arith}
 use Rattle.std.proofs.lemmas.Grind.{common_steps}
 use Rattle.std.proofs.lemmas.List.{length-map}
 use Rattle.programs.specs.Names.{name_bytes}

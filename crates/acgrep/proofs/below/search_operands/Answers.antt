@@ -1,5 +1,5 @@
 -- The operands themselves were searched, where folders are not entered.
-use Rattle.std.proofs.Common.{◌≡◌, [], Bool, refl, inr, subst}
+use Rattle.std.proofs.Common.{[], Bool, refl, inr, subst}
 use Rattle.programs.specs.Names.{name_bytes, or_input}
 use Rattle.acgrep.specs.Folders.{tree_of}
 use Rattle.acgrep.specs.Runs.{IsJob}

@@ -1,5 +1,5 @@
 -- A walk begins at the operands, or in the working folder.
-use Rattle.std.proofs.Common.{◌≡◌, ◌∷◌, ◌<◌, [], ◌++◌, ◌∙◌, List, ℕ, length, map, ap, subst, sym, arith, codes}
+use Rattle.std.proofs.Common.{◌≡◌, ◌∷◌, ◌<◌, [], ◌++◌, ◌∙◌, List, ℕ, length, map, ap, subst, sym, arith}
 use Rattle.std.proofs.lemmas.Grind.{common_steps}
 use Rattle.std.proofs.lemmas.List.{length-map}
 use Rattle.std.proofs.lemmas.Result.{on_ok_weaker}

@@ -1,7 +1,7 @@
 -- The names of a folder were put down in order.
 use Rattle.std.proofs.Common.{List, ℕ, subst}
 use Rattle.std.proofs.lemmas.Result.{on_ok_weaker}
-use Rattle.acgrep.specs.Folders.{Enters, PutsInside, spots_of, tree_of}
+use Rattle.acgrep.specs.Folders.{PutsInside, spots_of, tree_of}
 use Rattle.acgrep.specs.Listed.{bytes_of}
 use Rattle.acgrep.proofs.Walking.{enters-put, listed-as}
 use Rattle.acgrep.proofs.walk.enter.Goals as goal

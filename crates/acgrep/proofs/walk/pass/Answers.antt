@@ -1,5 +1,5 @@
 -- A name was looked at.
-use Rattle.std.proofs.Common.{◌≡◌, ◌∙◌, sym}
+use Rattle.std.proofs.Common.{◌∙◌, sym}
 use Rattle.std.proofs.lemmas.Result.{on_ok_weaker}
 use Rattle.acgrep.specs.Folders.{spot_of, spots_of, tree_of}
 use Rattle.acgrep.proofs.Walking.{finds-input, finds-missed}

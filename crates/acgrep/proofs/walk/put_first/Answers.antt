@@ -3,7 +3,7 @@ use Rattle.std.proofs.Common.{rules, ◌≡◌, [], ◌++◌, ◌∙◌, length,
 use Rattle.std.specs.Ordering.{is_lt, nat_cmp}
 use Rattle.std.specs.Cmp.Lexicographic.{slice_cmp}
 use Rattle.std.proofs.lemmas.List.Sorted.{IsPermutation-map}
-use Rattle.acgrep.specs.Folders.{PutsInside, inside, spots_of}
+use Rattle.acgrep.specs.Folders.{inside, spots_of}
 use Rattle.acgrep.specs.Listed.{bytes_of}
 use Rattle.acgrep.proofs.Walking.{all-gone, sorted-map}
 use Rattle.acgrep.proofs.walk.put_first.Goals as goal
