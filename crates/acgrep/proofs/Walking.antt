@@ -9,15 +9,15 @@ use Rattle.std.specs.Ordering.{nat_cmp}
 use Rattle.std.proofs.Math.ListN.{get_or}
 use Rattle.std.proofs.lemmas.List.{append-nil, append_assoc, get_or-map, length-map, map-append, take_all}
 use Rattle.std.proofs.lemmas.List.Sorted.{IsPermutation-trans}
-use Rattle.acgrep.specs.Folders.{AreBelow, AreFiles, Begins, Enters, Finds, Holds, IsKind, PutsInside, Spot, Tree, files_by, inside, is_folder, is_standard, missed_of, none, input, missed, looked, entered, operand}
-use Rattle.acgrep.specs.Listed.{bytes_of}
+use Rattle.acgrep.specs.Folders.{AreBelow, AreFiles, Begins, Enters, Finds, HoldsNames, IsKind, PutsInside, Spot, Tree, files_by, inside, is_folder, is_standard, missed_of, none, input, missed, looked, entered, operand}
+use Rattle.acgrep.specs.Listed.{listed_bytes}
 use Rattle.acgrep.specs.declared.folders.Kind.{Kind}
 use Rattle.acgrep.specs.declared.folders.Kind.TheVariants.{File, Folder, Link, Device}
 use Rattle.acgrep.specs.declared.walk.Found.{Found}
 
 -- a folder holds the names that were read, in order
 holds-put : (tree : Tree) (folder : List ℕ) (names ordered : List (List ℕ)) → IfSome (tree.lists folder) (λ known. IsPermutation known names) → IsPermutation names ordered
-    → IsSorted (slice_cmp nat_cmp) ordered → Holds tree folder ordered
+    → IsSorted (slice_cmp nat_cmp) ordered → HoldsNames tree folder ordered
 holds-put tree folder names ordered listed permuted sorted = record { listed = by (tree.lists folder) listed; ordered = sorted }
   where
     by : (known : Option (List (List ℕ))) → IfSome known (λ k. IsPermutation k names) → IfSome known (λ k. IsPermutation k ordered)
@@ -47,20 +47,20 @@ module _ (tree : Tree) (operands : List (List ℕ)) where
   begins-then before after old new so_far step = record {
     leads = λ files unread are.
         let all = so_far.leads (step.files ++ files) (step.unread ++ unread) (step.leads files unread are) in
-        let names : bytes_of old.names.items ++ (step.files ++ files) ≡ bytes_of new.names.items ++ files = sym (append_assoc (bytes_of old.names.items) step.files files) ∙ ap (λ l. l ++ files) (sym step.names) in
+        let names : listed_bytes old.names.items ++ (step.files ++ files) ≡ listed_bytes new.names.items ++ files = sym (append_assoc (listed_bytes old.names.items) step.files files) ∙ ap (λ l. l ++ files) (sym step.names) in
         let others : missed_of old.unread.items ++ (step.unread ++ unread) ≡ missed_of new.unread.items ++ unread = sym (append_assoc (missed_of old.unread.items) step.unread unread) ∙ ap (λ l. l ++ unread) (sym step.missed) in
-        subst (λ (l : List (List ℕ)). AreBelow tree operands (bytes_of new.names.items ++ files) l) others
+        subst (λ (l : List (List ℕ)). AreBelow tree operands (listed_bytes new.names.items ++ files) l) others
         (subst (λ (l : List (List ℕ)). AreBelow tree operands l (missed_of old.unread.items ++ (step.unread ++ unread))) names all);
   }
 
   -- and ends where nothing is left
-  pub begins-end : (found : Found) → Begins tree operands [] found → AreBelow tree operands (bytes_of found.names.items) (missed_of found.unread.items)
+  pub begins-end : (found : Found) → Begins tree operands [] found → AreBelow tree operands (listed_bytes found.names.items) (missed_of found.unread.items)
   begins-end found so_far =
-      subst (λ (l : List (List ℕ)). AreBelow tree operands (bytes_of found.names.items) l) (append-nil (missed_of found.unread.items))
-      (subst (λ (l : List (List ℕ)). AreBelow tree operands l (missed_of found.unread.items ++ [])) (append-nil (bytes_of found.names.items)) (so_far.leads [] [] none))
+      subst (λ (l : List (List ℕ)). AreBelow tree operands (listed_bytes found.names.items) l) (append-nil (missed_of found.unread.items))
+      (subst (λ (l : List (List ℕ)). AreBelow tree operands l (missed_of found.unread.items ++ [])) (append-nil (listed_bytes found.names.items)) (so_far.leads [] [] none))
 
   -- it begins at operands, if there are some
-  pub begins-given : (found : Found) → 0 < length operands → bytes_of found.names.items ≡ [] → missed_of found.unread.items ≡ [] → Begins tree operands (map operand operands) found
+  pub begins-given : (found : Found) → 0 < length operands → listed_bytes found.names.items ≡ [] → missed_of found.unread.items ≡ [] → Begins tree operands (map operand operands) found
   begins-given found some clean empty = record {
     leads = λ files unread are.
         subst (λ (l : List (List ℕ)). AreBelow tree operands (l ++ files) (missed_of found.unread.items ++ unread)) (sym clean)
@@ -74,7 +74,7 @@ module _ (tree : Tree) (operands : List (List ℕ)) where
 -- or in the working folder
 module _ (tree : Tree) (found : Found) where
   pub begins-here : (names : List (List ℕ)) (spots : List Spot) → IfSome (tree.lists (codes ".")) (λ known. IsPermutation known names) → PutsInside names [] [] spots
-      → bytes_of found.names.items ≡ [] → missed_of found.unread.items ≡ [] → Begins tree [] spots found
+      → listed_bytes found.names.items ≡ [] → missed_of found.unread.items ≡ [] → Begins tree [] spots found
   begins-here names spots listed puts clean empty = record {
     leads = λ files unread are.
         let all : AreFiles tree (map (inside []) puts.ordered) files unread = subst (λ (l : List Spot). AreFiles tree l files unread) (puts.put ∙ append-nil (map (inside []) puts.ordered)) are in
@@ -83,11 +83,11 @@ module _ (tree : Tree) (found : Found) where
   }
 
   -- which may be unreadable
-  pub begins-nowhere : bytes_of found.names.items ≡ [] → missed_of found.unread.items ≡ codes "." ∷ [] → Begins tree [] [] found
+  pub begins-nowhere : listed_bytes found.names.items ≡ [] → missed_of found.unread.items ≡ codes "." ∷ [] → Begins tree [] [] found
   begins-nowhere clean missing = record {
     leads = λ files unread are.
         let (no_files, no_others) = nothing-there tree are in
-        inr (ap (λ l. bytes_of found.names.items ++ l) no_files ∙ append-nil (bytes_of found.names.items) ∙ clean, ap (λ l. missed_of found.unread.items ++ l) no_others ∙ append-nil (missed_of found.unread.items) ∙ missing);
+        inr (ap (λ l. listed_bytes found.names.items ++ l) no_files ∙ append-nil (listed_bytes found.names.items) ∙ clean, ap (λ l. missed_of found.unread.items ++ l) no_others ∙ append-nil (missed_of found.unread.items) ∙ missing);
   }
 
 -- what was put down of a folder
@@ -97,7 +97,7 @@ enters-put tree folder names before after found listed puts = inl (puts.ordered,
 
 -- what is found at a name
 module _ (tree : Tree) (spot : Spot) (spots : List Spot) (old new : Found) where
-  pub finds-input : is_standard spot ≡ true → bytes_of new.names.items ≡ bytes_of old.names.items ++ (spot.name ∷ []) → new.unread ≡ old.unread → Finds tree (spot ∷ spots) spots old new
+  pub finds-input : is_standard spot ≡ true → listed_bytes new.names.items ≡ listed_bytes old.names.items ++ (spot.name ∷ []) → new.unread ≡ old.unread → Finds tree (spot ∷ spots) spots old new
   finds-input is grown same = record {
     files = spot.name ∷ [];
     unread = [];
@@ -106,7 +106,7 @@ module _ (tree : Tree) (spot : Spot) (spots : List Spot) (old new : Found) where
     leads = λ more others are. input is are;
   }
 
-  pub finds-looked : (kind : Kind) → is_standard spot ≡ false → IsKind tree spot kind → is_folder kind ≡ false → bytes_of new.names.items ≡ bytes_of old.names.items ++ files_by kind spot
+  pub finds-looked : (kind : Kind) → is_standard spot ≡ false → IsKind tree spot kind → is_folder kind ≡ false → listed_bytes new.names.items ≡ listed_bytes old.names.items ++ files_by kind spot
       → new.unread ≡ old.unread → Finds tree (spot ∷ spots) spots old new
   finds-looked kind other is plain grown same = record {
     files = files_by kind spot;
@@ -120,7 +120,7 @@ module _ (tree : Tree) (spot : Spot) (spots : List Spot) (old new : Found) where
   finds-missed other same grown = record {
     files = [];
     unread = spot.name ∷ [];
-    names = ap (λ n. bytes_of n.items) same ∙ sym (append-nil (bytes_of old.names.items));
+    names = ap (λ n. listed_bytes n.items) same ∙ sym (append-nil (listed_bytes old.names.items));
     missed = grown;
     leads = λ more others are. missed other are;
   }
@@ -129,7 +129,7 @@ module _ (tree : Tree) (spot : Spot) (spots : List Spot) (old new : Found) where
   finds-entered after other is (inl (names, holds, put, same)) = record {
     files = [];
     unread = [];
-    names = ap (λ f. bytes_of f.names.items) same ∙ sym (append-nil (bytes_of old.names.items));
+    names = ap (λ f. listed_bytes f.names.items) same ∙ sym (append-nil (listed_bytes old.names.items));
     missed = ap (λ f. missed_of f.unread.items) same ∙ sym (append-nil (missed_of old.unread.items));
     leads = λ more others are. entered names other is holds (subst (λ (l : List Spot). AreFiles tree l more others) put are);
   }

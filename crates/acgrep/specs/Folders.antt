@@ -5,7 +5,7 @@ use Rattle.std.specs.List.Sorted.{IsPermutation, IsSorted}
 use Rattle.std.specs.Cmp.Lexicographic.{slice_cmp}
 use Rattle.std.specs.Ordering.{nat_cmp}
 use Rattle.programs.specs.Names.{is_input}
-use Rattle.acgrep.specs.Listed.{bytes_of}
+use Rattle.acgrep.specs.Listed.{listed_bytes}
 use Rattle.acgrep.specs.declared.folders.Folders.{Ghosts as FolderGhosts}
 use Rattle.acgrep.specs.declared.folders.Kind.{Kind}
 use Rattle.acgrep.specs.declared.folders.Kind.TheVariants.{File, Folder, Link, Device}
@@ -45,12 +45,12 @@ abbrev pub between : (folder name : List ℕ) → List ℕ
 between [] name = if is_input name then codes "./" else []
 between (byte ∷ bytes) name = if ends_with nat_eq (byte ∷ bytes) (codes "/") then [] else codes "/"
 
-abbrev pub joined : (folder name : List ℕ) → List ℕ
-joined folder name = folder ++ (between folder name ++ name)
+abbrev pub path_inside : (folder name : List ℕ) → List ℕ
+path_inside folder name = folder ++ (between folder name ++ name)
 
 -- what has this name in a folder
 abbrev pub inside : (folder name : List ℕ) → Spot
-inside folder name = record { name = joined folder name; given = false }
+inside folder name = record { name = path_inside folder name; given = false }
 
 -- an operand may be standard input
 abbrev pub is_standard : Spot → Bool
@@ -77,7 +77,7 @@ abbrev pub files_by : Kind → Spot → List (List ℕ)
 files_by kind spot = if is_searched kind spot.given then spot.name ∷ [] else []
 
 -- a folder holds these names, as far as is known, and they are in the order of their bytes
-pub record Holds (tree : Tree) (folder : List ℕ) (names : List (List ℕ)) : Type 0 where
+pub record HoldsNames (tree : Tree) (folder : List ℕ) (names : List (List ℕ)) : Type 0 where
   pub listed : IfSome (tree.lists folder) (λ known. IsPermutation known names)
   pub ordered : IsSorted (slice_cmp nat_cmp) names
 
@@ -93,13 +93,13 @@ pub data AreFiles (tree : Tree) : List Spot → (files unread : List (List ℕ))
       → is_standard spot ≡ false → IsKind tree spot kind → is_folder kind ≡ false
       → AreFiles tree spots files unread → AreFiles tree (spot ∷ spots) (files_by kind spot ++ files) unread
   entered : {spot : Spot} {spots : List Spot} {files unread : List (List ℕ)} (names : List (List ℕ))
-      → is_standard spot ≡ false → IsKind tree spot Folder → Holds tree spot.name names
+      → is_standard spot ≡ false → IsKind tree spot Folder → HoldsNames tree spot.name names
       → AreFiles tree (map (inside spot.name) names ++ spots) files unread → AreFiles tree (spot ∷ spots) files unread
 
 -- those below the working folder, unless that cannot be read
 abbrev pub AreHere : Tree → (files unread : List (List ℕ)) → Type 0
 AreHere tree files unread =
-    ((names : List (List ℕ)) × Holds tree (codes ".") names × AreFiles tree (map (inside []) names) files unread)
+    ((names : List (List ℕ)) × HoldsNames tree (codes ".") names × AreFiles tree (map (inside []) names) files unread)
     ⊎ ((files ≡ []) × (unread ≡ codes "." ∷ []))
 
 -- these files are named by operands, or are below them; where there is no operand, those below the working folder
@@ -122,7 +122,7 @@ missed_of unread = map (λ missed. missed.name.items) unread
 pub record Finds (tree : Tree) (before after : List Spot) (old new : Found) : Type 0 where
   pub files : List (List ℕ)
   pub unread : List (List ℕ)
-  pub names : bytes_of new.names.items ≡ bytes_of old.names.items ++ files
+  pub names : listed_bytes new.names.items ≡ listed_bytes old.names.items ++ files
   pub missed : missed_of new.unread.items ≡ missed_of old.unread.items ++ unread
   pub leads : (more others : List (List ℕ)) → AreFiles tree after more others → AreFiles tree before (files ++ more) (unread ++ others)
 
@@ -136,10 +136,10 @@ pub record PutsInside (names : List (List ℕ)) (folder : List ℕ) (old new : L
 -- what a folder holds was put there, or the folder is told
 abbrev pub Enters : Tree → List ℕ → (before after : List Spot) → Found → Found → Type 0
 Enters tree folder before after old new =
-    ((names : List (List ℕ)) × Holds tree folder names × (after ≡ map (inside folder) names ++ before) × (new ≡ old))
+    ((names : List (List ℕ)) × HoldsNames tree folder names × (after ≡ map (inside folder) names ++ before) × (new ≡ old))
     ⊎ ((after ≡ before) × (new.names ≡ old.names) × (missed_of new.unread.items ≡ missed_of old.unread.items ++ (folder ∷ [])))
 
 -- a walk begins at these names: whatever files they stand for, those are named by the operands
 pub record Begins (tree : Tree) (operands : List (List ℕ)) (spots : List Spot) (found : Found) : Type 0 where
   pub leads : (files unread : List (List ℕ)) → AreFiles tree spots files unread
-      → AreBelow tree operands (bytes_of found.names.items ++ files) (missed_of found.unread.items ++ unread)
+      → AreBelow tree operands (listed_bytes found.names.items ++ files) (missed_of found.unread.items ++ unread)

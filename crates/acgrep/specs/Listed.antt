@@ -2,5 +2,5 @@
 use Rattle.std.specs.Prelude.{ℕ, List, Vec, map}
 
 -- the bytes of each name
-abbrev pub bytes_of : {Z : Type 0} → List (Vec ℕ Z) → List (List ℕ)
-bytes_of names = map (λ name. name.items) names
+abbrev pub listed_bytes : {Z : Type 0} → List (Vec ℕ Z) → List (List ℕ)
+listed_bytes names = map (λ name. name.items) names

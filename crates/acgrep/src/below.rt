@@ -5,7 +5,7 @@ ghost use Rattle.aho_core.specs.Patterns.{Patterns};
 ghost use Rattle.programs.specs.Names.{name_bytes};
 ghost use Rattle.acgrep.specs.Files.{AreFilesBegun, AreSearchedOr};
 ghost use Rattle.acgrep.specs.Folders.{known_by, missed_of, tree_of};
-ghost use Rattle.acgrep.specs.Listed.{bytes_of};
+ghost use Rattle.acgrep.specs.Listed.{listed_bytes};
 ghost use Rattle.acgrep.specs.Reached.{TellsMissed};
 ghost use Rattle.acgrep.specs.Runs.{BeginsOrKeeps, SearchesReached, is_alone, status_reached};
 ghost use Rattle.acgrep.specs.Searchers.{IsSearcherOf};
@@ -160,7 +160,7 @@ fn is_alone(operands: &[&[u8]], files: &[&[u8]]) -> bool
 
 /// The bytes of these names.
 fn slices_of(alloc: Global, names: &[Vec<u8>]) -> Result<Vec<&[u8]>, AllocError>
-    ensures slices { IfOk result (λ slices. name_bytes slices.items ≡ bytes_of names.now) }
+    ensures slices { IfOk result (λ slices. name_bytes slices.items ≡ listed_bytes names.now) }
 {
     let mut slices = Vec::new(alloc);
     let mut rest = names;

@@ -2,7 +2,7 @@
 
 ghost use Rattle.std.specs.Prelude.{◌≡◌, ℕ, Bool, List, Option, None, IfOk, IfSome};
 ghost use Rattle.std.specs.List.Sorted.{IsPermutation};
-ghost use Rattle.acgrep.specs.Listed.{bytes_of};
+ghost use Rattle.acgrep.specs.Listed.{listed_bytes};
 ghost use Rattle.acgrep.specs.declared.folders.Kind.{Kind};
 
 use crate::open::System;
@@ -40,7 +40,7 @@ pub trait Folders {
     /// The names in the folder of this name, in any order, but for `.` and `..`.
     fn list(&self, alloc: Global, name: &str) -> io::Result<Vec<Vec<u8>>>
         ensures told { IfOk result (λ names.
-            IfSome (lists self.now name.now) (λ known. IsPermutation known (bytes_of names.items))) };
+            IfSome (lists self.now name.now) (λ known. IsPermutation known (listed_bytes names.items))) };
 }
 
 impl<'a, R: Files> Folders for System<'a, R> {

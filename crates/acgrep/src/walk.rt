@@ -3,8 +3,8 @@
 ghost use Rattle.std.specs.Prelude.{◌≡◌, [], ◌∷◌, ◌++◌, IfOk, IfSome, OnOk, false, map};
 ghost use Rattle.std.specs.List.Sorted.{IsPermutation};
 ghost use Rattle.programs.specs.Names.{name_bytes};
-ghost use Rattle.acgrep.specs.Folders.{AreBelow, Begins, Enters, Finds, IsKind, PutsInside, between, is_folder, is_searched, is_standard, joined, missed_of, operand, spot_of, spots_of, tree_of};
-ghost use Rattle.acgrep.specs.Listed.{bytes_of};
+ghost use Rattle.acgrep.specs.Folders.{AreBelow, Begins, Enters, Finds, IsKind, PutsInside, between, is_folder, is_searched, is_standard, path_inside, missed_of, operand, spot_of, spots_of, tree_of};
+ghost use Rattle.acgrep.specs.Listed.{listed_bytes};
 
 use crate::folders::{Folders, Kind};
 use crate::keys::is_input;
@@ -59,7 +59,7 @@ impl Found {
     /// A file more.
     fn add(&mut self, name: Vec<u8>) -> Result<(), AllocError>
         ensures names { OnOk result
-            (bytes_of self.new.names.items ≡ bytes_of self.old.names.items ++ (name.items ∷ [])) }
+            (listed_bytes self.new.names.items ≡ listed_bytes self.old.names.items ++ (name.items ∷ [])) }
         ensures unread { self.new.unread ≡ self.old.unread }
     {
         self.names.push(name)?;
@@ -81,7 +81,7 @@ impl Found {
 /// The files that these operands name: themselves, and those below folders. Where there is no operand, those below the working folder.
 pub fn walk<F: Folders>(alloc: Global, files: &F, operands: &[&[u8]]) -> Result<Found, AllocError>
     ensures found { IfOk result (λ found. AreBelow (tree_of F.Folders files.now) (name_bytes operands.now)
-        (bytes_of found.names.items) (missed_of found.unread.items)) }
+        (listed_bytes found.names.items) (missed_of found.unread.items)) }
 {
     let mut found = Found::new(alloc);
     let mut pending = VecDeque::new(alloc);
@@ -231,21 +231,21 @@ fn put_first(
     folder: &[u8],
     pending: &mut VecDeque<Pending>,
 ) -> Result<(), AllocError>
-    ensures put { OnOk result (PutsInside (bytes_of names.items) folder.now
+    ensures put { OnOk result (PutsInside (listed_bytes names.items) folder.now
         (spots_of pending.old.items) (spots_of pending.new.items)) }
 {
     let mut left = names;
     left.sort()?;
     while let Some(last) = left.pop() {
-        let name = joined(alloc, folder, last.as_slice())?;
+        let name = path_inside(alloc, folder, last.as_slice())?;
         pending.push_front(Pending { name, given: false })?;
     }
     Ok(())
 }
 
 /// The name of what has this name in a folder.
-fn joined(alloc: Global, folder: &[u8], name: &[u8]) -> Result<Vec<u8>, AllocError>
-    ensures joined { IfOk result (λ path. path.items ≡ joined folder.now name.now) }
+fn path_inside(alloc: Global, folder: &[u8], name: &[u8]) -> Result<Vec<u8>, AllocError>
+    ensures path_inside { IfOk result (λ path. path.items ≡ path_inside folder.now name.now) }
 {
     let mut path = Vec::new(alloc);
     path.extend_from_slice(folder)?;
@@ -279,7 +279,7 @@ fn look_at<F: Folders>(files: &F, name: &[u8], follow: bool) -> io::Result<Kind>
 /// The names in a folder.
 fn list_named<F: Folders>(alloc: Global, files: &F, name: &[u8]) -> io::Result<Vec<Vec<u8>>>
     ensures told { IfOk result (λ names.
-        IfSome (F.lists files.now name.now) (λ known. IsPermutation known (bytes_of names.items))) }
+        IfSome (F.lists files.now name.now) (λ known. IsPermutation known (listed_bytes names.items))) }
 {
     match str::from_utf8(name) {
         Ok(text) => files.list(alloc, text),

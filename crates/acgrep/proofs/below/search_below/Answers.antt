@@ -6,7 +6,7 @@ use Rattle.programs.proofs.Lines.{some-weaker}
 use Rattle.acgrep.specs.Arguments.{shown_by}
 use Rattle.acgrep.specs.Files.{AreFilesBegun, AreSearchedOr}
 use Rattle.acgrep.specs.Folders.{missed_of, tree_of}
-use Rattle.acgrep.specs.Listed.{bytes_of}
+use Rattle.acgrep.specs.Listed.{listed_bytes}
 use Rattle.acgrep.specs.Reached.{TellsMissed}
 use Rattle.acgrep.specs.Runs.{AreReached, IsJob, are_several, is_alone, status_reached}
 use Rattle.acgrep.specs.Told.{IsMessage, MaySay, TellsStatus, files_told, names_told}
@@ -47,10 +47,10 @@ returns-clause-searched g c = λ p is plain low.
     let tree = tree_of g.F.Folders c.args.operands.now.files.now in
     let flags = c.args.flags.now in
     let names = name_bytes c.args.operands.now.names.now in
-    let files = bytes_of c.in-Ok.found.names.items in
+    let files = listed_bytes c.in-Ok.found.names.items in
     let unread = missed_of c.in-Ok.found.unread.items in
     let reached : AreReached tree flags names files unread = rw c.requires.recursive c.in-Ok.ensures.found in
-    let listed : name_bytes c.in-Ok-slices_of.names.items ≡ files = c.in-Ok-slices_of.ensures.slices ∙ ap bytes_of c.as_slice.ensures.value in
+    let listed : name_bytes c.in-Ok-slices_of.names.items ≡ files = c.in-Ok-slices_of.ensures.slices ∙ ap listed_bytes c.as_slice.ensures.value in
     let searched : name_bytes c.as_slice-3.result.now ≡ files = ap name_bytes c.as_slice-3.ensures.value ∙ listed in
     let found = c.search_found-status.result in
     let alone : is_alone names (name_bytes c.as_slice-2.result.now) ≡ is_alone names files = ap (is_alone names) (ap name_bytes c.as_slice-2.ensures.value ∙ listed) in
@@ -75,10 +75,10 @@ returns-clause-begun g c = λ p is plain.
     let tree = tree_of g.F.Folders c.args.operands.now.files.now in
     let flags = c.args.flags.now in
     let names = name_bytes c.args.operands.now.names.now in
-    let files = bytes_of c.in-Ok.found.names.items in
+    let files = listed_bytes c.in-Ok.found.names.items in
     let unread = missed_of c.in-Ok.found.unread.items in
     let reached : AreReached tree flags names files unread = rw c.requires.recursive c.in-Ok.ensures.found in
-    let listed : name_bytes c.in-Ok-slices_of.names.items ≡ files = c.in-Ok-slices_of.ensures.slices ∙ ap bytes_of c.as_slice.ensures.value in
+    let listed : name_bytes c.in-Ok-slices_of.names.items ≡ files = c.in-Ok-slices_of.ensures.slices ∙ ap listed_bytes c.as_slice.ensures.value in
     let searched : name_bytes c.as_slice-3.result.now ≡ files = ap name_bytes c.as_slice-3.ensures.value ∙ listed in
     let found = c.search_found-status.result in
     let alone : is_alone names (name_bytes c.as_slice-2.result.now) ≡ is_alone names files = ap (is_alone names) (ap name_bytes c.as_slice-2.ensures.value ∙ listed) in
@@ -100,10 +100,10 @@ returns-clause-told g c =
     let tree = tree_of g.F.Folders c.args.operands.now.files.now in
     let flags = c.args.flags.now in
     let names = name_bytes c.args.operands.now.names.now in
-    let files = bytes_of c.in-Ok.found.names.items in
+    let files = listed_bytes c.in-Ok.found.names.items in
     let unread = missed_of c.in-Ok.found.unread.items in
     let reached : AreReached tree flags names files unread = rw c.requires.recursive c.in-Ok.ensures.found in
-    let listed : name_bytes c.in-Ok-slices_of.names.items ≡ files = c.in-Ok-slices_of.ensures.slices ∙ ap bytes_of c.as_slice.ensures.value in
+    let listed : name_bytes c.in-Ok-slices_of.names.items ≡ files = c.in-Ok-slices_of.ensures.slices ∙ ap listed_bytes c.as_slice.ensures.value in
     let searched : name_bytes c.as_slice-3.result.now ≡ files = ap name_bytes c.as_slice-3.ensures.value ∙ listed in
     let found = c.search_found-status.result in
     let status : c.status_below.result ≡ status_reached flags unread found = c.status_below.ensures.status ∙ ap (λ l. status_reached flags (missed_of l) found) c.as_slice-5.ensures.value in

@@ -5,7 +5,7 @@ use Rattle.std.proofs.lemmas.List.{length-map}
 use Rattle.std.proofs.lemmas.Result.{on_ok_weaker}
 use Rattle.programs.specs.Names.{name_bytes}
 use Rattle.acgrep.specs.Folders.{Begins, PutsInside, Spot, missed_of, operand, spots_of, tree_of}
-use Rattle.acgrep.specs.Listed.{bytes_of}
+use Rattle.acgrep.specs.Listed.{listed_bytes}
 use Rattle.acgrep.proofs.Walking.{all-gone, begins-given, begins-here, begins-nowhere}
 use Rattle.acgrep.proofs.walk.begin.Goals as goal
 
@@ -19,7 +19,7 @@ returns-then-not-is_empty g c =
     record {
       begun = on_ok_weaker c.put_given.result
           (λ put. subst (λ (l : List Spot). Begins tree names l found) (sym (put ∙ ap (λ l. spots_of l ++ map operand names) c.requires.none))
-          (begins-given tree names found some (ap bytes_of c.requires.nothing) (ap missed_of c.requires.nowhere)))
+          (begins-given tree names found some (ap listed_bytes c.requires.nothing) (ap missed_of c.requires.nowhere)))
           c.put_given.ensures.put;
     }
 
@@ -29,13 +29,13 @@ returns-in-Ok g c =
     let found = c.args.found.now in
     let empty : length c.args.operands.now ≡ 0 = grind (arith, common_steps, c.is_empty.ensures, c.if-not-is_empty.false) in
     let none : name_bytes c.args.operands.now ≡ [] = ap name_bytes (all-gone c.args.operands.now empty) in
-    let names = bytes_of c.in-Ok.names.items in
+    let names = listed_bytes c.in-Ok.names.items in
     let after = spots_of c.put_first.new.pending.items in
     record {
       begun = on_ok_weaker c.put_first.result
           (λ put. subst (λ (operands : List (List ℕ)). Begins tree operands after found) (sym none)
           (begins-here tree found names after c.in-Ok.ensures.told (subst (λ (l : List Spot). PutsInside names [] l after) (ap spots_of c.requires.none) put)
-          (ap bytes_of c.requires.nothing) (ap missed_of c.requires.nowhere)))
+          (ap listed_bytes c.requires.nothing) (ap missed_of c.requires.nowhere)))
           c.put_first.ensures.put;
     }
 
@@ -49,7 +49,7 @@ returns-in_ok-from_slice-in-Err g c =
       begun = on_ok_weaker c.miss.result
           (λ grown. subst (λ (operands : List (List ℕ)). Begins tree operands (spots_of c.args.pending.now.items) found) (sym none)
           (subst (λ (l : List Spot). Begins tree [] l found) (sym (ap spots_of c.requires.none))
-          (begins-nowhere tree found (ap (λ n. bytes_of n.items) c.miss.ensures.names ∙ ap bytes_of c.requires.nothing)
+          (begins-nowhere tree found (ap (λ n. listed_bytes n.items) c.miss.ensures.names ∙ ap listed_bytes c.requires.nothing)
           (grown ∙ ap (λ l. missed_of l ++ (c.in_ok-from_slice-in-Err.field-0.items ∷ [])) c.requires.nowhere ∙ ap (λ (n : List ℕ). n ∷ []) c.in_ok-from_slice-in-Err.ensures.items))))
           c.miss.ensures.unread;
     }

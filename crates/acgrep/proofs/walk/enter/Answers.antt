@@ -2,14 +2,14 @@
 use Rattle.std.proofs.Common.{List, ℕ, subst}
 use Rattle.std.proofs.lemmas.Result.{on_ok_weaker}
 use Rattle.acgrep.specs.Folders.{PutsInside, spots_of, tree_of}
-use Rattle.acgrep.specs.Listed.{bytes_of}
+use Rattle.acgrep.specs.Listed.{listed_bytes}
 use Rattle.acgrep.proofs.Walking.{enters-put, listed-as}
 use Rattle.acgrep.proofs.walk.enter.Goals as goal
 
 pub returns-in-Ok : goal.returns-in-Ok
 returns-in-Ok g c =
     let tree = tree_of g.F.Folders c.args.files.now in
-    let names = bytes_of c.in-Ok.names.items in
+    let names = listed_bytes c.in-Ok.names.items in
     let before = spots_of c.args.pending.now.items in
     let after = spots_of c.put_first.new.pending.items in
     record {

@@ -4,7 +4,7 @@ use Rattle.std.specs.Ordering.{is_lt, nat_cmp}
 use Rattle.std.specs.Cmp.Lexicographic.{slice_cmp}
 use Rattle.std.proofs.lemmas.List.Sorted.{IsPermutation-map}
 use Rattle.acgrep.specs.Folders.{inside, spots_of}
-use Rattle.acgrep.specs.Listed.{bytes_of}
+use Rattle.acgrep.specs.Listed.{listed_bytes}
 use Rattle.acgrep.proofs.Walking.{all-gone, sorted-map}
 use Rattle.acgrep.proofs.walk.put_first.Goals as goal
 
@@ -16,9 +16,9 @@ returns c =
     let none : c.loop-last.left.items ≡ [] = all-gone c.loop-last.left.items gone in
     record {
       put = record {
-        ordered = bytes_of ordered;
+        ordered = listed_bytes ordered;
         permuted = IsPermutation-map (λ name. name.items) c.args.names.items ordered c.sort.ensures.permutation;
         sorted = sorted-map (λ name. name.items) (λ x y. is_lt (slice_cmp nat_cmp x y)) ordered c.in_ok-sort.ensures.sorted;
-        put = ap (λ l. map (inside folder) (bytes_of l) ++ spots_of c.loop-last.pending.items) (sym none) ∙ c.loop-last.invariant;
+        put = ap (λ l. map (inside folder) (listed_bytes l) ++ spots_of c.loop-last.pending.items) (sym none) ∙ c.loop-last.invariant;
       };
     }

@@ -3,7 +3,7 @@ use Rattle.std.proofs.Common.{◌≡◌, ◌∙◌, true, false, refl, sym}
 use Rattle.std.proofs.lemmas.Result.{on_ok_weaker}
 use Rattle.std.proofs.lemmas.List.{append-nil}
 use Rattle.acgrep.specs.Folders.{is_searched, spot_of, spots_of, tree_of}
-use Rattle.acgrep.specs.Listed.{bytes_of}
+use Rattle.acgrep.specs.Listed.{listed_bytes}
 use Rattle.acgrep.proofs.Walking.{finds-entered, finds-looked, folder-alone}
 use Rattle.acgrep.proofs.walk.take.Goals as goal
 
@@ -37,5 +37,5 @@ returns g c =
     let passed : is_searched c.args.kind c.args.spot.given ≡ false = sym c.is_searched.ensures ∙ c.if-is_searched.false in
     record {
       finds = finds-looked tree spot (spots_of c.args.pending.now.items) c.args.found.now c.args.found.now c.args.kind c.requires.other c.requires.kind
-          (sym c.is_folder.ensures ∙ c.if-is_folder.false) (rw passed (sym (append-nil (bytes_of c.args.found.now.names.items)))) refl;
+          (sym c.is_folder.ensures ∙ c.if-is_folder.false) (rw passed (sym (append-nil (listed_bytes c.args.found.now.names.items)))) refl;
     }
