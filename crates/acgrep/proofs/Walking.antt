@@ -9,7 +9,7 @@ use Rattle.std.specs.Ordering.{nat_cmp}
 use Rattle.std.proofs.Math.ListN.{get_or}
 use Rattle.std.proofs.lemmas.List.{append-nil, append_assoc, get_or-map, length-map, map-append, take_all}
 use Rattle.std.proofs.lemmas.List.Sorted.{IsPermutation-trans}
-use Rattle.acgrep.specs.Folders.{AreBelow, AreFiles, Begins, Enters, Finds, HoldsNames, IsKind, PutsInside, Spot, Tree, files_by, inside, is_folder, is_standard, missed_of, none, input, missed, looked, entered, operand}
+use Rattle.acgrep.specs.Folders.{AreBelow, AreFiles, Begins, Enters, FindsFiles, HoldsNames, IsKind, PutsInside, Spot, Tree, files_by, inside, is_folder, is_standard, missed_of, none, input, missed, looked, entered, operand}
 use Rattle.acgrep.specs.Listed.{listed_bytes}
 use Rattle.acgrep.specs.declared.folders.Kind.{Kind}
 use Rattle.acgrep.specs.declared.folders.Kind.TheVariants.{File, Folder, Link, Device}
@@ -43,7 +43,7 @@ sorted-map f lt (x ∷ xs) sorted = λ k d low high.
 
 module _ (tree : Tree) (operands : List (List ℕ)) where
   -- a walk goes on
-  pub begins-then : (before after : List Spot) (old new : Found) → Begins tree operands before old → Finds tree before after old new → Begins tree operands after new
+  pub begins-then : (before after : List Spot) (old new : Found) → Begins tree operands before old → FindsFiles tree before after old new → Begins tree operands after new
   begins-then before after old new so_far step = record {
     leads = λ files unread are.
         let all = so_far.leads (step.files ++ files) (step.unread ++ unread) (step.leads files unread are) in
@@ -97,7 +97,7 @@ enters-put tree folder names before after found listed puts = inl (puts.ordered,
 
 -- what is found at a name
 module _ (tree : Tree) (spot : Spot) (spots : List Spot) (old new : Found) where
-  pub finds-input : is_standard spot ≡ true → listed_bytes new.names.items ≡ listed_bytes old.names.items ++ (spot.name ∷ []) → new.unread ≡ old.unread → Finds tree (spot ∷ spots) spots old new
+  pub finds-input : is_standard spot ≡ true → listed_bytes new.names.items ≡ listed_bytes old.names.items ++ (spot.name ∷ []) → new.unread ≡ old.unread → FindsFiles tree (spot ∷ spots) spots old new
   finds-input is grown same = record {
     files = spot.name ∷ [];
     unread = [];
@@ -107,7 +107,7 @@ module _ (tree : Tree) (spot : Spot) (spots : List Spot) (old new : Found) where
   }
 
   pub finds-looked : (kind : Kind) → is_standard spot ≡ false → IsKind tree spot kind → is_folder kind ≡ false → listed_bytes new.names.items ≡ listed_bytes old.names.items ++ files_by kind spot
-      → new.unread ≡ old.unread → Finds tree (spot ∷ spots) spots old new
+      → new.unread ≡ old.unread → FindsFiles tree (spot ∷ spots) spots old new
   finds-looked kind other is plain grown same = record {
     files = files_by kind spot;
     unread = [];
@@ -116,7 +116,7 @@ module _ (tree : Tree) (spot : Spot) (spots : List Spot) (old new : Found) where
     leads = λ more others are. looked kind other is plain are;
   }
 
-  pub finds-missed : is_standard spot ≡ false → new.names ≡ old.names → missed_of new.unread.items ≡ missed_of old.unread.items ++ (spot.name ∷ []) → Finds tree (spot ∷ spots) spots old new
+  pub finds-missed : is_standard spot ≡ false → new.names ≡ old.names → missed_of new.unread.items ≡ missed_of old.unread.items ++ (spot.name ∷ []) → FindsFiles tree (spot ∷ spots) spots old new
   finds-missed other same grown = record {
     files = [];
     unread = spot.name ∷ [];
@@ -125,7 +125,7 @@ module _ (tree : Tree) (spot : Spot) (spots : List Spot) (old new : Found) where
     leads = λ more others are. missed other are;
   }
 
-  pub finds-entered : (after : List Spot) → is_standard spot ≡ false → IsKind tree spot Folder → Enters tree spot.name spots after old new → Finds tree (spot ∷ spots) after old new
+  pub finds-entered : (after : List Spot) → is_standard spot ≡ false → IsKind tree spot Folder → Enters tree spot.name spots after old new → FindsFiles tree (spot ∷ spots) after old new
   finds-entered after other is (inl (names, holds, put, same)) = record {
     files = [];
     unread = [];
@@ -133,7 +133,7 @@ module _ (tree : Tree) (spot : Spot) (spots : List Spot) (old new : Found) where
     missed = ap (λ f. missed_of f.unread.items) same ∙ sym (append-nil (missed_of old.unread.items));
     leads = λ more others are. entered names other is holds (subst (λ (l : List Spot). AreFiles tree l more others) put are);
   }
-  finds-entered after other is (inr (put, same, grown)) = subst (λ (l : List Spot). Finds tree (spot ∷ spots) l old new) (sym put) (finds-missed other same grown)
+  finds-entered after other is (inr (put, same, grown)) = subst (λ (l : List Spot). FindsFiles tree (spot ∷ spots) l old new) (sym put) (finds-missed other same grown)
 
 -- the names that were read are those of the folder
 pub listed-as : (tree : Tree) (given folder : List ℕ) (names : List (List ℕ)) → given ≡ folder → IfSome (tree.lists given) (λ known. IsPermutation known names)

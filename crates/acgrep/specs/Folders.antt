@@ -119,7 +119,7 @@ abbrev pub missed_of : List Unread → List (List ℕ)
 missed_of unread = map (λ missed. missed.name.items) unread
 
 -- what was found between two times: whatever files the names behind stand for, those before stand for these and them
-pub record Finds (tree : Tree) (before after : List Spot) (old new : Found) : Type 0 where
+pub record FindsFiles (tree : Tree) (before after : List Spot) (old new : Found) : Type 0 where
   pub files : List (List ℕ)
   pub unread : List (List ℕ)
   pub names : listed_bytes new.names.items ≡ listed_bytes old.names.items ++ files

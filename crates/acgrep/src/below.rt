@@ -6,8 +6,8 @@ ghost use Rattle.programs.specs.Names.{name_bytes};
 ghost use Rattle.acgrep.specs.Files.{AreFilesBegun, AreSearchedOr};
 ghost use Rattle.acgrep.specs.Folders.{known_by, missed_of, tree_of};
 ghost use Rattle.acgrep.specs.Listed.{listed_bytes};
-ghost use Rattle.acgrep.specs.Reached.{TellsMissed};
-ghost use Rattle.acgrep.specs.Runs.{BeginsOrKeeps, SearchesReached, is_alone, status_reached};
+ghost use Rattle.acgrep.specs.Reached.{SearchesOperands, TellsMissed};
+ghost use Rattle.acgrep.specs.Runs.{BeginsOrKeeps, is_alone, status_reached};
 ghost use Rattle.acgrep.specs.Searchers.{IsSearcherOf};
 ghost use Rattle.acgrep.specs.Selected.{ForLines};
 ghost use Rattle.acgrep.specs.Told.{TellsOfFiles, TellsOfReached};
@@ -38,10 +38,9 @@ pub fn search_operands<F: Open + Folders, R: Read, W: Sink, E: Sink>(
 ) -> u8
     requires of { (p : Patterns) × IsSearcherOf p searcher.now }
     ensures bound { result ≤ 2 }
-    ensures searched { ForLines (λ p. IsSearcherOf p searcher.now) (λ p. result < 2
-        → SearchesReached (known_by F.Open F.Folders operands.now.files.now) terminal flags.now p
-        (name_bytes operands.now.names.now) (R.remaining input.old) (R.remaining input.new)
-        (W.taken output.old) (W.taken output.new) result) }
+    ensures searched { SearchesOperands F.Open F.Folders R.Read W.Sink operands.now.files.now
+        operands.now.names.now searcher.now terminal flags.now
+        input.old input.new output.old output.new result }
     ensures begun { ForLines (λ p. IsSearcherOf p searcher.now) (λ p.
         BeginsOrKeeps (known_by F.Open F.Folders operands.now.files.now) terminal flags.now p
         (name_bytes operands.now.names.now) (R.remaining input.old)
@@ -69,10 +68,9 @@ fn search_below<F: Open + Folders, R: Read, W: Sink, E: Sink>(
     requires of { (p : Patterns) × IsSearcherOf p searcher.now }
     requires recursive { flags.now.recursive ≡ true }
     ensures bound { result ≤ 2 }
-    ensures searched { ForLines (λ p. IsSearcherOf p searcher.now) (λ p. result < 2
-        → SearchesReached (known_by F.Open F.Folders operands.now.files.now) terminal flags.now p
-        (name_bytes operands.now.names.now) (R.remaining input.old) (R.remaining input.new)
-        (W.taken output.old) (W.taken output.new) result) }
+    ensures searched { SearchesOperands F.Open F.Folders R.Read W.Sink operands.now.files.now
+        operands.now.names.now searcher.now terminal flags.now
+        input.old input.new output.old output.new result }
     ensures begun { ForLines (λ p. IsSearcherOf p searcher.now) (λ p.
         BeginsOrKeeps (known_by F.Open F.Folders operands.now.files.now) terminal flags.now p
         (name_bytes operands.now.names.now) (R.remaining input.old)

@@ -3,7 +3,7 @@
 ghost use Rattle.std.specs.Prelude.{◌≡◌, [], ◌∷◌, ◌++◌, IfOk, IfSome, OnOk, false, map};
 ghost use Rattle.std.specs.List.Sorted.{IsPermutation};
 ghost use Rattle.programs.specs.Names.{name_bytes};
-ghost use Rattle.acgrep.specs.Folders.{AreBelow, Begins, Enters, Finds, IsKind, PutsInside, between, is_folder, is_searched, is_standard, path_inside, missed_of, operand, spot_of, spots_of, tree_of};
+ghost use Rattle.acgrep.specs.Folders.{AreBelow, Begins, Enters, FindsFiles, IsKind, PutsInside, between, is_folder, is_searched, is_standard, path_inside, missed_of, operand, spot_of, spots_of, tree_of};
 ghost use Rattle.acgrep.specs.Listed.{listed_bytes};
 
 use crate::folders::{Folders, Kind};
@@ -144,7 +144,7 @@ fn pass<F: Folders>(
     pending: &mut VecDeque<Pending>,
     found: &mut Found,
 ) -> Result<(), AllocError>
-    ensures finds { OnOk result (Finds (tree_of F.Folders files.now)
+    ensures finds { OnOk result (FindsFiles (tree_of F.Folders files.now)
         (spot_of spot ∷ spots_of pending.old.items) (spots_of pending.new.items) found.old found.new) }
 {
     if is_standard(&spot) {
@@ -174,7 +174,7 @@ fn take<F: Folders>(
 ) -> Result<(), AllocError>
     requires other { is_standard (spot_of spot) ≡ false }
     requires kind { IsKind (tree_of F.Folders files.now) (spot_of spot) kind }
-    ensures finds { OnOk result (Finds (tree_of F.Folders files.now)
+    ensures finds { OnOk result (FindsFiles (tree_of F.Folders files.now)
         (spot_of spot ∷ spots_of pending.old.items) (spots_of pending.new.items) found.old found.new) }
 {
     if is_folder(kind) {
