@@ -5,12 +5,12 @@ use Rattle.aho_core.specs.declared.search.MatchKind.{MatchKind}
 use Rattle.aho_core.specs.declared.search.MatchKind.TheVariants.{Standard}
 use Rattle.programs.specs.Arguments.{kind_by, texts}
 use Rattle.acredact.specs.declared.arguments.Word.{Word}
-use Rattle.acredact.specs.declared.arguments.Word.TheVariants.{IgnoreCase, Kind, Pattern, Patterns, Table, With, Count, Crlf, AllowEmpty, Strict, Check, Help, Version, File}
+use Rattle.acredact.specs.declared.arguments.Word.TheVariants.{IgnoreCase, Kind, Pattern, Patterns, Table, With, Count, Summary, Crlf, AllowEmpty, Strict, Check, Help, Version, File}
 use Rattle.acredact.specs.declared.arguments.Expects.{Expects}
 use Rattle.acredact.specs.declared.arguments.Expects.TheVariants.{Any, Value, Name}
 use Rattle.acredact.specs.declared.arguments.Item.{Item}
 use Rattle.acredact.specs.declared.arguments.Mixture.{Mixture}
-use Rattle.acredact.specs.declared.arguments.Mixture.TheVariants.{StrictKind, CountCheck}
+use Rattle.acredact.specs.declared.arguments.Mixture.TheVariants.{StrictKind, CountCheck, SummaryCheck}
 use Rattle.acredact.specs.declared.arguments.Reading.{Reading}
 use Rattle.acredact.specs.declared.arguments.Reading.TheVariants.{Whole, Begun, Wrong}
 
@@ -43,6 +43,7 @@ word_by argument =
     else if bytes_eq argument (codes "-t") then Some Table
     else if bytes_eq argument (codes "--with") then Some With
     else if bytes_eq argument (codes "--count") then Some Count
+    else if bytes_eq argument (codes "--summary") then Some Summary
     else if bytes_eq argument (codes "--crlf") then Some Crlf
     else if bytes_eq argument (codes "--allow-empty") then Some AllowEmpty
     else if bytes_eq argument (codes "--strict") then Some Strict
@@ -61,6 +62,7 @@ takes_value Table = true
 takes_value With = true
 takes_value IgnoreCase = false
 takes_value Count = false
+takes_value Summary = false
 takes_value Crlf = false
 takes_value AllowEmpty = false
 takes_value Strict = false
@@ -82,6 +84,7 @@ is_value_of Patterns value = true
 is_value_of Table value = true
 is_value_of With value = true
 is_value_of Count value = true
+is_value_of Summary value = true
 is_value_of Crlf value = true
 is_value_of AllowEmpty value = true
 is_value_of Strict value = true
@@ -157,6 +160,7 @@ is_same Patterns Patterns = true
 is_same Table Table = true
 is_same With With = true
 is_same Count Count = true
+is_same Summary Summary = true
 is_same Crlf Crlf = true
 is_same AllowEmpty AllowEmpty = true
 is_same Strict Strict = true
@@ -193,6 +197,7 @@ option_name Table = codes "-t"
 option_name With = codes "--with"
 option_name IgnoreCase = codes "-e"
 option_name Count = codes "-e"
+option_name Summary = codes "-e"
 option_name Crlf = codes "-e"
 option_name AllowEmpty = codes "-e"
 option_name Strict = codes "-e"
@@ -209,11 +214,16 @@ covers_asked items = is_cover (unwrap_or (last_value Kind items) (codes "cover")
 abbrev pub kind_asked : List Given → MatchKind
 kind_asked items = unwrap_or (option_and_then kind_by (last_value Kind items)) Standard
 
+-- whether it is asked for how often the text of each pattern is written: as lines, or in a summary
+abbrev pub counts_asked : List Given → Bool
+counts_asked items = has Count items || has Summary items
+
 -- the options that do not go together, where some do not: pieces are refused of covers alone, and a check counts nothing
 abbrev pub mixture_of : List Given → Option Mixture
 mixture_of given =
     if has Strict given && not (covers_asked given) then Some StrictKind
     else if has Count given && has Check given then Some CountCheck
+    else if has Summary given && has Check given then Some SummaryCheck
     else None
 
 -- all options and files, where they go together

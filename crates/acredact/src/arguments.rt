@@ -2,7 +2,7 @@
 
 ghost use Rattle.std.specs.Prelude.{◌≡◌, Some, None, IfErr, IfOk, option_map};
 ghost use Rattle.programs.specs.Arguments.{kind_by, texts};
-ghost use Rattle.acredact.specs.Arguments.{all_given, all_asked, any_by, checks_asked, completed, covers_asked, file_by, given_by, has, is_cover, is_same, is_value_of, joined_option_of, kind_asked, last_value, mixture_of, option_name, read_by, read_of, takes_value, word_by, word_read};
+ghost use Rattle.acredact.specs.Arguments.{all_given, all_asked, any_by, checks_asked, completed, counts_asked, covers_asked, file_by, given_by, has, is_cover, is_same, is_value_of, joined_option_of, kind_asked, last_value, mixture_of, option_name, read_by, read_of, takes_value, word_by, word_read};
 ghost use Rattle.acredact.specs.Mistakes.{IsMistake, IsMistakeOfCall, IsMistaken};
 ghost use Rattle.acredact.specs.declared.arguments.Expects.TheVariants.{Any, Value};
 
@@ -26,6 +26,8 @@ pub enum Word {
     With,
     /// `--count`: how often the text of each pattern was written is told.
     Count,
+    /// `--summary`: how much was read, and how often the text of each pattern was written, is told as JSON.
+    Summary,
     /// `--crlf`: a carriage return at the end of a line of a file of patterns or of a table is left out.
     Crlf,
     /// `--allow-empty`: a file of patterns or a table may be empty.
@@ -69,6 +71,8 @@ pub enum Mixture {
     StrictKind,
     /// `--count` with `--check`, which counts nothing.
     CountCheck,
+    /// `--summary` with `--check`.
+    SummaryCheck,
 }
 
 /// Why arguments are wrong.
@@ -111,6 +115,7 @@ fn word_of(argument: &str) -> Option<Word>
         "-t" => Some(Word::Table),
         "--with" => Some(Word::With),
         "--count" => Some(Word::Count),
+        "--summary" => Some(Word::Summary),
         "--crlf" => Some(Word::Crlf),
         "--allow-empty" => Some(Word::AllowEmpty),
         "--strict" => Some(Word::Strict),
@@ -189,6 +194,9 @@ fn mixture_of(items: &[Item<'_>]) -> Option<Mixture>
     }
     if has(items, Word::Count) && has(items, Word::Check) {
         return Some(Mixture::CountCheck);
+    }
+    if has(items, Word::Summary) && has(items, Word::Check) {
+        return Some(Mixture::SummaryCheck);
     }
     None
 }
@@ -361,4 +369,11 @@ pub fn kind_of(items: &[Item<'_>]) -> MatchKind
         Some(name) => kind_by(name).unwrap_or(MatchKind::Standard),
         None => MatchKind::Standard,
     }
+}
+
+/// Whether it is asked for how often the text of each pattern is written: as lines, or in a summary.
+pub fn counts(items: &[Item<'_>]) -> bool
+    ensures counts { result ≡ counts_asked (all_given items.now) }
+{
+    has(items, Word::Count) || has(items, Word::Summary)
 }

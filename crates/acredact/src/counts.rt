@@ -28,45 +28,24 @@ pub fn counts_of(alloc: Global, rules: &[Rule], counted: bool) -> Result<Vec<u64
     Ok(counts)
 }
 
-/// Writes a line for each pattern by one write: how many of its matches were replaced, a TAB, its number from 1 on, a TAB, and the
-/// number of its line in its file, or `-e`.
-///
-/// # Errors
-///
-/// The error says that memory ran out, and nothing was written then.
-pub fn tell_counts<E: Sink>(
-    alloc: Global,
-    errors: &mut Errors<'_, E>,
-    rules: &[Rule],
-    counts: &[u64],
-) -> Result<(), AllocError>
-    ensures told { OnOk result (TellsBytes E.Sink errors.old errors.new
-        (counts_told rules.now counts.now)) }
-    ensures untold { OnErr result (errors.new ≡ errors.old) }
+/// Puts a line for each pattern: how many of its matches were replaced, a TAB, its number from 1 on, a TAB, and the number of its
+/// line in its file, or `-e`.
+pub fn put_counts(text: &mut Vec<u8>, rules: &[Rule], counts: &[u64]) -> Result<(), AllocError>
+    ensures put { OnOk result (text.new.items ≡ text.old.items ++ counts_told rules.now counts.now) }
 {
-    let text = text_of(alloc, rules, counts)?;
-    errors.write(&[text.as_slice()]);
-    Ok(())
-}
-
-/// The lines of all patterns.
-fn text_of(alloc: Global, rules: &[Rule], counts: &[u64]) -> Result<Vec<u8>, AllocError>
-    ensures text { IfOk result (λ text. text.items ≡ counts_told rules.now counts.now) }
-{
-    let mut text = Vec::new(alloc);
     let mut rest = rules;
     let mut left = counts;
     let mut number: usize = 1;
     while !rest.is_empty() {
         if left.is_empty() {
-            return Ok(text);
+            return Ok(());
         }
-        put_count(&mut text, left[0], number, rest[0].line)?;
+        put_count(text, left[0], number, rest[0].line)?;
         number = number.saturating_add(1);
         rest = &rest[1..];
         left = &left[1..];
     }
-    Ok(text)
+    Ok(())
 }
 
 /// Puts the line of a pattern.
@@ -94,7 +73,7 @@ fn put_origin(text: &mut Vec<u8>, line: usize) -> Result<(), AllocError>
 }
 
 /// Puts a number in decimal.
-fn put_number(text: &mut Vec<u8>, number: u64) -> Result<(), AllocError>
+pub fn put_number(text: &mut Vec<u8>, number: u64) -> Result<(), AllocError>
     ensures put { OnOk result (text.new.items ≡ text.old.items ++ decimal number) }
 {
     let mut digits = [0; MAX_DIGITS];

@@ -12,16 +12,19 @@ ghost use Rattle.acredact.specs.Ways.{IfBy, Redacts};
 
 use crate::failure::{tell_output, tell_unread};
 use crate::folder::Folder;
+use crate::meter::{Known, Lent, Metered};
 use crate::streams::Streams;
+use crate::summary::Volume;
 use crate::ways::{Covering, Replacing, Way};
 use aho_automaton::automaton::Automaton;
 use aho_core::error::StreamError;
 use aho_cover::start::StreamCoverStart;
 use aho_devices::adapters::{FromRead, FromWrite};
-use aho_devices::device::Sink;
+use aho_devices::device::{Sink, Source};
 use programs::reason::Reason;
 use std::alloc::Global;
 use std::io::{Read, Write};
+use std::marker::{Brand, PhantomData};
 
 /// What is done to which files.
 #[derive(Clone, Copy)]
@@ -48,6 +51,7 @@ pub fn redact_files<A: Automaton, F: Folder, I: Read, W: Write, E: Sink>(
     automaton: &A,
     job: &Job<'_, '_, F>,
     counts: &mut [u64],
+    volume: &mut Volume,
     streams: &mut Streams<'_, I, W, E>,
 ) -> Result<bool, StreamError>
     requires ready { CanDo A.Automaton automaton.now job.now }
@@ -58,9 +62,9 @@ pub fn redact_files<A: Automaton, F: Folder, I: Read, W: Write, E: Sink>(
     ensures flushed { OnOk result (streams.new.output.device.flushed ≡ true) }
 {
     if job.covers {
-        return cover_files(automaton, job, counts, streams);
+        return cover_files(automaton, job, counts, volume, streams);
     }
-    replace_files(automaton, job, counts, streams)
+    replace_files(automaton, job, counts, volume, streams)
 }
 
 /// Redacts all files by covers. The memory of all is taken before the first is opened.
@@ -68,6 +72,7 @@ fn cover_files<A: Automaton, F: Folder, I: Read, W: Write, E: Sink>(
     automaton: &A,
     job: &Job<'_, '_, F>,
     counts: &mut [u64],
+    volume: &mut Volume,
     streams: &mut Streams<'_, I, W, E>,
 ) -> Result<bool, StreamError>
     requires ready { CanDo A.Automaton automaton.now job.now }
@@ -83,7 +88,7 @@ fn cover_files<A: Automaton, F: Folder, I: Read, W: Write, E: Sink>(
         start,
         replacements: job.replacements,
     };
-    redact_flushed(&mut way, job, counts, streams)
+    redact_flushed(&mut way, job, counts, volume, streams)
 }
 
 /// Redacts all files by matches that share no byte.
@@ -91,6 +96,7 @@ fn replace_files<A: Automaton, F: Folder, I: Read, W: Write, E: Sink>(
     automaton: &A,
     job: &Job<'_, '_, F>,
     counts: &mut [u64],
+    volume: &mut Volume,
     streams: &mut Streams<'_, I, W, E>,
 ) -> Result<bool, StreamError>
     requires ready { CanDo A.Automaton automaton.now job.now }
@@ -106,7 +112,7 @@ fn replace_files<A: Automaton, F: Folder, I: Read, W: Write, E: Sink>(
         automaton,
         replacements: job.replacements,
     };
-    redact_flushed(&mut way, job, counts, streams)
+    redact_flushed(&mut way, job, counts, volume, streams)
 }
 
 /// Redacts each file in a way, and flushes.
@@ -114,6 +120,7 @@ fn redact_flushed<X: Way, F: Folder, I: Read, W: Write, E: Sink>(
     way: &mut X,
     job: &Job<'_, '_, F>,
     counts: &mut [u64],
+    volume: &mut Volume,
     streams: &mut Streams<'_, I, W, E>,
 ) -> Result<bool, StreamError>
     requires ready { (r : Redactor) × Redacts X.Way way.old r }
@@ -123,7 +130,7 @@ fn redact_flushed<X: Way, F: Folder, I: Read, W: Write, E: Sink>(
         result streams.old streams.new counts.old counts.new) }
     ensures flushed { OnOk result (streams.new.output.device.flushed ≡ true) }
 {
-    let all = redact_each(way, job, counts, streams)?;
+    let all = redact_each(way, job, counts, volume, streams)?;
     streams.output.flush()?;
     Ok(all)
 }
@@ -133,6 +140,7 @@ fn redact_each<X: Way, F: Folder, I: Read, W: Write, E: Sink>(
     way: &mut X,
     job: &Job<'_, '_, F>,
     counts: &mut [u64],
+    volume: &mut Volume,
     streams: &mut Streams<'_, I, W, E>,
 ) -> Result<bool, StreamError>
     requires ready { (r : Redactor) × Redacts X.Way way.old r }
@@ -144,7 +152,8 @@ fn redact_each<X: Way, F: Folder, I: Read, W: Write, E: Sink>(
     let mut all = true;
     let mut rest = job.names;
     while !rest.is_empty() {
-        let whole = redact_told(way, job, rest[0], counts, streams)?;
+        let whole = redact_told(way, job, rest[0], counts, volume, streams)?;
+        add_file(volume, whole);
         all = both(all, whole);
         rest = &rest[1..];
     }
@@ -165,6 +174,7 @@ fn redact_told<X: Way, F: Folder, I: Read, W: Write, E: Sink>(
     job: &Job<'_, '_, F>,
     name: &str,
     counts: &mut [u64],
+    volume: &mut Volume,
     streams: &mut Streams<'_, I, W, E>,
 ) -> Result<bool, StreamError>
     requires ready { (r : Redactor) × Redacts X.Way way.old r }
@@ -178,7 +188,7 @@ fn redact_told<X: Way, F: Folder, I: Read, W: Write, E: Sink>(
         tell_output(&mut streams.errors, name);
         return Ok(false);
     }
-    redact_apart(way, job, name, counts, streams)
+    redact_apart(way, job, name, counts, volume, streams)
 }
 
 /// Redacts a file that the output does not go to, and answers whether it was read to its end. One that was not is told.
@@ -187,6 +197,7 @@ fn redact_apart<X: Way, F: Folder, I: Read, W: Write, E: Sink>(
     job: &Job<'_, '_, F>,
     name: &str,
     counts: &mut [u64],
+    volume: &mut Volume,
     streams: &mut Streams<'_, I, W, E>,
 ) -> Result<bool, StreamError>
     requires ready { (r : Redactor) × Redacts X.Way way.old r }
@@ -202,6 +213,7 @@ fn redact_apart<X: Way, F: Folder, I: Read, W: Write, E: Sink>(
         job,
         name,
         counts,
+        volume,
         &mut streams.input,
         &mut streams.output,
     )? {
@@ -219,6 +231,7 @@ fn redact_file<X: Way, F: Folder, I: Read, W: Write>(
     job: &Job<'_, '_, F>,
     name: &str,
     counts: &mut [u64],
+    volume: &mut Volume,
     input: &mut FromRead<I>,
     output: &mut FromWrite<W>,
 ) -> Result<Option<Reason>, StreamError>
@@ -230,10 +243,10 @@ fn redact_file<X: Way, F: Folder, I: Read, W: Write>(
     ensures still { IfBy X.Way way.old (Redacts X.Way way.new) }
 {
     if is_input(name) {
-        return redact_input(way, counts, input, output);
+        return redact_input(way, counts, volume, input, output);
     }
     match job.folder.open(name) {
-        Ok(file) => redact_opened(way, counts, file, output),
+        Ok(file) => redact_opened(way, counts, volume, file, output),
         Err(reason) => Ok(Some(reason)),
     }
 }
@@ -249,6 +262,7 @@ pub fn is_input(name: &str) -> bool
 fn redact_opened<X: Way, I: Read + Drop, W: Write>(
     way: &mut X,
     counts: &mut [u64],
+    volume: &mut Volume,
     reader: I,
     output: &mut FromWrite<W>,
 ) -> Result<Option<Reason>, StreamError>
@@ -260,13 +274,14 @@ fn redact_opened<X: Way, I: Read + Drop, W: Write>(
     ensures still { IfBy X.Way way.old (Redacts X.Way way.new) }
 {
     let mut source = FromRead::new(reader);
-    redact_input(way, counts, &mut source, output)
+    redact_input(way, counts, volume, &mut source, output)
 }
 
 /// Redacts the input to its end, and answers why it cannot be read to that, where it cannot.
 fn redact_input<X: Way, I: Read, W: Write>(
     way: &mut X,
     counts: &mut [u64],
+    volume: &mut Volume,
     input: &mut FromRead<I>,
     output: &mut FromWrite<W>,
 ) -> Result<Option<Reason>, StreamError>
@@ -279,7 +294,63 @@ fn redact_input<X: Way, I: Read, W: Write>(
     ensures failed { input.new.failures ≡ counted (is_unread result) input.old.failures }
 {
     input.restart();
-    reading_of(way.redact(counts, input, output))
+    reading_of(redact_metered(way, counts, volume, input, output))
+}
+
+/// What was read of a source.
+#[derive(Drop)]
+struct Taken<'s, S> {
+    /// The source.
+    lent: Lent<'s, S>,
+    /// How many bytes were counted.
+    bytes: u64,
+    /// Whether it was read to its end.
+    done: Result<(), StreamError>,
+}
+
+/// Redacts a source, and counts its bytes, of which all that it gives are known to be these.
+fn redact_with<'s, K: Known, X: Way, S: Source, W: Sink>(
+    way: &mut X,
+    counts: &mut [u64],
+    lent: Lent<'s, S>,
+    bytes: u64,
+    sink: &mut W,
+) -> Taken<'s, S> {
+    let mut meter = Metered::<S, K> {
+        lent,
+        bytes,
+        settled: true,
+        of: PhantomData,
+    };
+    let done = way.redact(counts, &mut meter, sink);
+    let Metered { lent, bytes, .. } = meter;
+    Taken { lent, bytes, done }
+}
+
+/// Redacts what the input gives, and counts its bytes.
+fn redact_metered<X: Way, I: Read, W: Write>(
+    way: &mut X,
+    counts: &mut [u64],
+    volume: &mut Volume,
+    input: &mut FromRead<I>,
+    output: &mut FromWrite<W>,
+) -> Result<(), StreamError> {
+    let taken = redact_with::<Brand, X, FromRead<I>, FromWrite<W>>(
+        way,
+        counts,
+        Lent { source: input },
+        volume.bytes,
+        output,
+    );
+    volume.bytes = taken.bytes;
+    taken.done
+}
+
+/// One file more, if it was read to its end.
+fn add_file(volume: &mut Volume, whole: bool) {
+    if whole {
+        volume.files = volume.files.saturating_add(1);
+    }
 }
 
 /// Why a stream was not read to its end, where that is so; any other error ends the program.

@@ -16,11 +16,13 @@ mod files;
 mod folder;
 mod load;
 mod look;
+mod meter;
 mod patterns;
 mod redact;
 mod rows;
 mod run;
 mod streams;
+mod summary;
 mod ways;
 
 ghost use Rattle.std.specs.Prelude.{◌≡◌, ◌≤◌, IfErr, IfOk, true};

@@ -21,10 +21,10 @@ ghost use Rattle.acredact.specs.declared.clean.Unclean.{Unclean};
 ghost use Rattle.acredact.specs.declared.failure.Failure.TheVariants.{Unclean as UncleanPiece};
 ghost use Rattle.acredact.specs.declared.arguments.Word.TheVariants.{Count, Strict};
 
-use crate::arguments::{Item, Mistake, Word, checks, covers, has, is_same, items, last_value};
+use crate::arguments::{Item, Mistake, Word, checks, counts, covers, has, is_same, items, last_value};
 use crate::check::check;
 use crate::clean::{Judge, Unclean, unclean_of};
-use crate::counts::{counts_of, tell_counts};
+use crate::counts::{counts_of, put_counts};
 use crate::failure::{Failure, tell_failure, tell_unclean};
 use crate::files::{Job, redact_files};
 use crate::folder::Folder;
@@ -32,6 +32,7 @@ use crate::load::{lists_of, rules};
 use crate::patterns::{Rule, patterns_of, replacements_of};
 use crate::rows::build;
 use crate::streams::Streams;
+use crate::summary::{Volume, put_summary};
 use aho_automaton::automaton::Automaton;
 use aho_core::error::StreamError;
 use aho_devices::adapters::FromWrite;
@@ -48,7 +49,7 @@ const REDACTED: &[u8] = b"[redacted]";
 
 /// What `--help` writes.
 const HELP: &[u8] =
-    b"usage: acredact [-i] [--kind KIND] (-e PATTERN | -f FILE | -t TABLE).. [--with TEXT] [--count | --check] [FILE]..
+    b"usage: acredact [-i] [--kind KIND] (-e PATTERN | -f FILE | -t TABLE).. [--with TEXT] [--count] [--summary] [--check] [FILE]..
 
 Writes each FILE with a text in the place of each run of bytes that lie in matches of the patterns. No FILE, or -, is standard input.
 
@@ -60,6 +61,7 @@ Writes each FILE with a text in the place of each run of bytes that lie in match
                 one of several matches that overlap, and then a part of another can stay
   --with TEXT   the replacement of patterns that have none of their own: [redacted] if none is given
   --count       write to standard error how often the text of each pattern was written
+  --summary     write to standard error how many files and bytes were read, and these counts, as an object of JSON
   --check       write nothing: the status is 1 if something would be replaced, 0 if nothing
   --crlf        leave out a carriage return at the end of a line of a FILE of patterns or a TABLE
   --allow-empty allow an empty FILE of patterns or TABLE
@@ -270,9 +272,9 @@ fn redact_counted<'a, F: Folder, I: Read, W: Write, E: Sink>(
         folder.now (all_given given.now) rules.now result streams.old streams.new }
     ensures flushed { OnOk result (streams.new.output.device.flushed ≡ true) }
 {
-    let counted = has(given, Word::Count);
-    let mut counts = counts_of(alloc, rules, counted)?;
-    redact_telling(alloc, given, rules, folder, counts.as_mut_slice(), streams)
+    let counted = counts(given);
+    let mut tally = counts_of(alloc, rules, counted)?;
+    redact_telling(alloc, given, rules, folder, tally.as_mut_slice(), streams)
 }
 
 /// Redacts all files by these rules, tells what was added to the counts, where they are asked for, and answers whether all files were
@@ -282,23 +284,25 @@ fn redact_telling<'a, F: Folder, I: Read, W: Write, E: Sink>(
     given: &[Item<'_>],
     rules: &[Rule],
     folder: &F,
-    counts: &mut [u64],
+    tally: &mut [u64],
     streams: &mut Streams<'_, I, W, E>,
 ) -> Result<bool, Failure<'a>>
     requires some { HaveNoEmpty (secrets_of rules.now) }
-    requires none { counts.old ≡ zeros (has Count (all_given given.now)) rules.now }
+    requires none { tally.old ≡ zeros (counts_asked (all_given given.now)) rules.now }
     ensures outcome { LoadedOutcome W.Write E.Sink F.Folder
         folder.now (all_given given.now) rules.now result streams.old streams.new }
     ensures flushed { OnOk result (streams.new.output.device.flushed ≡ true) }
 {
+    let mut volume = Volume { files: 0, bytes: 0 };
     // Not by `?`: this error may hold names.
-    match redact_all(alloc, given, rules, folder, counts, streams) {
+    match redact_all(alloc, given, rules, folder, tally, &mut volume, streams) {
         Ok(all) => tell_counted(
             alloc,
             all,
-            has(given, Word::Count),
+            given,
             rules,
-            counts,
+            tally,
+            volume,
             &mut streams.errors,
         ),
         Err(failure) => Err(failure),
@@ -309,9 +313,10 @@ fn redact_telling<'a, F: Folder, I: Read, W: Write, E: Sink>(
 fn tell_counted<'a, E: Sink>(
     alloc: Global,
     all: bool,
-    counted: bool,
+    given: &[Item<'_>],
     rules: &[Rule],
-    counts: &[u64],
+    tally: &[u64],
+    volume: Volume,
     errors: &mut Errors<'_, E>,
 ) -> Result<bool, Failure<'a>>
     ensures all { IfOk result (λ done. done ≡ all) }
@@ -319,14 +324,33 @@ fn tell_counted<'a, E: Sink>(
     ensures lines { Tells E.Sink (IsCountsLine counted) errors.old errors.new }
     ensures fails { IfErr result (IsCountsFailure counted) }
 {
-    if !counted {
+    if !counts(given) {
         return Ok(all);
     }
-    tell_counts(alloc, errors, rules, counts)?;
+    let text = text_told(alloc, given, rules, tally, volume)?;
+    errors.write(&[text.as_slice()]);
     if errors.has_failed() {
         return Err(Failure::Counts);
     }
     Ok(all)
+}
+
+/// The lines of the counts and the summary, those that are asked for.
+fn text_told(
+    alloc: Global,
+    given: &[Item<'_>],
+    rules: &[Rule],
+    tally: &[u64],
+    volume: Volume,
+) -> Result<Vec<u8>, AllocError> {
+    let mut text = Vec::new(alloc);
+    if has(given, Word::Count) {
+        put_counts(&mut text, rules, tally)?;
+    }
+    if has(given, Word::Summary) {
+        put_summary(&mut text, volume, tally)?;
+    }
+    Ok(text)
 }
 
 /// What is written for a pattern that has no replacement of its own.
@@ -346,6 +370,7 @@ fn redact_all<'a, F: Folder, I: Read, W: Write, E: Sink>(
     rules: &[Rule],
     folder: &F,
     counts: &mut [u64],
+    volume: &mut Volume,
     streams: &mut Streams<'_, I, W, E>,
 ) -> Result<bool, Failure<'a>>
     requires some { HaveNoEmpty (secrets_of rules.now) }
@@ -378,7 +403,7 @@ fn redact_all<'a, F: Folder, I: Read, W: Write, E: Sink>(
         usual: text,
     };
     let strict = has(given, Word::Strict);
-    redact_warned(&nfa, rows.as_ref(), &job, &judge, strict, counts, streams)
+    redact_warned(&nfa, rows.as_ref(), &job, &judge, strict, counts, volume, streams)
 }
 
 /// Tells of a piece that is not clean, where a cover is asked for, or refuses it, and redacts all files.
@@ -389,6 +414,7 @@ fn redact_warned<'a, A: Automaton, B: Automaton, F: Folder, I: Read, W: Write, E
     judge: &Judge<'_, '_>,
     strict: bool,
     counts: &mut [u64],
+    volume: &mut Volume,
     streams: &mut Streams<'_, I, W, E>,
 ) -> Result<bool, Failure<'a>>
     requires ready { CanDo A.Automaton automaton.now job.now }
@@ -404,7 +430,7 @@ fn redact_warned<'a, A: Automaton, B: Automaton, F: Folder, I: Read, W: Write, E
     let unclean = unclean_of(automaton, judge, job.covers);
     // Not by `?`: this error may hold names.
     match warn(&mut streams.errors, unclean, strict) {
-        Ok(()) => Ok(redact_by(automaton, rows, job, counts, streams)?),
+        Ok(()) => Ok(redact_by(automaton, rows, job, counts, volume, streams)?),
         Err(failure) => Err(failure),
     }
 }
@@ -438,6 +464,7 @@ fn redact_by<A: Automaton, B: Automaton, F: Folder, I: Read, W: Write, E: Sink>(
     rows: Option<&B>,
     job: &Job<'_, '_, F>,
     counts: &mut [u64],
+    volume: &mut Volume,
     streams: &mut Streams<'_, I, W, E>,
 ) -> Result<bool, StreamError>
     requires ready { CanDo A.Automaton automaton.now job.now }
@@ -449,8 +476,8 @@ fn redact_by<A: Automaton, B: Automaton, F: Folder, I: Read, W: Write, E: Sink>(
     ensures flushed { OnOk result (streams.new.output.device.flushed ≡ true) }
 {
     match rows {
-        Some(automaton) => redact_files(automaton, job, counts, streams),
-        None => redact_files(automaton, job, counts, streams),
+        Some(automaton) => redact_files(automaton, job, counts, volume, streams),
+        None => redact_files(automaton, job, counts, volume, streams),
     }
 }
 
