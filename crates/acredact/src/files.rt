@@ -7,7 +7,9 @@ ghost use Rattle.programs.specs.Streams.{bytes_left};
 ghost use Rattle.acredact.specs.Faults.{is_unread, reading_of};
 ghost use Rattle.acredact.specs.Files.{CanDo, FileOutcome, FilesOutcome, JobOutcome, TextOutcome, ToldJob, work_of};
 ghost use Rattle.acredact.specs.Secrets.{IfOf, Redactor};
-ghost use Rattle.acredact.specs.Totals.{CountsFile, CountsJob, CountsOfText, CountsOpened, CountsTold, JobCounts};
+ghost use Rattle.acredact.specs.Totals.{CountsFile, CountsJob, CountsOfStream, CountsOfText, CountsOpened, CountsTold, JobCounts};
+ghost use Rattle.acredact.specs.Streams.{StreamOutcome};
+ghost use Rattle.acredact.specs.Volumes.{AddsBytes, AddsName, AddsOpened, AddsStream, FileVolume, JobVolume, files_with};
 ghost use Rattle.acredact.specs.Ways.{IfBy, Redacts};
 
 use crate::failure::{tell_output, tell_unread};
@@ -59,6 +61,7 @@ pub fn redact_files<A: Automaton, F: Folder, I: Read, W: Write, E: Sink>(
         automaton.now job.now result streams.old streams.new }
     ensures counted { IfOf A.Automaton automaton.now (JobCounts F.Folder job.now
         result streams.old streams.new counts.old counts.new) }
+    ensures read { JobVolume F.Folder job.now result volume.old volume.new streams.old streams.new }
     ensures flushed { OnOk result (streams.new.output.device.flushed ≡ true) }
 {
     if job.covers {
@@ -81,6 +84,7 @@ fn cover_files<A: Automaton, F: Folder, I: Read, W: Write, E: Sink>(
         automaton.now job.now result streams.old streams.new }
     ensures counted { IfOf A.Automaton automaton.now (JobCounts F.Folder job.now
         result streams.old streams.new counts.old counts.new) }
+    ensures read { JobVolume F.Folder job.now result volume.old volume.new streams.old streams.new }
     ensures flushed { OnOk result (streams.new.output.device.flushed ≡ true) }
 {
     let start = StreamCoverStart::new(job.alloc, automaton)?;
@@ -105,6 +109,7 @@ fn replace_files<A: Automaton, F: Folder, I: Read, W: Write, E: Sink>(
         automaton.now job.now result streams.old streams.new }
     ensures counted { IfOf A.Automaton automaton.now (JobCounts F.Folder job.now
         result streams.old streams.new counts.old counts.new) }
+    ensures read { JobVolume F.Folder job.now result volume.old volume.new streams.old streams.new }
     ensures flushed { OnOk result (streams.new.output.device.flushed ≡ true) }
 {
     let mut way = Replacing {
@@ -128,6 +133,7 @@ fn redact_flushed<X: Way, F: Folder, I: Read, W: Write, E: Sink>(
         (work_of F.Folder job.now r) result streams.old streams.new) }
     ensures counted { IfBy X.Way way.old (CountsJob F.Folder job.now
         result streams.old streams.new counts.old counts.new) }
+    ensures read { JobVolume F.Folder job.now result volume.old volume.new streams.old streams.new }
     ensures flushed { OnOk result (streams.new.output.device.flushed ≡ true) }
 {
     let all = redact_each(way, job, counts, volume, streams)?;
@@ -148,6 +154,7 @@ fn redact_each<X: Way, F: Folder, I: Read, W: Write, E: Sink>(
         (work_of F.Folder job.now r) result streams.old streams.new) }
     ensures counted { IfBy X.Way way.old (CountsJob F.Folder job.now
         result streams.old streams.new counts.old counts.new) }
+    ensures read { JobVolume F.Folder job.now result volume.old volume.new streams.old streams.new }
 {
     let mut all = true;
     let mut rest = job.names;
@@ -182,6 +189,8 @@ fn redact_told<X: Way, F: Folder, I: Read, W: Write, E: Sink>(
         name.now result streams.old streams.new) }
     ensures counted { IfBy X.Way way.old (CountsTold F.Folder job.now name.now
         result streams.old streams.new counts.old counts.new) }
+    ensures read { FileVolume F.Folder job.now name.now result volume.old volume.new streams.old streams.new }
+    ensures files { volume.new.files ≡ volume.old.files }
     ensures still { IfBy X.Way way.old (Redacts X.Way way.new) }
 {
     if job.folder.is_output(name) {
@@ -206,6 +215,8 @@ fn redact_apart<X: Way, F: Folder, I: Read, W: Write, E: Sink>(
         name.now result streams.old streams.new) }
     ensures counted { IfBy X.Way way.old (CountsTold F.Folder job.now name.now
         result streams.old streams.new counts.old counts.new) }
+    ensures read { FileVolume F.Folder job.now name.now result volume.old volume.new streams.old streams.new }
+    ensures files { volume.new.files ≡ volume.old.files }
     ensures still { IfBy X.Way way.old (Redacts X.Way way.new) }
 {
     match redact_file(
@@ -240,6 +251,9 @@ fn redact_file<X: Way, F: Folder, I: Read, W: Write>(
         (work_of F.Folder job.now r) name.now result input.old input.new output.old output.new) }
     ensures counted { IfBy X.Way way.old (CountsFile F.Folder job.now name.now
         result input.old input.new counts.old counts.new) }
+    ensures read { result ≡ Ok None → AddsName (F.holds job.now.folder.now) name.now
+        volume.old.bytes volume.new.bytes (bytes_left input.old) (bytes_left input.new) }
+    ensures files { volume.new.files ≡ volume.old.files }
     ensures still { IfBy X.Way way.old (Redacts X.Way way.new) }
 {
     if is_input(name) {
@@ -271,6 +285,8 @@ fn redact_opened<X: Way, I: Read + Drop, W: Write>(
         W.Write r result (I.remaining reader) rest output.old output.new) }
     ensures counted { result ≡ Ok None → IfBy X.Way way.old
         (CountsOpened (I.remaining reader) counts.old counts.new) }
+    ensures read { result ≡ Ok None → AddsOpened volume.old.bytes volume.new.bytes (I.remaining reader) }
+    ensures files { volume.new.files ≡ volume.old.files }
     ensures still { IfBy X.Way way.old (Redacts X.Way way.new) }
 {
     let mut source = FromRead::new(reader);
@@ -290,6 +306,9 @@ fn redact_input<X: Way, I: Read, W: Write>(
         result (bytes_left input.old) (bytes_left input.new) output.old output.new) }
     ensures counted { result ≡ Ok None → IfBy X.Way way.old
         (CountsOfText (bytes_left input.old) (bytes_left input.new) counts.old counts.new) }
+    ensures read { result ≡ Ok None → AddsBytes volume.old.bytes volume.new.bytes
+        (bytes_left input.old) (bytes_left input.new) }
+    ensures files { volume.new.files ≡ volume.old.files }
     ensures still { IfBy X.Way way.old (Redacts X.Way way.new) }
     ensures failed { input.new.failures ≡ counted (is_unread result) input.old.failures }
 {
@@ -315,7 +334,20 @@ fn redact_with<'s, K: Known, X: Way, S: Source, W: Sink>(
     lent: Lent<'s, S>,
     bytes: u64,
     sink: &mut W,
-) -> Taken<'s, S> {
+) -> Taken<'s, S>
+    requires ready { (r : Redactor) × Redacts X.Way way.old r }
+    requires whole { K.whole ≡ S.remaining lent.source.now }
+    requires start { K.start ≡ bytes }
+    requires name { K.name ≡ lent.source.ghost_name }
+    ensures outcome { IfBy X.Way way.old (λ r. StreamOutcome S.Source W.Sink r result.done
+        lent.entry.source.now result.lent.source.now sink.old sink.new) }
+    ensures counted { IfBy X.Way way.old (λ r. OnOk result.done (CountsOfStream S.Source r
+        lent.entry.source.now result.lent.source.now counts.old counts.new)) }
+    ensures read { OnOk result.done (AddsStream S.Source
+        lent.entry.source.now result.lent.source.now bytes result.bytes) }
+    ensures still { IfBy X.Way way.old (Redacts X.Way way.new) }
+    ensures same { result.lent.source.ghost_name ≡ lent.entry.source.ghost_name }
+{
     let mut meter = Metered::<S, K> {
         lent,
         bytes,
@@ -334,7 +366,17 @@ fn redact_metered<X: Way, I: Read, W: Write>(
     volume: &mut Volume,
     input: &mut FromRead<I>,
     output: &mut FromWrite<W>,
-) -> Result<(), StreamError> {
+) -> Result<(), StreamError>
+    requires ready { (r : Redactor) × Redacts X.Way way.old r }
+    ensures outcome { IfBy X.Way way.old (λ r. StreamOutcome ⟦<FromRead<I> as Source>⟧ ⟦<FromWrite<W> as Sink>⟧ r
+        result input.old input.new output.old output.new) }
+    ensures counted { IfBy X.Way way.old (λ r. OnOk result (CountsOfStream ⟦<FromRead<I> as Source>⟧ r
+        input.old input.new counts.old counts.new)) }
+    ensures read { OnOk result (AddsStream ⟦<FromRead<I> as Source>⟧ input.old input.new
+        volume.old.bytes volume.new.bytes) }
+    ensures files { volume.new.files ≡ volume.old.files }
+    ensures still { IfBy X.Way way.old (Redacts X.Way way.new) }
+{
     let taken = redact_with::<Brand, X, FromRead<I>, FromWrite<W>>(
         way,
         counts,
@@ -347,7 +389,10 @@ fn redact_metered<X: Way, I: Read, W: Write>(
 }
 
 /// One file more, if it was read to its end.
-fn add_file(volume: &mut Volume, whole: bool) {
+fn add_file(volume: &mut Volume, whole: bool)
+    ensures files { volume.new.files ≡ files_with whole volume.old.files }
+    ensures bytes { volume.new.bytes ≡ volume.old.bytes }
+{
     if whole {
         volume.files = volume.files.saturating_add(1);
     }

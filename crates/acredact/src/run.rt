@@ -1,25 +1,27 @@
 //! A call of the program over its arguments, files and streams.
 
-ghost use Rattle.std.specs.Prelude.{◌≡◌, ◌⊎◌, ◌<◌, ◌≤◌, ℕ, List, IfErr, IfOk, IfSome, OnErr, OnOk, Some, false, length, true};
+ghost use Rattle.std.specs.Prelude.{◌≡◌, ◌⊎◌, ◌<◌, ◌≤◌, ℕ, List, IfErr, IfOk, IfSome, Ok, OnErr, OnOk, Some, false, length, true};
 ghost use Rattle.aho_core.specs.Replacement.{pieces_of};
 ghost use Rattle.programs.specs.Arguments.{texts};
 ghost use Rattle.programs.specs.Names.{name_bytes};
-ghost use Rattle.programs.specs.Streams.{WritesBytes};
+ghost use Rattle.programs.specs.Streams.{WritesBytes, bytes_left};
 ghost use Rattle.programs.specs.Telling.{Tells, TellsBytes, TellsSome};
-ghost use Rattle.acredact.specs.Arguments.{AreMistaken, AsksToRedact, GivesNoPattern, IfAsked, IfChecking, IfNoCheck, IsCheck, RefusesUnclean, all_given, checks_asked, has};
+ghost use Rattle.acredact.specs.Arguments.{AreMistaken, AsksToRedact, GivesNoPattern, IfAsked, IfChecking, IfNoCheck, IsCheck, RefusesUnclean, all_given, checks_asked, counts_asked, has};
 ghost use Rattle.acredact.specs.Calls.{AskedOutcome, BeginsAsked, CountsAsked, IsCountsFailure, IsCountsLine, IsPrintFailure, IsRefusedLine, IsWrongLine, LeavesNoneAsked, LoadedOutcome, OutputFails, RedactsAsked, TellsAsked, TellsAnyCounts, WarnedJob, WarnedOutcome, WarnsAsked, call_of, gives_pattern, names_asked, text_asked, work_by};
 ghost use Rattle.acredact.specs.Checks.{MatchedAsked, SaysOfCheck, TellsUncheckedAsked, UnmatchedAsked};
-ghost use Rattle.acredact.specs.Counts.{zeros};
+ghost use Rattle.acredact.specs.Counts.{lines_of_rules, zeros};
 ghost use Rattle.acredact.specs.Failures.{IsFailureLine};
 ghost use Rattle.acredact.specs.Files.{CanDo, FilesOutcome, redactor_of, work_of};
 ghost use Rattle.acredact.specs.Pieces.{IfOfAll, TellsUnclean, pieces_by};
 ghost use Rattle.acredact.specs.Secrets.{IfOf};
 ghost use Rattle.acredact.specs.Statuses.{SaysOfRedaction};
 ghost use Rattle.acredact.specs.Tables.{HaveNoEmpty, secrets_of};
+ghost use Rattle.acredact.specs.Summaries.{totals_text};
 ghost use Rattle.acredact.specs.Totals.{CountsWork, JobCounts};
+ghost use Rattle.acredact.specs.Volumes.{JobVolume, ReadsVolume};
 ghost use Rattle.acredact.specs.declared.clean.Unclean.{Unclean};
 ghost use Rattle.acredact.specs.declared.failure.Failure.TheVariants.{Unclean as UncleanPiece};
-ghost use Rattle.acredact.specs.declared.arguments.Word.TheVariants.{Count, Strict};
+ghost use Rattle.acredact.specs.declared.arguments.Word.TheVariants.{Strict};
 
 use crate::arguments::{Item, Mistake, Word, checks, counts, covers, has, is_same, items, last_value};
 use crate::check::check;
@@ -110,9 +112,9 @@ pub fn run<F: Folder, I: Read, W: Write, E: Sink>(
 
     // Where all was redacted nothing is told but a piece of a cover that is not clean, and the counts that are asked for: for each
     // pattern, how many ranges of all texts were replaced by its text.
-    ensures quiet { IfAsked arguments.now (λ given. has Count given ≡ false → result ≡ 0
+    ensures quiet { IfAsked arguments.now (λ given. counts_asked given ≡ false → result ≡ 0
         → WarnsAsked E.Sink F.Folder folder.now given streams.old streams.new) }
-    ensures counts { IfAsked arguments.now (λ given. has Count given ≡ true → result ≡ 0
+    ensures counts { IfAsked arguments.now (λ given. counts_asked given ≡ true → result ≡ 0
         → CountsAsked W.Write E.Sink F.Folder folder.now given streams.old streams.new) }
 
     // Else lines say why, and hold nothing of a file's content or of a pattern.
@@ -320,9 +322,10 @@ fn tell_counted<'a, E: Sink>(
     errors: &mut Errors<'_, E>,
 ) -> Result<bool, Failure<'a>>
     ensures all { IfOk result (λ done. done ≡ all) }
-    ensures told { OnOk result (TellsAnyCounts E.Sink counted rules.now counts.now errors.old errors.new) }
-    ensures lines { Tells E.Sink (IsCountsLine counted) errors.old errors.new }
-    ensures fails { IfErr result (IsCountsFailure counted) }
+    ensures told { OnOk result (TellsAnyCounts E.Sink (all_given given.now) rules.now tally.now volume
+        errors.old errors.new) }
+    ensures lines { Tells E.Sink (IsCountsLine (all_given given.now)) errors.old errors.new }
+    ensures fails { IfErr result (IsCountsFailure (counts_asked (all_given given.now))) }
 {
     if !counts(given) {
         return Ok(all);
@@ -342,7 +345,10 @@ fn text_told(
     rules: &[Rule],
     tally: &[u64],
     volume: Volume,
-) -> Result<Vec<u8>, AllocError> {
+) -> Result<Vec<u8>, AllocError>
+    ensures text { IfOk result (λ text. text.items
+        ≡ totals_text (all_given given.now) (lines_of_rules rules.now) tally.now volume) }
+{
     let mut text = Vec::new(alloc);
     if has(given, Word::Count) {
         put_counts(&mut text, rules, tally)?;
@@ -379,6 +385,8 @@ fn redact_all<'a, F: Folder, I: Read, W: Write, E: Sink>(
         result streams.old streams.new }
     ensures counted { CountsWork (work_by (call_of F.Folder folder.now (all_given given.now)) (secrets_of rules.now))
         result streams.old streams.new counts.old counts.new }
+    ensures read { result ≡ Ok true → ReadsVolume (F.holds folder.now) (names_asked (all_given given.now))
+        volume.old volume.new (bytes_left streams.old.input) (bytes_left streams.new.input) }
     ensures flushed { OnOk result (streams.new.output.device.flushed ≡ true) }
 {
     let patterns = patterns_of(alloc, rules)?;
@@ -425,6 +433,7 @@ fn redact_warned<'a, A: Automaton, B: Automaton, F: Folder, I: Read, W: Write, E
         (λ p. WarnedJob W.Write E.Sink F.Folder strict job.now p result streams.old streams.new) }
     ensures counted { IfOfAll A.Automaton B.Automaton automaton.now rows.entry judge.now
         (JobCounts F.Folder job.now result streams.old streams.new counts.old counts.new) }
+    ensures read { JobVolume F.Folder job.now result volume.old volume.new streams.old streams.new }
     ensures flushed { OnOk result (streams.new.output.device.flushed ≡ true) }
 {
     let unclean = unclean_of(automaton, judge, job.covers);
@@ -473,6 +482,7 @@ fn redact_by<A: Automaton, B: Automaton, F: Folder, I: Read, W: Write, E: Sink>(
         → FilesOutcome W.Write E.Sink (work_of F.Folder job.now (redactor_of job.now p)) result streams.old streams.new) }
     ensures counted { IfOf A.Automaton automaton.now (λ p. IfSome rows.entry (λ rows. B.is_of rows.now p)
         → JobCounts F.Folder job.now result streams.old streams.new counts.old counts.new p) }
+    ensures read { JobVolume F.Folder job.now result volume.old volume.new streams.old streams.new }
     ensures flushed { OnOk result (streams.new.output.device.flushed ≡ true) }
 {
     match rows {

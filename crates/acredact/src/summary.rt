@@ -17,7 +17,7 @@ pub struct Volume {
 
 /// The text of a summary: how much was read, and for each pattern how often its text was written. It holds no pattern.
 pub fn put_summary(text: &mut Vec<u8>, volume: Volume, counts: &[u64]) -> Result<(), AllocError>
-    ensures put { OnOk result (text.new.items ≡ text.old.items ++ summary_text volume.files volume.bytes counts.now) }
+    ensures put { OnOk result (text.new.items ≡ text.old.items ++ summary_text volume counts.now) }
 {
     text.extend_from_slice(b"{\"files\":")?;
     put_number(text, volume.files)?;
