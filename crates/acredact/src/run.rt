@@ -1,6 +1,6 @@
 //! A call of the program over its arguments, files and streams.
 
-ghost use Rattle.std.specs.Prelude.{◌≡◌, ◌⊎◌, ◌<◌, ◌≤◌, ℕ, List, IfErr, IfOk, IfSome, Ok, OnErr, OnOk, Some, false, length, true};
+ghost use Rattle.std.specs.Prelude.{◌≡◌, ◌++◌, ◌⊎◌, ◌<◌, ◌≤◌, ℕ, List, IfErr, IfOk, IfSome, Ok, OnErr, OnOk, Some, false, length, true};
 ghost use Rattle.aho_core.specs.Replacement.{pieces_of};
 ghost use Rattle.programs.specs.Arguments.{texts};
 ghost use Rattle.programs.specs.Names.{name_bytes};
@@ -16,7 +16,7 @@ ghost use Rattle.acredact.specs.Pieces.{IfOfAll, TellsUnclean, pieces_by};
 ghost use Rattle.acredact.specs.Secrets.{IfOf};
 ghost use Rattle.acredact.specs.Statuses.{SaysOfRedaction};
 ghost use Rattle.acredact.specs.Tables.{HaveNoEmpty, secrets_of};
-ghost use Rattle.acredact.specs.Summaries.{totals_text};
+ghost use Rattle.acredact.specs.Summaries.{counts_told_by, summary_told_by, totals_text};
 ghost use Rattle.acredact.specs.Totals.{CountsWork, JobCounts};
 ghost use Rattle.acredact.specs.Volumes.{JobVolume, ReadsVolume};
 ghost use Rattle.acredact.specs.declared.clean.Unclean.{Unclean};
@@ -330,33 +330,67 @@ fn tell_counted<'a, E: Sink>(
     if !counts(given) {
         return Ok(all);
     }
-    let text = text_told(alloc, given, rules, tally, volume)?;
-    errors.write(&[text.as_slice()]);
+    tell_totals(alloc, errors, given, rules, tally, volume)?;
     if errors.has_failed() {
         return Err(Failure::Counts);
     }
     Ok(all)
 }
 
-/// The lines of the counts and the summary, those that are asked for.
-fn text_told(
+/// Writes the counts and the summary, those that are asked for, by one write.
+///
+/// # Errors
+///
+/// The error says that memory ran out, and nothing was written then.
+fn tell_totals<E: Sink>(
     alloc: Global,
+    errors: &mut Errors<'_, E>,
     given: &[Item<'_>],
     rules: &[Rule],
     tally: &[u64],
     volume: Volume,
-) -> Result<Vec<u8>, AllocError>
-    ensures text { IfOk result (λ text. text.items
-        ≡ totals_text (all_given given.now) (lines_of_rules rules.now) tally.now volume) }
+) -> Result<(), AllocError>
+    ensures told { OnOk result (TellsBytes E.Sink errors.old errors.new
+        (totals_text (all_given given.now) (lines_of_rules rules.now) tally.now volume)) }
+    ensures untold { OnErr result (errors.new ≡ errors.old) }
 {
     let mut text = Vec::new(alloc);
+    put_asked_counts(&mut text, given, rules, tally)?;
+    put_asked_summary(&mut text, given, tally, volume)?;
+    errors.write(&[text.as_slice()]);
+    Ok(())
+}
+
+/// The lines of the counts, if they are asked for.
+fn put_asked_counts(
+    text: &mut Vec<u8>,
+    given: &[Item<'_>],
+    rules: &[Rule],
+    tally: &[u64],
+) -> Result<(), AllocError>
+    ensures put { OnOk result (text.new.items ≡ text.old.items
+        ++ counts_told_by (all_given given.now) (lines_of_rules rules.now) tally.now) }
+{
     if has(given, Word::Count) {
-        put_counts(&mut text, rules, tally)?;
+        return put_counts(text, rules, tally);
     }
+    Ok(())
+}
+
+/// The summary, if it is asked for.
+fn put_asked_summary(
+    text: &mut Vec<u8>,
+    given: &[Item<'_>],
+    tally: &[u64],
+    volume: Volume,
+) -> Result<(), AllocError>
+    ensures put { OnOk result (text.new.items ≡ text.old.items
+        ++ summary_told_by (all_given given.now) tally.now volume) }
+{
     if has(given, Word::Summary) {
-        put_summary(&mut text, volume, tally)?;
+        return put_summary(text, volume, tally);
     }
-    Ok(text)
+    Ok(())
 }
 
 /// What is written for a pattern that has no replacement of its own.

@@ -1,10 +1,10 @@
 //! How much was read and replaced, as one object of JSON.
 
-ghost use Rattle.std.specs.Prelude.{◌≡◌, ◌++◌, IfOk, OnOk};
-ghost use Rattle.acredact.specs.Summaries.{listed, summary_text};
+ghost use Rattle.std.specs.Prelude.{◌≡◌, ◌++◌, OnOk};
+ghost use Rattle.acredact.specs.Summaries.{listed, more_listed, summary_text};
 
 use crate::counts::put_number;
-use std::alloc::{AllocError, Global};
+use std::alloc::AllocError;
 
 /// How much was read. A count stops at the greatest number.
 #[derive(Clone, Copy)]
@@ -32,13 +32,22 @@ pub fn put_summary(text: &mut Vec<u8>, volume: Volume, counts: &[u64]) -> Result
 fn put_list(text: &mut Vec<u8>, numbers: &[u64]) -> Result<(), AllocError>
     ensures put { OnOk result (text.new.items ≡ text.old.items ++ listed numbers.now) }
 {
+    if numbers.is_empty() {
+        return Ok(());
+    }
+    put_number(text, numbers[0])?;
+    put_more(text, &numbers[1..])
+}
+
+/// Numbers with a comma in front of each.
+fn put_more(text: &mut Vec<u8>, numbers: &[u64]) -> Result<(), AllocError>
+    ensures put { OnOk result (text.new.items ≡ text.old.items ++ more_listed numbers.now) }
+{
     let mut rest = numbers;
     while !rest.is_empty() {
+        text.push(b',')?;
         put_number(text, rest[0])?;
         rest = &rest[1..];
-        if !rest.is_empty() {
-            text.push(b',')?;
-        }
     }
     Ok(())
 }
