@@ -385,7 +385,9 @@ fn redact_metered<X: Way, I: Read, W: Write>(
         output,
     );
     volume.bytes = taken.bytes;
-    taken.done
+    let Taken { lent, done, .. } = taken;
+    let _source = lent.source;
+    done
 }
 
 /// One file more, if it was read to its end.
