@@ -4,6 +4,7 @@ use Rattle.std.specs.Prelude.{◌^◌, ◌-◌, min, None, Some, Result, OnOk, i
 use Rattle.std.specs.Io.KnownBytes.{Consumes, IsAtEnd, Keeps}
 use Rattle.std.proofs.lemmas.Result.{on_ok_weaker}
 use Rattle.aho_core.specs.declared.error.stream.StreamError.{StreamError}
+use Rattle.aho_cover.specs.Counting.{grown_count}
 use Rattle.aho_devices.specs.Counts.{counted}
 use Rattle.aho_devices.specs.Refusals.{is_read_fault}
 use Rattle.aho_devices.specs.declared.device.Sink.{Ghosts as SinkGhosts}
@@ -125,21 +126,21 @@ module _ (holds : List ℕ → Option (List ℕ)) (name : List ℕ) (left left' 
 -- some first files were read, and counted
 pub record VolumeSoFar (holds : List ℕ → Option (List ℕ)) (names rest : List (List ℕ)) (volume volume' : Volume) (old new : Option (List ℕ)) : Type 0 where
   pub bytes : (last : ℕ) (left : Option (List ℕ)) → AddsNames holds rest volume'.bytes last new left → AddsNames holds names volume.bytes last old left
-  pub files : min (volume'.files + length rest) (2 ^ 64 - 1) ≡ min (volume.files + length names) (2 ^ 64 - 1)
+  pub files : grown_count volume'.files (length rest) ≡ grown_count volume.files (length names)
 
 module _ (holds : List ℕ → Option (List ℕ)) (names : List (List ℕ)) (volume : Volume) (old : Option (List ℕ)) where
   pub far_unread : VolumeSoFar holds names names volume volume old old
   far_unread = record { bytes = λ last left rest. rest; files = refl }
 
-  pub far_read : (name : List ℕ) (rest : List (List ℕ)) (before after : Volume) (mid new : Option (List ℕ)) → VolumeSoFar holds names (name ∷ rest) volume before old mid
-      → AddsName holds name before.bytes after.bytes mid new → after.files ≡ min (before.files + 1) (2 ^ 64 - 1) → VolumeSoFar holds names rest volume after old new
-  far_read name rest before after mid new far adds files = record {
-    bytes = λ last left rests. far.bytes last left (after.bytes, new, adds, rests);
+  pub far_read : (name : List ℕ) (rest : List (List ℕ)) (before after : Volume) (bytes : ℕ) (mid new : Option (List ℕ)) → VolumeSoFar holds names (name ∷ rest) volume before old mid
+      → AddsName holds name before.bytes bytes mid new → after.bytes ≡ bytes → after.files ≡ grown_count before.files 1 → VolumeSoFar holds names rest volume after old new
+  far_read name rest before after bytes mid new far adds same files = record {
+    bytes = λ last left rests. far.bytes last left (bytes, new, adds, subst (λ (n : ℕ). AddsNames holds rest n last new left) same rests);
     files =
         let size : length (name ∷ rest) ≡ length rest + 1 = omega arith in
         let so = far.files in
         omega (arith, so, size, files);
   }
 
-  pub all_read : (after : Volume) (new : Option (List ℕ)) → after.files ≤ 2 ^ 64 - 1 → VolumeSoFar holds names [] volume after old new → ReadsVolume holds names volume after old new
-  all_read after new within far = record { bytes = far.bytes after.bytes new (refl, refl); files = let so = far.files in omega (arith, so, within) }
+  pub all_read : (after : Volume) (new : Option (List ℕ)) → VolumeSoFar holds names [] volume after old new → ReadsVolume holds names volume after old new
+  all_read after new far = record { bytes = far.bytes after.bytes new (refl, refl); files = let so = far.files in omega (arith, so) }

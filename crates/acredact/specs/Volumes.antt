@@ -3,6 +3,7 @@ use Rattle.std.specs.Prelude.{◌≡◌, ℕ, ◌+◌, ◌-◌, ◌^◌, min, tr
 use Rattle.std.specs.Io.KnownBytes.{Consumes, IsAtEnd}
 use Rattle.std.specs.declared.io.traits.Read.{Ghosts as Readers}
 use Rattle.aho_core.specs.declared.error.stream.StreamError.{StreamError}
+use Rattle.aho_cover.specs.Counting.{grown_count}
 use Rattle.aho_devices.specs.declared.device.Source.{Ghosts as SourceGhosts}
 use Rattle.aho_stream.specs.Replacing.{SourceGave}
 use Rattle.programs.specs.Names.{name_bytes}
@@ -43,7 +44,7 @@ module _ (holds : List ℕ → Option (List ℕ)) where
   -- all files of these names were read to their ends, and counted
   pub record ReadsVolume (names : List (List ℕ)) (volume volume' : Volume) (left left' : Option (List ℕ)) : Type 0 where
     pub bytes : AddsNames names volume.bytes volume'.bytes left left'
-    pub files : volume'.files ≡ min (volume.files + length names) (2 ^ 64 - 1)
+    pub files : volume'.files ≡ grown_count volume.files (length names)
 
 module _ {F X : Type 0} (D : Folders F X) (job : Job F) {R W E Z : Type 0} {Reads : Readers R} where
   -- a file that was read to its end was counted
@@ -58,4 +59,4 @@ module _ {F X : Type 0} (D : Folders F X) (job : Job F) {R W E Z : Type 0} {Read
 
 -- one file more, if it was read to its end
 abbrev pub files_with : Bool → ℕ → ℕ
-files_with whole files = if whole then min (files + 1) (2 ^ 64 - 1) else files
+files_with whole files = if whole then grown_count files 1 else files

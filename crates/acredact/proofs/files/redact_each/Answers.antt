@@ -6,7 +6,7 @@ use Rattle.programs.specs.Names.{name_bytes}
 use Rattle.programs.specs.Streams.{bytes_left}
 use Rattle.acredact.specs.Files.{FilesOutcome, work_of}
 use Rattle.acredact.proofs.Done.{SoFar, both_so, far_all, far_fails, far_next, far_none, names_cut, names_end}
-use Rattle.acredact.specs.Volumes.{AddsName, files_with}
+use Rattle.acredact.specs.Volumes.{files_with}
 use Rattle.acredact.proofs.Metering.{VolumeSoFar, all_read, far_read, far_unread}
 use Rattle.acredact.proofs.Totals.{CountedSoFar, all_counted, far_counted, far_uncounted}
 use Rattle.acredact.proofs.files.redact_each.Goals as goal
@@ -19,11 +19,11 @@ loop-rest-preserved g c = (
   λ whole.
       let some : 1 ≤ length c.loop-rest.rest.now = search rules in
       let both = both_so c.loop-rest.all c.in_ok-whole.whole _ c.both-all.ensures.both whole in
-      let before = subst (λ (l : List (List ℕ)). VolumeSoFar (g.F.Folder.holds c.args.job.now.folder.now) (name_bytes c.args.job.now.names.now) l c.args.volume.now c.loop-rest.volume (bytes_left c.args.streams.now.input) (bytes_left c.loop-rest.streams.input))
-      (names_cut c.loop-rest.rest.now _ some) (c.loop-rest.invariant.0 both.0) in
       let files = c.add_file.ensures.files ∙ ap (λ (b : Bool). files_with b c.redact_told.new.volume.files) both.1 ∙ ap (files_with true) c.in_ok-whole.ensures.files in
-      let adds = subst (λ (n : ℕ). AddsName (g.F.Folder.holds c.args.job.now.folder.now) _ c.loop-rest.volume.bytes n (bytes_left c.loop-rest.streams.input) (bytes_left c.redact_told.new.streams.input)) (sym c.add_file.ensures.bytes) (c.in_ok-whole.ensures.read (ap Ok both.1)) in
-      far_read (g.F.Folder.holds c.args.job.now.folder.now) _ _ _ _ _ _ _ _ _ before adds files,
+      far_read (g.F.Folder.holds c.args.job.now.folder.now) _ _ _ _ _ c.loop-rest.volume _ _ _ _
+      (subst (λ (l : List (List ℕ)). VolumeSoFar (g.F.Folder.holds c.args.job.now.folder.now) (name_bytes c.args.job.now.names.now) l c.args.volume.now c.loop-rest.volume (bytes_left c.args.streams.now.input) (bytes_left c.loop-rest.streams.input))
+      (names_cut c.loop-rest.rest.now _ some) (c.loop-rest.invariant.0 both.0))
+      (c.in_ok-whole.ensures.read (ap Ok both.1)) c.add_file.ensures.bytes files,
   λ red by.
     let some : 1 ≤ length c.loop-rest.rest.now = search rules in
     let far = subst (λ (l : List (List ℕ)). SoFar g.W.Write g.E.Sink (work_of g.F.Folder c.args.job.now red) (name_bytes c.args.job.now.names.now) l c.loop-rest.all c.args.streams.now c.loop-rest.streams)
@@ -56,10 +56,9 @@ returns-in_err-whole g c =
 pub returns : goal.returns
 returns g c =
     let none : length c.loop-rest.rest.now ≡ 0 = search rules in
-    let fits : c.loop-rest.volume.files < 2 ^ 64 = search rules in
     record {
       read = λ whole.
-          all_read (g.F.Folder.holds c.args.job.now.folder.now) _ _ _ _ _ (omega (arith, fits))
+          all_read (g.F.Folder.holds c.args.job.now.folder.now) _ _ _ _ _
           (subst (λ (l : List (List ℕ)). VolumeSoFar (g.F.Folder.holds c.args.job.now.folder.now) (name_bytes c.args.job.now.names.now) l c.args.volume.now c.loop-rest.volume (bytes_left c.args.streams.now.input) (bytes_left c.loop-rest.streams.input))
           (names_end c.loop-rest.rest.now none) (c.loop-rest.invariant.0 (let is = whole in cc)));
       counted = λ red by whole.

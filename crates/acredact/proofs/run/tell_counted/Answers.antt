@@ -11,9 +11,9 @@ returns-in_err-tell_totals-clause-lines g c = tells_same g.E.Sink _ _ _ c.in_err
 pub returns-then-has_failed-clause-lines : goal.returns-then-has_failed-clause-lines
 returns-then-has_failed-clause-lines g c =
     let is : counts_asked (all_given c.args.given.now) ≡ true = search rules in
-    tells_counts g.E.Sink _ _ _ (lines_of_rules c.args.rules.now) c.args.tally.now c.args.volume is c.in_ok-tell_totals.ensures.told
+    tells_counts g.E.Sink (all_given c.args.given.now) _ _ (lines_of_rules c.args.rules.now) c.args.tally.now c.args.volume is c.in_ok-tell_totals.ensures.told
 
 pub returns-clause-lines : goal.returns-clause-lines
 returns-clause-lines g c =
     let is : counts_asked (all_given c.args.given.now) ≡ true = search rules in
-    tells_counts g.E.Sink _ _ _ (lines_of_rules c.args.rules.now) c.args.tally.now c.args.volume is c.in_ok-tell_totals.ensures.told
+    tells_counts g.E.Sink (all_given c.args.given.now) _ _ (lines_of_rules c.args.rules.now) c.args.tally.now c.args.volume is c.in_ok-tell_totals.ensures.told
