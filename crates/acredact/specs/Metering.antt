@@ -9,4 +9,3 @@ IsMetered whole left start bytes = (all : List ℕ) → whole ≡ Some all
 -- what is left, where the number is right
 abbrev pub settled_left : Bool → Option (List ℕ) → Option (List ℕ)
 settled_left settled left = if settled then left else None
-

@@ -23,7 +23,9 @@ ghost use Rattle.acredact.specs.declared.clean.Unclean.{Unclean};
 ghost use Rattle.acredact.specs.declared.failure.Failure.TheVariants.{Unclean as UncleanPiece};
 ghost use Rattle.acredact.specs.declared.arguments.Word.TheVariants.{Strict};
 
-use crate::arguments::{Item, Mistake, Word, checks, counts, covers, has, is_same, items, last_value};
+use crate::arguments::{
+    Item, Mistake, Word, checks, counts, covers, has, is_same, items, last_value,
+};
 use crate::check::check;
 use crate::clean::{Judge, Unclean, unclean_of};
 use crate::counts::{counts_of, put_counts};
@@ -298,15 +300,7 @@ fn redact_telling<'a, F: Folder, I: Read, W: Write, E: Sink>(
     let mut volume = Volume { files: 0, bytes: 0 };
     // Not by `?`: this error may hold names.
     match redact_all(alloc, given, rules, folder, tally, &mut volume, streams) {
-        Ok(all) => tell_counted(
-            alloc,
-            all,
-            given,
-            rules,
-            tally,
-            volume,
-            &mut streams.errors,
-        ),
+        Ok(all) => tell_counted(alloc, all, given, rules, tally, volume, &mut streams.errors),
         Err(failure) => Err(failure),
     }
 }
@@ -445,7 +439,16 @@ fn redact_all<'a, F: Folder, I: Read, W: Write, E: Sink>(
         usual: text,
     };
     let strict = has(given, Word::Strict);
-    redact_warned(&nfa, rows.as_ref(), &job, &judge, strict, counts, volume, streams)
+    redact_warned(
+        &nfa,
+        rows.as_ref(),
+        &job,
+        &judge,
+        strict,
+        counts,
+        volume,
+        streams,
+    )
 }
 
 /// Tells of a piece that is not clean, where a cover is asked for, or refuses it, and redacts all files.

@@ -25,18 +25,18 @@ loop-rest-preserved g c = (
       (names_cut c.loop-rest.rest.now _ some) (c.loop-rest.invariant.0 both.0))
       (c.in_ok-whole.ensures.read (ap Ok both.1)) c.add_file.ensures.bytes files,
   λ red by.
-    let some : 1 ≤ length c.loop-rest.rest.now = search rules in
-    let far = subst (λ (l : List (List ℕ)). SoFar g.W.Write g.E.Sink (work_of g.F.Folder c.args.job.now red) (name_bytes c.args.job.now.names.now) l c.loop-rest.all c.args.streams.now c.loop-rest.streams)
-    (names_cut c.loop-rest.rest.now _ some) (c.loop-rest.invariant.1 red by).1 in
-    let now = (c.loop-rest.invariant.1 red by).0 in (
-      c.in_ok-whole.ensures.still red now,
-      far_next g.W.Write g.E.Sink (work_of g.F.Folder c.args.job.now red) _ _ _ c.loop-rest.all c.in_ok-whole.whole _ c.args.streams.now c.loop-rest.streams _ far (c.in_ok-whole.ensures.outcome red now) c.both-all.ensures.both,
-      λ whole.
-          let both = both_so c.loop-rest.all c.in_ok-whole.whole _ c.both-all.ensures.both whole in
-          let counted = subst (λ (l : List (List ℕ)). CountedSoFar (work_of g.F.Folder c.args.job.now red) (name_bytes c.args.job.now.names.now) l (bytes_left c.args.streams.now.input) (bytes_left c.loop-rest.streams.input) c.args.counts.now c.loop-rest.counts)
-          (names_cut c.loop-rest.rest.now _ some) ((c.loop-rest.invariant.1 red by).2 both.0) in
-          far_counted (work_of g.F.Folder c.args.job.now red) _ _ _ _ _ _ _ _ _ counted (c.in_ok-whole.ensures.counted red now (ap Ok both.1)),
-    ),
+      let some : 1 ≤ length c.loop-rest.rest.now = search rules in
+      let far = subst (λ (l : List (List ℕ)). SoFar g.W.Write g.E.Sink (work_of g.F.Folder c.args.job.now red) (name_bytes c.args.job.now.names.now) l c.loop-rest.all c.args.streams.now c.loop-rest.streams)
+      (names_cut c.loop-rest.rest.now _ some) (c.loop-rest.invariant.1 red by).1 in
+      let now = (c.loop-rest.invariant.1 red by).0 in (
+        c.in_ok-whole.ensures.still red now,
+        far_next g.W.Write g.E.Sink (work_of g.F.Folder c.args.job.now red) _ _ _ c.loop-rest.all c.in_ok-whole.whole _ c.args.streams.now c.loop-rest.streams _ far (c.in_ok-whole.ensures.outcome red now) c.both-all.ensures.both,
+        λ whole.
+            let both = both_so c.loop-rest.all c.in_ok-whole.whole _ c.both-all.ensures.both whole in
+            let counted = subst (λ (l : List (List ℕ)). CountedSoFar (work_of g.F.Folder c.args.job.now red) (name_bytes c.args.job.now.names.now) l (bytes_left c.args.streams.now.input) (bytes_left c.loop-rest.streams.input) c.args.counts.now c.loop-rest.counts)
+            (names_cut c.loop-rest.rest.now _ some) ((c.loop-rest.invariant.1 red by).2 both.0) in
+            far_counted (work_of g.F.Folder c.args.job.now red) _ _ _ _ _ _ _ _ _ counted (c.in_ok-whole.ensures.counted red now (ap Ok both.1)),
+      ),
 )
 
 pub returns-in_err-whole : goal.returns-in_err-whole
