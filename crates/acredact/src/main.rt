@@ -95,9 +95,8 @@ fn exit_code<F: Folder, I: Read, W: Write, E: Sink>(
     ensures bound { exit_status result ≤ 2 }
     ensures one { exit_status result ≡ 1 → IfOk given (λ arguments. IsCheck arguments.items) }
 {
-    let status = match given {
-        Ok(arguments) => run(alloc, arguments.as_slice(), folder, streams),
-        Err(failure) => refuse(failure, &mut streams.errors),
-    };
-    ExitCode::from(status)
+    match given {
+        Ok(arguments) => ExitCode::from(run(alloc, arguments.as_slice(), folder, streams)),
+        Err(failure) => ExitCode::from(refuse(failure, &mut streams.errors)),
+    }
 }
