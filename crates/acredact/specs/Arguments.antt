@@ -5,12 +5,12 @@ use Rattle.aho_core.specs.declared.search.MatchKind.{MatchKind}
 use Rattle.aho_core.specs.declared.search.MatchKind.TheVariants.{Standard}
 use Rattle.programs.specs.Arguments.{kind_by, texts}
 use Rattle.acredact.specs.declared.arguments.Word.{Word}
-use Rattle.acredact.specs.declared.arguments.Word.TheVariants.{IgnoreCase, Kind, Pattern, Patterns, Table, With, Count, Summary, Crlf, AllowEmpty, Strict, Check, Help, Version, File}
+use Rattle.acredact.specs.declared.arguments.Word.TheVariants.{IgnoreCase, Kind, Pattern, Patterns, Table, With, Output, Count, Summary, Crlf, AllowEmpty, Strict, Check, Help, Version, File}
 use Rattle.acredact.specs.declared.arguments.Expects.{Expects}
 use Rattle.acredact.specs.declared.arguments.Expects.TheVariants.{Any, Value, Name}
 use Rattle.acredact.specs.declared.arguments.Item.{Item}
 use Rattle.acredact.specs.declared.arguments.Mixture.{Mixture}
-use Rattle.acredact.specs.declared.arguments.Mixture.TheVariants.{StrictKind, CountCheck, SummaryCheck}
+use Rattle.acredact.specs.declared.arguments.Mixture.TheVariants.{StrictKind, CountCheck, SummaryCheck, OutputCheck}
 use Rattle.acredact.specs.declared.arguments.Reading.{Reading}
 use Rattle.acredact.specs.declared.arguments.Reading.TheVariants.{Whole, Begun, Wrong}
 
@@ -42,6 +42,7 @@ word_by argument =
     else if bytes_eq argument (codes "-f") then Some Patterns
     else if bytes_eq argument (codes "-t") then Some Table
     else if bytes_eq argument (codes "--with") then Some With
+    else if bytes_eq argument (codes "--output") then Some Output
     else if bytes_eq argument (codes "--count") then Some Count
     else if bytes_eq argument (codes "--summary") then Some Summary
     else if bytes_eq argument (codes "--crlf") then Some Crlf
@@ -60,6 +61,7 @@ takes_value Pattern = true
 takes_value Patterns = true
 takes_value Table = true
 takes_value With = true
+takes_value Output = true
 takes_value IgnoreCase = false
 takes_value Count = false
 takes_value Summary = false
@@ -83,6 +85,7 @@ is_value_of Pattern value = true
 is_value_of Patterns value = true
 is_value_of Table value = true
 is_value_of With value = true
+is_value_of Output value = true
 is_value_of Count value = true
 is_value_of Summary value = true
 is_value_of Crlf value = true
@@ -117,6 +120,7 @@ abbrev pub joined_option_of : List ℕ → Option ReadAs
 joined_option_of argument =
     if bytes_eq (take 7 argument) (codes "--kind=") then value_read Kind (drop 7 argument)
     else if bytes_eq (take 7 argument) (codes "--with=") then value_read With (drop 7 argument)
+    else if bytes_eq (take 9 argument) (codes "--output=") then value_read Output (drop 9 argument)
     else None
 
 abbrev pub word_or_joined : Option Word → List ℕ → Option ReadAs
@@ -159,6 +163,7 @@ is_same Pattern Pattern = true
 is_same Patterns Patterns = true
 is_same Table Table = true
 is_same With With = true
+is_same Output Output = true
 is_same Count Count = true
 is_same Summary Summary = true
 is_same Crlf Crlf = true
@@ -195,6 +200,7 @@ option_name Pattern = codes "-e"
 option_name Patterns = codes "-f"
 option_name Table = codes "-t"
 option_name With = codes "--with"
+option_name Output = codes "--output"
 option_name IgnoreCase = codes "-e"
 option_name Count = codes "-e"
 option_name Summary = codes "-e"
@@ -205,6 +211,10 @@ option_name Check = codes "-e"
 option_name Help = codes "-e"
 option_name Version = codes "-e"
 option_name File = codes "-e"
+
+-- the file that is written in the place of standard output, where one is asked for; help and the version go to that
+abbrev pub output_asked : List Given → Option (List ℕ)
+output_asked items = if has Help items || has Version items then None else last_value Output items
 
 -- whether a cover is asked for: so it is where no kind is given
 abbrev pub covers_asked : List Given → Bool
@@ -224,6 +234,7 @@ mixture_of given =
     if has Strict given && not (covers_asked given) then Some StrictKind
     else if has Count given && has Check given then Some CountCheck
     else if has Summary given && has Check given then Some SummaryCheck
+    else if has Output given && has Check given then Some OutputCheck
     else None
 
 -- all options and files, where they go together
@@ -262,8 +273,16 @@ pub record GivesNoPattern (given : List Given) : Type 0 where
   pub no_table : has Table given ≡ false
 
 -- what holds of the options and files that are given, where they ask for a redaction
+abbrev pub IfRedacting : {Z : Type 0} → List (String Z) → (List Given → Type 0) → Type 0
+IfRedacting arguments Holds = (given : List Given) → all_asked (texts arguments) ≡ Some given → AsksToRedact given → Holds given
+
+-- and where that goes to standard output
 abbrev pub IfAsked : {Z : Type 0} → List (String Z) → (List Given → Type 0) → Type 0
-IfAsked arguments Holds = (given : List Given) → all_asked (texts arguments) ≡ Some given → AsksToRedact given → Holds given
+IfAsked arguments Holds = (given : List Given) → all_asked (texts arguments) ≡ Some given → AsksToRedact given → output_asked given ≡ None → Holds given
+
+-- or to the file of a name
+abbrev pub IfInto : {Z : Type 0} → List (String Z) → (List Given → List ℕ → Type 0) → Type 0
+IfInto arguments Holds = (given : List Given) (name : List ℕ) → all_asked (texts arguments) ≡ Some given → AsksToRedact given → output_asked given ≡ Some name → Holds given name
 
 -- or for a check
 abbrev pub IfChecking : {Z : Type 0} → List (String Z) → (List Given → Type 0) → Type 0
@@ -273,9 +292,13 @@ IfChecking arguments Holds = (given : List Given) → all_asked (texts arguments
 abbrev pub IsCheck : {Z : Type 0} → List (String Z) → Type 0
 IsCheck arguments = (given : List Given) × (all_asked (texts arguments) ≡ Some given) × AsksToCheck given
 
--- what holds where they do not
-abbrev pub IfNoCheck : {Z : Type 0} → List (String Z) → Type 0 → Type 0
-IfNoCheck arguments Holds = (IsCheck arguments → ⊥) → Holds
+-- for output to a file
+abbrev pub IsInto : {Z : Type 0} → List (String Z) → Type 0
+IsInto arguments = (given : List Given) × (name : List ℕ) × (all_asked (texts arguments) ≡ Some given) × (output_asked given ≡ Some name)
+
+-- what holds where they ask for neither
+abbrev pub IfStandard : {Z : Type 0} → List (String Z) → Type 0 → Type 0
+IfStandard arguments Holds = (IsCheck arguments → ⊥) → (IsInto arguments → ⊥) → Holds
 
 -- the arguments are wrong
 abbrev pub AreMistaken : {Z : Type 0} → List (String Z) → Type 0

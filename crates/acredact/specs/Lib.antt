@@ -33,3 +33,5 @@ pub mod Failures
 pub mod Calls
 pub mod Checks
 pub mod Statuses
+-- a file for the output
+pub mod Into

@@ -217,6 +217,9 @@ fn mixture_text(mixture: Mixture) -> &'static str
         Mixture::SummaryCheck => {
             "--summary and --check do not go together: a check counts nothing"
         }
+        Mixture::OutputCheck => {
+            "--output and --check do not go together: a check writes nothing"
+        }
         Mixture::CountCheck => "--count and --check do not go together: a check counts nothing",
     }
 }

@@ -1,4 +1,4 @@
-//! `acredact [-i] [--kind KIND] (-e PATTERN | -f FILE | -t TABLE).. [--with TEXT] [--count] [--summary] [--check] [FILE]..` writes each FILE with a
+//! `acredact [-i] [--kind KIND] (-e PATTERN | -f FILE | -t TABLE).. [--with TEXT] [--output FILE] [--count] [--summary] [--check] [FILE]..` writes each FILE with a
 //! text in the place of each match of some patterns: `[redacted]`, TEXT, or the pattern's own of a TABLE. No FILE, or `-`, is standard
 //! input.
 //!
@@ -14,9 +14,11 @@ mod counts;
 mod failure;
 mod files;
 mod folder;
+mod into;
 mod load;
 mod look;
 mod meter;
+mod outputs;
 mod patterns;
 mod redact;
 mod rows;
@@ -28,13 +30,15 @@ mod ways;
 ghost use Rattle.std.specs.Prelude.{◌≡◌, ◌≤◌, IfErr, IfOk, true};
 ghost use Rattle.std.specs.Process.{exit_status};
 ghost use Rattle.programs.specs.Telling.{TellsSome};
-ghost use Rattle.acredact.specs.Arguments.{AreMistaken, IfAsked, IfChecking, IfNoCheck, IsCheck, RefusesUnclean};
+ghost use Rattle.acredact.specs.Arguments.{AreMistaken, IfAsked, IfChecking, IfInto, IfStandard, IsCheck, RefusesUnclean};
 ghost use Rattle.acredact.specs.Calls.{BeginsAsked, IsRefusedLine, LeavesNoneAsked, RedactsAsked};
 ghost use Rattle.acredact.specs.Checks.{MatchedAsked, UnmatchedAsked};
+ghost use Rattle.acredact.specs.Into.{LeavesFile, ReplacesFile};
 
 use aho_devices::adapters::{FromRead, FromWrite};
 use aho_devices::device::Sink;
 use folder::{Folder, Host};
+use outputs::{Beside, Outputs};
 use programs::arguments::arguments;
 use programs::closed::{Noted, Quiet};
 use programs::errors::Errors;
@@ -56,47 +60,62 @@ fn main(rt: HostRuntime) -> ExitCode {
     let noted = Noted::new(rt.stdout(), &reason);
     match BufWriter::with_capacity(rt.alloc(), OUTPUT_CAPACITY, noted) {
         Ok(output) => {
-            let mut streams = Streams {
+            let streams = Streams {
                 input: FromRead::new(rt.stdin()),
                 output: FromWrite::new(output),
                 errors,
             };
-            exit_code(rt.alloc(), given, &Host::new(&rt), &mut streams)
+            let mut outputs = Beside::new(rt.alloc(), &rt, &reason);
+            exit_code(rt.alloc(), given, &Host::new(&rt), &mut outputs, streams).0
         }
         Err(_) => ExitCode::from(refuse(Failure::OutOfMemory, &mut errors)),
     }
 }
 
 /// Runs on the arguments, or tells why there are none, and ends with the status.
-fn exit_code<F: Folder, I: Read, W: Write, E: Sink>(
+fn exit_code<'c, F: Folder, O: Outputs, I: Read, W: Write, E: Sink>(
     alloc: Global,
     given: Result<Vec<String>, Failure>,
     folder: &F,
-    streams: &mut Streams<'_, I, W, E>,
-) -> ExitCode
-    ensures faulty { IfErr given (λ _. exit_status result ≡ 2) }
+    outputs: &mut O,
+    streams: Streams<'c, I, W, E>,
+) -> (ExitCode, Streams<'c, I, W, E>)
+    ensures faulty { IfErr given (λ _. exit_status result.0 ≡ 2) }
     ensures refused { IfErr given (λ failure. TellsSome E.Sink (IsRefusedLine failure)
-        streams.old.errors streams.new.errors) }
+        streams.entry.errors result.1.errors) }
     ensures wrong { IfOk given (λ arguments.
-        AreMistaken arguments.items → exit_status result ≡ 2) }
+        AreMistaken arguments.items → exit_status result.0 ≡ 2) }
     ensures redacts { IfOk given (λ arguments. IfAsked arguments.items (λ given.
-        exit_status result ≡ 0 → RedactsAsked W.Write F.Folder folder.now given streams.old streams.new)) }
+        exit_status result.0 ≡ 0 → RedactsAsked W.Write F.Folder folder.now given streams.entry result.1)) }
     ensures strict { IfOk given (λ arguments. IfAsked arguments.items (λ given.
-        RefusesUnclean given → exit_status result ≡ 0
-        → LeavesNoneAsked W.Write F.Folder folder.now given streams.old streams.new)) }
+        RefusesUnclean given → exit_status result.0 ≡ 0
+        → LeavesNoneAsked W.Write F.Folder folder.now given streams.entry result.1)) }
     ensures begins { IfOk given (λ arguments. IfAsked arguments.items (λ given.
-        BeginsAsked W.Write F.Folder folder.now given streams.old streams.new)) }
+        BeginsAsked W.Write F.Folder folder.now given streams.entry result.1)) }
+    ensures replaces { IfOk given (λ arguments. IfInto arguments.items (λ given name.
+        exit_status result.0 ≡ 0 → ReplacesFile O.File.Write E.Sink F.Folder O.Outputs folder.now given name
+        outputs.old outputs.new streams.entry result.1)) }
+    ensures leaves { IfOk given (λ arguments. IfInto arguments.items (λ given name.
+        (exit_status result.0 ≡ 0 → ⊥) → LeavesFile O.File.Write E.Sink F.Folder O.Outputs folder.now given name
+        outputs.old outputs.new streams.entry (exit_status result.0) result.1)) }
     ensures unmatched { IfOk given (λ arguments. IfChecking arguments.items (λ given.
-        exit_status result ≡ 0 → UnmatchedAsked F.Folder folder.now given streams.old streams.new)) }
+        exit_status result.0 ≡ 0 → UnmatchedAsked F.Folder folder.now given streams.entry result.1)) }
     ensures matched { IfOk given (λ arguments. IfChecking arguments.items (λ given.
-        exit_status result ≡ 1 → MatchedAsked F.Folder folder.now given streams.old streams.new)) }
-    ensures flushed { IfOk given (λ arguments. IfNoCheck arguments.items (exit_status result ≡ 0
-        → streams.new.output.device.flushed ≡ true)) }
-    ensures bound { exit_status result ≤ 2 }
-    ensures one { exit_status result ≡ 1 → IfOk given (λ arguments. IsCheck arguments.items) }
+        exit_status result.0 ≡ 1 → MatchedAsked F.Folder folder.now given streams.entry result.1)) }
+    ensures flushed { IfOk given (λ arguments. IfStandard arguments.items (exit_status result.0 ≡ 0
+        → result.1.output.device.flushed ≡ true)) }
+    ensures bound { exit_status result.0 ≤ 2 }
+    ensures one { exit_status result.0 ≡ 1 → IfOk given (λ arguments. IsCheck arguments.items) }
 {
+    let mut streams = streams;
     match given {
-        Ok(arguments) => ExitCode::from(run(alloc, arguments.as_slice(), folder, streams)),
-        Err(failure) => ExitCode::from(refuse(failure, &mut streams.errors)),
+        Ok(arguments) => {
+            let ended = run(alloc, arguments.as_slice(), folder, outputs, streams);
+            (ExitCode::from(ended.status), ended.streams)
+        }
+        Err(failure) => {
+            let status = refuse(failure, &mut streams.errors);
+            (ExitCode::from(status), streams)
+        }
     }
 }
