@@ -25,6 +25,7 @@ mod Calls
 mod Warned
 mod Given
 mod Statuses
+mod Into
 -- what is seen of files
 mod Looks
 mod Checks

@@ -10,8 +10,11 @@ use Rattle.programs.specs.declared.errors.Errors.{Errors}
 use Rattle.programs.specs.declared.reason.Reason.{Reason}
 use Rattle.acredact.specs.Arguments.{Given, GivesNoPattern}
 use Rattle.acredact.specs.Calls.{call_of}
+use Rattle.acredact.specs.Failures.{IsFailureLine}
 use Rattle.acredact.specs.Files.{unread_line}
 use Rattle.acredact.specs.Statuses.{CallStatus}
+use Rattle.acredact.specs.declared.arguments.Mistake.TheVariants.{OutOfMemory}
+use Rattle.acredact.specs.declared.failure.Failure.TheVariants.{Arguments}
 use Rattle.acredact.specs.declared.folder.Folder.{Ghosts as Folders}
 use Rattle.acredact.specs.declared.outputs.Outputs.{Ghosts as Places}
 use Rattle.acredact.specs.declared.streams.Ended.{Ended}
@@ -51,6 +54,14 @@ module _ {E O Z : Type 0} (K : SinkGhosts E) (U : Places O Z) (name : List ℕ) 
     pub status : status ≡ 2
     pub told : TellsBytes K errors errors' (unread_line name reason)
 
+  -- nothing was asked for: memory ran out before, and that is told
+  pub record IsNotAsked (outputs outputs' : O) (errors : Errors E) (status : ℕ) (errors' : Errors E) : Type 0 where
+    pub unasked : outputs' ≡ outputs
+    pub status : status ≡ 2
+    pub line : List ℕ
+    pub is_line : IsFailureLine (Arguments OutOfMemory) line
+    pub told : TellsBytes K errors errors' line
+
 module _ {R Z E F X O : Type 0} {Reads : Readers R} (Writes : Writers Z) (K : SinkGhosts E) (D : Folders F X) (U : Places O Z) (folder : F) (given : List Given) (name : List ℕ) where
   -- a new file was made, and a call wrote to it as to standard output: it ended with this status
   pub record Fills (done : ℕ) (outputs outputs' : O) (input input' : FromRead R Reads) (errors : Errors E) (before after : Streams R Z E Reads) : Type 0 where
@@ -84,7 +95,8 @@ module _ {R Z E F X O : Type 0} {Reads : Readers R} (Writes : Writers Z) (K : Si
     -- or none was made
     abbrev pub LeavesFile : (status : ℕ) → Streams R W E Reads → Type 0
     LeavesFile status streams' =
-        (IsNotMade K U name outputs outputs' streams.errors status streams'.errors × (streams'.input ≡ streams.input))
+        ((IsNotAsked K U name outputs outputs' streams.errors status streams'.errors ⊎ IsNotMade K U name outputs outputs' streams.errors status streams'.errors)
+        × (streams'.input ≡ streams.input))
         ⊎ DropsFile status streams'
 
   -- what comes of a call that writes to the file
