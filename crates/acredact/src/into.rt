@@ -86,15 +86,22 @@ fn finish<O: Outputs, E: Sink>(
 {
     if done != 0 {
         drop(file);
-        outputs.remove(name);
-        return done;
+        return discard(outputs, name, done);
     }
     match outputs.put(name, file) {
         Ok(()) => 0,
         Err(reason) => {
-            outputs.remove(name);
             tell_unread(errors, name, reason);
-            FAILED
+            discard(outputs, name, FAILED)
         }
     }
+}
+
+/// Removes the new file that was to take the place of the one of this name, and answers the exit status.
+fn discard<O: Outputs>(outputs: &mut O, name: &str, status: u8) -> u8
+    ensures removed { O.removes outputs.old outputs.new name.now }
+    ensures status { result ≡ status }
+{
+    outputs.remove(name);
+    status
 }
