@@ -25,7 +25,7 @@ mod Calls
 mod Warned
 mod Given
 mod Statuses
-mod Into
+mod NewFiles
 -- what is seen of files
 mod Looks
 mod Checks

@@ -1,7 +1,7 @@
 -- The new file is made and filled, or it is told why not.
 use Rattle.std.proofs.Common.{◌≡◌, inl, inr, refl, sym, arith}
 use Rattle.acredact.specs.Arguments.{all_given}
-use Rattle.acredact.proofs.Into.{into_bound, written_into}
+use Rattle.acredact.proofs.NewFiles.{into_bound, written_into}
 use Rattle.acredact.proofs.into.redact_into.Goals as goal
 
 pub returns-in-Ok : goal.returns-in-Ok

@@ -13,7 +13,7 @@ use Rattle.acredact.specs.declared.failure.Failure.TheVariants.{Arguments}
 use Rattle.acredact.proofs.Calls.{call_refused}
 use Rattle.acredact.proofs.Checks.{check_refused, status_ended}
 use Rattle.acredact.proofs.Given.{memory_alone, no_output, same_given}
-use Rattle.acredact.proofs.Into.{by_output}
+use Rattle.acredact.proofs.NewFiles.{by_output}
 use Rattle.acredact.proofs.Statuses.{bound_by, flushed_by, one_by, status_failed, tells_one}
 use Rattle.acredact.proofs.run.run.Goals as goal
 

@@ -37,26 +37,26 @@ module _ {R W Z E F X O : Type 0} {Reads : Readers R} (Writes : Writers Z) (K : 
   pub written_into : WritesInto Writes K D U folder given name outputs outputs' streams ended
   written_into = elim bound [
     | inl zero ↦ elim (finishes.all zero) [
-        | inl put ↦ record {
-            replaces = λ _. record {
-              meanwhile = meanwhile;
-              before = before;
-              after = after;
-              filled = subst (λ (n : ℕ). Fills Writes K D U folder given name n outputs meanwhile streams.input ended.streams.input streams.errors before after) zero filled;
-              put = subst (λ (h : Option (List ℕ)). U.puts meanwhile outputs' name h) same put.put;
-              quiet = put.quiet;
-            };
-            leaves = λ failed. absurd (failed put.status);
-            patternless = λ none. let two = filled.says.patternless none in absurd (omega (arith, zero, two));
-            unwritten = unwritten;
-          }
-        | inr not ↦ record {
-            replaces = λ is. absurd (omega (arith, is, not.status));
-            leaves = λ _. inr (record { done = done; meanwhile = meanwhile; before = before; after = after; filled = filled; dropped = inl not });
-            patternless = λ none. not.status;
-            unwritten = unwritten;
-          }
-      ]
+      | inl put ↦ record {
+        replaces = λ _. record {
+          meanwhile = meanwhile;
+          before = before;
+          after = after;
+          filled = subst (λ (n : ℕ). Fills Writes K D U folder given name n outputs meanwhile streams.input ended.streams.input streams.errors before after) zero filled;
+          put = subst (λ (h : Option (List ℕ)). U.puts meanwhile outputs' name h) same put.put;
+          quiet = put.quiet;
+        };
+        leaves = λ failed. absurd (failed put.status);
+        patternless = λ none. let two = filled.says.patternless none in absurd (omega (arith, zero, two));
+        unwritten = unwritten;
+      }
+      | inr not ↦ record {
+        replaces = λ is. absurd (omega (arith, is, not.status));
+        leaves = λ _. inr (record { done = done; meanwhile = meanwhile; before = before; after = after; filled = filled; dropped = inl not });
+        patternless = λ none. not.status;
+        unwritten = unwritten;
+      }
+    ]
     | inr two ↦
         (let part = finishes.part (λ zero. absurd (omega (arith, zero, two))) in
         record {
