@@ -1,16 +1,14 @@
 -- Right arguments have nothing wrong.
-use Rattle.std.proofs.Common.{◌≡◌, inl, inr, ℕ, List, [], ◌∷◌, Option, refl, sym, ap, ◌∙◌, Bool, true, false}
-use Rattle.std.specs.Prelude.{◌&&◌, ◌||◌, Some, None, if◌then◌else◌, is_some, not, option_and_then, option_map}
+use Rattle.std.proofs.Common.{◌≡◌, inl, inr, ℕ, List, [], ◌∷◌, Option, refl, sym, ap, ◌∙◌}
+use Rattle.std.specs.Prelude.{Some, None, option_and_then, option_map}
 use Rattle.programs.specs.Messages.{Message}
-use Rattle.acredact.specs.Arguments.{Given, ReadAs, all_asked, covers_asked, fitting_by, given_by, has, last_value, mixture_of, output_asked, read_by, with_item}
+use Rattle.acredact.specs.Arguments.{Given, ReadAs, all_asked, fitting_by, given_by, mixture_of, read_by, with_item}
 use Rattle.acredact.specs.Mistakes.{IsMistakeOfCall, wrong_at, wrong_by, wrong_or}
 use Rattle.acredact.specs.declared.arguments.Expects.{Expects}
 use Rattle.acredact.specs.declared.arguments.Expects.TheVariants.{Any, Value, Name}
 use Rattle.acredact.specs.declared.arguments.Mistake.{Mistake}
 use Rattle.acredact.specs.declared.arguments.Mistake.TheVariants.{OutOfMemory}
 use Rattle.acredact.specs.declared.arguments.Mixture.{Mixture}
-use Rattle.acredact.specs.declared.arguments.Mixture.TheVariants.{CountCheck, OutputCheck, StrictKind, SummaryCheck}
-use Rattle.acredact.specs.declared.arguments.Word.TheVariants.{Check, Count, Help, Output, Strict, Summary, Version}
 
 some_same : {A : Type 0} (x y : A) → Some x ≡ Some y → x ≡ y
 some_same x y e = cc
@@ -51,29 +49,6 @@ read_fits None given is = absurd (cc)
 read_fits (Some read) given is =
     let (none, same) = fits (mixture_of read) read given is in
     (ap Some same, sym (ap mixture_of same) ∙ none)
-
--- a check is not asked for where output goes to a file
-mixed_output : (a b c d check output : Bool) → check ≡ true → (if a && b then Some StrictKind else if c && check then Some CountCheck else if d && check then Some SummaryCheck else if output && check then Some OutputCheck else None) ≡ None → output ≡ false
-mixed_output a b c d check false is none = refl
-mixed_output false b false false true true is none = absurd (cc)
-mixed_output false b false true true true is none = absurd (cc)
-mixed_output false b true d true true is none = absurd (cc)
-mixed_output true false false false true true is none = absurd (cc)
-mixed_output true false false true true true is none = absurd (cc)
-mixed_output true false true d true true is none = absurd (cc)
-mixed_output true true c d true true is none = absurd (cc)
-mixed_output a b c d false true is none = absurd (cc)
-
-none_last : (value : Option (List ℕ)) (help version : Bool) → is_some value ≡ false → (if help || version then None else value) ≡ None
-none_last None true version is = refl
-none_last None false true is = refl
-none_last None false false is = refl
-none_last (Some value) help version is = absurd (cc)
-
-pub no_output : (arguments : List (List ℕ)) (given : List Given) → all_asked arguments ≡ Some given → has Check given ≡ true → output_asked given ≡ None
-no_output arguments given asked check =
-    none_last (last_value Output given) (has Help given) (has Version given)
-    (mixed_output (has Strict given) (not (covers_asked given)) (has Count given) (has Summary given) (has Check given) (has Output given) check (read_fits (given_by Any arguments) given asked).1)
 
 -- nothing is wrong with right arguments but that memory runs out
 pub memory_alone : (arguments : List (List ℕ)) (given : List Given) (mistake : Mistake) → all_asked arguments ≡ Some given → IsMistakeOfCall arguments mistake → mistake ≡ OutOfMemory

@@ -25,7 +25,6 @@ mod Calls
 mod Warned
 mod Given
 mod Statuses
-mod NewFiles
 -- what is seen of files
 mod Looks
 mod Checks

@@ -273,32 +273,24 @@ pub record GivesNoPattern (given : List Given) : Type 0 where
   pub no_table : has Table given ≡ false
 
 -- what holds of the options and files that are given, where they ask for a redaction
-abbrev pub IfRedacting : {Z : Type 0} → List (String Z) → (List Given → Type 0) → Type 0
-IfRedacting arguments Holds = (given : List Given) → all_asked (texts arguments) ≡ Some given → AsksToRedact given → Holds given
-
--- and where that goes to standard output
 abbrev pub IfAsked : {Z : Type 0} → List (String Z) → (List Given → Type 0) → Type 0
-IfAsked arguments Holds = (given : List Given) → all_asked (texts arguments) ≡ Some given → AsksToRedact given → output_asked given ≡ None → Holds given
-
--- or to the file of a name
-abbrev pub IfInto : {Z : Type 0} → List (String Z) → (List Given → List ℕ → Type 0) → Type 0
-IfInto arguments Holds = (given : List Given) (name : List ℕ) → all_asked (texts arguments) ≡ Some given → AsksToRedact given → output_asked given ≡ Some name → Holds given name
+IfAsked arguments Holds = (given : List Given) → all_asked (texts arguments) ≡ Some given → AsksToRedact given → Holds given
 
 -- or for a check
 abbrev pub IfChecking : {Z : Type 0} → List (String Z) → (List Given → Type 0) → Type 0
 IfChecking arguments Holds = (given : List Given) → all_asked (texts arguments) ≡ Some given → AsksToCheck given → Holds given
 
+-- the options that are given name this file for the output, or none
+abbrev pub NamesOutput : {Z : Type 0} → List (String Z) → Option (List ℕ) → Type 0
+NamesOutput arguments output = (given : List Given) × (all_asked (texts arguments) ≡ Some given) × (output ≡ output_asked given)
+
 -- these arguments ask for a check
 abbrev pub IsCheck : {Z : Type 0} → List (String Z) → Type 0
 IsCheck arguments = (given : List Given) × (all_asked (texts arguments) ≡ Some given) × AsksToCheck given
 
--- for output to a file
-abbrev pub IsInto : {Z : Type 0} → List (String Z) → Type 0
-IsInto arguments = (given : List Given) × (name : List ℕ) × (all_asked (texts arguments) ≡ Some given) × (output_asked given ≡ Some name)
-
--- what holds where they ask for neither
-abbrev pub IfStandard : {Z : Type 0} → List (String Z) → Type 0 → Type 0
-IfStandard arguments Holds = (IsCheck arguments → ⊥) → (IsInto arguments → ⊥) → Holds
+-- what holds where they do not
+abbrev pub IfNoCheck : {Z : Type 0} → List (String Z) → Type 0 → Type 0
+IfNoCheck arguments Holds = (IsCheck arguments → ⊥) → Holds
 
 -- the arguments are wrong
 abbrev pub AreMistaken : {Z : Type 0} → List (String Z) → Type 0

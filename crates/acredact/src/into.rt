@@ -1,97 +1,127 @@
-//! A call whose output goes to a file.
+//! A call whose output is a new file, which takes the place of another where all was done.
 
-ghost use Rattle.std.specs.Prelude.{◌≡◌, ◌⊎◌};
-ghost use Rattle.acredact.specs.Arguments.{AsksToRedact, all_given};
-ghost use Rattle.acredact.specs.Into.{Finishes, WritesInto};
+ghost use Rattle.std.specs.Prelude.{◌≡◌, IfErr, IfOk, false, option_map, true};
+ghost use Rattle.programs.specs.Arguments.{texts};
+ghost use Rattle.programs.specs.Streams.{output_bytes};
+ghost use Rattle.acredact.specs.Arguments.{IfAsked, IfNoCheck, NamesOutput, RefusesUnclean, counts_asked};
+ghost use Rattle.acredact.specs.Calls.{CountsAsked, IsWrongFailure, LeavesNoneAsked, RedactsAsked, WarnsAsked};
+ghost use Rattle.acredact.specs.Into.{IsKept, LeavesOld, WritesNew};
 
-use crate::arguments::Item;
-use crate::failure::tell_unread;
+use crate::arguments::{items, output_of};
+use crate::failure::{Failure, tell_unread};
 use crate::folder::Folder;
 use crate::outputs::Outputs;
-use crate::run::{FAILED, redact_status};
-use crate::streams::{Ended, Streams};
-use aho_devices::adapters::FromWrite;
+use crate::run::{FAILED, run};
+use crate::streams::Streams;
+use aho_devices::adapters::{FromRead, FromWrite};
 use aho_devices::device::Sink;
 use programs::errors::Errors;
 use std::alloc::Global;
-use std::io::{Read, Write};
+use std::io::Read;
 
-/// Does what the options and files ask for, with a new file for the output. Where all was done that takes the place of the file of
-/// this name, and else it is removed. Standard output gets nothing.
-pub fn redact_into<'c, F: Folder, O: Outputs, I: Read, W: Write, E: Sink>(
+/// The file that is named for the output, if one is.
+///
+/// # Errors
+///
+/// As `items`: the arguments are wrong, or memory runs out.
+pub fn named_output<'a>(
     alloc: Global,
-    given: &[Item<'_>],
+    arguments: &'a [String],
+) -> Result<Option<&'a str>, Failure<'a>>
+    ensures named { IfOk result (λ name. NamesOutput arguments.now
+        (option_map (λ name. name.now) name)) }
+    ensures wrong { IfErr result (λ failure. IsWrongFailure (texts arguments.now) failure) }
+{
+    match items(alloc, arguments) {
+        Ok(given) => Ok(output_of(given.as_slice())),
+        Err(mistake) => Err(Failure::Arguments(mistake)),
+    }
+}
+
+/// Makes a new file, and does what the arguments ask for with that for the output. Where all was done it takes the place of the file
+/// of this name, and else it is removed. Answers the exit status.
+pub fn make_and_run<F: Folder, O: Outputs, I: Read + Drop, E: Sink + Drop>(
+    alloc: Global,
+    arguments: &[String],
     name: &str,
     folder: &F,
     outputs: &mut O,
-    streams: Streams<'c, I, W, E>,
-) -> Ended<'c, I, W, E>
-    ensures writes { AsksToRedact (all_given given.now)
-        → WritesInto O.File.Write E.Sink F.Folder O.Outputs folder.now (all_given given.now) name.now
-        outputs.old outputs.new streams.entry result }
-    ensures bound { (result.status ≡ 0) ⊎ (result.status ≡ 2) }
+    input: I,
+    errors: Errors<'_, E>,
+) -> u8
+    // A new file was made, all was written to it, and then it took that place.
+    ensures writes { IfAsked arguments.now (λ given. result ≡ 0
+        → WritesNew I.Read O.File.Write F.Folder O.Outputs folder.now given name.now outputs.old outputs.new) }
+    // Or none was made, or it was removed: what has the name is as it was.
+    ensures leaves { (result ≡ 0 → ⊥) → LeavesOld O.Outputs name.now outputs.old outputs.new }
 {
-    let Streams {
-        input,
-        output,
-        mut errors,
-    } = streams;
+    let mut errors = errors;
     match outputs.make(name) {
         Ok(file) => {
-            let mut filled = Streams {
-                input,
+            let mut streams = Streams {
+                input: FromRead::new(input),
                 output: FromWrite::new(file),
                 errors,
             };
-            let done = redact_status(alloc, given, folder, &mut filled);
-            let Streams {
-                input,
-                output: new,
-                mut errors,
-            } = filled;
-            let status = finish(outputs, name, done, new.into_inner(), &mut errors);
-            Ended {
-                status,
-                streams: Streams {
-                    input,
-                    output,
-                    errors,
-                },
-            }
+            run_into(alloc, arguments, name, folder, outputs, &mut streams)
         }
         Err(reason) => {
             tell_unread(&mut errors, name, reason);
-            Ended {
-                status: FAILED,
-                streams: Streams {
-                    input,
-                    output,
-                    errors,
-                },
-            }
+            FAILED
         }
     }
 }
 
+/// Does what the arguments ask for with a new file for the output, as `run` does. Where all was done that takes the place of the file
+/// of this name, and else it is removed. Answers the exit status.
+pub fn run_into<F: Folder, O: Outputs, I: Read, E: Sink>(
+    alloc: Global,
+    arguments: &[String],
+    name: &str,
+    folder: &F,
+    outputs: &mut O,
+    streams: &mut Streams<'_, I, O::File, E>,
+) -> u8
+    // Where the status is 0 the new file holds all, and took that place.
+    ensures redacts { IfAsked arguments.now (λ given. result ≡ 0
+        → RedactsAsked O.File.Write F.Folder folder.now given streams.old streams.new) }
+    ensures strict { IfAsked arguments.now (λ given. RefusesUnclean given → result ≡ 0
+        → LeavesNoneAsked O.File.Write F.Folder folder.now given streams.old streams.new) }
+    ensures quiet { IfAsked arguments.now (λ given. counts_asked given ≡ false → result ≡ 0
+        → WarnsAsked E.Sink F.Folder folder.now given streams.old streams.new) }
+    ensures counts { IfAsked arguments.now (λ given. counts_asked given ≡ true → result ≡ 0
+        → CountsAsked O.File.Write E.Sink F.Folder folder.now given streams.old streams.new) }
+    ensures flushed { IfNoCheck arguments.now (result ≡ 0
+        → streams.new.output.device.flushed ≡ true) }
+    ensures puts { result ≡ 0 → O.puts outputs.old outputs.new name.now
+        (output_bytes O.File.Write streams.new.output) }
+    // At any other it did not, and was removed.
+    ensures kept { (result ≡ 0 → ⊥) → IsKept O.Outputs name.now outputs.old outputs.new }
+{
+    let done = run(alloc, arguments, folder, streams);
+    finish(outputs, name, done, streams)
+}
+
 /// Has the new file take the place of the one of this name, where all was done, and else removes it. Answers the exit status.
-fn finish<O: Outputs, E: Sink>(
+fn finish<O: Outputs, I: Read, E: Sink>(
     outputs: &mut O,
     name: &str,
     done: u8,
-    file: O::File,
-    errors: &mut Errors<'_, E>,
+    streams: &mut Streams<'_, I, O::File, E>,
 ) -> u8
-    ensures finishes { Finishes O.File.Write E.Sink O.Outputs name.now done (O.File.contents file)
-        outputs.old outputs.new errors.old result errors.new }
+    ensures done { result ≡ 0 → done ≡ 0 }
+    ensures same { result ≡ 0 → streams.new ≡ streams.old }
+    ensures puts { result ≡ 0 → O.puts outputs.old outputs.new name.now
+        (output_bytes O.File.Write streams.old.output) }
+    ensures kept { (result ≡ 0 → ⊥) → IsKept O.Outputs name.now outputs.old outputs.new }
 {
     if done != 0 {
-        drop(file);
         return discard(outputs, name, done);
     }
-    match outputs.put(name, file) {
+    match outputs.put(name, &streams.output) {
         Ok(()) => 0,
         Err(reason) => {
-            tell_unread(errors, name, reason);
+            tell_unread(&mut streams.errors, name, reason);
             discard(outputs, name, FAILED)
         }
     }

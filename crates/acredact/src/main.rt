@@ -30,20 +30,20 @@ mod ways;
 ghost use Rattle.std.specs.Prelude.{◌≡◌, ◌≤◌, IfErr, IfOk, true};
 ghost use Rattle.std.specs.Process.{exit_status};
 ghost use Rattle.programs.specs.Telling.{TellsSome};
-ghost use Rattle.acredact.specs.Arguments.{AreMistaken, IfAsked, IfChecking, IfInto, IfStandard, IsCheck, RefusesUnclean};
+ghost use Rattle.acredact.specs.Arguments.{AreMistaken, IfAsked, IfChecking, IfNoCheck, IsCheck, RefusesUnclean};
 ghost use Rattle.acredact.specs.Calls.{BeginsAsked, IsRefusedLine, LeavesNoneAsked, RedactsAsked};
 ghost use Rattle.acredact.specs.Checks.{MatchedAsked, UnmatchedAsked};
-ghost use Rattle.acredact.specs.Into.{LeavesFile, ReplacesFile};
 
 use aho_devices::adapters::{FromRead, FromWrite};
 use aho_devices::device::Sink;
 use folder::{Folder, Host};
-use outputs::{Beside, Outputs};
+use into::{make_and_run, named_output};
+use outputs::Beside;
 use programs::arguments::arguments;
 use programs::closed::{Noted, Quiet};
 use programs::errors::Errors;
 use programs::failure::Failure;
-use run::{refuse, run};
+use run::{refuse, report, run};
 use std::alloc::Global;
 use std::cell::Cell;
 use std::io::{BufWriter, Read, Write};
@@ -57,65 +57,70 @@ fn main(rt: HostRuntime) -> ExitCode {
     let given = arguments(&rt);
     let reason = Cell::new(None);
     let mut errors = Errors::new(FromWrite::new(Quiet::new(rt.stderr(), &reason)), &reason);
+    if let Ok(arguments) = &given {
+        match named_output(rt.alloc(), arguments.as_slice()) {
+            Ok(None) => {}
+            Ok(Some(name)) => {
+                let mut outputs = Beside::new(rt.alloc(), &rt, &reason);
+                let folder = Host::new(&rt);
+                let arguments = arguments.as_slice();
+                return ExitCode::from(make_and_run(
+                    rt.alloc(),
+                    arguments,
+                    name,
+                    &folder,
+                    &mut outputs,
+                    rt.stdin(),
+                    errors,
+                ));
+            }
+            Err(failure) => return ExitCode::from(report(&failure, &mut errors)),
+        }
+    }
     let noted = Noted::new(rt.stdout(), &reason);
     match BufWriter::with_capacity(rt.alloc(), OUTPUT_CAPACITY, noted) {
         Ok(output) => {
-            let streams = Streams {
+            let mut streams = Streams {
                 input: FromRead::new(rt.stdin()),
                 output: FromWrite::new(output),
                 errors,
             };
-            let mut outputs = Beside::new(rt.alloc(), &rt, &reason);
-            exit_code(rt.alloc(), given, &Host::new(&rt), &mut outputs, streams).0
+            exit_code(rt.alloc(), given, &Host::new(&rt), &mut streams)
         }
         Err(_) => ExitCode::from(refuse(Failure::OutOfMemory, &mut errors)),
     }
 }
 
 /// Runs on the arguments, or tells why there are none, and ends with the status.
-fn exit_code<'c, F: Folder, O: Outputs, I: Read, W: Write, E: Sink>(
+fn exit_code<F: Folder, I: Read, W: Write, E: Sink>(
     alloc: Global,
     given: Result<Vec<String>, Failure>,
     folder: &F,
-    outputs: &mut O,
-    streams: Streams<'c, I, W, E>,
-) -> (ExitCode, Streams<'c, I, W, E>)
-    ensures faulty { IfErr given (λ _. exit_status result.0 ≡ 2) }
+    streams: &mut Streams<'_, I, W, E>,
+) -> ExitCode
+    ensures faulty { IfErr given (λ _. exit_status result ≡ 2) }
     ensures refused { IfErr given (λ failure. TellsSome E.Sink (IsRefusedLine failure)
-        streams.entry.errors result.1.errors) }
+        streams.old.errors streams.new.errors) }
     ensures wrong { IfOk given (λ arguments.
-        AreMistaken arguments.items → exit_status result.0 ≡ 2) }
+        AreMistaken arguments.items → exit_status result ≡ 2) }
     ensures redacts { IfOk given (λ arguments. IfAsked arguments.items (λ given.
-        exit_status result.0 ≡ 0 → RedactsAsked W.Write F.Folder folder.now given streams.entry result.1)) }
+        exit_status result ≡ 0 → RedactsAsked W.Write F.Folder folder.now given streams.old streams.new)) }
     ensures strict { IfOk given (λ arguments. IfAsked arguments.items (λ given.
-        RefusesUnclean given → exit_status result.0 ≡ 0
-        → LeavesNoneAsked W.Write F.Folder folder.now given streams.entry result.1)) }
+        RefusesUnclean given → exit_status result ≡ 0
+        → LeavesNoneAsked W.Write F.Folder folder.now given streams.old streams.new)) }
     ensures begins { IfOk given (λ arguments. IfAsked arguments.items (λ given.
-        BeginsAsked W.Write F.Folder folder.now given streams.entry result.1)) }
-    ensures replaces { IfOk given (λ arguments. IfInto arguments.items (λ given name.
-        exit_status result.0 ≡ 0 → ReplacesFile O.File.Write E.Sink F.Folder O.Outputs folder.now given name
-        outputs.old outputs.new streams.entry result.1)) }
-    ensures leaves { IfOk given (λ arguments. IfInto arguments.items (λ given name.
-        (exit_status result.0 ≡ 0 → ⊥) → LeavesFile O.File.Write E.Sink F.Folder O.Outputs folder.now given name
-        outputs.old outputs.new streams.entry (exit_status result.0) result.1)) }
+        BeginsAsked W.Write F.Folder folder.now given streams.old streams.new)) }
     ensures unmatched { IfOk given (λ arguments. IfChecking arguments.items (λ given.
-        exit_status result.0 ≡ 0 → UnmatchedAsked F.Folder folder.now given streams.entry result.1)) }
+        exit_status result ≡ 0 → UnmatchedAsked F.Folder folder.now given streams.old streams.new)) }
     ensures matched { IfOk given (λ arguments. IfChecking arguments.items (λ given.
-        exit_status result.0 ≡ 1 → MatchedAsked F.Folder folder.now given streams.entry result.1)) }
-    ensures flushed { IfOk given (λ arguments. IfStandard arguments.items (exit_status result.0 ≡ 0
-        → result.1.output.device.flushed ≡ true)) }
-    ensures bound { exit_status result.0 ≤ 2 }
-    ensures one { exit_status result.0 ≡ 1 → IfOk given (λ arguments. IsCheck arguments.items) }
+        exit_status result ≡ 1 → MatchedAsked F.Folder folder.now given streams.old streams.new)) }
+    ensures flushed { IfOk given (λ arguments. IfNoCheck arguments.items (exit_status result ≡ 0
+        → streams.new.output.device.flushed ≡ true)) }
+    ensures bound { exit_status result ≤ 2 }
+    ensures one { exit_status result ≡ 1 → IfOk given (λ arguments. IsCheck arguments.items) }
 {
-    let mut streams = streams;
     match given {
-        Ok(arguments) => {
-            let ended = run(alloc, arguments.as_slice(), folder, outputs, streams);
-            (ExitCode::from(ended.status), ended.streams)
-        }
-        Err(failure) => {
-            let status = refuse(failure, &mut streams.errors);
-            (ExitCode::from(status), streams)
-        }
+        Ok(arguments) => ExitCode::from(run(alloc, arguments.as_slice(), folder, streams)),
+        Err(failure) => ExitCode::from(refuse(failure, &mut streams.errors)),
     }
 }

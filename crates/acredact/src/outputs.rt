@@ -3,6 +3,7 @@
 ghost use Rattle.std.specs.Prelude.{ℕ, List, MatchResult, Option, ⊤};
 ghost use Rattle.programs.specs.declared.reason.Reason.{Reason};
 
+use aho_devices::adapters::FromWrite;
 use programs::closed::Noted;
 use programs::reason::Reason;
 use std::alloc::{AllocError, Global};
@@ -45,9 +46,9 @@ pub trait Outputs {
             (λ reason. makes_none self.old self.new name.now reason) };
 
     /// Has the new file take the place of the one of this name.
-    fn put(&mut self, name: &str, file: Self::File) -> Result<(), Reason>
+    fn put(&mut self, name: &str, file: &FromWrite<Self::File>) -> Result<(), Reason>
         ensures put { MatchResult result
-            (λ _. puts self.old self.new name.now (Self.File.contents file))
+            (λ _. puts self.old self.new name.now (Self.File.contents file.now.device.writer))
             (λ reason. puts_none self.old self.new name.now reason) };
 
     /// Removes the new file that was to take the place of the one of this name.
@@ -171,8 +172,11 @@ impl<'c, R: Files> Outputs for Beside<'c, '_, R> {
         }
     }
 
-    fn put(&mut self, name: &str, file: BufWriter<Noted<'c, R::File>>) -> Result<(), Reason> {
-        drop(file);
+    fn put(
+        &mut self,
+        name: &str,
+        _file: &FromWrite<BufWriter<Noted<'c, R::File>>>,
+    ) -> Result<(), Reason> {
         let Some(made) = &self.made else {
             return Err(Reason::NotFound);
         };

@@ -1,17 +1,16 @@
 //! A call of the program over its arguments, files and streams.
 
-ghost use Rattle.std.specs.Prelude.{◌≡◌, ◌++◌, ◌⊎◌, ◌<◌, ◌≤◌, ℕ, List, IfErr, IfOk, IfSome, None, Ok, OnErr, OnOk, Some, false, length, true};
+ghost use Rattle.std.specs.Prelude.{◌≡◌, ◌++◌, ◌⊎◌, ◌<◌, ◌≤◌, ℕ, List, IfErr, IfOk, IfSome, Ok, OnErr, OnOk, Some, false, length, true};
 ghost use Rattle.aho_core.specs.Replacement.{pieces_of};
 ghost use Rattle.programs.specs.Arguments.{texts};
 ghost use Rattle.programs.specs.Names.{name_bytes};
 ghost use Rattle.programs.specs.Streams.{WritesBytes, bytes_left};
 ghost use Rattle.programs.specs.Telling.{Tells, TellsBytes, TellsSome};
-ghost use Rattle.acredact.specs.Arguments.{AreMistaken, AsksToRedact, GivesNoPattern, IfAsked, IfChecking, IfInto, IfRedacting, IfStandard, IsCheck, RefusesUnclean, all_given, checks_asked, counts_asked, has, output_asked};
+ghost use Rattle.acredact.specs.Arguments.{AreMistaken, AsksToRedact, GivesNoPattern, IfAsked, IfChecking, IfNoCheck, IsCheck, RefusesUnclean, all_given, checks_asked, counts_asked, has};
 ghost use Rattle.acredact.specs.Calls.{AskedOutcome, BeginsAsked, CountsAsked, IsCountsFailure, IsCountsLine, IsPrintFailure, IsRefusedLine, IsWrongLine, LeavesNoneAsked, LoadedOutcome, OutputFails, RedactsAsked, TellsAsked, TellsAnyCounts, WarnedJob, WarnedOutcome, WarnsAsked, call_of, gives_pattern, names_asked, text_asked, work_by};
 ghost use Rattle.acredact.specs.Checks.{MatchedAsked, SaysOfCheck, TellsUncheckedAsked, UnmatchedAsked};
 ghost use Rattle.acredact.specs.Counts.{lines_of_rules, zeros};
 ghost use Rattle.acredact.specs.Failures.{IsFailureLine};
-ghost use Rattle.acredact.specs.Into.{LeavesFile, ReplacesFile, WritesInto};
 ghost use Rattle.acredact.specs.Files.{CanDo, FilesOutcome, redactor_of, work_of};
 ghost use Rattle.acredact.specs.Pieces.{IfOfAll, TellsUnclean, pieces_by};
 ghost use Rattle.acredact.specs.Secrets.{IfOf};
@@ -25,7 +24,7 @@ ghost use Rattle.acredact.specs.declared.failure.Failure.TheVariants.{Unclean as
 ghost use Rattle.acredact.specs.declared.arguments.Word.TheVariants.{Strict};
 
 use crate::arguments::{
-    Item, Mistake, Word, checks, counts, covers, has, is_same, items, last_value, output_of,
+    Item, Mistake, Word, checks, counts, covers, has, is_same, items, last_value,
 };
 use crate::check::check;
 use crate::clean::{Judge, Unclean, unclean_of};
@@ -33,12 +32,10 @@ use crate::counts::{counts_of, put_counts};
 use crate::failure::{Failure, tell_failure, tell_unclean};
 use crate::files::{Job, redact_files};
 use crate::folder::Folder;
-use crate::into::redact_into;
 use crate::load::{lists_of, rules};
-use crate::outputs::Outputs;
 use crate::patterns::{Rule, patterns_of, replacements_of};
 use crate::rows::build;
-use crate::streams::{Ended, Streams};
+use crate::streams::Streams;
 use crate::summary::{Volume, put_summary};
 use aho_automaton::automaton::Automaton;
 use aho_core::error::StreamError;
@@ -88,116 +85,68 @@ pub const FAILED: u8 = 2;
 /// Writes each file with a replacement in the place of each match, or checks whether it has one, and answers the exit status: 0 where
 /// all was redacted or nothing would be, 1 where a check found something, and 2 where the arguments or the patterns are wrong,
 /// memory runs out, or a file cannot be read or the output not be written.
-pub fn run<'c, F: Folder, O: Outputs, I: Read, W: Write, E: Sink>(
+pub fn run<F: Folder, I: Read, W: Write, E: Sink>(
     alloc: Global,
     arguments: &[String],
     folder: &F,
-    outputs: &mut O,
-    streams: Streams<'c, I, W, E>,
-) -> Ended<'c, I, W, E>
+    streams: &mut Streams<'_, I, W, E>,
+) -> u8
     // Wrong arguments are found and told before anything is read or written.
-    ensures wrong { AreMistaken arguments.now → result.status ≡ 2 }
+    ensures wrong { AreMistaken arguments.now → result ≡ 2 }
     ensures unread { AreMistaken arguments.now
-        → result.streams.input ≡ streams.entry.input }
+        → streams.new.input ≡ streams.old.input }
     ensures unwritten { AreMistaken arguments.now
-        → result.streams.output ≡ streams.entry.output }
+        → streams.new.output ≡ streams.old.output }
     ensures tells_wrong { AreMistaken arguments.now → TellsSome E.Sink
-        (IsWrongLine (texts arguments.now)) streams.entry.errors result.streams.errors }
-    ensures patternless { IfRedacting arguments.now (λ given. GivesNoPattern given → result.status ≡ 2) }
+        (IsWrongLine (texts arguments.now)) streams.old.errors streams.new.errors }
+    ensures patternless { IfAsked arguments.now (λ given. GivesNoPattern given → result ≡ 2) }
 
     // Where the status is 0, the files were redacted, one after another, and no secret is left.
-    ensures redacts { IfAsked arguments.now (λ given. result.status ≡ 0
-        → RedactsAsked W.Write F.Folder folder.now given streams.entry result.streams) }
+    ensures redacts { IfAsked arguments.now (λ given. result ≡ 0
+        → RedactsAsked W.Write F.Folder folder.now given streams.old streams.new) }
 
     // Whatever the status is, each file's redaction was written or a beginning of it, one after another, and nothing else.
     ensures begins { IfAsked arguments.now (λ given.
-        BeginsAsked W.Write F.Folder folder.now given streams.entry result.streams) }
+        BeginsAsked W.Write F.Folder folder.now given streams.old streams.new) }
 
     // Where pieces that are not clean are refused, no pattern occurs in what was written of a file.
-    ensures strict { IfAsked arguments.now (λ given. RefusesUnclean given → result.status ≡ 0
-        → LeavesNoneAsked W.Write F.Folder folder.now given streams.entry result.streams) }
+    ensures strict { IfAsked arguments.now (λ given. RefusesUnclean given → result ≡ 0
+        → LeavesNoneAsked W.Write F.Folder folder.now given streams.old streams.new) }
 
     // Where all was redacted nothing is told but a piece of a cover that is not clean, and the counts that are asked for: for each
     // pattern, how many ranges of all texts were replaced by its text.
-    ensures quiet { IfAsked arguments.now (λ given. counts_asked given ≡ false → result.status ≡ 0
-        → WarnsAsked E.Sink F.Folder folder.now given streams.entry result.streams) }
-    ensures counts { IfAsked arguments.now (λ given. counts_asked given ≡ true → result.status ≡ 0
-        → CountsAsked W.Write E.Sink F.Folder folder.now given streams.entry result.streams) }
+    ensures quiet { IfAsked arguments.now (λ given. counts_asked given ≡ false → result ≡ 0
+        → WarnsAsked E.Sink F.Folder folder.now given streams.old streams.new) }
+    ensures counts { IfAsked arguments.now (λ given. counts_asked given ≡ true → result ≡ 0
+        → CountsAsked W.Write E.Sink F.Folder folder.now given streams.old streams.new) }
 
     // Else lines say why, and hold nothing of a file's content or of a pattern.
-    ensures tells { IfAsked arguments.now (λ given. result.status ≡ 2
-        → TellsAsked E.Sink F.Folder folder.now given streams.entry result.streams) }
-
-    // Where a file is named for the output, that file is replaced at status 0, by one that holds all this. At any other status it is
-    // not, and no new file is left beside it. Standard output gets nothing.
-    ensures replaces { IfInto arguments.now (λ given name. result.status ≡ 0
-        → ReplacesFile O.File.Write E.Sink F.Folder O.Outputs folder.now given name
-        outputs.old outputs.new streams.entry result.streams) }
-    ensures leaves { IfInto arguments.now (λ given name. (result.status ≡ 0 → ⊥)
-        → LeavesFile O.File.Write E.Sink F.Folder O.Outputs folder.now given name
-        outputs.old outputs.new streams.entry result.status result.streams) }
-    ensures into_alone { IfInto arguments.now (λ _ _.
-        result.streams.output ≡ streams.entry.output) }
+    ensures tells { IfAsked arguments.now (λ given. result ≡ 2
+        → TellsAsked E.Sink F.Folder folder.now given streams.old streams.new) }
 
     // A check: at status 0 each file was read to its end, and no pattern occurs in any. At status 1 one does, in some file.
-    ensures unmatched { IfChecking arguments.now (λ given. result.status ≡ 0
-        → UnmatchedAsked F.Folder folder.now given streams.entry result.streams) }
-    ensures matched { IfChecking arguments.now (λ given. result.status ≡ 1
-        → MatchedAsked F.Folder folder.now given streams.entry result.streams) }
+    ensures unmatched { IfChecking arguments.now (λ given. result ≡ 0
+        → UnmatchedAsked F.Folder folder.now given streams.old streams.new) }
+    ensures matched { IfChecking arguments.now (λ given. result ≡ 1
+        → MatchedAsked F.Folder folder.now given streams.old streams.new) }
 
     // At any other each file that cannot be read is told, and each other was looked at; or it is told why the check ends.
-    ensures unchecked { IfChecking arguments.now (λ given. result.status ≡ 2
-        → TellsUncheckedAsked F.Folder folder.now given streams.entry result.streams E.Sink) }
-    ensures check_quiet { IfChecking arguments.now (λ _. result.status < 2
-        → result.streams.errors ≡ streams.entry.errors) }
+    ensures unchecked { IfChecking arguments.now (λ given. result ≡ 2
+        → TellsUncheckedAsked F.Folder folder.now given streams.old streams.new E.Sink) }
+    ensures check_quiet { IfChecking arguments.now (λ _. result < 2
+        → streams.new.errors ≡ streams.old.errors) }
     ensures check_unwritten { IfChecking arguments.now (λ _.
-        result.streams.output ≡ streams.entry.output) }
+        streams.new.output ≡ streams.old.output) }
 
     // All output was flushed where the status tells of no failure. A check has none, and it alone ends with status 1.
-    ensures flushed { IfStandard arguments.now (result.status ≡ 0
-        → result.streams.output.device.flushed ≡ true) }
-    ensures bound { result.status ≤ 2 }
-    ensures one { result.status ≡ 1 → IsCheck arguments.now }
+    ensures flushed { IfNoCheck arguments.now (result ≡ 0
+        → streams.new.output.device.flushed ≡ true) }
+    ensures bound { result ≤ 2 }
+    ensures one { result ≡ 1 → IsCheck arguments.now }
 {
-    let mut streams = streams;
     match items(alloc, arguments) {
-        Ok(given) => answer_to(alloc, given.as_slice(), folder, outputs, streams),
-        Err(mistake) => {
-            let status = report(&Failure::Arguments(mistake), &mut streams.errors);
-            Ended { status, streams }
-        }
-    }
-}
-
-/// Does what the options and files ask for, with standard output or a file for the output.
-fn answer_to<'c, F: Folder, O: Outputs, I: Read, W: Write, E: Sink>(
-    alloc: Global,
-    given: &[Item<'_>],
-    folder: &F,
-    outputs: &mut O,
-    streams: Streams<'c, I, W, E>,
-) -> Ended<'c, I, W, E>
-    ensures redacted { output_asked (all_given given.now) ≡ None → SaysOfRedaction W.Write E.Sink F.Folder folder.now
-        (all_given given.now) result.status streams.entry result.streams }
-    ensures checked { output_asked (all_given given.now) ≡ None → SaysOfCheck E.Sink F.Folder folder.now
-        (all_given given.now) result.status streams.entry result.streams }
-    ensures into { IfSome (output_asked (all_given given.now)) (λ name. AsksToRedact (all_given given.now)
-        → WritesInto O.File.Write E.Sink F.Folder O.Outputs folder.now (all_given given.now) name
-        outputs.old outputs.new streams.entry result) }
-    ensures flushed { output_asked (all_given given.now) ≡ None → checks_asked (all_given given.now) ≡ false
-        → result.status ≡ 0 → result.streams.output.device.flushed ≡ true }
-    ensures bound { output_asked (all_given given.now) ≡ None → checks_asked (all_given given.now) ≡ false
-        → (result.status ≡ 0) ⊎ (result.status ≡ 2) }
-    ensures into_bound { IfSome (output_asked (all_given given.now)) (λ _.
-        (result.status ≡ 0) ⊎ (result.status ≡ 2)) }
-{
-    let mut streams = streams;
-    match output_of(given) {
-        None => {
-            let status = answer(alloc, given, folder, &mut streams);
-            Ended { status, streams }
-        }
-        Some(name) => redact_into(alloc, given, name, folder, outputs, streams),
+        Ok(given) => answer(alloc, given.as_slice(), folder, streams),
+        Err(mistake) => report(&Failure::Arguments(mistake), &mut streams.errors),
     }
 }
 
@@ -225,21 +174,6 @@ fn answer<F: Folder, I: Read, W: Write, E: Sink>(
             &mut streams.errors,
         );
     }
-    redact_status(alloc, given, folder, streams)
-}
-
-/// Redacts what the options and files ask for, and answers the exit status.
-pub fn redact_status<F: Folder, I: Read, W: Write, E: Sink>(
-    alloc: Global,
-    given: &[Item<'_>],
-    folder: &F,
-    streams: &mut Streams<'_, I, W, E>,
-) -> u8
-    ensures redacted { SaysOfRedaction W.Write E.Sink F.Folder folder.now (all_given given.now)
-        result streams.old streams.new }
-    ensures flushed { result ≡ 0 → streams.new.output.device.flushed ≡ true }
-    ensures bound { (result ≡ 0) ⊎ (result ≡ 2) }
-{
     match redact_asked(alloc, given, folder, streams) {
         Ok(true) => 0,
         Ok(false) => FAILED,

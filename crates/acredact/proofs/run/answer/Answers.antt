@@ -1,7 +1,12 @@
 -- A check or a redaction, and its status.
-use Rattle.std.proofs.Common.{◌≡◌, refl, sym, ◌∙◌, true, false}
+use Rattle.std.proofs.Common.{rules, ◌≡◌, ℕ, refl, sym, subst, ◌∙◌, true, false}
+use Rattle.std.specs.Prelude.{Bool, Ok, OnOk, Result}
+use Rattle.programs.specs.Streams.{bytes_left}
 use Rattle.acredact.specs.Arguments.{all_given, checks_asked}
-use Rattle.acredact.proofs.Statuses.{no_checking, no_redaction}
+use Rattle.acredact.specs.Calls.{CallOutcome, call_of}
+use Rattle.acredact.specs.Statuses.{CallStatus}
+use Rattle.acredact.specs.declared.failure.Failure.{Failure}
+use Rattle.acredact.proofs.Statuses.{no_checking, no_redaction, status_done, status_failed, status_partly}
 use Rattle.acredact.proofs.run.answer.Goals as goal
 
 pub returns-then-checks : goal.returns-then-checks
@@ -14,5 +19,33 @@ returns-then-checks g c =
       bound = λ none. let clash : true ≡ false = sym is ∙ none in absurd (cc);
     }
 
-pub returns-clause-checked : goal.returns-clause-checked
-returns-clause-checked g c = λ asks. absurd (no_checking (all_given c.args.given.now) (sym c.checks.ensures.checks ∙ c.if-checks.false) asks)
+pub returns-in-Ok-true-clause-redacted : goal.returns-in-Ok-true-clause-redacted
+returns-in-Ok-true-clause-redacted g c = λ asks.
+    let call = call_of g.F.Folder c.args.folder.now (all_given c.args.given.now) in
+    let whole : c.redact_asked.result ≡ Ok true = search rules in
+    status_done g.W.Write g.E.Sink call c.args.streams.now c.redact_asked.new.streams
+    (λ none. subst (λ (r : Result Bool Failure). OnOk r ⊥) whole (c.redact_asked.ensures.patternless asks none))
+    (subst (λ (r : Result Bool Failure). CallOutcome g.W.Write g.E.Sink call (bytes_left c.args.streams.now.input) r c.args.streams.now c.redact_asked.new.streams) whole (c.redact_asked.ensures.outcome asks))
+
+pub returns-in-Ok-true-clause-checked : goal.returns-in-Ok-true-clause-checked
+returns-in-Ok-true-clause-checked g c = λ asks. absurd (no_checking (all_given c.args.given.now) (sym c.checks.ensures.checks ∙ c.if-checks.false) asks)
+
+pub returns-in-Ok-false-clause-redacted : goal.returns-in-Ok-false-clause-redacted
+returns-in-Ok-false-clause-redacted g c = λ asks.
+    let call = call_of g.F.Folder c.args.folder.now (all_given c.args.given.now) in
+    let partly : c.redact_asked.result ≡ Ok false = search rules in
+    status_partly g.W.Write g.E.Sink call c.args.streams.now c.redact_asked.new.streams
+    (subst (λ (r : Result Bool Failure). CallOutcome g.W.Write g.E.Sink call (bytes_left c.args.streams.now.input) r c.args.streams.now c.redact_asked.new.streams) partly (c.redact_asked.ensures.outcome asks))
+
+pub returns-in-Ok-false-clause-checked : goal.returns-in-Ok-false-clause-checked
+returns-in-Ok-false-clause-checked g c = λ asks. absurd (no_checking (all_given c.args.given.now) (sym c.checks.ensures.checks ∙ c.if-checks.false) asks)
+
+pub returns-in-Err-clause-redacted : goal.returns-in-Err-clause-redacted
+returns-in-Err-clause-redacted g c = λ asks.
+    let told = c.report.ensures.told in
+    subst (λ (status : ℕ). CallStatus g.W.Write g.E.Sink (call_of g.F.Folder c.args.folder.now (all_given c.args.given.now)) status c.args.streams.now (record c.redact_asked.new.streams { errors = c.report.new.errors })) (sym c.report.ensures.failed)
+    (status_failed g.W.Write g.E.Sink (call_of g.F.Folder c.args.folder.now (all_given c.args.given.now)) c.args.streams.now c.redact_asked.new.streams c.in-Err.failure c.report.new.errors told.0
+    (c.in-Err.ensures.outcome asks) told.1 told.2)
+
+pub returns-in-Err-clause-checked : goal.returns-in-Err-clause-checked
+returns-in-Err-clause-checked g c = λ asks. absurd (no_checking (all_given c.args.given.now) (sym c.checks.ensures.checks ∙ c.if-checks.false) asks)
