@@ -1,11 +1,12 @@
 -- What becomes of a file that is named for the output: a new one is filled, and takes its place where all was done.
-use Rattle.std.specs.Prelude.{◌⊎◌, ℕ, List, Option}
+use Rattle.std.specs.Prelude.{◌≡◌, ◌⊎◌, ℕ, List, Option, false, true}
 use Rattle.std.specs.declared.io.traits.Read.{Ghosts as Readers}
 use Rattle.std.specs.declared.io.traits.Write.{Ghosts as Writers}
+use Rattle.aho_devices.specs.declared.device.Sink.{Ghosts as SinkGhosts}
 use Rattle.programs.specs.Streams.{output_bytes}
 use Rattle.programs.specs.declared.reason.Reason.{Reason}
-use Rattle.acredact.specs.Arguments.{Given}
-use Rattle.acredact.specs.Calls.{RedactsAsked}
+use Rattle.acredact.specs.Arguments.{Given, counts_asked}
+use Rattle.acredact.specs.Calls.{CountsAsked, RedactsAsked, WarnsAsked}
 use Rattle.acredact.specs.declared.folder.Folder.{Ghosts as Folders}
 use Rattle.acredact.specs.declared.outputs.Outputs.{Ghosts as Places}
 use Rattle.acredact.specs.declared.streams.Streams.{Streams}
@@ -33,10 +34,13 @@ module _ {O Z : Type 0} (U : Places O Z) (name : List ℕ) where
   LeavesOld outputs outputs' = ((reason : Reason) × U.makes_none outputs outputs' name reason) ⊎ IsDropped outputs outputs'
 
 -- a new file was made, all was redacted into it, and then it took the place of the one of this name
-pub record WritesNew {R Z E F X O : Type 0} (Reads : Readers R) (Writes : Writers Z) (D : Folders F X) (U : Places O Z) (folder : F) (given : List Given) (name : List ℕ) (outputs outputs' : O) : Type 0 where
+pub record WritesNew {R Z E F X O : Type 0} (Reads : Readers R) (Writes : Writers Z) (K : SinkGhosts E) (D : Folders F X) (U : Places O Z) (folder : F) (given : List Given) (name : List ℕ) (outputs outputs' : O) : Type 0 where
   pub before : Streams R Z E Reads
   pub after : Streams R Z E Reads
   pub meanwhile : O
   pub made : U.makes outputs meanwhile name (output_bytes Writes before.output)
   pub redacts : RedactsAsked Writes D folder given before after
+  -- what is told is what is told of standard output
+  pub quiet : counts_asked given ≡ false → WarnsAsked K D folder given before after
+  pub counts : counts_asked given ≡ true → CountsAsked Writes K D folder given before after
   pub puts : U.puts meanwhile outputs' name (output_bytes Writes after.output)

@@ -51,7 +51,7 @@ pub fn make_and_run<F: Folder, O: Outputs, I: Read + Drop, E: Sink + Drop>(
 ) -> u8
     // A new file was made, all was written to it, and then it took that place.
     ensures writes { IfAsked arguments.now (λ given. result ≡ 0
-        → WritesNew I.Read O.File.Write F.Folder O.Outputs folder.now given name.now outputs.old outputs.new) }
+        → WritesNew I.Read O.File.Write E.Sink F.Folder O.Outputs folder.now given name.now outputs.old outputs.new) }
     // Or none was made, or it was removed: what has the name is as it was.
     ensures leaves { (result ≡ 0 → ⊥) → LeavesOld O.Outputs name.now outputs.old outputs.new }
 {

@@ -20,8 +20,8 @@ returns-in-Ok g c = record {
 
 pub returns-in-Err : goal.returns-in-Err
 returns-in-Err g c = record {
-  done = λ zero. absurd (omega (arith, zero, c.discard.ensures.status));
-  same = λ zero. absurd (omega (arith, zero, c.discard.ensures.status));
-  puts = λ zero. absurd (omega (arith, zero, c.discard.ensures.status));
-  kept = λ _. inr (record { reason = c.in-Err.reason; meanwhile = c.put.new.self; refused = c.in-Err.ensures.put; removed = c.discard.ensures.removed });
+  done = λ zero. absurd (omega (arith, zero, c.discard-in-Err.ensures.status));
+  same = λ zero. absurd (omega (arith, zero, c.discard-in-Err.ensures.status));
+  puts = λ zero. absurd (omega (arith, zero, c.discard-in-Err.ensures.status));
+  kept = λ _. inr (record { reason = c.in-Err.reason; meanwhile = c.put.new.self; refused = c.in-Err.ensures.put; removed = c.discard-in-Err.ensures.removed });
 }
