@@ -228,6 +228,9 @@ kind_asked items = unwrap_or (option_and_then kind_by (last_value Kind items)) S
 abbrev pub counts_asked : List Given → Bool
 counts_asked items = has Count items || has Summary items
 
+abbrev pub counts_given : List Item → Bool
+counts_given items = counts_asked (all_given items)
+
 -- the options that do not go together, where some do not: pieces are refused of covers alone, and a check counts nothing
 abbrev pub mixture_of : List Given → Option Mixture
 mixture_of given =

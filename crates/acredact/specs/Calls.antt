@@ -69,6 +69,11 @@ names_given (item ∷ items) = if is_same File item.word then item.value ∷ nam
 abbrev pub names_asked : List Given → List (List ℕ)
 names_asked given = or_input (names_given given)
 
+-- all files that are given were read to their ends, and counted
+abbrev pub ReadsAsked : {R W E : Type 0} {Reads : Readers R} → (List ℕ → Option (List ℕ)) → List Given → (volume volume' : Volume) → (streams streams' : Streams R W E Reads) → Type 0
+ReadsAsked holds given volume volume' streams streams' =
+    ReadsVolume holds (names_asked given) volume volume' (bytes_left streams.input) (bytes_left streams'.input)
+
 -- what is written for a pattern that has no replacement of its own
 abbrev pub text_asked : List Given → List ℕ
 text_asked given = unwrap_or (last_value With given) (codes "[redacted]")

@@ -4,6 +4,7 @@ use Rattle.std.specs.Io.KnownBytes.{Consumes, IsAtEnd}
 use Rattle.std.specs.declared.io.traits.Read.{Ghosts as Readers}
 use Rattle.aho_core.specs.declared.error.stream.StreamError.{StreamError}
 use Rattle.aho_cover.specs.Counting.{grown_count}
+use Rattle.aho_devices.specs.declared.adapters.FromRead.{FromRead}
 use Rattle.aho_devices.specs.declared.device.Source.{Ghosts as SourceGhosts}
 use Rattle.aho_stream.specs.Replacing.{SourceGave}
 use Rattle.programs.specs.Names.{name_bytes}
@@ -45,6 +46,14 @@ module _ (holds : List ℕ → Option (List ℕ)) where
   pub record ReadsVolume (names : List (List ℕ)) (volume volume' : Volume) (left left' : Option (List ℕ)) : Type 0 where
     pub bytes : AddsNames names volume.bytes volume'.bytes left left'
     pub files : volume'.files ≡ grown_count volume.files (length names)
+
+-- by what an input had left and has left
+module _ {R : Type 0} {Reads : Readers R} where
+  abbrev pub AddsText : (volume volume' : Volume) → (input input' : FromRead R Reads) → Type 0
+  AddsText volume volume' input input' = AddsBytes volume.bytes volume'.bytes (bytes_left input) (bytes_left input')
+
+  abbrev pub AddsFile : (List ℕ → Option (List ℕ)) → List ℕ → (volume volume' : Volume) → (input input' : FromRead R Reads) → Type 0
+  AddsFile holds name volume volume' input input' = AddsName holds name volume.bytes volume'.bytes (bytes_left input) (bytes_left input')
 
 module _ {F X : Type 0} (D : Folders F X) (job : Job F) {R W E Z : Type 0} {Reads : Readers R} where
   -- a file that was read to its end was counted

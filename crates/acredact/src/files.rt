@@ -5,11 +5,11 @@ ghost use Rattle.aho_devices.specs.Counts.{counted};
 ghost use Rattle.programs.specs.Names.{is_input};
 ghost use Rattle.programs.specs.Streams.{bytes_left};
 ghost use Rattle.acredact.specs.Faults.{is_unread, reading_of};
-ghost use Rattle.acredact.specs.Files.{CanDo, FileOutcome, FilesOutcome, JobOutcome, TextOutcome, ToldJob, work_of};
+ghost use Rattle.acredact.specs.Files.{CanDo, FileOutcome, FilesOutcome, InputOutcome, JobOutcome, OpenedOutcome, ToldJob, work_of};
 ghost use Rattle.acredact.specs.Secrets.{IfOf, Redactor};
 ghost use Rattle.acredact.specs.Totals.{CountsFile, CountsJob, CountsOfStream, CountsOfText, CountsOpened, CountsTold, JobCounts};
 ghost use Rattle.acredact.specs.Streams.{StreamOutcome};
-ghost use Rattle.acredact.specs.Volumes.{AddsBytes, AddsName, AddsOpened, AddsStream, FileVolume, JobVolume, files_with};
+ghost use Rattle.acredact.specs.Volumes.{AddsFile, AddsOpened, AddsText, AddsStream, FileVolume, JobVolume, files_with};
 ghost use Rattle.acredact.specs.Ways.{IfBy, Redacts};
 
 use crate::failure::{tell_output, tell_unread};
@@ -251,8 +251,8 @@ fn redact_file<X: Way, F: Folder, I: Read, W: Write>(
         (work_of F.Folder job.now r) name.now result input.old input.new output.old output.new) }
     ensures counted { IfBy X.Way way.old (CountsFile F.Folder job.now name.now
         result input.old input.new counts.old counts.new) }
-    ensures read { result ≡ Ok None → AddsName (F.holds job.now.folder.now) name.now
-        volume.old.bytes volume.new.bytes (bytes_left input.old) (bytes_left input.new) }
+    ensures read { result ≡ Ok None → AddsFile (F.holds job.now.folder.now) name.now
+        volume.old volume.new input.old input.new }
     ensures files { volume.new.files ≡ volume.old.files }
     ensures still { IfBy X.Way way.old (Redacts X.Way way.new) }
 {
@@ -281,8 +281,8 @@ fn redact_opened<X: Way, I: Read + Drop, W: Write>(
     output: &mut FromWrite<W>,
 ) -> Result<Option<Reason>, StreamError>
     requires ready { (r : Redactor) × Redacts X.Way way.old r }
-    ensures outcome { IfBy X.Way way.old (λ r. (rest : Option (List ℕ)) × TextOutcome
-        W.Write r result (I.remaining reader) rest output.old output.new) }
+    ensures outcome { IfBy X.Way way.old (λ r. OpenedOutcome W.Write r
+        result (I.remaining reader) output.old output.new) }
     ensures counted { result ≡ Ok None → IfBy X.Way way.old
         (CountsOpened (I.remaining reader) counts.old counts.new) }
     ensures read { result ≡ Ok None → AddsOpened volume.old.bytes volume.new.bytes (I.remaining reader) }
@@ -302,12 +302,11 @@ fn redact_input<X: Way, I: Read, W: Write>(
     output: &mut FromWrite<W>,
 ) -> Result<Option<Reason>, StreamError>
     requires ready { (r : Redactor) × Redacts X.Way way.old r }
-    ensures outcome { IfBy X.Way way.old (λ r. TextOutcome W.Write r
-        result (bytes_left input.old) (bytes_left input.new) output.old output.new) }
+    ensures outcome { IfBy X.Way way.old (λ r. InputOutcome W.Write r
+        result input.old input.new output.old output.new) }
     ensures counted { result ≡ Ok None → IfBy X.Way way.old
         (CountsOfText (bytes_left input.old) (bytes_left input.new) counts.old counts.new) }
-    ensures read { result ≡ Ok None → AddsBytes volume.old.bytes volume.new.bytes
-        (bytes_left input.old) (bytes_left input.new) }
+    ensures read { result ≡ Ok None → AddsText volume.old volume.new input.old input.new }
     ensures files { volume.new.files ≡ volume.old.files }
     ensures still { IfBy X.Way way.old (Redacts X.Way way.new) }
     ensures failed { input.new.failures ≡ counted (is_unread result) input.old.failures }

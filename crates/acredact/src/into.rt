@@ -83,8 +83,8 @@ pub fn run_into<F: Folder, O: Outputs, I: Read, E: Sink>(
     streams: &mut Streams<'_, I, O::File, E>,
 ) -> u8
     // Where the status is 0 the new file holds all, and took that place.
-    ensures redacts { IfAsked arguments.now (λ given. result ≡ 0
-        → RedactsAsked O.File.Write F.Folder folder.now given streams.old streams.new) }
+    ensures redacts { IfAsked arguments.now (λ all. result ≡ 0
+        → RedactsAsked O.File.Write F.Folder folder.now all streams.old streams.new) }
     ensures strict { IfAsked arguments.now (λ given. RefusesUnclean given → result ≡ 0
         → LeavesNoneAsked O.File.Write F.Folder folder.now given streams.old streams.new) }
     ensures quiet { IfAsked arguments.now (λ given. counts_asked given ≡ false → result ≡ 0

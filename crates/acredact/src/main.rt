@@ -108,8 +108,8 @@ fn exit_code<F: Folder, I: Read, W: Write, E: Sink>(
     ensures strict { IfOk given (λ arguments. IfAsked arguments.items (λ given.
         RefusesUnclean given → exit_status result ≡ 0
         → LeavesNoneAsked W.Write F.Folder folder.now given streams.old streams.new)) }
-    ensures begins { IfOk given (λ arguments. IfAsked arguments.items (λ given.
-        BeginsAsked W.Write F.Folder folder.now given streams.old streams.new)) }
+    ensures begins { IfOk given (λ words. IfAsked words.items (λ all.
+        BeginsAsked W.Write F.Folder folder.now all streams.old streams.new)) }
     ensures unmatched { IfOk given (λ arguments. IfChecking arguments.items (λ given.
         exit_status result ≡ 0 → UnmatchedAsked F.Folder folder.now given streams.old streams.new)) }
     ensures matched { IfOk given (λ arguments. IfChecking arguments.items (λ given.

@@ -1,9 +1,8 @@
 //! How many bytes a source gives.
 
-ghost use Rattle.std.specs.Prelude.{◌≡◌, ℕ, ◌≤◌, List, None, Option, true, length, take, is_err, IfOk, MatchResult};
-ghost use Rattle.std.specs.Io.KnownBytes.{Consumes, Keeps};
+ghost use Rattle.std.specs.Prelude.{◌≡◌, ℕ, ◌≤◌, List, None, Option, true, length, is_err, IfOk};
 ghost use Rattle.aho_devices.specs.Counts.{counted, is_empty_read};
-ghost use Rattle.acredact.specs.Metering.{IsMetered, settled_left};
+ghost use Rattle.acredact.specs.Metering.{GivesFirst, IsMetered, settled_left};
 
 use aho_core::error::Fault;
 use aho_devices::device::Source;
@@ -41,9 +40,8 @@ impl<S: Source> Lent<'_, S> {
     fn take(&mut self, buf: &mut [u8]) -> Result<usize, Fault>
         ensures same { self.new.source.ghost_name ≡ self.old.source.ghost_name }
         ensures within { IfOk result (λ count. count ≤ length buf.new) }
-        ensures given { MatchResult result
-            (λ count. Consumes (S.remaining self.old.source.now) (S.remaining self.new.source.now) (take count buf.new))
-            (λ _. Keeps (S.remaining self.old.source.now) (S.remaining self.new.source.now)) }
+        ensures given { GivesFirst result
+            (S.remaining self.old.source.now) (S.remaining self.new.source.now) buf.new }
         ensures failures { S.failures self.new.source.now
             ≡ counted (is_err result) (S.failures self.old.source.now) }
         ensures empty_reads { S.empty_reads self.new.source.now

@@ -6,10 +6,10 @@ ghost use Rattle.programs.specs.Arguments.{texts};
 ghost use Rattle.programs.specs.Names.{name_bytes};
 ghost use Rattle.programs.specs.Streams.{WritesBytes, bytes_left};
 ghost use Rattle.programs.specs.Telling.{Tells, TellsBytes, TellsSome};
-ghost use Rattle.acredact.specs.Arguments.{AreMistaken, AsksToRedact, GivesNoPattern, IfAsked, IfChecking, IfNoCheck, IsCheck, RefusesUnclean, all_given, checks_asked, counts_asked, has};
-ghost use Rattle.acredact.specs.Calls.{AskedOutcome, BeginsAsked, CountsAsked, IsCountsFailure, IsCountsLine, IsPrintFailure, IsRefusedLine, IsWrongLine, LeavesNoneAsked, LoadedOutcome, OutputFails, RedactsAsked, TellsAsked, TellsAnyCounts, WarnedJob, WarnedOutcome, WarnsAsked, call_of, gives_pattern, names_asked, text_asked, work_by};
+ghost use Rattle.acredact.specs.Arguments.{AreMistaken, AsksToRedact, GivesNoPattern, IfAsked, IfChecking, IfNoCheck, IsCheck, RefusesUnclean, all_given, checks_asked, counts_asked, counts_given, has};
+ghost use Rattle.acredact.specs.Calls.{AskedOutcome, BeginsAsked, CountsAsked, IsCountsFailure, IsCountsLine, IsPrintFailure, IsRefusedLine, IsWrongLine, LeavesNoneAsked, LoadedOutcome, OutputFails, ReadsAsked, RedactsAsked, TellsAsked, TellsAnyCounts, WarnedJob, WarnedOutcome, WarnsAsked, call_of, gives_pattern, names_asked, text_asked, work_by};
 ghost use Rattle.acredact.specs.Checks.{MatchedAsked, SaysOfCheck, TellsUncheckedAsked, UnmatchedAsked};
-ghost use Rattle.acredact.specs.Counts.{lines_of_rules, zeros};
+ghost use Rattle.acredact.specs.Counts.{PutsText, lines_of_rules, zeros};
 ghost use Rattle.acredact.specs.Failures.{IsFailureLine};
 ghost use Rattle.acredact.specs.Files.{CanDo, FilesOutcome, redactor_of, work_of};
 ghost use Rattle.acredact.specs.Pieces.{IfOfAll, TellsUnclean, pieces_by};
@@ -18,7 +18,7 @@ ghost use Rattle.acredact.specs.Statuses.{SaysOfRedaction};
 ghost use Rattle.acredact.specs.Tables.{HaveNoEmpty, secrets_of};
 ghost use Rattle.acredact.specs.Summaries.{counts_told_by, summary_told_by, totals_text};
 ghost use Rattle.acredact.specs.Totals.{CountsWork, JobCounts};
-ghost use Rattle.acredact.specs.Volumes.{JobVolume, ReadsVolume};
+ghost use Rattle.acredact.specs.Volumes.{JobVolume};
 ghost use Rattle.acredact.specs.declared.clean.Unclean.{Unclean};
 ghost use Rattle.acredact.specs.declared.failure.Failure.TheVariants.{Unclean as UncleanPiece};
 ghost use Rattle.acredact.specs.declared.arguments.Word.TheVariants.{Strict};
@@ -293,7 +293,7 @@ fn redact_telling<'a, F: Folder, I: Read, W: Write, E: Sink>(
     streams: &mut Streams<'_, I, W, E>,
 ) -> Result<bool, Failure<'a>>
     requires some { HaveNoEmpty (secrets_of rules.now) }
-    requires none { tally.old ≡ zeros (counts_asked (all_given given.now)) rules.now }
+    requires none { tally.old ≡ zeros (counts_given given.now) rules.now }
     ensures outcome { LoadedOutcome W.Write E.Sink F.Folder
         folder.now (all_given given.now) rules.now result streams.old streams.new }
     ensures flushed { OnOk result (streams.new.output.device.flushed ≡ true) }
@@ -320,7 +320,7 @@ fn tell_counted<'a, E: Sink>(
     ensures told { OnOk result (TellsAnyCounts E.Sink (all_given given.now) rules.now tally.now volume
         errors.old errors.new) }
     ensures lines { Tells E.Sink (IsCountsLine (all_given given.now)) errors.old errors.new }
-    ensures fails { IfErr result (IsCountsFailure (counts_asked (all_given given.now))) }
+    ensures fails { IfErr result (IsCountsFailure (counts_given given.now)) }
 {
     if !counts(given) {
         return Ok(all);
@@ -363,8 +363,8 @@ fn put_asked_counts(
     rules: &[Rule],
     tally: &[u64],
 ) -> Result<(), AllocError>
-    ensures put { OnOk result (text.new.items ≡ text.old.items
-        ++ counts_told_by (all_given given.now) (lines_of_rules rules.now) tally.now) }
+    ensures put { OnOk result (PutsText text.old text.new
+        (counts_told_by (all_given given.now) (lines_of_rules rules.now) tally.now)) }
 {
     if has(given, Word::Count) {
         return put_counts(text, rules, tally);
@@ -379,8 +379,8 @@ fn put_asked_summary(
     tally: &[u64],
     volume: Volume,
 ) -> Result<(), AllocError>
-    ensures put { OnOk result (text.new.items ≡ text.old.items
-        ++ summary_told_by (all_given given.now) tally.now volume) }
+    ensures put { OnOk result (PutsText text.old text.new
+        (summary_told_by (all_given given.now) tally.now volume)) }
 {
     if has(given, Word::Summary) {
         return put_summary(text, volume, tally);
@@ -414,8 +414,8 @@ fn redact_all<'a, F: Folder, I: Read, W: Write, E: Sink>(
         result streams.old streams.new }
     ensures counted { CountsWork (work_by (call_of F.Folder folder.now (all_given given.now)) (secrets_of rules.now))
         result streams.old streams.new counts.old counts.new }
-    ensures read { result ≡ Ok true → ReadsVolume (F.holds folder.now) (names_asked (all_given given.now))
-        volume.old volume.new (bytes_left streams.old.input) (bytes_left streams.new.input) }
+    ensures read { result ≡ Ok true → ReadsAsked (F.holds folder.now) (all_given given.now)
+        volume.old volume.new streams.old streams.new }
     ensures flushed { OnOk result (streams.new.output.device.flushed ≡ true) }
 {
     let patterns = patterns_of(alloc, rules)?;

@@ -1,6 +1,7 @@
 //! How much was read and replaced, as one object of JSON.
 
-ghost use Rattle.std.specs.Prelude.{◌≡◌, ◌++◌, OnOk};
+ghost use Rattle.std.specs.Prelude.{OnOk};
+ghost use Rattle.acredact.specs.Counts.{PutsText};
 ghost use Rattle.acredact.specs.Summaries.{listed, more_listed, summary_text};
 
 use crate::counts::put_number;
@@ -17,7 +18,7 @@ pub struct Volume {
 
 /// The text of a summary: how much was read, and for each pattern how often its text was written. It holds no pattern.
 pub fn put_summary(text: &mut Vec<u8>, volume: Volume, counts: &[u64]) -> Result<(), AllocError>
-    ensures put { OnOk result (text.new.items ≡ text.old.items ++ summary_text volume counts.now) }
+    ensures put { OnOk result (PutsText text.old text.new (summary_text volume counts.now)) }
 {
     text.extend_from_slice(b"{\"files\":")?;
     put_number(text, volume.files)?;
@@ -30,7 +31,7 @@ pub fn put_summary(text: &mut Vec<u8>, volume: Volume, counts: &[u64]) -> Result
 
 /// Numbers with commas between them.
 fn put_list(text: &mut Vec<u8>, numbers: &[u64]) -> Result<(), AllocError>
-    ensures put { OnOk result (text.new.items ≡ text.old.items ++ listed numbers.now) }
+    ensures put { OnOk result (PutsText text.old text.new (listed numbers.now)) }
 {
     if numbers.is_empty() {
         return Ok(());
@@ -41,7 +42,7 @@ fn put_list(text: &mut Vec<u8>, numbers: &[u64]) -> Result<(), AllocError>
 
 /// Numbers with a comma in front of each.
 fn put_more(text: &mut Vec<u8>, numbers: &[u64]) -> Result<(), AllocError>
-    ensures put { OnOk result (text.new.items ≡ text.old.items ++ more_listed numbers.now) }
+    ensures put { OnOk result (PutsText text.old text.new (more_listed numbers.now)) }
 {
     let mut rest = numbers;
     while !rest.is_empty() {
