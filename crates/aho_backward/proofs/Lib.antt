@@ -7,8 +7,14 @@ mod TurnedWords
 -- what the states of a walk backward tell
 mod Telling
 -- and those of a block
-mod Blocks
+mod BlockStates
 -- one pass forward finds all
 mod Passing
+-- by how much patterns go on behind others
+mod Overhangs
 -- and they stand one behind the other
 mod Apart
+-- what is written for a block of a stream
+mod Writing
+-- how far a stream has come
+mod Streaming

@@ -17,7 +17,7 @@ use Rattle.aho_laws.proofs.ClearCuts.{Occurs-full, Occurs-in, best-find, find-be
 use Rattle.aho_backward.specs.Backward.{FindsUpTo}
 
 -- by a leftmost kind what starts first is before
-starts-before : (kind : MatchKind) (m n : Occurrence) → is_leftmost kind ≡ true → m.start < n.start → IsBefore kind m n
+pub starts-before : (kind : MatchKind) (m n : Occurrence) → is_leftmost kind ≡ true → m.start < n.start → IsBefore kind m n
 starts-before Standard m n leftmost less = cc
 starts-before LeftmostFirst m n leftmost less = inl less
 starts-before LeftmostLongest m n leftmost less = inl less
@@ -32,7 +32,7 @@ module _ (p : Patterns) (full : NoneIsEmpty p) (haystack : List ℕ) where
   after-any (m ∷ ms) at last other h = (best-find p full haystack at end other (Some m) (find-best p full haystack at end last (Some m) h.0), h.1)
 
   -- an occurrence from a place on begins there, or further on
-  begins-cases : (at : ℕ) (m : Occurrence) → Occurs p No haystack at end m → Occurs p Yes haystack at end m ⊎ (at < m.start)
+  pub begins-cases : (at : ℕ) (m : Occurrence) → Occurs p No haystack at end m → Occurs p Yes haystack at end m ⊎ (at < m.start)
   begins-cases at m o = elim (cases_lt at m.start) [
     | inl past ↦ inr past
     | inr upto ↦
@@ -40,7 +40,7 @@ module _ (p : Patterns) (full : NoneIsEmpty p) (haystack : List ℕ) where
         inl (record { numbered = o.numbered; after_start = o.after_start; before_end = o.before_end; sized = o.sized; same = o.same; admitted = λ e. there }))
   ]
 
-  unanchored : (at : ℕ) (m : Occurrence) → Occurs p Yes haystack at end m → Occurs p No haystack at end m
+  pub unanchored : (at : ℕ) (m : Occurrence) → Occurs p Yes haystack at end m → Occurs p No haystack at end m
   unanchored at m o = record { numbered = o.numbered; after_start = o.after_start; before_end = o.before_end; sized = o.sized; same = o.same; admitted = λ e. cc }
 
   -- nothing begins at a place

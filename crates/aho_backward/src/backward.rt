@@ -1,16 +1,24 @@
 //! The searcher: an automaton of the patterns turned round, with which pattern each of its own stands for.
 
-ghost use Rattle.std.specs.Prelude.{◌≡◌, ◌*◌, ◌≤◌, IfOk, IsOk, None, length};
+ghost use Rattle.std.specs.Prelude.{◌≡◌, ◌⊎◌, ◌*◌, ◌≤◌, IfErr, IfOk, IsOk, None, length};
 ghost use Rattle.aho_core.specs.Patterns.{Patterns};
 ghost use Rattle.aho_core.specs.Replacement.{pieces_of};
 ghost use Rattle.aho_core.specs.declared.search.Anchored.TheVariants.{No};
+ghost use Rattle.aho_core.specs.declared.error.stream.StreamError.{StreamError};
+ghost use Rattle.aho_devices.specs.Errors.{CountsErrors};
+ghost use Rattle.aho_stream.specs.After.{greatest_position};
+ghost use Rattle.aho_stream.specs.Replacing.{IsMakingRefusal, IsStreamFault};
 ghost use Rattle.aho_backward.specs.Replacing.{IsReplacedBy};
 ghost use Rattle.aho_backward.specs.Searcher.{ForItsFinds, IsBackwardOf};
+ghost use Rattle.aho_backward.specs.Streams.{FourAByte, LeavesByBlocks};
 
 use crate::find_all::find_all_in;
 use crate::replace::replace_finds;
+use crate::stream::stream_replace_in;
 use aho_automaton::automaton::{Automaton, Counted};
+use aho_core::error::StreamError;
 use aho_core::search::{Match, PatternID};
+use aho_devices::device::{Sink, Source};
 use std::alloc::{AllocError, Global};
 
 /// A searcher for all finds of a text by a leftmost kind, in linear time whatever the patterns are.
@@ -85,6 +93,88 @@ impl<A: Automaton> Backward<A> {
     {
         let found = self.find_all(alloc, haystack)?;
         replace_finds(alloc, haystack, &found, replace_with)
+    }
+
+    /// Writes what the source gives to the sink, with the bytes for its pattern in the place of each find; a pattern that has none is
+    /// left out. With how many transitions were looked up for it.
+    ///
+    /// The finds are those of `find_all` of the same bytes, whatever the pieces in which they are read. It ends where the source's
+    /// end is seen, and asks for nothing behind that. The look-ups are at most four for each byte that was read, whatever the
+    /// patterns are and wherever they match.
+    ///
+    /// It takes all its memory before it reads: a buffer of 8 times as many bytes as the longest pattern has, and of 65536 at least,
+    /// and four bytes for each of 65536 places, or of twice as many as the longest pattern has bytes where that is more. What is
+    /// read is written before the next read and flushed, but for the last bytes: so many as the longest pattern has less one,
+    /// and the begun block, which has fewer than these. With patterns of one byte each nothing is held back.
+    ///
+    /// # Errors
+    ///
+    /// `Memory` where an allocation fails, before anything is read. Then `Read` exactly where a read fails, `Write` where a write
+    /// or a flush fails, `WriteZero` where a write of some bytes takes none, and `PositionLimit` where 2^63 - 1 bytes were given and
+    /// the end was not seen. Nothing is tried again, and what was written then is a beginning of the replacement: after `Read` and
+    /// `PositionLimit` all but what stands for the bytes held back.
+    pub fn try_stream_replace_all_counted<R: Source, W: Sink>(
+        &self,
+        alloc: Global,
+        source: &mut R,
+        sink: &mut W,
+        replace_with: &[&[u8]],
+    ) -> (Result<(), StreamError>, u128)
+        requires of { (p : Patterns) × IsBackwardOf A.Automaton self.now p }
+        ensures leaves { LeavesByBlocks R.Source W.Sink
+            (IsBackwardOf A.Automaton self.now) (pieces_of replace_with.now)
+            source.old source.new sink.old sink.new greatest_position result.0 }
+        ensures errors { CountsErrors R.Source W.Sink
+            source.old source.new sink.old sink.new result.0 }
+        ensures four_look_ups_a_byte { FourAByte R.Source source.old source.new 0 result.1 }
+        ensures only { IfErr result.0 (λ error. (error ≡ StreamError.Memory) ⊎ IsStreamFault error) }
+        ensures untouched { IfErr result.0 (λ error. IsMakingRefusal error →
+            (source.new ≡ source.old) × (sink.new ≡ sink.old)) }
+    {
+        let mut walk = Counted::new(&self.automaton);
+        let reach = self.automaton.max_pattern_len();
+        let answer = stream_replace_in(
+            alloc,
+            &mut walk,
+            &self.given,
+            reach,
+            source,
+            sink,
+            replace_with,
+        );
+        (answer, walk.lookups())
+    }
+
+    /// Writes what the source gives to the sink, with the bytes for its pattern in the place of each find, as
+    /// `try_stream_replace_all_counted` does.
+    ///
+    /// # Errors
+    ///
+    /// As those of `try_stream_replace_all_counted`.
+    pub fn try_stream_replace_all<R: Source, W: Sink>(
+        &self,
+        alloc: Global,
+        source: &mut R,
+        sink: &mut W,
+        replace_with: &[&[u8]],
+    ) -> Result<(), StreamError>
+        requires of { (p : Patterns) × IsBackwardOf A.Automaton self.now p }
+        ensures leaves { LeavesByBlocks R.Source W.Sink
+            (IsBackwardOf A.Automaton self.now) (pieces_of replace_with.now)
+            source.old source.new sink.old sink.new greatest_position result }
+        ensures errors { CountsErrors R.Source W.Sink
+            source.old source.new sink.old sink.new result }
+        ensures only { IfErr result (λ error. (error ≡ StreamError.Memory) ⊎ IsStreamFault error) }
+        ensures untouched { IfErr result (λ error. IsMakingRefusal error →
+            (source.new ≡ source.old) × (sink.new ≡ sink.old)) }
+    {
+        let (answer, _lookups) = self.try_stream_replace_all_counted(
+            alloc,
+            source,
+            sink,
+            replace_with,
+        );
+        answer
     }
 }
 

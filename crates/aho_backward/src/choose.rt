@@ -11,7 +11,12 @@ use std::alloc::AllocError;
 
 /// What a state tells at a place: the first pattern that it lists, which begins there.
 #[inline(always)]
-fn told_from<W: Walk>(walk: &W, given: &[PatternID], sid: StateID, place: usize) -> Option<Match>
+pub(crate) fn told_from<W: Walk>(
+    walk: &W,
+    given: &[PatternID],
+    sid: StateID,
+    place: usize,
+) -> Option<Match>
     requires valid { W.Of.valid (W.of walk.now) sid }
     requires fits { (room : ℕ) × (place + room < 2 ^ 64)
         × Fits (W.Of.lengths (W.of walk.now)) room (W.Of.list (W.of walk.now) sid) }

@@ -2,10 +2,13 @@
 #![tactic(auto)]
 
 pub mod backward;
+mod block;
 mod builder;
 mod choose;
 pub mod error;
 pub mod find_all;
 mod leading;
+pub mod overhang;
 mod replace;
+pub mod stream;
 mod walk_back;

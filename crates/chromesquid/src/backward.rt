@@ -6,7 +6,9 @@ use aho_corasick::noncontiguous::NFA;
 /// patterns are and wherever they match: for patterns from a stranger.
 ///
 /// An iteration walks behind each match as far as the longest pattern reaches, and reads that again for the match after it. This
-/// walks over each block of the text backward, and takes memory for a state of each place and for all finds.
+/// walks over each block of the text backward, and takes memory for a state of each place and for all finds. A stream is replaced
+/// the same way by `try_stream_replace_all`, in a buffer of fixed length. `overhang::is_worth_it` tells of patterns whether an
+/// iteration may read much again.
 ///
 /// ```rust
 /// let searcher = Backward::new(alloc, &[&b"a"[..], b"aab"], MatchKind::LeftmostFirst, false)?;

@@ -23,6 +23,7 @@ mod stream_iter;
 
 pub use aho_automaton::automaton::{Automaton, OverlappingState};
 pub use aho_backward::error::BackwardError;
+pub use aho_backward::overhang;
 pub use aho_corasick::noncontiguous::Limits;
 pub use aho_core::error::{
     BuildError, Fault, MatchError, MatchErrorKind, ReplaceError, StreamError,

@@ -3,10 +3,14 @@
 use crate::count::Count;
 use crate::memory::Asked;
 use crate::pieces::replaced;
+use crate::streams::{given, judged};
+use crate::turns::{answer_of, last, turns};
 use aho_backward::backward::Backward;
 use aho_backward::error::BackwardError;
 use aho_core::search::MatchKind;
 use anyhow::{Result, bail};
+use bench::numbers::Numbers;
+use bench::scripted::{ScriptedSink, ScriptedSource, Turn};
 use std::alloc::Global;
 
 /// Compares all finds of the text, how many look-ups they take, and what is refused.
@@ -36,4 +40,40 @@ pub(crate) fn compare_backward(
         }
         Err(error) => bail!("{error}"),
     }
+}
+
+/// Compares the replacement of a stream, whose devices cut, end and fail, with that in memory, and how many look-ups it takes.
+pub(crate) fn compare_backward_streams(
+    alloc: Global,
+    words: &[&[u8]],
+    settings: (MatchKind, bool),
+    asked: &Asked<'_>,
+    numbers: &mut Numbers,
+    count: &mut Count,
+) -> Result<()> {
+    let Ok(searcher) = Backward::new(alloc, words, settings.0, settings.1) else {
+        return Ok(());
+    };
+    let reads = turns(alloc, numbers, true)?;
+    let writes = turns(alloc, numbers, true)?;
+    let mut source = ScriptedSource::new(asked.text, reads.as_slice());
+    let mut sink = ScriptedSink::new(alloc, writes.as_slice());
+    let (answer, lookups) =
+        searcher.try_stream_replace_all_counted(alloc, &mut source, &mut sink, asked.bytes);
+    let given = given(asked.text, &source);
+    let most = 4 * given.len() as u128;
+    count.same("look-ups of a stream backward", &(lookups <= most), &true)?;
+    let last_read = last(reads.as_slice(), source.reads());
+    let wanted = answer_of(last_read, last(writes.as_slice(), sink.writes()));
+    let ended = answer.is_ok() || matches!(last_read, Some(Turn::Move(0)));
+    let bytes = if ended { given } else { asked.text };
+    let whole = searcher.replace_all_bytes(alloc, bytes, asked.bytes)?;
+    judged(
+        "a stream by a walk backward",
+        &answer,
+        &wanted,
+        sink.taken(),
+        whole.as_slice(),
+        count,
+    )
 }

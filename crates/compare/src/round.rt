@@ -1,7 +1,7 @@
 //! One round of comparisons.
 
 use crate::automata::compare_automata;
-use crate::backward::compare_backward;
+use crate::backward::{compare_backward, compare_backward_streams};
 use crate::case::Case;
 use crate::count::Count;
 use crate::memory::Asked;
@@ -61,6 +61,9 @@ pub(crate) fn compare_words(
     }
     if parts.memory {
         compare_backward(alloc, words, settings, &asked, count)?;
+    }
+    if parts.streams {
+        compare_backward_streams(alloc, words, settings, &asked, &mut numbers, count)?;
     }
     if parts.searcher {
         compare_searchers(alloc, words, settings, &asked, &mut numbers, count)?;

@@ -8,7 +8,7 @@ use Rattle.aho_laws.proofs.SpanTexts.{length_part}
 use Rattle.aho_automaton.specs.declared.automaton.Automaton.{Ghosts as Automata}
 use Rattle.aho_backward.specs.Backward.{AreHeldBack, FindsUpTo, IsTurnedFrom, TellsBlock}
 use Rattle.aho_backward.specs.Turned.{turned}
-use Rattle.aho_backward.proofs.Blocks.{block-tells}
+use Rattle.aho_backward.proofs.BlockStates.{block-tells}
 use Rattle.aho_backward.proofs.Passing.{all-found}
 use Rattle.aho_backward.proofs.find_all.find_by_blocks.Goals as goal
 

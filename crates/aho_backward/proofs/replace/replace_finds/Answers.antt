@@ -1,5 +1,5 @@
 -- The next match lies behind what was copied, and what is left is made anew from its end on.
-use Rattle.std.proofs.Common.{◌≡◌, ◌++◌, ◌≤◌, ℕ, List, length, arith}
+use Rattle.std.proofs.Common.{◌≤◌, length, arith}
 use Rattle.aho_backward.proofs.Apart.{apart_next}
 use Rattle.aho_backward.proofs.replace.replace_finds.Goals as goal
 

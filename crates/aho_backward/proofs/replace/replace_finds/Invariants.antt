@@ -1,5 +1,5 @@
 -- What the loop keeps: the matches that are left stand behind what was copied, and with their pieces it makes the whole.
-use Rattle.std.proofs.Common.{◌≡◌, ℕ, [], length, ◌++◌}
+use Rattle.std.proofs.Common.{◌≡◌, [], length, ◌++◌}
 use Rattle.std.specs.Prelude.{slice_index_or}
 use Rattle.aho_core.specs.Replacement.{pieces_of, replaced, replaced_from}
 use Rattle.aho_backward.specs.Replacing.{StandInTurn}

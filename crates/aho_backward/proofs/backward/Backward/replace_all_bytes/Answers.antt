@@ -1,4 +1,4 @@
-use Rattle.std.proofs.Common.{◌≡◌, List, None, ap, arith, length, subst, sym, ◌∙◌}
+use Rattle.std.proofs.Common.{List, None, ap, arith, length, subst, sym, ◌∙◌}
 use Rattle.std.proofs.lemmas.Result.{IfOk-weaker}
 use Rattle.aho_core.specs.Occurrence.{Occurrence}
 use Rattle.aho_core.specs.Replacement.{pieces_of, replaced}

@@ -12,7 +12,7 @@ use Rattle.aho_backward.specs.Turned.{turned}
 use Rattle.aho_backward.proofs.Telling.{one_length_each, tells}
 
 -- the rest of a part from a place of it on
-part-rest : (haystack : List ℕ) (at place seen : ℕ) → at ≤ place → place ≤ seen → drop (place - at) (slice_range haystack at seen) ≡ slice_range haystack place seen
+pub part-rest : (haystack : List ℕ) (at place seen : ℕ) → at ≤ place → place ≤ seen → drop (place - at) (slice_range haystack at seen) ≡ slice_range haystack place seen
 part-rest haystack at place seen low high =
     let x = place - at in
     let count : seen - at ≡ x + (seen - place) = omega arith in
