@@ -1,8 +1,6 @@
 -- How much of files was read: how many of them, and how many bytes.
-use Rattle.std.specs.Prelude.{◌≡◌, ℕ, ◌+◌, ◌-◌, ◌^◌, min, true, List, [], ◌∷◌, Bool, Option, Result, Ok, OnOk, if◌then◌else◌, is_some, length}
-use Rattle.std.specs.Io.KnownBytes.{Consumes, IsAtEnd}
+use Rattle.std.specs.Prelude.{◌≡◌, ℕ, ◌+◌, ◌-◌, ◌^◌, min, true, List, [], ◌∷◌, Bool, Option, Result, Ok, if◌then◌else◌, is_some, length}
 use Rattle.std.specs.declared.io.traits.Read.{Ghosts as Readers}
-use Rattle.aho_core.specs.declared.error.stream.StreamError.{StreamError}
 use Rattle.aho_cover.specs.Counting.{grown_count}
 use Rattle.aho_devices.specs.declared.adapters.FromRead.{FromRead}
 use Rattle.aho_devices.specs.declared.device.Source.{Ghosts as SourceGhosts}

@@ -1,5 +1,5 @@
 -- A file more is done.
-use Rattle.std.proofs.Common.{rules, ◌≡◌, ◌∙◌, ◌<◌, ◌≤◌, ◌^◌, ℕ, List, arith, ap, length, subst, sym, true}
+use Rattle.std.proofs.Common.{rules, ◌≡◌, ◌∙◌, ◌≤◌, ℕ, List, ap, length, subst, sym, true}
 use Rattle.std.specs.Prelude.{Bool, Result, Ok, Err}
 use Rattle.aho_core.specs.declared.error.stream.StreamError.{StreamError}
 use Rattle.programs.specs.Names.{name_bytes}

@@ -1,5 +1,5 @@
 -- The new file takes the place, or is removed.
-use Rattle.std.proofs.Common.{◌≡◌, inl, inr, refl, ◌∙◌, sym, arith}
+use Rattle.std.proofs.Common.{inl, inr, refl, ◌∙◌, sym, arith}
 use Rattle.acredact.proofs.into.finish.Goals as goal
 
 pub returns-then-done-ne0 : goal.returns-then-done-ne0

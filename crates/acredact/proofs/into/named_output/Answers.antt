@@ -1,8 +1,7 @@
 -- What the options name.
-use Rattle.std.proofs.Common.{◌≡◌, ap, refl, sym, ◌∙◌}
+use Rattle.std.proofs.Common.{ap, sym, ◌∙◌}
 use Rattle.std.specs.Prelude.{Some}
-use Rattle.programs.specs.Arguments.{texts}
-use Rattle.acredact.specs.Arguments.{all_asked, all_given}
+use Rattle.acredact.specs.Arguments.{all_given}
 use Rattle.acredact.proofs.into.named_output.Goals as goal
 
 pub returns-in-Ok-clause-named : goal.returns-in-Ok-clause-named

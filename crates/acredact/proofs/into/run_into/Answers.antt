@@ -1,5 +1,5 @@
 -- What the call says of its output, and what became of that.
-use Rattle.std.proofs.Common.{◌≡◌, List, ℕ, Option, sym, subst, true, false}
+use Rattle.std.proofs.Common.{◌≡◌, sym, subst, true}
 use Rattle.programs.specs.Streams.{output_bytes}
 use Rattle.acredact.specs.Calls.{CountsAsked, LeavesNoneAsked, RedactsAsked, WarnsAsked}
 use Rattle.acredact.proofs.into.run_into.Goals as goal

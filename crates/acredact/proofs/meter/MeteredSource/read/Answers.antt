@@ -1,7 +1,6 @@
 -- What a read gives is counted.
 use Rattle.std.proofs.Common.{rules, ◌≡◌, ℕ, length, take, subst, sym, ap, ◌∙◌}
 use Rattle.std.specs.Prelude.{◌+◌, ◌^◌, ◌-◌, min}
-use Rattle.std.specs.Io.KnownBytes.{Consumes}
 use Rattle.std.proofs.lemmas.List.{length-take-le}
 use Rattle.acredact.specs.Metering.{IsMetered}
 use Rattle.acredact.proofs.Metering.{metered_more, metered_still}
