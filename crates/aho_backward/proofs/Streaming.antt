@@ -23,7 +23,7 @@ use Rattle.aho_stream.specs.Refills.{is_limit}
 use Rattle.aho_stream.specs.Replacing.{BeginsReplacing, GaveAsMany, IsStreamFault, MayBe, ReplacesStream, SourceGave}
 use Rattle.aho_stream.proofs.PatternLengths.{longest_bounds}
 use Rattle.aho_backward.specs.Backward.{IsTurnedFrom}
-use Rattle.aho_backward.specs.Streams.{FourAByte, IsBlockOf, LeavesByBlocks, ReplacesAllBut, Settles, StandsAt, WritesOn, WritesSome, held_back}
+use Rattle.aho_backward.specs.Streams.{FourAByte, IsBlockOf, LeavesByBlocks, ReplacesAllBut, Settles, StandsAt, WritesFurther, WritesSome, held_back}
 use Rattle.aho_backward.specs.Turned.{size_of, turned}
 use Rattle.aho_backward.proofs.TurnedWords.{length-turned, lengths-turned}
 use Rattle.aho_backward.proofs.Writing.{stands-begins, stands-first, stands-up_to, stands-whole, wrote-first}
@@ -226,7 +226,7 @@ module _ {A R W : Type 0} (G : Automata A) (S : SourceGhosts R) (K : SinkGhosts 
 
   -- at the end all was written
   pub all-written : (source : R) (sink sink' : W) (lookups count : ℕ) (ahead : List ℕ) (room : ℕ) → GoneTo source sink lookups true ahead room → count ≡ length ahead
-      → WritesOn G K a numbers ahead 0 pieces sink sink' count → ReplacesStream S K IsOf pieces first source begun sink'
+      → WritesFurther G K a numbers ahead 0 pieces sink sink' count → ReplacesStream S K IsOf pieces first source begun sink'
   all-written source sink sink' lookups count ahead room gone all on =
       let long = ahead-long source sink lookups true ahead room gone in
       record {

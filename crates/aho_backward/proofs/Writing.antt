@@ -25,7 +25,7 @@ use Rattle.aho_devices.specs.Counts.{AppendsBeginning}
 use Rattle.aho_devices.specs.declared.device.Sink.{Ghosts as SinkGhosts}
 use Rattle.aho_stream.specs.Replacing.{piece_for, replaced_up_to}
 use Rattle.aho_backward.specs.Backward.{IsTurnedFrom, TellsAt, told_back}
-use Rattle.aho_backward.specs.Streams.{AreHeldAt, IsBlockOf, StandsAt, WritesOn, WritesSome}
+use Rattle.aho_backward.specs.Streams.{AreHeldAt, IsBlockOf, StandsAt, WritesFurther, WritesSome}
 use Rattle.aho_backward.specs.Turned.{turned}
 use Rattle.aho_backward.proofs.BlockStates.{part-rest}
 use Rattle.aho_backward.proofs.Passing.{begins-cases, starts-before, unanchored}
@@ -241,7 +241,7 @@ regroup a b c d = simp append_assoc
 
 -- so much of a block was written: it stands for the bytes up to a place, and nothing starts between that and another
 pub record Wrote {A W : Type 0} (G : Automata A) (K : SinkGhosts W) (a : A) (given bytes : List ℕ) (behind : ℕ) (pieces : List (List ℕ)) (sink sink' : W) (copied at : ℕ) : Type 0 where
-  pub on : WritesOn G K a given bytes behind pieces sink sink' copied
+  pub on : WritesFurther G K a given bytes behind pieces sink sink' copied
   pub clear : (p : Patterns) (text : List ℕ) (first : ℕ) → IsBlockOf G a given bytes behind p text first → IsClearFrom p text (first + copied) (first + at)
 
 module _ {A W : Type 0} (G : Automata A) (K : SinkGhosts W) (a : A) (given bytes : List ℕ) (behind : ℕ) (pieces : List (List ℕ)) (sink : W) where
@@ -280,7 +280,7 @@ module _ {A W : Type 0} (G : Automata A) (K : SinkGhosts W) (a : A) (given bytes
     }
 
     -- the bytes up to there were written
-    pub wrote-plain : (sink'' : W) → Appends (K.taken sink') (K.taken sink'') (slice_range bytes copied at) → WritesOn G K a given bytes behind pieces sink sink'' at
+    pub wrote-plain : (sink'' : W) → Appends (K.taken sink') (K.taken sink'') (slice_range bytes copied at) → WritesFurther G K a given bytes behind pieces sink sink'' at
     wrote-plain sink'' appends = record {
       chunk = wrote.on.chunk ++ slice_range bytes copied at;
       writes = Appends-trans (K.taken sink) (K.taken sink') (K.taken sink'') wrote.on.chunk (slice_range bytes copied at) wrote.on.writes appends;
@@ -331,7 +331,7 @@ module _ {A W : Type 0} (G : Automata A) (K : SinkGhosts W) (a : A) (given bytes
       -- these bytes and what stands for the match were written
       pub wrote-find : (sink'' : W) (at' : ℕ) → at' ≡ m.end → Appends (K.taken sink') (K.taken sink'') whole_part → Holds sink'' at' at'
       wrote-find sink'' at' is appends =
-          let done : WritesOn G K a given bytes behind pieces sink sink'' m.end = record {
+          let done : WritesFurther G K a given bytes behind pieces sink sink'' m.end = record {
             chunk = wrote.on.chunk ++ whole_part;
             writes = Appends-trans (K.taken sink) (K.taken sink') (K.taken sink'') wrote.on.chunk whole_part wrote.on.writes appends;
             stands = λ p text first finds written block stands.
@@ -339,7 +339,7 @@ module _ {A W : Type 0} (G : Automata A) (K : SinkGhosts W) (a : A) (given bytes
                 (stands-find p text first finds written block stands);
           } in
           record {
-            on = subst (WritesOn G K a given bytes behind pieces sink sink'') (sym is) done;
+            on = subst (WritesFurther G K a given bytes behind pieces sink sink'') (sym is) done;
             clear = λ p text first block. clear-here p text (first + at');
           }
 

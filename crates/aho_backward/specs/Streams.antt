@@ -51,7 +51,7 @@ ForItsTexts G a given bytes behind pieces Says = (p : Patterns) (text : List ℕ
     → IsBlockOf G a given bytes behind p text first → StandsAt p pieces text finds first written → Says p text finds first written
 
 -- some bytes were written, and with them it stands for so many bytes more
-pub record WritesOn {A W : Type 0} (G : Automata A) (K : SinkGhosts W) (a : A) (given bytes : List ℕ) (behind : ℕ) (pieces : List (List ℕ)) (sink sink' : W) (count : ℕ) : Type 0 where
+pub record WritesFurther {A W : Type 0} (G : Automata A) (K : SinkGhosts W) (a : A) (given bytes : List ℕ) (behind : ℕ) (pieces : List (List ℕ)) (sink sink' : W) (count : ℕ) : Type 0 where
   pub chunk : List ℕ
   pub writes : Appends (K.taken sink) (K.taken sink') chunk
   pub stands : ForItsTexts G a given bytes behind pieces (λ p text finds first written. StandsAt p pieces text finds (first + count) (written ++ chunk))
@@ -67,7 +67,7 @@ pub record WritesSome {A W : Type 0} (G : Automata A) (K : SinkGhosts W) (a : A)
 pub record Settles {A W : Type 0} (G : Automata A) (K : SinkGhosts W) (a : A) (given : List ℕ) (behind : ℕ) (pieces : List (List ℕ)) (ahead ahead' : List ℕ) (sink sink' : W) (lookups lookups' : ℕ) : Type 0 where
   pub count : ℕ
   pub within : count ≤ length ahead
-  pub on : WritesOn G K a given ahead behind pieces sink sink' count
+  pub on : WritesFurther G K a given ahead behind pieces sink sink' count
   pub left : ahead' ≡ drop count ahead
   pub few : length ahead' ≤ 2 * behind
   pub paid : lookups' ≤ lookups + 4 * count
