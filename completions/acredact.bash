@@ -4,7 +4,7 @@ _acredact() {
     case ${COMP_WORDS[COMP_CWORD - 1]} in
     --kind) words='cover first longest standard' ;;
     -e | --with) return ;;
-    *) [[ $word != -* ]] || words='-e -f -t -i --kind --with --count --check --crlf --allow-empty --strict -- --help --version' ;;
+    *) [[ $word != -* ]] || words='-e -f -t -i --kind --with --output --count --summary --check --crlf --allow-empty --strict -- --help --version' ;;
     esac
     mapfile -t COMPREPLY < <(compgen -W "$words" -- "$word")
 }

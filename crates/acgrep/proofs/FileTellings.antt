@@ -1,6 +1,6 @@
 -- What is written of a file, from what was searched of its reader.
 use Rattle.std.proofs.Common.{◌≡◌, ◌⊎◌, inl, inr, ℕ, ◌<◌, Bool, true, false, List, [], ◌∷◌, ◌++◌, Option, None, Some, IfSome, refl, sym, ◌∙◌, ap, subst, arith, append_assoc, append-nil}
-use Rattle.std.specs.Prelude.{MatchBool, codes, if◌then◌else◌, nat_lt}
+use Rattle.std.specs.Prelude.{MatchBool, if◌then◌else◌, nat_lt}
 use Rattle.std.specs.Io.KnownBytes.{Appends, Consumes, IsAtEnd}
 use Rattle.std.proofs.KnownBytes.{Appends-trans}
 use Rattle.std.proofs.lemmas.Bool.{cases_Bool, lt-ltb, ltb-false, ltb-true}
@@ -330,9 +330,9 @@ if_searched Stopped P Q follows is = tt
 
 -- standard input is the file of its name
 pub input_searched : (p : Patterns) (job named : Job) (follows : Bool) (holds : List ℕ → Option (List ℕ)) (name : List ℕ) (left left' held held' : Option (List ℕ)) → is_input name ≡ true
-    → IsNamed job (codes "(standard input)") follows named → (any : Bool) → SearchesReader p named left left' held held' any → SearchesName p job follows holds name left left' held held' any
+    → IsNamed job job.label.now follows named → (any : Bool) → SearchesReader p named left left' held held' any → SearchesName p job follows holds name left left' held held' any
 input_searched p job named follows holds name left left' held held' input is any done =
-    let shown : shown_name name ≡ codes "(standard input)" = rw input refl in
+    let shown : shown_name job.label.now name ≡ job.label.now = rw input refl in
     let known : known_of holds name left ≡ left = rw input refl in
     record {
       named = named;
@@ -345,7 +345,7 @@ input_searched p job named follows holds name left left' held held' input is any
 pub file_searched : (p : Patterns) (job named : Job) (follows : Bool) (holds : List ℕ → Option (List ℕ)) (name : List ℕ) (left held held' : Option (List ℕ)) → is_input name ≡ false
     → IsNamed job name follows named → (any : Bool) → SearchesFile p named (holds name) held held' any → SearchesName p job follows holds name left left held held' any
 file_searched p job named follows holds name left held held' other is any done =
-    let shown : shown_name name ≡ name = rw other refl in
+    let shown : shown_name job.label.now name ≡ name = rw other refl in
     let known : known_of holds name left ≡ holds name = rw other refl in
     record {
       named = named;

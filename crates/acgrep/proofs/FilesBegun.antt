@@ -1,7 +1,7 @@
 -- What is written of a file that is not searched to its end.
 use Rattle.std.proofs.Common.{arith, ◌≡◌, inl, inr, ◌⊎◌, ℕ, Bool, true, false, List, [], ◌∷◌, ◌++◌, Option, None, Some, IfSome, drop, take, take-append-drop, refl, sym, ◌∙◌, ap, subst, append_assoc, append-nil}
 use Rattle.programs.specs.Names.{is_input}
-use Rattle.std.specs.Prelude.{◌||◌, codes}
+use Rattle.std.specs.Prelude.{◌||◌}
 use Rattle.std.specs.Io.KnownBytes.{Appends, Keeps}
 use Rattle.std.proofs.KnownBytes.{Appends-trans, Keeps-trans}
 use Rattle.aho_core.specs.Patterns.{Patterns}
@@ -307,9 +307,9 @@ module _ (p : Patterns) (job : Job) (holds : List ℕ → Option (List ℕ)) whe
 
 -- standard input is the file of its name
 pub input_begun : (p : Patterns) (job named : Job) (follows : Bool) (holds : List ℕ → Option (List ℕ)) (name : List ℕ) (left held held' : Option (List ℕ)) → is_input name ≡ true
-    → IsNamed job (codes "(standard input)") follows named → BeginsFile p named left held held' → BeginsName p job follows holds name left held held'
+    → IsNamed job job.label.now follows named → BeginsFile p named left held held' → BeginsName p job follows holds name left held held'
 input_begun p job named follows holds name left held held' input is begins =
-    let shown : shown_name name ≡ codes "(standard input)" = rw input refl in
+    let shown : shown_name job.label.now name ≡ job.label.now = rw input refl in
     let known : known_of holds name left ≡ left = rw input refl in
     record {
       named = named;
@@ -321,7 +321,7 @@ input_begun p job named follows holds name left held held' input is begins =
 pub file_begun : (p : Patterns) (job named : Job) (follows : Bool) (holds : List ℕ → Option (List ℕ)) (name : List ℕ) (left held held' : Option (List ℕ)) → is_input name ≡ false
     → IsNamed job name follows named → BeginsFile p named (holds name) held held' → BeginsName p job follows holds name left held held'
 file_begun p job named follows holds name left held held' other is begins =
-    let shown : shown_name name ≡ name = rw other refl in
+    let shown : shown_name job.label.now name ≡ name = rw other refl in
     let known : known_of holds name left ≡ holds name = rw other refl in
     record {
       named = named;

@@ -7,11 +7,10 @@ use Rattle.std.proofs.lemmas.Bool.{cases_Bool}
 use Rattle.aho_core.specs.Patterns.{Patterns}
 use Rattle.std.specs.Prelude.{◌||◌}
 use Rattle.acgrep.specs.Arguments.{Origin, Said, fit_by}
-use Rattle.programs.specs.Names.{or_input}
 use Rattle.acgrep.specs.Files.{AreFilesSearched, AreSearchedOr, is_enough}
-use Rattle.acgrep.specs.Runs.{BeginsFor, SelectsNoLine, SearchesFor, SearchesWords, inverts, kind_sought, knows_none, words_sought}
+use Rattle.acgrep.specs.Folders.{Known}
+use Rattle.acgrep.specs.Runs.{BeginsFor, SelectsNoLine, SearchesFor, SearchesReached, inverts, kind_sought, knows_none, words_sought}
 use Rattle.acgrep.specs.Searchers.{patterns_asked}
-use Rattle.acgrep.specs.declared.options.Flags.{Flags}
 use Rattle.acgrep.specs.declared.select.Job.{Job}
 use Rattle.acgrep.proofs.FilesBegun.{begun_kept}
 
@@ -40,39 +39,53 @@ module _ (held' held'' : Option (List ℕ)) (kept : Keeps held' held'') where
   or_kept p job holds names left left' held status (inr one) = inr one
 
   -- what was done of a search
-  pub searches_kept : (holds : List ℕ → Option (List ℕ)) (terminal : Bool) (flags : Flags) (sources : List Origin) (names : List (List ℕ)) (left left' held : Option (List ℕ)) (status : ℕ)
-      → SearchesFor holds terminal flags sources names left left' held held' status → SearchesFor holds terminal flags sources names left left' held held'' status
-  searches_kept holds terminal flags sources names left left' held status done =
-      let sought = words_sought flags done.words in
-      let p = patterns_asked (kind_sought flags) flags.ignore_case sought in
-      let Passed = SelectsNoLine p (fit_by flags) (inverts flags) done.between left' held held' status in
-      let Found = SearchesWords holds terminal flags sought names done.between left' held held' status in
+  pub searches_kept : (known : Known) (terminal : Bool) (given : Said) (sources : List Origin) (names : List (List ℕ)) (left left' held : Option (List ℕ)) (status : ℕ)
+      → SearchesFor known terminal given sources names left left' held held' status → SearchesFor known terminal given sources names left left' held held'' status
+  searches_kept known terminal given sources names left left' held status done =
+      let sought = words_sought given.flags done.words in
+      let p = patterns_asked (kind_sought given.flags) given.flags.ignore_case sought in
+      let Passed = SelectsNoLine p (fit_by given.flags) (inverts given.flags) done.between left' held held' status in
+      let Found = SearchesReached known terminal given p names done.between left' held held' status in
       record {
         words = done.words;
         between = done.between;
         read = done.read;
         searched =
-            elim (cases_Bool (knows_none flags sought)) [
+            elim (cases_Bool (knows_none given.flags sought)) [
               | inl none ↦
                   let found : Passed = subst (λ (b : Bool). MatchBool b Passed Found) none done.searched in
                   rw none (record { passed = found.passed; unread = found.unread; unwritten = Keeps-trans held held' held'' found.unwritten kept; none = found.none })
               | inr some ↦
                   let found : Found = subst (λ (b : Bool). MatchBool b Passed Found) some done.searched in
-                  rw some (record { job = found.job; is_job = found.is_job; searched = or_kept p found.job holds (or_input names) done.between left' held status found.searched })
+                  rw some (record {
+                    files = found.files;
+                    unread = found.unread;
+                    reached = found.reached;
+                    job = found.job;
+                    is_job = found.is_job;
+                    found = found.found;
+                    searched = or_kept p found.job known.holds found.files done.between left' held found.found found.searched;
+                    told = found.told;
+                  })
             ];
       }
 
   -- what was begun
-  pub begins_held : (holds : List ℕ → Option (List ℕ)) (terminal : Bool) (flags : Flags) (sources : List Origin) (names : List (List ℕ)) (left held : Option (List ℕ))
-      → BeginsFor holds terminal flags sources names left held held' → BeginsFor holds terminal flags sources names left held held''
-  begins_held holds terminal flags sources names left held (inl keeps) = inl (Keeps-trans held held' held'' keeps kept)
-  begins_held holds terminal flags sources names left held (inr begins) = inr (record {
+  pub begins_held : (known : Known) (terminal : Bool) (given : Said) (sources : List Origin) (names : List (List ℕ)) (left held : Option (List ℕ))
+      → BeginsFor known terminal given sources names left held held' → BeginsFor known terminal given sources names left held held''
+  begins_held known terminal given sources names left held (inl keeps) = inl (Keeps-trans held held' held'' keeps kept)
+  begins_held known terminal given sources names left held (inr begins) = inr (record {
     words = begins.words;
     between = begins.between;
     read = begins.read;
-    job = begins.job;
-    is_job = begins.is_job;
-    begun = begun_kept (patterns_asked (kind_sought flags) flags.ignore_case (words_sought flags begins.words)) begins.job holds held' held'' kept (or_input names) false begins.between held begins.begun;
+    begun = record {
+      files = begins.begun.files;
+      unread = begins.begun.unread;
+      reached = begins.begun.reached;
+      job = begins.begun.job;
+      is_job = begins.begun.is_job;
+      begun = begun_kept (patterns_asked (kind_sought given.flags) given.flags.ignore_case (words_sought given.flags begins.words)) begins.begun.job known.holds held' held'' kept begins.begun.files false begins.between held begins.begun.begun;
+    };
   })
 
 -- what was said is one thing alone

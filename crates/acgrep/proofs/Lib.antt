@@ -7,6 +7,8 @@ pub mod FileTellings
 pub mod FilesBegun
 pub mod Fillings
 pub mod FirstLines
+pub mod FormatTexts
+pub mod Formatted
 pub mod Grouped
 pub mod HeldLines
 pub mod Kept
@@ -19,6 +21,7 @@ pub mod NoneInLines
 pub mod Numbers
 pub mod Objected
 pub mod PlacesBehind
+pub mod Reaching
 pub mod Statuses
 pub mod Stepped
 pub mod Streams
@@ -26,6 +29,7 @@ pub mod StreamsBegun
 pub mod Tellings
 pub mod Unselected
 pub mod Walked
+pub mod Walking
 pub mod Whole
 pub mod WordLists
 mod Told

@@ -74,17 +74,18 @@ colored_shows p job place old new line lines colored writes =
     )
 
 -- what stands before a line is the same
-same_head : (job : Job) (a b : Place) (offset : ℕ) → SamePlace job a b → head_of job.style (line_number_at a) offset ≡ head_of job.style (line_number_at b) offset
-same_head job a b offset same =
+same_head : (job : Job) (a b : Place) (offset : ℕ) (bytes : List ℕ) → SamePlace job a b → head_of job.style (line_number_at a) offset bytes ≡ head_of job.style (line_number_at b) offset bytes
+same_head job a b offset bytes same =
     elim (cases_Bool job.style.number) [
-      | inl asked ↦ ap (λ (n : ℕ). head_of job.style ((n + 1) % 2 ^ 64) offset) (same.lines (asked_numbered job.shown job.style.number asked))
+      | inl asked ↦ ap (λ (n : ℕ). head_of job.style ((n + 1) % 2 ^ 64) offset bytes) (same.lines (asked_numbered job.shown job.style.number asked))
       | inr not ↦ rw not refl
     ]
 
 match_same : (job : Job) (a b : Place) (line : List ℕ) (m : Occurrence) → SamePlace job a b → match_by job.style a line m ≡ match_by job.style b line m
 match_same job a b line m same =
-    let heads : head_of job.style (line_number_at a) (offset_at a m.start) ≡ head_of job.style (line_number_at b) (offset_at b m.start) =
-    same_head job a b (offset_at a m.start) same ∙ ap (λ (n : ℕ). head_of job.style (line_number_at b) ((n + m.start) % 2 ^ 64)) same.bytes in
+    let bytes = part_of line m.start m.end in
+    let heads : head_of job.style (line_number_at a) (offset_at a m.start) bytes ≡ head_of job.style (line_number_at b) (offset_at b m.start) bytes =
+    same_head job a b (offset_at a m.start) bytes same ∙ ap (λ (n : ℕ). head_of job.style (line_number_at b) ((n + m.start) % 2 ^ 64) bytes) same.bytes in
     ap (λ (head : List ℕ). if m.start == m.end then [] else head ++ (painted job.style.color (color_of (codes "01;31")) (part_of line m.start m.end) ++ codes "\n")) heads
 
 matches_same : (job : Job) (a b : Place) (line : List ℕ) (ms : List Occurrence) → SamePlace job a b → matches_by job.style a line ms ≡ matches_by job.style b line ms
@@ -96,13 +97,13 @@ matches_same job a b line (m ∷ ms) same =
 place_same : (a b : Place) → a.lines ≡ b.lines → a.bytes ≡ b.bytes → a ≡ b
 place_same a b lines bytes = ap (λ (n : ℕ). place_behind n a.bytes) lines ∙ ap (place_behind b.lines) bytes
 
-start_same : (job : Job) (a b : Place) → SamePlace job a b → head_of job.style (line_number_at a) a.bytes ≡ head_of job.style (line_number_at b) b.bytes
-start_same job a b same = same_head job a b a.bytes same ∙ ap (λ (n : ℕ). head_of job.style (line_number_at b) n) same.bytes
+start_same : (job : Job) (a b : Place) (line : List ℕ) → SamePlace job a b → head_of job.style (line_number_at a) a.bytes line ≡ head_of job.style (line_number_at b) b.bytes line
+start_same job a b line same = same_head job a b a.bytes line same ∙ ap (λ (n : ℕ). head_of job.style (line_number_at b) n line) same.bytes
 
 line_same : (p : Patterns) (alone colored : Bool) (job : Job) (a b : Place) (line bytes : List ℕ) → SamePlace job a b
     → LineOf p alone colored job.style a line bytes → LineOf p alone colored job.style b line bytes
-line_same p alone true job a b line bytes same (ms, finds, is) = (ms, finds, is ∙ ap (λ (head : List ℕ). head ++ (colored_from line 0 ms ++ codes "\n")) (start_same job a b same))
-line_same p alone false job a b line bytes same is = is ∙ ap (λ (head : List ℕ). head ++ (line ++ codes "\n")) (start_same job a b same)
+line_same p alone true job a b line bytes same (ms, finds, is) = (ms, finds, is ∙ ap (λ (head : List ℕ). head ++ (colored_from line 0 ms ++ codes "\n")) (start_same job a b line same))
+line_same p alone false job a b line bytes same is = is ∙ ap (λ (head : List ℕ). head ++ (line ++ codes "\n")) (start_same job a b line same)
 
 pub by_same : (p : Patterns) (shown : Shown) (alone invert : Bool) (job : Job) (a b : Place) (line bytes : List ℕ)
     → (is_numbered shown job.style.number ≡ true → a.lines ≡ b.lines) → SamePlace job a b
@@ -112,7 +113,7 @@ by_same p Matches alone true job a b line bytes counted same shows = shows
 by_same p Matches alone false job a b line bytes counted same (ms, finds, is) = (ms, finds, is ∙ matches_same job a b line ms same)
 by_same p Objects alone true job a b line bytes counted same shows = shows
 by_same p Objects alone false job a b line bytes counted same (ms, finds, is) =
-    (ms, finds, is ∙ ap (λ (place : Place). objects_by job.style place ms) (place_same a b (counted refl) same.bytes))
+    (ms, finds, is ∙ ap (λ (place : Place). objects_by job.style place line ms) (place_same a b (counted refl) same.bytes))
 by_same p Count alone invert job a b line bytes counted same shows = shows
 by_same p Names alone invert job a b line bytes counted same shows = shows
 by_same p Lacking alone invert job a b line bytes counted same shows = shows

@@ -17,10 +17,11 @@ use Rattle.programs.specs.Telling.{Tells, TellsBytes, TellsSome}
 use Rattle.programs.specs.declared.errors.Errors.{Errors}
 use Rattle.programs.specs.declared.reason.Reason.{Reason}
 use Rattle.programs.proofs.Lines.{some-one, some-tells, some-then, some-weaker, tells-none, tells-weaker, then-some}
-use Rattle.acgrep.specs.Arguments.{origin_of}
+use Rattle.acgrep.specs.Arguments.{Said, origin_of}
 use Rattle.acgrep.specs.Files.{is_enough, seen_after, shown_name, status_by}
+use Rattle.acgrep.specs.Folders.{Tree}
 use Rattle.acgrep.specs.Runs.{origins_of}
-use Rattle.acgrep.specs.Told.{IsMessage, IsToldCause, MayName, MayTell, TellsIf, TellsOutcome, TellsStatus, files_told, shown_names, source_names}
+use Rattle.acgrep.specs.Told.{IsMessage, IsToldCause, MayName, MaySaid, MayTell, TellsIf, TellsOutcome, TellsStatus, files_told, loop_text, names_said, shown_names, source_names}
 use Rattle.acgrep.specs.declared.arguments.Source.{Source}
 use Rattle.acgrep.specs.declared.arguments.Source.TheVariants.{File}
 use Rattle.acgrep.specs.declared.files.Seen.{Seen}
@@ -76,6 +77,13 @@ module _ {E : Type 0} (K : SinkGhosts E) (names : List (List ℕ)) where
       let m : Message = record { name = Some name; line = None; cause = reason_text reason } in
       tells-message old new m may (inl (reason, refl)) told
 
+  -- one of a folder that stands in itself
+  pub tells-loop : (old new : Errors E) (name : List ℕ) → MayName names name
+      → TellsBytes K old new (message_by (codes "acgrep") (record { name = Some name; line = None; cause = loop_text })) → TellsSome K (IsMessage names) old new
+  tells-loop old new name may told =
+      let m : Message = record { name = Some name; line = None; cause = loop_text } in
+      tells-message old new m may (inr (inr (inr refl))) told
+
   -- why the patterns are refused
   pub tells-build : (old new : Errors E) (name : List ℕ) (line : Option ℕ) (error : BuildError) → MayName names name
       → TellsBytes K old new (message_by (codes "acgrep") (record { name = Some name; line = line; cause = build_error_text error })) → TellsSome K (IsMessage names) old new
@@ -88,7 +96,7 @@ module _ {E : Type 0} (K : SinkGhosts E) (names : List (List ℕ)) where
       → TellsBytes K old new (message_by (codes "acgrep") (record { name = Some (codes "search"); line = None; cause = match_error_text error })) → TellsSome K (IsMessage names) old new
   tells-search old new error told =
       let m : Message = record { name = Some (codes "search"); line = None; cause = match_error_text error } in
-      tells-message old new m (inl (inr (inl refl))) (inr (inr (error, refl))) told
+      tells-message old new m (inl (inr (inl refl))) (inr (inr (inl (error, refl)))) told
 
 -- an element of a list is among the names of all
 pub among-at : {X : Type 0} (f : X → List ℕ) (xs : List X) (i : ℕ) (d : X) → i < length xs → IsOneOf (f (get_or xs i d)) (map f xs)
@@ -190,12 +198,12 @@ abbrev pub AreWithin : List (List ℕ) → List (List ℕ) → Type 0
 AreWithin names all = (name : List ℕ) → IsOneOf name names → IsOneOf name all
 
 -- and of those that are told
-pub told-cut : (hushed : Bool) (first : List ℕ) (rest : List (List ℕ)) (names all : List (List ℕ)) → files_told hushed names ≡ files_told hushed (first ∷ rest) → AreWithin (files_told hushed names) all
-    → (hushed ≡ false → IsOneOf (shown_name first) all) × AreWithin (files_told hushed rest) all
-told-cut true first rest names all cut within = (λ asked. absurd (cc), λ name is. absurd is)
-told-cut false first rest names all cut within =
-    let both : AreWithin (shown_name first ∷ shown_names rest) all = subst (λ (l : List (List ℕ)). AreWithin l all) cut within in
-    (λ asked. both (shown_name first) (inl refl), λ name is. both name (inr is))
+pub told-cut : (hushed : Bool) (label first : List ℕ) (rest : List (List ℕ)) (names all : List (List ℕ)) → files_told hushed label names ≡ files_told hushed label (first ∷ rest) → AreWithin (files_told hushed label names) all
+    → (hushed ≡ false → IsOneOf (shown_name label first) all) × AreWithin (files_told hushed label rest) all
+told-cut true label first rest names all cut within = (λ asked. absurd (cc), λ name is. absurd is)
+told-cut false label first rest names all cut within =
+    let both : AreWithin (shown_name label first ∷ shown_names label rest) all = subst (λ (l : List (List ℕ)). AreWithin l all) cut within in
+    (λ asked. both (shown_name label first) (inl refl), λ name is. both name (inr is))
 
 -- the first of some names is, and those behind it are
 pub within-cut : (first : List ℕ) (rest names all : List (List ℕ)) → names ≡ first ∷ rest → AreWithin names all → IsOneOf first all × AreWithin rest all
@@ -215,17 +223,17 @@ not-quiet false false false false true only is loud = absurd (cc)
 not-quiet false false false false false true is loud = absurd (cc)
 not-quiet false false false false false false is loud = absurd (cc)
 
-module _ {E : Type 0} (K : SinkGhosts E) (names : List (List ℕ)) where
+module _ {E : Type 0} (K : SinkGhosts E) (names : List (List ℕ)) (P : List ℕ → Type 0) (may : (line : List ℕ) → IsMessage names line → P line) where
   -- what was told before a last flush, and of it
-  pub finished : (hushed : Bool) (shown : Shown) (status status' : ℕ) (old mid new : Errors E) → status ≤ 2 → status' ≤ 2 → (status' ≡ status) ⊎ (status' ≡ 2) → TellsStatus K (MayTell names) hushed shown status old mid
-      → (status' < 2 → new ≡ mid) → (2 ≤ status → new ≡ mid) → (status < 2 → status' ≡ 2 → TellsSome K (IsMessage names) mid new) → TellsStatus K (MayTell names) hushed shown status' old new
+  pub finished : (hushed : Bool) (shown : Shown) (status status' : ℕ) (old mid new : Errors E) → status ≤ 2 → status' ≤ 2 → (status' ≡ status) ⊎ (status' ≡ 2) → TellsStatus K P hushed shown status old mid
+      → (status' < 2 → new ≡ mid) → (2 ≤ status → new ≡ mid) → (status < 2 → status' ≡ 2 → TellsSome K (IsMessage names) mid new) → TellsStatus K P hushed shown status' old new
   finished hushed shown status status' old mid new bound bound' which before same kept told = record {
     tells = elim (cases_lt status 2) [
       | inl low ↦ elim (cases_lt status' 2) [
-        | inl low' ↦ subst (Tells K (MayTell names) old) (sym (same low')) before.tells
-        | inr two ↦ some-tells K (MayTell names) old new (failed low (omega (arith, two, bound')))
+        | inl low' ↦ subst (Tells K P old) (sym (same low')) before.tells
+        | inr two ↦ some-tells K P old new (failed low (omega (arith, two, bound')))
       ]
-      | inr high ↦ subst (Tells K (MayTell names) old) (sym (kept high)) before.tells
+      | inr high ↦ subst (Tells K P old) (sym (kept high)) before.tells
     ];
     silent = λ low loud.
         let is : status' ≡ status = elim which [ inl is ↦ is | inr two ↦ absurd (omega (arith, low, two)) ] in
@@ -233,13 +241,13 @@ module _ {E : Type 0} (K : SinkGhosts E) (names : List (List ℕ)) where
     some = late;
   }
     where
-      failed : status < 2 → status' ≡ 2 → TellsSome K (MayTell names) old new
-      failed low two = then-some K (MayTell names) old mid new before.tells (some-weaker K (IsMessage names) (MayTell names) mid new (λ line is. inl is) (told low two))
+      failed : status < 2 → status' ≡ 2 → TellsSome K P old new
+      failed low two = then-some K P old mid new before.tells (some-weaker K (IsMessage names) P mid new may (told low two))
 
-      late : hushed ≡ false → status' ≡ 2 → TellsSome K (MayTell names) old new
+      late : hushed ≡ false → status' ≡ 2 → TellsSome K P old new
       late asked two = elim (cases_lt status 2) [
         | inl low ↦ failed low two
-        | inr high ↦ subst (λ (e : Errors E). TellsSome K (MayTell names) old e) (sym (kept high)) (before.some asked (omega (arith, high, bound)))
+        | inr high ↦ subst (λ (e : Errors E). TellsSome K P old e) (sym (kept high)) (before.some asked (omega (arith, high, bound)))
       ]
 
 -- the first source, and those behind it, where there is one
@@ -250,3 +258,8 @@ sources-cut (source ∷ sources) other all some within =
     let rest : take (length (source ∷ sources) - 1) sources ≡ sources = take_all (length (source ∷ sources) - 1) sources (omega arith) in
     within-cut (origin_of source).bytes (source_names (origins_of (take (length (source ∷ sources) - 1) sources))) (source_names (origins_of (source ∷ sources))) all
     (ap (λ (l : List Source). (origin_of source).bytes ∷ source_names (origins_of l)) (sym rest)) within
+
+-- what may be told of a call may be where its arguments say this
+pub told-said : (tree : Tree) (given : Option Said) (line : List ℕ) → MayTell (names_said given) line → MaySaid tree given line
+told-said tree None line is = is
+told-said tree (Some given) line is = inl is

@@ -7,15 +7,17 @@ use Rattle.std.specs.List.{after_first, before_first, position_or_len}
 use Rattle.std.specs.Str.Parse.{digits_value}
 use Rattle.aho_core.specs.declared.search.MatchKind.TheVariants.{LeftmostLongest}
 use Rattle.acgrep.specs.declared.arguments.Given.{Given}
+use Rattle.acgrep.specs.Formats.{format_pieces}
 use Rattle.acgrep.specs.Long.{option_by}
+use Rattle.acgrep.specs.declared.format.Piece.{Piece}
 use Rattle.acgrep.specs.declared.long.Long.{Long}
 use Rattle.acgrep.specs.declared.long.Long.TheVariants.{Plain, Takes, When}
 use Rattle.acgrep.specs.declared.long.Valued.{Valued}
-use Rattle.acgrep.specs.declared.long.Valued.TheVariants.{Regexp, PatternFile, Kind, Offset, FirstLine, MaxCount, After, Before, Around}
+use Rattle.acgrep.specs.declared.long.Valued.TheVariants.{Regexp, PatternFile, Kind, Offset, FirstLine, MaxCount, After, Before, Around, Separator, Label, Format}
 use Rattle.acgrep.specs.declared.options.Color.{Color}
 use Rattle.acgrep.specs.declared.options.Context.{Context}
 use Rattle.acgrep.specs.declared.options.Switch.{Switch}
-use Rattle.acgrep.specs.declared.options.Switch.TheVariants.{IgnoreCase, MatchCase, Invert, WholeWords, WholeLines, Counts, Numbers, OnlyMatching, Offsets, OnlyNames, OnlyLacking, NullNames, Quiet, NoSeparator, Json, NoName, WithName, NoMatchOk, NoMessages, Help, Version, Same}
+use Rattle.acgrep.specs.declared.options.Switch.TheVariants.{IgnoreCase, MatchCase, Invert, WholeWords, WholeLines, Counts, Numbers, OnlyMatching, Offsets, OnlyNames, OnlyLacking, Recursive, Follow, NullNames, Quiet, NoSeparator, InitialTab, Json, NoName, WithName, NoMatchOk, NoMessages, Help, Version, Same}
 use Rattle.acgrep.specs.declared.arguments.Awaited.{Awaited}
 use Rattle.acgrep.specs.declared.arguments.Awaited.TheVariants.{Fresh, Argument, Operands}
 use Rattle.acgrep.specs.declared.arguments.Refusal.{Refusal}
@@ -34,11 +36,15 @@ pub record Origin : Type 0 where
   pub is_file : Bool
   pub bytes : List ℕ
 
--- each option, the patterns in order, and what is no option
+-- each option, the patterns in order, and what is no option; what stands between lines that do not follow one another, how standard
+-- input is called, and the format of matches
 pub record Said : Type 0 where
   pub flags : Flags
   pub sources : List Origin
   pub operands : List (List ℕ)
+  pub separator : List ℕ
+  pub label : List ℕ
+  pub format : List Piece
 
 abbrev pub origin_of : Source → Origin
 origin_of (Text text) = record { is_file = false; bytes = text.now }
@@ -50,6 +56,9 @@ said given = record {
   flags = given.flags;
   sources = map origin_of given.sources.items;
   operands = map (λ operand. operand.now) given.operands.items;
+  separator = given.separator.now;
+  label = given.label.now;
+  format = given.format.items;
 }
 
 -- the option of a letter that takes no argument
@@ -65,7 +74,10 @@ switch_by letter =
     else if letter == 98 then Some Offsets
     else if letter == 108 then Some OnlyNames
     else if letter == 76 then Some OnlyLacking
+    else if letter == 114 then Some Recursive
+    else if letter == 82 then Some Follow
     else if letter == 90 then Some NullNames
+    else if letter == 84 then Some InitialTab
     else if letter == 113 then Some Quiet
     else if letter == 115 then Some NoMessages
     else if letter == 104 then Some NoName
@@ -87,9 +99,12 @@ switched OnlyMatching flags = record flags { only_matching = true }
 switched Offsets flags = record flags { offset = true }
 switched OnlyNames flags = record flags { names = true; lacking = false }
 switched OnlyLacking flags = record flags { names = false; lacking = true }
+switched Recursive flags = record flags { recursive = true }
+switched Follow flags = record flags { recursive = true; follow = true }
 switched NullNames flags = record flags { null = true }
 switched Quiet flags = record flags { quiet = true }
 switched NoSeparator flags = record flags { joined = true }
+switched InitialTab flags = record flags { tab = true }
 switched Json flags = record flags { json = true }
 switched NoName flags = record flags { with_name = Some false }
 switched WithName flags = record flags { with_name = Some true }
@@ -148,12 +163,26 @@ numbered_in MaxCount number flags = record flags { most = Some number }
 numbered_in After number flags = record flags { after = Some number }
 numbered_in Before number flags = record flags { before = Some number }
 numbered_in Around number flags = record flags { context = Some number }
+numbered_in Separator number flags = flags
+numbered_in Label number flags = flags
+numbered_in Format number flags = flags
 
 abbrev pub with_number : Valued → ℕ → Said → Said
 with_number valued number s = record s { flags = numbered_in valued number s.flags }
 
 abbrev pub number_value : Valued → List ℕ → Said → Option ReadSoFar
 number_value valued argument s = option_map (λ number. said_so (with_number valued number s)) (number_by argument)
+
+-- what stands between lines that do not follow one another, and that it does
+abbrev pub with_separator : List ℕ → Said → Said
+with_separator argument s = record s { flags = record s.flags { joined = false }; separator = argument }
+
+-- each match is written by these pieces
+abbrev pub with_pieces : Said → List Piece → Said
+with_pieces s pieces = record s { flags = record s.flags { formatted = true }; format = pieces }
+
+abbrev pub with_format : List ℕ → Said → Option Said
+with_format argument s = option_map (λ pieces. with_pieces s pieces) (format_pieces argument)
 
 -- the argument of an option
 abbrev pub value_by : Valued → List ℕ → Said → Option ReadSoFar
@@ -166,6 +195,9 @@ value_by MaxCount argument s = number_value MaxCount argument s
 value_by After argument s = number_value After argument s
 value_by Before argument s = number_value Before argument s
 value_by Around argument s = number_value Around argument s
+value_by Separator argument s = Some (said_so (with_separator argument s))
+value_by Label argument s = Some (said_so (record s { label = argument }))
+value_by Format argument s = option_map said_so (with_format argument s)
 
 -- the option of a letter whose argument is a number
 abbrev pub numbered : ℕ → Option Valued
@@ -302,13 +334,17 @@ no_flags = record {
   offset = false;
   names = false;
   lacking = false;
+  recursive = false;
+  follow = false;
   null = false;
   quiet = false;
   after = None;
   before = None;
   context = None;
   joined = false;
+  tab = false;
   json = false;
+  formatted = false;
   with_name = None;
   color = Never;
   kind = LeftmostLongest;
@@ -322,7 +358,7 @@ no_flags = record {
 }
 
 abbrev pub nothing_said : Said
-nothing_said = record { flags = no_flags; sources = []; operands = [] }
+nothing_said = record { flags = no_flags; sources = []; operands = []; separator = codes "--"; label = codes "(standard input)"; format = [] }
 
 -- what all arguments say: nothing where they are wrong
 abbrev pub said_by : List (List ℕ) → Option Said
@@ -333,14 +369,14 @@ abbrev pub AreRefused : {A : Type 0} → Option A → Refusal → Type 0
 AreRefused outcome (Wrong wrong) = outcome ≡ None
 AreRefused outcome OutOfMemory = Unit {0}
 
--- what is written of a file: of several options `-q` goes first, then `-l` or `-L`, `-c`, `--json` and `-o`
+-- what is written of a file: of several options `-q` goes first, then `-l` or `-L`, `-c`, `--format` and `--json`, and `-o`
 abbrev pub shown_by : Flags → Shown
 shown_by flags =
     if flags.quiet then Nothing
     else if flags.names then Names
     else if flags.lacking then Lacking
     else if flags.count then Count
-    else if flags.json then Objects
+    else if flags.json || flags.formatted then Objects
     else if flags.only_matching then Matches
     else Lines
 

@@ -1,7 +1,7 @@
 -- What is written of files, one after another.
 use Rattle.programs.specs.Answers.{status_of}
 use Rattle.programs.specs.Names.{is_input, name_bytes, or_input}
-use Rattle.std.specs.Prelude.{◌≡◌, ◌⊎◌, ℕ, ◌||◌, nat_lt, Bool, true, false, List, [], ◌∷◌, ◌++◌, Option, Some, None, IfSome, MatchBool, codes, if◌then◌else◌}
+use Rattle.std.specs.Prelude.{◌≡◌, ◌⊎◌, ℕ, ◌||◌, nat_lt, Bool, true, false, List, [], ◌∷◌, ◌++◌, Option, Some, None, IfSome, MatchBool, if◌then◌else◌}
 use Rattle.std.specs.Io.KnownBytes.{Appends, Consumes, IsAtEnd, Keeps}
 use Rattle.aho_core.specs.Patterns.{Patterns}
 use Rattle.acgrep.specs.Contexts.{TellsAround, TellsFile, around_of}
@@ -107,12 +107,16 @@ pub record IsNamed (job : Job) (bytes : List ℕ) (later : Bool) (named : Job) :
   pub most : named.most ≡ job.most
   pub hushed : named.hushed ≡ job.hushed
   pub hyphen : named.style.hyphen ≡ job.style.hyphen
+  pub tab : named.style.tab ≡ job.style.tab
+  pub separator : named.style.separator.now ≡ job.style.separator.now
+  pub form : named.style.form ≡ job.style.form
+  pub label : named.label.now ≡ job.label.now
   pub context : named.context ≡ job.context
   pub follows : named.follows ≡ later
 
 -- how a file is called in what is written
-abbrev pub shown_name : List ℕ → List ℕ
-shown_name name = if is_input name then codes "(standard input)" else name
+abbrev pub shown_name : (label name : List ℕ) → List ℕ
+shown_name label name = if is_input name then label else name
 
 -- its bytes, where they are known: what the input has left, or what is held under the name
 abbrev pub known_of : (List ℕ → Option (List ℕ)) → List ℕ → Option (List ℕ) → Option (List ℕ)
@@ -121,7 +125,7 @@ known_of holds name left = if is_input name then left else holds name
 -- the file of a name was searched; `left` and `held` are what the input has left and what the output holds
 pub record SearchesName (p : Patterns) (job : Job) (follows : Bool) (holds : List ℕ → Option (List ℕ)) (name : List ℕ) (left left' held held' : Option (List ℕ)) (any : Bool) : Type 0 where
   pub named : Job
-  pub is_named : IsNamed job (shown_name name) follows named
+  pub is_named : IsNamed job (shown_name job.label.now name) follows named
   pub file : SearchesFile p named (known_of holds name left) held held' any
   pub reads : MatchBool (is_input name) (IsRead p named left left' any) (left' ≡ left)
 
@@ -249,7 +253,7 @@ IfBroken Stopped P = P
 -- that of the file of a name
 pub record BeginsName (p : Patterns) (job : Job) (follows : Bool) (holds : List ℕ → Option (List ℕ)) (name : List ℕ) (left held held' : Option (List ℕ)) : Type 0 where
   pub named : Job
-  pub is_named : IsNamed job (shown_name name) follows named
+  pub is_named : IsNamed job (shown_name job.label.now name) follows named
   pub file : BeginsFile p named (known_of holds name left) held held'
 
 -- of some first ones of the files of these names, one after another, all that is asked is written, or a beginning of it; and

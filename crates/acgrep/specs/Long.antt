@@ -6,8 +6,8 @@ use Rattle.acgrep.specs.declared.long.Found.{Found}
 use Rattle.acgrep.specs.declared.long.Found.TheVariants.{Unknown, Begun, Several, Whole}
 use Rattle.acgrep.specs.declared.long.Long.{Long}
 use Rattle.acgrep.specs.declared.long.Long.TheVariants.{Plain, Takes, When}
-use Rattle.acgrep.specs.declared.long.Valued.TheVariants.{Regexp, PatternFile, Kind, Offset, FirstLine, MaxCount, After, Before, Around}
-use Rattle.acgrep.specs.declared.options.Switch.TheVariants.{IgnoreCase, MatchCase, Invert, WholeWords, WholeLines, Counts, Numbers, OnlyMatching, Offsets, OnlyNames, OnlyLacking, NullNames, Quiet, NoSeparator, Json, NoName, WithName, NoMatchOk, NoMessages, Help, Version, Same}
+use Rattle.acgrep.specs.declared.long.Valued.TheVariants.{Regexp, PatternFile, Kind, Offset, FirstLine, MaxCount, After, Before, Around, Separator, Label, Format}
+use Rattle.acgrep.specs.declared.options.Switch.TheVariants.{IgnoreCase, MatchCase, Invert, WholeWords, WholeLines, Counts, Numbers, OnlyMatching, Offsets, OnlyNames, OnlyLacking, NullNames, Recursive, Follow, Quiet, NoSeparator, InitialTab, Json, NoName, WithName, NoMatchOk, NoMessages, Help, Version, Same}
 
 -- an option's long name, and what it means
 pub record Name : Type 0 where
@@ -42,6 +42,9 @@ output_options = named (codes "count") (Plain Counts)
     ∷ named (codes "silent") (Plain Quiet)
     ∷ named (codes "only-matching") (Plain OnlyMatching)
     ∷ named (codes "json") (Plain Json)
+    ∷ named (codes "format") (Takes Format)
+    ∷ named (codes "initial-tab") (Plain InitialTab)
+    ∷ named (codes "label") (Takes Label)
     ∷ named (codes "line-number") (Plain Numbers)
     ∷ named (codes "byte-offset") (Plain Offsets)
     ∷ named (codes "with-filename") (Plain WithName)
@@ -55,6 +58,7 @@ context_options = named (codes "after-context") (Takes After)
     ∷ named (codes "before-context") (Takes Before)
     ∷ named (codes "context") (Takes Around)
     ∷ named (codes "no-group-separator") (Plain NoSeparator)
+    ∷ named (codes "group-separator") (Takes Separator)
     ∷ []
 
 -- and all others
@@ -63,6 +67,8 @@ other_options = named (codes "color") When
     ∷ named (codes "colour") When
     ∷ named (codes "offset") (Takes Offset)
     ∷ named (codes "first-line") (Takes FirstLine)
+    ∷ named (codes "recursive") (Plain Recursive)
+    ∷ named (codes "dereference-recursive") (Plain Follow)
     ∷ named (codes "no-match-ok") (Plain NoMatchOk)
     ∷ named (codes "no-messages") (Plain NoMessages)
     ∷ named (codes "line-buffered") (Plain Same)

@@ -10,7 +10,7 @@ use Rattle.std.specs.Char.{is_ascii_digit}
 use Rattle.std.specs.Str.{bytes_eq}
 use Rattle.acgrep.specs.Arguments.{ReadSoFar, Said, argument_by, is_equals, nothing_said, number_by, numbered, switch_by}
 use Rattle.acgrep.specs.Long.{found_by, option_by}
-use Rattle.acgrep.specs.Told.{TellsWrong, color_parts, kind_parts, letter_parts, name_parts, number_parts, several_parts, taken_parts, unargued_parts, valued_name, wrong_parts}
+use Rattle.acgrep.specs.Told.{TellsWrong, color_parts, format_parts, kind_parts, letter_parts, name_parts, number_parts, several_parts, taken_parts, unargued_parts, valued_name, wrong_parts}
 use Rattle.acgrep.specs.declared.arguments.Awaited.{Awaited}
 use Rattle.acgrep.specs.declared.arguments.Awaited.TheVariants.{Fresh, Argument, Operands}
 use Rattle.acgrep.specs.declared.arguments.Refusal.{Refusal}
@@ -21,9 +21,9 @@ use Rattle.acgrep.specs.declared.long.Found.TheVariants.{Unknown, Begun, Several
 use Rattle.acgrep.specs.declared.long.Long.{Long}
 use Rattle.acgrep.specs.declared.long.Long.TheVariants.{Plain, Takes, When}
 use Rattle.acgrep.specs.declared.long.Valued.{Valued}
-use Rattle.acgrep.specs.declared.long.Valued.TheVariants.{Regexp, PatternFile, Kind, Offset, FirstLine, MaxCount, After, Before, Around}
+use Rattle.acgrep.specs.declared.long.Valued.TheVariants.{Regexp, PatternFile, Kind, Offset, FirstLine, MaxCount, After, Before, Around, Separator, Label, Format}
 
--- what is told of an argument that an option cannot have; any is a pattern or a file's name
+-- what is told of an argument that an option cannot have; any is a pattern, a file's name, a separator or a label
 abbrev pub wrong_value : Valued → List ℕ → List (List ℕ)
 wrong_value Regexp argument = []
 wrong_value PatternFile argument = []
@@ -34,6 +34,9 @@ wrong_value MaxCount argument = number_parts (valued_name MaxCount) argument
 wrong_value After argument = number_parts (valued_name After) argument
 wrong_value Before argument = number_parts (valued_name Before) argument
 wrong_value Around argument = number_parts (valued_name Around) argument
+wrong_value Separator argument = []
+wrong_value Label argument = []
+wrong_value Format argument = format_parts argument
 
 -- of a long name that means no option
 abbrev pub wrong_found : Found → List ℕ → List (List ℕ)

@@ -1,13 +1,20 @@
--- What is written of a match as a JSON object.
+-- What is written of a match with its fields: as a JSON object, or by a format.
 use Rattle.std.specs.Prelude.{ℕ, ◌+◌, ◌/◌, ◌%◌, ◌==◌, nat_lt, Bool, List, [], ◌∷◌, ◌++◌, Option, Result, OnOk, codes, decimal, if◌then◌else◌}
 use Rattle.std.specs.Io.KnownBytes.{Appends}
 use Rattle.std.specs.List.{flat_map}
+use Rattle.std.specs.Str.{is_utf8}
 use Rattle.std.specs.declared.io.traits.Write.{Ghosts as Writers}
 use Rattle.aho_core.specs.Occurrence.{Occurrence}
 use Rattle.aho_core.specs.Patterns.{Patterns}
 use Rattle.aho_automaton.specs.declared.automaton.Automaton.{Ghosts as Automata}
 use Rattle.acgrep.specs.Alone.{AreShownOf}
-use Rattle.acgrep.specs.Printed.{line_number_at, offset_at}
+use Rattle.acgrep.specs.Base64.{base64_of}
+use Rattle.acgrep.specs.Printed.{line_number_at, offset_at, part_of}
+use Rattle.acgrep.specs.declared.fields.Fields.{Fields}
+use Rattle.acgrep.specs.declared.format.Piece.{Piece}
+use Rattle.acgrep.specs.declared.format.Piece.TheVariants.{Byte, Path, LineNumber, Start, End, PatternNumber, Found}
+use Rattle.acgrep.specs.declared.print.Form.{Form}
+use Rattle.acgrep.specs.declared.print.Form.TheVariants.{Json, Pieces}
 use Rattle.acgrep.specs.declared.print.Place.{Place}
 use Rattle.acgrep.specs.declared.print.Style.{Style}
 
@@ -31,25 +38,79 @@ json_escaped bytes = flat_map (λ byte. escaped_byte byte) bytes
 abbrev pub number_named : List ℕ → ℕ → List ℕ
 number_named name number = codes ",\"" ++ (name ++ (codes "\":" ++ decimal number))
 
--- a match of a line, as an object on a line of its own: nothing of an empty one
-abbrev pub object_by : Style → Place → Occurrence → List ℕ
-object_by style place m =
-    if m.start == m.end then []
-    else codes "{\"file\":\"" ++ (json_escaped style.name.now ++ (codes "\""
-    ++ (number_named (codes "line") (line_number_at place)
-    ++ (number_named (codes "start") (offset_at place m.start)
-    ++ (number_named (codes "end") (offset_at place m.end)
-    ++ (number_named (codes "pattern") m.pattern ++ codes "}\n"))))))
+-- the bytes of a match: as a string where they are UTF-8, and else in base64
+abbrev pub bytes_named : List ℕ → List ℕ
+bytes_named bytes = if is_utf8 bytes then codes ",\"text\":\"" ++ json_escaped bytes else codes ",\"bytes\":\"" ++ base64_of bytes
+
+-- what is told of a match: the file's name, the line's number, the range in the file, the pattern's number and the bytes
+pub record FieldsTold : Type 0 where
+  pub path : List ℕ
+  pub line : ℕ
+  pub start : ℕ
+  pub end : ℕ
+  pub pattern : ℕ
+  pub text : List ℕ
+
+abbrev pub fields_told : Fields → FieldsTold
+fields_told fields = record {
+  path = fields.path.now;
+  line = fields.line;
+  start = fields.start;
+  end = fields.end;
+  pattern = fields.pattern;
+  text = fields.text.now;
+}
+
+abbrev pub fields_by : Style → Place → List ℕ → Occurrence → FieldsTold
+fields_by style place line m = record {
+  path = style.name.now;
+  line = line_number_at place;
+  start = offset_at place m.start;
+  end = offset_at place m.end;
+  pattern = m.pattern;
+  text = part_of line m.start m.end;
+}
+
+-- a match as an object, on a line of its own
+abbrev pub json_by : FieldsTold → List ℕ
+json_by fields = codes "{\"file\":\"" ++ (json_escaped fields.path ++ (codes "\""
+    ++ (number_named (codes "line") fields.line
+    ++ (number_named (codes "start") fields.start
+    ++ (number_named (codes "end") fields.end
+    ++ (number_named (codes "pattern") fields.pattern
+    ++ (bytes_named fields.text ++ codes "\"}\n")))))))
+
+-- what a piece of a format stands for
+abbrev pub stands_for : FieldsTold → Piece → List ℕ
+stands_for fields (Byte byte) = byte ∷ []
+stands_for fields Path = fields.path
+stands_for fields LineNumber = decimal fields.line
+stands_for fields Start = decimal fields.start
+stands_for fields End = decimal fields.end
+stands_for fields PatternNumber = decimal fields.pattern
+stands_for fields Found = fields.text
+
+-- a match by a format, on a line of its own: its pieces, one after another
+abbrev pub formatted_by : List Piece → FieldsTold → List ℕ
+formatted_by pieces fields = flat_map (λ piece. stands_for fields piece) pieces ++ codes "\n"
+
+abbrev pub object_in : Form → FieldsTold → List ℕ
+object_in Json fields = json_by fields
+object_in (Pieces pieces) fields = formatted_by pieces.now fields
+
+-- a match of a line, so or so: nothing of an empty one
+abbrev pub object_by : Style → Place → List ℕ → Occurrence → List ℕ
+object_by style place line m = if m.start == m.end then [] else object_in style.form (fields_by style place line m)
 
 -- one match after another
-abbrev pub objects_by : Style → Place → List Occurrence → List ℕ
-objects_by style place ms = flat_map (λ m. object_by style place m) ms
+abbrev pub objects_by : Style → Place → List ℕ → List Occurrence → List ℕ
+objects_by style place line ms = flat_map (λ m. object_by style place line m) ms
 
 -- the matches of a line are written as objects, one after another, and nothing else
 pub record WritesObjects (old new : Option (List ℕ)) (p : Patterns) (alone : Bool) (style : Style) (place : Place) (line : List ℕ) : Type 0 where
   pub matches : List Occurrence
   pub found : AreShownOf p alone line matches
-  pub written : Appends old new (objects_by style place matches)
+  pub written : Appends old new (objects_by style place line matches)
 
 -- where a call does not fail the matches of the automaton's patterns were written so
 module _ {A W : Type 0} (automata : Automata A) (writers : Writers W) (automaton : A) (alone : Bool) (style : Style) (place : Place) (line : List ℕ) (old new : W) where

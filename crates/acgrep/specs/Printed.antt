@@ -1,5 +1,5 @@
 -- What is written of a line, with what stands before it.
-use Rattle.std.specs.Prelude.{ℕ, ◌+◌, ◌%◌, ◌^◌, ◌==◌, ◌&&◌, nat_le, Bool, true, List, [], ◌∷◌, ◌++◌, Option, Result, OnOk, codes, decimal, length, slice_range, if◌then◌else◌}
+use Rattle.std.specs.Prelude.{ℕ, ◌+◌, ◌%◌, ◌^◌, ◌==◌, ◌&&◌, ◌||◌, nat_le, nat_lt, Bool, true, List, [], ◌∷◌, ◌++◌, Option, Result, OnOk, codes, decimal, length, slice_range, if◌then◌else◌}
 use Rattle.std.specs.Io.KnownBytes.{Appends}
 use Rattle.std.specs.Iterator.Runs.{WholeRun}
 use Rattle.std.specs.List.{flat_map}
@@ -28,7 +28,7 @@ part_by style start bytes = painted style.color start bytes ++ painted style.col
 
 -- the line between lines that do not follow one another
 abbrev pub separator_by : Style → List ℕ
-separator_by style = painted style.color (color_of (codes "36")) (codes "--") ++ codes "\n"
+separator_by style = painted style.color (color_of (codes "36")) style.separator.now ++ codes "\n"
 
 abbrev pub number_by : Style → ℕ → List ℕ
 number_by style number = part_by style (color_of (codes "32")) (decimal number)
@@ -45,8 +45,12 @@ name_part style =
 abbrev pub number_if : Bool → Style → ℕ → List ℕ
 number_if asked style number = if asked then number_by style number else []
 
-abbrev pub head_of : Style → ℕ → ℕ → List ℕ
-head_of style number offset = name_part style ++ (number_if style.number style number ++ number_if style.offset style offset)
+-- behind these a tab where it is asked for: where one of them stands there, and what follows is not empty
+abbrev pub tab_before : Style → List ℕ → List ℕ
+tab_before style bytes = if style.tab && ((style.with_name || (style.number || style.offset)) && nat_lt 0 (length bytes)) then 9 ∷ [] else []
+
+abbrev pub head_of : Style → ℕ → ℕ → List ℕ → List ℕ
+head_of style number offset bytes = name_part style ++ (number_if style.number style number ++ (number_if style.offset style offset ++ tab_before style bytes))
 
 -- the number of a line; numbers wrap at 2^64
 abbrev pub line_number_at : Place → ℕ
@@ -54,7 +58,7 @@ line_number_at place = (place.lines + 1) % 2 ^ 64
 
 -- a line of a file
 abbrev pub line_by : Style → Place → List ℕ → List ℕ
-line_by style place line = head_of style (line_number_at place) place.bytes ++ (line ++ codes "\n")
+line_by style place line = head_of style (line_number_at place) place.bytes line ++ (line ++ codes "\n")
 
 -- the number of selected lines
 abbrev pub count_by : Style → ℕ → List ℕ
@@ -76,7 +80,7 @@ offset_at place start = (place.bytes + start) % 2 ^ 64
 abbrev pub match_by : Style → Place → List ℕ → Occurrence → List ℕ
 match_by style place line m =
     if m.start == m.end then []
-    else head_of style (line_number_at place) (offset_at place m.start)
+    else head_of style (line_number_at place) (offset_at place m.start) (part_of line m.start m.end)
     ++ (painted style.color (color_of (codes "01;31")) (part_of line m.start m.end) ++ codes "\n")
 
 -- one match after another
@@ -99,7 +103,7 @@ colored_from line at (m ∷ ms) = colored_by line at m ++ colored_from line (beh
 
 -- a line of a file with each of these matches in colour
 abbrev pub colored_line_by : Style → Place → List ℕ → List Occurrence → List ℕ
-colored_line_by style place line ms = head_of style (line_number_at place) place.bytes ++ (colored_from line 0 ms ++ codes "\n")
+colored_line_by style place line ms = head_of style (line_number_at place) place.bytes line ++ (colored_from line 0 ms ++ codes "\n")
 
 -- the matches of a line, one after another, are written and nothing else
 pub record WritesFinds (old new : Option (List ℕ)) (p : Patterns) (alone : Bool) (style : Style) (place : Place) (line : List ℕ) : Type 0 where

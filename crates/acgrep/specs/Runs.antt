@@ -1,6 +1,7 @@
 -- What a call searches for and in which files, by what its arguments say.
 use Rattle.std.specs.Prelude.{◌≡◌, ◌⊎◌, ℕ, ◌+◌, ◌-◌, ◌%◌, ◌^◌, ◌==◌, ◌&&◌, ◌||◌, nat_lt, Bool, MatchBool, true, false, not, List, [], ◌∷◌, ◌++◌, Option, None, Some, IfSome, String, codes, length, map, unwrap_or, if◌then◌else◌}
 use Rattle.std.specs.Io.KnownBytes.{Consumes, IsAtEnd, Keeps}
+use Rattle.std.specs.Str.{bytes_eq}
 use Rattle.aho_core.specs.Patterns.{Patterns}
 use Rattle.aho_core.specs.declared.search.MatchKind.{MatchKind}
 use Rattle.aho_core.specs.declared.search.MatchKind.TheVariants.{LeftmostLongest}
@@ -8,6 +9,7 @@ use Rattle.programs.specs.Arguments.{texts}
 use Rattle.acgrep.specs.Arguments.{Origin, Said, context_by, fit_by, origin_of, said_by, shown_by}
 use Rattle.programs.specs.Names.{is_input, or_input}
 use Rattle.acgrep.specs.Files.{AreFilesBegun, AreSearchedOr}
+use Rattle.acgrep.specs.Folders.{AreBelow, Known, Tree}
 use Rattle.acgrep.specs.Lines.{lines}
 use Rattle.acgrep.specs.Searchers.{patterns_asked}
 use Rattle.acgrep.specs.Written.{IsPassedOver}
@@ -17,6 +19,9 @@ use Rattle.acgrep.specs.declared.options.Color.TheVariants.{Auto, Always, Never}
 use Rattle.acgrep.specs.declared.options.Fit.{Fit}
 use Rattle.acgrep.specs.declared.options.Fit.TheVariants.{AnyPart, WholeWord, WholeLine}
 use Rattle.acgrep.specs.declared.options.Flags.{Flags}
+use Rattle.acgrep.specs.declared.format.Piece.{Piece}
+use Rattle.acgrep.specs.declared.print.Form.{Form}
+use Rattle.acgrep.specs.declared.print.Form.TheVariants.{Json, Pieces}
 use Rattle.acgrep.specs.declared.print.Place.{Place}
 use Rattle.acgrep.specs.declared.select.Job.{Job}
 
@@ -127,34 +132,89 @@ is_colored Never terminal = false
 abbrev pub first_place : Flags → Place
 first_place flags = record { lines = (flags.first_line + (2 ^ 64 - 1)) % 2 ^ 64; bytes = flags.first }
 
--- what is written of each of `count` files, but for its name
-pub record IsJob (flags : Flags) (terminal : Bool) (count : ℕ) (job : Job) : Type 0 where
-  pub shown : job.shown ≡ shown_by flags
-  pub invert : job.invert ≡ inverts flags
-  pub fit : job.fit ≡ fit_by flags
-  -- where nothing is said of names they stand before the lines of several files
-  pub with_name : job.style.with_name ≡ unwrap_or flags.with_name (nat_lt 1 count)
-  pub null : job.style.null ≡ flags.null
-  pub number : job.style.number ≡ flags.number
-  pub offset : job.style.offset ≡ flags.offset
-  pub color : job.style.color ≡ is_colored flags.color terminal
+-- how a match is written with its fields: by these pieces, or as an object
+abbrev pub form_said : Form → Option (List Piece)
+form_said Json = None
+form_said (Pieces pieces) = Some pieces.now
+
+abbrev pub form_asked : Said → Option (List Piece)
+form_asked given = if given.flags.formatted then Some given.format else None
+
+-- what is written of each file, but for its name
+pub record IsJob (given : Said) (terminal several : Bool) (job : Job) : Type 0 where
+  pub shown : job.shown ≡ shown_by given.flags
+  pub invert : job.invert ≡ inverts given.flags
+  pub fit : job.fit ≡ fit_by given.flags
+  -- where nothing is said of names they stand before the lines of several
+  pub with_name : job.style.with_name ≡ unwrap_or given.flags.with_name several
+  pub null : job.style.null ≡ given.flags.null
+  pub number : job.style.number ≡ given.flags.number
+  pub offset : job.style.offset ≡ given.flags.offset
+  pub color : job.style.color ≡ is_colored given.flags.color terminal
   -- where the first line of each file stands
-  pub first : job.first ≡ first_place flags
+  pub first : job.first ≡ first_place given.flags
   -- how many lines of each are selected at most
-  pub most : job.most ≡ flags.most
+  pub most : job.most ≡ given.flags.most
   -- whether nothing is told of those that cannot be read
-  pub hushed : job.hushed ≡ flags.no_messages
+  pub hushed : job.hushed ≡ given.flags.no_messages
   -- how many lines are written around selected ones
-  pub context : job.context ≡ context_by flags
+  pub context : job.context ≡ context_by given.flags
   -- with colons behind what stands before a line, and no file before the first
   pub hyphen : job.style.hyphen ≡ false
   pub follows : job.follows ≡ false
+  -- whether a tab stands behind that
+  pub tab : job.style.tab ≡ given.flags.tab
+  -- what stands between lines that do not follow one another
+  pub separator : job.style.separator.now ≡ given.separator
+  -- how a match is written with its fields
+  pub form : form_said job.style.form ≡ form_asked given
+  -- how standard input is called
+  pub label : job.label.now ≡ given.label
 
--- these words were searched for in the files of these names, as the flags say
-pub record SearchesWords (holds : List ℕ → Option (List ℕ)) (terminal : Bool) (flags : Flags) (words names : List (List ℕ)) (left left' held held' : Option (List ℕ)) (status : ℕ) : Type 0 where
+-- these are the files that operands name, with those below folders where that is asked for; some names cannot be looked at or read
+abbrev pub AreReached : Tree → Flags → (names files unread : List (List ℕ)) → Type 0
+AreReached tree flags names files unread = MatchBool flags.recursive (AreBelow tree flags.follow names files unread) ((files ≡ or_input names) × (unread ≡ []))
+
+-- whether the only operand is the only file
+abbrev pub is_alone : (names files : List (List ℕ)) → Bool
+is_alone [] files = false
+is_alone (name ∷ []) [] = false
+is_alone (name ∷ []) (file ∷ []) = bytes_eq name file
+is_alone (name ∷ []) (file ∷ other ∷ files) = false
+is_alone (name ∷ second ∷ names) files = false
+
+-- whether names stand before lines where nothing is said of that: of several operands, and of files below a folder
+abbrev pub are_several : Flags → (names files : List (List ℕ)) → Bool
+are_several flags names files = if flags.recursive then not (is_alone names files) else nat_lt 1 (length names)
+
+-- where a name cannot be looked at or read the status tells of an error, unless a line is selected under `-q`
+abbrev pub status_reached : Flags → List (List ℕ) → ℕ → ℕ
+status_reached flags [] status = status
+status_reached flags (name ∷ names) status = if flags.quiet && (status == 0) then status else 2
+
+-- these patterns were searched for in the files that these operands name, as the call says
+pub record SearchesReached (known : Known) (terminal : Bool) (given : Said) (p : Patterns) (names : List (List ℕ)) (left left' held held' : Option (List ℕ)) (status : ℕ) : Type 0 where
+  pub files : List (List ℕ)
+  pub unread : List (List ℕ)
+  pub reached : AreReached known.tree given.flags names files unread
   pub job : Job
-  pub is_job : IsJob flags terminal (length names) job
-  pub searched : AreSearchedOr (patterns_asked (kind_sought flags) flags.ignore_case words) job holds (or_input names) left left' held held' status
+  pub is_job : IsJob given terminal (are_several given.flags names files) job
+  pub found : ℕ
+  pub searched : AreSearchedOr p job known.holds files left left' held held' found
+  pub told : status ≡ status_reached given.flags unread found
+
+-- of some first ones of the files that these operands name that is written which is asked, or a beginning of it
+pub record BeginsReached (known : Known) (terminal : Bool) (given : Said) (p : Patterns) (names : List (List ℕ)) (left held held' : Option (List ℕ)) : Type 0 where
+  pub files : List (List ℕ)
+  pub unread : List (List ℕ)
+  pub reached : AreReached known.tree given.flags names files unread
+  pub job : Job
+  pub is_job : IsJob given terminal (are_several given.flags names files) job
+  pub begun : AreFilesBegun p job false known.holds files left held held'
+
+-- or nothing is
+abbrev pub BeginsOrKeeps : Known → Bool → Said → Patterns → List (List ℕ) → (left held held' : Option (List ℕ)) → Type 0
+BeginsOrKeeps known terminal given p names left held held' = Keeps held held' ⊎ BeginsReached known terminal given p names left held held'
 
 -- no line is selected, whatever it holds: nothing was read and nothing written, and the status tells it
 pub record SelectsNoLine (p : Patterns) (fit : Fit) (invert : Bool) (left left' held held' : Option (List ℕ)) (status : ℕ) : Type 0 where
@@ -164,47 +224,45 @@ pub record SelectsNoLine (p : Patterns) (fit : Fit) (invert : Bool) (left left' 
   pub none : status ≡ 1
 
 -- these words were searched for so, or no line is selected by them
-abbrev pub AreSought : (List ℕ → Option (List ℕ)) → Bool → Flags → (words names : List (List ℕ)) → (left left' held held' : Option (List ℕ)) → ℕ → Type 0
-AreSought holds terminal flags words names left left' held held' status =
-    MatchBool (knows_none flags words) (SelectsNoLine (patterns_asked (kind_sought flags) flags.ignore_case words) (fit_by flags) (inverts flags) left left' held held' status)
-    (SearchesWords holds terminal flags words names left left' held held' status)
+abbrev pub AreSought : Known → Bool → Said → (words names : List (List ℕ)) → (left left' held held' : Option (List ℕ)) → ℕ → Type 0
+AreSought known terminal given words names left left' held held' status =
+    MatchBool (knows_none given.flags words) (SelectsNoLine (patterns_asked (kind_sought given.flags) given.flags.ignore_case words) (fit_by given.flags) (inverts given.flags) left left' held held' status)
+    (SearchesReached known terminal given (patterns_asked (kind_sought given.flags) given.flags.ignore_case words) names left left' held held' status)
 
 -- the patterns of these sources were read, and then searched for in the files of these names
-pub record SearchesFor (holds : List ℕ → Option (List ℕ)) (terminal : Bool) (flags : Flags) (sources : List Origin) (names : List (List ℕ)) (left left' held held' : Option (List ℕ)) (status : ℕ) : Type 0 where
+pub record SearchesFor (known : Known) (terminal : Bool) (given : Said) (sources : List Origin) (names : List (List ℕ)) (left left' held held' : Option (List ℕ)) (status : ℕ) : Type 0 where
   pub words : List (List ℕ)
   pub between : Option (List ℕ)
-  pub read : AreWords holds sources left between words
-  pub searched : AreSought holds terminal flags (words_sought flags words) names between left' held held' status
+  pub read : AreWords known.holds sources left between words
+  pub searched : AreSought known terminal given (words_sought given.flags words) names between left' held held' status
 
 -- what was said was searched for
-abbrev pub SearchesSaid : (List ℕ → Option (List ℕ)) → Bool → Said → (left left' held held' : Option (List ℕ)) → ℕ → Type 0
-SearchesSaid holds terminal given left left' held held' status =
-    SearchesFor holds terminal given.flags (sources_by given.sources given.operands) (names_by given.sources given.operands) left left' held held' status
+abbrev pub SearchesSaid : Known → Bool → Said → (left left' held held' : Option (List ℕ)) → ℕ → Type 0
+SearchesSaid known terminal given left left' held held' status =
+    SearchesFor known terminal given (sources_by given.sources given.operands) (names_by given.sources given.operands) left left' held held' status
 
 -- the status of a search, by whether finding nothing is no failure
 abbrev pub status_told : Bool → ℕ → ℕ
 status_told no_match_ok status = if no_match_ok && (status == 1) then 0 else status
 
 -- what was said was done; `left` is what the input has left, and `held` what the output holds
-abbrev pub Searches : (List ℕ → Option (List ℕ)) → Bool → Said → (left left' held held' : Option (List ℕ)) → ℕ → Type 0
-Searches holds terminal given left left' held held' status =
-    (found : ℕ) × SearchesSaid holds terminal given left left' held held' found × (status ≡ status_told given.flags.no_match_ok found)
+abbrev pub Searches : Known → Bool → Said → (left left' held held' : Option (List ℕ)) → ℕ → Type 0
+Searches known terminal given left left' held held' status =
+    (found : ℕ) × SearchesSaid known terminal given left left' held held' found × (status ≡ status_told given.flags.no_match_ok found)
 
--- the patterns of these sources were read, and of some first ones of the files of these names that is written which is asked, or a
--- beginning of it
-pub record BeginsWords (holds : List ℕ → Option (List ℕ)) (terminal : Bool) (flags : Flags) (sources : List Origin) (names : List (List ℕ)) (left held held' : Option (List ℕ)) : Type 0 where
+-- the patterns of these sources were read, and of some first ones of the files that these operands name that is written which is
+-- asked, or a beginning of it
+pub record BeginsWords (known : Known) (terminal : Bool) (given : Said) (sources : List Origin) (names : List (List ℕ)) (left held held' : Option (List ℕ)) : Type 0 where
   pub words : List (List ℕ)
   pub between : Option (List ℕ)
-  pub read : AreWords holds sources left between words
-  pub job : Job
-  pub is_job : IsJob flags terminal (length names) job
-  pub begun : AreFilesBegun (patterns_asked (kind_sought flags) flags.ignore_case (words_sought flags words)) job false holds (or_input names) between held held'
+  pub read : AreWords known.holds sources left between words
+  pub begun : BeginsReached known terminal given (patterns_asked (kind_sought given.flags) given.flags.ignore_case (words_sought given.flags words)) names between held held'
 
 -- or nothing is
-abbrev pub BeginsFor : (List ℕ → Option (List ℕ)) → Bool → Flags → List Origin → List (List ℕ) → (left held held' : Option (List ℕ)) → Type 0
-BeginsFor holds terminal flags sources names left held held' = Keeps held held' ⊎ BeginsWords holds terminal flags sources names left held held'
+abbrev pub BeginsFor : Known → Bool → Said → List Origin → List (List ℕ) → (left held held' : Option (List ℕ)) → Type 0
+BeginsFor known terminal given sources names left held held' = Keeps held held' ⊎ BeginsWords known terminal given sources names left held held'
 
 -- whatever comes of what was said: what is written is a beginning of what is asked
-abbrev pub BeginsSearch : (List ℕ → Option (List ℕ)) → Bool → Said → (left held held' : Option (List ℕ)) → Type 0
-BeginsSearch holds terminal given left held held' =
-    BeginsFor holds terminal given.flags (sources_by given.sources given.operands) (names_by given.sources given.operands) left held held'
+abbrev pub BeginsSearch : Known → Bool → Said → (left held held' : Option (List ℕ)) → Type 0
+BeginsSearch known terminal given left held held' =
+    BeginsFor known terminal given (sources_by given.sources given.operands) (names_by given.sources given.operands) left held held'

@@ -12,15 +12,16 @@ use Rattle.programs.specs.declared.errors.Errors.{Errors}
 use Rattle.programs.specs.declared.reason.Reason.{Reason}
 use Rattle.acgrep.specs.Arguments.{Origin, Said, shown_by}
 use Rattle.acgrep.specs.Files.{shown_name}
-use Rattle.acgrep.specs.Runs.{names_by, origins_of, sources_by}
+use Rattle.acgrep.specs.Folders.{Tree}
+use Rattle.acgrep.specs.Formats.{unknown_in}
+use Rattle.acgrep.specs.Runs.{AreReached, names_by, origins_of, sources_by}
 use Rattle.acgrep.specs.declared.arguments.Source.{Source}
 use Rattle.acgrep.specs.declared.arguments.Wrong.{Wrong}
-use Rattle.acgrep.specs.declared.arguments.Wrong.TheVariants.{NotText, NoPattern, UnknownLetter, UnknownName, Ambiguous, NoArgument, TakesNone, UnknownKind, UnknownColor, NoNumber}
+use Rattle.acgrep.specs.declared.arguments.Wrong.TheVariants.{NotText, NoPattern, UnknownLetter, UnknownName, Ambiguous, NoArgument, TakesNone, UnknownKind, UnknownColor, UnknownField, NoNumber}
 use Rattle.acgrep.specs.declared.files.Outcome.{Outcome}
 use Rattle.acgrep.specs.declared.files.Outcome.TheVariants.{Searched, Unread, Stopped}
 use Rattle.acgrep.specs.declared.long.Valued.{Valued}
-use Rattle.acgrep.specs.declared.long.Valued.TheVariants.{Regexp, PatternFile, Kind, Offset, FirstLine, MaxCount, After, Before, Around}
-use Rattle.acgrep.specs.declared.options.Flags.{Flags}
+use Rattle.acgrep.specs.declared.long.Valued.TheVariants.{Regexp, PatternFile, Kind, Offset, FirstLine, MaxCount, After, Before, Around, Separator, Label, Format}
 use Rattle.acgrep.specs.declared.options.Shown.{Shown}
 use Rattle.acgrep.specs.declared.options.Shown.TheVariants.{Nothing}
 
@@ -28,10 +29,14 @@ use Rattle.acgrep.specs.declared.options.Shown.TheVariants.{Nothing}
 abbrev pub others_told : List (List ℕ)
 others_told = codes "write error" ∷ codes "search" ∷ codes "patterns" ∷ codes "pattern" ∷ []
 
--- a call of the system failed, or the patterns or the search were refused
+-- what is told of a folder that stands in itself
+abbrev pub loop_text : List ℕ
+loop_text = codes "warning: recursive directory loop"
+
+-- a call of the system failed, the patterns or the search were refused, or a folder stands in itself
 abbrev pub IsToldCause : List ℕ → Type 0
 IsToldCause cause = ((reason : Reason) × (cause ≡ reason_text reason))
-    ⊎ (((error : BuildError) × (cause ≡ build_error_text error)) ⊎ ((error : MatchErrorKind) × (cause ≡ match_error_text error)))
+    ⊎ (((error : BuildError) × (cause ≡ build_error_text error)) ⊎ (((error : MatchErrorKind) × (cause ≡ match_error_text error)) ⊎ (cause ≡ loop_text)))
 
 -- that, or one of these files
 abbrev pub MayName : List (List ℕ) → List ℕ → Type 0
@@ -73,6 +78,9 @@ valued_name MaxCount = codes "-m"
 valued_name After = codes "-A"
 valued_name Before = codes "-B"
 valued_name Around = codes "-C"
+valued_name Separator = codes "--group-separator"
+valued_name Label = codes "--label"
+valued_name Format = codes "--format"
 
 -- an option of this name has no argument, or one that is no number
 abbrev pub unargued_parts : List ℕ → List (List ℕ)
@@ -102,6 +110,13 @@ kind_parts kind = codes "acgrep: option '--kind' takes first, longest or standar
 abbrev pub color_parts : List ℕ → List (List ℕ)
 color_parts time = codes "acgrep: option '--color' takes auto, always or never, not '" ∷ time ∷ codes "'\n" ∷ usage_text ∷ []
 
+-- there is no such field, or this format has this where a field stands
+abbrev pub field_parts : List ℕ → List (List ℕ)
+field_parts field = codes "acgrep: option '--format' has no field '" ∷ field ∷ codes "'\n" ∷ usage_text ∷ []
+
+abbrev pub format_parts : List ℕ → List (List ℕ)
+format_parts format = field_parts (unknown_in format)
+
 -- why arguments are wrong, and how to get help
 abbrev pub wrong_parts : Wrong → List (List ℕ)
 wrong_parts NotText = codes "acgrep: an argument is not UTF-8\n" ∷ []
@@ -113,6 +128,7 @@ wrong_parts (NoArgument valued) = unargued_parts (valued_name valued)
 wrong_parts (TakesNone name) = taken_parts name.now
 wrong_parts (UnknownKind name) = kind_parts name.now
 wrong_parts (UnknownColor name) = color_parts name.now
+wrong_parts (UnknownField field) = field_parts field.now
 wrong_parts (NoNumber valued number) = number_parts (valued_name valued) number.now
 
 -- that is told of wrong arguments
@@ -123,24 +139,32 @@ IsUsage line = (wrong : Wrong) × (line ≡ concat (wrong_parts wrong))
 abbrev pub source_names : List Origin → List (List ℕ)
 source_names sources = map (λ source. source.bytes) sources
 
-abbrev pub shown_names : List (List ℕ) → List (List ℕ)
-shown_names names = map (λ name. shown_name name) names
+abbrev pub shown_names : List ℕ → List (List ℕ) → List (List ℕ)
+shown_names label names = map (λ name. shown_name label name) names
 
 -- none of those that are searched where nothing is told of files that cannot be read
-abbrev pub files_told : Bool → List (List ℕ) → List (List ℕ)
-files_told hushed names = if hushed then [] else shown_names names
+abbrev pub files_told : Bool → List ℕ → List (List ℕ) → List (List ℕ)
+files_told hushed label names = if hushed then [] else shown_names label names
 
-abbrev pub names_told : Bool → List Origin → List (List ℕ) → List (List ℕ)
-names_told hushed sources names = source_names sources ++ files_told hushed (or_input names)
+abbrev pub names_told : Bool → List ℕ → List Origin → List (List ℕ) → List (List ℕ)
+names_told hushed label sources names = source_names sources ++ files_told hushed label (or_input names)
 
 abbrev pub names_said : Option Said → List (List ℕ)
 names_said None = []
-names_said (Some said) = names_told said.flags.no_messages (sources_by said.sources said.operands) (names_by said.sources said.operands)
+names_said (Some said) = names_told said.flags.no_messages said.label (sources_by said.sources said.operands) (names_by said.sources said.operands)
 
 -- whether nothing is told of files that cannot be read
 abbrev pub is_hushed : Option Said → Bool
 is_hushed None = false
 is_hushed (Some said) = said.flags.no_messages
+
+-- a line of a recursive call may name a file that an operand names, or what cannot be looked at or read
+pub record NamesReached (tree : Tree) (given : Said) (names : List (List ℕ)) (line : List ℕ) : Type 0 where
+  pub recursive : given.flags.recursive ≡ true
+  pub files : List (List ℕ)
+  pub unread : List (List ℕ)
+  pub reached : AreReached tree given.flags names files unread
+  pub message : IsMessage (if given.flags.no_messages then [] else (shown_names given.label files ++ unread)) line
 
 -- a file that cannot be read, or nothing more can be searched
 abbrev pub stopped_if : Bool → Outcome
@@ -150,6 +174,15 @@ stopped_if true = Stopped
 -- a line that a call may write to standard error whose arguments name these files
 abbrev pub MayTell : List (List ℕ) → List ℕ → Type 0
 MayTell names line = IsMessage names line ⊎ IsUsage line
+
+-- or, where a search is recursive, such a line
+abbrev pub MaySay : Tree → Said → List Origin → List (List ℕ) → List ℕ → Type 0
+MaySay tree given sources names line =
+    MayTell (names_told given.flags.no_messages given.label sources names) line ⊎ NamesReached tree given names line
+
+abbrev pub MaySaid : Tree → Option Said → List ℕ → Type 0
+MaySaid tree None line = MayTell [] line
+MaySaid tree (Some said) line = MaySay tree said (sources_by said.sources said.operands) (names_by said.sources said.operands) line
 
 -- where `hushed` is so nothing is told of files that cannot be read
 module _ {E : Type 0} (K : SinkGhosts E) (IsLine : List ℕ → Type 0) (hushed : Bool) where
@@ -192,18 +225,23 @@ module _ {E : Type 0} (K : SinkGhosts E) where
   TellsOfEnd hushed outcome old new = (names : List (List ℕ)) → TellsOutcome K (IsMessage names) hushed outcome old new
 
   -- what is told of files of these names by the status
-  abbrev pub TellsOfFiles : Bool → List (List ℕ) → Shown → ℕ → Errors E → Errors E → Type 0
-  TellsOfFiles hushed names shown status old new = TellsStatus K (IsMessage (files_told hushed names)) hushed shown status old new
+  abbrev pub TellsOfFiles : Bool → List ℕ → List (List ℕ) → Shown → ℕ → Errors E → Errors E → Type 0
+  TellsOfFiles hushed label names shown status old new = TellsStatus K (IsMessage (files_told hushed label names)) hushed shown status old new
 
   -- and of a text of the program
   abbrev pub TellsOfText : ℕ → Errors E → Errors E → Type 0
   TellsOfText status old new = (hushed : Bool) → (shown : Shown) → (names : List (List ℕ)) → TellsStatus K (MayTell names) hushed shown status old new
 
   -- and of a search for the patterns of these sources
-  abbrev pub TellsOfSearch : Flags → List Origin → List (List ℕ) → ℕ → Errors E → Errors E → Type 0
-  TellsOfSearch flags sources names status old new =
-      TellsStatus K (MayTell (names_told flags.no_messages sources names)) flags.no_messages (shown_by flags) status old new
+  abbrev pub TellsOfSearch : Tree → Said → List Origin → List (List ℕ) → ℕ → Errors E → Errors E → Type 0
+  TellsOfSearch tree given sources names status old new =
+      TellsStatus K (MaySay tree given sources names) given.flags.no_messages (shown_by given.flags) status old new
+
+  -- and of what a search finds for the files that operands name
+  abbrev pub TellsOfReached : Tree → Said → List (List ℕ) → ℕ → Errors E → Errors E → Type 0
+  TellsOfReached tree given names status old new =
+      TellsStatus K (MaySay tree given [] names) given.flags.no_messages (shown_by given.flags) status old new
 
   -- and of a call whose arguments say this
-  abbrev pub TellsOfCall : Said → ℕ → Errors E → Errors E → Type 0
-  TellsOfCall given status old new = TellsStatus K (MayTell (names_said (Some given))) given.flags.no_messages (shown_by given.flags) status old new
+  abbrev pub TellsOfCall : Tree → Said → ℕ → Errors E → Errors E → Type 0
+  TellsOfCall tree given status old new = TellsStatus K (MaySaid tree (Some given)) given.flags.no_messages (shown_by given.flags) status old new

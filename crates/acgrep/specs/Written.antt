@@ -80,10 +80,10 @@ abbrev pub MatchesOf : Patterns → Bool → Style → Place → List ℕ → Li
 MatchesOf p alone style place line bytes =
     (ms : List Occurrence) × AreShownOf p alone line ms × (bytes ≡ matches_by style place line ms)
 
--- the same as objects
+-- the same as objects, or by a format
 abbrev pub ObjectsOf : Patterns → Bool → Style → Place → List ℕ → List ℕ → Type 0
 ObjectsOf p alone style place line bytes =
-    (ms : List Occurrence) × AreShownOf p alone line ms × (bytes ≡ objects_by style place ms)
+    (ms : List Occurrence) × AreShownOf p alone line ms × (bytes ≡ objects_by style place line ms)
 
 -- the line with its matches in colour
 abbrev pub ColoredOf : Patterns → Bool → Style → Place → List ℕ → List ℕ → Type 0

@@ -3,13 +3,14 @@
 //! Options may be joined, take their argument joined or as the next one, and stand behind files. A long name may be a beginning that
 //! no other option's name has. Two hyphens end the options.
 
-ghost use Rattle.std.specs.Prelude.{◌≡◌, ◌≤◌, ◌<◌, Some, IfOk, IfErr, length, string_bytes};
+ghost use Rattle.std.specs.Prelude.{◌≡◌, ◌≤◌, ◌<◌, Some, IfOk, IfErr, OnOk, length, string_bytes};
 ghost use Rattle.programs.specs.Arguments.{kind_by, texts};
-ghost use Rattle.acgrep.specs.Arguments.{AreDigits, FailsBy, ReadsBy, SaysMore, argument_by, color_by, fresh_by, joined_by, letters_by, long_by, named_by, number_by, numbered, numbered_by, plain_by, said, said_by, source_option, so_far, taken_by, turned_by, value_by, with_operand, with_source};
+ghost use Rattle.acgrep.specs.Arguments.{AreDigits, FailsBy, ReadsBy, SaysMore, argument_by, color_by, fresh_by, joined_by, letters_by, long_by, named_by, nothing_said, number_by, numbered, numbered_by, plain_by, said, said_by, source_option, so_far, taken_by, turned_by, value_by, with_format, with_operand, with_separator, with_source};
 ghost use Rattle.acgrep.specs.Long.{option_by};
 ghost use Rattle.acgrep.specs.Mistakes.{IsFirstMistake, TellsBy, mistake_at, wrong_fresh, wrong_joined, wrong_letters, wrong_long, wrong_name, wrong_numbered, wrong_plain, wrong_value};
-ghost use Rattle.acgrep.specs.Told.{color_parts, kind_parts, number_parts, valued_name};
+ghost use Rattle.acgrep.specs.Told.{color_parts, format_parts, kind_parts, number_parts, valued_name};
 
+use crate::format::{Piece, read_format};
 use crate::long::{Long, Valued, option_of};
 use crate::options::{Color, Flags, switch_of};
 use chromesquid::MatchKind;
@@ -47,6 +48,8 @@ pub enum Wrong<'a> {
     UnknownKind(&'a [u8]),
     /// The argument of `--color` is none of its three.
     UnknownColor(&'a [u8]),
+    /// The argument of `--format` has this where a field stands.
+    UnknownField(&'a [u8]),
     /// The argument of this option is no number below 2^64.
     NoNumber(Valued, &'a [u8]),
 }
@@ -60,6 +63,28 @@ pub struct Given<'a> {
     pub sources: Vec<Source<'a>>,
     /// What is no option: the files, behind the pattern where no option gives one.
     pub operands: Vec<&'a [u8]>,
+    /// What stands between lines that do not follow one another: the last `--group-separator`.
+    pub separator: &'a [u8],
+    /// How standard input is called in what is written: the last `--label`.
+    pub label: &'a [u8],
+    /// The pieces of the last `--format`.
+    pub format: Vec<Piece>,
+}
+
+impl<'a> Given<'a> {
+    /// What no argument says.
+    fn new(alloc: Global) -> Given<'a>
+        ensures none { said result ≡ nothing_said }
+    {
+        Given {
+            flags: Flags::new(),
+            sources: Vec::new(alloc),
+            operands: Vec::new(alloc),
+            separator: b"--",
+            label: b"(standard input)",
+            format: Vec::new(alloc),
+        }
+    }
 }
 
 /// Why there is no `Given`.
@@ -99,11 +124,7 @@ pub fn parse<'a>(alloc: Global, arguments: &'a [String]) -> Result<Given<'a>, Re
     // The first mistake is told.
     ensures wrong { IfErr result (IsFirstMistake (texts arguments.now)) }
 {
-    let mut given = Given {
-        flags: Flags::new(),
-        sources: Vec::new(alloc),
-        operands: Vec::new(alloc),
-    };
+    let mut given = Given::new(alloc);
     let mut awaited = Awaited::Fresh;
     let mut left = arguments;
     while let Some((argument, behind)) = left.split_first() {
@@ -234,12 +255,34 @@ fn read_value<'a>(
         Valued::Regexp => add_source(given, false, argument.as_bytes())?,
         Valued::PatternFile => add_source(given, true, argument.as_bytes())?,
         Valued::Kind => given.flags.kind = read_kind(argument)?,
+        Valued::Separator => set_separator(given, argument.as_bytes()),
+        Valued::Label => given.label = argument.as_bytes(),
+        Valued::Format => set_format(given, argument.as_bytes())?,
         _ => {
             let number = read_number(valued, argument.as_bytes())?;
             given.flags = given.flags.numbered(valued, number);
         }
     }
     Ok(Awaited::Fresh)
+}
+
+/// Takes an argument for what stands between lines that do not follow one another.
+fn set_separator<'a>(given: &mut Given<'a>, argument: &'a [u8])
+    ensures set { said given.new ≡ with_separator argument.now (said given.old) }
+{
+    given.flags.joined = false;
+    given.separator = argument;
+}
+
+/// Takes an argument for the format of matches.
+fn set_format<'a>(given: &mut Given<'a>, argument: &'a [u8]) -> Result<(), Refusal<'a>>
+    ensures set { OnOk result (with_format argument.now (said given.old) ≡ Some (said given.new)) }
+    ensures refused { FailsBy (with_format argument.now (said given.old)) result }
+    ensures wrong { TellsBy (format_parts argument.now) result }
+{
+    read_format(argument, &mut given.format)?;
+    given.flags.formatted = true;
+    Ok(())
 }
 
 /// The match kind that an argument names.

@@ -13,7 +13,7 @@ ghost use Rattle.acgrep.specs.Selected.{ForLines};
 
 use crate::buffer::Buffer;
 use crate::failure::Stop;
-use crate::keys::{INPUT, INPUT_NAME, is_input, open_named};
+use crate::keys::{INPUT, is_input, open_named};
 use crate::open::Open;
 use crate::options::Shown;
 use crate::print::{Style, put_count, put_name};
@@ -143,7 +143,7 @@ pub fn search_files<A: Automaton, F: Open, R: Read, W: Sink, E: Sink>(
         (R.remaining input.old) (W.taken output.old) (W.taken output.new)) }
 
     // What is told tells why a file was not searched; where the status tells of no error, nothing is told.
-    ensures told { TellsOfFiles E.Sink job.now.hushed (files_named files.now)
+    ensures told { TellsOfFiles E.Sink job.now.hushed job.now.label.now (files_named files.now)
         job.now.shown result errors.old errors.new }
 {
     if files.names.is_empty() {
@@ -190,7 +190,7 @@ fn search_names<A: Automaton, F: Open, R: Read, W: Sink, E: Sink>(
         (W.taken output.old) (W.taken output.new) result) }
     ensures begun { BeginsFilesBy A.Automaton F.Open R.Read W.Sink automaton.now job.now
         files.now names.now input.old output.old output.new }
-    ensures told { TellsOfFiles E.Sink job.now.hushed (name_bytes names.now)
+    ensures told { TellsOfFiles E.Sink job.now.hushed job.now.label.now (name_bytes names.now)
         job.now.shown result errors.old errors.new }
 {
     let Ok(mut buffer) = Buffer::new(alloc) else {
@@ -234,7 +234,7 @@ fn search_each<A: Automaton, F: Open, R: Read, W: Sink, E: Sink>(
         (W.taken output.old) (W.taken output.new) result) }
     ensures begun { BeginsFilesBy A.Automaton F.Open R.Read W.Sink automaton.now job.now
         files.now names.now input.old output.old output.new }
-    ensures told { TellsIf E.Sink (IsMessage (files_told job.now.hushed (name_bytes names.now)))
+    ensures told { TellsIf E.Sink (IsMessage (files_told job.now.hushed job.now.label.now (name_bytes names.now)))
         job.now.hushed result.failed errors.old errors.new }
 {
     let mut seen = Seen::new();
@@ -291,11 +291,11 @@ fn search_name<A: Automaton, F: Open, R: Read, W: Sink, E: Sink>(
         IfBroken result (BeginsName p job.now follows (F.holds files.now) name.now
         (R.remaining input.old) (W.taken output.old) (W.taken output.new))) }
     ensures leaves { LeavesInput name.now (R.remaining input.old) (R.remaining input.new) }
-    ensures told { TellsOfOutcome E.Sink job.now.hushed (shown_name name.now) result
+    ensures told { TellsOfOutcome E.Sink job.now.hushed (shown_name job.now.label.now name.now) result
         errors.old errors.new }
 {
     if is_input(name) {
-        let named = job_for(job, INPUT_NAME, follows);
+        let named = job_for(job, job.label, follows);
         return search_one(
             automaton, &named, buffer, input, state, page, output, errors,
         );
@@ -492,7 +492,7 @@ fn tell_total<E: Sink>(stop: &Stop, errors: &mut Errors<'_, E>)
 }
 
 /// What is written of the file of this name.
-fn job_for<'a>(job: &Job<'_>, name: &'a [u8], follows: bool) -> Job<'a>
+fn job_for<'a>(job: &Job<'a>, name: &'a [u8], follows: bool) -> Job<'a>
     ensures named { IsNamed job.now name.now follows result }
 {
     Job {
@@ -507,7 +507,11 @@ fn job_for<'a>(job: &Job<'_>, name: &'a [u8], follows: bool) -> Job<'a>
             offset: job.style.offset,
             color: job.style.color,
             hyphen: job.style.hyphen,
+            tab: job.style.tab,
+            separator: job.style.separator,
+            form: job.style.form,
         },
+        label: job.label,
         first: job.first,
         most: job.most,
         hushed: job.hushed,

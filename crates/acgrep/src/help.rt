@@ -35,19 +35,35 @@ Output:
   -q, --quiet, --silent write nothing, and stop at the first selected line
   -o, --only-matching   write each match that is not empty on its own line
   --json                write each such match as a JSON object
+  --format FORMAT       write each such match on a line of its own, by FORMAT:
+                        {path}, {line}, {start}, {end}, {pattern} and {text}
+                        stand for what they name, {{ and }} for braces
   -n, --line-number     write a line's number before it
   -b, --byte-offset     write where it starts in its file, in bytes
   --offset N            the first byte of each file stands at N, not at 0
   --first-line N        the first line of each file has number N, not 1
   -H, --with-filename   write the file's name before each line
   -h, --no-filename     do not write it
+  --label LABEL         call standard input LABEL
   -Z, --null            write a zero byte behind a file's name
+  -T, --initial-tab     write a tab between a line and what stands before it
   -A, --after-context N write N lines behind each selected one too
   -B, --before-context N
                         write N lines before each selected one too
   -C, --context N, -N   both
-  --no-group-separator  no line '--' between lines that do not follow one another
+  --group-separator SEPARATOR
+                        the line between lines that do not follow one another,
+                        not '--'
+  --no-group-separator  no such line
   --color[=WHEN]        color the output: auto, always or never
+
+Folders:
+  -r, --recursive       search the files below each FILE that is a folder, in the
+                        order of their names' bytes; the working folder where no
+                        FILE is given. Links below a folder are not followed, and
+                        devices there are not read
+  -R, --dereference-recursive
+                        the same, but they are
 
 Others:
   -s, --no-messages     do not tell of files that cannot be read

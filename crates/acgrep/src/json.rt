@@ -1,17 +1,21 @@
-//! A match as a JSON object.
+//! A match with its fields: as a JSON object, or by a format.
 
 ghost use Rattle.std.specs.Iterator.{IsFinite};
 ghost use Rattle.std.specs.Prelude.{◌≡◌, ◌<◌, ◌++◌, decimal, true};
 ghost use Rattle.aho_core.specs.Patterns.{Patterns};
+ghost use Rattle.std.specs.Str.{is_utf8};
 ghost use Rattle.acgrep.specs.Printed.{Puts, PutsEach};
-ghost use Rattle.acgrep.specs.Objects.{PutsObjects, json_escaped, escaped_byte, hex_of, object_by, objects_by};
+ghost use Rattle.acgrep.specs.Objects.{PutsObjects, bytes_named, escaped_byte, fields_told, formatted_by, hex_of, json_by, json_escaped, object_by, objects_by, stands_for};
 
 use crate::alone::{behind_alone, next_alone};
+use crate::base64::put_base64;
 use crate::failure::Stop;
-use crate::print::{DIGITS, Place, Style, put_digits};
+use crate::fields::{Fields, fields_of, put_decimal};
+use crate::format::Piece;
+use crate::print::{Form, Place, Style};
 use chromesquid::{Automaton, Input, Match};
-use std::io;
 use std::io::Write;
+use std::{io, str};
 
 /// Writes each match of a line that is not empty, or each of those that stand alone, as an object, and a newline behind it.
 pub fn put_objects<A: Automaton, W: Write>(
@@ -30,7 +34,7 @@ pub fn put_objects<A: Automaton, W: Write>(
         return put_alone(automaton, output, style, place, line);
     }
     let matches = automaton.try_find_iter(Input::new(line))?;
-    put_each(output, style, place, matches)?;
+    put_each(output, style, place, line, matches)?;
     Ok(())
 }
 
@@ -48,7 +52,7 @@ fn put_alone<A: Automaton, W: Write>(
 {
     let mut at = 0;
     while let Some(found) = next_alone(automaton, line, at)? {
-        put_object(output, style, place, &found)?;
+        put_object(output, style, place, line, &found)?;
         at = behind_alone(&found);
     }
     Ok(())
@@ -59,45 +63,106 @@ fn put_each<W: Write, I: Iterator<Item = Match> + Drop>(
     output: &mut W,
     style: &Style<'_>,
     place: Place,
+    line: &[u8],
     matches: I,
 ) -> io::Result<()>
     requires ready { I.can_next matches }
     requires finite { IsFinite (I.remaining matches) }
     ensures written { PutsEach W.Write output.old output.new
-        I.next_gives matches result (objects_by style.now place) }
+        I.next_gives matches result (objects_by style.now place line.now) }
 {
     for found in matches {
-        put_object(output, style, place, &found)?;
+        put_object(output, style, place, line, &found)?;
     }
     Ok(())
 }
 
-/// Writes a match, if it is not empty: the file's name, the line's number, the range in the file in bytes, and the
-/// pattern's number from 0 on.
+/// Writes a match, if it is not empty.
 fn put_object<W: Write>(
     output: &mut W,
     style: &Style<'_>,
     place: Place,
+    line: &[u8],
     found: &Match,
 ) -> io::Result<()>
     ensures written { Puts W.Write output.old output.new result
-        (object_by style.now place found.now) }
+        (object_by style.now place line.now found.now) }
 {
-    let start = found.start();
-    let end = found.end();
-    if start == end {
+    if found.start() == found.end() {
         return Ok(());
     }
-    let first = place.bytes.wrapping_add(start as u64);
-    let behind = place.bytes.wrapping_add(end as u64);
+    let fields = fields_of(style, place, line, found);
+    match style.form {
+        Form::Json => put_json(output, &fields),
+        Form::Pieces(pieces) => put_formatted(output, pieces, &fields),
+    }
+}
+
+/// Writes a match as an object: the file's name, the line's number, the range in the file in bytes, the pattern's number from 0
+/// on, and the bytes.
+fn put_json<W: Write>(output: &mut W, fields: &Fields<'_>) -> io::Result<()>
+    ensures written { Puts W.Write output.old output.new result
+        (json_by (fields_told fields.now)) }
+{
     output.write_all(b"{\"file\":\"")?;
-    put_escaped(output, style.name)?;
-    put_field(output, b"\",\"line\":", place.lines.wrapping_add(1))?;
-    put_field(output, b",\"start\":", first)?;
-    put_field(output, b",\"end\":", behind)?;
-    put_field(output, b",\"pattern\":", found.pattern().as_usize() as u64)?;
-    output.write_all(b"}\n")?;
+    put_escaped(output, fields.path)?;
+    put_field(output, b"\",\"line\":", fields.line)?;
+    put_field(output, b",\"start\":", fields.start)?;
+    put_field(output, b",\"end\":", fields.end)?;
+    put_field(output, b",\"pattern\":", fields.pattern)?;
+    put_bytes(output, fields.text)?;
+    output.write_all(b"\"}\n")?;
     Ok(())
+}
+
+/// Writes the bytes of a match: as a string where they are UTF-8, and else in base64.
+fn put_bytes<W: Write>(output: &mut W, bytes: &[u8]) -> io::Result<()>
+    ensures written { Puts W.Write output.old output.new result
+        (bytes_named bytes.now) }
+{
+    if is_text(bytes) {
+        output.write_all(b",\"text\":\"")?;
+        return put_escaped(output, bytes);
+    }
+    output.write_all(b",\"bytes\":\"")?;
+    put_base64(output, bytes)
+}
+
+/// Whether bytes are UTF-8.
+fn is_text(bytes: &[u8]) -> bool
+    ensures text { result ≡ is_utf8 bytes.now }
+{
+    match str::from_utf8(bytes) {
+        Ok(_) => true,
+        Err(_) => false,
+    }
+}
+
+/// Writes a match by a format, on a line of its own.
+fn put_formatted<W: Write>(output: &mut W, pieces: &[Piece], fields: &Fields<'_>) -> io::Result<()>
+    ensures written { Puts W.Write output.old output.new result
+        (formatted_by pieces.now (fields_told fields.now)) }
+{
+    for piece in pieces {
+        put_piece(output, *piece, fields)?;
+    }
+    output.write_all(b"\n")
+}
+
+/// Writes what a piece of a format stands for.
+fn put_piece<W: Write>(output: &mut W, piece: Piece, fields: &Fields<'_>) -> io::Result<()>
+    ensures written { Puts W.Write output.old output.new result
+        (stands_for (fields_told fields.now) piece) }
+{
+    match piece {
+        Piece::Byte(byte) => output.write_all(&[byte]),
+        Piece::Path => output.write_all(fields.path),
+        Piece::LineNumber => put_decimal(output, fields.line),
+        Piece::Start => put_decimal(output, fields.start),
+        Piece::End => put_decimal(output, fields.end),
+        Piece::PatternNumber => put_decimal(output, fields.pattern),
+        Piece::Found => output.write_all(fields.text),
+    }
 }
 
 /// Writes what stands before a number, and the number.
@@ -105,11 +170,8 @@ fn put_field<W: Write>(output: &mut W, before: &[u8], number: u64) -> io::Result
     ensures written { Puts W.Write output.old output.new result
         (before.now ++ decimal number) }
 {
-    let mut digits = [0; DIGITS];
-    let start = put_digits(number, &mut digits);
     output.write_all(before)?;
-    output.write_all(&digits[start..])?;
-    Ok(())
+    put_decimal(output, number)
 }
 
 /// Writes bytes as they stand in a JSON string.

@@ -25,9 +25,6 @@ use std::{io, str};
 /// The name of standard input among the arguments.
 pub const INPUT: &[u8] = b"-";
 
-/// The name of standard input in what is written.
-pub const INPUT_NAME: &[u8] = b"(standard input)";
-
 /// The patterns of all sources, or none where one cannot be read, which is told.
 pub fn read_keys<F: Open, R: Read, E: Sink>(
     alloc: Global,

@@ -29,6 +29,12 @@ pub enum Valued {
     Before,
     /// `-C`
     Around,
+    /// `--group-separator`
+    Separator,
+    /// `--label`
+    Label,
+    /// `--format`
+    Format,
 }
 
 /// An option by its long name.
@@ -154,6 +160,9 @@ fn or_output(found: Found, name: &[u8]) -> Found
         .or(name, b"silent", Long::Plain(Switch::Quiet))
         .or(name, b"only-matching", Long::Plain(Switch::OnlyMatching))
         .or(name, b"json", Long::Plain(Switch::Json))
+        .or(name, b"format", Long::Takes(Valued::Format))
+        .or(name, b"initial-tab", Long::Plain(Switch::InitialTab))
+        .or(name, b"label", Long::Takes(Valued::Label))
         .or(name, b"line-number", Long::Plain(Switch::Numbers))
         .or(name, b"byte-offset", Long::Plain(Switch::Offsets))
         .or(name, b"with-filename", Long::Plain(Switch::WithName))
@@ -174,6 +183,7 @@ fn or_context(found: Found, name: &[u8]) -> Found
             b"no-group-separator",
             Long::Plain(Switch::NoSeparator),
         )
+        .or(name, b"group-separator", Long::Takes(Valued::Separator))
 }
 
 /// What it means with all other options.
@@ -185,6 +195,8 @@ fn or_others(found: Found, name: &[u8]) -> Found
         .or(name, b"colour", Long::When)
         .or(name, b"offset", Long::Takes(Valued::Offset))
         .or(name, b"first-line", Long::Takes(Valued::FirstLine))
+        .or(name, b"recursive", Long::Plain(Switch::Recursive))
+        .or(name, b"dereference-recursive", Long::Plain(Switch::Follow))
         .or(name, b"no-match-ok", Long::Plain(Switch::NoMatchOk))
         .or(name, b"no-messages", Long::Plain(Switch::NoMessages))
         .or(name, b"line-buffered", Long::Plain(Switch::Same))

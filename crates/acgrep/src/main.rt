@@ -6,10 +6,15 @@
 
 mod alone;
 mod arguments;
+mod base64;
+mod below;
 mod buffer;
 mod context;
 mod failure;
+mod fields;
 mod files;
+mod folders;
+mod format;
 mod held;
 mod help;
 mod json;
@@ -26,6 +31,7 @@ mod select;
 mod stream;
 mod tell;
 mod trail;
+mod walk;
 
 use chromesquid::FromWrite;
 use open::System;
@@ -66,8 +72,11 @@ fn main(rt: HostRuntime) -> ExitCode {
     ExitCode::from(status)
 }
 
-/// Whether the terminal has colours: it has a name, and is not called dumb.
+/// Whether the terminal has colours: it has a name, and is not called dumb, and `NO_COLOR` is not set or is empty.
 fn has_colors(rt: &HostRuntime) -> bool {
+    if env::var(rt, "NO_COLOR").is_ok_and(|value| !value.is_empty()) {
+        return false;
+    }
     match env::var(rt, "TERM") {
         Ok(name) => name.as_str() != "dumb",
         Err(_) => false,

@@ -24,7 +24,8 @@ pub trait Open {
 /// The files of the system. What they hold is known to nobody.
 #[derive(Drop)]
 pub struct System<'a, R> {
-    rt: &'a R,
+    /// What they are opened by.
+    pub rt: &'a R,
 }
 
 impl<'a, R: Files> System<'a, R> {

@@ -24,7 +24,7 @@ pub enum Shown {
     Lines,
     /// Each match of a selected line that is not empty.
     Matches,
-    /// The same as a JSON object.
+    /// The same as a JSON object, or by a format.
     Objects,
     /// The number of selected lines.
     Count,
@@ -83,12 +83,18 @@ pub enum Switch {
     OnlyNames,
     /// `-L`
     OnlyLacking,
+    /// `-r`
+    Recursive,
+    /// `-R`
+    Follow,
     /// `-Z`
     NullNames,
     /// `-q`
     Quiet,
     /// `--no-group-separator`
     NoSeparator,
+    /// `-T`
+    InitialTab,
     /// `--json`
     Json,
     /// `-h`
@@ -122,7 +128,10 @@ pub fn switch_of(letter: u8) -> Option<Switch>
         b'b' => Some(Switch::Offsets),
         b'l' => Some(Switch::OnlyNames),
         b'L' => Some(Switch::OnlyLacking),
+        b'r' => Some(Switch::Recursive),
+        b'R' => Some(Switch::Follow),
         b'Z' => Some(Switch::NullNames),
+        b'T' => Some(Switch::InitialTab),
         b'q' => Some(Switch::Quiet),
         b's' => Some(Switch::NoMessages),
         b'h' => Some(Switch::NoName),
@@ -156,6 +165,10 @@ pub struct Flags {
     pub names: bool,
     /// `-L`, and no `-l` behind it: files without one are.
     pub lacking: bool,
+    /// `-r` and `-R`: the files below folders are searched.
+    pub recursive: bool,
+    /// `-R`: links below folders are followed too, and devices there are read.
+    pub follow: bool,
     /// `-Z`: a zero byte stands behind a file's name.
     pub null: bool,
     /// `-q`: nothing is written.
@@ -168,8 +181,12 @@ pub struct Flags {
     pub context: Option<u64>,
     /// `--no-group-separator`: no line stands between lines that do not follow one another.
     pub joined: bool,
+    /// `-T`: a tab stands between a line and what stands before it.
+    pub tab: bool,
     /// `--json`: each match is written as a JSON object.
     pub json: bool,
+    /// `--format`: each match is written by a format.
+    pub formatted: bool,
     /// The last of `-h` and `-H`.
     pub with_name: Option<bool>,
     /// The last `--color`.
@@ -210,13 +227,17 @@ impl Flags {
             offset: false,
             names: false,
             lacking: false,
+            recursive: false,
+            follow: false,
             null: false,
             quiet: false,
             after: None,
             before: None,
             context: None,
             joined: false,
+            tab: false,
             json: false,
+            formatted: false,
             with_name: None,
             color: Color::Never,
             kind: MatchKind::LeftmostLongest,
@@ -230,7 +251,7 @@ impl Flags {
         }
     }
 
-    /// What is written of a file: of several options `-q` goes first, then `-l` or `-L`, `-c`, `--json` and `-o`.
+    /// What is written of a file: of several options `-q` goes first, then `-l` or `-L`, `-c`, `--format` and `--json`, and `-o`.
     pub fn shown(&self) -> Shown
         ensures shown { result ≡ shown_by self.now }
     {
@@ -242,7 +263,7 @@ impl Flags {
             Shown::Lacking
         } else if self.count {
             Shown::Count
-        } else if self.json {
+        } else if self.json || self.formatted {
             Shown::Objects
         } else if self.only_matching {
             Shown::Matches
@@ -292,7 +313,12 @@ impl Flags {
             Valued::After => flags.after = Some(number),
             Valued::Before => flags.before = Some(number),
             Valued::Around => flags.context = Some(number),
-            Valued::Regexp | Valued::PatternFile | Valued::Kind => {}
+            Valued::Regexp
+            | Valued::PatternFile
+            | Valued::Kind
+            | Valued::Separator
+            | Valued::Label
+            | Valued::Format => {}
         }
         flags
     }
@@ -320,9 +346,15 @@ impl Flags {
                 flags.names = false;
                 flags.lacking = true;
             }
+            Switch::Recursive => flags.recursive = true,
+            Switch::Follow => {
+                flags.recursive = true;
+                flags.follow = true;
+            }
             Switch::NullNames => flags.null = true,
             Switch::Quiet => flags.quiet = true,
             Switch::NoSeparator => flags.joined = true,
+            Switch::InitialTab => flags.tab = true,
             Switch::Json => flags.json = true,
             Switch::NoName => flags.with_name = Some(false),
             Switch::WithName => flags.with_name = Some(true),

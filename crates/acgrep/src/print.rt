@@ -3,10 +3,11 @@
 ghost use Rattle.std.specs.Iterator.{IsFinite};
 ghost use Rattle.std.specs.Prelude.{◌≡◌, ◌≤◌, IfOk, decimal, drop, true};
 ghost use Rattle.aho_core.specs.Patterns.{Patterns};
-ghost use Rattle.acgrep.specs.Printed.{Puts, PutsColored, PutsColoredBytes, PutsEach, PutsFinds, behind_match, colored_by, colored_from, count_by, file_line, head_of, line_by, match_by, matches_by, name_ended, name_part, number_by, number_if, painted, part_by, part_of, separator_by};
+ghost use Rattle.acgrep.specs.Printed.{Puts, PutsColored, PutsColoredBytes, PutsEach, PutsFinds, behind_match, colored_by, colored_from, count_by, file_line, head_of, line_by, match_by, matches_by, name_ended, name_part, number_by, number_if, painted, part_by, part_of, separator_by, tab_before};
 
 use crate::alone::{behind_alone, next_alone};
 use crate::failure::Stop;
+use crate::format::Piece;
 use chromesquid::{Automaton, Input, Match};
 use itoa::write_digits;
 use std::io;
@@ -39,10 +40,25 @@ pub struct Style<'a> {
     pub number: bool,
     /// Whether its offset in the file does.
     pub offset: bool,
+    /// Whether a tab stands behind them.
+    pub tab: bool,
     /// Whether all that is coloured.
     pub color: bool,
     /// Whether a hyphen stands behind each part but a zero byte, as in the lines around selected ones, and else a colon.
     pub hyphen: bool,
+    /// What stands between lines that do not follow one another.
+    pub separator: &'a [u8],
+    /// How a match is written that is written with its fields.
+    pub form: Form<'a>,
+}
+
+/// How a match is written with its fields.
+#[derive(Clone, Copy)]
+pub enum Form<'a> {
+    /// As a JSON object.
+    Json,
+    /// By a format.
+    Pieces(&'a [Piece]),
 }
 
 /// Where a line stands in its file.
@@ -89,7 +105,7 @@ pub fn put_separator<W: Write>(output: &mut W, style: &Style<'_>) -> io::Result<
     ensures written { Puts W.Write output.old output.new result
         (separator_by style.now) }
 {
-    put_painted(output, style.color, SEPARATOR_COLOR, b"--")?;
+    put_painted(output, style.color, SEPARATOR_COLOR, style.separator)?;
     output.write_all(b"\n")?;
     Ok(())
 }
@@ -113,13 +129,31 @@ fn put_number<W: Write>(output: &mut W, style: &Style<'_>, number: u64) -> io::R
 }
 
 /// Writes what stands before a line, or before a match that begins at a place of it.
-fn put_head<W: Write>(output: &mut W, style: &Style<'_>, number: u64, offset: u64) -> io::Result<()>
+fn put_head<W: Write>(
+    output: &mut W,
+    style: &Style<'_>,
+    number: u64,
+    offset: u64,
+    bytes: &[u8],
+) -> io::Result<()>
     ensures written { Puts W.Write output.old output.new result
-        (head_of style.now number offset) }
+        (head_of style.now number offset bytes.now) }
 {
     put_file(output, style)?;
     put_if(output, style.number, style, number)?;
     put_if(output, style.offset, style, offset)?;
+    put_tab(output, style, bytes)?;
+    Ok(())
+}
+
+/// Writes a tab where it is asked for: between a line or a match and what stands before it.
+fn put_tab<W: Write>(output: &mut W, style: &Style<'_>, bytes: &[u8]) -> io::Result<()>
+    ensures written { Puts W.Write output.old output.new result
+        (tab_before style.now bytes.now) }
+{
+    if style.tab && (style.with_name || style.number || style.offset) && !bytes.is_empty() {
+        return output.write_all(b"\t");
+    }
     Ok(())
 }
 
@@ -158,14 +192,20 @@ pub fn put_line<W: Write>(
     ensures written { Puts W.Write output.old output.new result
         (line_by style.now place line.now) }
 {
-    put_head(output, style, place.lines.wrapping_add(1), place.bytes)?;
+    put_head(
+        output,
+        style,
+        place.lines.wrapping_add(1),
+        place.bytes,
+        line,
+    )?;
     output.write_all(line)?;
     output.write_all(b"\n")?;
     Ok(())
 }
 
 /// The bytes of a match.
-fn part<'t>(line: &'t [u8], start: usize, end: usize) -> &'t [u8]
+pub fn part<'t>(line: &'t [u8], start: usize, end: usize) -> &'t [u8]
     ensures part { result.now ≡ part_of line.now start end }
 {
     if start <= end && end <= line.len() {
@@ -188,7 +228,13 @@ pub fn put_colored_line<A: Automaton, W: Write>(
     ensures written { PutsColored A.Automaton W.Write automaton.now
         alone style.now place line.now output.old output.new result }
 {
-    put_head(output, style, place.lines.wrapping_add(1), place.bytes)?;
+    put_head(
+        output,
+        style,
+        place.lines.wrapping_add(1),
+        place.bytes,
+        line,
+    )?;
     put_colored_bytes(automaton, output, alone, line)?;
     output.write_all(b"\n")?;
     Ok(())
@@ -346,8 +392,9 @@ fn put_match<W: Write>(
         return Ok(());
     }
     let offset = place.bytes.wrapping_add(start as u64);
-    put_head(output, style, place.lines.wrapping_add(1), offset)?;
-    put_painted(output, style.color, MATCH_COLOR, part(line, start, end))?;
+    let bytes = part(line, start, end);
+    put_head(output, style, place.lines.wrapping_add(1), offset, bytes)?;
+    put_painted(output, style.color, MATCH_COLOR, bytes)?;
     output.write_all(b"\n")?;
     Ok(())
 }

@@ -9,21 +9,24 @@ ghost use Rattle.programs.specs.Arguments.{texts};
 ghost use Rattle.acgrep.specs.Arguments.{said, said_by};
 ghost use Rattle.programs.specs.Names.{name_bytes};
 ghost use Rattle.programs.specs.Telling.{Tells, TellsSome};
-ghost use Rattle.acgrep.specs.Told.{MayTell, TellsCause, TellsOfCall, TellsOfFiles, TellsOfSearch, TellsOfText, TellsRefusal, is_hushed, names_said};
+ghost use Rattle.acgrep.specs.Told.{MaySaid, MayTell, TellsCause, TellsOfCall, TellsOfFiles, TellsOfSearch, TellsOfText, TellsRefusal, is_hushed};
 ghost use Rattle.acgrep.specs.Mistakes.{TellsLacking, TellsMistake, TellsNoPattern, TellsRefused};
 ghost use Rattle.acgrep.specs.Files.{AreFilesBegun, AreSearchedOr, files_named};
-ghost use Rattle.acgrep.specs.Runs.{AsksToSearch, BeginsSearch, BeginsFor, GivesNone, IfSaid, IsJob, Searches, SearchesFor, SearchesSaid, are_empty, asks_none, inverts, is_colored, kind_sought, knows_none, origins_of, selects_none, status_told, takes_any, words_sought};
+ghost use Rattle.acgrep.specs.Folders.{known_by, tree_of};
+ghost use Rattle.acgrep.specs.Runs.{AsksToSearch, BeginsSearch, BeginsFor, GivesNone, IfSaid, IsJob, Searches, SearchesFor, SearchesSaid, are_empty, asks_none, form_asked, form_said, inverts, is_colored, kind_sought, knows_none, origins_of, selects_none, status_told, takes_any, words_sought};
 ghost use Rattle.acgrep.specs.Searchers.{IsSearcherOf};
 ghost use Rattle.acgrep.specs.Selected.{ForLines};
 
 use crate::arguments::{Given, Refusal, Source, Wrong, parse};
+use crate::below::search_operands;
 use crate::files::{Files, search_files};
+use crate::folders::Folders;
 use crate::help::{HELP, VERSION};
 use crate::keys::{read_keys, tell_refusal};
 use crate::open::Open;
 use crate::options::{Color, Fit, Flags};
 use crate::patterns::lines_of;
-use crate::print::{Place, Style};
+use crate::print::{Form, Place, Style};
 use crate::searcher::Searcher;
 use crate::select::Job;
 use crate::tell::{tell_memory, tell_write, tell_wrong};
@@ -35,7 +38,7 @@ use std::io::Read;
 
 /// Does what the arguments after the program's name ask for, and answers the exit status: 0 where a line was selected, 1 where
 /// none was, or 0 there too under `--no-match-ok`, and 2 where an error occurred. `terminal` says whether the output is a terminal with colours.
-pub fn run<F: Open, R: Read, W: Sink, E: Sink>(
+pub fn run<F: Open + Folders, R: Read, W: Sink, E: Sink>(
     alloc: Global,
     arguments: &[String],
     terminal: bool,
@@ -62,23 +65,23 @@ pub fn run<F: Open, R: Read, W: Sink, E: Sink>(
 
     // Where the status tells of no error, the patterns were searched for in the files, one after another.
     ensures searches { IfSaid arguments.now (λ said. AsksToSearch said.flags → result < 2
-        → Searches (F.holds files.now) terminal said
+        → Searches (known_by F.Open F.Folders files.now) terminal said
         (R.remaining input.old) (R.remaining input.new)
         (W.taken output.old) (W.taken output.new) result) }
 
     // Whatever the status, what is written is a beginning of what is asked: the files are told one after another, and one that
     // cannot be read, or to whose end the output cannot be written, by some first lines and a beginning of what follows.
     ensures begins { IfSaid arguments.now (λ said. AsksToSearch said.flags
-        → BeginsSearch (F.holds files.now) terminal said
+        → BeginsSearch (known_by F.Open F.Folders files.now) terminal said
         (R.remaining input.old) (W.taken output.old) (W.taken output.new)) }
 
     // Where the status tells of no error nothing is told, but under `-q` of files that cannot be read. Where it tells of one, a line
     // says why: whole, unless writing it failed. Under `-s` no line names a file that is searched, and there may be none.
-    ensures tells { Tells E.Sink (MayTell (names_said (said_by (texts arguments.now)))) errors.old errors.new }
+    ensures tells { Tells E.Sink (MaySaid (tree_of F.Folders files.now) (said_by (texts arguments.now))) errors.old errors.new }
     ensures silent { IfSaid arguments.now (λ said. said.flags.quiet ≡ false
         → result < 2 → errors.new ≡ errors.old) }
     ensures says_why { is_hushed (said_by (texts arguments.now)) ≡ false → result ≡ 2
-        → TellsSome E.Sink (MayTell (names_said (said_by (texts arguments.now))))
+        → TellsSome E.Sink (MaySaid (tree_of F.Folders files.now) (said_by (texts arguments.now)))
         errors.old errors.new }
 
     // All output was flushed where the status tells of no error.
@@ -141,7 +144,7 @@ fn finish<W: Sink, E: Sink>(status: u8, output: &mut W, errors: &mut Errors<'_, 
 }
 
 /// Does what right arguments ask for.
-fn answer<F: Open, R: Read, W: Sink, E: Sink>(
+fn answer<F: Open + Folders, R: Read, W: Sink, E: Sink>(
     alloc: Global,
     given: &Given<'_>,
     terminal: bool,
@@ -155,13 +158,13 @@ fn answer<F: Open, R: Read, W: Sink, E: Sink>(
     ensures lacking { AsksToSearch given.now.flags → GivesNone (said given.now)
         → TellsNoPattern E.Sink errors.old errors.new }
     ensures searches { AsksToSearch given.now.flags → result < 2
-        → Searches (F.holds files.now) terminal (said given.now)
+        → Searches (known_by F.Open F.Folders files.now) terminal (said given.now)
         (R.remaining input.old) (R.remaining input.new)
         (W.taken output.old) (W.taken output.new) result }
     ensures begins { AsksToSearch given.now.flags
-        → BeginsSearch (F.holds files.now) terminal (said given.now)
+        → BeginsSearch (known_by F.Open F.Folders files.now) terminal (said given.now)
         (R.remaining input.old) (W.taken output.old) (W.taken output.new) }
-    ensures told { TellsOfCall E.Sink (said given.now) result errors.old errors.new }
+    ensures told { TellsOfCall E.Sink (tree_of F.Folders files.now) (said given.now) result errors.old errors.new }
 {
     if given.flags.version {
         return write_text(VERSION, output, errors);
@@ -184,7 +187,7 @@ fn status_told(no_match_ok: bool, status: u8) -> u8
 }
 
 /// Searches as the arguments say. Where no option gives patterns the first operand does.
-fn search_asked<F: Open, R: Read, W: Sink, E: Sink>(
+fn search_asked<F: Open + Folders, R: Read, W: Sink, E: Sink>(
     alloc: Global,
     given: &Given<'_>,
     terminal: bool,
@@ -197,26 +200,25 @@ fn search_asked<F: Open, R: Read, W: Sink, E: Sink>(
     ensures patternless { GivesNone (said given.now) → result ≡ 2 }
     ensures lacking { GivesNone (said given.now)
         → TellsNoPattern E.Sink errors.old errors.new }
-    ensures searches { result < 2 → SearchesSaid (F.holds files.now) terminal (said given.now)
+    ensures searches { result < 2 → SearchesSaid (known_by F.Open F.Folders files.now) terminal (said given.now)
         (R.remaining input.old) (R.remaining input.new)
         (W.taken output.old) (W.taken output.new) result }
-    ensures begins { BeginsSearch (F.holds files.now) terminal (said given.now)
+    ensures begins { BeginsSearch (known_by F.Open F.Folders files.now) terminal (said given.now)
         (R.remaining input.old) (W.taken output.old) (W.taken output.new) }
-    ensures told { TellsOfCall E.Sink (said given.now) result errors.old errors.new }
+    ensures told { TellsOfCall E.Sink (tree_of F.Folders files.now) (said given.now) result errors.old errors.new }
 {
-    let flags = &given.flags;
     let sources = given.sources.as_slice();
     let operands = given.operands.as_slice();
     if !sources.is_empty() {
         return search(
-            alloc, flags, terminal, sources, operands, files, input, output, errors,
+            alloc, given, terminal, sources, operands, files, input, output, errors,
         );
     }
     match operands.split_first() {
         Some((pattern, names)) => {
             let first = [Source::Text(*pattern)];
             search(
-                alloc, flags, terminal, &first, names, files, input, output, errors,
+                alloc, given, terminal, &first, names, files, input, output, errors,
             )
         }
         None => {
@@ -246,9 +248,9 @@ fn write_text<W: Sink, E: Sink>(text: &[u8], output: &mut W, errors: &mut Errors
 }
 
 /// Searches the files of these names for the patterns of these sources.
-fn search<F: Open, R: Read, W: Sink, E: Sink>(
+fn search<F: Open + Folders, R: Read, W: Sink, E: Sink>(
     alloc: Global,
-    flags: &Flags,
+    given: &Given<'_>,
     terminal: bool,
     sources: &[Source<'_>],
     names: &[&[u8]],
@@ -258,16 +260,17 @@ fn search<F: Open, R: Read, W: Sink, E: Sink>(
     errors: &mut Errors<'_, E>,
 ) -> u8
     ensures bound { result ≤ 2 }
-    ensures searches { result < 2 → SearchesFor (F.holds files.now) terminal flags.now
+    ensures searches { result < 2 → SearchesFor (known_by F.Open F.Folders files.now) terminal (said given.now)
         (origins_of sources.now) (name_bytes names.now)
         (R.remaining input.old) (R.remaining input.new)
         (W.taken output.old) (W.taken output.new) result }
-    ensures begins { BeginsFor (F.holds files.now) terminal flags.now
+    ensures begins { BeginsFor (known_by F.Open F.Folders files.now) terminal (said given.now)
         (origins_of sources.now) (name_bytes names.now)
         (R.remaining input.old) (W.taken output.old) (W.taken output.new) }
-    ensures told { TellsOfSearch E.Sink flags.now (origins_of sources.now) (name_bytes names.now)
-        result errors.old errors.new }
+    ensures told { TellsOfSearch E.Sink (tree_of F.Folders files.now) (said given.now)
+        (origins_of sources.now) (name_bytes names.now) result errors.old errors.new }
 {
+    let flags = &given.flags;
     let Some(keys) = read_keys(alloc, sources, files, input, errors) else {
         return 2;
     };
@@ -280,14 +283,13 @@ fn search<F: Open, R: Read, W: Sink, E: Sink>(
     if knows_none(flags, words) {
         return 1;
     }
-    let job = job_of(flags, terminal, names.len());
     let named = Files {
         alloc,
         names,
         files,
     };
     match Searcher::build(alloc, kind_sought(flags), flags.ignore_case, words) {
-        Ok(searcher) => search_by(&searcher, &job, &named, input, output, errors),
+        Ok(searcher) => search_operands(&searcher, given, terminal, &named, input, output, errors),
         Err(error) => {
             tell_refusal(&keys, sources, &error, errors);
             2
@@ -296,7 +298,7 @@ fn search<F: Open, R: Read, W: Sink, E: Sink>(
 }
 
 /// Searches these files by an automaton.
-fn search_by<F: Open, R: Read, W: Sink, E: Sink>(
+pub fn search_by<F: Open, R: Read, W: Sink, E: Sink>(
     searcher: &Searcher,
     job: &Job<'_>,
     files: &Files<'_, F>,
@@ -313,7 +315,7 @@ fn search_by<F: Open, R: Read, W: Sink, E: Sink>(
     ensures begun { ForLines (λ p. IsSearcherOf p searcher.now) (λ p.
         AreFilesBegun p job.now false (F.holds files.now.files.now) (files_named files.now)
         (R.remaining input.old) (W.taken output.old) (W.taken output.new)) }
-    ensures told { TellsOfFiles E.Sink job.now.hushed (files_named files.now)
+    ensures told { TellsOfFiles E.Sink job.now.hushed job.now.label.now (files_named files.now)
         job.now.shown result errors.old errors.new }
 {
     match searcher {
@@ -400,23 +402,28 @@ fn are_empty(patterns: &[&[u8]]) -> bool
     true
 }
 
-/// What is written of each of so many files, but for its name.
-fn job_of(flags: &Flags, terminal: bool, count: usize) -> Job<'static>
-    ensures job { IsJob flags.now terminal count result }
+/// What is written of each file, but for its name. `several` says whether names stand before lines where nothing is said of that.
+pub fn job_of<'a>(given: &'a Given<'_>, terminal: bool, several: bool) -> Job<'a>
+    ensures job { IsJob (said given.now) terminal several result }
 {
+    let flags = &given.flags;
     Job {
         shown: flags.shown(),
         invert: inverts(flags),
         fit: flags.fit(),
         style: Style {
             name: b"",
-            with_name: has_name(flags.with_name, count),
+            with_name: flags.with_name.unwrap_or(several),
             null: flags.null,
             number: flags.number,
             offset: flags.offset,
             color: is_colored(flags.color, terminal),
             hyphen: false,
+            tab: flags.tab,
+            separator: given.separator,
+            form: form_of(given),
         },
+        label: given.label,
         first: Place {
             lines: flags.first_line.wrapping_sub(1),
             bytes: flags.first,
@@ -428,13 +435,14 @@ fn job_of(flags: &Flags, terminal: bool, count: usize) -> Job<'static>
     }
 }
 
-/// Whether names stand before the lines of so many files.
-fn has_name(asked: Option<bool>, count: usize) -> bool
-    ensures { result ≡ unwrap_or asked (nat_lt 1 count) }
+/// How a match is written with its fields: `--format` goes before `--json`.
+fn form_of<'a>(given: &'a Given<'_>) -> Form<'a>
+    ensures form { form_said result ≡ form_asked (said given.now) }
 {
-    match asked {
-        Some(with_name) => with_name,
-        None => count > 1,
+    if given.flags.formatted {
+        Form::Pieces(given.format.as_slice())
+    } else {
+        Form::Json
     }
 }
 

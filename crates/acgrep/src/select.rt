@@ -35,6 +35,8 @@ pub struct Job<'a> {
     pub fit: Fit,
     /// What stands before a line.
     pub style: Style<'a>,
+    /// How standard input is called.
+    pub label: &'a [u8],
     /// Where the first line of a file stands.
     pub first: Place,
     /// How many lines of a file are selected at most, and one at least.

@@ -13,6 +13,9 @@ use chromesquid::{BuildError, MatchError, Sink};
 use programs::errors::Errors;
 use programs::reason::Reason;
 
+/// What is told of a folder that stands in itself.
+const LOOP: &[u8] = b"warning: recursive directory loop";
+
 /// The program's name.
 const PROGRAM: &[u8] = b"acgrep";
 
@@ -29,6 +32,16 @@ pub fn tell_fault<E: Sink>(name: &[u8], reason: Reason, errors: &mut Errors<'_, 
     ensures told { TellsOfFile E.Sink name.now errors.old errors.new }
 {
     errors.tell(PROGRAM, Some(name), None, reason.text().as_bytes());
+}
+
+/// Tells why a name below a folder was passed over. No reason means that it is a folder in which it stands itself.
+pub fn tell_missed<E: Sink>(name: &[u8], reason: Option<Reason>, errors: &mut Errors<'_, E>)
+    ensures told { TellsOfFile E.Sink name.now errors.old errors.new }
+{
+    match reason {
+        Some(reason) => tell_fault(name, reason, errors),
+        None => errors.tell(PROGRAM, Some(name), None, LOOP),
+    }
 }
 
 /// Tells why the output cannot be written.
@@ -98,6 +111,12 @@ pub fn tell_wrong<E: Sink>(errors: &mut Errors<'_, E>, wrong: Wrong<'_>)
             b"'\n",
             USAGE,
         ]),
+        Wrong::UnknownField(field) => errors.write(&[
+            b"acgrep: option '--format' has no field '",
+            field,
+            b"'\n",
+            USAGE,
+        ]),
         Wrong::NoNumber(valued, number) => {
             let name = name_beside(valued, number);
             tell_number(name, number, errors)
@@ -141,6 +160,9 @@ fn valued_name<'a>(valued: Valued) -> &'a [u8]
         Valued::After => b"-A",
         Valued::Before => b"-B",
         Valued::Around => b"-C",
+        Valued::Separator => b"--group-separator",
+        Valued::Label => b"--label",
+        Valued::Format => b"--format",
     }
 }
 

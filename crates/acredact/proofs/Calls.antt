@@ -17,19 +17,21 @@ use Rattle.programs.specs.declared.errors.Errors.{Errors}
 use Rattle.programs.specs.declared.failure.Failure.TheVariants.{OutOfMemory, Write as NotWritten, WriteZero as TakesNothing}
 use Rattle.programs.specs.declared.reason.Reason.{Reason}
 use Rattle.programs.proofs.Tellings.{tells-later}
-use Rattle.acredact.specs.Arguments.{has}
+use Rattle.acredact.specs.Arguments.{Given, counts_asked}
 use Rattle.acredact.specs.Calls.{BeginsCall, Call, CallOutcome, IsCountsFailure, IsCountsLine, IsLineOf, IsRunFailure, IsUnreadLine, IsUntouched, MayFail, OutputFails, RestOutcome, RunOutcome, TellsCounts, names_asked, work_by}
-use Rattle.acredact.specs.Counts.{counts_text, zeros}
+use Rattle.acredact.specs.Counts.{zeros}
 use Rattle.acredact.specs.Files.{AreCut, FilesOutcome, IsDone, Work, are_none, unread_line}
 use Rattle.acredact.specs.Messages.{output_line}
 use Rattle.acredact.specs.Tables.{Secret, secrets_of}
+use Rattle.acredact.specs.Summaries.{no_volume, totals_text}
 use Rattle.acredact.specs.Totals.{CountsOfNames}
-use Rattle.acredact.specs.declared.arguments.Word.TheVariants.{Count}
+use Rattle.acredact.specs.Volumes.{ReadsVolume}
 use Rattle.acredact.specs.declared.clean.Unclean.{Unclean}
 use Rattle.acredact.specs.declared.failure.Failure.{Failure}
 use Rattle.acredact.specs.declared.failure.Failure.TheVariants.{Counts, Other, Unclean as UncleanPiece}
 use Rattle.acredact.specs.declared.patterns.Rule.{Rule}
 use Rattle.acredact.specs.declared.streams.Streams.{Streams}
+use Rattle.acredact.specs.declared.summary.Volume.{Volume}
 use Rattle.acredact.proofs.Done.{concat_both, cut_of, redacted_of, tells_none}
 use Rattle.acredact.proofs.Totals.{totals_told}
 
@@ -62,11 +64,12 @@ pub tells_same : {E : Type 0} (K : SinkGhosts E) (IsLine : List ℕ → Type 0) 
 tells_same K IsLine old new same = record { told = []; are_lines = All-nil IsLine; written = subst (λ (e : Errors _). TellsBytes K old e []) (sym same) (tells_none K old) }
 
 -- the text of the counts was
-pub tells_counts : {E : Type 0} (K : SinkGhosts E) (counted : Bool) (old new : Errors E) (lines counts : List ℕ) → counted ≡ true → TellsBytes K old new (counts_text 1 lines counts) → Tells K (IsCountsLine counted) old new
-tells_counts K counted old new lines counts is told = record {
-  told = counts_text 1 lines counts ∷ [];
-  are_lines = All-cons (IsCountsLine counted) (counts_text 1 lines counts) [] (is, (lines, counts, refl)) (All-nil (IsCountsLine counted));
-  written = subst (TellsBytes K old new) (sym (append-nil (counts_text 1 lines counts))) told;
+pub tells_counts : {E : Type 0} (K : SinkGhosts E) (given : List Given) (old new : Errors E) (lines counts : List ℕ) (volume : Volume) → counts_asked given ≡ true → TellsBytes K old new (totals_text given lines counts volume)
+    → Tells K (IsCountsLine given) old new
+tells_counts K given old new lines counts volume is told = record {
+  told = totals_text given lines counts volume ∷ [];
+  are_lines = All-cons (IsCountsLine given) (totals_text given lines counts volume) [] (is, (lines, counts, volume, refl)) (All-nil (IsCountsLine given));
+  written = subst (TellsBytes K old new) (sym (append-nil (totals_text given lines counts volume))) told;
 }
 
 -- before anything was touched
@@ -153,16 +156,16 @@ module _ {R : Type 0} {Reads : Readers R} {W E : Type 0} (Writes : Writers W) (K
     }
 
     -- the lines of the files, and then those of the counts
-    lines_both : (fails : Type 0) (lines more : List (List ℕ)) (errors : Errors E) → All (IsLineOf call fails) lines → All (IsCountsLine (has Count call.given)) more
+    lines_both : (fails : Type 0) (lines more : List (List ℕ)) (errors : Errors E) → All (IsLineOf call fails) lines → All (IsCountsLine call.given) more
         → TellsBytes K old.errors mid.errors (concat lines) → TellsBytes K mid.errors errors (concat more) → Tells K (IsLineOf call fails) old.errors errors
     lines_both fails lines more errors are counts first later = record {
       told = lines ++ more;
-      are_lines = All-append (IsLineOf call fails) lines more are (All-weaker (IsCountsLine (has Count call.given)) (IsLineOf call fails) (λ line is. inr (inr (inl is))) more counts);
+      are_lines = All-append (IsLineOf call fails) lines more are (All-weaker (IsCountsLine call.given) (IsLineOf call fails) (λ line is. inr (inr (inl is))) more counts);
       written = subst (TellsBytes K old.errors errors) (sym (concat_both lines more)) (tells-later K first later);
     }
 
     -- one or more, where some are
-    some_both : (fails : Type 0) (lines more : List (List ℕ)) (errors : Errors E) → false ≡ are_none lines → All (IsLineOf call fails) lines → All (IsCountsLine (has Count call.given)) more
+    some_both : (fails : Type 0) (lines more : List (List ℕ)) (errors : Errors E) → false ≡ are_none lines → All (IsLineOf call fails) lines → All (IsCountsLine call.given) more
         → TellsBytes K old.errors mid.errors (concat lines) → TellsBytes K mid.errors errors (concat more) → TellsSome K (IsLineOf call fails) old.errors errors
     unfolding lines_both
     some_both fails [] more errors none are counts first later = absurd (cc)
@@ -171,13 +174,14 @@ module _ {R : Type 0} {Reads : Readers R} {W E : Type 0} (Writes : Writers W) (K
         record { first = line; is_line = All-head (IsLineOf call fails) line (lines ++ more) all.are_lines; more = lines ++ more; are_lines = All-tail (IsLineOf call fails) line (lines ++ more) all.are_lines; written = all.written }
 
   -- those whose patterns were loaded as these rules, where all was done
-  module _ (rules : List Rule) (counts : List ℕ) (old mid : Streams R W E Reads) where
+  module _ (rules : List Rule) (counts : List ℕ) (volume : Volume) (old mid : Streams R W E Reads) where
     abbrev Counted : Bool → Bool → Type 0
     Counted counted all = all ≡ true → CountsOfNames (bytes_left old.input) (bytes_left mid.input) (zeros counted rules) counts (work_by call (secrets_of rules)) (names_asked call.given)
+        × ReadsVolume call.holds (names_asked call.given) no_volume volume (bytes_left old.input) (bytes_left mid.input)
 
     -- the counts are told
-    rest_done : (all : Bool) (errors : Errors E) → RunOutcome Writes K (work_by call (secrets_of rules)) (Ok all) old mid → Counted (has Count call.given) all
-        → MatchBool (has Count call.given) (TellsCounts K rules counts mid.errors errors) (errors ≡ mid.errors) → Tells K (IsCountsLine (has Count call.given)) mid.errors errors
+    rest_done : (all : Bool) (errors : Errors E) → RunOutcome Writes K (work_by call (secrets_of rules)) (Ok all) old mid → Counted (counts_asked call.given) all
+        → MatchBool (counts_asked call.given) (TellsCounts K call.given rules counts volume mid.errors errors) (errors ≡ mid.errors) → Tells K (IsCountsLine call.given) mid.errors errors
         → RestOutcome Writes K call (secrets_of rules) (Ok all) old (record mid { errors = errors })
     rest_done all errors run grown are_told told =
         let (lines, is_all, (done, first)) = run.done in
@@ -188,15 +192,17 @@ module _ {R : Type 0} {Reads : Readers R} {W E : Type 0} (Writes : Writers W) (K
               let so : all ≡ true = cc in
               redacted_of (work_by call (secrets_of rules)) _ lines _ _ _ _ (none_are lines (sym is_all ∙ so)) done;
           begins = inr (lines, cut);
-          quiet = λ none (is : Ok all ≡ Ok true). subst (λ (b : Bool). MatchBool b (TellsCounts K rules counts mid.errors errors) (errors ≡ mid.errors)) none are_told ∙ run.quiet is;
+          quiet = λ none (is : Ok all ≡ Ok true). subst (λ (b : Bool). MatchBool b (TellsCounts K call.given rules counts volume mid.errors errors) (errors ≡ mid.errors)) none are_told ∙ run.quiet is;
           counts = λ some (is : Ok all ≡ Ok true).
               let so : all ≡ true = cc in
-              let (ranges, found, counted) = subst (λ (b : Bool). Counted b all) some grown so in (
+              let ((ranges, found, counted), read) = subst (λ (b : Bool). Counted b all) some grown so in (
                 ranges,
                 found,
-                totals_told K rules ranges counts old.errors errors counted
-                    (subst (λ (e : Errors E). TellsCounts K rules counts e errors) (run.quiet is)
-                    (subst (λ (b : Bool). MatchBool b (TellsCounts K rules counts mid.errors errors) (errors ≡ mid.errors)) some are_told)),
+                volume,
+                read,
+                totals_told K call.given rules ranges counts volume old.errors errors counted
+                    (subst (λ (e : Errors E). TellsCounts K call.given rules counts volume e errors) (run.quiet is)
+                    (subst (λ (b : Bool). MatchBool b (TellsCounts K call.given rules counts volume mid.errors errors) (errors ≡ mid.errors)) some are_told)),
               );
           partly = λ (is : Ok all ≡ Ok false).
               let so : all ≡ false = cc in
@@ -208,7 +214,7 @@ module _ {R : Type 0} {Reads : Readers R} {W E : Type 0} (Writes : Writers W) (K
 
     -- or they are not
     rest_untold : (all : Bool) (errors : Errors E) (failure : Failure) → RunOutcome Writes K (work_by call (secrets_of rules)) (Ok all) old mid
-        → IsCountsFailure (has Count call.given) failure → Tells K (IsCountsLine (has Count call.given)) mid.errors errors
+        → IsCountsFailure (counts_asked call.given) failure → Tells K (IsCountsLine call.given) mid.errors errors
         → RestOutcome Writes K call (secrets_of rules) (Err failure) old (record mid { errors = errors })
     rest_untold all errors failure run fails told =
         let (lines, is_all, (done, first)) = run.done in
@@ -223,20 +229,20 @@ module _ {R : Type 0} {Reads : Readers R} {W E : Type 0} (Writes : Writers W) (K
             | inl counts ↦ inr (inr (inl (counts, fails.0)))
             | inr memory ↦ may_fail call _ failure (inl memory)
           ];
-          other = λ unclean is. counts_other (has Count call.given) failure unclean fails is;
+          other = λ unclean is. counts_other (counts_asked call.given) failure unclean fails is;
           told = lines_both (secrets_of rules) old mid _ lines told.told errors (lines_cut (secrets_of rules) old mid _ lines _ _ _ cut) told.are_lines first told.written;
         }
 
     -- by what is answered of that
-    pub rest_told : (all counted : Bool) (result : Result Bool Failure) (errors : Errors E) → counted ≡ has Count call.given → RunOutcome Writes K (work_by call (secrets_of rules)) (Ok all) old mid
-        → Counted counted all → IfOk result (λ done. done ≡ all) → OnOk result (MatchBool counted (TellsCounts K rules counts mid.errors errors) (errors ≡ mid.errors))
-        → IfErr result (IsCountsFailure counted) → Tells K (IsCountsLine counted) mid.errors errors → RestOutcome Writes K call (secrets_of rules) result old (record mid { errors = errors })
+    pub rest_told : (all counted : Bool) (result : Result Bool Failure) (errors : Errors E) → counted ≡ counts_asked call.given → RunOutcome Writes K (work_by call (secrets_of rules)) (Ok all) old mid
+        → Counted counted all → IfOk result (λ done. done ≡ all) → OnOk result (MatchBool counted (TellsCounts K call.given rules counts volume mid.errors errors) (errors ≡ mid.errors))
+        → IfErr result (IsCountsFailure counted) → Tells K (IsCountsLine call.given) mid.errors errors → RestOutcome Writes K call (secrets_of rules) result old (record mid { errors = errors })
     rest_told all counted (Ok done) errors is run grown same are_told fails told =
         subst (λ (b : Bool). RestOutcome Writes K call (secrets_of rules) (Ok b) old (record mid { errors = errors })) (sym same)
-        (rest_done all errors run (subst (λ (b : Bool). Counted b all) is grown) (subst (λ (b : Bool). MatchBool b (TellsCounts K rules counts mid.errors errors) (errors ≡ mid.errors)) is are_told)
-        (subst (λ (b : Bool). Tells K (IsCountsLine b) mid.errors errors) is told))
+        (rest_done all errors run (subst (λ (b : Bool). Counted b all) is grown) (subst (λ (b : Bool). MatchBool b (TellsCounts K call.given rules counts volume mid.errors errors) (errors ≡ mid.errors)) is are_told)
+        told)
     rest_told all counted (Err failure) errors is run grown same are_told fails told =
-        rest_untold all errors failure run (subst (λ (b : Bool). IsCountsFailure b failure) is fails) (subst (λ (b : Bool). Tells K (IsCountsLine b) mid.errors errors) is told)
+        rest_untold all errors failure run (subst (λ (b : Bool). IsCountsFailure b failure) is fails) told
 
 -- what holds of some work holds of the same with the same names, pieces and way
 pub work_as : (holds : List ℕ → Option (List ℕ)) (refuses : List ℕ → Reason → Type 0) (meets : List ℕ → Bool → Type 0) (p : Patterns) (names names' pieces pieces' : List (List ℕ)) (covers covers' : Bool) → names ≡ names' → covers ≡ covers' → pieces ≡ pieces'
@@ -273,6 +279,8 @@ module _ {R : Type 0} {Reads : Readers R} {W E : Type 0} (Writes : Writers W) (K
       ranges = done.ranges;
       found = done.found;
       meanwhile = done.meanwhile;
+      volume = done.volume;
+      read = done.read;
       warned = done.warned;
       counted = done.counted;
     };

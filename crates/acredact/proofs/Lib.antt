@@ -14,6 +14,8 @@ mod Totals
 -- how an automaton redacts streams
 mod Suited
 mod Loaded
+-- how many bytes a source gives
+mod Metering
 -- why patterns are refused
 mod Refused
 -- which pieces are clean, and what follows

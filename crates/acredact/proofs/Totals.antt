@@ -10,6 +10,7 @@ use Rattle.aho_devices.specs.declared.device.Sink.{Ghosts as SinkGhosts}
 use Rattle.aho_devices.specs.declared.device.Source.{Ghosts as SourceGhosts}
 use Rattle.programs.specs.Names.{is_input}
 use Rattle.programs.specs.declared.errors.Errors.{Errors}
+use Rattle.acredact.specs.Arguments.{Given}
 use Rattle.acredact.specs.Calls.{TellsCounts, TellsTotals}
 use Rattle.acredact.specs.Counts.{lines_of_rules, zeros}
 use Rattle.acredact.specs.Files.{Work}
@@ -17,6 +18,7 @@ use Rattle.acredact.specs.Secrets.{Redactor}
 use Rattle.acredact.specs.Tables.{secret_of, secrets_of}
 use Rattle.acredact.specs.Totals.{AreTotals, CountsOfName, CountsOfNames, CountsOfStream, CountsOfText, HasRanges, NamesHaveRanges}
 use Rattle.acredact.specs.declared.patterns.Rule.{Rule}
+use Rattle.acredact.specs.declared.summary.Volume.{Volume}
 use Rattle.acredact.proofs.OneFile.{ends_by, known_read, of_folder, of_input}
 
 -- a stream that has ended gave a text
@@ -96,9 +98,9 @@ totals_from rules ranges counts grown =
     }
 
 -- and are told
-pub totals_told : {E : Type 0} (K : SinkGhosts E) (rules : List Rule) (ranges : List Occurrence) (counts : List ℕ) (old new : Errors E) → CountsThese ranges (zeros true rules) counts → TellsCounts K rules counts old new
-    → TellsTotals K (secrets_of rules) ranges old new
-totals_told K rules ranges counts old new grown told = record {
+pub totals_told : {E : Type 0} (K : SinkGhosts E) (given : List Given) (rules : List Rule) (ranges : List Occurrence) (counts : List ℕ) (volume : Volume) (old new : Errors E) → CountsThese ranges (zeros true rules) counts → TellsCounts K given rules counts volume old new
+    → TellsTotals K given (secrets_of rules) ranges volume old new
+totals_told K given rules ranges counts volume old new grown told = record {
   lines = lines_of_rules rules;
   one_line = length-map rules (λ rule. rule.line) ∙ sym (length-map rules secret_of);
   counts = counts;

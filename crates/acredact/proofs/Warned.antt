@@ -12,7 +12,7 @@ use Rattle.programs.specs.Telling.{Tells, TellsBytes, TellsSome}
 use Rattle.programs.specs.declared.errors.Errors.{Errors}
 use Rattle.programs.specs.declared.failure.Failure.TheVariants.{OutOfMemory}
 use Rattle.programs.proofs.Tellings.{tells-later}
-use Rattle.acredact.specs.Arguments.{has}
+use Rattle.acredact.specs.Arguments.{counts_asked, has}
 use Rattle.acredact.specs.Calls.{Call, CallOutcome, IsBuildRefusal, IsCountsFailure, IsCountsLine, IsLineOf, IsRunFailure, IsUntouched, OutputFails, RestOutcome, RunOutcome, TellsCounts, WarnedOutcome, names_asked, reading_by, redactor_by_given, work_by}
 use Rattle.acredact.specs.Counts.{zeros}
 use Rattle.acredact.specs.Files.{Work}
@@ -21,13 +21,16 @@ use Rattle.acredact.specs.Messages.{unclean_line}
 use Rattle.acredact.specs.Pieces.{HasCleanPieces, IsJudged, TellsOfPieces, TellsUnclean, redactor_with}
 use Rattle.acredact.specs.Secrets.{Redactor}
 use Rattle.acredact.specs.Tables.{Secret, secrets_of}
+use Rattle.acredact.specs.Summaries.{no_volume}
 use Rattle.acredact.specs.Totals.{CountsOfNames}
-use Rattle.acredact.specs.declared.arguments.Word.TheVariants.{Count, Strict}
+use Rattle.acredact.specs.Volumes.{ReadsVolume}
+use Rattle.acredact.specs.declared.arguments.Word.TheVariants.{Strict}
 use Rattle.acredact.specs.declared.clean.Unclean.{Unclean}
 use Rattle.acredact.specs.declared.failure.Failure.{Failure}
 use Rattle.acredact.specs.declared.failure.Failure.TheVariants.{Other, Unclean as UncleanPiece}
 use Rattle.acredact.specs.declared.patterns.Rule.{Rule}
 use Rattle.acredact.specs.declared.streams.Streams.{Streams}
+use Rattle.acredact.specs.declared.summary.Volume.{Volume}
 use Rattle.acredact.proofs.Calls.{call_refused, may_fail, rest_cut, rest_told, tells_same}
 use Rattle.acredact.proofs.Done.{concat_both}
 use Rattle.acredact.proofs.Free.{free_of}
@@ -133,7 +136,7 @@ module _ {R : Type 0} {Reads : Readers R} {W E : Type 0} (Writes : Writers W) (K
             loaded = loaded;
             told = subst (λ (e : Errors E). TellsOfPieces K (has Strict call.given) (redactor_by_given call.given secrets) old.errors e) (sym (rest.quiet none is)) told;
           };
-          counts = λ some is. let (ranges, found, counted) = rest.counts some is in record {
+          counts = λ some is. let (ranges, found, volume, read, counted) = rest.counts some is in record {
             secrets = secrets;
             between = bytes_left old.input;
             loaded = loaded;
@@ -142,6 +145,8 @@ module _ {R : Type 0} {Reads : Readers R} {W E : Type 0} (Writes : Writers W) (K
             found = found;
             meanwhile = errors;
             warned = told;
+            volume = volume;
+            read = read;
             counted = counted;
           };
           partly = λ is. some_behind K (IsLineOf call (OutputFails old.output new.output)) old.errors errors new.errors (first _) (rest.partly is);
@@ -164,12 +169,13 @@ module _ {R : Type 0} {Reads : Readers R} {W E : Type 0} (Writes : Writers W) (K
         call_warned mid errors (Err failure) told (rest_cut Writes K call secrets (record old { errors = errors }) mid failure run)
 
   -- all was done but the counts
-  pub call_told : (rules : List Rule) (numbers : List ℕ) (old mid : Streams R W E Reads) → AreGiven (reading_by call) call.given (secrets_of rules) left (bytes_left old.input)
-      → (all counted : Bool) (result : Result Bool Failure) (errors : Errors E) → counted ≡ has Count call.given → WarnedOutcome Writes K (has Strict call.given) (work_by call (secrets_of rules)) (Ok all) old mid
-      → (all ≡ true → CountsOfNames (bytes_left old.input) (bytes_left mid.input) (zeros counted rules) numbers (work_by call (secrets_of rules)) (names_asked call.given))
-      → IfOk result (λ done. done ≡ all) → OnOk result (MatchBool counted (TellsCounts K rules numbers mid.errors errors) (errors ≡ mid.errors))
-      → IfErr result (IsCountsFailure counted) → Tells K (IsCountsLine counted) mid.errors errors → CallOutcome Writes K call left result old (record mid { errors = errors })
-  call_told rules numbers old mid loaded all counted result errors is (inl (why, fails, same, of)) grown done counts untold told = let clash : Ok all ≡ Err why = fails in absurd (cc)
-  call_told rules numbers old mid loaded all counted result errors is (inr (warned, pieces, run)) grown done counts untold told =
+  pub call_told : (rules : List Rule) (numbers : List ℕ) (volume : Volume) (old mid : Streams R W E Reads) → AreGiven (reading_by call) call.given (secrets_of rules) left (bytes_left old.input)
+      → (all counted : Bool) (result : Result Bool Failure) (errors : Errors E) → counted ≡ counts_asked call.given → WarnedOutcome Writes K (has Strict call.given) (work_by call (secrets_of rules)) (Ok all) old mid
+      → (all ≡ true → CountsOfNames (bytes_left old.input) (bytes_left mid.input) (zeros counted rules) numbers (work_by call (secrets_of rules)) (names_asked call.given)
+      × ReadsVolume call.holds (names_asked call.given) no_volume volume (bytes_left old.input) (bytes_left mid.input))
+      → IfOk result (λ done. done ≡ all) → OnOk result (MatchBool counted (TellsCounts K call.given rules numbers volume mid.errors errors) (errors ≡ mid.errors))
+      → IfErr result (IsCountsFailure counted) → Tells K (IsCountsLine call.given) mid.errors errors → CallOutcome Writes K call left result old (record mid { errors = errors })
+  call_told rules numbers volume old mid loaded all counted result errors is (inl (why, fails, same, of)) grown done counts untold told = let clash : Ok all ≡ Err why = fails in absurd (cc)
+  call_told rules numbers volume old mid loaded all counted result errors is (inr (warned, pieces, run)) grown done counts untold told =
       call_warned (secrets_of rules) old mid loaded (record mid { errors = errors }) warned result pieces
-      (rest_told Writes K call rules numbers (record old { errors = warned }) mid all counted result errors is run grown done counts untold told)
+      (rest_told Writes K call rules numbers volume (record old { errors = warned }) mid all counted result errors is run grown done counts untold told)

@@ -5,12 +5,12 @@ use Rattle.aho_core.specs.declared.search.MatchKind.{MatchKind}
 use Rattle.aho_core.specs.declared.search.MatchKind.TheVariants.{Standard}
 use Rattle.programs.specs.Arguments.{kind_by, texts}
 use Rattle.acredact.specs.declared.arguments.Word.{Word}
-use Rattle.acredact.specs.declared.arguments.Word.TheVariants.{IgnoreCase, Kind, Pattern, Patterns, Table, With, Count, Crlf, AllowEmpty, Strict, Check, Help, Version, File}
+use Rattle.acredact.specs.declared.arguments.Word.TheVariants.{IgnoreCase, Kind, Pattern, Patterns, Table, With, Output, Count, Summary, Crlf, AllowEmpty, Strict, Check, Help, Version, File}
 use Rattle.acredact.specs.declared.arguments.Expects.{Expects}
 use Rattle.acredact.specs.declared.arguments.Expects.TheVariants.{Any, Value, Name}
 use Rattle.acredact.specs.declared.arguments.Item.{Item}
 use Rattle.acredact.specs.declared.arguments.Mixture.{Mixture}
-use Rattle.acredact.specs.declared.arguments.Mixture.TheVariants.{StrictKind, CountCheck}
+use Rattle.acredact.specs.declared.arguments.Mixture.TheVariants.{StrictKind, CountCheck, SummaryCheck, OutputCheck}
 use Rattle.acredact.specs.declared.arguments.Reading.{Reading}
 use Rattle.acredact.specs.declared.arguments.Reading.TheVariants.{Whole, Begun, Wrong}
 
@@ -42,7 +42,9 @@ word_by argument =
     else if bytes_eq argument (codes "-f") then Some Patterns
     else if bytes_eq argument (codes "-t") then Some Table
     else if bytes_eq argument (codes "--with") then Some With
+    else if bytes_eq argument (codes "--output") then Some Output
     else if bytes_eq argument (codes "--count") then Some Count
+    else if bytes_eq argument (codes "--summary") then Some Summary
     else if bytes_eq argument (codes "--crlf") then Some Crlf
     else if bytes_eq argument (codes "--allow-empty") then Some AllowEmpty
     else if bytes_eq argument (codes "--strict") then Some Strict
@@ -59,8 +61,10 @@ takes_value Pattern = true
 takes_value Patterns = true
 takes_value Table = true
 takes_value With = true
+takes_value Output = true
 takes_value IgnoreCase = false
 takes_value Count = false
+takes_value Summary = false
 takes_value Crlf = false
 takes_value AllowEmpty = false
 takes_value Strict = false
@@ -81,7 +85,9 @@ is_value_of Pattern value = true
 is_value_of Patterns value = true
 is_value_of Table value = true
 is_value_of With value = true
+is_value_of Output value = true
 is_value_of Count value = true
+is_value_of Summary value = true
 is_value_of Crlf value = true
 is_value_of AllowEmpty value = true
 is_value_of Strict value = true
@@ -114,6 +120,7 @@ abbrev pub joined_option_of : List ℕ → Option ReadAs
 joined_option_of argument =
     if bytes_eq (take 7 argument) (codes "--kind=") then value_read Kind (drop 7 argument)
     else if bytes_eq (take 7 argument) (codes "--with=") then value_read With (drop 7 argument)
+    else if bytes_eq (take 9 argument) (codes "--output=") then value_read Output (drop 9 argument)
     else None
 
 abbrev pub word_or_joined : Option Word → List ℕ → Option ReadAs
@@ -156,7 +163,9 @@ is_same Pattern Pattern = true
 is_same Patterns Patterns = true
 is_same Table Table = true
 is_same With With = true
+is_same Output Output = true
 is_same Count Count = true
+is_same Summary Summary = true
 is_same Crlf Crlf = true
 is_same AllowEmpty AllowEmpty = true
 is_same Strict Strict = true
@@ -191,8 +200,10 @@ option_name Pattern = codes "-e"
 option_name Patterns = codes "-f"
 option_name Table = codes "-t"
 option_name With = codes "--with"
+option_name Output = codes "--output"
 option_name IgnoreCase = codes "-e"
 option_name Count = codes "-e"
+option_name Summary = codes "-e"
 option_name Crlf = codes "-e"
 option_name AllowEmpty = codes "-e"
 option_name Strict = codes "-e"
@@ -200,6 +211,10 @@ option_name Check = codes "-e"
 option_name Help = codes "-e"
 option_name Version = codes "-e"
 option_name File = codes "-e"
+
+-- the file that is written in the place of standard output, where one is asked for; help and the version go to that
+abbrev pub output_asked : List Given → Option (List ℕ)
+output_asked items = if has Help items || has Version items then None else last_value Output items
 
 -- whether a cover is asked for: so it is where no kind is given
 abbrev pub covers_asked : List Given → Bool
@@ -209,11 +224,20 @@ covers_asked items = is_cover (unwrap_or (last_value Kind items) (codes "cover")
 abbrev pub kind_asked : List Given → MatchKind
 kind_asked items = unwrap_or (option_and_then kind_by (last_value Kind items)) Standard
 
+-- whether it is asked for how often the text of each pattern is written: as lines, or in a summary
+abbrev pub counts_asked : List Given → Bool
+counts_asked items = has Count items || has Summary items
+
+abbrev pub counts_given : List Item → Bool
+counts_given items = counts_asked (all_given items)
+
 -- the options that do not go together, where some do not: pieces are refused of covers alone, and a check counts nothing
 abbrev pub mixture_of : List Given → Option Mixture
 mixture_of given =
     if has Strict given && not (covers_asked given) then Some StrictKind
     else if has Count given && has Check given then Some CountCheck
+    else if has Summary given && has Check given then Some SummaryCheck
+    else if has Output given && has Check given then Some OutputCheck
     else None
 
 -- all options and files, where they go together
@@ -258,6 +282,10 @@ IfAsked arguments Holds = (given : List Given) → all_asked (texts arguments) �
 -- or for a check
 abbrev pub IfChecking : {Z : Type 0} → List (String Z) → (List Given → Type 0) → Type 0
 IfChecking arguments Holds = (given : List Given) → all_asked (texts arguments) ≡ Some given → AsksToCheck given → Holds given
+
+-- the options that are given name this file for the output, or none
+abbrev pub NamesOutput : {Z : Type 0} → List (String Z) → Option (List ℕ) → Type 0
+NamesOutput arguments output = (given : List Given) × (all_asked (texts arguments) ≡ Some given) × (output ≡ output_asked given)
 
 -- these arguments ask for a check
 abbrev pub IsCheck : {Z : Type 0} → List (String Z) → Type 0

@@ -15,9 +15,9 @@ use Rattle.programs.specs.declared.errors.Errors.{Errors}
 use Rattle.programs.specs.declared.failure.Failure.{Failure as OtherFailure}
 use Rattle.programs.specs.declared.failure.Failure.TheVariants.{Build, OutOfMemory, Write, WriteZero}
 use Rattle.programs.specs.declared.reason.Reason.{Reason}
-use Rattle.acredact.specs.Arguments.{Given, GivesNoPattern, RefusesUnclean, covers_asked, has, is_same, last_value}
+use Rattle.acredact.specs.Arguments.{Given, GivesNoPattern, RefusesUnclean, counts_asked, covers_asked, has, is_same, last_value}
 use Rattle.acredact.specs.Builds.{RefusesPatterns, patterns_by_given}
-use Rattle.acredact.specs.Counts.{counts_text, counts_told}
+use Rattle.acredact.specs.Counts.{lines_of_rules}
 use Rattle.acredact.specs.Failures.{IsFailureLine}
 use Rattle.acredact.specs.Files.{AreCut, AreDone, AreFree, AreRedacted, Does, Work, are_none, redactor_of, unread_line, work_of}
 use Rattle.acredact.specs.Loading.{AreGiven, CannotLoadOne, Reading, Rules}
@@ -26,9 +26,11 @@ use Rattle.acredact.specs.Mistakes.{IsMistakeOfCall}
 use Rattle.acredact.specs.Pieces.{IsUnclean, TellsOfPieces}
 use Rattle.acredact.specs.Secrets.{Redactor}
 use Rattle.acredact.specs.Tables.{Secret, patterns_in, piece_by, secrets_of}
+use Rattle.acredact.specs.Summaries.{no_volume, totals_text}
 use Rattle.acredact.specs.Totals.{AreTotals, NamesHaveRanges}
+use Rattle.acredact.specs.Volumes.{ReadsVolume}
 use Rattle.acredact.specs.declared.arguments.Mistake.TheVariants.{NoPattern, OutOfMemory as NoRoom}
-use Rattle.acredact.specs.declared.arguments.Word.TheVariants.{Count, Crlf, AllowEmpty, Strict, File, Pattern as PatternOption, Patterns as PatternFile, Table, With}
+use Rattle.acredact.specs.declared.arguments.Word.TheVariants.{Crlf, AllowEmpty, Strict, File, Pattern as PatternOption, Patterns as PatternFile, Table, With}
 use Rattle.acredact.specs.declared.clean.Unclean.{Unclean}
 use Rattle.acredact.specs.declared.failure.Failure.{Failure}
 use Rattle.acredact.specs.declared.failure.Failure.TheVariants.{NotText, Arguments, Unclean as UncleanPiece, Counts, Other}
@@ -36,6 +38,7 @@ use Rattle.acredact.specs.declared.files.Job.{Job}
 use Rattle.acredact.specs.declared.folder.Folder.{Ghosts as Folders}
 use Rattle.acredact.specs.declared.patterns.Rule.{Rule}
 use Rattle.acredact.specs.declared.streams.Streams.{Streams}
+use Rattle.acredact.specs.declared.summary.Volume.{Volume}
 
 -- the options and files that are given, and what the folder holds under a name, why it may refuse to open it, and whether the output
 -- may go to it
@@ -65,6 +68,11 @@ names_given (item ∷ items) = if is_same File item.word then item.value ∷ nam
 
 abbrev pub names_asked : List Given → List (List ℕ)
 names_asked given = or_input (names_given given)
+
+-- all files that are given were read to their ends, and counted
+abbrev pub ReadsAsked : {R W E : Type 0} {Reads : Readers R} → (List ℕ → Option (List ℕ)) → List Given → (volume volume' : Volume) → (streams streams' : Streams R W E Reads) → Type 0
+ReadsAsked holds given volume volume' streams streams' =
+    ReadsVolume holds (names_asked given) volume volume' (bytes_left streams.input) (bytes_left streams'.input)
 
 -- what is written for a pattern that has no replacement of its own
 abbrev pub text_asked : List Given → List ℕ
@@ -126,7 +134,7 @@ abbrev pub MayFail : Call → (fails : Type 0) → Failure → Type 0
 MayFail call fails failure =
     ((failure ≡ Arguments NoRoom) ⊎ ((failure ≡ Arguments NoPattern) × GivesNoPattern call.given))
     ⊎ (CannotLoadOne (reading_by call) call.given failure
-    ⊎ (((failure ≡ Counts) × (has Count call.given ≡ true))
+    ⊎ (((failure ≡ Counts) × (counts_asked call.given ≡ true))
     ⊎ (IsUncleanFailure call failure
     ⊎ (IsRefusedCall call failure
     ⊎ IsRunFailure fails failure))))
@@ -136,12 +144,12 @@ abbrev pub IsUnreadLine : List (List ℕ) → List ℕ → Type 0
 IsUnreadLine names line = (name : List ℕ) × IsOneOf name names × (((reason : Reason) × (line ≡ unread_line name reason)) ⊎ (line ≡ output_line name))
 
 -- the lines of the counts
-abbrev pub IsCountsText : List ℕ → Type 0
-IsCountsText text = (lines : List ℕ) × (counts : List ℕ) × (text ≡ counts_text 1 lines counts)
+abbrev pub IsCountsText : List Given → List ℕ → Type 0
+IsCountsText given text = (lines : List ℕ) × (counts : List ℕ) × (volume : Volume) × (text ≡ totals_text given lines counts volume)
 
 -- that, where they are asked for
-abbrev pub IsCountsLine : Bool → List ℕ → Type 0
-IsCountsLine counted line = (counted ≡ true) × IsCountsText line
+abbrev pub IsCountsLine : List Given → List ℕ → Type 0
+IsCountsLine given line = (counts_asked given ≡ true) × IsCountsText given line
 
 -- why the counts are not told
 abbrev pub IsCountsFailure : Bool → Failure → Type 0
@@ -158,7 +166,7 @@ abbrev pub IsLineOf : Call → (fails : Type 0) → List ℕ → Type 0
 IsLineOf call fails line =
     IsUnreadLine (names_asked call.given) line
     ⊎ (((failure : Failure) × MayFail call fails failure × IsFailureLine failure line)
-    ⊎ (IsCountsLine (has Count call.given) line
+    ⊎ (IsCountsLine call.given line
     ⊎ IsWarningLine call line))
 
 -- what is told of wrong arguments
@@ -173,21 +181,21 @@ abbrev pub IsRefusedLine : OtherFailure → List ℕ → Type 0
 IsRefusedLine failure line = IsFailureLine NotText line ⊎ IsFailureLine (Other failure) line
 
 -- the counts of these rules are told whole
-pub record TellsCounts {E : Type 0} (K : SinkGhosts E) (rules : List Rule) (counts : List ℕ) (errors errors' : Errors E) : Type 0 where
-  pub told : TellsBytes K errors errors' (counts_told rules counts)
+pub record TellsCounts {E : Type 0} (K : SinkGhosts E) (given : List Given) (rules : List Rule) (counts : List ℕ) (volume : Volume) (errors errors' : Errors E) : Type 0 where
+  pub told : TellsBytes K errors errors' (totals_text given (lines_of_rules rules) counts volume)
   pub whole : errors'.failed ≡ false
 
 -- they are, or nothing is
-abbrev pub TellsAnyCounts : {E : Type 0} → SinkGhosts E → Bool → List Rule → (counts : List ℕ) → (errors errors' : Errors E) → Type 0
-TellsAnyCounts K counted rules counts errors errors' = MatchBool counted (TellsCounts K rules counts errors errors') (errors' ≡ errors)
+abbrev pub TellsAnyCounts : {E : Type 0} → SinkGhosts E → List Given → List Rule → (counts : List ℕ) → Volume → (errors errors' : Errors E) → Type 0
+TellsAnyCounts K given rules counts volume errors errors' = MatchBool (counts_asked given) (TellsCounts K given rules counts volume errors errors') (errors' ≡ errors)
 
 -- it is told whole how many of these ranges have the text of each pattern in their place
-pub record TellsTotals {E : Type 0} (K : SinkGhosts E) (secrets : List Secret) (ranges : List Occurrence) (errors errors' : Errors E) : Type 0 where
+pub record TellsTotals {E : Type 0} (K : SinkGhosts E) (given : List Given) (secrets : List Secret) (ranges : List Occurrence) (volume : Volume) (errors errors' : Errors E) : Type 0 where
   pub lines : List ℕ
   pub one_line : length lines ≡ length secrets
   pub counts : List ℕ
   pub totals : AreTotals (length secrets) ranges counts
-  pub told : TellsBytes K errors errors' (counts_text 1 lines counts)
+  pub told : TellsBytes K errors errors' (totals_text given lines counts volume)
   pub whole : errors'.failed ≡ false
 
 -- of all patterns that were loaded the pieces are told, where they are not clean
@@ -241,7 +249,9 @@ module _ {R : Type 0} {Reads : Readers R} {W : Type 0} (Writes : Writers W) wher
       pub found : NamesHaveRanges (work_by call secrets) (names_asked call.given) ranges between (bytes_left streams'.input)
       pub meanwhile : Errors E
       pub warned : TellsOfPieces K (has Strict call.given) (redactor_by_given call.given secrets) streams.errors meanwhile
-      pub counted : TellsTotals K secrets ranges meanwhile streams'.errors
+      pub volume : Volume
+      pub read : ReadsVolume call.holds (names_asked call.given) no_volume volume between (bytes_left streams'.input)
+      pub counted : TellsTotals K call.given secrets ranges volume meanwhile streams'.errors
 
     -- nothing was written or told
     pub record IsUntouched (streams streams' : Streams R W E Reads) : Type 0 where
@@ -254,8 +264,8 @@ module _ {R : Type 0} {Reads : Readers R} {W : Type 0} (Writes : Writers W) wher
       pub strict : RefusesUnclean call.given → result ≡ Ok true → LeavesNone call left streams streams'
       pub refused : IfErr result (λ failure. (unclean : Unclean) → failure ≡ UncleanPiece unclean → IsUntouched streams streams')
       pub begins : BeginsCall call left streams streams'
-      pub quiet : has Count call.given ≡ false → result ≡ Ok true → WarnsCall K call left streams.errors streams'.errors
-      pub counts : has Count call.given ≡ true → result ≡ Ok true → CountsCall call left streams streams'
+      pub quiet : counts_asked call.given ≡ false → result ≡ Ok true → WarnsCall K call left streams.errors streams'.errors
+      pub counts : counts_asked call.given ≡ true → result ≡ Ok true → CountsCall call left streams streams'
       pub partly : result ≡ Ok false
           → TellsSome K (IsLineOf call (OutputFails streams.output streams'.output)) streams.errors streams'.errors
       pub fails : IfErr result (MayFail call (OutputFails streams.output streams'.output))
@@ -265,7 +275,8 @@ module _ {R : Type 0} {Reads : Readers R} {W : Type 0} (Writes : Writers W) wher
     abbrev pub CountsRest : Call → List Secret → (streams streams' : Streams R W E Reads) → Type 0
     CountsRest call secrets streams streams' = (ranges : List Occurrence)
         × NamesHaveRanges (work_by call secrets) (names_asked call.given) ranges (bytes_left streams.input) (bytes_left streams'.input)
-        × TellsTotals K secrets ranges streams.errors streams'.errors
+        × (volume : Volume) × ReadsVolume call.holds (names_asked call.given) no_volume volume (bytes_left streams.input) (bytes_left streams'.input)
+        × TellsTotals K call.given secrets ranges volume streams.errors streams'.errors
 
     -- what comes of the files of a call whose patterns were loaded and whose pieces were looked at
     pub record RestOutcome (call : Call) (secrets : List Secret) (result : Result Bool Failure) (streams streams' : Streams R W E Reads) : Type 0 where
@@ -273,8 +284,8 @@ module _ {R : Type 0} {Reads : Readers R} {W : Type 0} (Writes : Writers W) wher
           (output_bytes Writes streams.output) (output_bytes Writes streams'.output)
       pub begins : (streams'.output ≡ streams.output) ⊎ ((lines : List (List ℕ)) × AreCut (work_by call secrets) (names_asked call.given) lines (bytes_left streams.input) (bytes_left streams'.input)
           (output_bytes Writes streams.output) (output_bytes Writes streams'.output))
-      pub quiet : has Count call.given ≡ false → result ≡ Ok true → streams'.errors ≡ streams.errors
-      pub counts : has Count call.given ≡ true → result ≡ Ok true → CountsRest call secrets streams streams'
+      pub quiet : counts_asked call.given ≡ false → result ≡ Ok true → streams'.errors ≡ streams.errors
+      pub counts : counts_asked call.given ≡ true → result ≡ Ok true → CountsRest call secrets streams streams'
       pub partly : result ≡ Ok false
           → TellsSome K (IsLineOf call (OutputFails streams.output streams'.output)) streams.errors streams'.errors
       pub fails : IfErr result (MayFail call (OutputFails streams.output streams'.output))

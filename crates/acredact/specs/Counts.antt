@@ -1,6 +1,10 @@
 -- How many matches of each pattern were replaced, and how that is told.
-use Rattle.std.specs.Prelude.{ℕ, ◌+◌, ◌-◌, ◌^◌, ◌==◌, min, Bool, List, [], ◌∷◌, ◌++◌, codes, decimal, map, if◌then◌else◌}
+use Rattle.std.specs.Prelude.{◌≡◌, ℕ, ◌+◌, ◌-◌, ◌^◌, ◌==◌, min, Bool, List, [], ◌∷◌, ◌++◌, codes, decimal, map, Vec, if◌then◌else◌}
 use Rattle.acredact.specs.declared.patterns.Rule.{Rule}
+
+-- these bytes were put at the end of a text
+abbrev pub PutsText : {Z : Type 0} → (text text' : Vec ℕ Z) → List ℕ → Type 0
+PutsText text text' bytes = text'.items ≡ text.items ++ bytes
 
 -- one more; a number stops at the greatest
 abbrev pub counted_more : ℕ → ℕ

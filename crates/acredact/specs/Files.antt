@@ -148,7 +148,15 @@ module _ {W : Type 0} (Writes : Writers W) where
     pub reason : IfOk result (λ unread. IfSome unread IsReadReason)
     pub fails : FailsByOutput result output output'
 
+  -- whatever an opened file has left afterwards
+  abbrev pub OpenedOutcome : Redactor → Result (Option Reason) StreamError → Option (List ℕ) → (output output' : FromWrite W) → Type 0
+  OpenedOutcome r result left output output' = (rest : Option (List ℕ)) × TextOutcome r result left rest output output'
+
   module _ {R : Type 0} {Reads : Readers R} where
+    -- what comes of an input
+    abbrev pub InputOutcome : Redactor → Result (Option Reason) StreamError → (input input' : FromRead R Reads) → (output output' : FromWrite W) → Type 0
+    InputOutcome r result input input' output output' = TextOutcome r result (bytes_left input) (bytes_left input') output output'
+
     -- what comes of the file of a name
     pub record FileOutcome (work : Work) (name : List ℕ) (result : Result (Option Reason) StreamError) (input input' : FromRead R Reads) (output output' : FromWrite W) : Type 0 where
       pub redacted : result ≡ Ok None

@@ -18,6 +18,10 @@ pub mod Reads
 pub mod Files
 -- how often the text of each pattern was written
 pub mod Totals
+-- how much was read, and a summary
+pub mod Metering
+pub mod Volumes
+pub mod Summaries
 -- what the options add to the patterns
 pub mod Loading
 -- which texts hold a match
@@ -29,3 +33,5 @@ pub mod Failures
 pub mod Calls
 pub mod Checks
 pub mod Statuses
+-- a file for the output
+pub mod Into

@@ -9,13 +9,15 @@ use Rattle.acredact.specs.declared.arguments.Expects.TheVariants.{Any, Value, Na
 use Rattle.acredact.specs.declared.arguments.Mistake.{Mistake}
 use Rattle.acredact.specs.declared.arguments.Mistake.TheVariants.{Unknown, UnknownKind, NoValue, NoPattern, Mixed, OutOfMemory}
 use Rattle.acredact.specs.declared.arguments.Mixture.{Mixture}
-use Rattle.acredact.specs.declared.arguments.Mixture.TheVariants.{StrictKind, CountCheck}
+use Rattle.acredact.specs.declared.arguments.Mixture.TheVariants.{StrictKind, CountCheck, SummaryCheck, OutputCheck}
 use Rattle.acredact.specs.declared.arguments.Reading.{Reading}
 use Rattle.acredact.specs.declared.arguments.Reading.TheVariants.{Whole, Begun, Wrong}
 
 -- what is told of options that do not go together
 abbrev pub mixture_text : Mixture → List ℕ
 mixture_text StrictKind = codes "--strict needs --kind cover: it promises nothing by another kind"
+mixture_text SummaryCheck = codes "--summary and --check do not go together: a check counts nothing"
+mixture_text OutputCheck = codes "--output and --check do not go together: a check writes nothing"
 mixture_text CountCheck = codes "--count and --check do not go together: a check counts nothing"
 
 -- what is told of a mistake

@@ -34,6 +34,9 @@ pieces_by judge = map (piece_by judge.usual.now) (secrets_of judge.rules.now)
 abbrev pub redactor_with : Patterns → Bool → List (List ℕ) → Redactor
 redactor_with p covers pieces = record { patterns = p; covers = covers; pieces = pieces }
 
+abbrev pub redactor_judged : Patterns → Bool → Judge → Redactor
+redactor_judged p covers judge = redactor_with p covers (pieces_by judge)
+
 -- what holds of the patterns of an automaton, of one with rows, where there is one, and of a judge
 abbrev pub IfOfAll : {A B : Type 0} → Ghosts A → Ghosts B → A → Option (Bor B) → Judge → (Patterns → Type 0) → Type 0
 IfOfAll G H automaton rows judge Holds = IfOf G automaton (λ p. IsJudgeOf judge p → IfSome rows (λ rows. H.is_of rows.now p) → Holds p)

@@ -5,9 +5,8 @@ use Rattle.std.specs.declared.io.traits.Write.{Ghosts as Writers}
 use Rattle.aho_devices.specs.declared.device.Sink.{Ghosts as SinkGhosts}
 use Rattle.programs.specs.Streams.{bytes_left}
 use Rattle.programs.specs.Telling.{TellsSome}
-use Rattle.acredact.specs.Arguments.{AsksToRedact, Given, GivesNoPattern, RefusesUnclean, has}
+use Rattle.acredact.specs.Arguments.{AsksToRedact, Given, GivesNoPattern, RefusesUnclean, counts_asked}
 use Rattle.acredact.specs.Calls.{BeginsCall, Call, CountsCall, IsLineOf, LeavesNone, OutputFails, RedactsCall, WarnsCall, call_of}
-use Rattle.acredact.specs.declared.arguments.Word.TheVariants.{Count}
 use Rattle.acredact.specs.declared.folder.Folder.{Ghosts as Folders}
 use Rattle.acredact.specs.declared.look.Verdict.{Verdict}
 use Rattle.acredact.specs.declared.streams.Streams.{Streams}
@@ -22,8 +21,8 @@ pub record CallStatus {R W E : Type 0} {Reads : Readers R} (Writes : Writers W) 
   pub redacts : status ≡ 0 → RedactsCall Writes call (bytes_left streams.input) streams streams'
   pub begins : BeginsCall Writes call (bytes_left streams.input) streams streams'
   pub strict : RefusesUnclean call.given → status ≡ 0 → LeavesNone Writes call (bytes_left streams.input) streams streams'
-  pub quiet : has Count call.given ≡ false → status ≡ 0 → WarnsCall K call (bytes_left streams.input) streams.errors streams'.errors
-  pub counts : has Count call.given ≡ true → status ≡ 0 → CountsCall Writes K call (bytes_left streams.input) streams streams'
+  pub quiet : counts_asked call.given ≡ false → status ≡ 0 → WarnsCall K call (bytes_left streams.input) streams.errors streams'.errors
+  pub counts : counts_asked call.given ≡ true → status ≡ 0 → CountsCall Writes K call (bytes_left streams.input) streams streams'
   pub tells : status ≡ 2 → TellsSome K (IsLineOf call (OutputFails streams.output streams'.output)) streams.errors streams'.errors
 
 -- the same of a call that asks for a redaction

@@ -87,6 +87,9 @@ AddsLine table line rules rules' = IsAdded table (secrets_of rules.items) (secre
 abbrev pub AddsLines : {Z : Type 0} → Form → List (List ℕ) → (rules rules' : Vec Rule Z) → Type 0
 AddsLines form lines rules rules' = IsAddedList form (secrets_of rules.items) (secrets_of rules'.items) lines
 
+abbrev pub AddsListed : {Z : Type 0} → Form → List ℕ → (rules rules' : Vec Rule Z) → Type 0
+AddsListed form line rules rules' = AddsLines form (line ∷ []) rules rules'
+
 -- the bytes of the patterns
 abbrev pub patterns_in : List Secret → List (List ℕ)
 patterns_in secrets = map (λ secret. secret.pattern) secrets

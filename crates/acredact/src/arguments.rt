@@ -2,7 +2,7 @@
 
 ghost use Rattle.std.specs.Prelude.{◌≡◌, Some, None, IfErr, IfOk, option_map};
 ghost use Rattle.programs.specs.Arguments.{kind_by, texts};
-ghost use Rattle.acredact.specs.Arguments.{all_given, all_asked, any_by, checks_asked, completed, covers_asked, file_by, given_by, has, is_cover, is_same, is_value_of, joined_option_of, kind_asked, last_value, mixture_of, option_name, read_by, read_of, takes_value, word_by, word_read};
+ghost use Rattle.acredact.specs.Arguments.{all_given, all_asked, any_by, checks_asked, completed, counts_asked, covers_asked, file_by, given_by, has, is_cover, is_same, is_value_of, joined_option_of, kind_asked, last_value, mixture_of, option_name, output_asked, read_by, read_of, takes_value, word_by, word_read};
 ghost use Rattle.acredact.specs.Mistakes.{IsMistake, IsMistakeOfCall, IsMistaken};
 ghost use Rattle.acredact.specs.declared.arguments.Expects.TheVariants.{Any, Value};
 
@@ -24,8 +24,12 @@ pub enum Word {
     Table,
     /// `--with`: the replacement of each pattern that has none of its own.
     With,
+    /// `--output`: the file that is written, in the place of standard output.
+    Output,
     /// `--count`: how often the text of each pattern was written is told.
     Count,
+    /// `--summary`: how much was read, and how often the text of each pattern was written, is told as JSON.
+    Summary,
     /// `--crlf`: a carriage return at the end of a line of a file of patterns or of a table is left out.
     Crlf,
     /// `--allow-empty`: a file of patterns or a table may be empty.
@@ -69,6 +73,10 @@ pub enum Mixture {
     StrictKind,
     /// `--count` with `--check`, which counts nothing.
     CountCheck,
+    /// `--summary` with `--check`.
+    SummaryCheck,
+    /// `--output` with `--check`, which writes nothing.
+    OutputCheck,
 }
 
 /// Why arguments are wrong.
@@ -110,7 +118,9 @@ fn word_of(argument: &str) -> Option<Word>
         "-f" => Some(Word::Patterns),
         "-t" => Some(Word::Table),
         "--with" => Some(Word::With),
+        "--output" => Some(Word::Output),
         "--count" => Some(Word::Count),
+        "--summary" => Some(Word::Summary),
         "--crlf" => Some(Word::Crlf),
         "--allow-empty" => Some(Word::AllowEmpty),
         "--strict" => Some(Word::Strict),
@@ -141,6 +151,7 @@ pub fn name_of(word: Word) -> &'static str
         Word::Patterns => "-f",
         Word::Table => "-t",
         Word::With => "--with",
+        Word::Output => "--output",
         _ => "-e",
     }
 }
@@ -151,7 +162,7 @@ fn takes_value(word: Word) -> bool
 {
     matches!(
         word,
-        Word::Kind | Word::Pattern | Word::Patterns | Word::Table | Word::With
+        Word::Kind | Word::Pattern | Word::Patterns | Word::Table | Word::With | Word::Output
     )
 }
 
@@ -189,6 +200,12 @@ fn mixture_of(items: &[Item<'_>]) -> Option<Mixture>
     }
     if has(items, Word::Count) && has(items, Word::Check) {
         return Some(Mixture::CountCheck);
+    }
+    if has(items, Word::Summary) && has(items, Word::Check) {
+        return Some(Mixture::SummaryCheck);
+    }
+    if has(items, Word::Output) && has(items, Word::Check) {
+        return Some(Mixture::OutputCheck);
     }
     None
 }
@@ -263,8 +280,11 @@ fn read_joined(argument: &str) -> Reading<'_>
     if let Some(kind) = argument.strip_prefix("--kind=") {
         return read_value(Word::Kind, kind);
     }
-    match argument.strip_prefix("--with=") {
-        Some(text) => whole(Word::With, text, Expects::Any),
+    if let Some(text) = argument.strip_prefix("--with=") {
+        return whole(Word::With, text, Expects::Any);
+    }
+    match argument.strip_prefix("--output=") {
+        Some(name) => whole(Word::Output, name, Expects::Any),
         None => Reading::Wrong(Mistake::Unknown(argument)),
     }
 }
@@ -343,6 +363,16 @@ pub fn checks(items: &[Item<'_>]) -> bool
     has(items, Word::Check) && !has(items, Word::Help) && !has(items, Word::Version)
 }
 
+/// The file that is written, where that is asked for, and no help and no version.
+pub fn output_of<'a>(items: &[Item<'a>]) -> Option<&'a str>
+    ensures output { option_map (λ name. name.now) result ≡ output_asked (all_given items.now) }
+{
+    if has(items, Word::Help) || has(items, Word::Version) {
+        return None;
+    }
+    last_value(items, Word::Output)
+}
+
 /// Whether a cover is asked for: so it is where no kind is given.
 pub fn covers(items: &[Item<'_>]) -> bool
     ensures covers { result ≡ covers_asked (all_given items.now) }
@@ -361,4 +391,11 @@ pub fn kind_of(items: &[Item<'_>]) -> MatchKind
         Some(name) => kind_by(name).unwrap_or(MatchKind::Standard),
         None => MatchKind::Standard,
     }
+}
+
+/// Whether it is asked for how often the text of each pattern is written: as lines, or in a summary.
+pub fn counts(items: &[Item<'_>]) -> bool
+    ensures counts { result ≡ counts_asked (all_given items.now) }
+{
+    has(items, Word::Count) || has(items, Word::Summary)
 }

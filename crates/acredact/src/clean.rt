@@ -9,7 +9,7 @@ ghost use Rattle.aho_core.specs.Replacement.{pieces_of};
 ghost use Rattle.aho_core.specs.Search.{plain_search};
 ghost use Rattle.aho_core.specs.declared.search.Anchored.TheVariants.{No};
 ghost use Rattle.aho_laws.specs.CoverLaws.{IsCleanPiece};
-ghost use Rattle.acredact.specs.Pieces.{HoldNone, HoldsByte, IsFirstOrNone, IsFlawOrNone, IsHolder, IsJudgeOf, IsJudged, IsMarked, StayMarked, WordsAreMarked, pieces_by, redactor_with};
+ghost use Rattle.acredact.specs.Pieces.{HoldNone, HoldsByte, IsFirstOrNone, IsFlawOrNone, IsHolder, IsJudgeOf, IsJudged, IsMarked, StayMarked, WordsAreMarked, pieces_by, redactor_judged};
 ghost use Rattle.acredact.specs.Secrets.{IfOf, NoneOccurs};
 ghost use Rattle.acredact.specs.Tables.{piece_by, secret_of};
 
@@ -60,7 +60,7 @@ pub fn unclean_of<A: Automaton>(
     requires one_each { length judge.now.rules.now ≡ length judge.now.words.now }
     ensures judged { IfOf A.Automaton automaton.now (λ p.
         IsJudgeOf judge.now p →
-        IsJudged (redactor_with p covers (pieces_by judge.now)) result) }
+        IsJudged (redactor_judged p covers judge.now) result) }
 {
     if !covers {
         return None;

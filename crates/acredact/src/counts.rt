@@ -1,7 +1,7 @@
 //! How many matches of each pattern were replaced.
 
-ghost use Rattle.std.specs.Prelude.{◌≡◌, ◌++◌, IfOk, OnErr, OnOk, decimal};
-ghost use Rattle.acredact.specs.Counts.{count_line, counts_told, place_told, zeros};
+ghost use Rattle.std.specs.Prelude.{◌≡◌, IfOk, OnErr, OnOk, decimal};
+ghost use Rattle.acredact.specs.Counts.{PutsText, count_line, counts_told, place_told, zeros};
 ghost use Rattle.programs.specs.Telling.{TellsBytes};
 
 use crate::patterns::Rule;
@@ -15,7 +15,7 @@ const MAX_DIGITS: usize = 20;
 
 /// A count for each rule where they are counted, and else none.
 pub fn counts_of(alloc: Global, rules: &[Rule], counted: bool) -> Result<Vec<u64>, AllocError>
-    ensures counts { IfOk result (λ counts. counts.items ≡ zeros counted rules.now) }
+    ensures counts { IfOk result (λ all. all.items ≡ zeros counted rules.now) }
 {
     let mut counts = Vec::new(alloc);
     if counted {
@@ -28,50 +28,29 @@ pub fn counts_of(alloc: Global, rules: &[Rule], counted: bool) -> Result<Vec<u64
     Ok(counts)
 }
 
-/// Writes a line for each pattern by one write: how many of its matches were replaced, a TAB, its number from 1 on, a TAB, and the
-/// number of its line in its file, or `-e`.
-///
-/// # Errors
-///
-/// The error says that memory ran out, and nothing was written then.
-pub fn tell_counts<E: Sink>(
-    alloc: Global,
-    errors: &mut Errors<'_, E>,
-    rules: &[Rule],
-    counts: &[u64],
-) -> Result<(), AllocError>
-    ensures told { OnOk result (TellsBytes E.Sink errors.old errors.new
-        (counts_told rules.now counts.now)) }
-    ensures untold { OnErr result (errors.new ≡ errors.old) }
+/// Puts a line for each pattern: how many of its matches were replaced, a TAB, its number from 1 on, a TAB, and the number of its
+/// line in its file, or `-e`.
+pub fn put_counts(text: &mut Vec<u8>, rules: &[Rule], counts: &[u64]) -> Result<(), AllocError>
+    ensures put { OnOk result (PutsText text.old text.new (counts_told rules.now counts.now)) }
 {
-    let text = text_of(alloc, rules, counts)?;
-    errors.write(&[text.as_slice()]);
-    Ok(())
-}
-
-/// The lines of all patterns.
-fn text_of(alloc: Global, rules: &[Rule], counts: &[u64]) -> Result<Vec<u8>, AllocError>
-    ensures text { IfOk result (λ text. text.items ≡ counts_told rules.now counts.now) }
-{
-    let mut text = Vec::new(alloc);
     let mut rest = rules;
     let mut left = counts;
     let mut number: usize = 1;
     while !rest.is_empty() {
         if left.is_empty() {
-            return Ok(text);
+            return Ok(());
         }
-        put_count(&mut text, left[0], number, rest[0].line)?;
+        put_count(text, left[0], number, rest[0].line)?;
         number = number.saturating_add(1);
         rest = &rest[1..];
         left = &left[1..];
     }
-    Ok(text)
+    Ok(())
 }
 
 /// Puts the line of a pattern.
 fn put_count(text: &mut Vec<u8>, count: u64, number: usize, line: usize) -> Result<(), AllocError>
-    ensures put { OnOk result (text.new.items ≡ text.old.items ++ count_line count number line) }
+    ensures put { OnOk result (PutsText text.old text.new (count_line count number line)) }
 {
     put_number(text, count)?;
     text.push(b'\t')?;
@@ -84,7 +63,7 @@ fn put_count(text: &mut Vec<u8>, count: u64, number: usize, line: usize) -> Resu
 
 /// Puts the number of a line, or `-e` where it is 0.
 fn put_origin(text: &mut Vec<u8>, line: usize) -> Result<(), AllocError>
-    ensures put { OnOk result (text.new.items ≡ text.old.items ++ place_told line) }
+    ensures put { OnOk result (PutsText text.old text.new (place_told line)) }
 {
     if line == 0 {
         text.extend_from_slice(b"-e")?;
@@ -94,8 +73,8 @@ fn put_origin(text: &mut Vec<u8>, line: usize) -> Result<(), AllocError>
 }
 
 /// Puts a number in decimal.
-fn put_number(text: &mut Vec<u8>, number: u64) -> Result<(), AllocError>
-    ensures put { OnOk result (text.new.items ≡ text.old.items ++ decimal number) }
+pub fn put_number(text: &mut Vec<u8>, number: u64) -> Result<(), AllocError>
+    ensures put { OnOk result (PutsText text.old text.new (decimal number)) }
 {
     let mut digits = [0; MAX_DIGITS];
     let start = write_digits(number, &mut digits, MAX_DIGITS);

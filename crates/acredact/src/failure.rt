@@ -214,6 +214,12 @@ fn mixture_text(mixture: Mixture) -> &'static str
 {
     match mixture {
         Mixture::StrictKind => "--strict needs --kind cover: it promises nothing by another kind",
+        Mixture::SummaryCheck => {
+            "--summary and --check do not go together: a check counts nothing"
+        }
+        Mixture::OutputCheck => {
+            "--output and --check do not go together: a check writes nothing"
+        }
         Mixture::CountCheck => "--count and --check do not go together: a check counts nothing",
     }
 }

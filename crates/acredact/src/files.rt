@@ -5,23 +5,28 @@ ghost use Rattle.aho_devices.specs.Counts.{counted};
 ghost use Rattle.programs.specs.Names.{is_input};
 ghost use Rattle.programs.specs.Streams.{bytes_left};
 ghost use Rattle.acredact.specs.Faults.{is_unread, reading_of};
-ghost use Rattle.acredact.specs.Files.{CanDo, FileOutcome, FilesOutcome, JobOutcome, TextOutcome, ToldJob, work_of};
+ghost use Rattle.acredact.specs.Files.{CanDo, FileOutcome, FilesOutcome, InputOutcome, JobOutcome, OpenedOutcome, ToldJob, work_of};
 ghost use Rattle.acredact.specs.Secrets.{IfOf, Redactor};
-ghost use Rattle.acredact.specs.Totals.{CountsFile, CountsJob, CountsOfText, CountsOpened, CountsTold, JobCounts};
+ghost use Rattle.acredact.specs.Totals.{CountsFile, CountsJob, CountsOfStream, CountsOfText, CountsOpened, CountsTold, JobCounts};
+ghost use Rattle.acredact.specs.Streams.{StreamOutcome};
+ghost use Rattle.acredact.specs.Volumes.{AddsFile, AddsOpened, AddsText, AddsStream, FileVolume, JobVolume, files_with};
 ghost use Rattle.acredact.specs.Ways.{IfBy, Redacts};
 
 use crate::failure::{tell_output, tell_unread};
 use crate::folder::Folder;
+use crate::meter::{Known, Lent, Metered};
 use crate::streams::Streams;
+use crate::summary::Volume;
 use crate::ways::{Covering, Replacing, Way};
 use aho_automaton::automaton::Automaton;
 use aho_core::error::StreamError;
 use aho_cover::start::StreamCoverStart;
 use aho_devices::adapters::{FromRead, FromWrite};
-use aho_devices::device::Sink;
+use aho_devices::device::{Sink, Source};
 use programs::reason::Reason;
 use std::alloc::Global;
 use std::io::{Read, Write};
+use std::marker::{Brand, PhantomData};
 
 /// What is done to which files.
 #[derive(Clone, Copy)]
@@ -48,6 +53,7 @@ pub fn redact_files<A: Automaton, F: Folder, I: Read, W: Write, E: Sink>(
     automaton: &A,
     job: &Job<'_, '_, F>,
     counts: &mut [u64],
+    volume: &mut Volume,
     streams: &mut Streams<'_, I, W, E>,
 ) -> Result<bool, StreamError>
     requires ready { CanDo A.Automaton automaton.now job.now }
@@ -55,12 +61,13 @@ pub fn redact_files<A: Automaton, F: Folder, I: Read, W: Write, E: Sink>(
         automaton.now job.now result streams.old streams.new }
     ensures counted { IfOf A.Automaton automaton.now (JobCounts F.Folder job.now
         result streams.old streams.new counts.old counts.new) }
+    ensures read { JobVolume F.Folder job.now result volume.old volume.new streams.old streams.new }
     ensures flushed { OnOk result (streams.new.output.device.flushed ≡ true) }
 {
     if job.covers {
-        return cover_files(automaton, job, counts, streams);
+        return cover_files(automaton, job, counts, volume, streams);
     }
-    replace_files(automaton, job, counts, streams)
+    replace_files(automaton, job, counts, volume, streams)
 }
 
 /// Redacts all files by covers. The memory of all is taken before the first is opened.
@@ -68,6 +75,7 @@ fn cover_files<A: Automaton, F: Folder, I: Read, W: Write, E: Sink>(
     automaton: &A,
     job: &Job<'_, '_, F>,
     counts: &mut [u64],
+    volume: &mut Volume,
     streams: &mut Streams<'_, I, W, E>,
 ) -> Result<bool, StreamError>
     requires ready { CanDo A.Automaton automaton.now job.now }
@@ -76,6 +84,7 @@ fn cover_files<A: Automaton, F: Folder, I: Read, W: Write, E: Sink>(
         automaton.now job.now result streams.old streams.new }
     ensures counted { IfOf A.Automaton automaton.now (JobCounts F.Folder job.now
         result streams.old streams.new counts.old counts.new) }
+    ensures read { JobVolume F.Folder job.now result volume.old volume.new streams.old streams.new }
     ensures flushed { OnOk result (streams.new.output.device.flushed ≡ true) }
 {
     let start = StreamCoverStart::new(job.alloc, automaton)?;
@@ -83,7 +92,7 @@ fn cover_files<A: Automaton, F: Folder, I: Read, W: Write, E: Sink>(
         start,
         replacements: job.replacements,
     };
-    redact_flushed(&mut way, job, counts, streams)
+    redact_flushed(&mut way, job, counts, volume, streams)
 }
 
 /// Redacts all files by matches that share no byte.
@@ -91,6 +100,7 @@ fn replace_files<A: Automaton, F: Folder, I: Read, W: Write, E: Sink>(
     automaton: &A,
     job: &Job<'_, '_, F>,
     counts: &mut [u64],
+    volume: &mut Volume,
     streams: &mut Streams<'_, I, W, E>,
 ) -> Result<bool, StreamError>
     requires ready { CanDo A.Automaton automaton.now job.now }
@@ -99,6 +109,7 @@ fn replace_files<A: Automaton, F: Folder, I: Read, W: Write, E: Sink>(
         automaton.now job.now result streams.old streams.new }
     ensures counted { IfOf A.Automaton automaton.now (JobCounts F.Folder job.now
         result streams.old streams.new counts.old counts.new) }
+    ensures read { JobVolume F.Folder job.now result volume.old volume.new streams.old streams.new }
     ensures flushed { OnOk result (streams.new.output.device.flushed ≡ true) }
 {
     let mut way = Replacing {
@@ -106,7 +117,7 @@ fn replace_files<A: Automaton, F: Folder, I: Read, W: Write, E: Sink>(
         automaton,
         replacements: job.replacements,
     };
-    redact_flushed(&mut way, job, counts, streams)
+    redact_flushed(&mut way, job, counts, volume, streams)
 }
 
 /// Redacts each file in a way, and flushes.
@@ -114,6 +125,7 @@ fn redact_flushed<X: Way, F: Folder, I: Read, W: Write, E: Sink>(
     way: &mut X,
     job: &Job<'_, '_, F>,
     counts: &mut [u64],
+    volume: &mut Volume,
     streams: &mut Streams<'_, I, W, E>,
 ) -> Result<bool, StreamError>
     requires ready { (r : Redactor) × Redacts X.Way way.old r }
@@ -121,9 +133,10 @@ fn redact_flushed<X: Way, F: Folder, I: Read, W: Write, E: Sink>(
         (work_of F.Folder job.now r) result streams.old streams.new) }
     ensures counted { IfBy X.Way way.old (CountsJob F.Folder job.now
         result streams.old streams.new counts.old counts.new) }
+    ensures read { JobVolume F.Folder job.now result volume.old volume.new streams.old streams.new }
     ensures flushed { OnOk result (streams.new.output.device.flushed ≡ true) }
 {
-    let all = redact_each(way, job, counts, streams)?;
+    let all = redact_each(way, job, counts, volume, streams)?;
     streams.output.flush()?;
     Ok(all)
 }
@@ -133,6 +146,7 @@ fn redact_each<X: Way, F: Folder, I: Read, W: Write, E: Sink>(
     way: &mut X,
     job: &Job<'_, '_, F>,
     counts: &mut [u64],
+    volume: &mut Volume,
     streams: &mut Streams<'_, I, W, E>,
 ) -> Result<bool, StreamError>
     requires ready { (r : Redactor) × Redacts X.Way way.old r }
@@ -140,11 +154,13 @@ fn redact_each<X: Way, F: Folder, I: Read, W: Write, E: Sink>(
         (work_of F.Folder job.now r) result streams.old streams.new) }
     ensures counted { IfBy X.Way way.old (CountsJob F.Folder job.now
         result streams.old streams.new counts.old counts.new) }
+    ensures read { JobVolume F.Folder job.now result volume.old volume.new streams.old streams.new }
 {
     let mut all = true;
     let mut rest = job.names;
     while !rest.is_empty() {
-        let whole = redact_told(way, job, rest[0], counts, streams)?;
+        let whole = redact_told(way, job, rest[0], counts, volume, streams)?;
+        add_file(volume, whole);
         all = both(all, whole);
         rest = &rest[1..];
     }
@@ -165,6 +181,7 @@ fn redact_told<X: Way, F: Folder, I: Read, W: Write, E: Sink>(
     job: &Job<'_, '_, F>,
     name: &str,
     counts: &mut [u64],
+    volume: &mut Volume,
     streams: &mut Streams<'_, I, W, E>,
 ) -> Result<bool, StreamError>
     requires ready { (r : Redactor) × Redacts X.Way way.old r }
@@ -172,13 +189,15 @@ fn redact_told<X: Way, F: Folder, I: Read, W: Write, E: Sink>(
         name.now result streams.old streams.new) }
     ensures counted { IfBy X.Way way.old (CountsTold F.Folder job.now name.now
         result streams.old streams.new counts.old counts.new) }
+    ensures read { FileVolume F.Folder job.now name.now result volume.old volume.new streams.old streams.new }
+    ensures files { volume.new.files ≡ volume.old.files }
     ensures still { IfBy X.Way way.old (Redacts X.Way way.new) }
 {
     if job.folder.is_output(name) {
         tell_output(&mut streams.errors, name);
         return Ok(false);
     }
-    redact_apart(way, job, name, counts, streams)
+    redact_apart(way, job, name, counts, volume, streams)
 }
 
 /// Redacts a file that the output does not go to, and answers whether it was read to its end. One that was not is told.
@@ -187,6 +206,7 @@ fn redact_apart<X: Way, F: Folder, I: Read, W: Write, E: Sink>(
     job: &Job<'_, '_, F>,
     name: &str,
     counts: &mut [u64],
+    volume: &mut Volume,
     streams: &mut Streams<'_, I, W, E>,
 ) -> Result<bool, StreamError>
     requires ready { (r : Redactor) × Redacts X.Way way.old r }
@@ -195,6 +215,8 @@ fn redact_apart<X: Way, F: Folder, I: Read, W: Write, E: Sink>(
         name.now result streams.old streams.new) }
     ensures counted { IfBy X.Way way.old (CountsTold F.Folder job.now name.now
         result streams.old streams.new counts.old counts.new) }
+    ensures read { FileVolume F.Folder job.now name.now result volume.old volume.new streams.old streams.new }
+    ensures files { volume.new.files ≡ volume.old.files }
     ensures still { IfBy X.Way way.old (Redacts X.Way way.new) }
 {
     match redact_file(
@@ -202,6 +224,7 @@ fn redact_apart<X: Way, F: Folder, I: Read, W: Write, E: Sink>(
         job,
         name,
         counts,
+        volume,
         &mut streams.input,
         &mut streams.output,
     )? {
@@ -219,6 +242,7 @@ fn redact_file<X: Way, F: Folder, I: Read, W: Write>(
     job: &Job<'_, '_, F>,
     name: &str,
     counts: &mut [u64],
+    volume: &mut Volume,
     input: &mut FromRead<I>,
     output: &mut FromWrite<W>,
 ) -> Result<Option<Reason>, StreamError>
@@ -227,13 +251,16 @@ fn redact_file<X: Way, F: Folder, I: Read, W: Write>(
         (work_of F.Folder job.now r) name.now result input.old input.new output.old output.new) }
     ensures counted { IfBy X.Way way.old (CountsFile F.Folder job.now name.now
         result input.old input.new counts.old counts.new) }
+    ensures read { result ≡ Ok None → AddsFile (F.holds job.now.folder.now) name.now
+        volume.old volume.new input.old input.new }
+    ensures files { volume.new.files ≡ volume.old.files }
     ensures still { IfBy X.Way way.old (Redacts X.Way way.new) }
 {
     if is_input(name) {
-        return redact_input(way, counts, input, output);
+        return redact_input(way, counts, volume, input, output);
     }
     match job.folder.open(name) {
-        Ok(file) => redact_opened(way, counts, file, output),
+        Ok(file) => redact_opened(way, counts, volume, file, output),
         Err(reason) => Ok(Some(reason)),
     }
 }
@@ -249,37 +276,127 @@ pub fn is_input(name: &str) -> bool
 fn redact_opened<X: Way, I: Read + Drop, W: Write>(
     way: &mut X,
     counts: &mut [u64],
+    volume: &mut Volume,
     reader: I,
     output: &mut FromWrite<W>,
 ) -> Result<Option<Reason>, StreamError>
     requires ready { (r : Redactor) × Redacts X.Way way.old r }
-    ensures outcome { IfBy X.Way way.old (λ r. (rest : Option (List ℕ)) × TextOutcome
-        W.Write r result (I.remaining reader) rest output.old output.new) }
+    ensures outcome { IfBy X.Way way.old (λ r. OpenedOutcome W.Write r
+        result (I.remaining reader) output.old output.new) }
     ensures counted { result ≡ Ok None → IfBy X.Way way.old
         (CountsOpened (I.remaining reader) counts.old counts.new) }
+    ensures read { result ≡ Ok None → AddsOpened volume.old.bytes volume.new.bytes (I.remaining reader) }
+    ensures files { volume.new.files ≡ volume.old.files }
     ensures still { IfBy X.Way way.old (Redacts X.Way way.new) }
 {
     let mut source = FromRead::new(reader);
-    redact_input(way, counts, &mut source, output)
+    redact_input(way, counts, volume, &mut source, output)
 }
 
 /// Redacts the input to its end, and answers why it cannot be read to that, where it cannot.
 fn redact_input<X: Way, I: Read, W: Write>(
     way: &mut X,
     counts: &mut [u64],
+    volume: &mut Volume,
     input: &mut FromRead<I>,
     output: &mut FromWrite<W>,
 ) -> Result<Option<Reason>, StreamError>
     requires ready { (r : Redactor) × Redacts X.Way way.old r }
-    ensures outcome { IfBy X.Way way.old (λ r. TextOutcome W.Write r
-        result (bytes_left input.old) (bytes_left input.new) output.old output.new) }
+    ensures outcome { IfBy X.Way way.old (λ r. InputOutcome W.Write r
+        result input.old input.new output.old output.new) }
     ensures counted { result ≡ Ok None → IfBy X.Way way.old
         (CountsOfText (bytes_left input.old) (bytes_left input.new) counts.old counts.new) }
+    ensures read { result ≡ Ok None → AddsText volume.old volume.new input.old input.new }
+    ensures files { volume.new.files ≡ volume.old.files }
     ensures still { IfBy X.Way way.old (Redacts X.Way way.new) }
     ensures failed { input.new.failures ≡ counted (is_unread result) input.old.failures }
 {
     input.restart();
-    reading_of(way.redact(counts, input, output))
+    reading_of(redact_metered(way, counts, volume, input, output))
+}
+
+/// What was read of a source.
+#[derive(Drop)]
+struct Taken<'s, S> {
+    /// The source.
+    lent: Lent<'s, S>,
+    /// How many bytes were counted.
+    bytes: u64,
+    /// Whether it was read to its end.
+    done: Result<(), StreamError>,
+}
+
+/// Redacts a source, and counts its bytes, of which all that it gives are known to be these.
+fn redact_with<'s, K: Known, X: Way, S: Source, W: Sink>(
+    way: &mut X,
+    counts: &mut [u64],
+    lent: Lent<'s, S>,
+    bytes: u64,
+    sink: &mut W,
+) -> Taken<'s, S>
+    requires ready { (r : Redactor) × Redacts X.Way way.old r }
+    requires whole { K.whole ≡ S.remaining lent.source.now }
+    requires start { K.start ≡ bytes }
+    requires name { K.name ≡ lent.source.ghost_name }
+    ensures outcome { IfBy X.Way way.old (λ r. StreamOutcome S.Source W.Sink r result.done
+        lent.entry.source.now result.lent.source.now sink.old sink.new) }
+    ensures counted { IfBy X.Way way.old (λ r. OnOk result.done (CountsOfStream S.Source r
+        lent.entry.source.now result.lent.source.now counts.old counts.new)) }
+    ensures read { OnOk result.done (AddsStream S.Source
+        lent.entry.source.now result.lent.source.now bytes result.bytes) }
+    ensures still { IfBy X.Way way.old (Redacts X.Way way.new) }
+    ensures same { result.lent.source.ghost_name ≡ lent.entry.source.ghost_name }
+{
+    let mut meter = Metered::<S, K> {
+        lent,
+        bytes,
+        settled: true,
+        of: PhantomData,
+    };
+    let done = way.redact(counts, &mut meter, sink);
+    let Metered { lent, bytes, .. } = meter;
+    Taken { lent, bytes, done }
+}
+
+/// Redacts what the input gives, and counts its bytes.
+fn redact_metered<X: Way, I: Read, W: Write>(
+    way: &mut X,
+    counts: &mut [u64],
+    volume: &mut Volume,
+    input: &mut FromRead<I>,
+    output: &mut FromWrite<W>,
+) -> Result<(), StreamError>
+    requires ready { (r : Redactor) × Redacts X.Way way.old r }
+    ensures outcome { IfBy X.Way way.old (λ r. StreamOutcome ⟦<FromRead<I> as Source>⟧ ⟦<FromWrite<W> as Sink>⟧ r
+        result input.old input.new output.old output.new) }
+    ensures counted { IfBy X.Way way.old (λ r. OnOk result (CountsOfStream ⟦<FromRead<I> as Source>⟧ r
+        input.old input.new counts.old counts.new)) }
+    ensures read { OnOk result (AddsStream ⟦<FromRead<I> as Source>⟧ input.old input.new
+        volume.old.bytes volume.new.bytes) }
+    ensures files { volume.new.files ≡ volume.old.files }
+    ensures still { IfBy X.Way way.old (Redacts X.Way way.new) }
+{
+    let taken = redact_with::<Brand, X, FromRead<I>, FromWrite<W>>(
+        way,
+        counts,
+        Lent { source: input },
+        volume.bytes,
+        output,
+    );
+    volume.bytes = taken.bytes;
+    let Taken { lent, done, .. } = taken;
+    let _source = lent.source;
+    done
+}
+
+/// One file more, if it was read to its end.
+fn add_file(volume: &mut Volume, whole: bool)
+    ensures files { volume.new.files ≡ files_with whole volume.old.files }
+    ensures bytes { volume.new.bytes ≡ volume.old.bytes }
+{
+    if whole {
+        volume.files = volume.files.saturating_add(1);
+    }
 }
 
 /// Why a stream was not read to its end, where that is so; any other error ends the program.

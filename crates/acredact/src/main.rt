@@ -1,4 +1,4 @@
-//! `acredact [-i] [--kind KIND] (-e PATTERN | -f FILE | -t TABLE).. [--with TEXT] [--count | --check] [FILE]..` writes each FILE with a
+//! `acredact [-i] [--kind KIND] (-e PATTERN | -f FILE | -t TABLE).. [--with TEXT] [--output FILE] [--count] [--summary] [--check] [FILE]..` writes each FILE with a
 //! text in the place of each match of some patterns: `[redacted]`, TEXT, or the pattern's own of a TABLE. No FILE, or `-`, is standard
 //! input.
 //!
@@ -14,13 +14,17 @@ mod counts;
 mod failure;
 mod files;
 mod folder;
+mod into;
 mod load;
 mod look;
+mod meter;
+mod outputs;
 mod patterns;
 mod redact;
 mod rows;
 mod run;
 mod streams;
+mod summary;
 mod ways;
 
 ghost use Rattle.std.specs.Prelude.{◌≡◌, ◌≤◌, IfErr, IfOk, true};
@@ -33,11 +37,13 @@ ghost use Rattle.acredact.specs.Checks.{MatchedAsked, UnmatchedAsked};
 use aho_devices::adapters::{FromRead, FromWrite};
 use aho_devices::device::Sink;
 use folder::{Folder, Host};
+use into::{make_and_run, named_output};
+use outputs::Beside;
 use programs::arguments::arguments;
 use programs::closed::{Noted, Quiet};
 use programs::errors::Errors;
 use programs::failure::Failure;
-use run::{refuse, run};
+use run::{refuse, report, run};
 use std::alloc::Global;
 use std::cell::Cell;
 use std::io::{BufWriter, Read, Write};
@@ -51,6 +57,26 @@ fn main(rt: HostRuntime) -> ExitCode {
     let given = arguments(&rt);
     let reason = Cell::new(None);
     let mut errors = Errors::new(FromWrite::new(Quiet::new(rt.stderr(), &reason)), &reason);
+    if let Ok(arguments) = &given {
+        match named_output(rt.alloc(), arguments.as_slice()) {
+            Ok(None) => {}
+            Ok(Some(name)) => {
+                let mut outputs = Beside::new(rt.alloc(), &rt, &reason);
+                let folder = Host::new(&rt);
+                let arguments = arguments.as_slice();
+                return ExitCode::from(make_and_run(
+                    rt.alloc(),
+                    arguments,
+                    name,
+                    &folder,
+                    &mut outputs,
+                    rt.stdin(),
+                    errors,
+                ));
+            }
+            Err(failure) => return ExitCode::from(report(&failure, &mut errors)),
+        }
+    }
     let noted = Noted::new(rt.stdout(), &reason);
     match BufWriter::with_capacity(rt.alloc(), OUTPUT_CAPACITY, noted) {
         Ok(output) => {
@@ -82,8 +108,8 @@ fn exit_code<F: Folder, I: Read, W: Write, E: Sink>(
     ensures strict { IfOk given (λ arguments. IfAsked arguments.items (λ given.
         RefusesUnclean given → exit_status result ≡ 0
         → LeavesNoneAsked W.Write F.Folder folder.now given streams.old streams.new)) }
-    ensures begins { IfOk given (λ arguments. IfAsked arguments.items (λ given.
-        BeginsAsked W.Write F.Folder folder.now given streams.old streams.new)) }
+    ensures begins { IfOk given (λ words. IfAsked words.items (λ all.
+        BeginsAsked W.Write F.Folder folder.now all streams.old streams.new)) }
     ensures unmatched { IfOk given (λ arguments. IfChecking arguments.items (λ given.
         exit_status result ≡ 0 → UnmatchedAsked F.Folder folder.now given streams.old streams.new)) }
     ensures matched { IfOk given (λ arguments. IfChecking arguments.items (λ given.
@@ -93,9 +119,8 @@ fn exit_code<F: Folder, I: Read, W: Write, E: Sink>(
     ensures bound { exit_status result ≤ 2 }
     ensures one { exit_status result ≡ 1 → IfOk given (λ arguments. IsCheck arguments.items) }
 {
-    let status = match given {
-        Ok(arguments) => run(alloc, arguments.as_slice(), folder, streams),
-        Err(failure) => refuse(failure, &mut streams.errors),
-    };
-    ExitCode::from(status)
+    match given {
+        Ok(arguments) => ExitCode::from(run(alloc, arguments.as_slice(), folder, streams)),
+        Err(failure) => ExitCode::from(refuse(failure, &mut streams.errors)),
+    }
 }

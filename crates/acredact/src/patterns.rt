@@ -4,7 +4,7 @@ ghost use Rattle.std.specs.Prelude.{◌≡◌, [], ◌<◌, ◌≤◌, ◌∷◌
 ghost use Rattle.std.specs.Io.BufRead.{ends_with_byte, strip_last};
 ghost use Rattle.aho_core.specs.Replacement.{pieces_of};
 ghost use Rattle.acredact.specs.LineFaults.{IsBadStart, IsLineFault, IsLineFaultBy, IsListFault, IsTextFault};
-ghost use Rattle.acredact.specs.Tables.{AddsLine, AddsLines, Holds, IsWithout, escape_of, in_table, stripped_by, lines_in, patterns_in, piece_by, secret_of, secrets_of};
+ghost use Rattle.acredact.specs.Tables.{AddsLine, AddsLines, AddsListed, Holds, IsWithout, escape_of, in_table, stripped_by, lines_in, patterns_in, piece_by, secret_of, secrets_of};
 
 use std::alloc::{AllocError, AllocFailed, Global};
 use std::slice;
@@ -117,7 +117,7 @@ fn row(alloc: Global, line: &[u8], number: usize) -> Result<Rule, LineFault>
 fn split_at(text: &[u8], byte: u8) -> Option<(&[u8], &[u8])>
     ensures split { IfSome result (λ parts. text.now ≡ parts.0.now ++ (byte ∷ parts.1.now)) }
     ensures first { IfSome result (λ parts. IsWithout byte parts.0.now) }
-    ensures shorter { IfSome result (λ parts. length parts.1.now < length text.now) }
+    ensures shorter { IfSome result (λ two. length two.1.now < length text.now) }
     ensures none { IfNone result (IsWithout byte text.now) }
 {
     let mut at = 0;
@@ -153,7 +153,7 @@ fn unescaped(alloc: Global, text: &[u8]) -> Result<Vec<u8>, LineFault>
 /// The byte that stands first in a text, and what follows it.
 fn first_byte(text: &[u8]) -> Result<(u8, &[u8]), LineFault>
     requires some { 1 ≤ length text.now }
-    ensures first { IfOk result (λ parts. text.now ≡ escape_of parts.0 ++ parts.1.now) }
+    ensures first { IfOk result (λ two. text.now ≡ escape_of two.0 ++ two.1.now) }
     ensures shorter { IfOk result (λ parts. length parts.1.now < length text.now) }
     ensures fault { IfErr result (IsBadStart text.now) }
 {
@@ -169,7 +169,7 @@ fn first_byte(text: &[u8]) -> Result<(u8, &[u8]), LineFault>
 fn escaped_byte(text: &[u8]) -> Result<(u8, &[u8]), LineFault>
     requires some { 1 ≤ length text.now }
     requires backslash { slice_index text.now 0 ≡ 92 }
-    ensures first { IfOk result (λ parts. text.now ≡ escape_of parts.0 ++ parts.1.now) }
+    ensures first { IfOk result (λ two. text.now ≡ escape_of two.0 ++ two.1.now) }
     ensures shorter { IfOk result (λ parts. length parts.1.now < length text.now) }
     ensures fault { IfErr result (IsBadStart text.now) }
 {
@@ -241,7 +241,7 @@ fn add_numbered(
     form: Form,
     number: usize,
 ) -> Result<(), BadLine>
-    ensures added { OnOk result (AddsLines form (line.now ∷ []) rules.old rules.new) }
+    ensures added { OnOk result (AddsListed form line.now rules.old rules.new) }
     ensures number { IfErr result (λ bad. bad.number ≡ number) }
     ensures fault { IfErr result (λ bad. IsLineFaultBy form line.now bad.fault) }
 {
@@ -259,7 +259,7 @@ fn add_listed(
     form: Form,
     number: usize,
 ) -> Result<(), LineFault>
-    ensures added { OnOk result (AddsLines form (line.now ∷ []) rules.old rules.new) }
+    ensures added { OnOk result (AddsListed form line.now rules.old rules.new) }
     ensures fault { IfErr result (IsLineFaultBy form line.now) }
 {
     let line = stripped_by(form, line);

@@ -1,30 +1,34 @@
 //! A call of the program over its arguments, files and streams.
 
-ghost use Rattle.std.specs.Prelude.{◌≡◌, ◌⊎◌, ◌<◌, ◌≤◌, ℕ, List, IfErr, IfOk, IfSome, OnErr, OnOk, Some, false, length, true};
+ghost use Rattle.std.specs.Prelude.{◌≡◌, ◌++◌, ◌⊎◌, ◌<◌, ◌≤◌, ℕ, List, IfErr, IfOk, IfSome, Ok, OnErr, OnOk, Some, false, length, true};
 ghost use Rattle.aho_core.specs.Replacement.{pieces_of};
 ghost use Rattle.programs.specs.Arguments.{texts};
 ghost use Rattle.programs.specs.Names.{name_bytes};
-ghost use Rattle.programs.specs.Streams.{WritesBytes};
+ghost use Rattle.programs.specs.Streams.{WritesBytes, bytes_left};
 ghost use Rattle.programs.specs.Telling.{Tells, TellsBytes, TellsSome};
-ghost use Rattle.acredact.specs.Arguments.{AreMistaken, AsksToRedact, GivesNoPattern, IfAsked, IfChecking, IfNoCheck, IsCheck, RefusesUnclean, all_given, checks_asked, has};
-ghost use Rattle.acredact.specs.Calls.{AskedOutcome, BeginsAsked, CountsAsked, IsCountsFailure, IsCountsLine, IsPrintFailure, IsRefusedLine, IsWrongLine, LeavesNoneAsked, LoadedOutcome, OutputFails, RedactsAsked, TellsAsked, TellsAnyCounts, WarnedJob, WarnedOutcome, WarnsAsked, call_of, gives_pattern, names_asked, text_asked, work_by};
+ghost use Rattle.acredact.specs.Arguments.{AreMistaken, AsksToRedact, GivesNoPattern, IfAsked, IfChecking, IfNoCheck, IsCheck, RefusesUnclean, all_given, checks_asked, counts_asked, counts_given, has};
+ghost use Rattle.acredact.specs.Calls.{AskedOutcome, BeginsAsked, CountsAsked, IsCountsFailure, IsCountsLine, IsPrintFailure, IsRefusedLine, IsWrongLine, LeavesNoneAsked, LoadedOutcome, OutputFails, ReadsAsked, RedactsAsked, TellsAsked, TellsAnyCounts, WarnedJob, WarnedOutcome, WarnsAsked, call_of, gives_pattern, names_asked, text_asked, work_by};
 ghost use Rattle.acredact.specs.Checks.{MatchedAsked, SaysOfCheck, TellsUncheckedAsked, UnmatchedAsked};
-ghost use Rattle.acredact.specs.Counts.{zeros};
+ghost use Rattle.acredact.specs.Counts.{PutsText, lines_of_rules, zeros};
 ghost use Rattle.acredact.specs.Failures.{IsFailureLine};
 ghost use Rattle.acredact.specs.Files.{CanDo, FilesOutcome, redactor_of, work_of};
 ghost use Rattle.acredact.specs.Pieces.{IfOfAll, TellsUnclean, pieces_by};
 ghost use Rattle.acredact.specs.Secrets.{IfOf};
 ghost use Rattle.acredact.specs.Statuses.{SaysOfRedaction};
 ghost use Rattle.acredact.specs.Tables.{HaveNoEmpty, secrets_of};
+ghost use Rattle.acredact.specs.Summaries.{counts_told_by, summary_told_by, totals_text};
 ghost use Rattle.acredact.specs.Totals.{CountsWork, JobCounts};
+ghost use Rattle.acredact.specs.Volumes.{JobVolume};
 ghost use Rattle.acredact.specs.declared.clean.Unclean.{Unclean};
 ghost use Rattle.acredact.specs.declared.failure.Failure.TheVariants.{Unclean as UncleanPiece};
-ghost use Rattle.acredact.specs.declared.arguments.Word.TheVariants.{Count, Strict};
+ghost use Rattle.acredact.specs.declared.arguments.Word.TheVariants.{Strict};
 
-use crate::arguments::{Item, Mistake, Word, checks, covers, has, is_same, items, last_value};
+use crate::arguments::{
+    Item, Mistake, Word, checks, counts, covers, has, is_same, items, last_value,
+};
 use crate::check::check;
 use crate::clean::{Judge, Unclean, unclean_of};
-use crate::counts::{counts_of, tell_counts};
+use crate::counts::{counts_of, put_counts};
 use crate::failure::{Failure, tell_failure, tell_unclean};
 use crate::files::{Job, redact_files};
 use crate::folder::Folder;
@@ -32,6 +36,7 @@ use crate::load::{lists_of, rules};
 use crate::patterns::{Rule, patterns_of, replacements_of};
 use crate::rows::build;
 use crate::streams::Streams;
+use crate::summary::{Volume, put_summary};
 use aho_automaton::automaton::Automaton;
 use aho_core::error::StreamError;
 use aho_devices::adapters::FromWrite;
@@ -48,7 +53,7 @@ const REDACTED: &[u8] = b"[redacted]";
 
 /// What `--help` writes.
 const HELP: &[u8] =
-    b"usage: acredact [-i] [--kind KIND] (-e PATTERN | -f FILE | -t TABLE).. [--with TEXT] [--count | --check] [FILE]..
+    b"usage: acredact [-i] [--kind KIND] (-e PATTERN | -f FILE | -t TABLE).. [--with TEXT] [--output FILE] [--count] [--summary] [--check] [FILE]..
 
 Writes each FILE with a text in the place of each run of bytes that lie in matches of the patterns. No FILE, or -, is standard input.
 
@@ -59,7 +64,9 @@ Writes each FILE with a text in the place of each run of bytes that lie in match
   --kind KIND   what is replaced: cover (if none is given) each byte of each match; longest, first and standard
                 one of several matches that overlap, and then a part of another can stay
   --with TEXT   the replacement of patterns that have none of their own: [redacted] if none is given
+  --output FILE replace this FILE, if all is redacted: the output goes to a new file that takes its place at the end
   --count       write to standard error how often the text of each pattern was written
+  --summary     write to standard error how many files and bytes were read, and these counts, as an object of JSON
   --check       write nothing: the status is 1 if something would be replaced, 0 if nothing
   --crlf        leave out a carriage return at the end of a line of a FILE of patterns or a TABLE
   --allow-empty allow an empty FILE of patterns or TABLE
@@ -108,9 +115,9 @@ pub fn run<F: Folder, I: Read, W: Write, E: Sink>(
 
     // Where all was redacted nothing is told but a piece of a cover that is not clean, and the counts that are asked for: for each
     // pattern, how many ranges of all texts were replaced by its text.
-    ensures quiet { IfAsked arguments.now (λ given. has Count given ≡ false → result ≡ 0
+    ensures quiet { IfAsked arguments.now (λ given. counts_asked given ≡ false → result ≡ 0
         → WarnsAsked E.Sink F.Folder folder.now given streams.old streams.new) }
-    ensures counts { IfAsked arguments.now (λ given. has Count given ≡ true → result ≡ 0
+    ensures counts { IfAsked arguments.now (λ given. counts_asked given ≡ true → result ≡ 0
         → CountsAsked W.Write E.Sink F.Folder folder.now given streams.old streams.new) }
 
     // Else lines say why, and hold nothing of a file's content or of a pattern.
@@ -270,9 +277,9 @@ fn redact_counted<'a, F: Folder, I: Read, W: Write, E: Sink>(
         folder.now (all_given given.now) rules.now result streams.old streams.new }
     ensures flushed { OnOk result (streams.new.output.device.flushed ≡ true) }
 {
-    let counted = has(given, Word::Count);
-    let mut counts = counts_of(alloc, rules, counted)?;
-    redact_telling(alloc, given, rules, folder, counts.as_mut_slice(), streams)
+    let counted = counts(given);
+    let mut tally = counts_of(alloc, rules, counted)?;
+    redact_telling(alloc, given, rules, folder, tally.as_mut_slice(), streams)
 }
 
 /// Redacts all files by these rules, tells what was added to the counts, where they are asked for, and answers whether all files were
@@ -282,25 +289,19 @@ fn redact_telling<'a, F: Folder, I: Read, W: Write, E: Sink>(
     given: &[Item<'_>],
     rules: &[Rule],
     folder: &F,
-    counts: &mut [u64],
+    tally: &mut [u64],
     streams: &mut Streams<'_, I, W, E>,
 ) -> Result<bool, Failure<'a>>
     requires some { HaveNoEmpty (secrets_of rules.now) }
-    requires none { counts.old ≡ zeros (has Count (all_given given.now)) rules.now }
+    requires none { tally.old ≡ zeros (counts_given given.now) rules.now }
     ensures outcome { LoadedOutcome W.Write E.Sink F.Folder
         folder.now (all_given given.now) rules.now result streams.old streams.new }
     ensures flushed { OnOk result (streams.new.output.device.flushed ≡ true) }
 {
+    let mut volume = Volume { files: 0, bytes: 0 };
     // Not by `?`: this error may hold names.
-    match redact_all(alloc, given, rules, folder, counts, streams) {
-        Ok(all) => tell_counted(
-            alloc,
-            all,
-            has(given, Word::Count),
-            rules,
-            counts,
-            &mut streams.errors,
-        ),
+    match redact_all(alloc, given, rules, folder, tally, &mut volume, streams) {
+        Ok(all) => tell_counted(alloc, all, given, rules, tally, volume, &mut streams.errors),
         Err(failure) => Err(failure),
     }
 }
@@ -309,24 +310,82 @@ fn redact_telling<'a, F: Folder, I: Read, W: Write, E: Sink>(
 fn tell_counted<'a, E: Sink>(
     alloc: Global,
     all: bool,
-    counted: bool,
+    given: &[Item<'_>],
     rules: &[Rule],
-    counts: &[u64],
+    tally: &[u64],
+    volume: Volume,
     errors: &mut Errors<'_, E>,
 ) -> Result<bool, Failure<'a>>
     ensures all { IfOk result (λ done. done ≡ all) }
-    ensures told { OnOk result (TellsAnyCounts E.Sink counted rules.now counts.now errors.old errors.new) }
-    ensures lines { Tells E.Sink (IsCountsLine counted) errors.old errors.new }
-    ensures fails { IfErr result (IsCountsFailure counted) }
+    ensures told { OnOk result (TellsAnyCounts E.Sink (all_given given.now) rules.now tally.now volume
+        errors.old errors.new) }
+    ensures lines { Tells E.Sink (IsCountsLine (all_given given.now)) errors.old errors.new }
+    ensures fails { IfErr result (IsCountsFailure (counts_given given.now)) }
 {
-    if !counted {
+    if !counts(given) {
         return Ok(all);
     }
-    tell_counts(alloc, errors, rules, counts)?;
+    tell_totals(alloc, errors, given, rules, tally, volume)?;
     if errors.has_failed() {
         return Err(Failure::Counts);
     }
     Ok(all)
+}
+
+/// Writes the counts and the summary, those that are asked for, by one write.
+///
+/// # Errors
+///
+/// The error says that memory ran out, and nothing was written then.
+fn tell_totals<E: Sink>(
+    alloc: Global,
+    errors: &mut Errors<'_, E>,
+    given: &[Item<'_>],
+    rules: &[Rule],
+    tally: &[u64],
+    volume: Volume,
+) -> Result<(), AllocError>
+    ensures told { OnOk result (TellsBytes E.Sink errors.old errors.new
+        (totals_text (all_given given.now) (lines_of_rules rules.now) tally.now volume)) }
+    ensures untold { OnErr result (errors.new ≡ errors.old) }
+{
+    let mut text = Vec::new(alloc);
+    put_asked_counts(&mut text, given, rules, tally)?;
+    put_asked_summary(&mut text, given, tally, volume)?;
+    errors.write(&[text.as_slice()]);
+    Ok(())
+}
+
+/// The lines of the counts, if they are asked for.
+fn put_asked_counts(
+    text: &mut Vec<u8>,
+    given: &[Item<'_>],
+    rules: &[Rule],
+    tally: &[u64],
+) -> Result<(), AllocError>
+    ensures put { OnOk result (PutsText text.old text.new
+        (counts_told_by (all_given given.now) (lines_of_rules rules.now) tally.now)) }
+{
+    if has(given, Word::Count) {
+        return put_counts(text, rules, tally);
+    }
+    Ok(())
+}
+
+/// The summary, if it is asked for.
+fn put_asked_summary(
+    text: &mut Vec<u8>,
+    given: &[Item<'_>],
+    tally: &[u64],
+    volume: Volume,
+) -> Result<(), AllocError>
+    ensures put { OnOk result (PutsText text.old text.new
+        (summary_told_by (all_given given.now) tally.now volume)) }
+{
+    if has(given, Word::Summary) {
+        return put_summary(text, volume, tally);
+    }
+    Ok(())
 }
 
 /// What is written for a pattern that has no replacement of its own.
@@ -346,6 +405,7 @@ fn redact_all<'a, F: Folder, I: Read, W: Write, E: Sink>(
     rules: &[Rule],
     folder: &F,
     counts: &mut [u64],
+    volume: &mut Volume,
     streams: &mut Streams<'_, I, W, E>,
 ) -> Result<bool, Failure<'a>>
     requires some { HaveNoEmpty (secrets_of rules.now) }
@@ -354,6 +414,8 @@ fn redact_all<'a, F: Folder, I: Read, W: Write, E: Sink>(
         result streams.old streams.new }
     ensures counted { CountsWork (work_by (call_of F.Folder folder.now (all_given given.now)) (secrets_of rules.now))
         result streams.old streams.new counts.old counts.new }
+    ensures read { result ≡ Ok true → ReadsAsked (F.holds folder.now) (all_given given.now)
+        volume.old volume.new streams.old streams.new }
     ensures flushed { OnOk result (streams.new.output.device.flushed ≡ true) }
 {
     let patterns = patterns_of(alloc, rules)?;
@@ -378,7 +440,16 @@ fn redact_all<'a, F: Folder, I: Read, W: Write, E: Sink>(
         usual: text,
     };
     let strict = has(given, Word::Strict);
-    redact_warned(&nfa, rows.as_ref(), &job, &judge, strict, counts, streams)
+    redact_warned(
+        &nfa,
+        rows.as_ref(),
+        &job,
+        &judge,
+        strict,
+        counts,
+        volume,
+        streams,
+    )
 }
 
 /// Tells of a piece that is not clean, where a cover is asked for, or refuses it, and redacts all files.
@@ -389,6 +460,7 @@ fn redact_warned<'a, A: Automaton, B: Automaton, F: Folder, I: Read, W: Write, E
     judge: &Judge<'_, '_>,
     strict: bool,
     counts: &mut [u64],
+    volume: &mut Volume,
     streams: &mut Streams<'_, I, W, E>,
 ) -> Result<bool, Failure<'a>>
     requires ready { CanDo A.Automaton automaton.now job.now }
@@ -399,12 +471,13 @@ fn redact_warned<'a, A: Automaton, B: Automaton, F: Folder, I: Read, W: Write, E
         (λ p. WarnedJob W.Write E.Sink F.Folder strict job.now p result streams.old streams.new) }
     ensures counted { IfOfAll A.Automaton B.Automaton automaton.now rows.entry judge.now
         (JobCounts F.Folder job.now result streams.old streams.new counts.old counts.new) }
+    ensures read { JobVolume F.Folder job.now result volume.old volume.new streams.old streams.new }
     ensures flushed { OnOk result (streams.new.output.device.flushed ≡ true) }
 {
     let unclean = unclean_of(automaton, judge, job.covers);
     // Not by `?`: this error may hold names.
     match warn(&mut streams.errors, unclean, strict) {
-        Ok(()) => Ok(redact_by(automaton, rows, job, counts, streams)?),
+        Ok(()) => Ok(redact_by(automaton, rows, job, counts, volume, streams)?),
         Err(failure) => Err(failure),
     }
 }
@@ -438,6 +511,7 @@ fn redact_by<A: Automaton, B: Automaton, F: Folder, I: Read, W: Write, E: Sink>(
     rows: Option<&B>,
     job: &Job<'_, '_, F>,
     counts: &mut [u64],
+    volume: &mut Volume,
     streams: &mut Streams<'_, I, W, E>,
 ) -> Result<bool, StreamError>
     requires ready { CanDo A.Automaton automaton.now job.now }
@@ -446,11 +520,12 @@ fn redact_by<A: Automaton, B: Automaton, F: Folder, I: Read, W: Write, E: Sink>(
         → FilesOutcome W.Write E.Sink (work_of F.Folder job.now (redactor_of job.now p)) result streams.old streams.new) }
     ensures counted { IfOf A.Automaton automaton.now (λ p. IfSome rows.entry (λ rows. B.is_of rows.now p)
         → JobCounts F.Folder job.now result streams.old streams.new counts.old counts.new p) }
+    ensures read { JobVolume F.Folder job.now result volume.old volume.new streams.old streams.new }
     ensures flushed { OnOk result (streams.new.output.device.flushed ≡ true) }
 {
     match rows {
-        Some(automaton) => redact_files(automaton, job, counts, streams),
-        None => redact_files(automaton, job, counts, streams),
+        Some(automaton) => redact_files(automaton, job, counts, volume, streams),
+        None => redact_files(automaton, job, counts, volume, streams),
     }
 }
 

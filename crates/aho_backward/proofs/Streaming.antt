@@ -23,7 +23,7 @@ use Rattle.aho_stream.specs.Refills.{is_limit}
 use Rattle.aho_stream.specs.Replacing.{BeginsReplacing, GaveAsMany, IsStreamFault, MayBe, ReplacesStream, SourceGave}
 use Rattle.aho_stream.proofs.PatternLengths.{longest_bounds}
 use Rattle.aho_backward.specs.Backward.{IsTurnedFrom}
-use Rattle.aho_backward.specs.Streams.{FourAByte, IsBlockOf, LeavesByBlocks, ReplacesAllBut, Settles, StandsAt, WritesFurther, WritesSome, held_back}
+use Rattle.aho_backward.specs.Streams.{FourAByte, IsBlockOf, LeavesByBlocks, ReplacesAllBut, SettlesTo, StandsBefore, WritesMore, WritesSome, held_back}
 use Rattle.aho_backward.specs.Turned.{size_of, turned}
 use Rattle.aho_backward.proofs.TurnedWords.{length-turned, lengths-turned}
 use Rattle.aho_backward.proofs.Writing.{stands-begins, stands-first, stands-up_to, stands-whole, wrote-first}
@@ -75,7 +75,7 @@ module _ {A R W : Type 0} (G : Automata A) (S : SourceGhosts R) (K : SinkGhosts 
     pub within : place ≤ length given
     pub left : drop place given ≡ ahead
     pub count : length given + room ≡ greatest_position
-    pub stands : (p : Patterns) (text : List ℕ) (finds : List Occurrence) → IsOf p → MayBe given ended text → AreFinds p (plain_search text) None finds → StandsAt p pieces text finds place written
+    pub stands : (p : Patterns) (text : List ℕ) (finds : List Occurrence) → IsOf p → MayBe given ended text → AreFinds p (plain_search text) None finds → StandsBefore p pieces text finds place written
     pub paid : lookups ≤ paid₀ + 4 * place
 
   -- nothing yet
@@ -170,7 +170,7 @@ module _ {A R W : Type 0} (G : Automata A) (S : SourceGhosts R) (K : SinkGhosts 
       writes = gone.writes;
       beginning = λ p text finds of may are.
           stands-begins p of.full pieces text finds gone.place gone.written []
-          (subst (StandsAt p pieces text finds gone.place) (sym (append-nil gone.written)) (gone.stands p text finds of may are));
+          (subst (StandsBefore p pieces text finds gone.place) (sym (append-nil gone.written)) (gone.stands p text finds of may are));
     }
 
     -- and some of what is left
@@ -207,7 +207,7 @@ module _ {A R W : Type 0} (G : Automata A) (S : SourceGhosts R) (K : SinkGhosts 
 
   -- a block was written
   pub gone-settled : (source : R) (sink sink' : W) (lookups lookups' behind : ℕ) (ahead ahead' : List ℕ) (room : ℕ) → GoneTo source sink lookups false ahead room → longest (G.lengths a) ≤ behind + 1
-      → Settles G K a numbers behind pieces ahead ahead' sink sink' lookups lookups' → GoneTo source sink' lookups' false ahead' room
+      → SettlesTo G K a numbers behind pieces ahead ahead' sink sink' lookups lookups' → GoneTo source sink' lookups' false ahead' room
   gone-settled source sink sink' lookups lookups' behind ahead ahead' room gone far settles =
       let long = ahead-long source sink lookups false ahead room gone in
       record {
@@ -226,7 +226,7 @@ module _ {A R W : Type 0} (G : Automata A) (S : SourceGhosts R) (K : SinkGhosts 
 
   -- at the end all was written
   pub all-written : (source : R) (sink sink' : W) (lookups count : ℕ) (ahead : List ℕ) (room : ℕ) → GoneTo source sink lookups true ahead room → count ≡ length ahead
-      → WritesFurther G K a numbers ahead 0 pieces sink sink' count → ReplacesStream S K IsOf pieces first source begun sink'
+      → WritesMore G K a numbers ahead 0 pieces sink sink' count → ReplacesStream S K IsOf pieces first source begun sink'
   all-written source sink sink' lookups count ahead room gone all on =
       let long = ahead-long source sink lookups true ahead room gone in
       record {
@@ -236,7 +236,7 @@ module _ {A R W : Type 0} (G : Automata A) (S : SourceGhosts R) (K : SinkGhosts 
             let may : MayBe gone.given true gone.given = ([], sym (append-nil gone.given), refl) in
             let here : gone.place + count ≡ length gone.given = omega (arith, long, all) in
             let stands = on.stands p gone.given gone.place finds gone.written (block-ahead source sink lookups true ahead room gone 0 p gone.given of may (inl refl)) (gone.stands p gone.given finds of may are) in
-            let whole = stands-whole p of.full pieces gone.given finds (gone.written ++ on.chunk) (subst (λ (k : ℕ). StandsAt p pieces gone.given finds k (gone.written ++ on.chunk)) here stands) in
+            let whole = stands-whole p of.full pieces gone.given finds (gone.written ++ on.chunk) (subst (λ (k : ℕ). StandsBefore p pieces gone.given finds k (gone.written ++ on.chunk)) here stands) in
             subst (Appends (K.taken begun) (K.taken sink')) (sym whole) (Appends-trans (K.taken begun) (K.taken sink) (K.taken sink') gone.written on.chunk gone.writes on.writes);
       }
 
@@ -335,7 +335,7 @@ module _ {R W : Type 0} (S : SourceGhosts R) (K : SinkGhosts W) (source source' 
 
 -- too few bytes for a block: nothing is written
 pub settles-none : {A W : Type 0} (G : Automata A) (K : SinkGhosts W) (a : A) (given : List ℕ) (behind : ℕ) (pieces : List (List ℕ)) (ahead : List ℕ) (sink : W) (lookups : ℕ) → length ahead ≤ 2 * behind
-    → Settles G K a given behind pieces ahead ahead sink sink lookups lookups
+    → SettlesTo G K a given behind pieces ahead ahead sink sink lookups lookups
 settles-none G K a given behind pieces ahead sink lookups few = record {
   count = 0;
   within = omega arith;

@@ -25,7 +25,7 @@ use Rattle.aho_devices.specs.Counts.{AppendsBeginning}
 use Rattle.aho_devices.specs.declared.device.Sink.{Ghosts as SinkGhosts}
 use Rattle.aho_stream.specs.Replacing.{piece_for, replaced_up_to}
 use Rattle.aho_backward.specs.Backward.{IsTurnedFrom, TellsAt, told_back}
-use Rattle.aho_backward.specs.Streams.{AreHeldAt, IsBlockOf, StandsAt, WritesFurther, WritesSome}
+use Rattle.aho_backward.specs.Streams.{AreHeldAt, IsBlockOf, StandsBefore, WritesMore, WritesSome}
 use Rattle.aho_backward.specs.Turned.{turned}
 use Rattle.aho_backward.proofs.BlockStates.{part-rest}
 use Rattle.aho_backward.proofs.Passing.{begins-cases, starts-before, unanchored}
@@ -117,7 +117,7 @@ if_front false front x y x' y' e f = f
 
 module _ (p : Patterns) (full : NoneIsEmpty p) (pieces : List (List ℕ)) (text : List ℕ) (finds : List Occurrence) where
   abbrev Stands : ℕ → List ℕ → Type 0
-  Stands = StandsAt p pieces text finds
+  Stands = StandsBefore p pieces text finds
 
   abbrev piece : Occurrence → List ℕ
   piece = piece_for pieces
@@ -241,7 +241,7 @@ regroup a b c d = simp append_assoc
 
 -- so much of a block was written: it stands for the bytes up to a place, and nothing starts between that and another
 pub record Wrote {A W : Type 0} (G : Automata A) (K : SinkGhosts W) (a : A) (given bytes : List ℕ) (behind : ℕ) (pieces : List (List ℕ)) (sink sink' : W) (copied at : ℕ) : Type 0 where
-  pub on : WritesFurther G K a given bytes behind pieces sink sink' copied
+  pub on : WritesMore G K a given bytes behind pieces sink sink' copied
   pub clear : (p : Patterns) (text : List ℕ) (first : ℕ) → IsBlockOf G a given bytes behind p text first → IsClearFrom p text (first + copied) (first + at)
 
 module _ {A W : Type 0} (G : Automata A) (K : SinkGhosts W) (a : A) (given bytes : List ℕ) (behind : ℕ) (pieces : List (List ℕ)) (sink : W) where
@@ -256,7 +256,7 @@ module _ {A W : Type 0} (G : Automata A) (K : SinkGhosts W) (a : A) (given bytes
       writes = Appends-nil (K.taken sink);
       stands = λ p text first finds written block stands.
           let here : first ≡ first + 0 = omega arith in
-          subst (λ (xs : List ℕ). StandsAt p pieces text finds (first + 0) xs) (sym (append-nil written)) (subst (λ (k : ℕ). StandsAt p pieces text finds k written) here stands);
+          subst (λ (xs : List ℕ). StandsBefore p pieces text finds (first + 0) xs) (sym (append-nil written)) (subst (λ (k : ℕ). StandsBefore p pieces text finds k written) here stands);
     };
     clear = λ p text first block. clear-here p text (first + 0);
   }
@@ -280,15 +280,15 @@ module _ {A W : Type 0} (G : Automata A) (K : SinkGhosts W) (a : A) (given bytes
     }
 
     -- the bytes up to there were written
-    pub wrote-plain : (sink'' : W) → Appends (K.taken sink') (K.taken sink'') (slice_range bytes copied at) → WritesFurther G K a given bytes behind pieces sink sink'' at
+    pub wrote-plain : (sink'' : W) → Appends (K.taken sink') (K.taken sink'') (slice_range bytes copied at) → WritesMore G K a given bytes behind pieces sink sink'' at
     wrote-plain sink'' appends = record {
       chunk = wrote.on.chunk ++ slice_range bytes copied at;
       writes = Appends-trans (K.taken sink) (K.taken sink') (K.taken sink'') wrote.on.chunk (slice_range bytes copied at) wrote.on.writes appends;
       stands = λ p text first finds written block stands.
           let before = wrote.on.stands p text first finds written block stands in
           let now = stands-plain p block.turned_from.full pieces text finds (first + copied) (first + at) (omega arith) (wrote.clear p text first block) (written ++ wrote.on.chunk) before in
-          subst (StandsAt p pieces text finds (first + at)) (append_assoc written wrote.on.chunk (slice_range bytes copied at))
-          (subst (λ (xs : List ℕ). StandsAt p pieces text finds (first + at) ((written ++ wrote.on.chunk) ++ xs)) (same-gap p text first block) now);
+          subst (StandsBefore p pieces text finds (first + at)) (append_assoc written wrote.on.chunk (slice_range bytes copied at))
+          (subst (λ (xs : List ℕ). StandsBefore p pieces text finds (first + at) ((written ++ wrote.on.chunk) ++ xs)) (same-gap p text first block) now);
     }
 
     -- or a beginning of them
@@ -304,7 +304,7 @@ module _ {A W : Type 0} (G : Automata A) (K : SinkGhosts W) (a : A) (given bytes
               let split : (written ++ wrote.on.chunk) ++ slice_range text (first + copied) (first + at) ≡ (written ++ (wrote.on.chunk ++ take count part)) ++ drop count part =
               ap (λ (xs : List ℕ). (written ++ wrote.on.chunk) ++ xs) (same-gap p text first block ∙ sym (take-append-drop count part)) ∙ regroup written wrote.on.chunk (take count part) (drop count part) in
               stands-begins p block.turned_from.full pieces text finds (first + at) (written ++ (wrote.on.chunk ++ take count part)) (drop count part)
-              (subst (StandsAt p pieces text finds (first + at)) split now);
+              (subst (StandsBefore p pieces text finds (first + at)) split now);
         }
 
     module _ (m : Occurrence)
@@ -316,14 +316,14 @@ module _ {A W : Type 0} (G : Automata A) (K : SinkGhosts W) (a : A) (given bytes
       abbrev stands_for : List ℕ
       stands_for = piece_for pieces m
 
-      stands-find : (p : Patterns) (text : List ℕ) (first : ℕ) (finds : List Occurrence) (written : List ℕ) → IsBlockOf G a given bytes behind p text first → StandsAt p pieces text finds first written
-          → StandsAt p pieces text finds (first + m.end) (((written ++ wrote.on.chunk) ++ slice_range bytes copied at) ++ stands_for)
+      stands-find : (p : Patterns) (text : List ℕ) (first : ℕ) (finds : List Occurrence) (written : List ℕ) → IsBlockOf G a given bytes behind p text first → StandsBefore p pieces text finds first written
+          → StandsBefore p pieces text finds (first + m.end) (((written ++ wrote.on.chunk) ++ slice_range bytes copied at) ++ stands_for)
       stands-find p text first finds written block stands =
           let before = wrote.on.stands p text first finds written block stands in
           let plain = stands-plain p block.turned_from.full pieces text finds (first + copied) (first + at) (omega arith) (wrote.clear p text first block) (written ++ wrote.on.chunk) before in
           let now = stands-match p block.turned_from.full pieces text finds (first + at) (further first) block.turned_from.leftmost (best p text first block)
           ((written ++ wrote.on.chunk) ++ slice_range text (first + copied) (first + at)) plain in
-          subst (λ (xs : List ℕ). StandsAt p pieces text finds (first + m.end) (((written ++ wrote.on.chunk) ++ xs) ++ stands_for)) (same-gap p text first block) now
+          subst (λ (xs : List ℕ). StandsBefore p pieces text finds (first + m.end) (((written ++ wrote.on.chunk) ++ xs) ++ stands_for)) (same-gap p text first block) now
 
       abbrev whole_part : List ℕ
       whole_part = slice_range bytes copied at ++ stands_for
@@ -331,15 +331,15 @@ module _ {A W : Type 0} (G : Automata A) (K : SinkGhosts W) (a : A) (given bytes
       -- these bytes and what stands for the match were written
       pub wrote-find : (sink'' : W) (at' : ℕ) → at' ≡ m.end → Appends (K.taken sink') (K.taken sink'') whole_part → Holds sink'' at' at'
       wrote-find sink'' at' is appends =
-          let done : WritesFurther G K a given bytes behind pieces sink sink'' m.end = record {
+          let done : WritesMore G K a given bytes behind pieces sink sink'' m.end = record {
             chunk = wrote.on.chunk ++ whole_part;
             writes = Appends-trans (K.taken sink) (K.taken sink') (K.taken sink'') wrote.on.chunk whole_part wrote.on.writes appends;
             stands = λ p text first finds written block stands.
-                subst (StandsAt p pieces text finds (first + m.end)) (append_assoc (written ++ wrote.on.chunk) (slice_range bytes copied at) stands_for ∙ append_assoc written wrote.on.chunk whole_part)
+                subst (StandsBefore p pieces text finds (first + m.end)) (append_assoc (written ++ wrote.on.chunk) (slice_range bytes copied at) stands_for ∙ append_assoc written wrote.on.chunk whole_part)
                 (stands-find p text first finds written block stands);
           } in
           record {
-            on = subst (WritesFurther G K a given bytes behind pieces sink sink'') (sym is) done;
+            on = subst (WritesMore G K a given bytes behind pieces sink sink'') (sym is) done;
             clear = λ p text first block. clear-here p text (first + at');
           }
 
@@ -353,5 +353,5 @@ module _ {A W : Type 0} (G : Automata A) (K : SinkGhosts W) (a : A) (given bytes
             append_assoc (written ++ wrote.on.chunk) (slice_range bytes copied at) stands_for
             ∙ ap (λ (xs : List ℕ). (written ++ wrote.on.chunk) ++ xs) (sym (take-append-drop count whole_part)) ∙ regroup written wrote.on.chunk (take count whole_part) (drop count whole_part) in
             stands-begins p block.turned_from.full pieces text finds (first + m.end) (written ++ (wrote.on.chunk ++ take count whole_part)) (drop count whole_part)
-            (subst (StandsAt p pieces text finds (first + m.end)) split (stands-find p text first finds written block stands));
+            (subst (StandsBefore p pieces text finds (first + m.end)) split (stands-find p text first finds written block stands));
       }

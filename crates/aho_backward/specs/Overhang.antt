@@ -1,5 +1,5 @@
 -- By how many bytes a pattern goes on behind another one that occurs in it.
-use Rattle.std.specs.Prelude.{◌≡◌, ◌⊎◌, ℕ, ◌+◌, ◌<◌, ◌≤◌, length}
+use Rattle.std.specs.Prelude.{◌≡◌, ◌⊎◌, ◌↔◌, ℕ, ◌+◌, ◌<◌, ◌≤◌, Bool, IsTrue, length}
 use Rattle.aho_core.specs.declared.search.Anchored.TheVariants.{No}
 use Rattle.aho_core.specs.Occurrence.{Occurrence}
 use Rattle.aho_core.specs.Occurs.{Occurs}
@@ -16,3 +16,7 @@ pub record HasBehind (p : Patterns) (number count : ℕ) : Type 0 where
 pub record IsOverhang (p : Patterns) (most : ℕ) : Type 0 where
   pub reached : (most ≡ 0) ⊎ ((number : ℕ) × (number < length p.words) × HasBehind p number most)
   pub greatest : (number count : ℕ) → number < length p.words → HasBehind p number count → count ≤ most
+
+-- an answer says whether it is above a bound
+abbrev pub IsAbove : ℕ → Patterns → Bool → Type 0
+IsAbove bound p answer = (most : ℕ) → IsOverhang p most → (IsTrue answer ↔ (bound < most))

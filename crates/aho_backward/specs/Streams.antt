@@ -37,7 +37,7 @@ pub record IsBlockOf {A : Type 0} (G : Automata A) (a : A) (given bytes : List �
 
 -- of a text with these finds: this stands for all bytes before a place, and of the finds those are left that a search from there
 -- on gives
-pub record StandsAt (p : Patterns) (pieces : List (List ℕ)) (text : List ℕ) (finds : List Occurrence) (place : ℕ) (written : List ℕ) : Type 0 where
+pub record StandsBefore (p : Patterns) (pieces : List (List ℕ)) (text : List ℕ) (finds : List Occurrence) (place : ℕ) (written : List ℕ) : Type 0 where
   pub last : Option ℕ
   pub rest : List Occurrence
   pub are : AreFinds p (span_search text place (length text)) last rest
@@ -48,13 +48,13 @@ pub record StandsAt (p : Patterns) (pieces : List (List ℕ)) (text : List ℕ) 
 -- of a block: what is said of each text of whose bytes it is a part, and of what stands for all before it
 abbrev pub ForItsTexts : {A : Type 0} → Automata A → A → List ℕ → List ℕ → ℕ → List (List ℕ) → (Patterns → List ℕ → List Occurrence → ℕ → List ℕ → Type 0) → Type 0
 ForItsTexts G a given bytes behind pieces Says = (p : Patterns) (text : List ℕ) (first : ℕ) (finds : List Occurrence) (written : List ℕ)
-    → IsBlockOf G a given bytes behind p text first → StandsAt p pieces text finds first written → Says p text finds first written
+    → IsBlockOf G a given bytes behind p text first → StandsBefore p pieces text finds first written → Says p text finds first written
 
 -- some bytes were written, and with them it stands for so many bytes more
-pub record WritesFurther {A W : Type 0} (G : Automata A) (K : SinkGhosts W) (a : A) (given bytes : List ℕ) (behind : ℕ) (pieces : List (List ℕ)) (sink sink' : W) (count : ℕ) : Type 0 where
+pub record WritesMore {A W : Type 0} (G : Automata A) (K : SinkGhosts W) (a : A) (given bytes : List ℕ) (behind : ℕ) (pieces : List (List ℕ)) (sink sink' : W) (count : ℕ) : Type 0 where
   pub chunk : List ℕ
   pub writes : Appends (K.taken sink) (K.taken sink') chunk
-  pub stands : ForItsTexts G a given bytes behind pieces (λ p text finds first written. StandsAt p pieces text finds (first + count) (written ++ chunk))
+  pub stands : ForItsTexts G a given bytes behind pieces (λ p text finds first written. StandsBefore p pieces text finds (first + count) (written ++ chunk))
 
 -- some bytes were written, and with them it is a beginning of the whole
 pub record WritesSome {A W : Type 0} (G : Automata A) (K : SinkGhosts W) (a : A) (given bytes : List ℕ) (behind : ℕ) (pieces : List (List ℕ)) (sink sink' : W) : Type 0 where
@@ -64,10 +64,10 @@ pub record WritesSome {A W : Type 0} (G : Automata A) (K : SinkGhosts W) (a : A)
 
 -- of the bytes that were read and not written yet, some at the front were written, and these are left; what is left is less than
 -- twice as much as lies behind a block, or just that. The look-ups are paid for by the bytes that were written
-pub record Settles {A W : Type 0} (G : Automata A) (K : SinkGhosts W) (a : A) (given : List ℕ) (behind : ℕ) (pieces : List (List ℕ)) (ahead ahead' : List ℕ) (sink sink' : W) (lookups lookups' : ℕ) : Type 0 where
+pub record SettlesTo {A W : Type 0} (G : Automata A) (K : SinkGhosts W) (a : A) (given : List ℕ) (behind : ℕ) (pieces : List (List ℕ)) (ahead ahead' : List ℕ) (sink sink' : W) (lookups lookups' : ℕ) : Type 0 where
   pub count : ℕ
   pub within : count ≤ length ahead
-  pub on : WritesFurther G K a given ahead behind pieces sink sink' count
+  pub on : WritesMore G K a given ahead behind pieces sink sink' count
   pub left : ahead' ≡ drop count ahead
   pub few : length ahead' ≤ 2 * behind
   pub paid : lookups' ≤ lookups + 4 * count

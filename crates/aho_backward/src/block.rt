@@ -11,7 +11,7 @@ ghost use Rattle.aho_devices.specs.Counts.{AppendsBeginning, counted};
 ghost use Rattle.aho_devices.specs.Refusals.{IsWriteRefusal, is_write_fault, is_write_of_nothing};
 ghost use Rattle.aho_stream.specs.Replacing.{piece_for};
 ghost use Rattle.aho_backward.specs.Backward.{IsTurnedFrom};
-ghost use Rattle.aho_backward.specs.Streams.{AreHeldAt, WritesFurther, WritesSome};
+ghost use Rattle.aho_backward.specs.Streams.{AreHeldAt, WritesMore, WritesSome};
 
 use crate::choose::told_from;
 use aho_automaton::walk::Walk;
@@ -83,7 +83,7 @@ fn write_finds<W: Walk, K: Sink>(
     requires of { (p : Patterns) × IsTurnedFrom W.Of.Automaton (W.of walk.now) given.now p }
     requires held { AreHeldAt W.Of.Automaton (W.of walk.now) bytes.now states.now }
     requires behind { behind ≤ length bytes.now }
-    ensures written { IfOk result (WritesFurther W.Of.Automaton K.Sink (W.of walk.now) given.now
+    ensures written { IfOk result (WritesMore W.Of.Automaton K.Sink (W.of walk.now) given.now
         bytes.now behind (pieces_of replace_with.now) sink.old sink.new) }
     ensures begun { OnErr result (WritesSome W.Of.Automaton K.Sink (W.of walk.now) given.now
         bytes.now behind (pieces_of replace_with.now) sink.old sink.new) }
@@ -130,7 +130,7 @@ pub(crate) fn write_block<W: Walk, K: Sink>(
     requires long { length bytes.now ≤ length states.old }
     requires behind { behind ≤ length bytes.now }
     requires room { W.lookups walk.old + 2 * length bytes.now < 2 ^ 128 }
-    ensures written { IfOk result (WritesFurther W.Of.Automaton K.Sink (W.of walk.old) given.now
+    ensures written { IfOk result (WritesMore W.Of.Automaton K.Sink (W.of walk.old) given.now
         bytes.now behind (pieces_of replace_with.now) sink.old sink.new) }
     ensures begun { OnErr result (WritesSome W.Of.Automaton K.Sink (W.of walk.old) given.now
         bytes.now behind (pieces_of replace_with.now) sink.old sink.new) }

@@ -1,10 +1,10 @@
 //! When a walk backward is worth it: by how many bytes a pattern goes on behind another one that occurs in it.
 
-ghost use Rattle.std.specs.Prelude.{◌≡◌, ◌<◌, ◌≤◌, ◌↔◌, ℕ, IsOk, IsTrue, length};
+ghost use Rattle.std.specs.Prelude.{◌≡◌, ◌<◌, ◌≤◌, ℕ, IsOk, length};
 ghost use Rattle.aho_core.specs.Patterns.{Patterns, pattern_at};
 ghost use Rattle.aho_core.specs.Replacement.{pieces_of};
 ghost use Rattle.aho_core.specs.declared.search.Anchored.TheVariants.{No};
-ghost use Rattle.aho_backward.specs.Overhang.{HasBehind, IsOverhang};
+ghost use Rattle.aho_backward.specs.Overhang.{HasBehind, IsAbove, IsOverhang};
 
 use aho_automaton::automaton::Automaton;
 use aho_core::search::Input;
@@ -44,7 +44,7 @@ pub fn longest_overhang<A: Automaton>(automaton: &A, patterns: &[&[u8]]) -> usiz
     most
 }
 
-/// From how great an overhang on a walk backward is worth it.
+/// The greatest overhang with which a walk backward is not worth it.
 pub const WORTH: usize = 64;
 
 /// Whether a walk backward is worth it for these patterns: whether some pattern goes on by more than `WORTH` bytes behind the end
@@ -52,9 +52,8 @@ pub const WORTH: usize = 64;
 pub fn is_worth_it<A: Automaton>(automaton: &A, patterns: &[&[u8]]) -> bool
     requires of { (p : Patterns) × A.is_of automaton.now p }
     requires starts { IsOk (A.start automaton.now No) }
-    ensures worth { (p : Patterns) (most : ℕ) → A.is_of automaton.now p
-        → p.words ≡ pieces_of patterns.now → IsOverhang p most
-        → (IsTrue result ↔ (WORTH < most)) }
+    ensures worth { (p : Patterns) → A.is_of automaton.now p
+        → p.words ≡ pieces_of patterns.now → IsAbove WORTH p result }
 {
     longest_overhang(automaton, patterns) > WORTH
 }

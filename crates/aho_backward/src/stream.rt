@@ -23,7 +23,7 @@ ghost use Rattle.aho_devices.specs.Refusals.{IsFillRefusal, IsWriteRefusal, is_r
 ghost use Rattle.aho_stream.specs.After.{greatest_position, kept_for};
 ghost use Rattle.aho_stream.specs.Replacing.{IsMakingRefusal, IsStreamFault};
 ghost use Rattle.aho_backward.specs.Backward.{IsTurnedFrom};
-ghost use Rattle.aho_backward.specs.Streams.{FourAByte, LeavesByBlocks, Settles, WritesSome};
+ghost use Rattle.aho_backward.specs.Streams.{FourAByte, LeavesByBlocks, SettlesTo, WritesSome};
 
 use crate::block::write_block;
 use aho_automaton::walk::Walk;
@@ -118,7 +118,7 @@ fn write_settled<W: Walk, K: Sink>(
     requires passed { passed ≤ buffer.old.least }
     requires long { length buffer.old.bytes ≤ passed + length states.old }
     requires room { W.lookups walk.old + 2 * (length buffer.old.bytes - passed) < 2 ^ 128 }
-    ensures settled { IfOk result (λ now. Settles W.Of.Automaton K.Sink (W.of walk.old) given.now
+    ensures settled { IfOk result (λ now. SettlesTo W.Of.Automaton K.Sink (W.of walk.old) given.now
         (buffer.old.least - 1) (pieces_of replace_with.now)
         (drop passed buffer.old.bytes) (drop now buffer.new.bytes)
         sink.old sink.new (W.lookups walk.old) (W.lookups walk.new)) }

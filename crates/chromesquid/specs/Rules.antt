@@ -19,7 +19,7 @@ pub use Rattle.aho_automaton.specs.Finding.{AreFirstFinds, HoldsOfFinds}
 pub use Rattle.aho_stream.specs.FindRuns.{is_limit_among}
 pub use Rattle.aho_stream.specs.StreamRun.{RefusesUntouched}
 pub use Rattle.aho_backward.specs.Making.{MakesNone}
-pub use Rattle.aho_backward.specs.Overhang.{HasBehind, IsOverhang}
+pub use Rattle.aho_backward.specs.Overhang.{HasBehind, IsAbove, IsOverhang}
 pub use Rattle.aho_backward.specs.Replacing.{IsReplacedBy}
 pub use Rattle.aho_backward.specs.Streams.{FourAByte, LeavesByBlocks, ReplacesAllBut, held_back}
 pub use Rattle.chromesquid.specs.Backward.{IsBackwardFor}

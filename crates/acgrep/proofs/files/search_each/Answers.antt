@@ -19,7 +19,7 @@ loop-rest-init g c =
     let held = g.W.Sink.taken c.args.output.now in
     record {
       so_far = λ p is plain. subst (SoFar p job holds names left held names left held) (sym c.new-seen.ensures) (so_far_start p job holds names left held);
-      told = subst (λ (seen : Seen). TellsIf g.E.Sink (IsMessage (files_told job.hushed names)) job.hushed seen.failed c.args.errors.now c.args.errors.now) (sym c.new-seen.ensures) refl;
+      told = subst (λ (seen : Seen). TellsIf g.E.Sink (IsMessage (files_told job.hushed job.label.now names)) job.hushed seen.failed c.args.errors.now c.args.errors.now) (sym c.new-seen.ensures) refl;
       within = λ name is. is;
     }
 
@@ -39,8 +39,8 @@ loop-rest-preserved g c =
     let name = (get_or rest 0 d).now in
     let more = name_bytes (take (length rest - 1) (drop 1 rest)) in
     let cut : name_bytes rest ≡ name ∷ more = names_cut rest d (c.goes_on.ensures.some c.loop-rest-test.true) in
-    let all = files_told job.hushed names in
-    let within = told-cut job.hushed name more (name_bytes rest) all (ap (files_told job.hushed) cut) c.loop-rest.invariant.within in
+    let all = files_told job.hushed job.label.now names in
+    let within = told-cut job.hushed job.label.now name more (name_bytes rest) all (ap (files_told job.hushed job.label.now) cut) c.loop-rest.invariant.within in
     record {
       so_far = λ p is plain.
           let so_far = subst (λ (l : List (List ℕ)). SoFar p job holds names begin first l left held c.loop-rest.seen) cut (c.loop-rest.invariant.so_far p is plain) in

@@ -13,8 +13,8 @@ invariant-loop-rest g l = record {
   so_far : (p : Patterns) → g.A.Automaton.is_of l.fn.automaton p → HoldNoNewline p
       → SoFar p l.fn.job (g.F.Open.holds l.fn.files) (name_bytes l.fn.names) (g.R.Read.remaining l.initial.input) (g.W.Sink.taken l.initial.output)
       (name_bytes l.rest) (g.R.Read.remaining l.input) (g.W.Sink.taken l.output) l.seen;
-  told : TellsIf g.E.Sink (IsMessage (files_told l.fn.job.hushed (name_bytes l.fn.names))) l.fn.job.hushed l.seen.failed l.initial.errors l.errors;
-  within : AreWithin (files_told l.fn.job.hushed (name_bytes l.rest)) (files_told l.fn.job.hushed (name_bytes l.fn.names));
+  told : TellsIf g.E.Sink (IsMessage (files_told l.fn.job.hushed l.fn.job.label.now (name_bytes l.fn.names))) l.fn.job.hushed l.seen.failed l.initial.errors l.errors;
+  within : AreWithin (files_told l.fn.job.hushed l.fn.job.label.now (name_bytes l.rest)) (files_told l.fn.job.hushed l.fn.job.label.now (name_bytes l.fn.names));
 }
 
 abbrev pub decreases-loop-rest : goal.decreases-loop-rest

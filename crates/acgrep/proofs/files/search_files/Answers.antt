@@ -42,12 +42,12 @@ pub returns-then-is_empty-clause-told : goal.returns-then-is_empty-clause-told
 returns-then-is_empty-clause-told g c =
     let names = c.args.files.now.names.now in
     let none : length names ≡ 0 = grind (arith, common_steps, c.is_empty.ensures, c.if-is_empty.true) in
-    subst (λ (l : List (List ℕ)). TellsStatus g.E.Sink (IsMessage (files_told c.args.job.now.hushed l)) c.args.job.now.hushed c.args.job.now.shown c.search_names.result c.args.errors.now c.search_names.new.errors)
+    subst (λ (l : List (List ℕ)). TellsStatus g.E.Sink (IsMessage (files_told c.args.job.now.hushed c.args.job.now.label.now l)) c.args.job.now.hushed c.args.job.now.shown c.search_names.result c.args.errors.now c.search_names.new.errors)
     (sym (input_alone names none)) c.search_names.ensures.told
 
 pub returns-clause-told : goal.returns-clause-told
 returns-clause-told g c =
     let names = c.args.files.now.names.now in
     let some : 0 < length names = grind (arith, common_steps, c.is_empty.ensures, c.if-is_empty.false) in
-    subst (λ (l : List (List ℕ)). TellsStatus g.E.Sink (IsMessage (files_told c.args.job.now.hushed l)) c.args.job.now.hushed c.args.job.now.shown c.search_names-2.result c.args.errors.now c.search_names-2.new.errors)
+    subst (λ (l : List (List ℕ)). TellsStatus g.E.Sink (IsMessage (files_told c.args.job.now.hushed c.args.job.now.label.now l)) c.args.job.now.hushed c.args.job.now.shown c.search_names-2.result c.args.errors.now c.search_names-2.new.errors)
     (sym (names_asked names some)) c.search_names-2.ensures.told

@@ -1,5 +1,5 @@
 -- The name that is told is that of the file.
-use Rattle.std.proofs.Common.{◌≡◌, ℕ, Bool, List, true, false, codes, refl, sym, subst, ◌∙◌}
+use Rattle.std.proofs.Common.{◌≡◌, ℕ, Bool, List, true, false, refl, sym, subst, ◌∙◌}
 use Rattle.programs.specs.Names.{IsOneOf, is_input}
 use Rattle.acgrep.specs.Files.{SearchesFile, SearchesName, SearchesReader, shown_name}
 use Rattle.acgrep.specs.Told.{IsMessage, TellsOutcome}
@@ -10,7 +10,7 @@ use Rattle.acgrep.proofs.files.search_name.Goals as goal
 pub returns-then-is_input-clause-told : goal.returns-then-is_input-clause-told
 returns-then-is_input-clause-told g c = λ names is.
     let input : is_input c.args.name.now ≡ true = sym c.is_input.ensures ∙ c.if-is_input.true in
-    let same : shown_name c.args.name.now ≡ codes "(standard input)" = rw input refl in
+    let same : shown_name c.args.job.now.label.now c.args.name.now ≡ c.args.job.now.label.now = rw input refl in
     let hushed = c.job_for-named.ensures.named.hushed in
     subst (λ (b : Bool). TellsOutcome g.E.Sink (IsMessage names) b c.search_one.result c.args.errors.now c.search_one.new.errors) hushed
     (c.search_one.ensures.told names (λ asked. subst (λ (n : List ℕ). IsOneOf n names) (same ∙ sym c.job_for-named.ensures.named.name) (is (sym hushed ∙ asked))))
@@ -18,7 +18,7 @@ returns-then-is_input-clause-told g c = λ names is.
 pub returns-clause-told : goal.returns-clause-told
 returns-clause-told g c = λ names is.
     let file : is_input c.args.name.now ≡ false = sym c.is_input.ensures ∙ c.if-is_input.false in
-    let same : shown_name c.args.name.now ≡ c.args.name.now = rw file refl in
+    let same : shown_name c.args.job.now.label.now c.args.name.now ≡ c.args.name.now = rw file refl in
     let hushed = c.job_for-named-2.ensures.named.hushed in
     subst (λ (b : Bool). TellsOutcome g.E.Sink (IsMessage names) b c.search_named.result c.args.errors.now c.search_named.new.errors) hushed
     (c.search_named.ensures.told names (λ asked. subst (λ (n : List ℕ). IsOneOf n names) (same ∙ sym c.job_for-named-2.ensures.named.name) (is (sym hushed ∙ asked))))

@@ -28,11 +28,11 @@ returns-in_default-clause-begun g c = λ p is plain.
 
 pub returns-in_default-clause-told : goal.returns-in_default-clause-told
 returns-in_default-clause-told g c =
-    let names = files_told c.args.job.now.hushed (name_bytes c.args.names.now) in
+    let names = files_told c.args.job.now.hushed c.args.job.now.label.now (name_bytes c.args.names.now) in
     status-some g.E.Sink (IsMessage names) c.args.job.now.hushed c.args.job.now.shown c.args.errors.now c.tell_memory.new.errors (c.tell_memory.ensures.told names)
 
 pub returns-clause-told : goal.returns-clause-told
 returns-clause-told g c =
-    let names = files_told c.args.job.now.hushed (name_bytes c.args.names.now) in
+    let names = files_told c.args.job.now.hushed c.args.job.now.label.now (name_bytes c.args.names.now) in
     subst (λ (status : ℕ). TellsStatus g.E.Sink (IsMessage names) c.args.job.now.hushed c.args.job.now.shown status c.args.errors.now c.search_each-seen.new.errors) (sym c.status.ensures)
     (status-seen g.E.Sink (IsMessage names) c.args.job.now.hushed c.args.job.now.shown c.search_each-seen.result c.args.errors.now c.search_each-seen.new.errors c.search_each-seen.ensures.told)

@@ -20,7 +20,7 @@ loop-found-preserved g c =
           let next : IsNextAlone p line at (Some found) = subst (IsNextAlone p line at) c.in-Some.is (c.in_ok-found.ensures.next p is) in (
             ms ++ (found ∷ []),
             alone_step p line at c.behind_alone-at.result ms found behind next so_far,
-            objects_more c.args.style.now c.args.place ms found (held c.args.output.now) (held c.loop-found.output) (held c.put_object.new.output) written c.in_ok-put_object.ensures.written,
+            objects_more c.args.style.now c.args.place line ms found (held c.args.output.now) (held c.loop-found.output) (held c.put_object.new.output) written c.in_ok-put_object.ensures.written,
           );
     }
 

@@ -11,7 +11,7 @@ abbrev pub invariant-loop-found : goal.invariant-loop-found
 invariant-loop-found g l = record {
   within : l.at ≤ length l.fn.line + 1;
   written : (p : Patterns) → g.A.Automaton.is_of l.fn.automaton p → (ms : List Occurrence) × AloneSoFar p l.fn.line l.at ms
-      × Appends (g.W.Write.contents l.initial.output) (g.W.Write.contents l.output) (objects_by l.fn.style l.fn.place ms);
+      × Appends (g.W.Write.contents l.initial.output) (g.W.Write.contents l.output) (objects_by l.fn.style l.fn.place l.fn.line ms);
 }
 
 abbrev pub decreases-loop-found : goal.decreases-loop-found

@@ -10,7 +10,7 @@ loop-found-preserved g c =
     record {
       can_next = search rules;
       is_finite = search rules;
-      written = objects_more c.args.style.now c.args.place c.loop-found.yielded c.in-Some.found (held c.args.output.now) (held c.loop-found.output) (held c.put_object.new.output)
+      written = objects_more c.args.style.now c.args.place c.args.line.now c.loop-found.yielded c.in-Some.found (held c.args.output.now) (held c.loop-found.output) (held c.put_object.new.output)
           c.loop-found.invariant.written c.in_ok-put_object.ensures.written;
     }
 

@@ -7,5 +7,5 @@ abbrev pub invariant-loop-found : goal.invariant-loop-found
 invariant-loop-found g l = record {
   can_next : (goal.iterator-loop-found g).can_next l.found-iterator;
   is_finite : (goal.iterator-loop-found g).is_finite l.found-iterator;
-  written : Appends (g.W.Write.contents l.initial.output) (g.W.Write.contents l.output) (objects_by l.fn.style l.fn.place l.yielded);
+  written : Appends (g.W.Write.contents l.initial.output) (g.W.Write.contents l.output) (objects_by l.fn.style l.fn.place l.fn.line l.yielded);
 }

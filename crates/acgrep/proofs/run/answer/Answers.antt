@@ -1,16 +1,26 @@
 -- A text is written, or a search is made, and its status told.
-use Rattle.std.proofs.Common.{◌<◌, ◌∙◌, ℕ, Some, subst, sym}
+use Rattle.std.proofs.Common.{◌<◌, ◌∙◌, ℕ, Some, inl, subst, sym}
 use Rattle.std.proofs.lemmas.Bool.{true≢false}
 use Rattle.acgrep.specs.Arguments.{said, shown_by}
-use Rattle.acgrep.specs.Told.{MayTell, TellsOfCall, names_said}
+use Rattle.acgrep.specs.Folders.{tree_of}
+use Rattle.acgrep.specs.Told.{MaySaid, MayTell, TellsOfCall, names_said}
 use Rattle.acgrep.proofs.Statuses.{told-low, told-status}
+use Rattle.acgrep.proofs.Told.{status-weaker}
 use Rattle.acgrep.proofs.run.answer.Goals as goal
 
 pub returns-then-given-clause-told : goal.returns-then-given-clause-told
-returns-then-given-clause-told g c = c.write_text.ensures.told c.args.given.now.flags.no_messages (shown_by c.args.given.now.flags) (names_said (Some (said c.args.given.now)))
+returns-then-given-clause-told g c =
+    let given = said c.args.given.now in
+    let tree = tree_of g.F.Folders c.args.files.now in
+    status-weaker g.E.Sink (MayTell (names_said (Some given))) (MaySaid tree (Some given)) given.flags.no_messages (shown_by given.flags) c.write_text.result c.args.errors.now c.write_text.new.errors
+    (λ line is. inl is) (c.write_text.ensures.told given.flags.no_messages (shown_by given.flags) (names_said (Some given)))
 
 pub returns-then-given-2-clause-told : goal.returns-then-given-2-clause-told
-returns-then-given-2-clause-told g c = c.write_text-then-given-2.ensures.told c.args.given.now.flags.no_messages (shown_by c.args.given.now.flags) (names_said (Some (said c.args.given.now)))
+returns-then-given-2-clause-told g c =
+    let given = said c.args.given.now in
+    let tree = tree_of g.F.Folders c.args.files.now in
+    status-weaker g.E.Sink (MayTell (names_said (Some given))) (MaySaid tree (Some given)) given.flags.no_messages (shown_by given.flags) c.write_text-then-given-2.result c.args.errors.now c.write_text-then-given-2.new.errors
+    (λ line is. inl is) (c.write_text-then-given-2.ensures.told given.flags.no_messages (shown_by given.flags) (names_said (Some given)))
 
 pub returns-then-given-clause-searches : goal.returns-then-given-clause-searches
 returns-then-given-clause-searches g c = λ asks low. absurd (true≢false (sym c.if-given.true ∙ asks.no_version))
@@ -30,6 +40,7 @@ returns-clause-searches g c = λ asks low.
 pub returns-clause-told : goal.returns-clause-told
 returns-clause-told g c =
     let given = said c.args.given.now in
-    subst (λ (n : ℕ). TellsOfCall g.E.Sink given n c.args.errors.now c.search_asked-status.new.errors) (sym c.status_told.ensures.told)
-    (told-status g.E.Sink (MayTell (names_said (Some given))) given.flags.no_messages (shown_by given.flags) given.flags.no_match_ok c.search_asked-status.result
+    let tree = tree_of g.F.Folders c.args.files.now in
+    subst (λ (n : ℕ). TellsOfCall g.E.Sink tree given n c.args.errors.now c.search_asked-status.new.errors) (sym c.status_told.ensures.told)
+    (told-status g.E.Sink (MaySaid tree (Some given)) given.flags.no_messages (shown_by given.flags) given.flags.no_match_ok c.search_asked-status.result
     c.args.errors.now c.search_asked-status.new.errors c.search_asked-status.ensures.told)

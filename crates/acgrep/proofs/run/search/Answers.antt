@@ -1,32 +1,33 @@
 -- The automaton was built of the lines that were read.
-use Rattle.std.proofs.Common.{Bool, ◌≡◌, ◌∙◌, ◌++◌, arith, List, ℕ, false, true, ap, inl, inr, refl, subst, sym}
+use Rattle.std.proofs.Common.{◌≡◌, ◌∙◌, arith, List, [], ℕ, false, true, ap, inl, inr, refl, subst, sym}
 use Rattle.std.proofs.KnownBytes.{Keeps-refl}
 use Rattle.std.proofs.lemmas.Bool.{and_parts}
-use Rattle.std.proofs.lemmas.List.{length-map}
 use Rattle.aho_core.specs.Replacement.{pieces_of}
 use Rattle.acgrep.specs.Lines.{lines}
-use Rattle.acgrep.specs.Runs.{IsJob, inverts, kind_sought, knows_none, origins_of, words_sought}
+use Rattle.acgrep.specs.Runs.{inverts, kind_sought, knows_none, origins_of, words_sought}
 use Rattle.acgrep.specs.Searchers.{patterns_asked}
 use Rattle.acgrep.proofs.Unselected.{none_selected}
 use Rattle.acgrep.proofs.WordLists.{sought_plain}
-use Rattle.programs.specs.Names.{name_bytes, or_input}
+use Rattle.programs.specs.Names.{name_bytes}
 use Rattle.programs.specs.declared.errors.Errors.{Errors}
 use Rattle.programs.proofs.Lines.{some-weaker}
-use Rattle.acgrep.specs.Arguments.{fit_by, shown_by}
-use Rattle.acgrep.specs.Told.{IsMessage, MayTell, TellsStatus, files_told, names_told, source_names}
-use Rattle.acgrep.specs.declared.options.Shown.{Shown}
-use Rattle.acgrep.proofs.Told.{among-first, among-later, message-more, status-none, status-some, status-weaker}
+use Rattle.acgrep.specs.Arguments.{fit_by, said, shown_by}
+use Rattle.acgrep.specs.Folders.{tree_of}
+use Rattle.acgrep.specs.Told.{IsMessage, MaySay, TellsStatus, names_told, source_names}
+use Rattle.acgrep.proofs.Reaching.{may-behind, may-sources}
+use Rattle.acgrep.proofs.Told.{status-none, status-some, status-weaker}
 use Rattle.acgrep.proofs.run.search.Goals as goal
 
-pub search_by-requires : goal.search_by-requires
-search_by-requires g c =
-    let flags = c.args.flags.now in
+pub search_operands-requires : goal.search_operands-requires
+search_operands-requires g c =
+    let given = said c.args.given.now in
+    let flags = given.flags in
     let asked = patterns_asked (kind_sought flags) flags.ignore_case (pieces_of c.sought-words.result.now) in
     record { of = (asked, c.in-Ok-build.ensures.of asked (sym c.kind_sought.ensures) (record { words_are = refl; rule = refl })) }
 
 pub returns-in-Ok-build-clause-searches : goal.returns-in-Ok-build-clause-searches
 returns-in-Ok-build-clause-searches g c low =
-    let flags = c.args.flags.now in
+    let flags = c.args.given.now.flags in
     let text = c.in-Some.keys.text.items in
     let sought = words_sought flags (lines text) in
     let same : pieces_of c.sought-words.result.now ≡ sought =
@@ -37,16 +38,12 @@ returns-in-Ok-build-clause-searches g c low =
       words = lines text;
       between = g.R.Read.remaining c.read_keys.new.input;
       read = c.in-Some.ensures.words;
-      searched = rw some (record {
-        job = c.job_of-job.result;
-        is_job = subst (λ (count : ℕ). IsJob flags c.args.terminal count c.job_of-job.result) (sym (length-map c.args.names.now (λ name. name.now))) c.job_of-job.ensures.job;
-        searched = c.search_by.ensures.searched asked (c.in-Ok-build.ensures.of asked (sym c.kind_sought.ensures) (record { words_are = sym same; rule = refl })) (sought_plain flags text) low;
-      });
+      searched = rw some (c.search_operands.ensures.searched asked (c.in-Ok-build.ensures.of asked (sym c.kind_sought.ensures) (record { words_are = sym same; rule = refl })) (sought_plain flags text) low);
     }
 
 pub returns-then-knows_none-clause-searches : goal.returns-then-knows_none-clause-searches
 returns-then-knows_none-clause-searches g c low =
-    let flags = c.args.flags.now in
+    let flags = c.args.given.now.flags in
     let text = c.in-Some.keys.text.items in
     let sought = words_sought flags (lines text) in
     let same : pieces_of c.sought-words.result.now ≡ sought =
@@ -66,20 +63,16 @@ returns-then-knows_none-clause-searches g c low =
 
 pub returns-in-Ok-build-clause-begins : goal.returns-in-Ok-build-clause-begins
 returns-in-Ok-build-clause-begins g c =
-    let flags = c.args.flags.now in
+    let flags = c.args.given.now.flags in
     let text = c.in-Some.keys.text.items in
     let sought = words_sought flags (lines text) in
     let same : pieces_of c.sought-words.result.now ≡ sought =
     c.sought-words.ensures.words ∙ ap (words_sought flags) (ap pieces_of c.as_slice-all.ensures.value ∙ c.in-Ok.ensures.lines ∙ ap lines c.as_slice.ensures.value) in
     let asked = patterns_asked (kind_sought flags) flags.ignore_case sought in
-    inr (record {
-      words = lines text;
-      between = g.R.Read.remaining c.read_keys.new.input;
-      read = c.in-Some.ensures.words;
-      job = c.job_of-job.result;
-      is_job = subst (λ (count : ℕ). IsJob flags c.args.terminal count c.job_of-job.result) (sym (length-map c.args.names.now (λ name. name.now))) c.job_of-job.ensures.job;
-      begun = c.search_by.ensures.begun asked (c.in-Ok-build.ensures.of asked (sym c.kind_sought.ensures) (record { words_are = sym same; rule = refl })) (sought_plain flags text);
-    })
+    elim (c.search_operands.ensures.begun asked (c.in-Ok-build.ensures.of asked (sym c.kind_sought.ensures) (record { words_are = sym same; rule = refl })) (sought_plain flags text)) [
+      | inl keeps ↦ inl keeps
+      | inr begun ↦ inr (record { words = lines text; between = g.R.Read.remaining c.read_keys.new.input; read = c.in-Some.ensures.words; begun = begun })
+    ]
 
 pub returns-in_default-clause-begins : goal.returns-in_default-clause-begins
 returns-in_default-clause-begins g c = inl (Keeps-refl (g.W.Sink.taken c.args.output.now))
@@ -95,41 +88,49 @@ returns-clause-begins g c = inl (Keeps-refl (g.W.Sink.taken c.args.output.now))
 
 pub returns-in_default-clause-told : goal.returns-in_default-clause-told
 returns-in_default-clause-told g c =
+    let given = said c.args.given.now in
+    let flags = given.flags in
     let sources = source_names (origins_of c.args.sources.now) in
-    let files = files_told c.args.flags.now.no_messages (or_input (name_bytes c.args.names.now)) in
-    let may : (line : List ℕ) → IsMessage sources line → MayTell (sources ++ files) line = λ line is. inl (message-more sources (sources ++ files) (λ name is. among-first name sources files is) line is) in
-    status-some g.E.Sink (MayTell (sources ++ files)) c.args.flags.now.no_messages (shown_by c.args.flags.now) c.args.errors.now c.read_keys.new.errors
-    (some-weaker g.E.Sink (IsMessage sources) (MayTell (sources ++ files)) c.args.errors.now c.read_keys.new.errors may (c.in_default.ensures.told refl))
+    let May = MaySay (tree_of g.F.Folders c.args.files.now) given (origins_of c.args.sources.now) (name_bytes c.args.names.now) in
+    let may : (line : List ℕ) → IsMessage sources line → May line = may-sources (tree_of g.F.Folders c.args.files.now) given (origins_of c.args.sources.now) (name_bytes c.args.names.now) in
+    status-some g.E.Sink May flags.no_messages (shown_by flags) c.args.errors.now c.read_keys.new.errors
+    (some-weaker g.E.Sink (IsMessage sources) May c.args.errors.now c.read_keys.new.errors may (c.in_default.ensures.told refl))
 
 pub returns-in_default-lines_of-clause-told : goal.returns-in_default-lines_of-clause-told
 returns-in_default-lines_of-clause-told g c =
-    let names = names_told c.args.flags.now.no_messages (origins_of c.args.sources.now) (name_bytes c.args.names.now) in
-    subst (λ (e : Errors g.row.E.Denot). TellsStatus g.E.Sink (MayTell names) c.args.flags.now.no_messages (shown_by c.args.flags.now) 2 e c.tell_memory.new.errors) (c.in-Some.ensures.silent refl)
-    (status-some g.E.Sink (MayTell names) c.args.flags.now.no_messages (shown_by c.args.flags.now) c.read_keys.new.errors c.tell_memory.new.errors (some-weaker g.E.Sink (IsMessage names) (MayTell names) c.read_keys.new.errors c.tell_memory.new.errors (λ line is. inl is) (c.tell_memory.ensures.told names)))
+    let given = said c.args.given.now in
+    let flags = given.flags in
+    let names = names_told flags.no_messages given.label (origins_of c.args.sources.now) (name_bytes c.args.names.now) in
+    let May = MaySay (tree_of g.F.Folders c.args.files.now) given (origins_of c.args.sources.now) (name_bytes c.args.names.now) in
+    subst (λ (e : Errors g.row.E.Denot). TellsStatus g.E.Sink May flags.no_messages (shown_by flags) 2 e c.tell_memory.new.errors) (c.in-Some.ensures.silent refl)
+    (status-some g.E.Sink May flags.no_messages (shown_by flags) c.read_keys.new.errors c.tell_memory.new.errors (some-weaker g.E.Sink (IsMessage names) May c.read_keys.new.errors c.tell_memory.new.errors (λ line is. inl (inl is)) (c.tell_memory.ensures.told names)))
 
 pub returns-then-knows_none-clause-told : goal.returns-then-knows_none-clause-told
 returns-then-knows_none-clause-told g c =
-    let names = names_told c.args.flags.now.no_messages (origins_of c.args.sources.now) (name_bytes c.args.names.now) in
-    subst (λ (e : Errors g.row.E.Denot). TellsStatus g.E.Sink (MayTell names) c.args.flags.now.no_messages (shown_by c.args.flags.now) 1 c.args.errors.now e) (sym (c.in-Some.ensures.silent refl))
-    (status-none g.E.Sink (MayTell names) c.args.flags.now.no_messages (shown_by c.args.flags.now) 1 c.args.errors.now (omega arith))
+    let given = said c.args.given.now in
+    let flags = given.flags in
+    let May = MaySay (tree_of g.F.Folders c.args.files.now) given (origins_of c.args.sources.now) (name_bytes c.args.names.now) in
+    subst (λ (e : Errors g.row.E.Denot). TellsStatus g.E.Sink May flags.no_messages (shown_by flags) 1 c.args.errors.now e) (sym (c.in-Some.ensures.silent refl))
+    (status-none g.E.Sink May flags.no_messages (shown_by flags) 1 c.args.errors.now (omega arith))
 
 pub returns-in-Ok-build-clause-told : goal.returns-in-Ok-build-clause-told
 returns-in-Ok-build-clause-told g c =
-    let sources = source_names (origins_of c.args.sources.now) in
-    let files = files_told c.args.flags.now.no_messages (or_input (name_bytes c.args.names.now)) in
-    let may : (line : List ℕ) → IsMessage files line → MayTell (sources ++ files) line = λ line is. inl (message-more files (sources ++ files) (λ name is. among-later name sources files is) line is) in
-    let named = or_input (name_bytes c.args.names.now) in
-    let told = subst (λ (shown : Shown). TellsStatus g.E.Sink (IsMessage files) c.args.flags.now.no_messages shown c.search_by.result c.read_keys.new.errors c.search_by.new.errors) c.job_of-job.ensures.job.shown
-    (subst (λ (hushed : Bool). TellsStatus g.E.Sink (IsMessage (files_told hushed named)) hushed c.job_of-job.result.shown c.search_by.result c.read_keys.new.errors c.search_by.new.errors) c.job_of-job.ensures.job.hushed
-    c.search_by.ensures.told) in
-    subst (λ (e : Errors g.row.E.Denot). TellsStatus g.E.Sink (MayTell (sources ++ files)) c.args.flags.now.no_messages (shown_by c.args.flags.now) c.search_by.result e c.search_by.new.errors) (c.in-Some.ensures.silent refl)
-    (status-weaker g.E.Sink (IsMessage files) (MayTell (sources ++ files)) c.args.flags.now.no_messages (shown_by c.args.flags.now) c.search_by.result c.read_keys.new.errors c.search_by.new.errors may told)
+    let given = said c.args.given.now in
+    let flags = given.flags in
+    let tree = tree_of g.F.Folders c.args.files.now in
+    let names = name_bytes c.args.names.now in
+    let May = MaySay tree given (origins_of c.args.sources.now) names in
+    subst (λ (e : Errors g.row.E.Denot). TellsStatus g.E.Sink May flags.no_messages (shown_by flags) c.search_operands.result e c.search_operands.new.errors) (c.in-Some.ensures.silent refl)
+    (status-weaker g.E.Sink (MaySay tree given [] names) May flags.no_messages (shown_by flags) c.search_operands.result c.read_keys.new.errors c.search_operands.new.errors
+    (may-behind tree given (origins_of c.args.sources.now) names) c.search_operands.ensures.told)
 
 pub returns-clause-told : goal.returns-clause-told
 returns-clause-told g c =
+    let given = said c.args.given.now in
+    let flags = given.flags in
     let sources = source_names (origins_of c.args.sources.now) in
-    let files = files_told c.args.flags.now.no_messages (or_input (name_bytes c.args.names.now)) in
-    let may : (line : List ℕ) → IsMessage sources line → MayTell (sources ++ files) line = λ line is. inl (message-more sources (sources ++ files) (λ name is. among-first name sources files is) line is) in
-    subst (λ (e : Errors g.row.E.Denot). TellsStatus g.E.Sink (MayTell (sources ++ files)) c.args.flags.now.no_messages (shown_by c.args.flags.now) 2 e c.tell_refusal.new.errors) (c.in-Some.ensures.silent refl)
-    (status-some g.E.Sink (MayTell (sources ++ files)) c.args.flags.now.no_messages (shown_by c.args.flags.now) c.read_keys.new.errors c.tell_refusal.new.errors
-    (some-weaker g.E.Sink (IsMessage sources) (MayTell (sources ++ files)) c.read_keys.new.errors c.tell_refusal.new.errors may c.tell_refusal.ensures.told))
+    let May = MaySay (tree_of g.F.Folders c.args.files.now) given (origins_of c.args.sources.now) (name_bytes c.args.names.now) in
+    let may : (line : List ℕ) → IsMessage sources line → May line = may-sources (tree_of g.F.Folders c.args.files.now) given (origins_of c.args.sources.now) (name_bytes c.args.names.now) in
+    subst (λ (e : Errors g.row.E.Denot). TellsStatus g.E.Sink May flags.no_messages (shown_by flags) 2 e c.tell_refusal.new.errors) (c.in-Some.ensures.silent refl)
+    (status-some g.E.Sink May flags.no_messages (shown_by flags) c.read_keys.new.errors c.tell_refusal.new.errors
+    (some-weaker g.E.Sink (IsMessage sources) May c.read_keys.new.errors c.tell_refusal.new.errors may c.tell_refusal.ensures.told))

@@ -39,6 +39,11 @@ returns-in-UnknownColor g c = record {
   told = subst (λ (wrong : Wrong). TellsBytes g.E.Sink c.args.errors.now c.write-in-UnknownColor.new.self (concat (wrong_parts wrong))) (sym c.in-UnknownColor.is) c.write-in-UnknownColor.ensures.told;
 }
 
+pub returns-in-UnknownField : goal.returns-in-UnknownField
+returns-in-UnknownField g c = record {
+  told = subst (λ (wrong : Wrong). TellsBytes g.E.Sink c.args.errors.now c.write-in-UnknownField.new.self (concat (wrong_parts wrong))) (sym c.in-UnknownField.is) c.write-in-UnknownField.ensures.told;
+}
+
 pub returns-in-NoNumber : goal.returns-in-NoNumber
 returns-in-NoNumber g c =
     let new = c.tell_number.new.errors in

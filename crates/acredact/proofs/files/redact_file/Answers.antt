@@ -2,6 +2,7 @@
 use Rattle.std.proofs.Common.{◌∙◌, sym, refl}
 use Rattle.acredact.specs.Files.{work_of}
 use Rattle.acredact.proofs.OneFile.{file_input, file_opened, file_refused}
+use Rattle.acredact.proofs.Metering.{input_bytes, opened_bytes}
 use Rattle.acredact.proofs.Totals.{input_counts, opened_counts}
 use Rattle.acredact.proofs.files.redact_file.Goals as goal
 
@@ -25,3 +26,12 @@ pub returns-in-Ok-clause-counted : goal.returns-in-Ok-clause-counted
 returns-in-Ok-clause-counted g c = λ red by whole.
     let opened = c.redact_opened.ensures.counted whole red by in
     opened_counts (work_of g.F.Folder c.args.job.now red) c.args.name.now _ _ _ _ (sym c.is_input.ensures.is ∙ c.if-is_input.false) refl _ opened.0 c.in-Ok.ensures.told opened.1
+
+pub returns-then-is_input-clause-read : goal.returns-then-is_input-clause-read
+returns-then-is_input-clause-read g c = λ whole.
+    input_bytes (g.F.Folder.holds c.args.job.now.folder.now) c.args.name.now _ _ _ _ (sym c.is_input.ensures.is ∙ c.if-is_input.true) (c.redact_input.ensures.read whole)
+
+pub returns-in-Ok-clause-read : goal.returns-in-Ok-clause-read
+returns-in-Ok-clause-read g c = λ whole.
+    let opened = c.redact_opened.ensures.read whole in
+    opened_bytes (g.F.Folder.holds c.args.job.now.folder.now) c.args.name.now _ _ _ _ (sym c.is_input.ensures.is ∙ c.if-is_input.false) refl _ opened.0 c.in-Ok.ensures.told opened.1

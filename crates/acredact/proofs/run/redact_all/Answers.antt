@@ -15,12 +15,14 @@ use Rattle.aho_hybrid.specs.contracts.hybrid.HybridAutomaton.TheImpl.Laws.{laws-
 use Rattle.aho_hybrid.specs.declared.hybrid.Hybrid.{Hybrid}
 use Rattle.programs.specs.Asked.{ArePatterns}
 use Rattle.programs.specs.Names.{name_bytes}
+use Rattle.programs.specs.Streams.{bytes_left}
 use Rattle.acredact.specs.Arguments.{all_given, covers_asked, has}
 use Rattle.acredact.specs.Builds.{RefusesPatterns, patterns_by_given}
 use Rattle.acredact.specs.Calls.{WarnedOutcome, call_of, names_asked, pieces_asked, work_by}
 use Rattle.acredact.specs.Secrets.{CanRedact}
 use Rattle.acredact.specs.Tables.{patterns_in, piece_by, secret_of, secrets_of}
 use Rattle.acredact.specs.Totals.{CountsWork}
+use Rattle.acredact.specs.Volumes.{ReadsVolume}
 use Rattle.acredact.specs.declared.failure.Failure.{Failure}
 use Rattle.acredact.specs.declared.arguments.Word.TheVariants.{Strict}
 use Rattle.acredact.specs.declared.failure.Failure.TheVariants.{Other}
@@ -113,3 +115,9 @@ returns-clause-outcome g c =
     subst (λ (b : Bool). WarnedOutcome g.W.Write g.E.Sink b work c.redact_warned.result c.args.streams.now c.redact_warned.new.streams) c.has-strict.ensures.has
     (work_as (g.F.Folder.holds c.args.folder.now) (g.F.Folder.refuses c.args.folder.now) (g.F.Folder.meets c.args.folder.now) p _ _ _ _ _ _ (names_are g after) (covers_are g after) (pieces_are g after)
     (λ w. WarnedOutcome g.W.Write g.E.Sink c.has-strict.result w c.redact_warned.result c.args.streams.now c.redact_warned.new.streams) (c.redact_warned.ensures.outcome p (nfa_is g after) (patterns_are g after) (rows_are g after)))
+
+pub returns-clause-read : goal.returns-clause-read
+returns-clause-read g c = λ whole.
+    let after = (goal.at.returns-clause-read g c).After-as_ref in
+    subst (λ (l : List (List ℕ)). ReadsVolume (g.F.Folder.holds c.args.folder.now) l c.args.volume.now c.redact_warned.new.volume (bytes_left c.args.streams.now.input) (bytes_left c.redact_warned.new.streams.input)) (names_are g after)
+    (c.redact_warned.ensures.read whole)

@@ -9,8 +9,8 @@ use Rattle.acredact.specs.declared.failure.Failure.TheVariants.{Other}
 use Rattle.acredact.proofs.Calls.{call_refused, may_fail}
 use Rattle.acredact.proofs.run.redact_counted.Goals as goal
 
-pub returns-in_err-counts-clause-outcome : goal.returns-in_err-counts-clause-outcome
-returns-in_err-counts-clause-outcome g c = λ left loaded.
+pub returns-in_err-tally-clause-outcome : goal.returns-in_err-tally-clause-outcome
+returns-in_err-tally-clause-outcome g c = λ left loaded.
     let is : c.from_residual.result ≡ Err (Other OutOfMemory) = search rules in
     let call = call_of g.F.Folder c.args.folder.now (all_given c.args.given.now) in
     subst (λ (r : Result Bool Failure). CallOutcome g.W.Write g.E.Sink call left r c.args.streams.now c.args.streams.now) (sym is)

@@ -1,10 +1,9 @@
 -- The files' outcome, and then the counts.
-use Rattle.std.proofs.Common.{◌∙◌, List, ℕ, sym, subst, ap}
-use Rattle.std.specs.Prelude.{Bool, Ok}
+use Rattle.std.proofs.Common.{List, ℕ, refl, subst, ap}
+use Rattle.std.specs.Prelude.{Ok}
 use Rattle.programs.specs.Streams.{bytes_left}
-use Rattle.acredact.specs.Arguments.{all_given}
+use Rattle.acredact.specs.Arguments.{all_given, counts_asked}
 use Rattle.acredact.specs.Calls.{call_of, names_asked, work_by}
-use Rattle.acredact.specs.Counts.{zeros}
 use Rattle.acredact.specs.Tables.{secrets_of}
 use Rattle.acredact.specs.Totals.{CountsOfNames}
 use Rattle.acredact.proofs.Warned.{call_cut, call_told}
@@ -13,10 +12,13 @@ use Rattle.acredact.proofs.run.redact_telling.Goals as goal
 pub returns-in-Ok-clause-outcome : goal.returns-in-Ok-clause-outcome
 returns-in-Ok-clause-outcome g c = λ left loaded.
     let call = call_of g.F.Folder c.args.folder.now (all_given c.args.given.now) in
-    call_told g.W.Write g.E.Sink call left c.args.rules.now c.redact_all.new.counts c.args.streams.now c.redact_all.new.streams loaded
-    c.in-Ok.all c.has.result c.tell_counted.result _ c.has.ensures.has c.in-Ok.ensures.outcome
-    (λ whole. subst (λ (l : List ℕ). CountsOfNames (bytes_left c.args.streams.now.input) (bytes_left c.redact_all.new.streams.input) l c.redact_all.new.counts (work_by call (secrets_of c.args.rules.now)) (names_asked call.given))
-    (c.requires.none ∙ ap (λ (b : Bool). zeros b c.args.rules.now) (sym c.has.ensures.has)) (c.in-Ok.ensures.counted (ap Ok whole)))
+    call_told g.W.Write g.E.Sink call left c.args.rules.now c.redact_all.new.counts c.redact_all.new.volume c.args.streams.now c.redact_all.new.streams loaded
+    c.in-Ok.all (counts_asked call.given) c.tell_counted.result _ refl c.in-Ok.ensures.outcome
+    (λ whole. (
+      subst (λ (l : List ℕ). CountsOfNames (bytes_left c.args.streams.now.input) (bytes_left c.redact_all.new.streams.input) l c.redact_all.new.counts (work_by call (secrets_of c.args.rules.now)) (names_asked call.given))
+          c.requires.none (c.in-Ok.ensures.counted (ap Ok whole)),
+      c.in-Ok.ensures.read (ap Ok whole),
+    ))
     c.tell_counted.ensures.all c.tell_counted.ensures.told c.tell_counted.ensures.fails c.tell_counted.ensures.lines
 
 pub returns-in-Err-clause-outcome : goal.returns-in-Err-clause-outcome

@@ -6,7 +6,7 @@ use Rattle.aho_backward.proofs.overhang.is_worth_it.Goals as goal
 
 pub returns : goal.returns
 returns g c = record {
-  worth = λ p most of words is.
+  worth = λ p of words most is.
       let made = c.longest_overhang.ensures.overhang p of words in
       let low = overhang-unique p most c.longest_overhang.result is made in
       let high = overhang-unique p c.longest_overhang.result most made is in

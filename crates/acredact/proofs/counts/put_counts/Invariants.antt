@@ -1,10 +1,10 @@
 -- The lines so far, and those of what is left.
 use Rattle.std.proofs.Common.{◌≡◌, ◌++◌, length}
 use Rattle.acredact.specs.Counts.{counts_text, lines_of_rules}
-use Rattle.acredact.proofs.counts.text_of.Given as goal
+use Rattle.acredact.proofs.counts.put_counts.Given as goal
 
 abbrev pub invariant-loop-rest : goal.invariant-loop-rest
-invariant-loop-rest l = l.text.items ++ counts_text l.number (lines_of_rules l.rest) l.left ≡ counts_text 1 (lines_of_rules l.fn.rules) l.fn.counts
+invariant-loop-rest l = l.text.items ++ counts_text l.number (lines_of_rules l.rest) l.left ≡ l.initial.text.items ++ counts_text 1 (lines_of_rules l.fn.rules) l.fn.counts
 
 abbrev pub decreases-loop-rest : goal.decreases-loop-rest
 decreases-loop-rest l = length l.rest

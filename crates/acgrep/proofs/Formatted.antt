@@ -1,0 +1,106 @@
+-- A format, one piece after another; and base64, one group after another.
+use Rattle.std.proofs.Common.{◌≡◌, ℕ, zero, suc, ◌+◌, ◌<◌, ◌-◌, ◌==◌, false, List, [], ◌∷◌, ◌++◌, Option, Some, None, ◌∙◌, ap, refl, sym, subst, inl, inr, drop, take, length, slice_index, arith, append_assoc, append-nil}
+use Rattle.std.specs.Prelude.{option_map}
+use Rattle.std.proofs.lemmas.Bool.{cases_Bool}
+use Rattle.std.proofs.lemmas.List.{length-drop, take_all}
+use Rattle.memchr.specs.Find.{Nowhere, Passes, is_byte}
+use Rattle.acgrep.specs.Base64.{base64_of, four_of}
+use Rattle.acgrep.specs.Formats.{front_by, pieces_behind, format_pieces, unknown_behind, unknown_in, up_to_brace}
+use Rattle.acgrep.specs.declared.format.Front.{Front}
+use Rattle.acgrep.specs.declared.format.Piece.{Piece}
+
+-- what belongs to a piece before is passed over
+pub pieces_skip : (skipped : ℕ) (format : List ℕ) → pieces_behind skipped format ≡ format_pieces (drop skipped format)
+pieces_skip zero [] = refl
+pieces_skip zero (byte ∷ rest) = refl
+pieces_skip (suc skipped) [] = refl
+pieces_skip (suc skipped) (byte ∷ rest) = pieces_skip skipped rest
+
+pub unknown_skip : (skipped : ℕ) (format : List ℕ) → unknown_behind skipped format ≡ unknown_in (drop skipped format)
+unknown_skip zero [] = refl
+unknown_skip zero (byte ∷ rest) = refl
+unknown_skip (suc skipped) [] = refl
+unknown_skip (suc skipped) (byte ∷ rest) = unknown_skip skipped rest
+
+-- what a piece takes is dropped
+drop_piece : (len byte : ℕ) (rest : List ℕ) → 0 < len → drop len (byte ∷ rest) ≡ drop (len - 1) rest
+drop_piece zero byte rest some = absurd (omega (arith, some))
+drop_piece (suc len) byte rest some =
+    let same : suc len - 1 ≡ len = omega arith in
+    ap (λ (n : ℕ). drop n rest) (sym same)
+
+-- the first piece, and those behind it
+pub pieces_step : (format : List ℕ) (front : Front) → 0 < length format → 0 < front.len → front_by format ≡ Some front
+    → format_pieces format ≡ option_map (λ pieces. front.piece ∷ pieces) (format_pieces (drop front.len format))
+pieces_step [] front some long is = absurd (omega (arith, some))
+pieces_step (byte ∷ rest) front some long is =
+    rw is (ap (λ (o : Option (List Piece)). option_map (λ pieces. front.piece ∷ pieces) o)
+    (pieces_skip (front.len - 1) rest ∙ ap format_pieces (sym (drop_piece front.len byte rest long))))
+
+pub unknown_step : (format : List ℕ) (front : Front) → 0 < length format → 0 < front.len → front_by format ≡ Some front
+    → unknown_in format ≡ unknown_in (drop front.len format)
+unknown_step [] front some long is = absurd (omega (arith, some))
+unknown_step (byte ∷ rest) front some long is =
+    rw is (unknown_skip (front.len - 1) rest ∙ ap unknown_in (sym (drop_piece front.len byte rest long)))
+
+-- where there is no first piece the format is none, and that is told
+pub pieces_none : (format : List ℕ) → 0 < length format → front_by format ≡ None → format_pieces format ≡ None
+pieces_none [] some is = absurd (omega (arith, some))
+pieces_none (byte ∷ rest) some is = rw is refl
+
+pub unknown_none : (format : List ℕ) → 0 < length format → front_by format ≡ None → unknown_in format ≡ up_to_brace format
+unknown_none [] some is = absurd (omega (arith, some))
+unknown_none (byte ∷ rest) some is = rw is refl
+
+-- a piece more
+pub pieces_more : (items : List Piece) (piece : Piece) (others : Option (List Piece))
+    → option_map (λ pieces. items ++ pieces) (option_map (λ pieces. piece ∷ pieces) others) ≡ option_map (λ pieces. (items ++ (piece ∷ [])) ++ pieces) others
+pieces_more items piece None = refl
+pieces_more items piece (Some pieces) = ap (λ (l : List Piece). Some l) (sym (append_assoc items (piece ∷ []) pieces))
+
+-- where nothing is left these are all
+pub pieces_end : (rest format : List ℕ) (items : List Piece) → length rest ≡ 0 → format_pieces format ≡ option_map (λ pieces. items ++ pieces) (format_pieces rest) → format_pieces format ≡ Some items
+pieces_end [] format items none read = read ∙ ap (λ (l : List Piece). Some l) (append-nil items)
+pieces_end (byte ∷ rest) format items none read = absurd (omega (arith, none))
+
+-- all that is behind a place of a list
+pub rest_behind : (xs : List ℕ) (at : ℕ) → take (length xs - at) (drop at xs) ≡ drop at xs
+rest_behind xs at = take_all (length xs - at) (drop at xs) (omega (arith, length-drop at xs))
+
+-- up to the first brace that closes a field, or to the end
+other_first : (byte : ℕ) (rest : List ℕ) (end : ℕ) → 0 < end → Nowhere (Passes (is_byte 125) (byte ∷ rest)) 0 end → (byte == 125) ≡ false
+other_first byte rest end some none =
+    elim (cases_Bool (byte == 125)) [
+      | inl is ↦ absurd (none 0 (omega arith) some is)
+      | inr other ↦ other
+    ]
+
+none_behind : (byte : ℕ) (rest : List ℕ) (end : ℕ) → Nowhere (Passes (is_byte 125) (byte ∷ rest)) 0 (suc end) → Nowhere (Passes (is_byte 125) rest) 0 end
+none_behind byte rest end none = λ k low high is. none (suc k) (omega (arith, low)) (omega (arith, high)) is
+
+pub up_to_none : (format : List ℕ) → Nowhere (Passes (is_byte 125) format) 0 (length format) → format ≡ up_to_brace format
+up_to_none [] none = refl
+up_to_none (byte ∷ rest) none =
+    let other : (byte == 125) ≡ false = other_first byte rest (suc (length rest)) (omega arith) none in
+    rw other (ap (λ (l : List ℕ). byte ∷ l) (up_to_none rest (none_behind byte rest (length rest) none)))
+
+pub up_to_first : (end : ℕ) (format : List ℕ) → end < length format → Nowhere (Passes (is_byte 125) format) 0 end → Passes (is_byte 125) format end
+    → take (end + 1) format ≡ up_to_brace format
+up_to_first end [] within none is = absurd (omega (arith, within))
+up_to_first zero (byte ∷ []) within none is = rw is refl
+up_to_first zero (byte ∷ next ∷ rest) within none is = rw is refl
+up_to_first (suc end) (byte ∷ rest) within none is =
+    let other : (byte == 125) ≡ false = other_first byte rest (suc end) (omega arith) none in
+    let longer : suc end + 1 ≡ suc (end + 1) = omega arith in
+    let same : take (suc (end + 1)) (byte ∷ rest) ≡ up_to_brace (byte ∷ rest) =
+    rw other (ap (λ (l : List ℕ). byte ∷ l) (up_to_first end rest (omega (arith, within)) (none_behind byte rest end none) is)) in
+    subst (λ (n : ℕ). take n (byte ∷ rest) ≡ up_to_brace (byte ∷ rest)) (sym longer) same
+
+-- three bytes, and what is behind them
+pub base64_step : (bytes : List ℕ) → 2 < length bytes
+    → base64_of bytes ≡ four_of (slice_index bytes 0) (slice_index bytes 1) (slice_index bytes 2) ++ base64_of (drop 3 bytes)
+base64_step [] some = absurd (omega (arith, some))
+base64_step (a ∷ []) some = absurd (omega (arith, some))
+base64_step (a ∷ b ∷ []) some = absurd (omega (arith, some))
+base64_step (a ∷ b ∷ c ∷ []) some = refl
+base64_step (a ∷ b ∷ c ∷ d ∷ rest) some = refl

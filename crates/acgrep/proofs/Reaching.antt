@@ -1,0 +1,171 @@
+-- What may be told of the files that operands name.
+use Rattle.std.proofs.Common.{◌≡◌, inl, inr, ℕ, ◌<◌, ◌≤◌, Bool, true, false, List, [], ◌∷◌, ◌++◌, length, ap, refl, subst, sym, arith}
+use Rattle.std.specs.Prelude.{◌&&◌, ◌==◌, nat_lt, not, if◌then◌else◌}
+use Rattle.std.specs.Borrow.{Bor}
+use Rattle.std.proofs.lemmas.List.{length-map}
+use Rattle.std.proofs.lemmas.Bool.{and_parts, cases_Bool}
+use Rattle.aho_devices.specs.declared.device.Sink.{Ghosts as SinkGhosts}
+use Rattle.programs.specs.Names.{IsOneOf, name_bytes, or_input}
+use Rattle.programs.specs.Telling.{Tells, TellsSome}
+use Rattle.programs.specs.declared.errors.Errors.{Errors}
+use Rattle.programs.proofs.Lines.{some-tells, some-then, some-weaker, then-some, tells-none, tells-then, tells-weaker}
+use Rattle.acgrep.specs.Arguments.{Origin, Said, shown_by}
+use Rattle.acgrep.specs.Folders.{Tree}
+use Rattle.acgrep.specs.Reached.{TellsMissed}
+use Rattle.acgrep.specs.Runs.{AreReached, are_several, is_alone, status_reached}
+use Rattle.acgrep.specs.Told.{IsMessage, MaySay, TellsOfFile, TellsOfFiles, TellsStatus, files_told, names_told, shown_names, source_names}
+use Rattle.acgrep.specs.declared.options.Flags.{Flags}
+use Rattle.acgrep.specs.declared.options.Shown.{Shown}
+use Rattle.acgrep.specs.declared.options.Shown.TheVariants.{Nothing}
+use Rattle.acgrep.proofs.Told.{AreWithin, among-first, among-later, message-more, status-weaker, within-cut}
+
+-- a message of sources of patterns may be told of a search
+pub may-sources : (tree : Tree) (given : Said) (sources : List Origin) (names : List (List ℕ)) (line : List ℕ) → IsMessage (source_names sources) line → MaySay tree given sources names line
+may-sources tree given sources names line is =
+    inl (inl (message-more (source_names sources) (names_told given.flags.no_messages given.label sources names) (λ name is. among-first name (source_names sources) (files_told given.flags.no_messages given.label (or_input names)) is) line is))
+
+-- and what may be told of its files
+pub may-behind : (tree : Tree) (given : Said) (sources : List Origin) (names : List (List ℕ)) (line : List ℕ) → MaySay tree given [] names line → MaySay tree given sources names line
+may-behind tree given sources names line (inl (inl message)) =
+    inl (inl (message-more (files_told given.flags.no_messages given.label (or_input names)) (names_told given.flags.no_messages given.label sources names) (λ name is. among-later name (source_names sources) (files_told given.flags.no_messages given.label (or_input names)) is) line message))
+may-behind tree given sources names line (inl (inr usage)) = inl (inr usage)
+may-behind tree given sources names line (inr reached) = inr reached
+
+-- where names are given standard input is not searched for want of them
+pub or-none : (names : List (List ℕ)) → 0 < length names → or_input names ≡ names
+or-none [] some = absurd (omega (arith, some))
+or-none (name ∷ names) some = refl
+
+-- a status that tells of no error is that of the search
+pub reached-low : (flags : Flags) (unread : List (List ℕ)) (found : ℕ) → status_reached flags unread found < 2 → found < 2
+reached-low flags [] found low = low
+reached-low flags (name ∷ names) found low = elim (cases_Bool (flags.quiet && (found == 0))) [
+  | inl enough ↦ rw enough at low
+  | inr not ↦ let two = rw not at low in absurd (omega (arith, two))
+]
+
+pub reached-bound : (flags : Flags) (unread : List (List ℕ)) (found : ℕ) → found ≤ 2 → status_reached flags unread found ≤ 2
+reached-bound flags [] found bound = bound
+reached-bound flags (name ∷ names) found bound = elim (cases_Bool (flags.quiet && (found == 0))) [
+  | inl enough ↦ rw enough bound
+  | inr not ↦ rw not (omega arith)
+]
+
+-- where something cannot be read it is one under `-q` alone
+reached-quiet : (flags : Flags) (name : List ℕ) (names : List (List ℕ)) (found : ℕ) → status_reached flags (name ∷ names) found < 2 → flags.quiet ≡ true
+reached-quiet flags name names found low = elim (cases_Bool (flags.quiet && (found == 0))) [
+  | inl enough ↦ (and_parts flags.quiet (found == 0) enough).0
+  | inr not ↦ let two = rw not at low in absurd (omega (arith, two))
+]
+
+shown-quiet : (flags : Flags) → flags.quiet ≡ true → shown_by flags ≡ Nothing
+shown-quiet flags quiet = rw quiet refl
+
+module _ (tree : Tree) (given : Said) (names files unread : List (List ℕ)) (recursive : given.flags.recursive ≡ true) (reached : AreReached tree given.flags names files unread) where
+  more-file : (hushed : Bool) (line : List ℕ) → IsMessage (files_told hushed given.label files) line → IsMessage (if hushed then [] else (shown_names given.label files ++ unread)) line
+  more-file true line message = message
+  more-file false line message = message-more (shown_names given.label files) (shown_names given.label files ++ unread) (λ name is. among-first name (shown_names given.label files) unread is) line message
+
+  more-missed : (hushed : Bool) (line : List ℕ) → hushed ≡ false → IsMessage unread line → IsMessage (if hushed then [] else (shown_names given.label files ++ unread)) line
+  more-missed true line asked message = absurd (cc)
+  more-missed false line asked message = message-more unread (shown_names given.label files ++ unread) (λ name is. among-later name (shown_names given.label files) unread is) line message
+
+  -- a file that an operand names may be told, and what cannot be read
+  may-file : (line : List ℕ) → IsMessage (files_told given.flags.no_messages given.label files) line → MaySay tree given [] names line
+  may-file line message = inr (record { recursive = recursive; files = files; unread = unread; reached = reached; message = more-file given.flags.no_messages line message })
+
+  may-missed : given.flags.no_messages ≡ false → (line : List ℕ) → IsMessage unread line → MaySay tree given [] names line
+  may-missed asked line message = inr (record { recursive = recursive; files = files; unread = unread; reached = reached; message = more-missed given.flags.no_messages line asked message })
+
+  module _ {E : Type 0} (K : SinkGhosts E) (old mid new : Errors E) (found : ℕ) where
+    -- what cannot be read is told, and then what a search tells
+    pub reached-told : TellsMissed K given.flags.no_messages unread old mid → TellsStatus K (IsMessage (files_told given.flags.no_messages given.label files)) given.flags.no_messages (shown_by given.flags) found mid new
+        → TellsStatus K (MaySay tree given [] names) given.flags.no_messages (shown_by given.flags) (status_reached given.flags unread found) old new
+    reached-told before after = by unread refl
+      where
+        later : Tells K (MaySay tree given [] names) mid new
+        later = tells-weaker K (IsMessage (files_told given.flags.no_messages given.label files)) (MaySay tree given [] names) mid new may-file after.tells
+
+        first : Tells K (MaySay tree given [] names) old mid
+        first = elim (cases_Bool given.flags.no_messages) [
+          | inl hushed ↦ subst (Tells K (MaySay tree given [] names) old) (sym (before.none (inl hushed))) (tells-none K (MaySay tree given [] names) old)
+          | inr asked ↦ tells-weaker K (IsMessage unread) (MaySay tree given [] names) old mid (may-missed asked) before.tells
+        ]
+
+        by : (missed : List (List ℕ)) → unread ≡ missed → TellsStatus K (MaySay tree given [] names) given.flags.no_messages (shown_by given.flags) (status_reached given.flags missed found) old new
+        by [] none =
+            subst (λ (e : Errors E). TellsStatus K (MaySay tree given [] names) given.flags.no_messages (shown_by given.flags) found e new) (before.none (inr (ap length none)))
+            (status-weaker K (IsMessage (files_told given.flags.no_messages given.label files)) (MaySay tree given [] names) given.flags.no_messages (shown_by given.flags) found mid new may-file after)
+        by (name ∷ others) some = record {
+          tells = tells-then K (MaySay tree given [] names) old mid new first later;
+          silent = λ low loud. absurd (loud (shown-quiet given.flags (reached-quiet given.flags name others found low)));
+          some = λ asked two.
+              let full : 0 < length unread = subst (λ (l : List (List ℕ)). 0 < length l) (sym some) (omega arith) in
+              some-then K (MaySay tree given [] names) old mid new (some-weaker K (IsMessage unread) (MaySay tree given [] names) old mid (may-missed asked) (before.some asked full)) later;
+        }
+
+-- what was told of some names, of which these are left
+pub record IsTold {E : Type 0} (K : SinkGhosts E) (all rest : List (List ℕ)) (old new : Errors E) : Type 0 where
+  pub tells : Tells K (IsMessage all) old new
+  pub none : length rest ≡ length all → new ≡ old
+  pub some : length rest < length all → TellsSome K (IsMessage all) old new
+  pub within : AreWithin rest all
+  pub fewer : length rest ≤ length all
+
+module _ {E : Type 0} (K : SinkGhosts E) (all : List (List ℕ)) where
+  pub told-start : (e : Errors E) → IsTold K all all e e
+  told-start e = record {
+    tells = tells-none K (IsMessage all) e;
+    none = λ same. refl;
+    some = λ less. absurd (omega (arith, less));
+    within = λ name is. is;
+    fewer = omega arith;
+  }
+
+  pub told-more : (name : List ℕ) (names : List (List ℕ)) (old mid new : Errors E) → IsTold K all (name ∷ names) old mid → TellsOfFile K name mid new → IsTold K all names old new
+  told-more name names old mid new before now = record {
+    tells = some-tells K (IsMessage all) old new told;
+    none = λ same. absurd (omega (arith, same, fewer));
+    some = λ less. told;
+    within = cut.1;
+    fewer = omega (arith, fewer);
+  }
+    where
+      fewer : length (name ∷ names) ≤ length all
+      fewer = before.fewer
+
+      cut : IsOneOf name all × AreWithin names all
+      cut = within-cut name names (name ∷ names) all refl before.within
+
+      told : TellsSome K (IsMessage all) old new
+      told = then-some K (IsMessage all) old mid new before.tells (now all cut.0)
+
+  pub told-end : (rest : List (List ℕ)) (old new : Errors E) → length rest ≡ 0 → IsTold K all rest old new → TellsMissed K false all old new
+  told-end rest old new gone told = record {
+    tells = told.tells;
+    none = λ which. elim which [ inl hushed ↦ absurd (cc) | inr empty ↦ told.none (omega (arith, gone, empty)) ];
+    some = λ asked full. told.some (omega (arith, gone, full));
+  }
+
+  pub told-hushed : (e : Errors E) → TellsMissed K true all e e
+  told-hushed e = record {
+    tells = tells-none K (IsMessage all) e;
+    none = λ which. refl;
+    some = λ asked. absurd (cc);
+  }
+
+-- whether names stand before lines, by whether a search is recursive
+pub several-plain : (flags : Flags) (names : List (Bor (List ℕ))) (files : List (List ℕ)) → flags.recursive ≡ false → nat_lt 1 (length names) ≡ are_several flags (name_bytes names) files
+several-plain flags names files plain = rw plain (ap (nat_lt 1) (sym (length-map names (λ name. name.now))))
+
+pub several-below : (flags : Flags) (names files : List (List ℕ)) → flags.recursive ≡ true → not (is_alone names files) ≡ are_several flags names files
+several-below flags names files recursive = rw recursive refl
+
+-- what a search tells of files is told of those that it may name
+pub told-plain : {E : Type 0} (K : SinkGhosts E) (tree : Tree) (given : Said) (names : List (List ℕ)) (hushed : Bool) (label : List ℕ) (shown : Shown) (status : ℕ) (old new : Errors E) → hushed ≡ given.flags.no_messages → label ≡ given.label → shown ≡ shown_by given.flags
+    → TellsOfFiles K hushed label (or_input names) shown status old new → TellsStatus K (MaySay tree given [] names) given.flags.no_messages (shown_by given.flags) status old new
+told-plain K tree given names hushed label shown status old new same named alike told =
+    status-weaker K (IsMessage (files_told given.flags.no_messages given.label (or_input names))) (MaySay tree given [] names) given.flags.no_messages (shown_by given.flags) status old new (λ line is. inl (inl is))
+    (subst (λ (s : Shown). TellsStatus K (IsMessage (files_told given.flags.no_messages given.label (or_input names))) given.flags.no_messages s status old new) alike
+    (subst (λ (l : List ℕ). TellsStatus K (IsMessage (files_told given.flags.no_messages l (or_input names))) given.flags.no_messages shown status old new) named
+    (subst (λ (b : Bool). TellsStatus K (IsMessage (files_told b label (or_input names))) b shown status old new) same told)))

@@ -1,0 +1,161 @@
+-- What a walk through folders finds.
+use Rattle.std.proofs.Common.{◌≡◌, inl, inr, ℕ, ◌+◌, ◌-◌, ◌<◌, Bool, true, false, List, [], ◌∷◌, ◌++◌, length, take, drop, refl, sym, ◌∙◌, ap, subst, arith}
+use Rattle.std.specs.Prelude.{Option, Some, None, IfSome, codes, map}
+use Rattle.std.specs.Borrow.{Bor}
+use Rattle.programs.specs.Names.{name_bytes}
+use Rattle.std.specs.List.Sorted.{IsPermutation, IsSorted, IsSortedBy}
+use Rattle.std.specs.Cmp.Lexicographic.{slice_cmp}
+use Rattle.std.specs.Ordering.{nat_cmp}
+use Rattle.std.proofs.Math.ListN.{get_or}
+use Rattle.std.proofs.lemmas.List.{append-nil, append_assoc, get_or-map, length-map, map-append, take_all}
+use Rattle.std.proofs.lemmas.List.Sorted.{IsPermutation-trans}
+use Rattle.acgrep.specs.Folders.{AreBelow, AreFiles, Begins, Enters, FindsFiles, HoldsNames, IsKind, PutsInside, Spot, Tree, files_by, inside, is_folder, is_standard, missed_of, none, input, missed, looked, entered, operand}
+use Rattle.acgrep.specs.Listed.{listed_bytes}
+use Rattle.acgrep.specs.declared.folders.Kind.{Kind}
+use Rattle.acgrep.specs.declared.folders.Kind.TheVariants.{File, Folder, Link, Device}
+use Rattle.acgrep.specs.declared.walk.Found.{Found}
+
+-- a folder holds the names that were read, in order
+holds-put : (tree : Tree) (folder : List ℕ) (names ordered : List (List ℕ)) → IfSome (tree.lists folder) (λ known. IsPermutation known names) → IsPermutation names ordered
+    → IsSorted (slice_cmp nat_cmp) ordered → HoldsNames tree folder ordered
+holds-put tree folder names ordered listed permuted sorted = record { listed = by (tree.lists folder) listed; ordered = sorted }
+  where
+    by : (known : Option (List (List ℕ))) → IfSome known (λ k. IsPermutation k names) → IfSome known (λ k. IsPermutation k ordered)
+    by None is = tt
+    by (Some k) is = IsPermutation-trans k names ordered is permuted
+
+-- no name stands for no file
+nothing-there : (tree : Tree) (follow : Bool) {files unread : List (List ℕ)} → AreFiles tree follow [] files unread → (files ≡ []) × (unread ≡ [])
+nothing-there tree follow none = (refl, refl)
+
+-- an element goes from the end of one list to the front of another
+pub moved : {X Y : Type 0} (f : X → Y) (front : List X) (last : X) (behind : List Y) → map f (front ++ (last ∷ [])) ++ behind ≡ map f front ++ (f last ∷ behind)
+moved f front last behind = ap (λ l. l ++ behind) (map-append f front (last ∷ [])) ∙ append_assoc (map f front) (f last ∷ []) behind
+
+-- what is in order is so by the values that are compared
+pub sorted-map : {X Y : Type 0} (f : X → Y) (lt : Y → Y → Bool) (xs : List X) → IsSortedBy (λ x y. lt (f x) (f y)) xs → IsSortedBy lt (map f xs)
+sorted-map f lt [] sorted = λ k d low high. absurd (omega (arith, high))
+sorted-map f lt (x ∷ xs) sorted = λ k d low high.
+    let within : k + 1 < length (x ∷ xs) = subst (λ (n : ℕ). k + 1 < n) (length-map (x ∷ xs) f) high in
+    let next : get_or (map f (x ∷ xs)) (k + 1) d ≡ f (get_or (x ∷ xs) (k + 1) x) = get_or-map f (x ∷ xs) (k + 1) x d within in
+    let here : get_or (map f (x ∷ xs)) k d ≡ f (get_or (x ∷ xs) k x) = get_or-map f (x ∷ xs) k x d (omega (arith, within)) in
+    ap (λ (y : _). lt y (get_or (map f (x ∷ xs)) k d)) next ∙ ap (λ (y : _). lt (f (get_or (x ∷ xs) (k + 1) x)) y) here ∙ sorted k x low within
+
+module _ (tree : Tree) (follow : Bool) (operands : List (List ℕ)) where
+  -- a walk goes on
+  pub begins-then : (before after : List Spot) (old new : Found) → Begins tree follow operands before old → FindsFiles tree follow before after old new → Begins tree follow operands after new
+  begins-then before after old new so_far step = record {
+    leads = λ files unread are.
+        let all = so_far.leads (step.files ++ files) (step.unread ++ unread) (step.leads files unread are) in
+        let names : listed_bytes old.names.items ++ (step.files ++ files) ≡ listed_bytes new.names.items ++ files = sym (append_assoc (listed_bytes old.names.items) step.files files) ∙ ap (λ l. l ++ files) (sym step.names) in
+        let others : missed_of old.unread.items ++ (step.unread ++ unread) ≡ missed_of new.unread.items ++ unread = sym (append_assoc (missed_of old.unread.items) step.unread unread) ∙ ap (λ l. l ++ unread) (sym step.missed) in
+        subst (λ (l : List (List ℕ)). AreBelow tree follow operands (listed_bytes new.names.items ++ files) l) others
+        (subst (λ (l : List (List ℕ)). AreBelow tree follow operands l (missed_of old.unread.items ++ (step.unread ++ unread))) names all);
+  }
+
+  -- and ends where nothing is left
+  pub begins-end : (found : Found) → Begins tree follow operands [] found → AreBelow tree follow operands (listed_bytes found.names.items) (missed_of found.unread.items)
+  begins-end found so_far =
+      subst (λ (l : List (List ℕ)). AreBelow tree follow operands (listed_bytes found.names.items) l) (append-nil (missed_of found.unread.items))
+      (subst (λ (l : List (List ℕ)). AreBelow tree follow operands l (missed_of found.unread.items ++ [])) (append-nil (listed_bytes found.names.items)) (so_far.leads [] [] none))
+
+  -- it begins at operands, if there are some
+  pub begins-given : (found : Found) → 0 < length operands → listed_bytes found.names.items ≡ [] → missed_of found.unread.items ≡ [] → Begins tree follow operands (map operand operands) found
+  begins-given found some clean empty = record {
+    leads = λ files unread are.
+        subst (λ (l : List (List ℕ)). AreBelow tree follow operands (l ++ files) (missed_of found.unread.items ++ unread)) (sym clean)
+        (subst (λ (l : List (List ℕ)). AreBelow tree follow operands files (l ++ unread)) (sym empty) (given operands some files unread are));
+  }
+    where
+      given : (names : List (List ℕ)) → 0 < length names → (files unread : List (List ℕ)) → AreFiles tree follow (map operand names) files unread → AreBelow tree follow names files unread
+      given [] some files unread are = absurd (omega (arith, some))
+      given (name ∷ names) some files unread are = are
+
+-- or in the working folder
+module _ (tree : Tree) (follow : Bool) (found : Found) where
+  pub begins-here : (names : List (List ℕ)) (spots : List Spot) → IfSome (tree.lists (codes ".")) (λ known. IsPermutation known names) → PutsInside names [] [] spots
+      → listed_bytes found.names.items ≡ [] → missed_of found.unread.items ≡ [] → Begins tree follow [] spots found
+  begins-here names spots listed puts clean empty = record {
+    leads = λ files unread are.
+        let all : AreFiles tree follow (map (inside []) puts.ordered) files unread = subst (λ (l : List Spot). AreFiles tree follow l files unread) (puts.put ∙ append-nil (map (inside []) puts.ordered)) are in
+        subst (λ (l : List (List ℕ)). AreBelow tree follow [] (l ++ files) (missed_of found.unread.items ++ unread)) (sym clean)
+        (subst (λ (l : List (List ℕ)). AreBelow tree follow [] files (l ++ unread)) (sym empty) (inl (puts.ordered, holds-put tree (codes ".") names puts.ordered listed puts.permuted puts.sorted, all)));
+  }
+
+  -- which may be unreadable
+  pub begins-nowhere : listed_bytes found.names.items ≡ [] → missed_of found.unread.items ≡ codes "." ∷ [] → Begins tree follow [] [] found
+  begins-nowhere clean missing = record {
+    leads = λ files unread are.
+        let (no_files, no_others) = nothing-there tree follow are in
+        inr (ap (λ l. listed_bytes found.names.items ++ l) no_files ∙ append-nil (listed_bytes found.names.items) ∙ clean, ap (λ l. missed_of found.unread.items ++ l) no_others ∙ append-nil (missed_of found.unread.items) ∙ missing);
+  }
+
+-- what was put down of a folder
+pub enters-put : (tree : Tree) (folder : List ℕ) (names : List (List ℕ)) (before after : List Spot) (found : Found) → IfSome (tree.lists folder) (λ known. IsPermutation known names)
+    → PutsInside names folder before after → Enters tree folder before after found found
+enters-put tree folder names before after found listed puts = inl (puts.ordered, holds-put tree folder names puts.ordered listed puts.permuted puts.sorted, puts.put, refl)
+
+-- what is found at a name
+module _ (tree : Tree) (follow : Bool) (spot : Spot) (spots : List Spot) (old new : Found) where
+  pub finds-input : is_standard spot ≡ true → listed_bytes new.names.items ≡ listed_bytes old.names.items ++ (spot.name ∷ []) → new.unread ≡ old.unread → FindsFiles tree follow (spot ∷ spots) spots old new
+  finds-input is grown same = record {
+    files = spot.name ∷ [];
+    unread = [];
+    names = grown;
+    missed = ap (λ u. missed_of u.items) same ∙ sym (append-nil (missed_of old.unread.items));
+    leads = λ more others are. input is are;
+  }
+
+  pub finds-looked : (kind : Kind) → is_standard spot ≡ false → IsKind tree follow spot kind → is_folder kind ≡ false → listed_bytes new.names.items ≡ listed_bytes old.names.items ++ files_by follow kind spot
+      → new.unread ≡ old.unread → FindsFiles tree follow (spot ∷ spots) spots old new
+  finds-looked kind other is plain grown same = record {
+    files = files_by follow kind spot;
+    unread = [];
+    names = grown;
+    missed = ap (λ u. missed_of u.items) same ∙ sym (append-nil (missed_of old.unread.items));
+    leads = λ more others are. looked kind other is plain are;
+  }
+
+  pub finds-missed : is_standard spot ≡ false → new.names ≡ old.names → missed_of new.unread.items ≡ missed_of old.unread.items ++ (spot.name ∷ []) → FindsFiles tree follow (spot ∷ spots) spots old new
+  finds-missed other same grown = record {
+    files = [];
+    unread = spot.name ∷ [];
+    names = ap (λ n. listed_bytes n.items) same ∙ sym (append-nil (listed_bytes old.names.items));
+    missed = grown;
+    leads = λ more others are. missed other are;
+  }
+
+  pub finds-entered : (after : List Spot) → is_standard spot ≡ false → IsKind tree follow spot Folder → Enters tree spot.name spots after old new → FindsFiles tree follow (spot ∷ spots) after old new
+  finds-entered after other is (inl (names, holds, put, same)) = record {
+    files = [];
+    unread = [];
+    names = ap (λ f. listed_bytes f.names.items) same ∙ sym (append-nil (listed_bytes old.names.items));
+    missed = ap (λ f. missed_of f.unread.items) same ∙ sym (append-nil (missed_of old.unread.items));
+    leads = λ more others are. entered names other is holds (subst (λ (l : List Spot). AreFiles tree follow l more others) put are);
+  }
+  finds-entered after other is (inr (put, same, grown)) = subst (λ (l : List Spot). FindsFiles tree follow (spot ∷ spots) l old new) (sym put) (finds-missed other same grown)
+
+-- the names that were read are those of the folder
+pub listed-as : (tree : Tree) (given folder : List ℕ) (names : List (List ℕ)) → given ≡ folder → IfSome (tree.lists given) (λ known. IsPermutation known names)
+    → IfSome (tree.lists folder) (λ known. IsPermutation known names)
+listed-as tree given folder names same listed = subst (λ (name : List ℕ). IfSome (tree.lists name) (λ known. IsPermutation known names)) same listed
+
+-- what is a folder is that kind
+pub folder-alone : (tree : Tree) (follow : Bool) (spot : Spot) (kind : Kind) → is_folder kind ≡ true → IsKind tree follow spot kind → IsKind tree follow spot Folder
+folder-alone tree follow spot File is known = absurd (cc)
+folder-alone tree follow spot Folder is known = known
+folder-alone tree follow spot Link is known = absurd (cc)
+folder-alone tree follow spot Device is known = absurd (cc)
+
+-- an operand more is put down
+pub put-more : (spots : List Spot) (rest : List (Bor (List ℕ))) (d : Bor (List ℕ)) → 0 < length rest
+    → (spots ++ (operand (get_or rest 0 d).now ∷ [])) ++ map operand (name_bytes (take (length rest - 1) (drop 1 rest))) ≡ spots ++ map operand (name_bytes rest)
+put-more spots [] d some = absurd (omega (arith, some))
+put-more spots (name ∷ names) d some =
+    append_assoc spots (operand name.now ∷ []) (map operand (name_bytes (take (length (name ∷ names) - 1) names)))
+    ∙ ap (λ (l : List (Bor (List ℕ))). spots ++ (operand name.now ∷ map operand (name_bytes l))) (take_all (length (name ∷ names) - 1) names (omega arith))
+
+-- where a list has no length it is empty
+pub all-gone : {X : Type 0} (xs : List X) → length xs ≡ 0 → xs ≡ []
+all-gone [] e = refl
+all-gone (x ∷ xs) e = absurd (omega (arith, e))

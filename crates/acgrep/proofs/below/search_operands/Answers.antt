@@ -1,0 +1,43 @@
+-- The operands themselves were searched, where folders are not entered.
+use Rattle.std.proofs.Common.{[], Bool, refl, inr, subst}
+use Rattle.programs.specs.Names.{name_bytes, or_input}
+use Rattle.acgrep.specs.Arguments.{said}
+use Rattle.acgrep.specs.Folders.{tree_of}
+use Rattle.acgrep.specs.Runs.{IsJob}
+use Rattle.acgrep.proofs.Reaching.{several-plain, told-plain}
+use Rattle.acgrep.proofs.below.search_operands.Goals as goal
+
+pub returns-clause-searched : goal.returns-clause-searched
+returns-clause-searched g c = λ p is plain low.
+    let given = said c.args.given.now in
+    let flags = given.flags in
+    let names = c.args.operands.now.names.now in
+    record {
+      files = or_input (name_bytes names);
+      unread = [];
+      reached = rw c.if-given.false (refl, refl);
+      job = c.job_of-job.result;
+      is_job = subst (λ (b : Bool). IsJob given c.args.terminal b c.job_of-job.result) (several-plain flags names (or_input (name_bytes names)) c.if-given.false) c.job_of-job.ensures.job;
+      found = c.search_by.result;
+      searched = c.search_by.ensures.searched p is plain low;
+      told = refl;
+    }
+
+pub returns-clause-begun : goal.returns-clause-begun
+returns-clause-begun g c = λ p is plain.
+    let given = said c.args.given.now in
+    let flags = given.flags in
+    let names = c.args.operands.now.names.now in
+    inr (record {
+      files = or_input (name_bytes names);
+      unread = [];
+      reached = rw c.if-given.false (refl, refl);
+      job = c.job_of-job.result;
+      is_job = subst (λ (b : Bool). IsJob given c.args.terminal b c.job_of-job.result) (several-plain flags names (or_input (name_bytes names)) c.if-given.false) c.job_of-job.ensures.job;
+      begun = c.search_by.ensures.begun p is plain;
+    })
+
+pub returns-clause-told : goal.returns-clause-told
+returns-clause-told g c =
+    told-plain g.E.Sink (tree_of g.F.Folders c.args.operands.now.files.now) (said c.args.given.now) (name_bytes c.args.operands.now.names.now) c.job_of-job.result.hushed c.job_of-job.result.label.now c.job_of-job.result.shown c.search_by.result
+    c.args.errors.now c.search_by.new.errors c.job_of-job.ensures.job.hushed c.job_of-job.ensures.job.label c.job_of-job.ensures.job.shown c.search_by.ensures.told

@@ -1,0 +1,41 @@
+-- A folder is entered, and what is searched is found.
+use Rattle.std.proofs.Common.{◌≡◌, ◌∙◌, true, false, ap, refl, sym}
+use Rattle.std.proofs.lemmas.Result.{on_ok_weaker}
+use Rattle.std.proofs.lemmas.List.{append-nil}
+use Rattle.acgrep.specs.Folders.{is_followed, is_searched, spot_of, spots_of, tree_of}
+use Rattle.acgrep.specs.Listed.{listed_bytes}
+use Rattle.acgrep.proofs.Walking.{finds-entered, finds-looked, folder-alone}
+use Rattle.acgrep.proofs.walk.take.Goals as goal
+
+pub returns-then-is_folder : goal.returns-then-is_folder
+returns-then-is_folder g c =
+    let tree = tree_of g.F.Folders c.args.files.now in
+    let spot = spot_of c.args.spot in
+    record {
+      finds = on_ok_weaker c.enter.result
+          (finds-entered tree c.args.follow spot (spots_of c.args.pending.now.items) c.args.found.now c.enter.new.found (spots_of c.enter.new.pending.items) c.requires.other
+          (folder-alone tree c.args.follow spot c.args.kind (sym c.is_folder.ensures ∙ c.if-is_folder.true) c.requires.kind))
+          c.enter.ensures.entered;
+    }
+
+pub returns-then-is_searched : goal.returns-then-is_searched
+returns-then-is_searched g c =
+    let tree = tree_of g.F.Folders c.args.files.now in
+    let spot = spot_of c.args.spot in
+    let searched : is_searched c.args.kind (is_followed c.args.follow spot) ≡ true = sym (ap (is_searched c.args.kind) c.is_followed.ensures) ∙ sym c.is_searched.ensures ∙ c.if-is_searched.true in
+    record {
+      finds = on_ok_weaker c.add.result
+          (λ grown. finds-looked tree c.args.follow spot (spots_of c.args.pending.now.items) c.args.found.now c.add.new.self c.args.kind c.requires.other c.requires.kind
+          (sym c.is_folder.ensures ∙ c.if-is_folder.false) (rw searched grown) c.add.ensures.unread)
+          c.add.ensures.names;
+    }
+
+pub returns : goal.returns
+returns g c =
+    let tree = tree_of g.F.Folders c.args.files.now in
+    let spot = spot_of c.args.spot in
+    let passed : is_searched c.args.kind (is_followed c.args.follow spot) ≡ false = sym (ap (is_searched c.args.kind) c.is_followed.ensures) ∙ sym c.is_searched.ensures ∙ c.if-is_searched.false in
+    record {
+      finds = finds-looked tree c.args.follow spot (spots_of c.args.pending.now.items) c.args.found.now c.args.found.now c.args.kind c.requires.other c.requires.kind
+          (sym c.is_folder.ensures ∙ c.if-is_folder.false) (rw passed (sym (append-nil (listed_bytes c.args.found.now.names.items)))) refl;
+    }

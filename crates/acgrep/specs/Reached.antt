@@ -1,0 +1,31 @@
+-- What is searched and told of the files that operands name.
+use Rattle.std.specs.Prelude.{◌≡◌, ◌⊎◌, ℕ, ◌<◌, Bool, true, false, List, length}
+use Rattle.std.specs.Borrow.{Bor}
+use Rattle.std.specs.declared.io.traits.Read.{Ghosts as Readers}
+use Rattle.aho_devices.specs.declared.device.Sink.{Ghosts as SinkGhosts}
+use Rattle.programs.specs.Telling.{Tells, TellsSome}
+use Rattle.programs.specs.declared.errors.Errors.{Errors}
+use Rattle.programs.specs.Names.{name_bytes}
+use Rattle.acgrep.specs.Arguments.{Said}
+use Rattle.acgrep.specs.Folders.{known_by}
+use Rattle.acgrep.specs.Runs.{SearchesReached}
+use Rattle.acgrep.specs.Searchers.{IsSearcherOf}
+use Rattle.acgrep.specs.Selected.{ForLines}
+use Rattle.acgrep.specs.Told.{IsMessage}
+use Rattle.acgrep.specs.declared.folders.Folders.{Ghosts as FolderGhosts}
+use Rattle.acgrep.specs.declared.open.Open.{Ghosts as Openers}
+use Rattle.acgrep.specs.declared.searcher.Searcher.{Searcher}
+
+-- each of these names is told, unless nothing is to be told of them
+pub record TellsMissed {E : Type 0} (K : SinkGhosts E) (hushed : Bool) (unread : List (List ℕ)) (old new : Errors E) : Type 0 where
+  pub tells : Tells K (IsMessage unread) old new
+  pub none : (hushed ≡ true) ⊎ (length unread ≡ 0) → new ≡ old
+  pub some : hushed ≡ false → 0 < length unread → TellsSome K (IsMessage unread) old new
+
+-- files are opened and folders listed by one value, standard input is read from another, and a third is written to
+module _ {F X R W : Type 0} (openers : Openers F X) (folders : FolderGhosts F) (readers : Readers R) (sinks : SinkGhosts W) where
+  -- the files that these operands name are searched by an automaton, whatever patterns it is of
+  abbrev pub SearchesOperands : F → List (Bor (List ℕ)) → Searcher → Bool → Said → R → R → W → W → ℕ → Type 0
+  SearchesOperands files names searcher terminal given input input' output output' status =
+      ForLines (λ p. IsSearcherOf p searcher) (λ p. status < 2
+      → SearchesReached (known_by openers folders files) terminal given p (name_bytes names) (readers.remaining input) (readers.remaining input') (sinks.taken output) (sinks.taken output') status)

@@ -1,0 +1,392 @@
+//! Which files the operands of a recursive search name.
+
+ghost use Rattle.std.specs.Prelude.{◌≡◌, [], ◌∷◌, ◌++◌, IfOk, IfSome, OnOk, false, map};
+ghost use Rattle.std.specs.List.Sorted.{IsPermutation};
+ghost use Rattle.programs.specs.Names.{name_bytes};
+ghost use Rattle.acgrep.specs.Folders.{AreBelow, Begins, Enters, FindsFiles, IsKind, PutsInside, between, is_folder, is_followed, is_searched, is_standard, path_inside, missed_of, operand, spot_of, spots_of, tree_of};
+ghost use Rattle.acgrep.specs.Listed.{listed_bytes};
+
+use crate::failure::Stop;
+use crate::folders::{Folders, Identity, Kind};
+use crate::keys::is_input;
+use programs::reason::Reason;
+use std::alloc::{AllocError, Global};
+use std::collections::VecDeque;
+use std::io::ErrorKind;
+use std::{io, str};
+
+/// The working folder.
+const HERE: &[u8] = b".";
+
+/// What a walk finds.
+#[derive(Drop)]
+pub struct Found {
+    /// The names of the files, in order.
+    pub names: Vec<Vec<u8>>,
+    /// What cannot be looked at, and the folders that cannot be read.
+    pub unread: Vec<Unread>,
+}
+
+/// What cannot be looked at, or a folder that cannot be read.
+#[derive(Drop)]
+pub struct Unread {
+    /// Its name.
+    pub name: Vec<u8>,
+    /// Why: no reason means that it is a folder in which it stands itself.
+    pub reason: Option<Reason>,
+}
+
+/// A name that is still to be looked at.
+#[derive(Drop)]
+struct Pending {
+    /// The name.
+    name: Vec<u8>,
+    /// Whether it is an operand.
+    given: bool,
+    /// The folders in which it stands, where links are followed.
+    above: Vec<Identity>,
+}
+
+impl Found {
+    /// Nothing.
+    fn new(alloc: Global) -> Found
+        ensures names { result.names.items ≡ [] }
+        ensures unread { result.unread.items ≡ [] }
+    {
+        Found {
+            names: Vec::new(alloc),
+            unread: Vec::new(alloc),
+        }
+    }
+
+    /// A file more.
+    fn add(&mut self, name: Vec<u8>) -> Result<(), AllocError>
+        ensures names { OnOk result
+            (listed_bytes self.new.names.items ≡ listed_bytes self.old.names.items ++ (name.items ∷ [])) }
+        ensures unread { self.new.unread ≡ self.old.unread }
+    {
+        self.names.push(name)?;
+        Ok(())
+    }
+
+    /// Something more that cannot be read.
+    fn miss(&mut self, name: Vec<u8>, reason: Option<Reason>) -> Result<(), AllocError>
+        ensures names { self.new.names ≡ self.old.names }
+        ensures unread { OnOk result
+            (missed_of self.new.unread.items ≡ missed_of self.old.unread.items ++ (name.items ∷ [])) }
+    {
+        self.unread.push(Unread { name, reason })?;
+        Ok(())
+    }
+}
+
+/// The files that these operands name: themselves, and those below folders. Where there is no operand, those below the working folder.
+/// `follow` says whether links below folders are followed.
+pub fn walk<F: Folders>(
+    alloc: Global,
+    files: &F,
+    follow: bool,
+    operands: &[&[u8]],
+) -> Result<Found, Stop>
+    ensures found { IfOk result (λ found. AreBelow (tree_of F.Folders files.now) follow (name_bytes operands.now)
+        (listed_bytes found.names.items) (missed_of found.unread.items)) }
+{
+    let mut found = Found::new(alloc);
+    let mut pending = VecDeque::new(alloc);
+    begin(alloc, files, follow, operands, &mut pending, &mut found)?;
+    for _ in 0..u64::MAX {
+        let Some(spot) = pending.pop_front() else {
+            return Ok(found);
+        };
+        pass(alloc, files, follow, spot, &mut pending, &mut found)?;
+    }
+    Err(Stop::Read(Reason::Fault))
+}
+
+/// Puts down where a walk begins.
+fn begin<F: Folders>(
+    alloc: Global,
+    files: &F,
+    follow: bool,
+    operands: &[&[u8]],
+    pending: &mut VecDeque<Pending>,
+    found: &mut Found,
+) -> Result<(), AllocError>
+    requires none { pending.old.items ≡ [] }
+    requires nothing { found.old.names.items ≡ [] }
+    requires nowhere { found.old.unread.items ≡ [] }
+    ensures begun { OnOk result (Begins (tree_of F.Folders files.now) follow (name_bytes operands.now)
+        (spots_of pending.new.items) found.new) }
+{
+    if !operands.is_empty() {
+        return put_given(alloc, operands, pending);
+    }
+    match list_named(alloc, files, HERE) {
+        Ok(names) => {
+            let above = around_here(alloc, files, follow)?;
+            put_first(alloc, names, b"", above.as_slice(), pending)
+        }
+        Err(error) => found.miss(Vec::from_slice(alloc, HERE)?, Some(Reason::of(&error))),
+    }
+}
+
+/// What stands around the names in the working folder: that folder, where links are followed and it can be told from others.
+fn around_here<F: Folders>(
+    alloc: Global,
+    files: &F,
+    follow: bool,
+) -> Result<Vec<Identity>, AllocError> {
+    let mut around = Vec::new(alloc);
+    if !follow {
+        return Ok(around);
+    }
+    if let Ok(identity) = identity_of(files, HERE) {
+        around.push(identity)?;
+    }
+    Ok(around)
+}
+
+/// Puts down the operands.
+fn put_given(
+    alloc: Global,
+    operands: &[&[u8]],
+    pending: &mut VecDeque<Pending>,
+) -> Result<(), AllocError>
+    ensures put { OnOk result (spots_of pending.new.items
+        ≡ spots_of pending.old.items ++ map operand (name_bytes operands.now)) }
+{
+    let mut rest = operands;
+    while !rest.is_empty() {
+        let name = Vec::from_slice(alloc, rest[0])?;
+        let above = Vec::new(alloc);
+        pending.push_back(Pending {
+            name,
+            given: true,
+            above,
+        })?;
+        rest = &rest[1..];
+    }
+    Ok(())
+}
+
+/// Looks at a name.
+fn pass<F: Folders>(
+    alloc: Global,
+    files: &F,
+    follow: bool,
+    spot: Pending,
+    pending: &mut VecDeque<Pending>,
+    found: &mut Found,
+) -> Result<(), AllocError>
+    ensures finds { OnOk result (FindsFiles (tree_of F.Folders files.now) follow
+        (spot_of spot ∷ spots_of pending.old.items) (spots_of pending.new.items) found.old found.new) }
+{
+    if is_standard(&spot) {
+        return found.add(spot.name);
+    }
+    match look_at(files, spot.name.as_slice(), is_followed(follow, &spot)) {
+        Ok(kind) => take(alloc, files, follow, kind, spot, pending, found),
+        Err(error) => found.miss(spot.name, Some(Reason::of(&error))),
+    }
+}
+
+/// Whether a name is that of standard input.
+fn is_standard(spot: &Pending) -> bool
+    ensures { result ≡ is_standard (spot_of spot.now) }
+{
+    spot.given && is_input(spot.name.as_slice())
+}
+
+/// Whether a link of this name is followed.
+fn is_followed(follow: bool, spot: &Pending) -> bool
+    ensures { result ≡ is_followed follow (spot_of spot.now) }
+{
+    spot.given || follow
+}
+
+/// Takes what a name stands for.
+fn take<F: Folders>(
+    alloc: Global,
+    files: &F,
+    follow: bool,
+    kind: Kind,
+    spot: Pending,
+    pending: &mut VecDeque<Pending>,
+    found: &mut Found,
+) -> Result<(), AllocError>
+    requires other { is_standard (spot_of spot) ≡ false }
+    requires kind { IsKind (tree_of F.Folders files.now) follow (spot_of spot) kind }
+    ensures finds { OnOk result (FindsFiles (tree_of F.Folders files.now) follow
+        (spot_of spot ∷ spots_of pending.old.items) (spots_of pending.new.items) found.old found.new) }
+{
+    if is_folder(kind) {
+        return enter(alloc, files, follow, spot, pending, found);
+    }
+    if is_searched(kind, is_followed(follow, &spot)) {
+        return found.add(spot.name);
+    }
+    Ok(())
+}
+
+/// Whether it is a folder.
+fn is_folder(kind: Kind) -> bool
+    ensures { result ≡ is_folder kind }
+{
+    match kind {
+        Kind::Folder => true,
+        Kind::File | Kind::Link | Kind::Device => false,
+    }
+}
+
+/// Puts down what a folder holds, unless it stands in itself.
+fn enter<F: Folders>(
+    alloc: Global,
+    files: &F,
+    follow: bool,
+    spot: Pending,
+    pending: &mut VecDeque<Pending>,
+    found: &mut Found,
+) -> Result<(), AllocError>
+    ensures entered { OnOk result (Enters (tree_of F.Folders files.now) spot.name.items
+        (spots_of pending.old.items) (spots_of pending.new.items) found.old found.new) }
+{
+    if !follow {
+        return open_folder(
+            alloc,
+            files,
+            spot.name,
+            spot.above.as_slice(),
+            pending,
+            found,
+        );
+    }
+    match identity_of(files, spot.name.as_slice()) {
+        Ok(identity) => {
+            if stands_in(identity, spot.above.as_slice()) {
+                return found.miss(spot.name, None);
+            }
+            let mut above = Vec::from_slice(alloc, spot.above.as_slice())?;
+            above.push(identity)?;
+            open_folder(alloc, files, spot.name, above.as_slice(), pending, found)
+        }
+        Err(error) => found.miss(spot.name, Some(Reason::of(&error))),
+    }
+}
+
+/// Puts down what a folder holds, which stands in these and itself.
+fn open_folder<F: Folders>(
+    alloc: Global,
+    files: &F,
+    name: Vec<u8>,
+    above: &[Identity],
+    pending: &mut VecDeque<Pending>,
+    found: &mut Found,
+) -> Result<(), AllocError>
+    ensures entered { OnOk result (Enters (tree_of F.Folders files.now) name.items
+        (spots_of pending.old.items) (spots_of pending.new.items) found.old found.new) }
+{
+    match list_named(alloc, files, name.as_slice()) {
+        Ok(names) => put_first(alloc, names, name.as_slice(), above, pending),
+        Err(error) => found.miss(name, Some(Reason::of(&error))),
+    }
+}
+
+/// Whether a folder is one of these.
+fn stands_in(identity: Identity, above: &[Identity]) -> bool {
+    let mut rest = above;
+    while let Some((first, behind)) = rest.split_first() {
+        if *first == identity {
+            return true;
+        }
+        rest = behind;
+    }
+    false
+}
+
+/// What tells a folder from all others.
+fn identity_of<F: Folders>(files: &F, name: &[u8]) -> io::Result<Identity> {
+    match str::from_utf8(name) {
+        Ok(text) => files.identity(text),
+        Err(_) => Err(io::Error::from(ErrorKind::InvalidInput)),
+    }
+}
+
+/// Whether something that is no folder is searched: a file, and a device where links are followed.
+fn is_searched(kind: Kind, follow: bool) -> bool
+    ensures { result ≡ is_searched kind follow }
+{
+    match kind {
+        Kind::File => true,
+        Kind::Device => follow,
+        Kind::Folder | Kind::Link => false,
+    }
+}
+
+/// Puts the names of a folder before what is pending, in the order of their bytes.
+fn put_first(
+    alloc: Global,
+    names: Vec<Vec<u8>>,
+    folder: &[u8],
+    above: &[Identity],
+    pending: &mut VecDeque<Pending>,
+) -> Result<(), AllocError>
+    ensures put { OnOk result (PutsInside (listed_bytes names.items) folder.now
+        (spots_of pending.old.items) (spots_of pending.new.items)) }
+{
+    let mut left = names;
+    left.sort()?;
+    while let Some(last) = left.pop() {
+        let name = path_inside(alloc, folder, last.as_slice())?;
+        let above = Vec::from_slice(alloc, above)?;
+        pending.push_front(Pending {
+            name,
+            given: false,
+            above,
+        })?;
+    }
+    Ok(())
+}
+
+/// The name of what has this name in a folder.
+fn path_inside(alloc: Global, folder: &[u8], name: &[u8]) -> Result<Vec<u8>, AllocError>
+    ensures path_inside { IfOk result (λ path. path.items ≡ path_inside folder.now name.now) }
+{
+    let mut path = Vec::new(alloc);
+    path.extend_from_slice(folder)?;
+    path.extend_from_slice(between(folder, name))?;
+    path.extend_from_slice(name)?;
+    Ok(path)
+}
+
+/// What stands between the name of a folder and a name in it. The working folder has no name here; `-` is a file there, and not
+/// standard input.
+fn between(folder: &[u8], name: &[u8]) -> &'static [u8]
+    ensures { result.now ≡ between folder.now name.now }
+{
+    if folder.is_empty() {
+        return if is_input(name) { b"./" } else { b"" };
+    }
+    if folder.ends_with(b"/") { b"" } else { b"/" }
+}
+
+/// What a name stands for. A link is followed where that is asked for.
+fn look_at<F: Folders>(files: &F, name: &[u8], follow: bool) -> io::Result<Kind>
+    ensures told { IfOk result (λ kind.
+        IfSome (F.kinds files.now follow name.now) (λ known. kind ≡ known)) }
+{
+    match str::from_utf8(name) {
+        Ok(text) => files.look(text, follow),
+        Err(_) => Err(io::Error::from(ErrorKind::InvalidInput)),
+    }
+}
+
+/// The names in a folder.
+fn list_named<F: Folders>(alloc: Global, files: &F, name: &[u8]) -> io::Result<Vec<Vec<u8>>>
+    ensures told { IfOk result (λ names.
+        IfSome (F.lists files.now name.now) (λ known. IsPermutation known (listed_bytes names.items))) }
+{
+    match str::from_utf8(name) {
+        Ok(text) => files.list(alloc, text),
+        Err(_) => Err(io::Error::from(ErrorKind::InvalidInput)),
+    }
+}

@@ -1,0 +1,146 @@
+-- How a count of bytes goes on.
+use Rattle.std.proofs.Common.{◌≡◌, ◌≢◌, ℕ, ◌+◌, ◌≤◌, Bool, true, false, List, [], ◌∷◌, Option, length, refl, sym, ap, subst, ◌∙◌, arith, length-append}
+use Rattle.std.specs.Prelude.{◌^◌, ◌-◌, min, None, Some, Result, is_some}
+use Rattle.std.specs.Io.KnownBytes.{Consumes, IsAtEnd, Keeps}
+use Rattle.std.proofs.lemmas.Result.{on_ok_weaker}
+use Rattle.aho_core.specs.declared.error.stream.StreamError.{StreamError}
+use Rattle.aho_cover.specs.Counting.{grown_count}
+use Rattle.aho_devices.specs.Counts.{counted}
+use Rattle.aho_devices.specs.Refusals.{is_read_fault}
+use Rattle.aho_devices.specs.declared.device.Sink.{Ghosts as SinkGhosts}
+use Rattle.aho_devices.specs.declared.device.Source.{Ghosts as SourceGhosts}
+use Rattle.aho_stream.specs.Replacing.{SourceGave}
+use Rattle.programs.specs.Names.{is_input}
+use Rattle.acredact.specs.Metering.{IsMetered, settled_left}
+use Rattle.acredact.specs.Secrets.{Redactor}
+use Rattle.acredact.specs.Streams.{RedactsStream, StreamOutcome}
+use Rattle.acredact.specs.Totals.{CountsOfStream}
+use Rattle.acredact.specs.Volumes.{AddsBytes, AddsName, AddsNames, AddsStream, ReadsVolume}
+use Rattle.acredact.specs.declared.summary.Volume.{Volume}
+use Rattle.acredact.proofs.OneFile.{ends_by, known_read, of_folder, of_input}
+
+some_is : {A : Type 0} (x y : A) → Some x ≡ Some y → x ≡ y
+some_is x y is = cc
+
+-- more was given
+pub metered_more : (whole left left' : Option (List ℕ)) (start bytes : ℕ) (given : List ℕ) → Consumes left left' given → IsMetered whole left start bytes → IsMetered whole left' start (min (bytes + length given) (2 ^ 64 - 1))
+metered_more whole None left' start bytes given read is all known = let clash = (is all known).0 in absurd (cc)
+metered_more whole (Some xs) None start bytes given read is all known = absurd read
+metered_more whole (Some xs) (Some ys) start bytes given read is all known =
+    let before = (is all known).1 xs refl in
+    let sizes : length xs ≡ length given + length ys = ap length read ∙ length-append given ys in
+    (refl, λ rest same. let size : length ys ≡ length rest = ap length (some_is ys rest same) in (omega (arith, before.0, sizes, size), omega (arith, before.0, before.1, sizes, size)))
+
+-- nothing was
+pub metered_still : (whole left left' : Option (List ℕ)) (start bytes : ℕ) → Keeps left left' → IsMetered whole left start bytes → IsMetered whole left' start bytes
+metered_still whole None left' start bytes kept is all known = let clash = (is all known).0 in absurd (cc)
+metered_still whole (Some xs) None start bytes kept is all known = absurd kept
+metered_still whole (Some xs) (Some ys) start bytes kept is all known = subst (λ (l : List ℕ). (is_some (Some l) ≡ true) × ((rest : List ℕ) → Some l ≡ Some rest → (length rest ≤ length all) × (bytes ≡ min (start + (length all - length rest)) (2 ^ 64 - 1)))) (sym kept) (is all known)
+
+-- before anything was read
+pub metered_first : (whole left : Option (List ℕ)) (start bytes : ℕ) → whole ≡ left → start ≡ bytes → bytes ≤ 2 ^ 64 - 1 → IsMetered whole left start bytes
+metered_first whole left start bytes same is within all known =
+    let here : left ≡ Some all = sym same ∙ known in (
+      ap is_some here,
+      λ rest left_is. let size : length all ≡ length rest = ap length (some_is all rest (sym here ∙ left_is)) in (omega (arith, size), omega (arith, size, is, within)),
+    )
+
+-- what is told of what is left is so of it
+pub consumes_settled : (settled : Bool) (left left' : Option (List ℕ)) (text : List ℕ) → Consumes left (settled_left settled left') text → Consumes left left' text
+consumes_settled true left left' text read = read
+consumes_settled false None left' text read = tt
+consumes_settled false (Some xs) left' text read = absurd read
+
+-- behind all
+pub metered_added : (settled : Bool) (whole left left' : Option (List ℕ)) (start bytes bytes' : ℕ) (text : List ℕ) → whole ≡ left → start ≡ bytes → Consumes left (settled_left settled left') text
+    → (settled ≡ true → IsMetered whole left' start bytes') → is_some left ≡ true → bytes' ≡ min (bytes + length text) (2 ^ 64 - 1)
+metered_added settled whole None left' start bytes bytes' text same is read metered known = absurd (cc)
+metered_added false whole (Some xs) left' start bytes bytes' text same is read metered known = absurd read
+metered_added true whole (Some xs) None start bytes bytes' text same is read metered known = absurd read
+metered_added true whole (Some xs) (Some ys) start bytes bytes' text same is read metered known =
+    let here = (metered refl xs same).1 ys refl in
+    let sizes : length xs ≡ length text + length ys = ap length read ∙ length-append text ys in
+    omega (arith, here.1, sizes, is)
+
+-- one source in the place of another, of which no less is known
+module _ {Q R W : Type 0} (P : SourceGhosts Q) (S : SourceGhosts R) (K : SinkGhosts W) (r : Redactor) (other other' : Q) (source source' : R) (sink sink' : W)
+    (reads : (text : List ℕ) → Consumes (P.remaining other) (P.remaining other') text → Consumes (S.remaining source) (S.remaining source') text)
+    (failures : P.failures other ≡ S.failures source) (failures' : P.failures other' ≡ S.failures source')
+    (empty_reads : P.empty_reads other ≡ S.empty_reads source) (empty_reads' : P.empty_reads other' ≡ S.empty_reads source') where
+  pub gave_as : (text : List ℕ) (ended : Bool) → SourceGave P other other' text ended → SourceGave S source source' text ended
+  gave_as text ended gave = record { bytes = reads text gave.bytes; end = sym empty_reads' ∙ gave.end ∙ ap (counted ended) empty_reads }
+
+  redacts_as : RedactsStream P K r other other' sink sink' → RedactsStream S K r source source' sink sink'
+  redacts_as whole = record { text = whole.text; gives = gave_as whole.text true whole.gives; redaction = whole.redaction; redacts = whole.redacts; written = whole.written }
+
+  pub outcome_as : (result : Result (Unit {0}) StreamError) → StreamOutcome P K r result other other' sink sink' → StreamOutcome S K r result source source' sink sink'
+  outcome_as result of = record {
+    redacted = on_ok_weaker result redacts_as of.redacted;
+    begun = record {
+      given = of.begun.given;
+      ended = of.begun.ended;
+      gives = gave_as of.begun.given of.begun.ended of.begun.gives;
+      part = of.begun.part;
+      begins = of.begun.begins;
+      written = of.begun.written;
+    };
+    read_failed = sym failures' ∙ of.read_failed ∙ ap (counted (is_read_fault result)) failures;
+    write_failed = of.write_failed;
+    took_nothing = of.took_nothing;
+    limit = λ met. let gave = of.limit met in (gave.0, gave_as gave.0 false gave.1, gave.2);
+    only = of.only;
+  }
+
+  pub counts_as : (counts counts' : List ℕ) → CountsOfStream P r other other' counts counts' → CountsOfStream S r source source' counts counts'
+  counts_as counts counts' whole = record { text = whole.text; gives = gave_as whole.text true whole.gives; ranges = whole.ranges; found = whole.found; counted = whole.counted }
+
+-- a stream that has ended gave a text
+pub text_bytes : {R : Type 0} (S : SourceGhosts R) (source source' : R) (before : Option (List ℕ)) (bytes bytes' : ℕ)
+    → S.remaining source ≡ before → S.empty_reads source ≡ 0 → (S.empty_reads source' ≢ 0 → IsAtEnd (S.remaining source'))
+    → AddsStream S source source' bytes bytes' → AddsBytes bytes bytes' before (S.remaining source')
+text_bytes S source source' before bytes bytes' left none ends whole = record {
+  text = whole.text;
+  reads = record {
+    read = subst (λ l. Consumes l (S.remaining source') whole.text) left whole.gives.bytes;
+    ended = ends_by (S.empty_reads source) (S.empty_reads source') true none ends whole.gives.end refl;
+  };
+  added = λ known. whole.added (ap is_some left ∙ known);
+}
+
+known_bytes : (bytes bytes' : ℕ) (told left left' : Option (List ℕ)) → Keeps told left → AddsBytes bytes bytes' left left' → AddsBytes bytes bytes' told left'
+known_bytes bytes bytes' told left left' kept adds =
+    record { text = adds.text; reads = record { read = known_read told left left' adds.text kept adds.reads.read; ended = adds.reads.ended }; added = λ known. adds.added (is_known told left kept known) }
+  where
+    is_known : (told left : Option (List ℕ)) → Keeps told left → is_some told ≡ true → is_some left ≡ true
+    is_known None left kept known = absurd (cc)
+    is_known (Some xs) None kept known = absurd kept
+    is_known (Some xs) (Some ys) kept known = refl
+
+module _ (holds : List ℕ → Option (List ℕ)) (name : List ℕ) (left left' : Option (List ℕ)) (bytes bytes' : ℕ) where
+  pub input_bytes : is_input name ≡ true → AddsBytes bytes bytes' left left' → AddsName holds name bytes bytes' left left'
+  input_bytes is adds = of_input holds name (AddsBytes bytes bytes') left left' is adds
+
+  pub opened_bytes : is_input name ≡ false → left' ≡ left → (opened rest : Option (List ℕ)) → Keeps (holds name) opened → AddsBytes bytes bytes' opened rest → AddsName holds name bytes bytes' left left'
+  opened_bytes is same opened rest kept adds = of_folder holds name (AddsBytes bytes bytes') left left' is same rest (known_bytes bytes bytes' (holds name) opened rest kept adds)
+
+-- some first files were read, and counted
+pub record VolumeSoFar (holds : List ℕ → Option (List ℕ)) (names rest : List (List ℕ)) (volume volume' : Volume) (old new : Option (List ℕ)) : Type 0 where
+  pub bytes : (last : ℕ) (left : Option (List ℕ)) → AddsNames holds rest volume'.bytes last new left → AddsNames holds names volume.bytes last old left
+  pub files : grown_count volume'.files (length rest) ≡ grown_count volume.files (length names)
+
+module _ (holds : List ℕ → Option (List ℕ)) (names : List (List ℕ)) (volume : Volume) (old : Option (List ℕ)) where
+  pub far_unread : VolumeSoFar holds names names volume volume old old
+  far_unread = record { bytes = λ last left rest. rest; files = refl }
+
+  pub far_read : (name : List ℕ) (rest : List (List ℕ)) (before after : Volume) (bytes : ℕ) (mid new : Option (List ℕ)) → VolumeSoFar holds names (name ∷ rest) volume before old mid
+      → AddsName holds name before.bytes bytes mid new → after.bytes ≡ bytes → after.files ≡ grown_count before.files 1 → VolumeSoFar holds names rest volume after old new
+  far_read name rest before after bytes mid new far adds same files = record {
+    bytes = λ last left rests. far.bytes last left (bytes, new, adds, subst (λ (n : ℕ). AddsNames holds rest n last new left) same rests);
+    files =
+        let size : length (name ∷ rest) ≡ length rest + 1 = omega arith in
+        let so = far.files in
+        omega (arith, so, size, files);
+  }
+
+  pub all_read : (after : Volume) (new : Option (List ℕ)) → VolumeSoFar holds names [] volume after old new → ReadsVolume holds names volume after old new
+  all_read after new far = record { bytes = far.bytes after.bytes new (refl, refl); files = let so = far.files in omega (arith, so) }

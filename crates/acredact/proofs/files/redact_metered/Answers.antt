@@ -1,0 +1,15 @@
+-- The input is as the source was left.
+use Rattle.std.proofs.Common.{rules, sym}
+use Rattle.std.proofs.lemmas.Result.{on_ok_weaker}
+use Rattle.acredact.proofs.files.redact_metered.Goals as goal
+
+pub returns-clause-outcome : goal.returns-clause-outcome
+returns-clause-outcome g c = λ red by.
+    let same = sym c.redact_with-taken.ensures.same in
+    let of = c.redact_with-taken.ensures.outcome red by in
+    search rules
+
+pub returns-clause-counted : goal.returns-clause-counted
+returns-clause-counted g c = λ red by.
+    let same = sym c.redact_with-taken.ensures.same in
+    on_ok_weaker c.redact_with-taken.result.done (λ whole. search rules) (c.redact_with-taken.ensures.counted red by)

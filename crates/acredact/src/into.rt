@@ -1,0 +1,137 @@
+//! A call whose output is a new file, which takes the place of another where all was done.
+
+ghost use Rattle.std.specs.Prelude.{◌≡◌, IfErr, IfOk, false, option_map, true};
+ghost use Rattle.programs.specs.Arguments.{texts};
+ghost use Rattle.programs.specs.Streams.{output_bytes};
+ghost use Rattle.acredact.specs.Arguments.{IfAsked, IfNoCheck, NamesOutput, RefusesUnclean, counts_asked};
+ghost use Rattle.acredact.specs.Calls.{CountsAsked, IsWrongFailure, LeavesNoneAsked, RedactsAsked, WarnsAsked};
+ghost use Rattle.acredact.specs.Into.{IsKept, LeavesOld, WritesNew};
+
+use crate::arguments::{items, output_of};
+use crate::failure::{Failure, tell_unread};
+use crate::folder::Folder;
+use crate::outputs::Outputs;
+use crate::run::{FAILED, run};
+use crate::streams::Streams;
+use aho_devices::adapters::{FromRead, FromWrite};
+use aho_devices::device::Sink;
+use programs::errors::Errors;
+use std::alloc::Global;
+use std::io::Read;
+
+/// The file that is named for the output, if one is.
+///
+/// # Errors
+///
+/// As `items`: the arguments are wrong, or memory runs out.
+pub fn named_output<'a>(
+    alloc: Global,
+    arguments: &'a [String],
+) -> Result<Option<&'a str>, Failure<'a>>
+    ensures named { IfOk result (λ name. NamesOutput arguments.now
+        (option_map (λ name. name.now) name)) }
+    ensures wrong { IfErr result (λ failure. IsWrongFailure (texts arguments.now) failure) }
+{
+    match items(alloc, arguments) {
+        Ok(given) => Ok(output_of(given.as_slice())),
+        Err(mistake) => Err(Failure::Arguments(mistake)),
+    }
+}
+
+/// Makes a new file, and does what the arguments ask for with that for the output. Where all was done it takes the place of the file
+/// of this name, and else it is removed. Answers the exit status.
+pub fn make_and_run<F: Folder, O: Outputs, I: Read + Drop, E: Sink + Drop>(
+    alloc: Global,
+    arguments: &[String],
+    name: &str,
+    folder: &F,
+    outputs: &mut O,
+    input: I,
+    errors: Errors<'_, E>,
+) -> u8
+    // A new file was made, all was written to it, and then it took that place.
+    ensures writes { IfAsked arguments.now (λ given. result ≡ 0
+        → WritesNew I.Read O.File.Write E.Sink F.Folder O.Outputs folder.now given name.now outputs.old outputs.new) }
+    // Or none was made, or it was removed: what has the name is as it was.
+    ensures leaves { (result ≡ 0 → ⊥) → LeavesOld O.Outputs name.now outputs.old outputs.new }
+{
+    let mut errors = errors;
+    match outputs.make(name) {
+        Ok(file) => {
+            let mut streams = Streams {
+                input: FromRead::new(input),
+                output: FromWrite::new(file),
+                errors,
+            };
+            run_into(alloc, arguments, name, folder, outputs, &mut streams)
+        }
+        Err(reason) => {
+            tell_unread(&mut errors, name, reason);
+            FAILED
+        }
+    }
+}
+
+/// Does what the arguments ask for with a new file for the output, as `run` does. Where all was done that takes the place of the file
+/// of this name, and else it is removed. Answers the exit status.
+pub fn run_into<F: Folder, O: Outputs, I: Read, E: Sink>(
+    alloc: Global,
+    arguments: &[String],
+    name: &str,
+    folder: &F,
+    outputs: &mut O,
+    streams: &mut Streams<'_, I, O::File, E>,
+) -> u8
+    // Where the status is 0 the new file holds all, and took that place.
+    ensures redacts { IfAsked arguments.now (λ all. result ≡ 0
+        → RedactsAsked O.File.Write F.Folder folder.now all streams.old streams.new) }
+    ensures strict { IfAsked arguments.now (λ given. RefusesUnclean given → result ≡ 0
+        → LeavesNoneAsked O.File.Write F.Folder folder.now given streams.old streams.new) }
+    ensures quiet { IfAsked arguments.now (λ given. counts_asked given ≡ false → result ≡ 0
+        → WarnsAsked E.Sink F.Folder folder.now given streams.old streams.new) }
+    ensures counts { IfAsked arguments.now (λ given. counts_asked given ≡ true → result ≡ 0
+        → CountsAsked O.File.Write E.Sink F.Folder folder.now given streams.old streams.new) }
+    ensures flushed { IfNoCheck arguments.now (result ≡ 0
+        → streams.new.output.device.flushed ≡ true) }
+    ensures puts { result ≡ 0 → O.puts outputs.old outputs.new name.now
+        (output_bytes O.File.Write streams.new.output) }
+    // At any other it did not, and was removed.
+    ensures kept { (result ≡ 0 → ⊥) → IsKept O.Outputs name.now outputs.old outputs.new }
+{
+    let done = run(alloc, arguments, folder, streams);
+    finish(outputs, name, done, streams)
+}
+
+/// Has the new file take the place of the one of this name, where all was done, and else removes it. Answers the exit status.
+fn finish<O: Outputs, I: Read, E: Sink>(
+    outputs: &mut O,
+    name: &str,
+    done: u8,
+    streams: &mut Streams<'_, I, O::File, E>,
+) -> u8
+    ensures done { result ≡ 0 → done ≡ 0 }
+    ensures same { result ≡ 0 → streams.new ≡ streams.old }
+    ensures puts { result ≡ 0 → O.puts outputs.old outputs.new name.now
+        (output_bytes O.File.Write streams.old.output) }
+    ensures kept { (result ≡ 0 → ⊥) → IsKept O.Outputs name.now outputs.old outputs.new }
+{
+    if done != 0 {
+        return discard(outputs, name, done);
+    }
+    match outputs.put(name, &streams.output) {
+        Ok(()) => 0,
+        Err(reason) => {
+            tell_unread(&mut streams.errors, name, reason);
+            discard(outputs, name, FAILED)
+        }
+    }
+}
+
+/// Removes the new file that was to take the place of the one of this name, and answers the exit status.
+fn discard<O: Outputs>(outputs: &mut O, name: &str, status: u8) -> u8
+    ensures removed { O.removes outputs.old outputs.new name.now }
+    ensures status { result ≡ status }
+{
+    outputs.remove(name);
+    status
+}

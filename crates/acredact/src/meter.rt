@@ -1,0 +1,91 @@
+//! How many bytes a source gives.
+
+ghost use Rattle.std.specs.Prelude.{◌≡◌, ℕ, ◌≤◌, List, None, Option, true, length, is_err, IfOk};
+ghost use Rattle.aho_devices.specs.Counts.{counted, is_empty_read};
+ghost use Rattle.acredact.specs.Metering.{GivesFirst, IsMetered, settled_left};
+
+use aho_core::error::Fault;
+use aho_devices::device::Source;
+use std::marker::{Brand, PhantomData};
+
+/// What a source had to give before its bytes were counted, and the number to which they are added.
+pub trait Known {
+    /// All bytes, where the source tells them.
+    ghost whole: { Option (List ℕ) };
+
+    /// The number.
+    ghost start: { ℕ };
+
+    /// The name of the source's borrow.
+    ghost name: { ℕ };
+}
+
+impl Known for Brand {
+    ghost whole = { None };
+
+    ghost start = { 0 };
+
+    ghost name = { 0 };
+}
+
+/// A source that is lent.
+#[derive(Drop)]
+pub struct Lent<'s, S> {
+    /// The source.
+    pub source: &'s mut S,
+}
+
+impl<S: Source> Lent<'_, S> {
+    /// Reads from it.
+    fn take(&mut self, buf: &mut [u8]) -> Result<usize, Fault>
+        ensures same { self.new.source.ghost_name ≡ self.old.source.ghost_name }
+        ensures within { IfOk result (λ count. count ≤ length buf.new) }
+        ensures given { GivesFirst result
+            (S.remaining self.old.source.now) (S.remaining self.new.source.now) buf.new }
+        ensures failures { S.failures self.new.source.now
+            ≡ counted (is_err result) (S.failures self.old.source.now) }
+        ensures empty_reads { S.empty_reads self.new.source.now
+            ≡ counted (is_empty_read result buf.new) (S.empty_reads self.old.source.now) }
+    {
+        self.source.read(buf)
+    }
+}
+
+/// A source whose bytes are counted. A count stops at the greatest number.
+#[derive(Drop)]
+pub struct Metered<'s, S: Source, K: Known> {
+    /// What gives the bytes.
+    pub lent: Lent<'s, S>,
+    /// How many it gave.
+    pub bytes: u64,
+    /// Whether all that it gave were counted.
+    pub settled: bool,
+    /// What it had to give.
+    pub of: PhantomData<K>,
+    ghost same: { lent.source.ghost_name ≡ K.name },
+    ghost metered: { settled ≡ true → IsMetered K.whole (S.remaining lent.source.now) K.start bytes },
+}
+
+impl<S: Source, K: Known> Source for Metered<'_, S, K> {
+    ghost remaining = { λ m. settled_left m.settled (S.remaining m.lent.source.now) };
+
+    ghost failures = { λ m. S.failures m.lent.source.now };
+
+    ghost empty_reads = { λ m. S.empty_reads m.lent.source.now };
+
+    fn read(&mut self, buf: &mut [u8]) -> Result<usize, Fault> {
+        let settled = self.settled;
+        self.settled = false;
+        match self.lent.take(buf) {
+            Ok(count) => {
+                self.bytes = self.bytes.saturating_add(count as u64);
+                self.settled = settled;
+                Ok(count)
+            }
+            Err(fault) => {
+                self.settled = settled;
+                Err(fault)
+            }
+        }
+    }
+}
