@@ -18,18 +18,18 @@ abbrev pub count_at : Keys → ℕ → ℕ
 count_at keys number = length (places (is_byte 10) (piece_at keys number))
 
 -- and how many those before it have
-abbrev pub count_before : Keys → ℕ → ℕ
-count_before keys zero = 0
-count_before keys (suc number) = count_before keys number + count_at keys number
+abbrev pub count_up_to : Keys → ℕ → ℕ
+count_up_to keys zero = 0
+count_up_to keys (suc number) = count_up_to keys number + count_at keys number
 
 -- the pattern of this number, counted from 0 on over all sources, stands there: in a source, on a line counted from 1 on
 pub record IsPlaceOf (keys : Keys) (number : ℕ) (place : KeyPlace) : Type 0 where
   pub known : place.source < length keys.starts.items
-  pub number_is : count_before keys place.source + place.line ≡ number + 1
+  pub number_is : count_up_to keys place.source + place.line ≡ number + 1
   pub first : 0 < place.line
   pub last : place.line ≤ count_at keys place.source
 
 -- or there is no such pattern
 abbrev pub IsFoundIn : Keys → ℕ → Option KeyPlace → Type 0
-IsFoundIn keys number None = count_before keys (length keys.starts.items) ≤ number
+IsFoundIn keys number None = count_up_to keys (length keys.starts.items) ≤ number
 IsFoundIn keys number (Some place) = IsPlaceOf keys number place
