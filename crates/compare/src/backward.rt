@@ -58,8 +58,12 @@ pub(crate) fn compare_backward_streams(
     let writes = turns(alloc, numbers, true)?;
     let mut source = ScriptedSource::new(asked.text, reads.as_slice());
     let mut sink = ScriptedSink::new(alloc, writes.as_slice());
-    let (answer, lookups) =
-        searcher.try_stream_replace_all_counted(alloc, &mut source, &mut sink, asked.bytes);
+    let (answer, lookups) = searcher.try_stream_replace_all_counted(
+        alloc,
+        &mut source,
+        &mut sink,
+        asked.bytes,
+    );
     let given = given(asked.text, &source);
     let most = 4 * given.len() as u128;
     count.same("look-ups of a stream backward", &(lookups <= most), &true)?;
