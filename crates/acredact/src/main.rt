@@ -16,6 +16,7 @@ mod files;
 mod folder;
 mod into;
 mod load;
+mod long;
 mod look;
 mod meter;
 mod outputs;
