@@ -28,5 +28,5 @@ mod Statuses
 -- what is seen of files
 mod Looks
 mod Checks
-mod Reading
+mod LongNames
 mod Ready

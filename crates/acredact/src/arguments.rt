@@ -1,10 +1,10 @@
 //! What the arguments of a call are: options with their values, and names of files.
 
-ghost use Rattle.std.specs.Prelude.{◌≡◌, Some, None, IfErr, IfOk, option_map};
+ghost use Rattle.std.specs.Prelude.{◌≡◌, ◌++◌, [], ◌∷◌, Some, None, IfErr, IfOk, OnOk, option_map, string_bytes};
 ghost use Rattle.programs.specs.Arguments.{kind_by, texts};
-ghost use Rattle.acredact.specs.Arguments.{all_given, all_asked, any_by, checks_asked, completed, counts_asked, covers_asked, file_by, given_by, has, is_cover, is_same, is_value_of, joined_option_of, kind_asked, last_value, mixture_of, option_name, output_asked, read_by, read_of, takes_value, word_by, word_read};
-ghost use Rattle.acredact.specs.Mistakes.{IsMistake, IsMistakeOfCall, IsMistaken};
-ghost use Rattle.acredact.specs.declared.arguments.Expects.TheVariants.{Any, Value};
+ghost use Rattle.acredact.specs.Arguments.{ReadsBy, all_given, all_asked, any_by, argument_by, checks_asked, counts_asked, covers_asked, given, given_by, has, is_cover, is_same, is_value_of, joined_by, kind_asked, last_value, letter_by, letters_by, long_by, mixture_of, named_by, option_name, output_asked, plain_by, taken_by, takes_value, value_by};
+ghost use Rattle.acredact.specs.Long.{option_by};
+ghost use Rattle.acredact.specs.Mistakes.{FailsBy, IsMistake, IsMistakeOfCall, TellsBy, kind_line, wrong_any, wrong_at, wrong_joined, wrong_letter, wrong_letters, wrong_long, wrong_name, wrong_plain};
 
 use aho_core::search::MatchKind;
 use crate::long::option_of;
