@@ -6,8 +6,8 @@ ghost use Rattle.acredact.specs.Arguments.{ReadsBy, all_given, all_asked, any_by
 ghost use Rattle.acredact.specs.Long.{option_by};
 ghost use Rattle.acredact.specs.Mistakes.{FailsBy, IsMistake, IsMistakeOfCall, TellsBy, kind_line, wrong_any, wrong_at, wrong_joined, wrong_letter, wrong_letters, wrong_long, wrong_name, wrong_plain};
 
-use aho_core::search::MatchKind;
 use crate::long::option_of;
+use aho_core::search::MatchKind;
 use std::alloc::{AllocError, Global};
 
 /// What an argument is, or the option that it is the value of.

@@ -201,9 +201,19 @@ fn tell_mistake<E: Sink>(errors: &mut Errors<'_, E>, mistake: Mistake<'_>)
     match mistake {
         Mistake::UnknownLetter(letter) => tell_named(errors, b"unknown option '-", &[letter], b"'"),
         Mistake::UnknownName(name) => tell_named(errors, b"unknown option '--", name, b"'"),
-        Mistake::Ambiguous(name) => tell_named(errors, b"several options begin with '--", name, b"'"),
+        Mistake::Ambiguous(name) => tell_named(
+            errors,
+            b"several options begin with '--",
+            name,
+            b"'",
+        ),
         Mistake::NoValue(word) => {
-            tell_named(errors, b"option '", name_of(word).as_bytes(), b"' needs an argument")
+            tell_named(
+                errors,
+                b"option '",
+                name_of(word).as_bytes(),
+                b"' needs an argument",
+            )
         }
         Mistake::TakesNone(name) => tell_named(errors, b"option '--", name, b"' takes no argument"),
         Mistake::UnknownKind(kind) => tell_named(
