@@ -29,4 +29,5 @@ mod Statuses
 mod Looks
 mod Checks
 mod LongNames
+mod Readings
 mod Ready

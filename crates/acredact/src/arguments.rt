@@ -2,7 +2,7 @@
 
 ghost use Rattle.std.specs.Prelude.{◌≡◌, ◌++◌, [], ◌∷◌, Some, None, IfErr, IfOk, OnOk, option_map, string_bytes};
 ghost use Rattle.programs.specs.Arguments.{kind_by, texts};
-ghost use Rattle.acredact.specs.Arguments.{ReadsBy, all_given, all_asked, any_by, argument_by, checks_asked, counts_asked, covers_asked, given, given_by, has, is_cover, is_same, is_value_of, joined_by, kind_asked, last_value, letter_by, letters_by, long_by, mixture_of, named_by, option_name, output_asked, plain_by, taken_by, takes_value, value_by};
+ghost use Rattle.acredact.specs.Arguments.{ReadsBy, all_given, all_asked, any_by, argument_by, behind_hyphen, checks_asked, counts_asked, covers_asked, given, given_by, has, is_cover, is_same, is_value_of, joined_by, kind_asked, last_value, letter_by, letters_by, long_by, mixture_of, named_by, option_name, output_asked, plain_by, taken_by, takes_value, value_by};
 ghost use Rattle.acredact.specs.Long.{option_by};
 ghost use Rattle.acredact.specs.Mistakes.{FailsBy, IsMistake, IsMistakeOfCall, TellsBy, kind_line, wrong_any, wrong_at, wrong_joined, wrong_letter, wrong_letters, wrong_long, wrong_name, wrong_plain};
 
@@ -294,12 +294,25 @@ fn read_plain<'a>(items: &mut Vec<Item<'a>>, argument: &'a str) -> Result<Expect
     ensures wrong { TellsBy (wrong_plain argument.now) result }
 {
     match argument.strip_prefix("-") {
-        Some(letters) if !letters.is_empty() => read_letters(items, letters),
-        _ => {
+        Some(letters) => read_hyphen(items, letters),
+        None => {
             add(items, Word::File, argument)?;
             Ok(Expects::Any)
         }
     }
+}
+
+/// Reads what stands behind a hyphen: joined letters. Nothing makes the hyphen a file.
+fn read_hyphen<'a>(items: &mut Vec<Item<'a>>, letters: &'a str) -> Result<Expects, Mistake<'a>>
+    ensures read { ReadsBy (behind_hyphen letters.now) items.old items.new result }
+    ensures refused { FailsBy (behind_hyphen letters.now) items.old result }
+    ensures wrong { TellsBy (wrong_letters letters.now) result }
+{
+    if letters.is_empty() {
+        add(items, Word::File, "-")?;
+        return Ok(Expects::Any);
+    }
+    read_letters(items, letters)
 }
 
 /// Reads joined letters. That of an option with a value takes what stands behind it.
