@@ -2,7 +2,7 @@
 use Rattle.std.proofs.Common.{◌≡◌, ℕ, ◌+◌, ◌-◌, ◌*◌, ◌%◌, ◌^◌, ◌<◌, ◌≤◌, zero, suc, Bool, List, get_or, refl, sym, ap, ◌∙◌, arith}
 use Rattle.std.proofs.Math.Nat.{add-mul-mod_self_right, pow-suc}
 use Rattle.std.proofs.lemmas.Nat.{mul-mod_second, pow-add}
-use Rattle.aho_prefilter.specs.Strided.{caseless, factor_for, gram_hash, half_of, hash_at, head_hash, number_of_bytes}
+use Rattle.aho_prefilter.specs.Strided.{caseless, factor_for, gram_hash, half_of, hash_at, hash_of_head, number_of_bytes}
 use Rattle.aho_prefilter.specs.declared.strided.sizes.Sizes.{Sizes}
 
 -- so many bytes of one list from i on are hashed as those of another from j on
@@ -72,16 +72,16 @@ hash_at-word rule number count bytes at few =
     ∙ sym (mul-mod_second low (number * shift) (2 ^ 64))
 
 -- the hash of a head, by its two words
-pub head_hash-words : (sizes : Sizes) (bytes : List ℕ) (at first low last high : ℕ)
-    → first ≡ number_of_bytes sizes.ignore_case 8 bytes at → low ≡ factor_for 0xD6E8_FEB8_6659_FD93 (half_of sizes)
-    → last ≡ number_of_bytes sizes.ignore_case 8 bytes (at + (sizes.head - half_of sizes)) → high ≡ factor_for 0xA076_1D64_78BD_642F (half_of sizes)
-    → (first * low % 2 ^ 64 + last * high % 2 ^ 64) % 2 ^ 64 ≡ head_hash sizes bytes at
-head_hash-words sizes bytes at first low last high first_is low_is last_is high_is =
-    let front : first * low % 2 ^ 64 ≡ hash_at sizes.ignore_case 0xD6E8_FEB8_6659_FD93 (half_of sizes) bytes at =
-    ap (λ n. n * low % 2 ^ 64) first_is ∙ ap (λ n. number_of_bytes sizes.ignore_case 8 bytes at * n % 2 ^ 64) low_is ∙ hash_at-word sizes.ignore_case 0xD6E8_FEB8_6659_FD93 (half_of sizes) bytes at (omega arith) in
-    let back : last * high % 2 ^ 64 ≡ hash_at sizes.ignore_case 0xA076_1D64_78BD_642F (half_of sizes) bytes (at + (sizes.head - half_of sizes)) =
-    ap (λ n. n * high % 2 ^ 64) last_is ∙ ap (λ n. number_of_bytes sizes.ignore_case 8 bytes (at + (sizes.head - half_of sizes)) * n % 2 ^ 64) high_is ∙ hash_at-word sizes.ignore_case 0xA076_1D64_78BD_642F (half_of sizes) bytes (at + (sizes.head - half_of sizes)) (omega arith) in
-    ap (λ n. (n + last * high % 2 ^ 64) % 2 ^ 64) front ∙ ap (λ n. (hash_at sizes.ignore_case 0xD6E8_FEB8_6659_FD93 (half_of sizes) bytes at + n) % 2 ^ 64) back
+pub hash_of_head-words : (rule : Bool) (head : ℕ) (bytes : List ℕ) (at first low last high : ℕ)
+    → first ≡ number_of_bytes rule 8 bytes at → low ≡ factor_for 0xD6E8_FEB8_6659_FD93 (half_of head)
+    → last ≡ number_of_bytes rule 8 bytes (at + (head - half_of head)) → high ≡ factor_for 0xA076_1D64_78BD_642F (half_of head)
+    → (first * low % 2 ^ 64 + last * high % 2 ^ 64) % 2 ^ 64 ≡ hash_of_head rule head bytes at
+hash_of_head-words rule head bytes at first low last high first_is low_is last_is high_is =
+    let front : first * low % 2 ^ 64 ≡ hash_at rule 0xD6E8_FEB8_6659_FD93 (half_of head) bytes at =
+    ap (λ n. n * low % 2 ^ 64) first_is ∙ ap (λ n. number_of_bytes rule 8 bytes at * n % 2 ^ 64) low_is ∙ hash_at-word rule 0xD6E8_FEB8_6659_FD93 (half_of head) bytes at (omega arith) in
+    let back : last * high % 2 ^ 64 ≡ hash_at rule 0xA076_1D64_78BD_642F (half_of head) bytes (at + (head - half_of head)) =
+    ap (λ n. n * high % 2 ^ 64) last_is ∙ ap (λ n. number_of_bytes rule 8 bytes (at + (head - half_of head)) * n % 2 ^ 64) high_is ∙ hash_at-word rule 0xA076_1D64_78BD_642F (half_of head) bytes (at + (head - half_of head)) (omega arith) in
+    ap (λ n. (n + last * high % 2 ^ 64) % 2 ^ 64) front ∙ ap (λ n. (hash_at rule 0xD6E8_FEB8_6659_FD93 (half_of head) bytes at + n) % 2 ^ 64) back
 
 -- and that of a gram, by one word
 pub gram_hash-word : (sizes : Sizes) (bytes : List ℕ) (at word factor : ℕ) → sizes.gram ≤ 8 → word ≡ number_of_bytes sizes.ignore_case 8 bytes at → factor ≡ factor_for 0x9E37_79B9_7F4A_7C15 sizes.gram

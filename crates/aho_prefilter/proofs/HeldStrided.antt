@@ -1,4 +1,4 @@
--- A strided search that is held has its sizes, and is a prefilter of the patterns.
+-- A search with heads, or a strided one, that is held has its sizes, and is a prefilter of the patterns.
 use Rattle.std.proofs.Common.{◌≡◌, ℕ, ◌<◌, ◌≤◌, zero, suc, Bool, true, false, List, [], ◌∷◌, get_or, length, refl, sym, ap, subst, ◌∙◌, arith, min}
 use Rattle.std.specs.Prelude.{Option, Some, None as Nothing, IfSome, if◌then◌else◌}
 use Rattle.std.specs.List.{fold}
@@ -6,11 +6,12 @@ use Rattle.std.specs.Option.{option_map, option_or}
 use Rattle.std.proofs.lemmas.Bool.Decides.{nat_tests}
 use Rattle.aho_core.specs.declared.search.MatchKind.{MatchKind}
 use Rattle.aho_core.specs.Patterns.{Patterns}
-use Rattle.aho_prefilter.specs.Prefilter.{AreMarksOf, IsPrefilterOf, held_or_packed, quickest_for, strided_for, yields}
-use Rattle.aho_prefilter.specs.Sizes.{gram_for, least_head, is_crowded, is_small, shape_of, sizes_for, stride_for}
+use Rattle.aho_prefilter.specs.Prefilter.{AreHeadsOf, AreMarksOf, IsPrefilterOf, heads_or_strided, held_or_packed, packed_heads_for, quickest_for, strided_for, yields}
+use Rattle.aho_prefilter.specs.PackedHeads.{packed_heads_of}
+use Rattle.aho_prefilter.specs.Sizes.{few_heads_for, gram_for, is_few, least_head, is_crowded, is_small, shape_of, sizes_for, stride_for}
 use Rattle.aho_prefilter.specs.Strided.{AreStrideSizes, marks_of, no_marks}
 use Rattle.aho_prefilter.specs.declared.prefilter.Searcher.{Searcher}
-use Rattle.aho_prefilter.specs.declared.prefilter.Searcher.TheVariants.{Strided}
+use Rattle.aho_prefilter.specs.declared.prefilter.Searcher.TheVariants.{PackedHeads, Strided}
 use Rattle.aho_prefilter.specs.declared.strided.sizes.Shape.{Shape}
 use Rattle.aho_prefilter.specs.declared.strided.sizes.Sizes.{Sizes}
 use Rattle.aho_prefilter.proofs.HeldPacked.{held_or_packed-kind, held_or_packed-of}
@@ -74,34 +75,89 @@ strided_for-of p searcher held = by_sizes (sizes_for (shape_of p.ignore_case p.w
         } in
         rw e made
 
+-- a few patterns have heads
+pub few_heads-sized : (s : Shape) (size : ℕ) → few_heads_for s ≡ Some size → (size ≡ s.head) × (1 < size) × (s.count ≤ 100)
+few_heads-sized s size held = by_test (is_few s) refl held
+  where
+    by_test : (few : Bool) → is_few s ≡ few → (if few then Some s.head else Nothing) ≡ Some size → (size ≡ s.head) × (1 < size) × (s.count ≤ 100)
+    by_test true is found =
+        let e : size ≡ s.head = cc in
+        let long : 1 < s.head = grind (arith, nat_tests, is) in
+        (e, omega arith, grind (arith, nat_tests, is))
+    by_test false is found = cc
+
+packed_heads_for-of : (p : Patterns) (searcher : Searcher) → packed_heads_for p ≡ Some searcher → IsPrefilterOf searcher p
+packed_heads_for-of p searcher held = by_size (few_heads_for (shape_of p.ignore_case p.words)) refl held
+  where
+    by_size : (found : Option ℕ) → few_heads_for (shape_of p.ignore_case p.words) ≡ found
+        → option_map (λ (size : ℕ). PackedHeads (packed_heads_of p.ignore_case size p.words)) found ≡ Some searcher → IsPrefilterOf searcher p
+    by_size Nothing are is = cc
+    by_size (Some size) are is =
+        let e : searcher ≡ PackedHeads (packed_heads_of p.ignore_case size p.words) = cc in
+        let sized = few_heads-sized (shape_of p.ignore_case p.words) size are in
+        let made : AreHeadsOf p (packed_heads_of p.ignore_case size p.words) = record {
+          size = size;
+          some = omega (arith, sized.1);
+          short = omega (arith, sized.0, least_head-few p.words);
+          long = λ k below. omega (arith, sized.0, least_head-each p.words k below);
+          made = refl;
+        } in
+        rw e made
+
+heads_or_strided-of : (p : Patterns) (searcher : Searcher) → heads_or_strided p ≡ Some searcher → IsPrefilterOf searcher p
+heads_or_strided-of p searcher held = by_heads (packed_heads_for p) refl held
+  where
+    by_heads : (heads : Option Searcher) → packed_heads_for p ≡ heads → option_or heads (strided_for p) ≡ Some searcher → IsPrefilterOf searcher p
+    by_heads Nothing none is = strided_for-of p searcher is
+    by_heads (Some other) there is = packed_heads_for-of p searcher (there ∙ is)
+
 -- whatever is held is a prefilter of the patterns
 pub quickest_for-of : (p : Patterns) (searcher : Searcher) → quickest_for p ≡ Some searcher → IsPrefilterOf searcher p
 quickest_for-of p searcher held = by_way (yields (held_or_packed p)) held
   where
-    by_strided : (strided : Option Searcher) → strided_for p ≡ strided → option_or strided (held_or_packed p) ≡ Some searcher → IsPrefilterOf searcher p
+    by_strided : (strided : Option Searcher) → heads_or_strided p ≡ strided → option_or strided (held_or_packed p) ≡ Some searcher → IsPrefilterOf searcher p
     by_strided Nothing none is = held_or_packed-of p searcher is
-    by_strided (Some other) there is = strided_for-of p searcher (there ∙ is)
+    by_strided (Some other) there is = heads_or_strided-of p searcher (there ∙ is)
 
-    by_way : (way : Bool) → (if way then option_or (strided_for p) (held_or_packed p) else held_or_packed p) ≡ Some searcher → IsPrefilterOf searcher p
-    by_way true is = by_strided (strided_for p) refl is
+    by_way : (way : Bool) → (if way then option_or (heads_or_strided p) (held_or_packed p) else held_or_packed p) ≡ Some searcher → IsPrefilterOf searcher p
+    by_way true is = by_strided (heads_or_strided p) refl is
     by_way false is = held_or_packed-of p searcher is
 
 -- and it does not depend on the kind
 pub quickest_for-kind : (p : Patterns) (kind : MatchKind) → quickest_for (record p { kind = kind }) ≡ quickest_for p
-quickest_for-kind p kind = ap (λ (other : Option Searcher). if yields other then option_or (strided_for p) other else other) (held_or_packed-kind p kind)
+quickest_for-kind p kind = ap (λ (other : Option Searcher). if yields other then option_or (heads_or_strided p) other else other) (held_or_packed-kind p kind)
 
 -- the same of what may be held
 pub held_or_packed-held : (p : Patterns) (held : Option Searcher) → held ≡ held_or_packed p → IfSome held (λ searcher. IsPrefilterOf searcher p)
 held_or_packed-held p Nothing is = tt
 held_or_packed-held p (Some searcher) is = held_or_packed-of p searcher (sym is)
 
--- where a strided search is better and has its sizes, it is held
-pub quickest_for-strided : (p : Patterns) (other : Option Searcher) (sizes : Sizes) → other ≡ held_or_packed p → yields other ≡ true
-    → sizes_for (shape_of p.ignore_case p.words) ≡ Some sizes → Some (Strided (marks_of sizes p.words)) ≡ quickest_for p
-quickest_for-strided p other sizes is better found =
-    let there : strided_for p ≡ Some (Strided (marks_of sizes p.words)) =
-    ap (λ (o : Option Sizes). option_map (λ (t : Sizes). Strided (marks_of t p.words)) o) found in
-    let way : yields (held_or_packed p) ≡ true = ap yields (sym is) ∙ better in
+-- where another search is better, it is held
+better-held : (p : Patterns) (other better : Option Searcher) → other ≡ held_or_packed p → yields other ≡ true → heads_or_strided p ≡ better → option_or better other ≡ quickest_for p
+better-held p other better is way there =
     sym
-    (ap (λ (b : Bool). if b then option_or (strided_for p) (held_or_packed p) else held_or_packed p) way
-    ∙ ap (λ (o : Option Searcher). option_or o (held_or_packed p)) there)
+    (ap (λ (b : Bool). if b then option_or (heads_or_strided p) (held_or_packed p) else held_or_packed p) (ap yields (sym is) ∙ way)
+    ∙ ap (λ (o : Option Searcher). option_or o (held_or_packed p)) there
+    ∙ ap (λ (o : Option Searcher). option_or better o) (sym is))
+
+-- for a few patterns the one with heads
+pub quickest_for-heads : (p : Patterns) (other : Option Searcher) (searcher : Searcher) → other ≡ held_or_packed p → yields other ≡ true
+    → Some searcher ≡ packed_heads_for p → Some searcher ≡ quickest_for p
+quickest_for-heads p other searcher is way found =
+    better-held p other (Some searcher) is way (ap (λ (o : Option Searcher). option_or o (strided_for p)) (sym found))
+
+-- for others the strided one, if it has its sizes
+heads_or_strided-none : (p : Patterns) (found : Option Sizes) → Nothing ≡ packed_heads_for p → sizes_for (shape_of p.ignore_case p.words) ≡ found
+    → heads_or_strided p ≡ option_map (λ (t : Sizes). Strided (marks_of t p.words)) found
+heads_or_strided-none p found none are =
+    ap (λ (o : Option Searcher). option_or o (strided_for p)) (sym none)
+    ∙ ap (λ (o : Option Sizes). option_map (λ (t : Sizes). Strided (marks_of t p.words)) o) are
+
+pub quickest_for-strided : (p : Patterns) (other : Option Searcher) (sizes : Sizes) → other ≡ held_or_packed p → yields other ≡ true → Nothing ≡ packed_heads_for p
+    → sizes_for (shape_of p.ignore_case p.words) ≡ Some sizes → Some (Strided (marks_of sizes p.words)) ≡ quickest_for p
+quickest_for-strided p other sizes is way none found =
+    better-held p other (Some (Strided (marks_of sizes p.words))) is way (heads_or_strided-none p (Some sizes) none found)
+
+pub quickest_for-other : (p : Patterns) (other : Option Searcher) → other ≡ held_or_packed p → yields other ≡ true → Nothing ≡ packed_heads_for p
+    → sizes_for (shape_of p.ignore_case p.words) ≡ Nothing → other ≡ quickest_for p
+quickest_for-other p other is way none found = better-held p other Nothing is way (heads_or_strided-none p Nothing none found)

@@ -30,7 +30,17 @@ pub mod Tables
 pub mod StridedSound
 -- what the strided search for the patterns finds
 pub mod StridedFinds
--- that a strided search that is held is a prefilter of the patterns
+-- the last places, copied
+pub mod Copied
+-- blocks of sixteen places
+pub mod Blocks
+-- the places that bits tell
+pub mod Told
+-- words that were added to a packed search with heads meet it where they stand
+pub mod HeadsSound
+-- what the packed search with heads finds
+pub mod HeadsFinds
+-- that a search with heads, and a strided one, that is held is a prefilter of the patterns
 pub mod HeldStrided
 -- bytes that are the same by the case rule are hashed alike
 pub mod Caseless

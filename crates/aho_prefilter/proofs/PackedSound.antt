@@ -10,7 +10,7 @@ use Rattle.std.proofs.lemmas.List.{get_or-map, get_or-set_other, length-map, len
 use Rattle.std.proofs.Math.ListN.{get_or-eq_default}
 use Rattle.std.proofs.lemmas.Nat.Bits.{bit_at_and, bit_at_or, bit_at-lt, bit_at-pow_same, bit_at-zero}
 use Rattle.aho_core.specs.Bytes.{folded_by, opposite}
-use Rattle.aho_prefilter.specs.Packed.{IsFirstMet, MeetsAt, group_of, groups_at, groups_of, masks_with, masks_with_all, masks_with_cases, masks_with_place, no_masks, packed_none, packed_of, packed_with}
+use Rattle.aho_prefilter.specs.Packed.{IsFirstMet, MeetsAt, group_of, groups_at, groups_of, masks_with, masks_with_all, masks_with_cases, masks_with_place, no_masks, packed_none, packed_of, packed_with, packed_with_groups}
 use Rattle.aho_prefilter.specs.declared.packed.Masks.{Masks}
 use Rattle.aho_prefilter.specs.declared.packed.Packed.{Packed}
 use Rattle.aho_prefilter.proofs.Held.{opposite-same}
@@ -25,13 +25,13 @@ HasBit-or_left x y i is = omega (arith, is, bit_at_or x y i, bit_at-lt y i)
 HasBit-or_right : (x y i : ℕ) → HasBit y i → HasBit (bit_or x y) i
 HasBit-or_right x y i is = omega (arith, is, bit_at_or x y i, bit_at-lt x i)
 
-HasBit-and : (x y i : ℕ) → HasBit x i → HasBit y i → HasBit (bit_and x y) i
+pub HasBit-and : (x y i : ℕ) → HasBit x i → HasBit y i → HasBit (bit_and x y) i
 HasBit-and x y i is also = omega (arith, is, also, bit_at_and x y i)
 
 HasBit-of_and : (x y i : ℕ) → HasBit (bit_and x y) i → HasBit x i × HasBit y i
 HasBit-of_and x y i is = (omega (arith, is, bit_at_and x y i, bit_at-lt x i, bit_at-lt y i), omega (arith, is, bit_at_and x y i, bit_at-lt x i, bit_at-lt y i))
 
-HasBit-some : (x i : ℕ) → HasBit x i → x ≢ 0
+pub HasBit-some : (x i : ℕ) → HasBit x i → x ≢ 0
 HasBit-some x i is none = absurd (omega (arith, sym is ∙ ap (λ n. bit_at n i) none ∙ bit_at-zero i))
 
 -- what has a bit stands within the table
@@ -71,9 +71,9 @@ Keeps-all table groups = record {
 }
 
 -- masks that keep the bits of others
-record Grows (old new : Masks) : Type 0 where
-  low : Keeps old.low new.low
-  high : Keeps old.high new.high
+pub record Grows (old new : Masks) : Type 0 where
+  pub low : Keeps old.low new.low
+  pub high : Keeps old.high new.high
 
 Grows-then : (a b c : Masks) → Grows a b → Grows b c → Grows a c
 Grows-then a b c first then = record { low = Keeps-then a.low b.low c.low first.low then.low; high = Keeps-then a.high b.high c.high first.high then.high }
@@ -94,26 +94,26 @@ Grows-either : (test : Bool) (masks x y : Masks) → Grows masks x → Grows mas
 Grows-either true masks x y is also = is
 Grows-either false masks x y is also = also
 
-Grows-place : (ignore_case : Bool) (groups : ℕ) (masks : Masks) (word : List ℕ) (place : ℕ) → Grows masks (masks_with_place ignore_case groups masks word place)
+pub Grows-place : (ignore_case : Bool) (groups : ℕ) (masks : Masks) (word : List ℕ) (place : ℕ) → Grows masks (masks_with_place ignore_case groups masks word place)
 Grows-place ignore_case groups masks word place =
     Grows-either (nat_lt place (length word)) masks _ _
     (Grows-cases ignore_case groups masks (get_or word place 0)) (Grows-all groups masks)
 
 -- the byte meets the group of this number
-abbrev MeetsGroup : Masks → ℕ → ℕ → Type 0
+abbrev pub MeetsGroup : Masks → ℕ → ℕ → Type 0
 MeetsGroup masks i byte = HasBit (groups_of masks byte) i
 
-MeetsGroup-grows : (old new : Masks) (i byte : ℕ) → Grows old new → MeetsGroup old i byte → MeetsGroup new i byte
+pub MeetsGroup-grows : (old new : Masks) (i byte : ℕ) → Grows old new → MeetsGroup old i byte → MeetsGroup new i byte
 MeetsGroup-grows old new i byte grows is =
     let both = HasBit-of_and (get_or old.low (byte % 16) 0) (get_or old.high (byte / 16 % 16) 0) i is in
     HasBit-and (get_or new.low (byte % 16) 0) (get_or new.high (byte / 16 % 16) 0) i (grows.low.bits (byte % 16) i both.0) (grows.high.bits (byte / 16 % 16) i both.1)
 
 -- both tables have an entry for each half of a byte
-record IsLong (masks : Masks) : Type 0 where
-  low : length masks.low ≡ 16
-  high : length masks.high ≡ 16
+pub record IsLong (masks : Masks) : Type 0 where
+  pub low : length masks.low ≡ 16
+  pub high : length masks.high ≡ 16
 
-IsLong-grows : (old new : Masks) → Grows old new → IsLong old → IsLong new
+pub IsLong-grows : (old new : Masks) → Grows old new → IsLong old → IsLong new
 IsLong-grows old new grows long = record { low = grows.low.long ∙ long.low; high = grows.high.long ∙ long.high }
 
 pub set-has : (table : List ℕ) (j groups i : ℕ) → j < length table → HasBit groups i → HasBit (get_or (set table j (bit_or (get_or table j 0) groups)) j 0) i
@@ -159,7 +159,7 @@ module _ (groups i : ℕ) (has : HasBit groups i) where
       ]
 
   -- at a place of a word what is the same as its byte meets the group, and behind its end every byte
-  MeetsGroup-place : (ignore_case : Bool) (masks : Masks) (word : List ℕ) (place byte : ℕ) → IsLong masks
+  pub MeetsGroup-place : (ignore_case : Bool) (masks : Masks) (word : List ℕ) (place byte : ℕ) → IsLong masks
       → (place < length word → folded_by ignore_case (get_or word place 0) ≡ folded_by ignore_case byte)
       → MeetsGroup (masks_with_place ignore_case groups masks word place) i byte
   MeetsGroup-place ignore_case masks word place byte long same = by_test (nat_lt place (length word)) refl
@@ -170,45 +170,52 @@ module _ (groups i : ℕ) (has : HasBit groups i) where
       by_test false is = MeetsGroup-all masks byte long
 
 -- a search that keeps what another one's places meet
-record KeepsMasks (old new : Packed) : Type 0 where
-  first : Grows old.first new.first
-  second : Grows old.second new.second
-  third : Grows old.third new.third
+pub record KeepsMasks (old new : Packed) : Type 0 where
+  pub first : Grows old.first new.first
+  pub second : Grows old.second new.second
+  pub third : Grows old.third new.third
 
-KeepsMasks-with : (ignore_case : Bool) (packed : Packed) (word : List ℕ) → KeepsMasks packed (packed_with ignore_case packed word)
-KeepsMasks-with ignore_case packed word = record {
-  first = Grows-place ignore_case (group_of word) packed.first word 0;
-  second = Grows-place ignore_case (group_of word) packed.second word 1;
-  third = Grows-place ignore_case (group_of word) packed.third word 2;
+pub KeepsMasks-groups : (ignore_case : Bool) (groups : ℕ) (packed : Packed) (word : List ℕ) → KeepsMasks packed (packed_with_groups ignore_case groups packed word)
+KeepsMasks-groups ignore_case groups packed word = record {
+  first = Grows-place ignore_case groups packed.first word 0;
+  second = Grows-place ignore_case groups packed.second word 1;
+  third = Grows-place ignore_case groups packed.third word 2;
 }
 
+KeepsMasks-with : (ignore_case : Bool) (packed : Packed) (word : List ℕ) → KeepsMasks packed (packed_with ignore_case packed word)
+KeepsMasks-with ignore_case packed word = KeepsMasks-groups ignore_case (group_of word) packed word
+
 -- all tables have an entry for each half of a byte
-record IsWhole (packed : Packed) : Type 0 where
-  first : IsLong packed.first
-  second : IsLong packed.second
-  third : IsLong packed.third
+pub record IsWhole (packed : Packed) : Type 0 where
+  pub first : IsLong packed.first
+  pub second : IsLong packed.second
+  pub third : IsLong packed.third
+
+pub IsWhole-groups : (ignore_case : Bool) (groups : ℕ) (packed : Packed) (word : List ℕ) → IsWhole packed → IsWhole (packed_with_groups ignore_case groups packed word)
+IsWhole-groups ignore_case groups packed word whole =
+    let new = packed_with_groups ignore_case groups packed word in
+    let grows = KeepsMasks-groups ignore_case groups packed word in
+    record {
+      first = IsLong-grows packed.first new.first grows.first whole.first;
+      second = IsLong-grows packed.second new.second grows.second whole.second;
+      third = IsLong-grows packed.third new.third grows.third whole.third;
+    }
 
 IsWhole-with : (ignore_case : Bool) (packed : Packed) (word : List ℕ) → IsWhole packed → IsWhole (packed_with ignore_case packed word)
-IsWhole-with ignore_case packed word whole =
-    let grows = KeepsMasks-with ignore_case packed word in
-    record {
-      first = IsLong-grows packed.first (packed_with ignore_case packed word).first grows.first whole.first;
-      second = IsLong-grows packed.second (packed_with ignore_case packed word).second grows.second whole.second;
-      third = IsLong-grows packed.third (packed_with ignore_case packed word).third grows.third whole.third;
-    }
+IsWhole-with ignore_case packed word whole = IsWhole-groups ignore_case (group_of word) packed word whole
 
 -- the word stands at this place, by the case rule
 abbrev pub StandsAt : Bool → List ℕ → List ℕ → ℕ → Type 0
 StandsAt ignore_case word bytes at = (k : ℕ) → k < length word → folded_by ignore_case (get_or word k 0) ≡ folded_by ignore_case (get_or bytes (at + k) 0)
 
 -- a place and the two behind it meet the group of this number
-record MeetsAll (packed : Packed) (bytes : List ℕ) (at i : ℕ) : Type 0 where
-  first : MeetsGroup packed.first i (get_or bytes at 0)
-  second : MeetsGroup packed.second i (get_or bytes (at + 1) 0)
-  third : MeetsGroup packed.third i (get_or bytes (at + 2) 0)
+pub record MeetsAll (packed : Packed) (bytes : List ℕ) (at i : ℕ) : Type 0 where
+  pub first : MeetsGroup packed.first i (get_or bytes at 0)
+  pub second : MeetsGroup packed.second i (get_or bytes (at + 1) 0)
+  pub third : MeetsGroup packed.third i (get_or bytes (at + 2) 0)
 
 module _ (bytes : List ℕ) (at : ℕ) where
-  MeetsAll-grows : (old new : Packed) (i : ℕ) → KeepsMasks old new → MeetsAll old bytes at i → MeetsAll new bytes at i
+  pub MeetsAll-grows : (old new : Packed) (i : ℕ) → KeepsMasks old new → MeetsAll old bytes at i → MeetsAll new bytes at i
   MeetsAll-grows old new i grows meets = record {
     first = MeetsGroup-grows old.first new.first i (get_or bytes at 0) grows.first meets.first;
     second = MeetsGroup-grows old.second new.second i (get_or bytes (at + 1) 0) grows.second meets.second;
@@ -230,20 +237,24 @@ module _ (bytes : List ℕ) (at : ℕ) where
         MeetsAll-more words (packed_with ignore_case packed word) i
         (MeetsAll-grows packed (packed_with ignore_case packed word) i (KeepsMasks-with ignore_case packed word) meets)
 
-    -- a word that was just added meets its group where it stands
+    -- a word that was just added meets its groups where it stands
+    pub MeetsAll-groups : (packed : Packed) (word : List ℕ) (groups i : ℕ) → HasBit groups i → IsWhole packed → StandsAt ignore_case word bytes at
+        → MeetsAll (packed_with_groups ignore_case groups packed word) bytes at i
+    MeetsAll-groups packed word groups i has whole stands =
+        let here : at + 0 ≡ at = omega arith in
+        record {
+          first =
+              MeetsGroup-place groups i has ignore_case packed.first word 0 (get_or bytes at 0) whole.first
+              (λ below. subst (λ n. folded_by ignore_case (get_or word 0 0) ≡ folded_by ignore_case (get_or bytes n 0)) here (stands 0 below));
+          second = MeetsGroup-place groups i has ignore_case packed.second word 1 (get_or bytes (at + 1) 0) whole.second (stands 1);
+          third = MeetsGroup-place groups i has ignore_case packed.third word 2 (get_or bytes (at + 2) 0) whole.third (stands 2);
+        }
+
     MeetsAll-with : (packed : Packed) (word : List ℕ) → IsWhole packed → StandsAt ignore_case word bytes at
         → MeetsAll (packed_with ignore_case packed word) bytes at (get_or word 0 0 % 8)
     MeetsAll-with packed word whole stands =
         let i = get_or word 0 0 % 8 in
-        let has : HasBit (group_of word) i = bit_at-pow_same i in
-        let here : at + 0 ≡ at = omega arith in
-        record {
-          first =
-              MeetsGroup-place (group_of word) i has ignore_case packed.first word 0 (get_or bytes at 0) whole.first
-              (λ below. subst (λ n. folded_by ignore_case (get_or word 0 0) ≡ folded_by ignore_case (get_or bytes n 0)) here (stands 0 below));
-          second = MeetsGroup-place (group_of word) i has ignore_case packed.second word 1 (get_or bytes (at + 1) 0) whole.second (stands 1);
-          third = MeetsGroup-place (group_of word) i has ignore_case packed.third word 2 (get_or bytes (at + 2) 0) whole.third (stands 2);
-        }
+        MeetsAll-groups packed word (group_of word) i (bit_at-pow_same i) whole stands
 
     -- a place where a word that was added stands meets the masks of some group
     MeetsAt-added : (words : List (List ℕ)) (packed : Packed) (k : ℕ) → IsWhole packed → k < length words → StandsAt ignore_case (get_or words k []) bytes at
@@ -255,7 +266,7 @@ module _ (bytes : List ℕ) (at : ℕ) where
     MeetsAt-added (word ∷ words) packed (suc k) whole below stands =
         MeetsAt-added words (packed_with ignore_case packed word) k (IsWhole-with ignore_case packed word whole) (omega arith) stands
 
-IsLong-none : IsLong no_masks
+pub IsLong-none : IsLong no_masks
 IsLong-none = record { low = refl; high = refl }
 
 module _ (ignore_case : Bool) (words : List (List ℕ)) (bytes : List ℕ) where

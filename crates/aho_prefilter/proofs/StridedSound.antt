@@ -21,11 +21,11 @@ place_within words hash some small =
     let place : place_in words hash < 64 * words = div_below (hash / 2 ^ 32 * (64 * words)) (2 ^ 32) (64 * words) (omega arith) (omega arith) in
     div_below (place_in words hash) 64 words (omega arith) (omega arith)
 
-HasMark-keeps : (old new : List ℕ) (hash : ℕ) → Keeps old new → HasMark old hash → HasMark new hash
+pub HasMark-keeps : (old new : List ℕ) (hash : ℕ) → Keeps old new → HasMark old hash → HasMark new hash
 HasMark-keeps old new hash keeps has =
     subst (λ n. HasBit (get_or new (place_in n hash / 64) 0) (place_in n hash % 64)) (sym keeps.long) (keeps.bits (place_in (length old) hash / 64) (place_in (length old) hash % 64) has)
 
-Keeps-with_mark : (table : List ℕ) (hash : ℕ) → Keeps table (with_mark table hash)
+pub Keeps-with_mark : (table : List ℕ) (hash : ℕ) → Keeps table (with_mark table hash)
 Keeps-with_mark table hash = Keeps-set table (place_in (length table) hash / 64) (2 ^ (place_in (length table) hash % 64))
 
 Keeps-same : (table : List ℕ) → Keeps table table
@@ -38,7 +38,7 @@ Keeps-with_grams sizes word (suc count) grams =
     (Keeps-with_grams sizes word count grams) (Keeps-with_mark (with_grams sizes word count grams) (gram_hash sizes word count))
 
 -- a bit that was just set
-HasMark-with : (table : List ℕ) (hash : ℕ) → 0 < length table → hash < 2 ^ 64 → HasMark (with_mark table hash) hash
+pub HasMark-with : (table : List ℕ) (hash : ℕ) → 0 < length table → hash < 2 ^ 64 → HasMark (with_mark table hash) hash
 HasMark-with table hash some small =
     let j = place_in (length table) hash / 64 in
     let i = place_in (length table) hash % 64 in

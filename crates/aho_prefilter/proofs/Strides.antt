@@ -1,9 +1,9 @@
 -- Where the marks of a strided search stand: in one stride, and in a copy of the last places.
-use Rattle.std.proofs.Common.{◌≡◌, ℕ, ◌+◌, ◌-◌, ◌*◌, ◌/◌, ◌%◌, ◌^◌, ◌<◌, ◌≤◌, List, get_or, length, sym, ap, subst, ◌∙◌, arith}
+use Rattle.std.proofs.Common.{◌≡◌, ℕ, ◌+◌, ◌-◌, ◌*◌, ◌/◌, ◌%◌, ◌^◌, ◌<◌, ◌≤◌, Bool, List, get_or, length, sym, ap, subst, ◌∙◌, arith}
 use Rattle.std.specs.Prelude.{Option, Some, None}
 use Rattle.std.proofs.lemmas.Nat.{div-add-mod', div-mul-add, mod_below}
 use Rattle.memchr.specs.Find.{IsFirst, Nowhere}
-use Rattle.aho_prefilter.specs.Strided.{HasMark, IsMarkedAt, AreStrideSizes, Marks, MayStartAt, caseless, gram_hash, half_of, hash_at, head_hash, last_of_stride}
+use Rattle.aho_prefilter.specs.Strided.{HasMark, IsMarkedAt, AreStrideSizes, Marks, MayStartAt, caseless, gram_hash, half_of, hash_at, hash_of_head, head_hash, last_of_stride}
 use Rattle.aho_prefilter.specs.declared.strided.sizes.Sizes.{Sizes}
 use Rattle.aho_prefilter.proofs.Hashes.{AreSame, hash_at-same}
 
@@ -37,20 +37,23 @@ module _ (marks : Marks) (bytes : List ℕ) (turn : ℕ) where
       not (subst (λ n. HasMark marks.grams (gram_hash marks.sizes bytes n)) (last_of_stride-in marks.sizes.stride turn k low high) marked.gram)
 
 -- the hash of a head is the same wherever the same bytes stand
-pub head_hash-same : (sizes : Sizes) (xs : List ℕ) (i : ℕ) (ys : List ℕ) (j : ℕ) → AreSame sizes.ignore_case sizes.head xs i ys j → head_hash sizes xs i ≡ head_hash sizes ys j
-head_hash-same sizes xs i ys j same =
-    let half = half_of sizes in
-    let later = sizes.head - half in
-    let front : hash_at sizes.ignore_case 0xD6E8_FEB8_6659_FD93 half xs i ≡ hash_at sizes.ignore_case 0xD6E8_FEB8_6659_FD93 half ys j =
-    hash_at-same sizes.ignore_case 0xD6E8_FEB8_6659_FD93 half xs i ys j (λ k below. same k (omega arith)) in
-    let back : hash_at sizes.ignore_case 0xA076_1D64_78BD_642F half xs (i + later) ≡ hash_at sizes.ignore_case 0xA076_1D64_78BD_642F half ys (j + later) =
-    hash_at-same sizes.ignore_case 0xA076_1D64_78BD_642F half xs (i + later) ys (j + later)
+pub hash_of_head-same : (rule : Bool) (head : ℕ) (xs : List ℕ) (i : ℕ) (ys : List ℕ) (j : ℕ) → AreSame rule head xs i ys j → hash_of_head rule head xs i ≡ hash_of_head rule head ys j
+hash_of_head-same rule head xs i ys j same =
+    let half = half_of head in
+    let later = head - half in
+    let front : hash_at rule 0xD6E8_FEB8_6659_FD93 half xs i ≡ hash_at rule 0xD6E8_FEB8_6659_FD93 half ys j =
+    hash_at-same rule 0xD6E8_FEB8_6659_FD93 half xs i ys j (λ k below. same k (omega arith)) in
+    let back : hash_at rule 0xA076_1D64_78BD_642F half xs (i + later) ≡ hash_at rule 0xA076_1D64_78BD_642F half ys (j + later) =
+    hash_at-same rule 0xA076_1D64_78BD_642F half xs (i + later) ys (j + later)
     (λ k below.
     let here : i + later + k ≡ i + (later + k) = omega arith in
     let there : j + (later + k) ≡ j + later + k = omega arith in
-    ap (λ n. caseless sizes.ignore_case (get_or xs n 0)) here ∙ same (later + k) (omega arith) ∙ ap (λ n. caseless sizes.ignore_case (get_or ys n 0)) there) in
-    ap (λ n. (n + hash_at sizes.ignore_case 0xA076_1D64_78BD_642F half xs (i + later)) % 2 ^ 64) front
-    ∙ ap (λ n. (hash_at sizes.ignore_case 0xD6E8_FEB8_6659_FD93 half ys j + n) % 2 ^ 64) back
+    ap (λ n. caseless rule (get_or xs n 0)) here ∙ same (later + k) (omega arith) ∙ ap (λ n. caseless rule (get_or ys n 0)) there) in
+    ap (λ n. (n + hash_at rule 0xA076_1D64_78BD_642F half xs (i + later)) % 2 ^ 64) front
+    ∙ ap (λ n. (hash_at rule 0xD6E8_FEB8_6659_FD93 half ys j + n) % 2 ^ 64) back
+
+pub head_hash-same : (sizes : Sizes) (xs : List ℕ) (i : ℕ) (ys : List ℕ) (j : ℕ) → AreSame sizes.ignore_case sizes.head xs i ys j → head_hash sizes xs i ≡ head_hash sizes ys j
+head_hash-same sizes xs i ys j same = hash_of_head-same sizes.ignore_case sizes.head xs i ys j same
 
 -- a copy of the bytes from a turn on
 module _ (marks : Marks) (bytes rest : List ℕ) (turn : ℕ) (some : 0 < marks.sizes.stride) (same : (k : ℕ) → get_or rest k 0 ≡ get_or bytes (turn * marks.sizes.stride + k) 0) where

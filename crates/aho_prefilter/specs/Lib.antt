@@ -14,5 +14,9 @@ pub mod Taken
 pub mod Packed
 -- what a strided search looks for, and where it stops
 pub mod Strided
+-- the heads of a few patterns
+pub mod Heads
+-- what a packed search with heads looks for, and where it stops
+pub mod PackedHeads
 -- for which patterns one is held
 pub mod Sizes

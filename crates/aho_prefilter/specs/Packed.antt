@@ -59,13 +59,17 @@ masks_with_place ignore_case groups masks word place =
 abbrev pub group_of : List ℕ → ℕ
 group_of word = 2 ^ (slice_index word 0 % 8)
 
+-- the search with one more word, which belongs to these groups
+abbrev pub packed_with_groups : Bool → ℕ → Packed → List ℕ → Packed
+packed_with_groups ignore_case groups packed word = record {
+  first = masks_with_place ignore_case groups packed.first word 0;
+  second = masks_with_place ignore_case groups packed.second word 1;
+  third = masks_with_place ignore_case groups packed.third word 2;
+}
+
 -- the search with one more word
 abbrev pub packed_with : Bool → Packed → List ℕ → Packed
-packed_with ignore_case packed word = record {
-  first = masks_with_place ignore_case (group_of word) packed.first word 0;
-  second = masks_with_place ignore_case (group_of word) packed.second word 1;
-  third = masks_with_place ignore_case (group_of word) packed.third word 2;
-}
+packed_with ignore_case packed word = packed_with_groups ignore_case (group_of word) packed word
 
 -- the search for no word, which stops nowhere
 abbrev pub packed_none : Packed

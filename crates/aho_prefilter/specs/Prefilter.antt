@@ -1,5 +1,5 @@
 -- What a prefilter is of, and which one is held for which patterns.
-use Rattle.std.specs.Prelude.{◌≡◌, ℕ, ◌+◌, ◌*◌, ◌<◌, Bool, true, false, not, ◌&&◌, ◌||◌, List, [], ◌∷◌, ◌++◌, length, slice_index, nat_eq, nat_lt, if◌then◌else◌, Option, Some, None}
+use Rattle.std.specs.Prelude.{◌≡◌, ℕ, ◌+◌, ◌*◌, ◌<◌, ◌≤◌, Bool, true, false, not, ◌&&◌, ◌||◌, List, [], ◌∷◌, ◌++◌, length, slice_index, nat_eq, nat_lt, if◌then◌else◌, Option, Some, None}
 use Rattle.std.specs.Char.{is_ascii, is_ascii_alphanumeric}
 use Rattle.std.specs.List.{Contains, list_any}
 use Rattle.std.specs.Option.{option_map, option_or}
@@ -8,11 +8,13 @@ use Rattle.aho_core.specs.Patterns.{Patterns, pattern_at}
 use Rattle.aho_core.specs.declared.search.MatchKind.{MatchKind}
 use Rattle.aho_prefilter.specs.FirstBytes.{first_bytes}
 use Rattle.aho_prefilter.specs.declared.prefilter.Searcher.{Searcher}
-use Rattle.aho_prefilter.specs.declared.prefilter.Searcher.TheVariants.{Memmem, Memchr, Memchr2, Memchr3, Packed, Strided}
+use Rattle.aho_prefilter.specs.declared.prefilter.Searcher.TheVariants.{Memmem, Memchr, Memchr2, Memchr3, Packed, PackedHeads, Strided}
 use Rattle.aho_prefilter.specs.Packed.{packed_of}
-use Rattle.aho_prefilter.specs.Sizes.{shape_of, sizes_for}
+use Rattle.aho_prefilter.specs.PackedHeads.{HaveSize, packed_heads_of}
+use Rattle.aho_prefilter.specs.Sizes.{few_heads_for, shape_of, sizes_for}
 use Rattle.aho_prefilter.specs.Strided.{HasMarksOf, AreStrideSizes, Marks, marks_of}
 use Rattle.aho_prefilter.specs.declared.packed.Packed.{Packed as Fingerprints}
+use Rattle.aho_prefilter.specs.declared.packed_heads.PackedHeads.{PackedHeads as FingerprintsAndHeads}
 
 -- the needle is the only pattern, which is not empty, and its bytes are compared as they are
 pub record IsOnlyPattern (p : Patterns) (needle : List ℕ) : Type 0 where
@@ -34,6 +36,14 @@ pub record AreFingerprintsOf (p : Patterns) (packed : Fingerprints) : Type 0 whe
   pub some : (k : ℕ) → k < length p.words → 0 < length (pattern_at p k)
   pub made : packed ≡ packed_of p.ignore_case p.words
 
+-- each pattern has a head, and the fingerprints and the heads are those of the patterns
+pub record AreHeadsOf (p : Patterns) (search : FingerprintsAndHeads) : Type 0 where
+  pub size : ℕ
+  pub some : 0 < size
+  pub short : size ≤ 16
+  pub long : HaveSize size p.words
+  pub made : search ≡ packed_heads_of p.ignore_case size p.words
+
 -- the case rule is that of the patterns, and the bits of each pattern are set
 pub record AreMarksOf (p : Patterns) (marks : Marks) : Type 0 where
   pub rule : marks.sizes.ignore_case ≡ p.ignore_case
@@ -47,6 +57,7 @@ IsPrefilterOf (Memchr x) p = AllBeginWithin p (x ∷ [])
 IsPrefilterOf (Memchr2 x y) p = AllBeginWithin p (x ∷ y ∷ [])
 IsPrefilterOf (Memchr3 x y z) p = AllBeginWithin p (x ∷ y ∷ z ∷ [])
 IsPrefilterOf (Packed packed) p = AreFingerprintsOf p packed
+IsPrefilterOf (PackedHeads search) p = AreHeadsOf p search
 IsPrefilterOf (Strided marks) p = AreMarksOf p marks
 
 -- the bytes of memory that it holds
@@ -56,6 +67,7 @@ bytes_held (Memchr x) = 0
 bytes_held (Memchr2 x y) = 0
 bytes_held (Memchr3 x y z) = 0
 bytes_held (Packed packed) = 0
+bytes_held (PackedHeads search) = 0
 bytes_held (Strided marks) = 8 * (length marks.grams + length marks.heads)
 
 -- the same where it may be that none is held
@@ -70,6 +82,7 @@ holds_memory (Memchr x) = false
 holds_memory (Memchr2 x y) = false
 holds_memory (Memchr3 x y z) = false
 holds_memory (Packed packed) = false
+holds_memory (PackedHeads search) = false
 holds_memory (Strided marks) = true
 
 -- the search for one to three bytes
@@ -125,6 +138,7 @@ stops_in_words (Memchr x) = is_word_byte x
 stops_in_words (Memchr2 x y) = is_word_byte x || is_word_byte y
 stops_in_words (Memchr3 x y z) = is_word_byte x || is_word_byte y || is_word_byte z
 stops_in_words (Packed packed) = false
+stops_in_words (PackedHeads search) = false
 stops_in_words (Strided marks) = false
 
 -- whether a packed search is better than what is held else
@@ -140,13 +154,23 @@ held_or_packed p = if gives_way (held_for p) then option_or (packed_for p) (held
 abbrev pub strided_for : Patterns → Option Searcher
 strided_for p = option_map (λ sizes. Strided (marks_of sizes p.words)) (sizes_for (shape_of p.ignore_case p.words))
 
--- whether a strided search is better than a search
+-- the packed search with heads, if there is one for patterns of their shape
+abbrev pub packed_heads_for : Patterns → Option Searcher
+packed_heads_for p =
+    option_map (λ size. PackedHeads (packed_heads_of p.ignore_case size p.words)) (few_heads_for (shape_of p.ignore_case p.words))
+
+-- for a few patterns it is held, and else the strided search
+abbrev pub heads_or_strided : Patterns → Option Searcher
+heads_or_strided p = option_or (packed_heads_for p) (strided_for p)
+
+-- whether a search that looks at heads is better than a search
 abbrev pub is_passed_by : Searcher → Bool
 is_passed_by (Memmem needle) = false
 is_passed_by (Memchr x) = stops_in_words (Memchr x)
 is_passed_by (Memchr2 x y) = stops_in_words (Memchr2 x y)
 is_passed_by (Memchr3 x y z) = stops_in_words (Memchr3 x y z)
 is_passed_by (Packed packed) = true
+is_passed_by (PackedHeads search) = false
 is_passed_by (Strided marks) = false
 
 -- the same where it may be that none is held
@@ -157,7 +181,7 @@ yields (Some searcher) = is_passed_by searcher
 -- which search is held where each of them may be
 abbrev pub quickest_for : Patterns → Option Searcher
 quickest_for p =
-    if yields (held_or_packed p) then option_or (strided_for p) (held_or_packed p) else held_or_packed p
+    if yields (held_or_packed p) then option_or (heads_or_strided p) (held_or_packed p) else held_or_packed p
 
 -- the patterns with one more behind them
 abbrev pub with_word : Patterns → List ℕ → Patterns

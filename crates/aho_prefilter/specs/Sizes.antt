@@ -27,7 +27,17 @@ shape_of ignore_case words = record {
   ignore_case = ignore_case;
 }
 
--- whether there are too few patterns, or they are too short
+-- whether there are a few patterns, but enough that three bytes of them stand at many places of a text, and long enough
+abbrev pub is_few : Shape → Bool
+is_few s =
+    nat_le 8 s.count
+    && (nat_le 2 s.head && (nat_le s.count 32 || (nat_le s.count 100 && (nat_le 3 s.head && nat_le s.head 5))))
+
+-- how many bytes a head has, if a packed search with heads is held for patterns of this shape
+abbrev pub few_heads_for : Shape → Option ℕ
+few_heads_for s = if is_few s then Some s.head else None
+
+-- whether there are too few patterns for a strided search, or they are too short
 abbrev pub is_small : Shape → Bool
 is_small s =
     nat_lt s.head 5 || (nat_le s.count 32 || (nat_lt s.head 6 && (nat_le s.count 100 || nat_lt 8192 s.count)))

@@ -39,14 +39,18 @@ abbrev pub gram_hash : Sizes → List ℕ → ℕ → ℕ
 gram_hash sizes bytes at = hash_at sizes.ignore_case 0x9E37_79B9_7F4A_7C15 sizes.gram bytes at
 
 -- how many bytes of a head one hash is of: there is one of its first bytes, and one of its last
-abbrev pub half_of : Sizes → ℕ
-half_of sizes = min sizes.head 8
+abbrev pub half_of : ℕ → ℕ
+half_of head = min head 8
+
+-- the hash of a head of so many bytes at a place
+abbrev pub hash_of_head : Bool → ℕ → List ℕ → ℕ → ℕ
+hash_of_head ignore_case head bytes at =
+    (hash_at ignore_case 0xD6E8_FEB8_6659_FD93 (half_of head) bytes at
+    + hash_at ignore_case 0xA076_1D64_78BD_642F (half_of head) bytes (at + (head - half_of head))) % 2 ^ 64
 
 -- the hash of the head at a place
 abbrev pub head_hash : Sizes → List ℕ → ℕ → ℕ
-head_hash sizes bytes at =
-    (hash_at sizes.ignore_case 0xD6E8_FEB8_6659_FD93 (half_of sizes) bytes at
-    + hash_at sizes.ignore_case 0xA076_1D64_78BD_642F (half_of sizes) bytes (at + (sizes.head - half_of sizes))) % 2 ^ 64
+head_hash sizes bytes at = hash_of_head sizes.ignore_case sizes.head bytes at
 
 -- the place of a hash's bit among those of so many words
 abbrev pub place_in : ℕ → ℕ → ℕ

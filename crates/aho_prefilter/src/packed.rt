@@ -19,13 +19,13 @@
 ghost use Rattle.std.specs.Prelude.{◌≡◌, ◌≢◌, ◌↔◌, ℕ, ◌+◌, ◌-◌, ◌*◌, ◌/◌, ◌%◌, ◌<◌, ◌≤◌, length, slice_index, bit_and};
 ghost use Rattle.std.specs.Int.{bit_at};
 ghost use Rattle.memchr.specs.Find.{IsFirst};
-ghost use Rattle.aho_prefilter.specs.Packed.{HasLanes, IsFirstMet, MeetsAt, groups_at, groups_of, masks_with, masks_with_all, masks_with_cases, masks_with_place, no_masks, packed_with};
+ghost use Rattle.aho_prefilter.specs.Packed.{HasLanes, IsFirstMet, MeetsAt, groups_at, groups_of, masks_with, masks_with_all, masks_with_cases, masks_with_place, no_masks, packed_with, packed_with_groups};
 
 use aho_core::letters::opposite_ascii_case;
 use std::simd::prelude::*;
 
 /// How many places are looked at at once.
-const LANES: usize = 16;
+pub(crate) const LANES: usize = 16;
 
 /// The masks of one byte of the fingerprints: for each half of a byte the groups that it meets, a bit for each.
 #[derive(Clone, Copy)]
@@ -44,7 +44,7 @@ pub struct Packed {
 
 impl Masks {
     /// The masks that no byte meets.
-    fn new() -> Masks
+    pub(crate) fn new() -> Masks
         ensures none { result ≡ no_masks }
     {
         Masks {
@@ -71,7 +71,7 @@ impl Masks {
     }
 
     /// Lets what stands at this place of a pattern meet these groups: behind its end every byte.
-    fn add_place(&mut self, ignore_case: bool, groups: u8, pattern: &[u8], place: usize)
+    pub(crate) fn add_place(&mut self, ignore_case: bool, groups: u8, pattern: &[u8], place: usize)
         ensures added { self.new
             ≡ masks_with_place ignore_case groups self.old pattern.now place }
     {
@@ -94,7 +94,7 @@ impl Masks {
 
     /// The groups that each of these bytes meets.
     #[inline(always)]
-    fn groups(&self, bytes: u8x16) -> u8x16
+    pub(crate) fn groups(&self, bytes: u8x16) -> u8x16
         ensures groups { HasLanes result (λ k. groups_of self.now (slice_index bytes k)) }
     {
         by_low_half(&self.low, bytes) & by_high_half(&self.high, bytes)
@@ -119,7 +119,7 @@ fn by_high_half(table: &[u8; 16], bytes: u8x16) -> u8x16
 
 /// The bytes from a place on.
 #[inline(always)]
-fn load(bytes: &[u8], at: usize) -> u8x16
+pub(crate) fn load(bytes: &[u8], at: usize) -> u8x16
     requires within { at + 16 ≤ length bytes.now }
     ensures loaded { HasLanes result (λ k. slice_index bytes.now (at + k)) }
 {
@@ -128,7 +128,7 @@ fn load(bytes: &[u8], at: usize) -> u8x16
 
 /// The lanes that meet some group, a bit for each.
 #[inline(always)]
-fn lanes_met(groups: u8x16) -> u64
+pub(crate) fn lanes_met(groups: u8x16) -> u64
     ensures met { (k : ℕ) → (bit_at result k ≡ 1) ↔ (slice_index groups k ≢ 0) }
 {
     groups.simd_ne(u8x16::splat(0)).to_bitmask()
@@ -151,7 +151,13 @@ impl Packed {
         requires some { 0 < length pattern.now }
         ensures added { self.new ≡ packed_with ignore_case self.old pattern.now }
     {
-        let groups = 1 << (pattern[0] % 8);
+        self.add_to(ignore_case, 1 << (pattern[0] % 8), pattern);
+    }
+
+    /// Adds a pattern to these groups.
+    pub(crate) fn add_to(&mut self, ignore_case: bool, groups: u8, pattern: &[u8])
+        ensures added { self.new ≡ packed_with_groups ignore_case groups self.old pattern.now }
+    {
         self.first.add_place(ignore_case, groups, pattern, 0);
         self.second.add_place(ignore_case, groups, pattern, 1);
         self.third.add_place(ignore_case, groups, pattern, 2);
@@ -159,7 +165,7 @@ impl Packed {
 
     /// The groups that each of sixteen places meets.
     #[inline(always)]
-    fn groups(&self, bytes: &[u8], at: usize) -> u8x16
+    pub(crate) fn groups(&self, bytes: &[u8], at: usize) -> u8x16
         requires within { at + 18 ≤ length bytes.now }
         ensures groups { HasLanes result (λ k. groups_at self.now bytes.now (at + k)) }
     {

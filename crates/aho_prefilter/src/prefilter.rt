@@ -13,6 +13,7 @@ mod packed_builder;
 mod quickest;
 
 use crate::packed::Packed;
+use crate::packed_heads::PackedHeads;
 use crate::strided::Strided;
 use aho_core::search::{Match, PatternID, Span};
 pub use builder::PrefilterBuilder;
@@ -60,6 +61,8 @@ enum Searcher {
     Memchr3(u8, u8, u8),
     /// For the fingerprints of the patterns.
     Packed(Packed),
+    /// For the fingerprints of the patterns, and for their heads.
+    PackedHeads(PackedHeads),
     /// For grams of the patterns, each of which is looked up for several places.
     Strided(Strided),
 }
@@ -76,6 +79,7 @@ impl Searcher {
             Searcher::Memchr2(x, y) => memchr2(*x, *y, part),
             Searcher::Memchr3(x, y, z) => memchr3(*x, *y, *z, part),
             Searcher::Packed(packed) => packed.find(part),
+            Searcher::PackedHeads(packed) => packed.find(part),
             Searcher::Strided(strided) => strided.find(part),
         }
     }
@@ -132,7 +136,7 @@ impl Prefilter {
         match &self.searcher {
             Searcher::Memmem(needle) => needle.len(),
             Searcher::Memchr(_) | Searcher::Memchr2(_, _) | Searcher::Memchr3(_, _, _) => 0,
-            Searcher::Packed(_) => 0,
+            Searcher::Packed(_) | Searcher::PackedHeads(_) => 0,
             Searcher::Strided(strided) => strided.memory_usage(),
         }
     }
@@ -152,6 +156,7 @@ impl Prefilter {
             Searcher::Memchr2(x, y) => Searcher::Memchr2(*x, *y),
             Searcher::Memchr3(x, y, z) => Searcher::Memchr3(*x, *y, *z),
             Searcher::Packed(packed) => Searcher::Packed(*packed),
+            Searcher::PackedHeads(packed) => Searcher::PackedHeads(*packed),
             Searcher::Strided(strided) => Searcher::Strided(strided.try_clone()?),
         };
         Ok(Prefilter { searcher })

@@ -16,7 +16,7 @@
 ghost use Rattle.std.specs.Prelude.{◌≡◌, ◌↔◌, ℕ, ◌+◌, ◌-◌, ◌*◌, ◌<◌, ◌≤◌, ◌^◌, Bool, length, IfOk, IsTrue};
 ghost use Rattle.memchr.specs.Find.{IsFirst};
 ghost use Rattle.aho_core.specs.Replacement.{pieces_of};
-ghost use Rattle.aho_prefilter.specs.Strided.{HasHead, HasMark, HaveHeads, IsFirstMarked, IsMarkedAt, AreStrideSizes, IsTable, MayStartAt, bits_kept, empty_table, end_of, factor_for, gram_factor, head_hash, marks_of, marks_with, number_of_bytes, place_in, with_grams, with_mark};
+ghost use Rattle.aho_prefilter.specs.Strided.{HasHead, HasMark, HaveHeads, IsFirstMarked, IsMarkedAt, AreStrideSizes, IsTable, MayStartAt, bits_kept, empty_table, end_of, factor_for, gram_factor, hash_of_head, head_hash, marks_of, marks_with, number_of_bytes, place_in, with_grams, with_mark};
 
 pub(crate) mod sizes;
 
@@ -39,7 +39,7 @@ const CASELESS: u64 = 0xDFDF_DFDF_DFDF_DFDF;
 const MOST: usize = 1 << 16;
 
 /// How many places have to stand behind a place, for its head to be read without a copy.
-const BEHIND: usize = 15;
+pub(crate) const BEHIND: usize = 15;
 
 /// A search for places where the bits of some pattern are set.
 #[derive(Drop)]
@@ -110,9 +110,25 @@ fn place_in(words: usize, hash: u64) -> usize
     ((hash >> 32) * (64 * words as u64) >> 32) as usize
 }
 
+/// The hash of a head of so many bytes at a place.
+#[inline(always)]
+pub(crate) fn hash_of_head(ignore_case: bool, head: usize, bytes: &[u8], at: usize) -> u64
+    requires some { 0 < head }
+    requires short { head ≤ 16 }
+    requires within { at + 16 ≤ length bytes.now }
+    ensures hash { result ≡ hash_of_head ignore_case head bytes.now at }
+{
+    let bits = bits_kept(ignore_case);
+    let count = head.min(8);
+    let first = word_at(bytes, at, bits).wrapping_mul(factor_for(LOW, count));
+    let later = at + (head - count);
+    let last = word_at(bytes, later, bits).wrapping_mul(factor_for(HIGH, count));
+    first.wrapping_add(last)
+}
+
 /// Whether the bit of a hash is set.
 #[inline(always)]
-fn is_marked(table: &[u64], hash: u64) -> bool
+pub(crate) fn is_marked(table: &[u64], hash: u64) -> bool
     requires table { IsTable table.now }
     ensures marked { IsTrue result ↔ HasMark table.now hash }
 {
@@ -121,7 +137,7 @@ fn is_marked(table: &[u64], hash: u64) -> bool
 }
 
 /// Sets the bit of a hash.
-fn mark(table: &mut [u64], hash: u64)
+pub(crate) fn mark(table: &mut [u64], hash: u64)
     requires table { IsTable table.old }
     ensures marked { table.new ≡ with_mark table.old hash }
 {
@@ -158,12 +174,7 @@ impl Sizes {
         requires within { at + 16 ≤ length bytes.now }
         ensures hash { result ≡ head_hash self bytes.now at }
     {
-        let bits = bits_kept(self.ignore_case);
-        let count = self.head.min(8);
-        let first = word_at(bytes, at, bits).wrapping_mul(factor_for(LOW, count));
-        let later = at + (self.head - count);
-        let last = word_at(bytes, later, bits).wrapping_mul(factor_for(HIGH, count));
-        first.wrapping_add(last)
+        hash_of_head(self.ignore_case, self.head, bytes, at)
     }
 }
 

@@ -99,7 +99,10 @@ pub(crate) fn stops_in_words(searcher: &Searcher) -> bool
     ensures stops { result ≡ stops_in_words searcher.now }
 {
     match searcher {
-        Searcher::Memmem(_) | Searcher::Packed(_) | Searcher::Strided(_) => false,
+        Searcher::Memmem(_)
+        | Searcher::Packed(_)
+        | Searcher::PackedHeads(_)
+        | Searcher::Strided(_) => false,
         Searcher::Memchr(x) => is_word_byte(*x),
         Searcher::Memchr2(x, y) => is_word_byte(*x) || is_word_byte(*y),
         Searcher::Memchr3(x, y, z) => is_word_byte(*x) || is_word_byte(*y) || is_word_byte(*z),

@@ -3,8 +3,10 @@
 ghost use Rattle.std.specs.Prelude.{◌≡◌, ◌<◌, false, length, IfOk, IfErr, IfSome};
 ghost use Rattle.aho_core.specs.Replacement.{pieces_of};
 ghost use Rattle.aho_core.specs.declared.search.MatchKind.{MatchKind};
-ghost use Rattle.aho_prefilter.specs.Prefilter.{IsPrefilterOf, held_or_packed, is_passed_by, patterns_from, quickest_for, yields};
+ghost use Rattle.aho_prefilter.specs.Sizes.{shape_of};
+ghost use Rattle.aho_prefilter.specs.Prefilter.{IsPrefilterOf, held_or_packed, is_passed_by, packed_heads_for, patterns_from, quickest_for, yields};
 
+use crate::packed_heads::PackedHeads;
 use crate::prefilter::packed_builder::stops_in_words;
 use crate::prefilter::{PackedBuilder, Prefilter, Searcher};
 use crate::strided::Strided;
@@ -15,9 +17,10 @@ impl Prefilter {
     /// The prefilter for these patterns where it may be of each kind, or none. `ignore_case` makes an ASCII letter the same in
     /// both cases.
     ///
-    /// It is a strided search, if there are more than thirty-two patterns, and each has five bytes or more (six, for up to a
-    /// hundred and for more than 8,192 patterns). But it is the one of a `PackedBuilder` where that one searches for first bytes
-    /// of which words are not made, or where too many grams of a few letters would be marked.
+    /// It is a packed search with heads for eight to thirty-two patterns of two bytes or more each, and for up to a hundred where
+    /// the shortest has three to five. It is a strided search, if there are more patterns, and each has five bytes or more (six,
+    /// for up to a hundred and for more than 8,192 patterns). But it is the one of a `PackedBuilder` where that one searches for
+    /// first bytes of which words are not made, and for fewer patterns, or where too many grams of a few letters would be marked.
     ///
     /// # Errors
     ///
@@ -37,13 +40,29 @@ impl Prefilter {
         if !yields(&other) {
             return Ok(other);
         }
-        let Some(sizes) = Shape::of(ignore_case, patterns).sizes() else {
+        let shape = Shape::of(ignore_case, patterns);
+        if let Some(searcher) = packed_heads_for(shape, ignore_case, patterns) {
+            return Ok(Some(Prefilter { searcher }));
+        }
+        let Some(sizes) = shape.sizes() else {
             return Ok(other);
         };
         let strided = Strided::new(alloc, sizes, patterns)?;
         Ok(Some(Prefilter {
             searcher: Searcher::Strided(strided),
         }))
+    }
+}
+
+/// The packed search with heads for these patterns, if there are a few.
+fn packed_heads_for(shape: Shape, ignore_case: bool, patterns: &[&[u8]]) -> Option<Searcher>
+    requires shape { shape ≡ shape_of ignore_case (pieces_of patterns.now) }
+    ensures held { (kind : MatchKind)
+        → result ≡ packed_heads_for (patterns_from kind ignore_case (pieces_of patterns.now)) }
+{
+    match shape.few_heads() {
+        Some(size) => Some(Searcher::PackedHeads(PackedHeads::new(ignore_case, size, patterns))),
+        None => None,
     }
 }
 

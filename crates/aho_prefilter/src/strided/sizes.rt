@@ -3,7 +3,7 @@
 ghost use Rattle.std.specs.Prelude.{◌≡◌, ℕ, ◌<◌, ◌≤◌, false, slice_index, if◌then◌else◌};
 ghost use Rattle.aho_core.specs.Replacement.{pieces_of};
 ghost use Rattle.aho_prefilter.specs.FirstBytes.{has_byte};
-ghost use Rattle.aho_prefilter.specs.Sizes.{gram_for, least_head, is_crowded, is_small, shape_of, sizes_for, stride_for, used_below, wanted_gram};
+ghost use Rattle.aho_prefilter.specs.Sizes.{gram_for, least_head, is_crowded, is_small, shape_of, few_heads_for, is_few, sizes_for, stride_for, used_below, wanted_gram};
 
 /// The sizes of a strided search.
 #[derive(Clone, Copy)]
@@ -42,6 +42,22 @@ impl Shape {
             letters: letters_of(patterns),
             ignore_case,
         }
+    }
+
+    /// How many bytes a head has, if a packed search with heads is held for patterns of this shape.
+    pub(crate) fn few_heads(self) -> Option<usize>
+        ensures heads { result ≡ few_heads_for self }
+    {
+        if self.is_few() { Some(self.head) } else { None }
+    }
+
+    /// Whether there are a few patterns, but enough that three bytes of them stand at many places of a text, and long enough.
+    fn is_few(self) -> bool
+        ensures few { result ≡ is_few self }
+    {
+        self.count >= 8
+            && self.head >= 2
+            && (self.count <= 32 || self.count <= 100 && self.head >= 3 && self.head <= 5)
     }
 
     /// The sizes for patterns of this shape, if a strided search is held for them.

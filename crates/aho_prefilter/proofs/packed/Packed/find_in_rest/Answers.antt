@@ -1,24 +1,16 @@
-use Rattle.std.proofs.Common.{bit_and, ◌≡◌, ℕ, ◌+◌, ◌-◌, ◌<◌, ◌≤◌, List, get_or, length, sym, ap, ◌∙◌, arith}
+use Rattle.std.proofs.Common.{◌≡◌, ℕ, ◌+◌, ◌-◌, ◌<◌, ◌≤◌, List, get_or, length, sym, ap, ◌∙◌, arith}
 use Rattle.memchr.specs.Find.{NoneBefore, Nowhere}
-use Rattle.aho_prefilter.specs.Packed.{MeetsAt, groups_at, groups_of}
+use Rattle.aho_prefilter.specs.Packed.{MeetsAt, groups_at}
 use Rattle.aho_prefilter.specs.declared.packed.Packed.{Packed}
+use Rattle.aho_prefilter.proofs.Copied.{groups_at-copied}
 use Rattle.aho_prefilter.proofs.packed.Packed.find_in_rest.Goals as goal
 
 module _ (packed : Packed) (bytes rest : List ℕ) (from : ℕ) (same : (k : ℕ) → get_or rest k 0 ≡ get_or bytes (from + k) 0) where
-  -- a place meets what it meets among the rest
-  same_groups : (k : ℕ) → groups_at packed rest k ≡ groups_at packed bytes (from + k)
-  same_groups k =
-      let second : get_or rest (k + 1) 0 ≡ get_or bytes (from + k + 1) 0 = same (k + 1) ∙ ap (λ (i : ℕ). get_or bytes i 0) (omega arith) in
-      let third : get_or rest (k + 2) 0 ≡ get_or bytes (from + k + 2) 0 = same (k + 2) ∙ ap (λ (i : ℕ). get_or bytes i 0) (omega arith) in
-      ap (λ (x : ℕ). bit_and (bit_and (groups_of packed.first x) (groups_of packed.second (get_or rest (k + 1) 0))) (groups_of packed.third (get_or rest (k + 2) 0))) (same k)
-      ∙ ap (λ (x : ℕ). bit_and (bit_and (groups_of packed.first (get_or bytes (from + k) 0)) (groups_of packed.second x)) (groups_of packed.third (get_or rest (k + 2) 0))) second
-      ∙ ap (λ (x : ℕ). bit_and (bit_and (groups_of packed.first (get_or bytes (from + k) 0)) (groups_of packed.second (get_or bytes (from + k + 1) 0))) (groups_of packed.third x)) third
-
   -- so does one among the bytes
   of_rest : (k : ℕ) → from ≤ k → MeetsAt packed bytes k → MeetsAt packed rest (k - from)
   of_rest k low meets none =
       let e : from + (k - from) ≡ k = omega arith in
-      meets (sym (ap (groups_at packed bytes) e) ∙ sym (same_groups (k - from)) ∙ none)
+      meets (sym (ap (groups_at packed bytes) e) ∙ sym (groups_at-copied packed bytes rest from same (k - from)) ∙ none)
 
   first_of : (at n : ℕ) → from + at < n → NoneBefore (MeetsAt packed rest) 0 32 at × MeetsAt packed rest at → NoneBefore (MeetsAt packed bytes) from n (from + at) × MeetsAt packed bytes (from + at)
   first_of at n below found = (
@@ -27,7 +19,7 @@ module _ (packed : Packed) (bytes rest : List ℕ) (from : ℕ) (same : (k : ℕ
       high = below;
       before = λ k low high meets. found.0.before (k - from) (omega arith) (omega arith) (of_rest k low meets);
     },
-    λ none. found.1 (same_groups at ∙ none),
+    λ none. found.1 (groups_at-copied packed bytes rest from same at ∙ none),
   )
 
   none_of : (at n : ℕ) → n ≤ from + at → Nowhere (MeetsAt packed rest) 0 at → Nowhere (MeetsAt packed bytes) from n

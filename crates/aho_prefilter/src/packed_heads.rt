@@ -1,0 +1,239 @@
+//! The packed search with heads: for places whose first four bytes meet the fingerprints of some group of patterns, and whose
+//! head is the one of some pattern.
+//!
+//! # The masks
+//!
+//! They are those of a packed search, for one byte more. The groups are eight runs of the patterns in the order of their first
+//! four bytes. So eight patterns have a group each, and what else is in a group begins alike.
+//!
+//! # The search
+//!
+//! Four bytes are looked up for each of sixteen places at once. Where some of these places meet a group, each of them is looked
+//! at once more, by its head: the first bytes of a pattern, as many as the shortest one has, and sixteen at most. A hash of them
+//! has its bit set for each pattern. A place that is found may still start no pattern, since different bytes may have the same
+//! bit. The last places, behind which too few bytes stand, are copied in front of zeros, so nothing is read past the end.
+
+ghost use Rattle.std.specs.Prelude.{◌≡◌, ℕ, ◌+◌, ◌-◌, ◌*◌, ◌<◌, ◌≤◌, length, slice_index};
+ghost use Rattle.std.specs.Int.{bit_at};
+ghost use Rattle.memchr.specs.Find.{IsFirst};
+ghost use Rattle.aho_core.specs.Replacement.{pieces_of};
+ghost use Rattle.aho_prefilter.specs.Packed.{HasLanes};
+ghost use Rattle.aho_prefilter.specs.PackedHeads.{AreBitsOf, HaveSize, IsFirstHeaded, IsNextBlock, MayStartAt, MeetsHeadAt, TellsHeadAt, count_before, four_groups_at, group_among, order_of, packed_heads_of, packed_heads_with};
+ghost use Rattle.aho_prefilter.specs.Strided.{caseless};
+
+use crate::heads::Heads;
+use crate::packed::{LANES, Masks, Packed, lanes_met, load, padded};
+use crate::strided::BEHIND;
+use std::simd::prelude::*;
+
+/// A search for places that meet the fingerprints of four bytes and the heads of patterns.
+#[derive(Clone, Copy)]
+pub(crate) struct PackedHeads {
+    /// The masks of the first three bytes.
+    packed: Packed,
+    fourth: Masks,
+    heads: Heads,
+}
+
+/// A byte by which patterns are ordered: under the case rule without the bit in which the two cases of a letter differ.
+fn caseless(ignore_case: bool, byte: u8) -> u8
+    ensures caseless { result ≡ caseless ignore_case byte }
+{
+    if ignore_case { byte & 0xDF } else { byte }
+}
+
+/// The byte of a pattern at a place, and behind its end a zero.
+fn byte_at(pattern: &[u8], place: usize) -> u8
+    ensures byte { result ≡ slice_index pattern.now place }
+{
+    match pattern.get(place) {
+        Some(byte) => *byte,
+        None => 0,
+    }
+}
+
+/// The first four bytes of a pattern, as a number: patterns are ordered by it.
+fn order_of(ignore_case: bool, pattern: &[u8]) -> u32
+    ensures order { result ≡ order_of ignore_case pattern.now }
+{
+    u32::from_be_bytes([
+        caseless(ignore_case, byte_at(pattern, 0)),
+        caseless(ignore_case, byte_at(pattern, 1)),
+        caseless(ignore_case, byte_at(pattern, 2)),
+        caseless(ignore_case, byte_at(pattern, 3)),
+    ])
+}
+
+/// How many of these patterns come before a pattern.
+fn count_before(ignore_case: bool, patterns: &[&[u8]], pattern: &[u8]) -> usize
+    ensures count { result ≡ count_before ignore_case (pieces_of patterns.now) pattern.now }
+    ensures few { result ≤ length patterns.now }
+{
+    let own = order_of(ignore_case, pattern);
+    let mut count = 0;
+    for other in patterns {
+        if order_of(ignore_case, other) < own {
+            count += 1;
+        }
+    }
+    count
+}
+
+/// The group of a pattern among all patterns, as a bit: they are eight runs of the patterns in order.
+fn group_among(ignore_case: bool, patterns: &[&[u8]], pattern: &[u8]) -> u8
+    requires some { 0 < length patterns.now }
+    requires few { length patterns.now ≤ 100 }
+    ensures group { result ≡ group_among ignore_case (pieces_of patterns.now) pattern.now }
+{
+    let before = count_before(ignore_case, patterns, pattern);
+    1 << (before * 8 / patterns.len()).min(7) as u32
+}
+
+/// A block of sixteen places, some of which meet a group.
+#[derive(Clone, Copy)]
+struct Block {
+    number: usize,
+    /// A bit for each place that does.
+    met: u64,
+}
+
+impl PackedHeads {
+    /// The search for these patterns, whose heads have so many bytes.
+    pub(crate) fn new(ignore_case: bool, size: usize, patterns: &[&[u8]]) -> PackedHeads
+        requires some { 0 < size }
+        requires short { size ≤ 16 }
+        requires few { length patterns.now ≤ 100 }
+        requires long { HaveSize size (pieces_of patterns.now) }
+        ensures made { result ≡ packed_heads_of ignore_case size (pieces_of patterns.now) }
+    {
+        let mut made = PackedHeads {
+            packed: Packed::new(),
+            fourth: Masks::new(),
+            heads: Heads::new(size, ignore_case),
+        };
+        for pattern in patterns {
+            let group = group_among(ignore_case, patterns, pattern);
+            made.add(ignore_case, group, pattern);
+        }
+        made
+    }
+
+    /// Adds a pattern to a group.
+    fn add(&mut self, ignore_case: bool, group: u8, pattern: &[u8])
+        requires long { self.old.heads.size ≤ length pattern.now }
+        ensures added { self.new ≡ packed_heads_with ignore_case group self.old pattern.now }
+    {
+        self.packed.add_to(ignore_case, group, pattern);
+        self.fourth.add_place(ignore_case, group, pattern, 3);
+        self.heads.add(pattern);
+    }
+
+    /// The groups that each of sixteen places meets.
+    #[inline(always)]
+    fn groups(&self, bytes: &[u8], at: usize) -> u8x16
+        requires within { at + 19 ≤ length bytes.now }
+        ensures groups { HasLanes result (λ k. four_groups_at self.now bytes.now (at + k)) }
+    {
+        self.packed.groups(bytes, at) & self.fourth.groups(load(bytes, at + 3))
+    }
+
+    /// The first place of these bytes where a pattern may start. It takes no memory.
+    #[inline(never)]
+    pub(crate) fn find(&self, bytes: &[u8]) -> Option<usize>
+        ensures first { IsFirstHeaded self.now bytes.now result }
+    {
+        let size = self.heads.size();
+        let blocks = bytes.len().saturating_sub(BEHIND) / LANES;
+        match self.find_in_blocks(bytes, blocks) {
+            Some(place) => Some(place),
+            None => self.find_in_rest(bytes, blocks * LANES, size),
+        }
+    }
+
+    /// The same of so many blocks of sixteen places.
+    #[inline(always)]
+    fn find_in_blocks(&self, bytes: &[u8], blocks: usize) -> Option<usize>
+        requires within { blocks * 16 ≤ length bytes.now - 15 }
+        ensures first { IsFirst (MeetsHeadAt self.now bytes.now) 0 (blocks * 16) result }
+    {
+        let mut from = 0;
+        for _ in 0..blocks {
+            let Some(block) = self.next_block(bytes, from, blocks) else {
+                return None;
+            };
+            let at = block.number * LANES;
+            if let Some(place) = find_head(&self.heads, bytes, at, block.met) {
+                return Some(place);
+            }
+            from = block.number + 1;
+        }
+        None
+    }
+
+    /// The first block, from this one on, of which some places meet a group. It is a function of its own, so that the masks stay
+    /// in registers while it looks.
+    #[inline(never)]
+    fn next_block(&self, bytes: &[u8], from: usize, blocks: usize) -> Option<Block>
+        requires within { blocks * 16 ≤ length bytes.now - 15 }
+        ensures next { IsNextBlock self.now bytes.now from blocks result }
+    {
+        for number in from..blocks {
+            let met = self.places_met(bytes, number * LANES);
+            if met != 0 {
+                return Some(Block { number, met });
+            }
+        }
+        None
+    }
+
+    /// Which of sixteen places meet some group, a bit for each.
+    #[inline(always)]
+    fn places_met(&self, bytes: &[u8], at: usize) -> u64
+        requires within { at + 19 ≤ length bytes.now }
+        ensures met { AreBitsOf self.now bytes.now at result }
+    {
+        lanes_met(self.groups(bytes, at))
+    }
+
+    /// The same of the last places.
+    #[inline(never)]
+    fn find_in_rest(&self, bytes: &[u8], from: usize, size: usize) -> Option<usize>
+        requires within { from ≤ length bytes.now }
+        requires few { length bytes.now < from + 31 }
+        requires size { size ≡ self.now.heads.size }
+        requires some { 0 < size }
+        requires short { size ≤ 16 }
+        ensures first { IsFirst (MayStartAt self.now bytes.now) from (length bytes.now) result }
+    {
+        let rest = padded(bytes, from);
+        let left = bytes.len() - from;
+        match self.find_in_blocks(&rest, 2) {
+            Some(place) if place + size <= left => Some(from + place),
+            _ => None,
+        }
+    }
+}
+
+/// The first of sixteen places where the bit of its head is set, of those that these bits tell.
+#[inline(never)]
+fn find_head(heads: &Heads, bytes: &[u8], at: usize, met: u64) -> Option<usize>
+    requires within { at + 31 ≤ length bytes.now }
+    requires few { (k : ℕ) → bit_at met k ≡ 1 → k < 16 }
+    ensures first { IsFirst (TellsHeadAt heads.now bytes.now at met) at (at + 16) result }
+{
+    let mut left = met;
+    let mut place = at;
+    for _ in 0..LANES {
+        if left == 0 {
+            return None;
+        }
+        let skipped = left.trailing_zeros();
+        place += skipped as usize;
+        if heads.stands_at(bytes, place) {
+            return Some(place);
+        }
+        left = left >> skipped >> 1;
+        place += 1;
+    }
+    None
+}
