@@ -14,6 +14,7 @@ use Rattle.aho_cover.specs.declared.progress.CoverProgress.{CoverProgress}
 use Rattle.aho_cover.specs.Counting.{no_output}
 use Rattle.aho_cover.specs.Hand.{HasItsFirst, held_runs, room_in}
 use Rattle.aho_cover.specs.Covers.{IsUnbegunCover}
+use Rattle.aho_cover.specs.Pieces.{PieceRule}
 use Rattle.aho_cover.specs.Walks.{StandsIn}
 use Rattle.aho_cover.specs.Progress.{HasCovered, IsSoundCover, KeepsRoom, unbegun_cover}
 
@@ -33,6 +34,10 @@ begun-sound buffer hand sid some empty none whole room = record {
   since_walked = omega arith;
   copied_walked = omega arith;
   in_order = subst (λ (runs : List Occurrence). AreInOrder runs 0) (sym none) none-ordered;
+  fed_walked = omega arith;
+  fed_first = λ some. absurd (omega (arith, some));
+  fed_within = none-there (held_runs hand) (λ x. 0 ≤ x.end) none;
+  fed_held = none-there (held_runs hand) (λ x. 0 ≤ max 0 x.start + length buffer.bytes) none;
   behind = none-there (held_runs hand) (λ x. 0 ≤ x.start) none;
   kept = λ place low bare. omega arith;
   whole = whole;
@@ -51,9 +56,9 @@ begun-held G a p haystack sid held = record {
   is_held = subst (λ (w : List ℕ). G.held a p No w sid) (sym (no_part haystack 0)) held;
 }
 
-pub begun-covered : (p : Patterns) (pieces : List (List ℕ)) (haystack : List ℕ) (buffer : Buffered) (hand : Hand) (sid : ℕ) → buffer.bytes ≡ [] → held_runs hand ≡ [] → buffer.least ≡ max 1 (longest (map length p.words))
-    → HasCovered pieces (unbegun_cover buffer hand sid) 0 p haystack no_output
-begun-covered p pieces haystack buffer hand sid empty none least = record {
+pub begun-covered : (p : Patterns) (rule : PieceRule) (haystack : List ℕ) (buffer : Buffered) (hand : Hand) (sid : ℕ) → buffer.bytes ≡ [] → held_runs hand ≡ [] → buffer.least ≡ max 1 (longest (map length p.words))
+    → HasCovered rule (unbegun_cover buffer hand sid) 0 p haystack no_output
+begun-covered p rule haystack buffer hand sid empty none least = record {
   given = record { within = omega arith; last = ([], no_part haystack 0 ∙ sym empty) };
   walked_within = omega arith;
   far = least;
@@ -62,6 +67,7 @@ begun-covered p pieces haystack buffer hand sid empty none least = record {
   settled = λ x there. absurd there;
   before = λ x there. absurd there;
   clear = λ m occurs later. omega arith;
+  fed_clear = λ m occurs later. omega arith;
   written_is = sym (no_part haystack 0);
 }
 
@@ -78,13 +84,14 @@ unbegun-again G a s s' next unbegun keeps buffer none whole room made =
       is_state = unbegun.is_state;
       shallow = unbegun.shallow;
       unread = refl;
+      unfed = refl;
       sound = begun-sound next.buffer next.hand s.sid (omega (arith, least, unbegun.sound.some)) empty none whole
           (room ∙ keeps.room ∙ unbegun.sound.room ∙ ap (λ (n : ℕ). n / 2 + 1) (sym least));
-      covers = λ p pieces haystack of.
-          let before = unbegun.covers p pieces haystack of in
+      covers = λ p rule haystack of.
+          let before = unbegun.covers p rule haystack of in
           record {
             of = of;
             is_held = before.is_held;
-            covered = begun-covered p pieces haystack next.buffer next.hand s.sid empty none (least ∙ before.covered.far);
+            covered = begun-covered p rule haystack next.buffer next.hand s.sid empty none (least ∙ before.covered.far);
           };
     })

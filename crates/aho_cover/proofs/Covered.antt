@@ -18,12 +18,12 @@ use Rattle.aho_laws.proofs.CoverRuns.{member-of_joined}
 use Rattle.aho_laws.proofs.Listed.{member-of_append}
 use Rattle.aho_laws.proofs.Listings.{occurrences_ending-only}
 use Rattle.aho_laws.proofs.SettledRuns.{joined-behind, occurrence-near, in_order-last}
-use Rattle.aho_automaton.specs.Covering.{cover_in, runs_in}
-use Rattle.aho_stream.specs.Replacing.{piece_for}
+use Rattle.aho_automaton.specs.Covering.{runs_in}
 use Rattle.aho_cover.specs.declared.hand.Hand.{Hand}
 use Rattle.aho_cover.specs.declared.progress.CoverProgress.{CoverProgress}
 use Rattle.aho_cover.specs.Counting.{Output, put_on}
 use Rattle.aho_cover.specs.Hand.{held_runs}
+use Rattle.aho_cover.specs.Pieces.{PieceRule, cover_by, piece_in}
 use Rattle.aho_cover.specs.Progress.{HasCovered, IsAll, IsBeginning, copied_to, open_place}
 use Rattle.aho_cover.specs.Walks.{NoneReaches}
 use Rattle.aho_cover.proofs.Copied.{begins_shorter, begins_with, copied-more, copied-rest, copied-run, nothing_between, covered-copied}
@@ -83,9 +83,12 @@ module _ (p : Patterns) (haystack : List ℕ) where
       ∙ ap (joined_first (runs_upto p haystack (at + n))) (none (suc (at + n)) (omega arith) (omega arith))
       ∙ still-runs n at (λ k low high. none k low (omega arith))
 
-  module _ (pieces : List (List ℕ)) where
+  module _ (rule : PieceRule) where
     abbrev Has : CoverProgress → ℕ → Output → Type 0
-    Has s at written = HasCovered pieces s at p haystack written
+    Has s at written = HasCovered rule s at p haystack written
+
+    abbrev piece : Occurrence → List ℕ
+    piece = piece_in rule haystack
 
     -- the runs of the whole are those that were written, and others behind them
     pub has-runs : (s : CoverProgress) (at : ℕ) (written : Output) (has : Has s at written) → BeginBehind (held_runs s.hand) s.copied
@@ -97,40 +100,40 @@ module _ (p : Patterns) (haystack : List ℕ) where
         (all.0, ap (runs_upto p haystack) (sym place) ∙ all.1, all.2)
 
     -- so what was written is the cover up to there
-    pub has-upto : (s : CoverProgress) (at : ℕ) (written : Output) → Has s at written → BeginBehind (held_runs s.hand) s.copied → covered_up_to haystack s.copied 0 (runs_in p haystack) (piece_for pieces) ≡ written.bytes
+    pub has-upto : (s : CoverProgress) (at : ℕ) (written : Output) → Has s at written → BeginBehind (held_runs s.hand) s.copied → covered_up_to haystack s.copied 0 (runs_in p haystack) piece ≡ written.bytes
     has-upto s at written has behind =
         let all = has-runs s at written has behind in
         let ordered = in_order-last written.runs all.0 (length haystack) (subst (λ (runs : List Occurrence). AreInOrder runs (length haystack)) all.1 (upto-covers p haystack (length haystack) (omega arith)).ordered) in
-        ap (λ (runs : List Occurrence). covered_up_to haystack s.copied 0 runs (piece_for pieces)) all.1
-        ∙ covered-copied haystack (piece_for pieces) 0 written.runs all.0 s.copied has.before (λ x there. (all.2 x there, ordered.full x there))
+        ap (λ (runs : List Occurrence). covered_up_to haystack s.copied 0 runs piece) all.1
+        ∙ covered-copied haystack piece 0 written.runs all.0 s.copied has.before (λ x there. (all.2 x there, ordered.full x there))
         ∙ sym has.written_is
 
     -- what was written begins the cover
-    pub has-begun : (s : CoverProgress) (at : ℕ) (written : Output) → Has s at written → BeginBehind (held_runs s.hand) s.copied → IsBeginning pieces p haystack written
+    pub has-begun : (s : CoverProgress) (at : ℕ) (written : Output) → Has s at written → BeginBehind (held_runs s.hand) s.copied → IsBeginning rule p haystack written
     has-begun s at written has behind =
         let all = has-runs s at written has behind in
-        let cover : cover_in p haystack pieces ≡ written.bytes ++ replaced_from haystack s.copied all.0 (piece_for pieces) =
-        ap (λ (runs : List Occurrence). replaced_from haystack 0 runs (piece_for pieces)) all.1
-        ∙ copied-rest haystack (piece_for pieces) 0 written.runs all.0 s.copied (omega arith) has.before all.2
-        ∙ ap (λ (xs : List ℕ). xs ++ replaced_from haystack s.copied all.0 (piece_for pieces)) (sym has.written_is) in
-        (subst (λ (xs : List ℕ). StartsWith xs written.bytes) (sym cover) (begins_with written.bytes (replaced_from haystack s.copied all.0 (piece_for pieces))), (all.0, all.1))
+        let cover : cover_by p haystack rule ≡ written.bytes ++ replaced_from haystack s.copied all.0 piece =
+        ap (λ (runs : List Occurrence). replaced_from haystack 0 runs piece) all.1
+        ∙ copied-rest haystack piece 0 written.runs all.0 s.copied (omega arith) has.before all.2
+        ∙ ap (λ (xs : List ℕ). xs ++ replaced_from haystack s.copied all.0 piece) (sym has.written_is) in
+        (subst (λ (xs : List ℕ). StartsWith xs written.bytes) (sym cover) (begins_with written.bytes (replaced_from haystack s.copied all.0 piece)), (all.0, all.1))
 
     -- a part of what begins it, without its runs
-    pub begins_before : (written : Output) (bytes : List ℕ) (runs : List Occurrence) (n : ℕ) → n ≤ length bytes → IsBeginning pieces p haystack (put_on written bytes runs) → IsBeginning pieces p haystack (put_on written (take n bytes) [])
+    pub begins_before : (written : Output) (bytes : List ℕ) (runs : List Occurrence) (n : ℕ) → n ≤ length bytes → IsBeginning rule p haystack (put_on written bytes runs) → IsBeginning rule p haystack (put_on written (take n bytes) [])
     begins_before written bytes runs n within begins = (
-      begins_shorter (cover_in p haystack pieces) written.bytes bytes n within begins.0,
+      begins_shorter (cover_by p haystack rule) written.bytes bytes n within begins.0,
       (runs ++ begins.1.0, begins.1.1 ∙ append_assoc written.runs runs begins.1.0 ∙ ap (λ (xs : List Occurrence). xs ++ (runs ++ begins.1.0)) (sym (append-nil written.runs))),
     )
 
     -- at the end, with none in hand and all copied, it is the cover
-    pub has-all : (s : CoverProgress) (written : Output) → Has s s.read written → length haystack ≡ s.read → held_runs s.hand ≡ [] → s.copied ≡ s.read → IsAll pieces p haystack written
+    pub has-all : (s : CoverProgress) (written : Output) → Has s s.read written → length haystack ≡ s.read → held_runs s.hand ≡ [] → s.copied ≡ s.read → IsAll rule p haystack written
     has-all s written has ended none all =
         let whole : runs_in p haystack ≡ written.runs ++ [] = ap (runs_upto p haystack) ended ∙ has.runs ∙ ap (λ (runs : List Occurrence). written.runs ++ runs) none in
-        let nothing : replaced_from haystack s.copied [] (piece_for pieces) ≡ [] = drop_all s.copied haystack (omega (arith, ended, all)) in (
-          sym (ap (λ (runs : List Occurrence). replaced_from haystack 0 runs (piece_for pieces)) whole
-              ∙ copied-rest haystack (piece_for pieces) 0 written.runs [] s.copied (omega arith) has.before (λ x there. absurd there)
-              ∙ ap (λ (xs : List ℕ). copied_to haystack 0 written.runs (piece_for pieces) s.copied ++ xs) nothing
-              ∙ append-nil (copied_to haystack 0 written.runs (piece_for pieces) s.copied)
+        let nothing : replaced_from haystack s.copied [] piece ≡ [] = drop_all s.copied haystack (omega (arith, ended, all)) in (
+          sym (ap (λ (runs : List Occurrence). replaced_from haystack 0 runs piece) whole
+              ∙ copied-rest haystack piece 0 written.runs [] s.copied (omega arith) has.before (λ x there. absurd there)
+              ∙ ap (λ (xs : List ℕ). copied_to haystack 0 written.runs piece s.copied ++ xs) nothing
+              ∙ append-nil (copied_to haystack 0 written.runs piece s.copied)
               ∙ sym has.written_is),
           sym (whole ∙ append-nil written.runs),
         )
@@ -138,7 +141,7 @@ module _ (p : Patterns) (haystack : List ℕ) where
     -- the first run in hand is written, and the bytes in front of it
     pub has-settled : (s : CoverProgress) (at place : ℕ) (written : Output) (x : Occurrence) (hand : Hand) (copied : ℕ) → Has s at written → held_runs s.hand ≡ x ∷ held_runs hand → copied ≡ x.end → x.end < place
         → NoneReaches p haystack at place → s.copied ≤ x.start → x.start ≤ x.end
-        → Has (record s { copied = copied; hand = hand }) at (put_on written (slice_range haystack s.copied x.start ++ piece_for pieces x) (x ∷ []))
+        → Has (record s { copied = copied; hand = hand }) at (put_on written (slice_range haystack s.copied x.start ++ piece x) (x ∷ []))
     has-settled s at place written x hand copied has first ends before clear behind ordered = record {
       given = record { within = has.given.within; last = has.given.last };
       walked_within = has.walked_within;
@@ -154,9 +157,10 @@ module _ (p : Patterns) (haystack : List ℕ) where
         | inr here ↦ elim here [ inl e ↦ omega (arith, ap (λ (o : Occurrence). o.end) e) | inr none ↦ absurd none ]
       ];
       clear = λ m occurs later. omega (arith, clear m occurs later);
-      written_is = ap (λ (xs : List ℕ). xs ++ (slice_range haystack s.copied x.start ++ piece_for pieces x)) has.written_is
-          ∙ sym (copied-run haystack (piece_for pieces) 0 written.runs x s.copied (omega arith) has.before behind)
-          ∙ ap (copied_to haystack 0 (written.runs ++ x ∷ []) (piece_for pieces)) (sym ends);
+      fed_clear = has.fed_clear;
+      written_is = ap (λ (xs : List ℕ). xs ++ (slice_range haystack s.copied x.start ++ piece x)) has.written_is
+          ∙ sym (copied-run haystack piece 0 written.runs x s.copied (omega arith) has.before behind)
+          ∙ ap (copied_to haystack 0 (written.runs ++ x ∷ []) piece) (sym ends);
     }
 
     -- bytes are written that no run holds
@@ -175,19 +179,35 @@ module _ (p : Patterns) (haystack : List ℕ) where
           settled = has.settled;
           before = λ y there. omega (arith, has.before y there);
           clear = λ m occurs later. omega (arith, clear m occurs later, has.clear m occurs later);
+          fed_clear = has.fed_clear;
           written_is = ap (λ (xs : List ℕ). xs ++ slice_range haystack s.copied end) has.written_is
               ∙ elim (cases_lt s.copied end) [
                 | inl behind ↦
                     (let all : copied ≡ end = omega arith in
-                    sym (copied-more haystack (piece_for pieces) 0 written.runs s.copied end (omega arith) has.before (omega arith))
-                    ∙ ap (copied_to haystack 0 written.runs (piece_for pieces)) (sym all))
+                    sym (copied-more haystack piece 0 written.runs s.copied end (omega arith) has.before (omega arith))
+                    ∙ ap (copied_to haystack 0 written.runs piece) (sym all))
                 | inr past ↦
                     (let all : copied ≡ s.copied = omega arith in
-                    ap (λ (xs : List ℕ). copied_to haystack 0 written.runs (piece_for pieces) s.copied ++ xs) (nothing_between haystack s.copied end past)
-                    ∙ append-nil (copied_to haystack 0 written.runs (piece_for pieces) s.copied)
-                    ∙ ap (copied_to haystack 0 written.runs (piece_for pieces)) (sym all))
+                    ap (λ (xs : List ℕ). copied_to haystack 0 written.runs piece s.copied ++ xs) (nothing_between haystack s.copied end past)
+                    ∙ append-nil (copied_to haystack 0 written.runs piece s.copied)
+                    ∙ ap (copied_to haystack 0 written.runs piece) (sym all))
               ];
         })
+
+    -- more of the first run was fed: bytes that no match holds which ends later
+    pub has-fed : (s : CoverProgress) (written : Output) (fed : ℕ) → Has s s.read written → fed ≤ s.read - s.buffer.least → Has (record s { fed = fed }) s.read written
+    has-fed s written fed has few = record {
+      given = record { within = has.given.within; last = has.given.last };
+      walked_within = has.walked_within;
+      far = has.far;
+      since_clear = has.since_clear;
+      runs = has.runs;
+      settled = has.settled;
+      before = has.before;
+      clear = has.clear;
+      fed_clear = λ m occurs later. omega (arith, few, later, occurrence-near p haystack m 0 (length haystack) occurs, has.far);
+      written_is = has.written_is;
+    }
 
     -- what ends later begins behind the open place
     pub has-open : (s : CoverProgress) (at : ℕ) (written : Output) → Has s at written → NoneReaches p haystack at (open_place s at)
@@ -215,5 +235,6 @@ module _ (p : Patterns) (haystack : List ℕ) where
           settled = λ x there n o later. has.settled x there n o (omega arith);
           before = has.before;
           clear = λ n o later. has.clear n o (omega arith);
+          fed_clear = λ n o later. has.fed_clear n o (omega arith);
           written_is = has.written_is;
         }

@@ -12,28 +12,32 @@ use Rattle.std.proofs.KnownBytes.{Appends-kept, Appends-nil, Appends-trans, Cons
 use Rattle.std.proofs.lemmas.List.{take-append-le, take_all}
 use Rattle.aho_core.specs.declared.error.stream.StreamError.{StreamError}
 use Rattle.aho_core.specs.declared.error.stream.StreamError.TheVariants.{Match as Refused, Read, Write, WriteZero, Memory, PositionLimit}
-use Rattle.aho_core.specs.Cover.{AreRuns, IsCover, IsCovered}
+use Rattle.aho_core.specs.Cover.{AreRuns, IsCovered}
 use Rattle.aho_core.specs.Occurrence.{Occurrence}
 use Rattle.aho_core.specs.Patterns.{Patterns}
-use Rattle.aho_core.specs.Replacement.{replaced}
+use Rattle.aho_core.specs.Replacement.{replaced_by}
 use Rattle.aho_laws.proofs.TextRuns.{runs-are, runs-made, upto-covers}
 use Rattle.aho_devices.specs.Counts.{counted}
 use Rattle.aho_devices.specs.Refusals.{IsWriteRefusal}
 use Rattle.aho_devices.specs.declared.device.Sink.{Ghosts as SinkGhosts}
 use Rattle.aho_devices.specs.declared.device.Source.{Ghosts as SourceGhosts}
-use Rattle.aho_automaton.specs.Covering.{cover_in, runs_in}
+use Rattle.aho_automaton.specs.Covering.{runs_in}
 use Rattle.aho_automaton.specs.declared.automaton.Automaton.{Ghosts as Automata}
 use Rattle.aho_stream.specs.After.{EndsWith, greatest_position}
 use Rattle.aho_stream.specs.Refills.{is_limit}
-use Rattle.aho_stream.specs.Replacing.{GaveAsMany, IsMakingRefusal, SourceGave, piece_for}
+use Rattle.aho_stream.specs.Replacing.{GaveAsMany, IsMakingRefusal, SourceGave}
 use Rattle.aho_cover.specs.declared.progress.CoverProgress.{CoverProgress}
 use Rattle.aho_cover.specs.Counting.{CountsThese, Output, no_output, put_on}
-use Rattle.aho_cover.specs.Covers.{BeginsCovering, CountsFirstRuns, CountsRuns, CoversStream, LeavesCounted, LeavesCovered, CoversStreamUpTo, covered_up_to}
+use Rattle.aho_cover.specs.Covers.{BeginsCoveringBy, CountsFirstRuns, CountsRuns, CoversStreamBy, CoversStreamUpToBy, LeavesCounted, LeavesCoveredBy, covered_up_to}
+use Rattle.aho_cover.specs.Feeds.{Feeding}
+use Rattle.aho_cover.specs.Pieces.{IsCoverBy, PieceRule, cover_by, piece_in}
 use Rattle.aho_cover.specs.Progress.{EndsHere, HasCovered, IsAll, IsBeginning, IsGiven, IsSoundCover}
 use Rattle.aho_cover.specs.Refilling.{TakesIn}
 use Rattle.aho_cover.specs.Steps.{CoversOn, MayRoll}
+use Rattle.aho_cover.specs.Walks.{StandsIn}
 use Rattle.aho_cover.specs.Writes.{WritesOn}
 use Rattle.aho_cover.proofs.Counted.{counts_none, counts_then}
+use Rattle.aho_cover.proofs.Copied.{nothing_between}
 use Rattle.aho_cover.proofs.Covered.{has-begun, has-upto}
 
 -- a list of no length
@@ -47,16 +51,16 @@ err_passed (Ok x) error is = absurd is
 err_passed (Err e) error is = ap Err is
 
 -- the cover of a text is what is computed
-cover_is : (p : Patterns) (haystack output : List ℕ) (pieces : List (List ℕ)) → IsCover p haystack pieces output → output ≡ cover_in p haystack pieces
-cover_is p haystack output pieces (runs, are, is) = is ∙ ap (λ (xs : List Occurrence). replaced haystack xs pieces) (runs-are p haystack runs are)
+cover_is : (p : Patterns) (haystack output : List ℕ) (rule : PieceRule) → IsCoverBy p haystack rule output → output ≡ cover_by p haystack rule
+cover_is p haystack output rule (runs, are, is) = is ∙ ap (λ (xs : List Occurrence). replaced_by haystack xs (piece_in rule haystack)) (runs-are p haystack runs are)
 
-is_cover : (p : Patterns) (haystack : List ℕ) (written : Output) (pieces : List (List ℕ)) → IsAll pieces p haystack written → IsCover p haystack pieces written.bytes
-is_cover p haystack written pieces all = (runs_in p haystack, runs-made p haystack, all.0)
+is_cover : (p : Patterns) (haystack : List ℕ) (written : Output) (rule : PieceRule) → IsAll rule p haystack written → IsCoverBy p haystack rule written.bytes
+is_cover p haystack written rule all = (runs_in p haystack, runs-made p haystack, all.0)
 
 -- runs that begin those of a text
-first_of : (pieces : List (List ℕ)) (p : Patterns) (bytes haystack : List ℕ) (runs : List Occurrence) (written : Output) → bytes ≡ haystack → AreRuns p bytes runs → IsBeginning pieces p haystack written
+first_of : (rule : PieceRule) (p : Patterns) (bytes haystack : List ℕ) (runs : List Occurrence) (written : Output) → bytes ≡ haystack → AreRuns p bytes runs → IsBeginning rule p haystack written
     → (later : List Occurrence) × (runs ≡ written.runs ++ later)
-first_of pieces p bytes haystack runs written same are begins = (begins.1.0, runs-are p bytes runs are ∙ ap (λ (h : List ℕ). runs_in p h) same ∙ begins.1.1)
+first_of rule p bytes haystack runs written same are begins = (begins.1.0, runs-are p bytes runs are ∙ ap (λ (h : List ℕ). runs_in p h) same ∙ begins.1.1)
 
 -- the first bytes of a text that goes on
 first_part : (given more : List ℕ) (n : ℕ) → n ≡ length given → slice_range (given ++ more) 0 n ≡ given
@@ -64,37 +68,40 @@ first_part given more n long =
     let count : n - 0 ≡ length given = omega (arith, long) in
     ap (λ (k : ℕ). take k (given ++ more)) count ∙ take-append-le (length given) given more (omega arith) ∙ take_all (length given) given (omega arith)
 
-module _ {A R W : Type 0} (G : Automata A) (S : SourceGhosts R) (K : SinkGhosts W) (a : A) (pieces : List (List ℕ)) (first : R) (begun : W) (zeros : List ℕ) where
+module _ {A R W : Type 0} (G : Automata A) (S : SourceGhosts R) (K : SinkGhosts W) (a : A) (rule : PieceRule) (first : R) (begun : W) (zeros : List ℕ) where
   -- so much was given, written and counted
-  pub record Going (s : CoverProgress) (source : R) (sink : W) (counts : List ℕ) : Type 0 where
+  pub record Going (holds : List ℕ → Type 0) (s : CoverProgress) (source : R) (sink : W) (counts : List ℕ) : Type 0 where
     pub given : List ℕ
     pub written : Output
     pub gives : SourceGave S first source given false
     pub writes : Appends (K.taken begun) (K.taken sink) written.bytes
     pub counted : CountsThese written.runs zeros counts
     pub count : s.read ≡ length given
-    pub covers : (p : Patterns) (more : List ℕ) → G.is_of a p → CoversOn G a pieces s s.read p (given ++ more) written
+    pub covers : (p : Patterns) (more : List ℕ) → G.is_of a p → Feeding holds s (CoversOn G a rule s s.read) p (given ++ more) written
 
   abbrev Begins : R → W → Type 0
-  Begins source sink = BeginsCovering S K (G.is_of a) pieces first source begun sink
+  Begins source sink = BeginsCoveringBy S K (G.is_of a) rule first source begun sink
 
   abbrev FirstRuns : R → List ℕ → Type 0
   FirstRuns source counts = CountsFirstRuns S (G.is_of a) first source zeros counts
 
   -- nothing was given yet
-  pub going_first : (s : CoverProgress) → s.read ≡ 0 → ((p : Patterns) (haystack : List ℕ) → G.is_of a p → CoversOn G a pieces s 0 p haystack no_output) → Going s first begun zeros
-  going_first s unread covers = record {
+  pub going_first : (holds : List ℕ → Type 0) (s : CoverProgress) → holds [] → s.fed ≡ 0 → s.read ≡ 0 → ((p : Patterns) (haystack : List ℕ) → G.is_of a p → CoversOn G a rule s 0 p haystack no_output) → Going holds s first begun zeros
+  going_first holds s none unfed unread covers = record {
     given = [];
     written = no_output;
     gives = record { bytes = Consumes-nil (S.remaining first); end = refl };
     writes = Appends-nil (K.taken begun);
     counted = counts_none zeros;
     count = unread;
-    covers = λ p more of. subst (λ (n : ℕ). CoversOn G a pieces s n p more no_output) (sym unread) (covers p more of);
+    covers = λ p more of. (
+      subst (λ (n : ℕ). CoversOn G a rule s n p more no_output) (sym unread) (covers p more of),
+      subst holds (sym (nothing_between more s.copied s.fed (omega (arith, unfed)))) none,
+    );
   }
 
   -- the sink has what it had
-  pub going_kept : (s : CoverProgress) (source : R) (sink sink' : W) (counts : List ℕ) → Going s source sink counts → Keeps (K.taken sink) (K.taken sink') → Going s source sink' counts
+  pub going_kept : {holds : List ℕ → Type 0} (s : CoverProgress) (source : R) (sink sink' : W) (counts : List ℕ) → Going holds s source sink counts → Keeps (K.taken sink) (K.taken sink') → Going holds s source sink' counts
   going_kept s source sink sink' counts going kept = record {
     given = going.given;
     written = going.written;
@@ -106,7 +113,7 @@ module _ {A R W : Type 0} (G : Automata A) (S : SourceGhosts R) (K : SinkGhosts 
   }
 
   -- what was written begins the cover
-  pub going_begins : (s : CoverProgress) (source : R) (sink : W) (counts : List ℕ) → Going s source sink counts → IsSoundCover s s.read → Begins source sink
+  pub going_begins : {holds : List ℕ → Type 0} (s : CoverProgress) (source : R) (sink : W) (counts : List ℕ) → Going holds s source sink counts → IsSoundCover s s.read → Begins source sink
   going_begins s source sink counts going sound = record {
     given = going.given;
     ended = false;
@@ -115,12 +122,12 @@ module _ {A R W : Type 0} (G : Automata A) (S : SourceGhosts R) (K : SinkGhosts 
     writes = going.writes;
     beginning = λ p bytes output of may cover.
         let whole : bytes ≡ going.given ++ may.0 = may.1 in
-        let starts = (has-begun p (going.given ++ may.0) pieces s s.read going.written (going.covers p may.0 of).covered sound.behind).0 in
-        subst (λ (xs : List ℕ). StartsWith xs going.written.bytes) (sym (cover_is p bytes output pieces cover ∙ ap (λ (h : List ℕ). cover_in p h pieces) whole)) starts;
+        let starts = (has-begun p (going.given ++ may.0) rule s s.read going.written (going.covers p may.0 of).0.covered sound.behind).0 in
+        subst (λ (xs : List ℕ). StartsWith xs going.written.bytes) (sym (cover_is p bytes output rule cover ∙ ap (λ (h : List ℕ). cover_by p h rule) whole)) starts;
   }
 
   -- and its runs are the first
-  pub going_counts : (s : CoverProgress) (source : R) (sink : W) (counts : List ℕ) → Going s source sink counts → IsSoundCover s s.read → FirstRuns source counts
+  pub going_counts : {holds : List ℕ → Type 0} (s : CoverProgress) (source : R) (sink : W) (counts : List ℕ) → Going holds s source sink counts → IsSoundCover s s.read → FirstRuns source counts
   going_counts s source sink counts going sound = record {
     given = going.given;
     ended = false;
@@ -128,11 +135,32 @@ module _ {A R W : Type 0} (G : Automata A) (S : SourceGhosts R) (K : SinkGhosts 
     first = going.written.runs;
     counted = going.counted;
     beginning = λ p bytes runs of may are.
-        first_of pieces p bytes (going.given ++ may.0) runs going.written may.1 are (has-begun p (going.given ++ may.0) pieces s s.read going.written (going.covers p may.0 of).covered sound.behind);
+        first_of rule p bytes (going.given ++ may.0) runs going.written may.1 are (has-begun p (going.given ++ may.0) rule s s.read going.written (going.covers p may.0 of).0.covered sound.behind);
   }
 
+  -- more of the first run was fed
+  pub going_fed : {holds : List ℕ → Type 0} (holds' : List ℕ → Type 0) (s s' : CoverProgress) → s' ≡ record s { fed = s'.fed } → (source : R) (sink : W) (counts : List ℕ) → Going holds s source sink counts
+      → ((written : Output) (p : Patterns) (haystack : List ℕ) → Feeding holds s (HasCovered rule s s.read) p haystack written → Feeding holds' s' (HasCovered rule s' s.read) p haystack written)
+      → Going holds' s' source sink counts
+  going_fed holds' s s' only source sink counts going feeds =
+      let read : s'.read ≡ s.read = ap (λ (t : CoverProgress). t.read) only in
+      let sid : s.sid ≡ s'.sid = sym (ap (λ (t : CoverProgress). t.sid) only) in
+      record {
+        given = going.given;
+        written = going.written;
+        gives = going.gives;
+        writes = going.writes;
+        counted = going.counted;
+        count = read ∙ going.count;
+        covers = λ p more of.
+            let before = going.covers p more of in
+            let after = feeds going.written p (going.given ++ more) (before.0.covered, before.1) in
+            subst (λ (n : ℕ). Feeding holds' s' (CoversOn G a rule s' n) p (going.given ++ more) going.written) (sym read)
+            (record { of = of; is_held = subst (λ (n : ℕ). StandsIn G a p (going.given ++ more) n s.read) sid before.0.is_held; covered = after.0 }, after.1);
+      }
+
   -- one read more, of a progress that takes in what it gives
-  module _ (s s' : CoverProgress) (source source' : R) (sink : W) (old : List ℕ) (going : Going s source sink old) (takes : TakesIn s s' (S.remaining source) (S.remaining source')) where
+  module _ {holds : List ℕ → Type 0} (s s' : CoverProgress) (source source' : R) (sink : W) (old : List ℕ) (going : Going holds s source sink old) (takes : TakesIn s s' (S.remaining source) (S.remaining source')) where
     abbrev given_now : List ℕ
     given_now = going.given ++ takes.bytes
 
@@ -146,9 +174,10 @@ module _ {A R W : Type 0} (G : Automata A) (S : SourceGhosts R) (K : SinkGhosts 
     count_more = omega (arith, takes.count, going.count, length-append going.given takes.bytes)
 
     -- the same was covered
-    pub covers_more : (p : Patterns) (more : List ℕ) → G.is_of a p → CoversOn G a pieces s' s.read p (given_now ++ more) going.written
+    pub covers_more : (p : Patterns) (more : List ℕ) → G.is_of a p → Feeding holds s' (CoversOn G a rule s' s.read) p (given_now ++ more) going.written
     covers_more p more of =
-        let before = subst (λ (h : List ℕ). CoversOn G a pieces s s.read p h going.written) (sym (append_assoc going.given takes.bytes more)) (going.covers p (takes.bytes ++ more) of) in
+        let both = subst (λ (h : List ℕ). Feeding holds s (CoversOn G a rule s s.read) p h going.written) (sym (append_assoc going.given takes.bytes more)) (going.covers p (takes.bytes ++ more) of) in
+        let before = both.0 in
         let has = before.covered in
         let h = given_now ++ more in
         let ends = subst (λ (xs : List ℕ). EndsWith xs s.buffer.bytes) (ap (λ (xs : List ℕ). slice_range xs 0 s.read) (append_assoc going.given takes.bytes more) ∙ first_part going.given (takes.bytes ++ more) s.read going.count) has.given.last in
@@ -157,22 +186,25 @@ module _ {A R W : Type 0} (G : Automata A) (S : SourceGhosts R) (K : SinkGhosts 
           last = subst (λ (xs : List ℕ). EndsWith xs s'.buffer.bytes) (sym (first_part given_now more s'.read count_more)) (takes.last going.given ends);
         } in
         let next : CoverProgress = record s { buffer = s'.buffer; read = s'.read } in
-        subst (λ (t : CoverProgress). CoversOn G a pieces t s.read p h going.written) (sym takes.others)
-        (record {
-          of = of;
-          is_held = before.is_held;
-          covered = record {
-            given = record { within = given.within; last = given.last };
-            walked_within = omega (arith, takes.count);
-            far = omega (arith, has.far, takes.least);
-            since_clear = has.since_clear;
-            runs = has.runs;
-            settled = has.settled;
-            before = has.before;
-            clear = has.clear;
-            written_is = has.written_is;
-          };
-        })
+        subst (λ (t : CoverProgress). Feeding holds t (CoversOn G a rule t s.read) p h going.written) (sym takes.others) (
+          record {
+            of = of;
+            is_held = before.is_held;
+            covered = record {
+              given = record { within = given.within; last = given.last };
+              walked_within = omega (arith, takes.count);
+              far = omega (arith, has.far, takes.least);
+              since_clear = has.since_clear;
+              runs = has.runs;
+              settled = has.settled;
+              before = has.before;
+              clear = has.clear;
+              fed_clear = has.fed_clear;
+              written_is = has.written_is;
+            };
+          },
+          both.1,
+        )
 
     -- a call that reads fails: what was written before begins the cover
     pub begins_more : (sink' : W) → Appends (K.taken begun) (K.taken sink') going.written.bytes → IsSoundCover s s.read → S.empty_reads source' ≡ counted false (S.empty_reads source) → Begins source' sink'
@@ -184,8 +216,8 @@ module _ {A R W : Type 0} (G : Automata A) (S : SourceGhosts R) (K : SinkGhosts 
       writes = writes;
       beginning = λ p bytes output of may cover.
           let whole : bytes ≡ going.given ++ (takes.bytes ++ may.0) = may.1 ∙ append_assoc going.given takes.bytes may.0 in
-          let starts = (has-begun p (going.given ++ (takes.bytes ++ may.0)) pieces s s.read going.written (going.covers p (takes.bytes ++ may.0) of).covered sound.behind).0 in
-          subst (λ (xs : List ℕ). StartsWith xs going.written.bytes) (sym (cover_is p bytes output pieces cover ∙ ap (λ (h : List ℕ). cover_in p h pieces) whole)) starts;
+          let starts = (has-begun p (going.given ++ (takes.bytes ++ may.0)) rule s s.read going.written (going.covers p (takes.bytes ++ may.0) of).0.covered sound.behind).0 in
+          subst (λ (xs : List ℕ). StartsWith xs going.written.bytes) (sym (cover_is p bytes output rule cover ∙ ap (λ (h : List ℕ). cover_by p h rule) whole)) starts;
     }
 
     pub counts_more : IsSoundCover s s.read → S.empty_reads source' ≡ counted false (S.empty_reads source) → FirstRuns source' old
@@ -197,12 +229,12 @@ module _ {A R W : Type 0} (G : Automata A) (S : SourceGhosts R) (K : SinkGhosts 
       counted = going.counted;
       beginning = λ p bytes runs of may are.
           let whole : bytes ≡ going.given ++ (takes.bytes ++ may.0) = may.1 ∙ append_assoc going.given takes.bytes may.0 in
-          first_of pieces p bytes (going.given ++ (takes.bytes ++ may.0)) runs going.written whole are (has-begun p (going.given ++ (takes.bytes ++ may.0)) pieces s s.read going.written (going.covers p (takes.bytes ++ may.0) of).covered sound.behind);
+          first_of rule p bytes (going.given ++ (takes.bytes ++ may.0)) runs going.written whole are (has-begun p (going.given ++ (takes.bytes ++ may.0)) rule s s.read going.written (going.covers p (takes.bytes ++ may.0) of).0.covered sound.behind);
     }
 
-    module _ (sink' : W) (new : List ℕ) (s'' : CoverProgress) (writes : WritesOn K sink sink' old new (CoversOn G a pieces s' s.read) (CoversOn G a pieces s'' s''.read)) (read : s''.read ≡ s'.read) (counts : S.empty_reads source' ≡ counted false (S.empty_reads source)) where
+    module _ {holds' : List ℕ → Type 0} (sink' : W) (new : List ℕ) (s'' : CoverProgress) (writes : WritesOn K sink sink' old new (Feeding holds s' (CoversOn G a rule s' s.read)) (Feeding holds' s'' (CoversOn G a rule s'' s''.read))) (read : s''.read ≡ s'.read) (counts : S.empty_reads source' ≡ counted false (S.empty_reads source)) where
       -- it was walked over
-      pub going_on : Going s'' source' sink' new
+      pub going_on : Going holds' s'' source' sink' new
       going_on = record {
         given = given_now;
         written = put_on going.written writes.bytes writes.runs;
@@ -214,7 +246,7 @@ module _ {A R W : Type 0} (G : Automata A) (S : SourceGhosts R) (K : SinkGhosts 
       }
 
     -- a write fails on the way
-    pub begins_on : (sink' : W) (new : List ℕ) → WritesOn K sink sink' old new (CoversOn G a pieces s' s.read) (IsBeginning pieces) → S.empty_reads source' ≡ counted false (S.empty_reads source) → Begins source' sink'
+    pub begins_on : (sink' : W) (new : List ℕ) → WritesOn K sink sink' old new (Feeding holds s' (CoversOn G a rule s' s.read)) (IsBeginning rule) → S.empty_reads source' ≡ counted false (S.empty_reads source) → Begins source' sink'
     begins_on sink' new writes counts = record {
       given = given_now;
       ended = false;
@@ -223,10 +255,10 @@ module _ {A R W : Type 0} (G : Automata A) (S : SourceGhosts R) (K : SinkGhosts 
       writes = Appends-trans (K.taken begun) (K.taken sink) (K.taken sink') going.written.bytes writes.bytes going.writes writes.appends;
       beginning = λ p bytes output of may cover.
           let starts = (writes.follows p (given_now ++ may.0) going.written (covers_more p may.0 of)).0 in
-          subst (λ (xs : List ℕ). StartsWith xs (going.written.bytes ++ writes.bytes)) (sym (cover_is p bytes output pieces cover ∙ ap (λ (h : List ℕ). cover_in p h pieces) may.1)) starts;
+          subst (λ (xs : List ℕ). StartsWith xs (going.written.bytes ++ writes.bytes)) (sym (cover_is p bytes output rule cover ∙ ap (λ (h : List ℕ). cover_by p h rule) may.1)) starts;
     }
 
-    pub counts_on : (sink' : W) (new : List ℕ) → WritesOn K sink sink' old new (CoversOn G a pieces s' s.read) (IsBeginning pieces) → S.empty_reads source' ≡ counted false (S.empty_reads source) → FirstRuns source' new
+    pub counts_on : (sink' : W) (new : List ℕ) → WritesOn K sink sink' old new (Feeding holds s' (CoversOn G a rule s' s.read)) (IsBeginning rule) → S.empty_reads source' ≡ counted false (S.empty_reads source) → FirstRuns source' new
     counts_on sink' new writes counts = record {
       given = given_now;
       ended = false;
@@ -234,26 +266,26 @@ module _ {A R W : Type 0} (G : Automata A) (S : SourceGhosts R) (K : SinkGhosts 
       first = going.written.runs ++ writes.runs;
       counted = counts_then going.written.runs writes.runs zeros old new going.counted writes.counted;
       beginning = λ p bytes runs of may are.
-          first_of pieces p bytes (given_now ++ may.0) runs (put_on going.written writes.bytes writes.runs) may.1 are (writes.follows p (given_now ++ may.0) going.written (covers_more p may.0 of));
+          first_of rule p bytes (given_now ++ may.0) runs (put_on going.written writes.bytes writes.runs) may.1 are (writes.follows p (given_now ++ may.0) going.written (covers_more p may.0 of));
     }
 
     -- the end was seen
     module _ (same : s'.read ≡ s.read) (counts : S.empty_reads source' ≡ counted true (S.empty_reads source)) where
-      ends_here : (p : Patterns) → G.is_of a p → EndsHere pieces s' p given_now going.written
+      ends_here : (p : Patterns) → G.is_of a p → Feeding holds s' (EndsHere rule s') p given_now going.written
       ends_here p of =
-          let covered = (subst (λ (h : List ℕ). CoversOn G a pieces s' s.read p h going.written) (append-nil given_now) (covers_more p [] of)).covered in
-          (subst (λ (n : ℕ). HasCovered pieces s' n p given_now going.written) (sym same) covered, sym count_more)
+          let both = subst (λ (h : List ℕ). Feeding holds s' (CoversOn G a rule s' s.read) p h going.written) (append-nil given_now) (covers_more p [] of) in
+          ((subst (λ (n : ℕ). HasCovered rule s' n p given_now going.written) (sym same) both.0.covered, sym count_more), both.1)
 
-      pub covers_all : (sink' : W) (new : List ℕ) → WritesOn K sink sink' old new (EndsHere pieces s') (IsAll pieces) → CoversStream S K (G.is_of a) pieces first source' begun sink'
+      pub covers_all : (sink' : W) (new : List ℕ) → WritesOn K sink sink' old new (Feeding holds s' (EndsHere rule s')) (IsAll rule) → CoversStreamBy S K (G.is_of a) rule first source' begun sink'
       covers_all sink' new writes = record {
         given = given_now;
         gives = gives_more true counts;
         output = going.written.bytes ++ writes.bytes;
         writes = Appends-trans (K.taken begun) (K.taken sink) (K.taken sink') going.written.bytes writes.bytes going.writes writes.appends;
-        covers = λ p of. is_cover p given_now (put_on going.written writes.bytes writes.runs) pieces (writes.follows p given_now going.written (ends_here p of));
+        covers = λ p of. is_cover p given_now (put_on going.written writes.bytes writes.runs) rule (writes.follows p given_now going.written (ends_here p of));
       }
 
-      pub counts_all : (sink' : W) (new : List ℕ) → WritesOn K sink sink' old new (EndsHere pieces s') (IsAll pieces) → CountsRuns S (G.is_of a) first source' zeros new
+      pub counts_all : (sink' : W) (new : List ℕ) → WritesOn K sink sink' old new (Feeding holds s' (EndsHere rule s')) (IsAll rule) → CountsRuns S (G.is_of a) first source' zeros new
       counts_all sink' new writes = record {
         given = given_now;
         gives = gives_more true counts;
@@ -262,7 +294,7 @@ module _ {A R W : Type 0} (G : Automata A) (S : SourceGhosts R) (K : SinkGhosts 
             subst (λ (xs : List Occurrence). CountsThese xs zeros new) (all ∙ sym (runs-are p given_now runs are)) (counts_then going.written.runs writes.runs zeros old new going.counted writes.counted);
       }
 
-      pub begins_end : (sink' : W) (new : List ℕ) → WritesOn K sink sink' old new (EndsHere pieces s') (IsBeginning pieces) → Begins source' sink'
+      pub begins_end : (sink' : W) (new : List ℕ) → WritesOn K sink sink' old new (Feeding holds s' (EndsHere rule s')) (IsBeginning rule) → Begins source' sink'
       begins_end sink' new writes = record {
         given = given_now;
         ended = true;
@@ -272,10 +304,10 @@ module _ {A R W : Type 0} (G : Automata A) (S : SourceGhosts R) (K : SinkGhosts 
         beginning = λ p bytes output of may cover.
             let whole : bytes ≡ given_now = may.1 ∙ ap (λ (xs : List ℕ). given_now ++ xs) may.2 ∙ append-nil given_now in
             let starts = (writes.follows p given_now going.written (ends_here p of)).0 in
-            subst (λ (xs : List ℕ). StartsWith xs (going.written.bytes ++ writes.bytes)) (sym (cover_is p bytes output pieces cover ∙ ap (λ (h : List ℕ). cover_in p h pieces) whole)) starts;
+            subst (λ (xs : List ℕ). StartsWith xs (going.written.bytes ++ writes.bytes)) (sym (cover_is p bytes output rule cover ∙ ap (λ (h : List ℕ). cover_by p h rule) whole)) starts;
       }
 
-      pub counts_end : (sink' : W) (new : List ℕ) → WritesOn K sink sink' old new (EndsHere pieces s') (IsBeginning pieces) → FirstRuns source' new
+      pub counts_end : (sink' : W) (new : List ℕ) → WritesOn K sink sink' old new (Feeding holds s' (EndsHere rule s')) (IsBeginning rule) → FirstRuns source' new
       counts_end sink' new writes = record {
         given = given_now;
         ended = true;
@@ -284,7 +316,7 @@ module _ {A R W : Type 0} (G : Automata A) (S : SourceGhosts R) (K : SinkGhosts 
         counted = counts_then going.written.runs writes.runs zeros old new going.counted writes.counted;
         beginning = λ p bytes runs of may are.
             let whole : bytes ≡ given_now = may.1 ∙ ap (λ (xs : List ℕ). given_now ++ xs) may.2 ∙ append-nil given_now in
-            first_of pieces p bytes given_now runs (put_on going.written writes.bytes writes.runs) whole are (writes.follows p given_now going.written (ends_here p of));
+            first_of rule p bytes given_now runs (put_on going.written writes.bytes writes.runs) whole are (writes.follows p given_now going.written (ends_here p of));
       }
 
     -- nothing was given by a read that fails
@@ -293,7 +325,7 @@ module _ {A R W : Type 0} (G : Automata A) (S : SourceGhosts R) (K : SinkGhosts 
 
     -- what was written then is the cover up to a place, and few bytes are left out that lie in no match
     pub upto_more : (sink' : W) → Appends (K.taken begun) (K.taken sink') going.written.bytes → IsSoundCover s s.read → MayRoll s → s'.read ≡ s.read → S.empty_reads source' ≡ counted false (S.empty_reads source)
-        → CoversStreamUpTo S K (G.is_of a) pieces first source' begun sink'
+        → CoversStreamUpToBy S K (G.is_of a) rule first source' begun sink'
     upto_more sink' writes sound near same counts = record {
       given = given_now;
       ended = false;
@@ -301,7 +333,7 @@ module _ {A R W : Type 0} (G : Automata A) (S : SourceGhosts R) (K : SinkGhosts 
       place = s.copied;
       within = omega (arith, sound.copied_walked, count_more, same);
       near = λ p at of low bare.
-          let has = (subst (λ (h : List ℕ). CoversOn G a pieces s s.read p h going.written) (append-nil going.given ∙ sym (given_same same)) (going.covers p [] of)).covered in
+          let has = (subst (λ (h : List ℕ). CoversOn G a rule s s.read p h going.written) (append-nil going.given ∙ sym (given_same same)) (going.covers p [] of).0).covered in
           let runs = upto-covers p given_now s.read (omega (arith, count_more, same)) in
           let long : s.read ≡ length given_now = sym same ∙ count_more in
           let rolls = near at low (λ c.
@@ -310,9 +342,9 @@ module _ {A R W : Type 0} (G : Automata A) (S : SourceGhosts R) (K : SinkGhosts 
           omega (arith, rolls, has.far, long);
       writes = λ p bytes runs of may are.
           let whole : bytes ≡ going.given ++ (takes.bytes ++ may.0) = may.1 ∙ append_assoc going.given takes.bytes may.0 in
-          let upto = has-upto p (going.given ++ (takes.bytes ++ may.0)) pieces s s.read going.written (going.covers p (takes.bytes ++ may.0) of).covered sound.behind in
+          let upto = has-upto p (going.given ++ (takes.bytes ++ may.0)) rule s s.read going.written (going.covers p (takes.bytes ++ may.0) of).0.covered sound.behind in
           subst (Appends (K.taken begun) (K.taken sink'))
-          (sym (ap (λ (xs : List Occurrence). covered_up_to bytes s.copied 0 xs (piece_for pieces)) (runs-are p bytes runs are) ∙ ap (λ (h : List ℕ). covered_up_to h s.copied 0 (runs_in p h) (piece_for pieces)) whole ∙ upto))
+          (sym (ap (λ (xs : List Occurrence). covered_up_to bytes s.copied 0 xs (piece_in rule bytes)) (runs-are p bytes runs are) ∙ ap (λ (h : List ℕ). covered_up_to h s.copied 0 (runs_in p h) (piece_in rule h)) whole ∙ upto))
           writes;
     }
 
@@ -321,12 +353,12 @@ module _ {A R W : Type 0} (G : Automata A) (S : SourceGhosts R) (K : SinkGhosts 
     limit_more same reached counts = (given_now, gives_more false counts, sym count_more ∙ same ∙ reached)
 
 -- what is left, by how it ended
-module _ {R W : Type 0} (S : SourceGhosts R) (K : SinkGhosts W) (AreSearched : Patterns → Type 0) (pieces : List (List ℕ)) (source source' : R) (sink sink' : W) where
+module _ {R W : Type 0} (S : SourceGhosts R) (K : SinkGhosts W) (AreSearched : Patterns → Type 0) (rule : PieceRule) (source source' : R) (sink sink' : W) where
   abbrev Leaves : Result (Unit {0}) StreamError → Type 0
-  Leaves = LeavesCovered S K AreSearched pieces source source' sink sink'
+  Leaves = LeavesCoveredBy S K AreSearched rule source source' sink sink'
 
   -- where a write was refused
-  pub leaves_written : (error : StreamError) → IsWriteRefusal error → BeginsCovering S K AreSearched pieces source source' sink sink' → Leaves (Err error)
+  pub leaves_written : (error : StreamError) → IsWriteRefusal error → BeginsCoveringBy S K AreSearched rule source source' sink sink' → Leaves (Err error)
   leaves_written (Refused cause) only some = absurd only
   leaves_written (Read fault) only some = absurd only
   leaves_written (Write fault) only some = record { covered = tt; begun = some; near = λ fills. absurd fills; limit = λ met. cc }
@@ -335,7 +367,7 @@ module _ {R W : Type 0} (S : SourceGhosts R) (K : SinkGhosts W) (AreSearched : P
   leaves_written PositionLimit only some = absurd only
 
   -- where a read was refused
-  pub leaves_read : (error : StreamError) → BeginsCovering S K AreSearched pieces source source' sink sink' → CoversStreamUpTo S K AreSearched pieces source source' sink sink' → (is_limit {A = Bool} (Err error) ≡ true → GaveAsMany S source source' greatest_position) → Leaves (Err error)
+  pub leaves_read : (error : StreamError) → BeginsCoveringBy S K AreSearched rule source source' sink sink' → CoversStreamUpToBy S K AreSearched rule source source' sink sink' → (is_limit {A = Bool} (Err error) ≡ true → GaveAsMany S source source' greatest_position) → Leaves (Err error)
   leaves_read (Refused cause) some near limit = record { covered = tt; begun = some; near = λ fills. near; limit = limit }
   leaves_read (Read fault) some near limit = record { covered = tt; begun = some; near = λ fills. near; limit = limit }
   leaves_read (Write fault) some near limit = record { covered = tt; begun = some; near = λ fills. near; limit = limit }
@@ -344,16 +376,16 @@ module _ {R W : Type 0} (S : SourceGhosts R) (K : SinkGhosts W) (AreSearched : P
   leaves_read PositionLimit some near limit = record { covered = tt; begun = some; near = λ fills. near; limit = limit }
 
   -- at the end
-  pub leaves_ended : (result : Result (Unit {0}) StreamError) → IfErr result IsWriteRefusal → OnOk result (CoversStream S K AreSearched pieces source source' sink sink') → OnErr result (BeginsCovering S K AreSearched pieces source source' sink sink') → Leaves result
+  pub leaves_ended : (result : Result (Unit {0}) StreamError) → IfErr result IsWriteRefusal → OnOk result (CoversStreamBy S K AreSearched rule source source' sink sink') → OnErr result (BeginsCoveringBy S K AreSearched rule source source' sink sink') → Leaves result
   leaves_ended (Ok done) only whole some = record { covered = whole; begun = tt; near = tt; limit = λ met. cc }
   leaves_ended (Err error) only whole some = leaves_written error only some
 
 -- nothing is left where it was refused before it was begun
 module _ {R W : Type 0} (S : SourceGhosts R) (K : SinkGhosts W) (source : R) (sink : W) where
-  pub leaves_nothing : (AreSearched : Patterns → Type 0) (pieces : List (List ℕ)) (error : StreamError) → IsMakingRefusal error → LeavesCovered S K AreSearched pieces source source sink sink (Err error)
-  leaves_nothing AreSearched pieces error only = by_error error only
+  pub leaves_nothing : (AreSearched : Patterns → Type 0) (rule : PieceRule) (error : StreamError) → IsMakingRefusal error → LeavesCoveredBy S K AreSearched rule source source sink sink (Err error)
+  leaves_nothing AreSearched rule error only = by_error error only
     where
-      nothing : BeginsCovering S K AreSearched pieces source source sink sink
+      nothing : BeginsCoveringBy S K AreSearched rule source source sink sink
       nothing = record {
         given = [];
         ended = false;
@@ -363,7 +395,7 @@ module _ {R W : Type 0} (S : SourceGhosts R) (K : SinkGhosts W) (source : R) (si
         beginning = λ p bytes output of may cover. refl;
       }
 
-      by_error : (error : StreamError) → IsMakingRefusal error → LeavesCovered S K AreSearched pieces source source sink sink (Err error)
+      by_error : (error : StreamError) → IsMakingRefusal error → LeavesCoveredBy S K AreSearched rule source source sink sink (Err error)
       by_error (Refused cause) only = record { covered = tt; begun = nothing; near = λ fills. absurd fills; limit = λ met. cc }
       by_error (Read fault) only = absurd only
       by_error (Write fault) only = absurd only

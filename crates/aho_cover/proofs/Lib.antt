@@ -6,6 +6,7 @@ pub mod Written
 pub mod Copied
 pub mod Covered
 pub mod Sound
+pub mod Fed
 -- From one match that is told to the next.
 pub mod Reached
 -- From one read to the next.

@@ -17,6 +17,7 @@ use Rattle.aho_stream.proofs.PatternLengths.{occurs_short, occurs_some}
 use Rattle.aho_cover.specs.declared.progress.CoverProgress.{CoverProgress}
 use Rattle.aho_cover.specs.Counting.{Output}
 use Rattle.aho_cover.specs.Steps.{CoversOn}
+use Rattle.aho_cover.specs.Pieces.{PieceRule}
 use Rattle.aho_cover.specs.Walks.{NoneReaches, StandsIn}
 use Rattle.aho_cover.proofs.Covered.{still-runs}
 use Rattle.aho_cover.proofs.Further.{clear-start}
@@ -27,7 +28,7 @@ own-held true held searcher same = sym same
 own-held false held searcher same = cc
 
 module _ {A : Type 0} (G : Automata A) (a : A) (p : Patterns) (haystack : List ℕ) (laws : Reads p (G.kind a) (G.lengths a) (G.held a p) (G.list a) (G.dead a) (G.starts a)) (no_empty : 1 ≤ shortest (G.lengths a))
-    (pieces : List (List ℕ)) (s : CoverProgress) (at count : ℕ) (written : Output) (covers : CoversOn G a pieces s at p haystack written) (start : G.starts a s.sid ≡ true)
+    (rule : PieceRule) (s : CoverProgress) (at count : ℕ) (written : Output) (covers : CoversOn G a rule s at p haystack written) (start : G.starts a s.sid ≡ true)
     (none : NoneStartsBefore p (slice_range haystack at s.read) 0 (length (slice_range haystack at s.read)) count) (few : count ≤ length (slice_range haystack at s.read) - s.buffer.least) where
   read_within : s.read ≤ length haystack
   read_within = covers.covered.given.within
@@ -81,7 +82,7 @@ module _ {A : Type 0} (G : Automata A) (a : A) (p : Patterns) (haystack : List �
     | inr few ↦ (let place : at ≡ at + count = omega (arith, few) in subst (λ (k : ℕ). StandsIn G a p haystack s.sid k) place covers.is_held)
   ]
 
-  pub passed-over : CoversOn G a pieces (record s { since = at + count }) (at + count) p haystack written
+  pub passed-over : CoversOn G a rule (record s { since = at + count }) (at + count) p haystack written
   passed-over =
       let has = covers.covered in
       record {
@@ -96,6 +97,7 @@ module _ {A : Type 0} (G : Automata A) (a : A) (p : Patterns) (haystack : List �
           settled = λ x there m occurs later. has.settled x there m occurs (omega (arith, later));
           before = has.before;
           clear = λ m occurs later. has.clear m occurs (omega (arith, later));
+          fed_clear = λ m occurs later. has.fed_clear m occurs (omega (arith, later));
           written_is = has.written_is;
         };
       }

@@ -20,6 +20,7 @@ use Rattle.aho_cover.specs.declared.walk.Reached.{Reached}
 use Rattle.aho_cover.specs.Counting.{Output}
 use Rattle.aho_cover.specs.Progress.{EndsNext, HasCovered, IsSoundCover, open_place}
 use Rattle.aho_cover.specs.Steps.{CoversOn}
+use Rattle.aho_cover.specs.Pieces.{PieceRule}
 use Rattle.aho_cover.specs.Walks.{LiesAhead, Reaches, StandsIn, told_before, walked_before}
 use Rattle.aho_cover.proofs.Covered.{has-open, still-runs}
 use Rattle.aho_cover.proofs.Sound.{order-later}
@@ -41,9 +42,9 @@ shortest-least (word ∷ words) zero below = omega arith
 shortest-least (word ∷ words) (suc number) below = omega (arith, shortest-least words number (omega arith))
 
 -- the bytes that were read and not walked
-pub lies-ahead : {A : Type 0} (G : Automata A) (a : A) (pieces : List (List ℕ)) (s : CoverProgress) (at : ℕ) (bytes : List ℕ) (p : Patterns) (haystack : List ℕ) (written : Output) → CoversOn G a pieces s at p haystack written
+pub lies-ahead : {A : Type 0} (G : Automata A) (a : A) (rule : PieceRule) (s : CoverProgress) (at : ℕ) (bytes : List ℕ) (p : Patterns) (haystack : List ℕ) (written : Output) → CoversOn G a rule s at p haystack written
     → bytes ≡ slice_range haystack at s.read → at ≤ s.read → LiesAhead G a at s.sid bytes p haystack
-lies-ahead G a pieces s at bytes p haystack written covers are within =
+lies-ahead G a rule s at bytes p haystack written covers are within =
     let long : length bytes ≡ s.read - at = ap length are ∙ length_part haystack at s.read covers.covered.given.within in
     let place : s.read ≡ at + length bytes = omega (arith, long, within) in
     record {
@@ -66,6 +67,10 @@ sound-moved s at at' sid since sound le within start = record {
   in_order = order-later _ at at' le sound.in_order;
   behind = sound.behind;
   kept = sound.kept;
+  fed_walked = omega (arith, sound.fed_walked);
+  fed_first = sound.fed_first;
+  fed_within = sound.fed_within;
+  fed_held = sound.fed_held;
   whole = sound.whole;
   room = sound.room;
 }
@@ -89,7 +94,7 @@ module _ {A : Type 0} (G : Automata A) (a : A) (p : Patterns) (standard : G.kind
         record { numbered = found.0.numbered; after_start = found.0.after_start; before_end = omega (arith, found.0.before_end); sized = found.0.sized; same = found.0.same; admitted = λ e. cc },
       )
 
-  module _ (pieces : List (List ℕ)) (s : CoverProgress) (at : ℕ) (written : Output) (covers : CoversOn G a pieces s at p haystack written) (reached : Reached)
+  module _ (rule : PieceRule) (s : CoverProgress) (at : ℕ) (written : Output) (covers : CoversOn G a rule s at p haystack written) (reached : Reached)
       (within : at + reached.count ≤ s.read) (reaches : Reaches G a p haystack at s.since reached) (counted : told_before reached ≤ reached.count) where
     read_within : s.read ≤ length haystack
     read_within = covers.covered.given.within
@@ -101,7 +106,7 @@ module _ {A : Type 0} (G : Automata A) (a : A) (p : Patterns) (standard : G.kind
         sym (listed-here k sid stands) ∙ ap (map (ended (G.lengths a) k)) nothing
 
     -- so the cover has come there
-    pub has-moved : HasCovered pieces (record s { sid = reached.sid; since = reached.since }) (at + told_before reached) p haystack written
+    pub has-moved : HasCovered rule (record s { sid = reached.sid; since = reached.since }) (at + told_before reached) p haystack written
     has-moved =
         let has = covers.covered in
         record {
@@ -113,17 +118,18 @@ module _ {A : Type 0} (G : Automata A) (a : A) (p : Patterns) (standard : G.kind
           settled = λ x there m occurs later. has.settled x there m occurs (omega arith);
           before = has.before;
           clear = λ m occurs later. has.clear m occurs (omega arith);
+          fed_clear = λ m occurs later. has.fed_clear m occurs (omega arith);
           written_is = has.written_is;
         }
 
     -- where nothing is told, the cover has come as far as the walk
-    pub moved-all : reached.found ≡ None → CoversOn G a pieces (record s { sid = reached.sid; since = reached.since }) (at + reached.count) p haystack written
+    pub moved-all : reached.found ≡ None → CoversOn G a rule (record s { sid = reached.sid; since = reached.since }) (at + reached.count) p haystack written
     moved-all none =
         let all : told_before reached ≡ reached.count = ap (λ (found : Option Occurrence). walked_before found reached.count) none in
         record {
           of = covers.of;
           is_held = reaches.stands;
-          covered = subst (λ (n : ℕ). HasCovered pieces (record s { sid = reached.sid; since = reached.since }) (at + n) p haystack written) all has-moved;
+          covered = subst (λ (n : ℕ). HasCovered rule (record s { sid = reached.sid; since = reached.since }) (at + n) p haystack written) all has-moved;
         }
 
     module _ (m : Occurrence) (some : reached.found ≡ Some m) (full : 1 ≤ shortest (G.lengths a)) (further : 0 < reached.count) where
@@ -131,11 +137,11 @@ module _ {A : Type 0} (G : Automata A) (a : A) (p : Patterns) (standard : G.kind
       moved-end = told-ends (G.lengths a) (G.list a reached.sid) (at + reached.count) m (sym reaches.told_is ∙ some)
 
       -- all but the last byte of the match was walked
-      pub moved-before : HasCovered pieces (record s { sid = reached.sid; since = reached.since }) (m.end - 1) p haystack written
+      pub moved-before : HasCovered rule (record s { sid = reached.sid; since = reached.since }) (m.end - 1) p haystack written
       moved-before =
           let all : told_before reached ≡ reached.count - 1 = ap (λ (found : Option Occurrence). walked_before found reached.count) some in
           let place : at + told_before reached ≡ m.end - 1 = omega (arith, all, moved-end) in
-          subst (λ (n : ℕ). HasCovered pieces (record s { sid = reached.sid; since = reached.since }) n p haystack written) place has-moved
+          subst (λ (n : ℕ). HasCovered rule (record s { sid = reached.sid; since = reached.since }) n p haystack written) place has-moved
 
       -- it is the longest that ends there
       pub moved-found : ((others : List Occurrence) × (occurrences_ending p haystack 0 m.end ≡ m ∷ others)) × (m.start < m.end) × Occurs p No haystack 0 (length haystack) m
@@ -147,9 +153,13 @@ module _ {A : Type 0} (G : Automata A) (a : A) (p : Patterns) (standard : G.kind
       pub moved-behind : max s.copied (open_place (record s { sid = reached.sid; since = reached.since }) (m.end - 1)) ≤ m.start
       moved-behind =
           let later : m.end - 1 < m.end = omega (arith, moved-found.1) in
-          omega (arith, moved-before.clear m moved-found.2 later, has-open p haystack pieces (record s { sid = reached.sid; since = reached.since }) (m.end - 1) written moved-before m moved-found.2 later)
+          omega (arith, moved-before.clear m moved-found.2 later, has-open p haystack rule (record s { sid = reached.sid; since = reached.since }) (m.end - 1) written moved-before m moved-found.2 later)
 
-      pub moved-next : EndsNext pieces (record s { sid = reached.sid; since = reached.since }) m p haystack written × (G.is_of a p × StandsIn G a p haystack reached.sid m.end)
+      -- and behind what was fed
+      pub moved-unfed : s.fed ≤ m.start
+      moved-unfed = (let later : m.end - 1 < m.end = omega (arith, moved-found.1) in moved-before.fed_clear m moved-found.2 later)
+
+      pub moved-next : EndsNext rule (record s { sid = reached.sid; since = reached.since }) m p haystack written × (G.is_of a p × StandsIn G a p haystack reached.sid m.end)
       moved-next = ((moved-before, moved-found.0), (covers.of, subst (λ (k : ℕ). StandsIn G a p haystack reached.sid k) (sym moved-end) reaches.stands))
 
 -- no more was walked before a match was told than in all

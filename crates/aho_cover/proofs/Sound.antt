@@ -1,16 +1,18 @@
 -- The numbers of a cover, from one run that is written to the next.
-use Rattle.std.proofs.Common.{◌≡◌, inl, inr, ℕ, ◌+◌, ◌-◌, ◌/◌, ◌^◌, ◌<◌, ◌≤◌, max, min, List, [], ◌∷◌, length, refl, sym, ◌∙◌, ap, subst, arith}
-use Rattle.std.proofs.lemmas.Bool.{cases_lt}
+use Rattle.std.proofs.Common.{◌≡◌, ◌⊎◌, inl, inr, ℕ, ◌+◌, ◌-◌, ◌/◌, ◌^◌, ◌<◌, ◌≤◌, max, min, List, [], ◌∷◌, length, refl, sym, ◌∙◌, ap, subst, arith}
+use Rattle.std.specs.Prelude.{Some, nat_lt}
+use Rattle.std.proofs.lemmas.Bool.{cases_lt, cond-false, cond-true, le-ltb, lt-ltb}
 use Rattle.aho_core.specs.Listing.{IsMember}
 use Rattle.aho_core.specs.Occurrence.{Occurrence}
-use Rattle.aho_laws.specs.CoverLaws.{AreInOrder, joined_runs}
+use Rattle.aho_laws.specs.CoverLaws.{AreInOrder, extended, joined_runs}
 use Rattle.aho_devices.specs.Buffer.{Buffered}
-use Rattle.aho_laws.proofs.CoverRuns.{in_order-rest, joined-has, joined-in_order}
+use Rattle.aho_laws.proofs.CoverRuns.{in_order-rest, joined-has, joined-in_order, member-of_joined}
 use Rattle.aho_laws.proofs.SettledRuns.{few-joined}
 use Rattle.aho_cover.specs.declared.hand.Hand.{Hand}
 use Rattle.aho_cover.specs.declared.progress.CoverProgress.{CoverProgress}
-use Rattle.aho_cover.specs.Hand.{FirstEndsBehind, HasItsFirst, held_runs, room_in}
-use Rattle.aho_cover.specs.Progress.{BareFrom, IsSoundCover, open_place, outside_end}
+use Rattle.aho_cover.specs.Feeds.{HasFedFirst}
+use Rattle.aho_cover.specs.Hand.{FirstEndsBehind, HasItsFirst, first_start, held_runs, room_in}
+use Rattle.aho_cover.specs.Progress.{BareFrom, IsSoundCover, least_start, open_place, outside_end}
 use Rattle.aho_cover.proofs.Covered.{joined-start}
 
 module _ (s : CoverProgress) (at : ℕ) (sound : IsSoundCover s at) where
@@ -28,6 +30,10 @@ module _ (s : CoverProgress) (at : ℕ) (sound : IsSoundCover s at) where
     -- and the others lie behind it
     pub rest-lie : (y : Occurrence) → IsMember rest y → x.end < y.start
     rest-lie y there = ordered-first.in_order.0 y there
+
+    -- no more was fed than it has
+    pub first-fed : s.fed ≤ x.end
+    first-fed = sound.fed_within x (member-first x (inl refl))
 
     -- the bytes in front of it are held
     pub gap-held : s.copied < x.start → s.read ≤ s.copied + length s.buffer.bytes
@@ -61,6 +67,10 @@ module _ (s : CoverProgress) (at : ℕ) (sound : IsSoundCover s at) where
             | inl e ↦ omega (arith, c.before_end, ap (λ (o : Occurrence). o.end) e)
             | inr later ↦ bare (record { found = c.found; member = subst (λ (runs : List Occurrence). IsMember runs c.found) (sym left) later; after_start = c.after_start; before_end = c.before_end })
           ]);
+      fed_walked = sound.fed_walked;
+      fed_first = λ some. absurd (omega (arith, some, ends, sound.fed_within x (member-first x (inl refl))));
+      fed_within = λ y there. sound.fed_within y (member-first y (inr (subst (λ (runs : List Occurrence). IsMember runs y) left there)));
+      fed_held = λ y there. sound.fed_held y (member-first y (inr (subst (λ (runs : List Occurrence). IsMember runs y) left there)));
       whole = whole;
       room = room ∙ sound.room;
     }
@@ -103,6 +113,14 @@ module _ (s : CoverProgress) (at : ℕ) (sound : IsSoundCover s at) where
     in_order = sound.in_order;
     behind = λ y there. omega (arith, sound.behind y there, end-first (held_runs s.hand) at place sound.in_order y there);
     kept = λ place low bare. sound.kept place (omega arith) bare;
+    fed_walked = sound.fed_walked;
+    fed_first = λ some.
+        let before = sound.fed_first (omega (arith, some, most)) in
+        let end : outside_end place (held_runs s.hand) ≡ min place s.copied = ap (least_start place) before in
+        let same : s.copied ≡ copied = omega (arith, most, end) in
+        before ∙ ap Some same;
+    fed_within = sound.fed_within;
+    fed_held = sound.fed_held;
     whole = sound.whole;
     room = sound.room;
   }
@@ -146,6 +164,21 @@ module _ (s : CoverProgress) (at : ℕ) (sound : IsSoundCover s at) where
 pub order-later : (runs : List Occurrence) (at at' : ℕ) → at ≤ at' → AreInOrder runs at → AreInOrder runs at'
 order-later runs at at' le ordered = record { in_order = ordered.in_order; full = ordered.full; within = λ x there. omega (arith, ordered.within x there) }
 
+-- where the first run begins, once a match is joined that begins behind it
+joined-first : (runs : List Occurrence) (m : Occurrence) (place : ℕ) → first_start runs ≡ Some place → place < m.start → first_start (joined_runs runs m) ≡ Some place
+joined-first [] m place first behind = cc
+joined-first (x ∷ runs) m place first behind =
+    let start : x.start ≡ place = cc in
+    let apart = x ∷ joined_runs runs m in
+    let touching = extended x m ∷ [] in
+    elim (cases_lt x.end m.start) [
+      | inl before ↦ ap first_start (cond-true (nat_lt x.end m.start) apart touching (lt-ltb x.end m.start before)) ∙ first
+      | inr touches ↦
+          ap first_start (cond-false (nat_lt x.end m.start) apart touching (le-ltb x.end m.start touches))
+          ∙ ap (λ (o : Occurrence). Some o.start) (cond-true (nat_lt x.start m.start) (record { pattern = x.pattern; start = x.start; end = m.end }) m (lt-ltb x.start m.start (omega (arith, start, behind))))
+          ∙ first
+    ]
+
 -- a match is joined that ends one byte later
 module _ (s : CoverProgress) (m : Occurrence) (sound : IsSoundCover s (m.end - 1)) (some : m.start < m.end) where
   pub order-joined : AreInOrder (held_runs s.hand) m.end
@@ -160,8 +193,15 @@ module _ (s : CoverProgress) (m : Occurrence) (sound : IsSoundCover s (m.end - 1
         few-joined (held_runs s.hand) (m.end - s.buffer.least) (m.end - 1) m sound.in_order (λ x there. omega (arith, all-behind s (m.end - 1) sound place last x there)) (omega arith) some,
       )
 
-  pub sound-joined : (hand : Hand) → held_runs hand ≡ joined_runs (held_runs s.hand) m → m.end ≤ s.read → s.copied ≤ m.start → HasItsFirst hand → room_in hand ≡ room_in s.hand → IsSoundCover (record s { hand = hand }) m.end
-  sound-joined hand joined within behind whole room = record {
+  -- its bytes are held, or were fed
+  joined-held : s.copied ≤ m.start → s.read ≤ max s.fed m.start + length s.buffer.bytes
+  joined-held behind = elim (cases_lt (max s.fed m.start + length s.buffer.bytes) s.read) [
+    | inl short ↦ absurd (omega (arith, short, sound.held, sound.kept m.start behind (λ c. omega (arith, short, c.after_start, sound.fed_held c.found c.member))))
+    | inr long ↦ long
+  ]
+
+  pub sound-joined : (hand : Hand) → held_runs hand ≡ joined_runs (held_runs s.hand) m → m.end ≤ s.read → s.copied ≤ m.start → s.fed ≤ m.start → HasItsFirst hand → room_in hand ≡ room_in s.hand → IsSoundCover (record s { hand = hand }) m.end
+  sound-joined hand joined within behind unfed whole room = record {
     small = sound.small;
     walked = within;
     some = sound.some;
@@ -174,6 +214,19 @@ module _ (s : CoverProgress) (m : Occurrence) (sound : IsSoundCover s (m.end - 1
     kept = λ place low bare. sound.kept place low (λ c.
         let d = joined-has (held_runs s.hand) m place order-joined some (inl c) in
         bare (record { found = d.found; member = subst (λ (runs : List Occurrence). IsMember runs d.found) (sym joined) d.member; after_start = d.after_start; before_end = d.before_end }));
+    fed_walked = omega (arith, sound.fed_walked);
+    fed_first = λ low. ap first_start joined ∙ joined-first (held_runs s.hand) m s.copied (sound.fed_first low) (omega (arith, low, unfed));
+    fed_within = λ y there. elim (member-of_joined (held_runs s.hand) m y (subst (λ (runs : List Occurrence). IsMember runs y) joined there)) [
+      | inl old ↦ sound.fed_within y old.0
+      | inr last ↦ omega (arith, last.0, unfed, some)
+    ];
+    fed_held = λ y there. elim (member-of_joined (held_runs s.hand) m y (subst (λ (runs : List Occurrence). IsMember runs y) joined there)) [
+      | inl old ↦ sound.fed_held y old.0
+      | inr last ↦ elim last.1 [
+        | inl own ↦ omega (arith, joined-held behind, own.0)
+        | inr other ↦ omega (arith, sound.fed_held other.1.0 other.1.1, other.1.3)
+      ]
+    ];
     whole = whole;
     room = room ∙ sound.room;
   }
@@ -184,9 +237,72 @@ open-within s at sound = omega (arith, sound.since_walked, sound.some)
 
 -- once more was read
 module _ (s : CoverProgress) (sound : IsSoundCover s s.read) (near : BareFrom s.copied (held_runs s.hand) (s.read - s.buffer.least)) where
-  pub sound-read : (buffer : Buffered) (read n : ℕ) → read ≡ s.read + n → read < 2 ^ 63 → buffer.least ≡ s.buffer.least → length buffer.bytes ≡ min s.buffer.least (length s.buffer.bytes) + n
+  module _ (x : Occurrence) (rest : List Occurrence) (first : held_runs s.hand ≡ x ∷ rest) where
+    abbrev kept_from : ℕ
+    kept_from = s.read - s.buffer.least
+
+    member-known : (y : Occurrence) → IsMember (held_runs s.hand) y → (y ≡ x) ⊎ (x.end < y.start) × (y.start < y.end)
+    member-known y there = elim (subst (λ (runs : List Occurrence). IsMember runs y) first there) [
+      | inl e ↦ inl e
+      | inr later ↦ inr (rest-lie s s.read sound x rest first y later, sound.in_order.full y there)
+    ]
+
+    -- the first run begins where all was written, if the buffer may let go of its first byte
+    pub first-copied : x.start < s.read - s.buffer.least → x.start ≡ s.copied
+    first-copied gone = elim (cases_lt s.copied x.start) [
+      | inl before ↦ absurd (omega (
+        arith,
+        gone,
+        near s.copied (omega arith) (λ c. elim (member-known c.found c.member) [
+          | inl e ↦ omega (arith, before, c.after_start, ap (λ (o : Occurrence). o.start) e)
+          | inr later ↦ omega (arith, before, c.after_start, later, first-lies s s.read sound x rest first)
+        ]),
+        before,
+      ))
+      | inr past ↦ omega (arith, past, first-lies s s.read sound x rest first)
+    ]
+
+    -- and ends in the bytes that it keeps, or behind them
+    first-ends : s.read - s.buffer.least ≤ x.end
+    first-ends = near x.end (omega (arith, first-lies s s.read sound x rest first)) (λ c. elim (member-known c.found c.member) [
+      | inl e ↦ omega (arith, c.before_end, ap (λ (o : Occurrence). o.end) e)
+      | inr later ↦ omega (arith, c.after_start, later)
+    ])
+
+    -- once its bytes were fed up to there
+    pub sound-fed : (fed : ℕ) → fed ≡ s.read - s.buffer.least → max s.fed x.start < fed → IsSoundCover (record s { fed = fed }) s.read
+    sound-fed fed is more = record {
+      small = sound.small;
+      walked = sound.walked;
+      some = sound.some;
+      held = sound.held;
+      unwalked = sound.unwalked;
+      since_walked = sound.since_walked;
+      copied_walked = sound.copied_walked;
+      in_order = sound.in_order;
+      behind = sound.behind;
+      kept = sound.kept;
+      fed_walked = omega (arith, is);
+      fed_first = λ some. ap first_start first ∙ ap Some (first-copied (omega (arith, is, more)));
+      fed_within = λ y there. elim (member-known y there) [
+        | inl e ↦ omega (arith, is, first-ends, ap (λ (o : Occurrence). o.end) e)
+        | inr later ↦ omega (arith, is, first-ends, later)
+      ];
+      fed_held = λ y there. omega (arith, more, sound.fed_held y there);
+      whole = sound.whole;
+      room = sound.room;
+    }
+
+    -- nothing of it is to be fed
+    pub fed-enough : s.read - s.buffer.least ≤ max s.fed x.start → HasFedFirst s
+    fed-enough enough y there = elim (member-known y there) [
+      | inl e ↦ omega (arith, enough, ap (λ (o : Occurrence). o.start) e)
+      | inr later ↦ omega (arith, enough, later, first-lies s s.read sound x rest first)
+    ]
+
+  pub sound-read : HasFedFirst s → (buffer : Buffered) (read n : ℕ) → read ≡ s.read + n → read < 2 ^ 63 → buffer.least ≡ s.buffer.least → length buffer.bytes ≡ min s.buffer.least (length s.buffer.bytes) + n
       → IsSoundCover (record s { buffer = buffer; read = read }) s.read
-  sound-read buffer read n count small least long = record {
+  sound-read fed buffer read n count small least long = record {
     small = small;
     walked = omega arith;
     some = omega (arith, sound.some);
@@ -197,6 +313,10 @@ module _ (s : CoverProgress) (sound : IsSoundCover s s.read) (near : BareFrom s.
     in_order = sound.in_order;
     behind = sound.behind;
     kept = λ place low bare. omega (arith, sound.kept place low bare, near place low bare);
+    fed_walked = sound.fed_walked;
+    fed_first = sound.fed_first;
+    fed_within = sound.fed_within;
+    fed_held = λ x there. omega (arith, sound.fed_held x there, fed x there);
     whole = sound.whole;
     room = sound.room ∙ ap (λ (n : ℕ). n / 2 + 1) (sym least);
   }

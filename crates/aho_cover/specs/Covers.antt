@@ -6,7 +6,7 @@ use Rattle.aho_core.specs.declared.error.MatchErrorKind.{MatchErrorKind}
 use Rattle.aho_core.specs.declared.error.stream.StreamError.{StreamError}
 use Rattle.aho_core.specs.declared.error.stream.StreamError.TheVariants.{Match}
 use Rattle.aho_core.specs.declared.search.MatchKind.TheVariants.{Standard}
-use Rattle.aho_core.specs.Cover.{AreRuns, IsCover, IsCovered}
+use Rattle.aho_core.specs.Cover.{AreRuns, IsCovered}
 use Rattle.aho_core.specs.Laws.{shortest}
 use Rattle.aho_core.specs.Occurrence.{Occurrence}
 use Rattle.aho_core.specs.Occurs.{OccursIn}
@@ -18,9 +18,10 @@ use Rattle.aho_devices.specs.declared.device.Source.{Ghosts as SourceGhosts}
 use Rattle.aho_automaton.specs.declared.automaton.Automaton.{Ghosts as Automata}
 use Rattle.aho_stream.specs.After.{greatest_position, kept_for}
 use Rattle.aho_stream.specs.Refills.{is_limit}
-use Rattle.aho_stream.specs.Replacing.{GaveAsMany, MayBe, SourceGave, piece_for}
+use Rattle.aho_stream.specs.Replacing.{GaveAsMany, MayBe, SourceGave}
 use Rattle.aho_cover.specs.declared.progress.CoverProgress.{CoverProgress}
 use Rattle.aho_cover.specs.Counting.{CountsThese, no_output}
+use Rattle.aho_cover.specs.Pieces.{IsCoverBy, PieceRule, fixed_rule, piece_in}
 use Rattle.aho_cover.specs.Progress.{IsSoundCover}
 use Rattle.aho_cover.specs.Steps.{CoversOn}
 
@@ -32,28 +33,28 @@ covered_up_to bytes place at (run ∷ runs) piece =
     then slice_range bytes at run.start ++ (piece run ++ covered_up_to bytes place run.end runs piece)
     else slice_range bytes at place
 
--- of the patterns that are searched for, with one piece for each of them: from a source and a sink before a call to those after it
-module _ {R W : Type 0} (S : SourceGhosts R) (K : SinkGhosts W) (AreSearched : Patterns → Type 0) (pieces : List (List ℕ)) (source source' : R) (sink sink' : W) where
+-- of the patterns that are searched for, with a piece that is made of each run: from a source and a sink before a call to those after it
+module _ {R W : Type 0} (S : SourceGhosts R) (K : SinkGhosts W) (AreSearched : Patterns → Type 0) (rule : PieceRule) (source source' : R) (sink sink' : W) where
   -- the stream has ended, and the cover of all that was given was written
-  pub record CoversStream : Type 0 where
+  pub record CoversStreamBy : Type 0 where
     pub given : List ℕ
     pub gives : SourceGave S source source' given true
     pub output : List ℕ
     pub writes : Appends (K.taken sink) (K.taken sink') output
-    pub covers : (p : Patterns) → AreSearched p → IsCover p given pieces output
+    pub covers : (p : Patterns) → AreSearched p → IsCoverBy p given rule output
 
   -- a beginning of the cover was written, whatever bytes may follow
-  pub record BeginsCovering : Type 0 where
+  pub record BeginsCoveringBy : Type 0 where
     pub given : List ℕ
     pub ended : Bool
     pub gives : SourceGave S source source' given ended
     pub written : List ℕ
     pub writes : Appends (K.taken sink) (K.taken sink') written
-    pub beginning : (p : Patterns) (bytes output : List ℕ) → AreSearched p → MayBe given ended bytes → IsCover p bytes pieces output → StartsWith output written
+    pub beginning : (p : Patterns) (bytes output : List ℕ) → AreSearched p → MayBe given ended bytes → IsCoverBy p bytes rule output → StartsWith output written
 
   -- the cover was written up to a place, whatever bytes may follow: each byte behind it lies in a match of the bytes given, or at
   -- most as many are given from it on as the longest pattern has
-  pub record CoversStreamUpTo : Type 0 where
+  pub record CoversStreamUpToBy : Type 0 where
     pub given : List ℕ
     pub ended : Bool
     pub gives : SourceGave S source source' given ended
@@ -61,15 +62,29 @@ module _ {R W : Type 0} (S : SourceGhosts R) (K : SinkGhosts W) (AreSearched : P
     pub within : place ≤ length given
     pub near : (p : Patterns) (at : ℕ) → AreSearched p → place ≤ at → (IsCovered (OccursIn p (plain_search given)) at → ⊥) → length given ≤ at + kept_for (map length p.words)
     pub writes : (p : Patterns) (bytes : List ℕ) (runs : List Occurrence) → AreSearched p → MayBe given ended bytes → AreRuns p bytes runs
-        → Appends (K.taken sink) (K.taken sink') (covered_up_to bytes place 0 runs (piece_for pieces))
+        → Appends (K.taken sink) (K.taken sink') (covered_up_to bytes place 0 runs (piece_in rule bytes))
 
   -- what a cover leaves that answers so: all of it was written, or a beginning, and all but the last bytes where a read failed or
   -- the limit was met. That is where as many bytes were given
-  pub record LeavesCovered (result : Result (Unit {0}) StreamError) : Type 0 where
-    pub covered : OnOk result CoversStream
-    pub begun : OnErr result BeginsCovering
-    pub near : IfErr result (λ error. IsFillRefusal error → CoversStreamUpTo)
+  pub record LeavesCoveredBy (result : Result (Unit {0}) StreamError) : Type 0 where
+    pub covered : OnOk result CoversStreamBy
+    pub begun : OnErr result BeginsCoveringBy
+    pub near : IfErr result (λ error. IsFillRefusal error → CoversStreamUpToBy)
     pub limit : is_limit result ≡ true → GaveAsMany S source source' greatest_position
+
+-- the same with one piece for each pattern
+module _ {R W : Type 0} (S : SourceGhosts R) (K : SinkGhosts W) (AreSearched : Patterns → Type 0) (pieces : List (List ℕ)) (source source' : R) (sink sink' : W) where
+  abbrev pub CoversStream : Type 0
+  CoversStream = CoversStreamBy S K AreSearched (fixed_rule pieces) source source' sink sink'
+
+  abbrev pub BeginsCovering : Type 0
+  BeginsCovering = BeginsCoveringBy S K AreSearched (fixed_rule pieces) source source' sink sink'
+
+  abbrev pub CoversStreamUpTo : Type 0
+  CoversStreamUpTo = CoversStreamUpToBy S K AreSearched (fixed_rule pieces) source source' sink sink'
+
+  abbrev pub LeavesCovered : Result (Unit {0}) StreamError → Type 0
+  LeavesCovered result = LeavesCoveredBy S K AreSearched (fixed_rule pieces) source source' sink sink' result
 
 -- the runs that a cover counts, of the patterns that are searched for: from a source before a call to it after the call
 module _ {R : Type 0} (S : SourceGhosts R) (AreSearched : Patterns → Type 0) (source source' : R) (counts counts' : List ℕ) where
@@ -105,5 +120,6 @@ pub record IsUnbegunCover {A : Type 0} (G : Automata A) (a : A) (s : CoverProgre
   pub is_state : G.valid a s.sid
   pub shallow : G.depth a s.sid ≡ 0
   pub unread : s.read ≡ 0
+  pub unfed : s.fed ≡ 0
   pub sound : IsSoundCover s 0
-  pub covers : (p : Patterns) (pieces : List (List ℕ)) (haystack : List ℕ) → G.is_of a p → CoversOn G a pieces s 0 p haystack no_output
+  pub covers : (p : Patterns) (rule : PieceRule) (haystack : List ℕ) → G.is_of a p → CoversOn G a rule s 0 p haystack no_output

@@ -2,7 +2,9 @@ pub mod Hand
 pub mod Walks
 pub mod Counting
 pub mod Writes
+pub mod Pieces
 pub mod Progress
+pub mod Feeds
 pub mod Settling
 pub mod Steps
 pub mod Refilling

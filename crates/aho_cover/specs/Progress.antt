@@ -8,18 +8,18 @@ use Rattle.aho_core.specs.Overlapping.{occurrences_ending}
 use Rattle.aho_core.specs.Patterns.{Patterns}
 use Rattle.aho_laws.specs.CoverLaws.{AreInOrder, runs_upto}
 use Rattle.aho_devices.specs.Buffer.{Buffered}
-use Rattle.aho_automaton.specs.Covering.{cover_in, runs_in}
+use Rattle.aho_automaton.specs.Covering.{runs_in}
 use Rattle.aho_stream.specs.After.{EndsWith, kept_for}
-use Rattle.aho_stream.specs.Replacing.{piece_for}
 use Rattle.aho_cover.specs.declared.hand.Hand.{Hand}
 use Rattle.aho_cover.specs.declared.progress.CoverProgress.{CoverProgress}
 use Rattle.aho_cover.specs.Hand.{HasItsFirst, first_start, held_runs, room_in}
 use Rattle.aho_cover.specs.Counting.{Output}
+use Rattle.aho_cover.specs.Pieces.{PieceRule, cover_by, piece_in}
 use Rattle.aho_cover.specs.Walks.{NoneReaches}
 
 -- before the first byte
 abbrev pub unbegun_cover : Buffered → Hand → ℕ → CoverProgress
-unbegun_cover buffer hand sid = record { buffer = buffer; read = 0; since = 0; copied = 0; sid = sid; hand = hand }
+unbegun_cover buffer hand sid = record { buffer = buffer; read = 0; since = 0; copied = 0; fed = 0; sid = sid; hand = hand }
 
 -- the place before which nothing begins that ends behind another: the last start, or as far back as the longest pattern reaches
 abbrev pub open_place : CoverProgress → ℕ → ℕ
@@ -38,7 +38,7 @@ abbrev pub BareFrom : ℕ → List Occurrence → ℕ → Type 0
 BareFrom from runs low = (place : ℕ) → from ≤ place → (IsCovered (IsMember runs) place → ⊥) → low ≤ place
 
 -- the numbers of a cover of which so many bytes were walked. The buffer holds each byte that was not walked, and each that was not
--- written and lies in no run in hand
+-- written and lies in no run in hand. Of the runs in hand it holds each byte that was not fed
 pub record IsSoundCover (s : CoverProgress) (at : ℕ) : Type 0 where
   pub small : s.read < 2 ^ 63
   pub walked : at ≤ s.read
@@ -50,6 +50,10 @@ pub record IsSoundCover (s : CoverProgress) (at : ℕ) : Type 0 where
   pub in_order : AreInOrder (held_runs s.hand) at
   pub behind : (x : Occurrence) → IsMember (held_runs s.hand) x → s.copied ≤ x.start
   pub kept : BareFrom s.copied (held_runs s.hand) (s.read - length s.buffer.bytes)
+  pub fed_walked : s.fed ≤ at
+  pub fed_first : s.copied < s.fed → first_start (held_runs s.hand) ≡ Some s.copied
+  pub fed_within : (x : Occurrence) → IsMember (held_runs s.hand) x → s.fed ≤ x.end
+  pub fed_held : (x : Occurrence) → IsMember (held_runs s.hand) x → s.read ≤ max s.fed x.start + length s.buffer.bytes
   pub whole : HasItsFirst s.hand
   pub room : room_in s.hand ≡ s.buffer.least / 2 + 1
 
@@ -70,7 +74,7 @@ copied_to haystack at (run ∷ runs) piece place = slice_range haystack at run.s
 
 -- of a stream that begins with the bytes given, so many bytes were walked. The runs of what ends there are some that were written,
 -- which nothing can touch that ends later, and those in hand
-pub record HasCovered (pieces : List (List ℕ)) (s : CoverProgress) (at : ℕ) (p : Patterns) (haystack : List ℕ) (written : Output) : Type 0 where
+pub record HasCovered (rule : PieceRule) (s : CoverProgress) (at : ℕ) (p : Patterns) (haystack : List ℕ) (written : Output) : Type 0 where
   pub given : IsGiven s haystack
   pub walked_within : at ≤ s.read
   pub far : s.buffer.least ≡ kept_for (map length p.words)
@@ -79,26 +83,27 @@ pub record HasCovered (pieces : List (List ℕ)) (s : CoverProgress) (at : ℕ) 
   pub settled : (x : Occurrence) → IsMember written.runs x → NoneReaches p haystack at (x.end + 1)
   pub before : (x : Occurrence) → IsMember written.runs x → x.end ≤ s.copied
   pub clear : NoneReaches p haystack at s.copied
-  pub written_is : written.bytes ≡ copied_to haystack 0 written.runs (piece_for pieces) s.copied
+  pub fed_clear : NoneReaches p haystack at s.fed
+  pub written_is : written.bytes ≡ copied_to haystack 0 written.runs (piece_in rule haystack) s.copied
 
 -- and nothing that ends later begins before a place
-abbrev pub ClearlyCovered : List (List ℕ) → CoverProgress → ℕ → ℕ → Patterns → List ℕ → Output → Type 0
-ClearlyCovered pieces s at place p haystack written = HasCovered pieces s at p haystack written × NoneReaches p haystack at place
+abbrev pub ClearlyCovered : PieceRule → CoverProgress → ℕ → ℕ → Patterns → List ℕ → Output → Type 0
+ClearlyCovered rule s at place p haystack written = HasCovered rule s at p haystack written × NoneReaches p haystack at place
 
 -- what was written begins the cover of these bytes, and so do its runs
-abbrev pub IsBeginning : List (List ℕ) → Patterns → List ℕ → Output → Type 0
-IsBeginning pieces p haystack written = StartsWith (cover_in p haystack pieces) written.bytes
+abbrev pub IsBeginning : PieceRule → Patterns → List ℕ → Output → Type 0
+IsBeginning rule p haystack written = StartsWith (cover_by p haystack rule) written.bytes
     × ((later : List Occurrence) × (runs_in p haystack ≡ written.runs ++ later))
 
 -- it is the cover
-abbrev pub IsAll : List (List ℕ) → Patterns → List ℕ → Output → Type 0
-IsAll pieces p haystack written = (written.bytes ≡ cover_in p haystack pieces) × (written.runs ≡ runs_in p haystack)
+abbrev pub IsAll : PieceRule → Patterns → List ℕ → Output → Type 0
+IsAll rule p haystack written = (written.bytes ≡ cover_by p haystack rule) × (written.runs ≡ runs_in p haystack)
 
 -- all but the last byte of a match was walked, and of what ends with it the match is the longest, and the first by number
-abbrev pub EndsNext : List (List ℕ) → CoverProgress → Occurrence → Patterns → List ℕ → Output → Type 0
-EndsNext pieces s m p haystack written = HasCovered pieces s (m.end - 1) p haystack written
+abbrev pub EndsNext : PieceRule → CoverProgress → Occurrence → Patterns → List ℕ → Output → Type 0
+EndsNext rule s m p haystack written = HasCovered rule s (m.end - 1) p haystack written
     × ((others : List Occurrence) × (occurrences_ending p haystack 0 m.end ≡ m ∷ others))
 
 -- all that was given was walked, and nothing follows
-abbrev pub EndsHere : List (List ℕ) → CoverProgress → Patterns → List ℕ → Output → Type 0
-EndsHere pieces s p haystack written = HasCovered pieces s s.read p haystack written × (length haystack ≡ s.read)
+abbrev pub EndsHere : PieceRule → CoverProgress → Patterns → List ℕ → Output → Type 0
+EndsHere rule s p haystack written = HasCovered rule s s.read p haystack written × (length haystack ≡ s.read)

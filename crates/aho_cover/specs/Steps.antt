@@ -7,33 +7,38 @@ use Rattle.aho_automaton.specs.declared.automaton.Automaton.{Ghosts as Automata}
 use Rattle.aho_automaton.specs.declared.walk.Counted.{Counted}
 use Rattle.aho_cover.specs.declared.progress.CoverProgress.{CoverProgress}
 use Rattle.aho_devices.specs.declared.device.Sink.{Ghosts as SinkGhosts}
+use Rattle.aho_cover.specs.declared.pieces.Pieces.{Ghosts as PieceGhosts}
 use Rattle.aho_cover.specs.Counting.{Output}
+use Rattle.aho_cover.specs.Feeds.{Feeding}
 use Rattle.aho_cover.specs.Hand.{held_runs}
+use Rattle.aho_cover.specs.Pieces.{PieceRule}
 use Rattle.aho_cover.specs.Progress.{BareFrom, HasCovered}
 use Rattle.aho_cover.specs.Walks.{StandsIn}
 use Rattle.aho_cover.specs.Writes.{WritesOn}
 
 -- by an automaton of these patterns the state is held after the bytes that were walked, and so much was covered
-pub record CoversOn {A : Type 0} (G : Automata A) (a : A) (pieces : List (List ℕ)) (s : CoverProgress) (at : ℕ) (p : Patterns) (haystack : List ℕ) (written : Output) : Type 0 where
+pub record CoversOn {A : Type 0} (G : Automata A) (a : A) (rule : PieceRule) (s : CoverProgress) (at : ℕ) (p : Patterns) (haystack : List ℕ) (written : Output) : Type 0 where
   pub of : G.is_of a p
   pub is_held : StandsIn G a p haystack s.sid at
-  pub covered : HasCovered pieces s at p haystack written
+  pub covered : HasCovered rule s at p haystack written
 
 -- a walk from one place to another writes and counts what settles on its way
-abbrev pub WalksAlong : {A W : Type 0} → Automata A → SinkGhosts W → A → List (List ℕ) → W → W → List ℕ → List ℕ → CoverProgress → ℕ → CoverProgress → ℕ → Type 0
-WalksAlong G K a pieces sink sink' counts counts' s at s' at' = WritesOn K sink sink' counts counts' (CoversOn G a pieces s at) (CoversOn G a pieces s' at')
+abbrev pub WalksAlong : {A W P : Type 0} → Automata A → SinkGhosts W → PieceGhosts P → A → P → P → W → W → List ℕ → List ℕ → CoverProgress → ℕ → CoverProgress → ℕ → Type 0
+WalksAlong G K Q a pieces pieces' sink sink' counts counts' s at s' at' = WritesOn K sink sink' counts counts'
+    (Feeding (Q.holds pieces) s (CoversOn G a (Q.rule pieces) s at))
+    (Feeding (Q.holds pieces') s' (CoversOn G a (Q.rule pieces) s' at'))
 
 -- what was covered up to one place is covered up to another, and nothing was written in between
 abbrev pub PassesOver : {A : Type 0} → Automata A → A → CoverProgress → ℕ → CoverProgress → ℕ → Type 0
-PassesOver G a s at s' at' = (pieces : List (List ℕ)) (p : Patterns) (haystack : List ℕ) (written : Output) → CoversOn G a pieces s at p haystack written → CoversOn G a pieces s' at' p haystack written
+PassesOver G a s at s' at' = (rule : PieceRule) (p : Patterns) (haystack : List ℕ) (written : Output) → CoversOn G a rule s at p haystack written → CoversOn G a rule s' at' p haystack written
 
 -- the walk may go on, with so many bytes walked
-pub record CanWalk {A : Type 0} (G : Automata A) (walk : Counted A) (pieces : List (List ℕ)) (s : CoverProgress) (at : ℕ) : Type 0 where
+pub record CanWalk {A : Type 0} (G : Automata A) (walk : Counted A) (rule : PieceRule) (holds : List ℕ → Type 0) (s : CoverProgress) (at : ℕ) : Type 0 where
   pub standard : G.kind walk.automaton.now ≡ Standard
   pub no_empty : 1 ≤ shortest (G.lengths walk.automaton.now)
   pub is_state : G.valid walk.automaton.now s.sid
   pub cheap : walk.work + G.depth walk.automaton.now s.sid ≤ 2 * at
-  pub stands : (p : Patterns) × (haystack : List ℕ) × (written : Output) × CoversOn G walk.automaton.now pieces s at p haystack written
+  pub stands : (p : Patterns) × (haystack : List ℕ) × (written : Output) × Feeding holds s (CoversOn G walk.automaton.now rule s at) p haystack written
 
 -- the buffer may be rolled: each byte that was not written and lies in no run in hand is among those that a roll keeps
 abbrev pub MayRoll : CoverProgress → Type 0

@@ -3,6 +3,7 @@
 
 mod hand;
 mod output;
+pub mod pieces;
 mod progress;
 mod refill;
 mod skip;

@@ -1,23 +1,22 @@
-//! What is written for a run: the bytes in front of it, and the piece of its pattern.
+//! What is written for a run, and how it is counted.
 
-ghost use Rattle.std.specs.Prelude.{◌≡◌, ◌++◌, [], ◌∷◌, OnErr, OnOk};
+ghost use Rattle.std.specs.Prelude.{◌≡◌, ◌++◌, [], ◌∷◌, OnErr, OnOk, slice_index_or};
 ghost use Rattle.std.specs.Io.KnownBytes.{Appends};
 ghost use Rattle.aho_core.specs.Replacement.{pieces_of};
 ghost use Rattle.aho_devices.specs.Counts.{AppendsBeginning};
-ghost use Rattle.aho_stream.specs.Replacing.{piece_for};
 ghost use Rattle.aho_cover.specs.Counting.{CountsThese};
 ghost use Rattle.aho_cover.specs.Writes.{TellsWrites};
 
 use aho_core::error::StreamError;
-use aho_core::search::Match;
+use aho_core::search::{Match, PatternID};
 use aho_devices::device::Sink;
 use aho_devices::write::write_whole;
 
-/// The piece of a run's pattern: no byte, where there is none.
-pub(crate) fn piece_of<'b>(pieces: &[&'b [u8]], run: &Match) -> &'b [u8]
-    ensures piece { result.now ≡ piece_for (pieces_of pieces.now) run.now }
+/// The piece of a pattern: no byte, where there is none.
+pub(crate) fn piece_of<'b>(pieces: &[&'b [u8]], pattern: PatternID) -> &'b [u8]
+    ensures piece { result.now ≡ slice_index_or (pieces_of pieces.now) pattern [] }
 {
-    match pieces.get(run.pattern().as_usize()) {
+    match pieces.get(pattern.as_usize()) {
         Some(piece) => piece,
         None => &[],
     }

@@ -1,14 +1,16 @@
 //! How far the cover of a stream has come: numbers, the last bytes, and the runs in hand.
 
 ghost use Rattle.std.specs.Prelude.{◌≡◌, ◌+◌, ◌-◌, ◌<◌, ◌≤◌, ◌^◌, ℕ, List, [], OnErr, OnOk, Ok, length, max, slice_range, true, false};
-ghost use Rattle.aho_core.specs.Replacement.{pieces_of};
 ghost use Rattle.aho_cover.specs.Hand.{FirstEndsBehind, HasItsFirst, held_runs, room_in};
 ghost use Rattle.aho_cover.specs.Progress.{BareFrom, ClearlyCovered, EndsHere, EndsNext, HasCovered, IsAll, IsBeginning, IsGiven, IsSoundCover, KeepsRoom, open_place, outside_end, unbegun_cover};
-ghost use Rattle.aho_cover.specs.Settling.{Settles, StopsAt, StopsOutside, StopsSettling, WritesOutside};
+ghost use Rattle.aho_cover.specs.Feeds.{Feeding, HasFedFirst};
+ghost use Rattle.aho_cover.specs.Steps.{MayRoll};
+ghost use Rattle.aho_cover.specs.Settling.{FeedsFirst, Settles, StopsAt, StopsOutside, StopsSettling, WritesOutside};
 ghost use Rattle.aho_cover.specs.Writes.{TellsWrites, WritesOn};
 
 use crate::hand::Hand;
-use crate::output::{count_run, piece_of, write_both};
+use crate::output::{count_run, write_both};
+use crate::pieces::Pieces;
 use aho_core::error::StreamError;
 use aho_core::search::{Match, StateID};
 use aho_devices::buffer::Buffer;
@@ -26,6 +28,8 @@ pub(crate) struct CoverProgress {
     pub(crate) since: usize,
     /// The place up to which all was written: the bytes themselves, or the pieces of runs.
     pub(crate) copied: usize,
+    /// Where it is behind `copied`: the first run begins there, and its bytes up to here were fed.
+    pub(crate) fed: usize,
     /// The state that is held after the bytes that were walked.
     pub(crate) sid: StateID,
     /// The runs that were not written, of what was walked.
@@ -42,6 +46,7 @@ impl CoverProgress {
             read: 0,
             since: 0,
             copied: 0,
+            fed: 0,
             sid,
             hand,
         }
@@ -60,6 +65,7 @@ impl CoverProgress {
         self.read = 0;
         self.since = 0;
         self.copied = 0;
+        self.fed = 0;
         self.sid = sid;
     }
 
@@ -103,10 +109,10 @@ impl CoverProgress {
 
     /// Writes the first run in hand, where it ends before a place, and the bytes in front of it, and counts it. Says whether there
     /// was one.
-    fn settle_one<W: Sink>(
+    fn settle_one<W: Sink, P: Pieces>(
         &mut self,
         sink: &mut W,
-        pieces: &[&[u8]],
+        pieces: &mut P,
         counts: &mut [u64],
         place: usize,
     ) -> Result<bool, StreamError>
@@ -118,28 +124,34 @@ impl CoverProgress {
         ensures fewer { result ≡ Ok true
             → length (held_runs self.new.hand) < length (held_runs self.old.hand) }
         ensures last { result ≡ Ok false → FirstEndsBehind place (held_runs self.new.hand) }
-        ensures writes { OnOk result (Settles W.Sink sink.old sink.new counts.old counts.new
-            (pieces_of pieces.now) place self.old self.new) }
-        ensures begins { OnErr result (StopsSettling W.Sink sink.old sink.new
-            counts.old counts.new (pieces_of pieces.now) place self.old) }
+        ensures writes { OnOk result (Settles W.Sink P.Pieces sink.old sink.new counts.old counts.new
+            pieces.old pieces.new place self.old self.new) }
+        ensures begins { OnErr result (StopsSettling W.Sink P.Pieces sink.old sink.new
+            counts.old counts.new pieces.old place self.old) }
+        ensures rule { P.rule pieces.new ≡ P.rule pieces.old }
         ensures room { KeepsRoom self.old self.new }
         ensures tells { TellsWrites W.Sink sink.old sink.new result }
     {
         let Some(run) = self.hand.take_before(place) else {
             return Ok(false);
         };
-        let gap = self.gap(run.start());
-        write_both(sink, gap, piece_of(pieces, &run))?;
+        let (start, end, pattern) = (run.start(), run.end(), run.pattern());
+        let rest = self.bytes(self.fed.max(start), end);
+        pieces.feed(rest);
+        pieces.end(pattern);
+        let gap = self.gap(start);
+        write_both(sink, gap, pieces.piece(pattern))?;
+        pieces.begin();
         count_run(counts, &run);
-        self.copied = run.end();
+        self.copied = end;
         Ok(true)
     }
 
     /// Writes the runs in hand that end before a place, and the bytes in front of each.
-    fn settle<W: Sink>(
+    fn settle<W: Sink, P: Pieces>(
         &mut self,
         sink: &mut W,
-        pieces: &[&[u8]],
+        pieces: &mut P,
         counts: &mut [u64],
         place: usize,
     ) -> Result<(), StreamError>
@@ -149,15 +161,38 @@ impl CoverProgress {
             (self.new ≡ record self.old { copied = self.new.copied; hand = self.new.hand }) }
         ensures copied { OnOk result (self.new.copied ≤ max self.old.copied place) }
         ensures last { OnOk result (FirstEndsBehind place (held_runs self.new.hand)) }
-        ensures writes { OnOk result (Settles W.Sink sink.old sink.new counts.old counts.new
-            (pieces_of pieces.now) place self.old self.new) }
-        ensures begins { OnErr result (StopsSettling W.Sink sink.old sink.new
-            counts.old counts.new (pieces_of pieces.now) place self.old) }
+        ensures writes { OnOk result (Settles W.Sink P.Pieces sink.old sink.new counts.old counts.new
+            pieces.old pieces.new place self.old self.new) }
+        ensures begins { OnErr result (StopsSettling W.Sink P.Pieces sink.old sink.new
+            counts.old counts.new pieces.old place self.old) }
+        ensures rule { P.rule pieces.new ≡ P.rule pieces.old }
         ensures room { KeepsRoom self.old self.new }
         ensures tells { TellsWrites W.Sink sink.old sink.new result }
     {
-        while self.settle_one(sink, &*pieces, counts, place)? {}
+        while self.settle_one(sink, pieces, counts, place)? {}
         Ok(())
+    }
+
+    /// Feeds the bytes of the first run in hand that the buffer may let go of: all but the last, as many as it keeps. What was read
+    /// was walked, so no match that ends later holds any of them without all that stand behind them in the run.
+    pub(crate) fn feed_first<P: Pieces>(&mut self, pieces: &mut P)
+        requires sound { IsSoundCover self.old self.old.read }
+        requires near { MayRoll self.old }
+        ensures sound { IsSoundCover self.new self.old.read }
+        ensures only { self.new ≡ record self.old { fed = self.new.fed } }
+        ensures fed { HasFedFirst self.new }
+        ensures feeds { FeedsFirst P.Pieces pieces.old pieces.new self.old self.new }
+        ensures rule { P.rule pieces.new ≡ P.rule pieces.old }
+    {
+        let Some(start) = self.hand.start() else {
+            return;
+        };
+        let kept = self.read.saturating_sub(self.buffer.min_buffer_len());
+        let from = self.fed.max(start);
+        if from < kept {
+            pieces.feed(self.bytes(from, kept));
+            self.fed = kept;
+        }
     }
 
     /// A place, or the start of the first run in hand, where that is before it.
@@ -191,10 +226,10 @@ impl CoverProgress {
     }
 
     /// Writes all that is settled once `at` bytes were walked.
-    pub(crate) fn write_settled<W: Sink>(
+    pub(crate) fn write_settled<W: Sink, P: Pieces>(
         &mut self,
         sink: &mut W,
-        pieces: &[&[u8]],
+        pieces: &mut P,
         counts: &mut [u64],
         at: usize,
     ) -> Result<(), StreamError>
@@ -205,23 +240,24 @@ impl CoverProgress {
         ensures near { OnOk result (BareFrom self.new.copied (held_runs self.new.hand)
             (at + 1 - self.old.buffer.least)) }
         ensures writes { OnOk result (WritesOn W.Sink sink.old sink.new counts.old counts.new
-            (HasCovered (pieces_of pieces.now) self.old at)
-            (HasCovered (pieces_of pieces.now) self.new at)) }
-        ensures begins { OnErr result (StopsAt W.Sink sink.old sink.new
-            counts.old counts.new (pieces_of pieces.now) self.old at) }
+            (Feeding (P.holds pieces.old) self.old (HasCovered (P.rule pieces.old) self.old at))
+            (Feeding (P.holds pieces.new) self.new (HasCovered (P.rule pieces.old) self.new at))) }
+        ensures begins { OnErr result (StopsAt W.Sink P.Pieces sink.old sink.new
+            counts.old counts.new pieces.old self.old at) }
+        ensures rule { P.rule pieces.new ≡ P.rule pieces.old }
         ensures room { KeepsRoom self.old self.new }
         ensures tells { TellsWrites W.Sink sink.old sink.new result }
     {
         let open = self.open_place(at);
-        self.settle(sink, &*pieces, counts, open)?;
+        self.settle(sink, pieces, counts, open)?;
         self.write_outside(sink, open)
     }
 
     /// Joins a match that was told to the runs in hand, once those are written that nothing can touch any more.
-    pub(crate) fn join<W: Sink>(
+    pub(crate) fn join<W: Sink, P: Pieces>(
         &mut self,
         sink: &mut W,
-        pieces: &[&[u8]],
+        pieces: &mut P,
         counts: &mut [u64],
         m: Match,
     ) -> Result<(), StreamError>
@@ -229,40 +265,45 @@ impl CoverProgress {
         requires some { m.start < m.end }
         requires read { m.end ≤ self.old.read }
         requires behind { max self.old.copied (open_place self.old (m.end - 1)) ≤ m.start }
+        requires unfed { self.old.fed ≤ m.start }
         ensures sound { OnOk result (IsSoundCover self.new m.end) }
         ensures others { OnOk result
             (self.new ≡ record self.old { copied = self.new.copied; hand = self.new.hand }) }
         ensures writes { OnOk result (WritesOn W.Sink sink.old sink.new counts.old counts.new
-            (EndsNext (pieces_of pieces.now) self.old m)
-            (HasCovered (pieces_of pieces.now) self.new m.end)) }
-        ensures begins { OnErr result (StopsAt W.Sink sink.old sink.new
-            counts.old counts.new (pieces_of pieces.now) self.old (m.end - 1)) }
+            (Feeding (P.holds pieces.old) self.old (EndsNext (P.rule pieces.old) self.old m))
+            (Feeding (P.holds pieces.new) self.new (HasCovered (P.rule pieces.old) self.new m.end))) }
+        ensures begins { OnErr result (StopsAt W.Sink P.Pieces sink.old sink.new
+            counts.old counts.new pieces.old self.old (m.end - 1)) }
+        ensures rule { P.rule pieces.new ≡ P.rule pieces.old }
         ensures room { KeepsRoom self.old self.new }
         ensures tells { TellsWrites W.Sink sink.old sink.new result }
     {
         let open = self.open_place(m.end() - 1);
-        self.settle(sink, &*pieces, counts, open)?;
+        self.settle(sink, pieces, counts, open)?;
         self.hand.add(m);
         Ok(())
     }
 
     /// Writes all that is left, at the end of the stream.
-    pub(crate) fn finish<W: Sink>(
+    pub(crate) fn finish<W: Sink, P: Pieces>(
         &mut self,
         sink: &mut W,
-        pieces: &[&[u8]],
+        pieces: &mut P,
         counts: &mut [u64],
     ) -> Result<(), StreamError>
         requires sound { IsSoundCover self.old self.old.read }
         ensures covers { OnOk result (WritesOn W.Sink sink.old sink.new counts.old counts.new
-            (EndsHere (pieces_of pieces.now) self.old) (IsAll (pieces_of pieces.now))) }
+            (Feeding (P.holds pieces.old) self.old (EndsHere (P.rule pieces.old) self.old))
+            (IsAll (P.rule pieces.old))) }
         ensures begins { OnErr result (WritesOn W.Sink sink.old sink.new counts.old counts.new
-            (EndsHere (pieces_of pieces.now) self.old) (IsBeginning (pieces_of pieces.now))) }
+            (Feeding (P.holds pieces.old) self.old (EndsHere (P.rule pieces.old) self.old))
+            (IsBeginning (P.rule pieces.old))) }
+        ensures rule { P.rule pieces.new ≡ P.rule pieces.old }
         ensures room { KeepsRoom self.old self.new }
         ensures tells { TellsWrites W.Sink sink.old sink.new result }
     {
         let end = self.read;
-        self.settle(sink, &*pieces, counts, end + 1)?;
+        self.settle(sink, pieces, counts, end + 1)?;
         self.write_outside(sink, end)
     }
 }

@@ -10,6 +10,8 @@ ghost use Rattle.std.specs.Prelude.{◌≡◌, ◌-◌, ◌<◌, ◌≤◌, ℕ,
 ghost use Rattle.aho_core.specs.Patterns.{Patterns};
 ghost use Rattle.aho_prefilter.specs.Candidate.{NoneStartsBefore};
 ghost use Rattle.aho_prefilter.specs.Prefilter.{IsPrefilterOf};
+ghost use Rattle.aho_cover.specs.Feeds.{any_bytes};
+ghost use Rattle.aho_cover.specs.Pieces.{PieceRule};
 ghost use Rattle.aho_cover.specs.Progress.{IsSoundCover};
 ghost use Rattle.aho_cover.specs.Steps.{CanWalk, PassesOver};
 
@@ -67,7 +69,7 @@ pub(crate) fn skip<A: Automaton>(
 ) -> usize
     requires sound { IsSoundCover progress.old at }
     requires further { at < progress.old.read }
-    requires can { (pieces : List (List ℕ)) × CanWalk A.Automaton walk.now pieces progress.old at }
+    requires can { (rule : PieceRule) × CanWalk A.Automaton walk.now rule any_bytes progress.old at }
     ensures sound { IsSoundCover progress.new result }
     ensures passes { PassesOver A.Automaton walk.now.automaton.now progress.old at progress.new result }
     ensures only { progress.new ≡ record progress.old { since = progress.new.since } }

@@ -1,11 +1,12 @@
 //! One read of a stream: the walk over its bytes, and what is written of them.
 
 ghost use Rattle.std.specs.Prelude.{◌≡◌, ◌<◌, IfOk, OnErr, OnOk, Ok, IfErr, true, false};
-ghost use Rattle.aho_core.specs.Replacement.{pieces_of};
+ghost use Rattle.aho_cover.specs.Feeds.{Feeding};
 ghost use Rattle.aho_cover.specs.Progress.{IsBeginning, IsSoundCover, KeepsRoom};
 ghost use Rattle.aho_cover.specs.Steps.{CanWalk, CoversOn, MayRoll, KeepsBytes, WalksAlong};
 ghost use Rattle.aho_cover.specs.Writes.{TellsWrites, WritesOn};
 
+use crate::pieces::Pieces;
 use crate::progress::CoverProgress;
 use crate::skip::{may_wait, skip};
 use crate::walk::walk_to_match;
@@ -18,28 +19,30 @@ use aho_devices::device::Sink;
 /// Walks on to the next match that ends, and joins it to the runs in hand. Where it may wait, it ends as well in a start. Answers
 /// the place behind the bytes that were walked.
 #[inline(always)]
-fn walk_once<A: Automaton, W: Sink>(
+fn walk_once<A: Automaton, W: Sink, P: Pieces>(
     walk: &mut Counted<'_, A>,
     progress: &mut CoverProgress,
     sink: &mut W,
-    pieces: &[&[u8]],
+    pieces: &mut P,
     counts: &mut [u64],
     at: usize,
     may_wait: bool,
 ) -> Result<usize, StreamError>
     requires sound { IsSoundCover progress.old at }
     requires further { at < progress.old.read }
-    requires can { CanWalk A.Automaton walk.old (pieces_of pieces.now) progress.old at }
+    requires can { CanWalk A.Automaton walk.old (P.rule pieces.old) (P.holds pieces.old) progress.old at }
     ensures sound { IfOk result (IsSoundCover progress.new) }
-    ensures can { IfOk result (CanWalk A.Automaton walk.new (pieces_of pieces.now) progress.new) }
+    ensures can { IfOk result (CanWalk A.Automaton walk.new (P.rule pieces.new) (P.holds pieces.new) progress.new) }
     ensures further { IfOk result (λ next. at < next) }
     ensures bytes { OnOk result (KeepsBytes progress.old progress.new) }
     ensures same { walk.new.automaton.now ≡ walk.old.automaton.now }
-    ensures writes { IfOk result (WalksAlong A.Automaton W.Sink walk.old.automaton.now (pieces_of pieces.now)
-        sink.old sink.new counts.old counts.new progress.old at progress.new) }
+    ensures writes { IfOk result (WalksAlong A.Automaton W.Sink P.Pieces walk.old.automaton.now
+        pieces.old pieces.new sink.old sink.new counts.old counts.new progress.old at progress.new) }
     ensures begins { OnErr result (WritesOn W.Sink sink.old sink.new counts.old counts.new
-        (CoversOn A.Automaton walk.old.automaton.now (pieces_of pieces.now) progress.old at)
-        (IsBeginning (pieces_of pieces.now))) }
+        (Feeding (P.holds pieces.old) progress.old
+        (CoversOn A.Automaton walk.old.automaton.now (P.rule pieces.old) progress.old at))
+        (IsBeginning (P.rule pieces.old))) }
+    ensures rule { P.rule pieces.new ≡ P.rule pieces.old }
     ensures room { KeepsRoom progress.old progress.new }
     ensures tells { TellsWrites W.Sink sink.old sink.new result }
 {
@@ -51,35 +54,37 @@ fn walk_once<A: Automaton, W: Sink>(
     let Some(m) = reached.found else {
         return Ok(next);
     };
-    progress.join(sink, &*pieces, counts, m)?;
+    progress.join(sink, pieces, counts, m)?;
     Ok(next)
 }
 
 /// Passes over bytes that begin no match, where the state is a start, and walks on as `walk_once`: to the next match, or to a start
 /// from which more bytes may be passed over.
 #[inline(always)]
-fn walk_further<A: Automaton, W: Sink>(
+fn walk_further<A: Automaton, W: Sink, P: Pieces>(
     walk: &mut Counted<'_, A>,
     progress: &mut CoverProgress,
     sink: &mut W,
-    pieces: &[&[u8]],
+    pieces: &mut P,
     counts: &mut [u64],
     at: usize,
     patience: &mut usize,
 ) -> Result<usize, StreamError>
     requires sound { IsSoundCover progress.old at }
     requires further { at < progress.old.read }
-    requires can { CanWalk A.Automaton walk.old (pieces_of pieces.now) progress.old at }
+    requires can { CanWalk A.Automaton walk.old (P.rule pieces.old) (P.holds pieces.old) progress.old at }
     ensures sound { IfOk result (IsSoundCover progress.new) }
-    ensures can { IfOk result (CanWalk A.Automaton walk.new (pieces_of pieces.now) progress.new) }
+    ensures can { IfOk result (CanWalk A.Automaton walk.new (P.rule pieces.new) (P.holds pieces.new) progress.new) }
     ensures further { IfOk result (λ next. at < next) }
     ensures bytes { OnOk result (KeepsBytes progress.old progress.new) }
     ensures same { walk.new.automaton.now ≡ walk.old.automaton.now }
-    ensures writes { IfOk result (WalksAlong A.Automaton W.Sink walk.old.automaton.now (pieces_of pieces.now)
-        sink.old sink.new counts.old counts.new progress.old at progress.new) }
+    ensures writes { IfOk result (WalksAlong A.Automaton W.Sink P.Pieces walk.old.automaton.now
+        pieces.old pieces.new sink.old sink.new counts.old counts.new progress.old at progress.new) }
     ensures begins { OnErr result (WritesOn W.Sink sink.old sink.new counts.old counts.new
-        (CoversOn A.Automaton walk.old.automaton.now (pieces_of pieces.now) progress.old at)
-        (IsBeginning (pieces_of pieces.now))) }
+        (Feeding (P.holds pieces.old) progress.old
+        (CoversOn A.Automaton walk.old.automaton.now (P.rule pieces.old) progress.old at))
+        (IsBeginning (P.rule pieces.old))) }
+    ensures rule { P.rule pieces.new ≡ P.rule pieces.old }
     ensures room { KeepsRoom progress.old progress.new }
     ensures tells { TellsWrites W.Sink sink.old sink.new result }
 {
@@ -89,34 +94,36 @@ fn walk_further<A: Automaton, W: Sink>(
 }
 
 /// Walks over all that was read and not walked, and writes all that is settled then.
-pub(crate) fn walk_read<A: Automaton, W: Sink>(
+pub(crate) fn walk_read<A: Automaton, W: Sink, P: Pieces>(
     walk: &mut Counted<'_, A>,
     progress: &mut CoverProgress,
     sink: &mut W,
-    pieces: &[&[u8]],
+    pieces: &mut P,
     counts: &mut [u64],
     from: usize,
 ) -> Result<(), StreamError>
     requires sound { IsSoundCover progress.old from }
-    requires can { CanWalk A.Automaton walk.old (pieces_of pieces.now) progress.old from }
+    requires can { CanWalk A.Automaton walk.old (P.rule pieces.old) (P.holds pieces.old) progress.old from }
     ensures sound { OnOk result (IsSoundCover progress.new progress.new.read) }
     ensures near { OnOk result (MayRoll progress.new) }
     ensures can { OnOk result (CanWalk A.Automaton walk.new
-        (pieces_of pieces.now) progress.new progress.new.read) }
+        (P.rule pieces.new) (P.holds pieces.new) progress.new progress.new.read) }
     ensures bytes { OnOk result (KeepsBytes progress.old progress.new) }
     ensures same { walk.new.automaton.now ≡ walk.old.automaton.now }
-    ensures writes { OnOk result (WalksAlong A.Automaton W.Sink walk.old.automaton.now (pieces_of pieces.now)
-        sink.old sink.new counts.old counts.new progress.old from progress.new progress.new.read) }
+    ensures writes { OnOk result (WalksAlong A.Automaton W.Sink P.Pieces walk.old.automaton.now
+        pieces.old pieces.new sink.old sink.new counts.old counts.new progress.old from progress.new progress.new.read) }
     ensures begins { OnErr result (WritesOn W.Sink sink.old sink.new counts.old counts.new
-        (CoversOn A.Automaton walk.old.automaton.now (pieces_of pieces.now) progress.old from)
-        (IsBeginning (pieces_of pieces.now))) }
+        (Feeding (P.holds pieces.old) progress.old
+        (CoversOn A.Automaton walk.old.automaton.now (P.rule pieces.old) progress.old from))
+        (IsBeginning (P.rule pieces.old))) }
+    ensures rule { P.rule pieces.new ≡ P.rule pieces.old }
     ensures room { KeepsRoom progress.old progress.new }
     ensures tells { TellsWrites W.Sink sink.old sink.new result }
 {
     let mut at = from;
     let mut patience = PATIENCE;
     while at < progress.read {
-        at = walk_further(walk, progress, sink, &*pieces, counts, at, &mut patience)?;
+        at = walk_further(walk, progress, sink, pieces, counts, at, &mut patience)?;
     }
-    progress.write_settled(sink, &*pieces, counts, at)
+    progress.write_settled(sink, pieces, counts, at)
 }

@@ -12,15 +12,16 @@
 //! automaton stood in a start. What lies before both is settled: the runs that end there are written as their pieces, and the
 //! bytes between them as they are. All that is settled is written and flushed before the source is read again.
 
-ghost use Rattle.std.specs.Prelude.{◌≡◌, ℕ, List, IfErr, length};
+ghost use Rattle.std.specs.Prelude.{◌≡◌, ℕ, List, [], IfErr, length};
 ghost use Rattle.aho_core.specs.Patterns.{Patterns};
 ghost use Rattle.aho_core.specs.Replacement.{pieces_of};
 ghost use Rattle.aho_automaton.specs.CoverIters.{cover_refusal_of};
 ghost use Rattle.aho_devices.specs.Errors.{CountsErrors};
 ghost use Rattle.aho_stream.specs.Replacing.{IsMakingRefusal, IsStreamFault};
 ghost use Rattle.aho_cover.specs.Progress.{KeepsRoom};
-ghost use Rattle.aho_cover.specs.Covers.{IsUnbegunCover, LeavesCounted, LeavesCovered, RefusesStreamCover};
+ghost use Rattle.aho_cover.specs.Covers.{IsUnbegunCover, LeavesCounted, LeavesCovered, LeavesCoveredBy, RefusesStreamCover};
 
+use crate::pieces::{PatternPieces, Pieces};
 use crate::progress::CoverProgress;
 use crate::refill::refill;
 use crate::start::StreamCoverStart;
@@ -32,19 +33,20 @@ use aho_devices::device::{Sink, Source};
 use std::alloc::Global;
 
 /// Covers what a source gives, of a stream that has not begun.
-fn cover_from<A: Automaton, R: Source, W: Sink>(
+fn cover_from<A: Automaton, R: Source, W: Sink, P: Pieces>(
     walk: &mut Counted<'_, A>,
     progress: &mut CoverProgress,
     source: &mut R,
     sink: &mut W,
-    pieces: &[&[u8]],
+    pieces: &mut P,
     counts: &mut [u64],
 ) -> Result<(), StreamError>
     requires some { (p : Patterns) × A.is_of walk.old.automaton.now p }
     requires unbegun { IsUnbegunCover A.Automaton walk.old.automaton.now progress.old }
     requires unwalked { walk.old.work ≡ 0 }
-    ensures leaves { LeavesCovered R.Source W.Sink
-        (A.is_of walk.old.automaton.now) (pieces_of pieces.now)
+    requires unfed { P.holds pieces.old [] }
+    ensures leaves { LeavesCoveredBy R.Source W.Sink
+        (A.is_of walk.old.automaton.now) (P.rule pieces.old)
         source.old source.new sink.old sink.new result }
     ensures errors { CountsErrors R.Source W.Sink
         source.old source.new sink.old sink.new result }
@@ -52,14 +54,16 @@ fn cover_from<A: Automaton, R: Source, W: Sink>(
         source.old source.new counts.old counts.new result }
     ensures room { KeepsRoom progress.old progress.new }
     ensures only { IfErr result IsStreamFault }
+    ensures rule { P.rule pieces.new ≡ P.rule pieces.old }
 {
     loop {
         sink.flush()?;
+        progress.feed_first(pieces);
         let from = progress.read;
         if refill(progress, source)? {
-            return progress.finish(sink, &*pieces, counts);
+            return progress.finish(sink, pieces, counts);
         }
-        walk_read(walk, progress, sink, &*pieces, counts, from)?;
+        walk_read(walk, progress, sink, pieces, counts, from)?;
     }
 }
 
@@ -129,16 +133,43 @@ pub fn cover_counted<A: Automaton, R: Source, W: Sink>(
         source.old source.new sink.old sink.new result }
     ensures only { IfErr result IsStreamFault }
 {
+    let mut pieces = PatternPieces::new(replace_with);
+    cover_made(start, source, sink, &mut pieces, counts)
+}
+
+/// `cover_counted` with pieces that are made of the runs: of each run's bytes, and of the number of its pattern.
+///
+/// A run's bytes are fed in order and in parts, so a run may be longer than the buffer. What makes the pieces may be in any state
+/// before the call: it is told where each run begins.
+///
+/// # Errors
+///
+/// As `cover_counted`.
+pub fn cover_made<A: Automaton, R: Source, W: Sink, P: Pieces>(
+    start: &mut StreamCoverStart<'_, A>,
+    source: &mut R,
+    sink: &mut W,
+    pieces: &mut P,
+    counts: &mut [u64],
+) -> Result<(), StreamError>
+    requires of { (p : Patterns) × A.is_of start.old.automaton.now p }
+    requires unbegun { IsUnbegunCover A.Automaton start.old.automaton.now start.old.progress }
+    ensures leaves { LeavesCoveredBy R.Source W.Sink
+        (A.is_of start.old.automaton.now) (P.rule pieces.old)
+        source.old source.new sink.old sink.new result }
+    ensures counted { LeavesCounted R.Source (A.is_of start.old.automaton.now)
+        source.old source.new counts.old counts.new result }
+    ensures same { start.new.automaton.now ≡ start.old.automaton.now }
+    ensures unbegun { IsUnbegunCover A.Automaton start.new.automaton.now start.new.progress }
+    ensures errors { CountsErrors R.Source W.Sink
+        source.old source.new sink.old sink.new result }
+    ensures only { IfErr result IsStreamFault }
+    ensures rule { P.rule pieces.new ≡ P.rule pieces.old }
+{
+    pieces.begin();
     let begin = start.progress.sid;
     let mut walk = Counted::new(start.automaton);
-    let covered = cover_from(
-        &mut walk,
-        &mut start.progress,
-        source,
-        sink,
-        &*replace_with,
-        counts,
-    );
+    let covered = cover_from(&mut walk, &mut start.progress, source, sink, pieces, counts);
     start.progress.begin_anew(begin);
     covered
 }

@@ -23,7 +23,7 @@ pub returns-clause-sound : goal.returns-clause-sound
 returns-clause-sound g c =
     let s = c.args.progress.now in
     let gained = c.in_ok-filled.ensures.gained in
-    sound-read s c.requires.sound c.requires.near c.fill_once.new.self (s.read + c.in_ok-filled.filled.read) c.in_ok-filled.filled.read refl
+    sound-read s c.requires.sound c.requires.near c.requires.fed c.fill_once.new.self (s.read + c.in_ok-filled.filled.read) c.in_ok-filled.filled.read refl
     (omega (arith, c.in_ok-filled.ensures.told, c.in_ok-filled.ensures.limited)) (gained.least ∙ c.make_room.ensures.least) (omega (arith, c.in_ok-filled.ensures.told, c.make_room.ensures.kept))
 
 pub returns-clause-takes : goal.returns-clause-takes

@@ -10,7 +10,7 @@ use Rattle.aho_cover.proofs.Reached.{sound-moved}
 use Rattle.aho_cover.proofs.skip.skip.Goals as goal
 
 pub returns-clause-passes : goal.returns-clause-passes
-returns-clause-passes g c pieces p haystack written covers =
+returns-clause-passes g c rule p haystack written covers =
     let a = g.A.Automaton in
     let automaton = c.args.walk.now.automaton.now in
     let s = c.args.progress.now in
@@ -20,7 +20,7 @@ returns-clause-passes g c pieces p haystack written covers =
     let is : IsPrefilterOf c.in-Some.prefilter.now p = subst (λ (held : Option Searcher). IfSome held (λ searcher. IsPrefilterOf searcher p)) held (g.met.A.Automaton.prefilters automaton p covers.of) in
     let none = subst (λ (bytes : List ℕ). NoneStartsBefore p bytes 0 (length bytes) count) rest (c.passable-count.ensures.none p is) in
     let few = subst (λ (bytes : List ℕ). count ≤ length bytes - s.buffer.least) rest (subst (λ (least : ℕ). count ≤ length c.bytes-bytes.result.now - least) c.min_buffer_len.ensures.least c.passable-count.ensures.kept) in
-    passed-over a automaton p haystack (g.met.A.Automaton.laws automaton p covers.of) c.requires.can.1.no_empty pieces s c.args.at count written covers (sym c.is_start.ensures.starts ∙ c.if-not-is_start.false) none few
+    passed-over a automaton p haystack (g.met.A.Automaton.laws automaton p covers.of) c.requires.can.1.no_empty rule s c.args.at count written covers (sym c.is_start.ensures.starts ∙ c.if-not-is_start.false) none few
 
 -- how far it goes
 far : (n at read least length-of : ℕ) → n ≤ length-of - least → length-of ≡ read - at → 1 ≤ least → at < read → at + n < read
@@ -28,7 +28,7 @@ far n at read least length-of few long some within = omega (arith, few, long, so
 
 pub returns-clause-further : goal.returns-clause-further
 returns-clause-further g c =
-    let (p, haystack, written, covers) = c.requires.can.1.stands in
+    let (p, haystack, written, (covers, any)) = c.requires.can.1.stands in
     let s = c.args.progress.now in
     let long = ap length (c.bytes-bytes.ensures.part haystack covers.covered.given) ∙ length_part haystack c.args.at s.read covers.covered.given.within in
     let few = subst (λ (least : ℕ). c.passable-count.result ≤ length c.bytes-bytes.result.now - least) c.min_buffer_len.ensures.least c.passable-count.ensures.kept in
@@ -36,7 +36,7 @@ returns-clause-further g c =
 
 pub returns-clause-sound : goal.returns-clause-sound
 returns-clause-sound g c =
-    let (p, haystack, written, covers) = c.requires.can.1.stands in
+    let (p, haystack, written, (covers, any)) = c.requires.can.1.stands in
     let s = c.args.progress.now in
     let long = ap length (c.bytes-bytes.ensures.part haystack covers.covered.given) ∙ length_part haystack c.args.at s.read covers.covered.given.within in
     let few = subst (λ (least : ℕ). c.passable-count.result ≤ length c.bytes-bytes.result.now - least) c.min_buffer_len.ensures.least c.passable-count.ensures.kept in

@@ -1,26 +1,30 @@
 -- One read after another.
 use Rattle.std.proofs.Common.{◌≡◌, ℕ, ◌+◌, ◌*◌, ◌≤◌, ◌++◌, List, [], Bool, false, true, Ok, Err, refl, sym, ◌∙◌, ap, subst, arith}
-use Rattle.aho_core.specs.Replacement.{pieces_of}
 use Rattle.aho_devices.specs.Counts.{counted}
 use Rattle.aho_cover.specs.declared.progress.CoverProgress.{CoverProgress}
 use Rattle.aho_cover.specs.Counting.{no_output}
+use Rattle.aho_cover.specs.Feeds.{Feeding}
+use Rattle.aho_cover.specs.Hand.{room_in}
+use Rattle.aho_cover.specs.Pieces.{PieceRule}
 use Rattle.aho_cover.specs.Progress.{IsSoundCover}
-use Rattle.aho_cover.specs.Steps.{CoversOn}
-use Rattle.aho_cover.proofs.Going.{Going, begins_end, begins_more, begins_on, counts_all, counts_end, counts_more, counts_on, covers_all, covers_more, err_passed, going_begins, going_counts, going_first, going_kept, going_on, leaves_counts, leaves_ended, leaves_read, leaves_written, limit_more, upto_more}
+use Rattle.aho_cover.specs.Steps.{CoversOn, MayRoll}
+use Rattle.aho_cover.proofs.Copied.{nothing_between}
+use Rattle.aho_cover.proofs.Going.{Going, begins_end, begins_more, begins_on, counts_all, counts_end, counts_more, counts_on, covers_all, covers_more, err_passed, going_begins, going_counts, going_fed, going_first, going_kept, going_on, leaves_counts, leaves_ended, leaves_read, leaves_written, limit_more, upto_more}
 use Rattle.aho_cover.proofs.Written.{if_err, if_ok}
 use Rattle.aho_cover.proofs.stream.cover_from.Given.{Over}
-use Rattle.aho_cover.proofs.stream.cover_from.Goals.{Else-branch, In_ok-flush}
+use Rattle.aho_cover.proofs.stream.cover_from.Goals.{After-feed_first, Else-branch}
 use Rattle.aho_cover.proofs.stream.cover_from.Goals as goal
 
-pub loop-from-init : goal.loop-from-init
-loop-from-init g c =
+pub loop-progress-init : goal.loop-progress-init
+loop-progress-init g c =
     let unbegun = c.requires.unbegun in
     let s = c.args.progress.now in
-    let pieces = pieces_of c.args.pieces.now in
+    let rule = g.P.Pieces.rule c.args.pieces.now in
     let (p, of) = c.requires.some in
     let unread = sym unbegun.unread in
     record {
-      going = going_first g.A.Automaton g.R.Source g.W.Sink c.args.walk.now.automaton.now pieces c.args.source.now c.args.sink.now c.args.counts.now s unbegun.unread (λ p haystack of. unbegun.covers p pieces haystack of);
+      going = going_first g.A.Automaton g.R.Source g.W.Sink c.args.walk.now.automaton.now rule c.args.source.now c.args.sink.now c.args.counts.now (g.P.Pieces.holds c.args.pieces.now) s c.requires.unfed unbegun.unfed unbegun.unread (λ p haystack of. unbegun.covers p rule haystack of);
+      rule = refl;
       sound = subst (IsSoundCover s) unread unbegun.sound;
       near = λ place low bare. omega (arith, unbegun.unread);
       can = record {
@@ -28,7 +32,12 @@ loop-from-init g c =
         no_empty = unbegun.no_empty;
         is_state = unbegun.is_state;
         cheap = omega (arith, unbegun.shallow, c.requires.unwalked);
-        stands = (p, [], no_output, subst (λ (n : ℕ). CoversOn g.A.Automaton c.args.walk.now.automaton.now pieces s n p [] no_output) unread (unbegun.covers p pieces [] of));
+        stands = (
+          p,
+          [],
+          no_output,
+          (subst (λ (n : ℕ). CoversOn g.A.Automaton c.args.walk.now.automaton.now rule s n p [] no_output) unread (unbegun.covers p rule [] of), subst (g.P.Pieces.holds c.args.pieces.now) (sym (nothing_between [] s.copied s.fed (omega (arith, unbegun.unfed)))) c.requires.unfed),
+        );
       };
       same = refl;
       room = record { least = refl; room = refl };
@@ -37,77 +46,104 @@ loop-from-init g c =
       empty_writes = refl;
     }
 
--- the sink was flushed
-flushed : (g : Over) (c : In_ok-flush g) → Going g.A.Automaton g.R.Source g.W.Sink c.args.walk.now.automaton.now (pieces_of c.args.pieces.now) c.args.source.now c.args.sink.now c.args.counts.now c.loop-from.progress c.loop-from.source c.flush.new.self c.loop-from.counts
-flushed g c = going_kept _ _ _ _ _ _ _ _ _ _ _ _ _ c.loop-from.invariant.going c.in_ok-flush.ensures.kept
+-- the sink was flushed, and the first run was fed
+fed : (g : Over) (c : After-feed_first g)
+    → Going g.A.Automaton g.R.Source g.W.Sink c.args.walk.now.automaton.now (g.P.Pieces.rule c.args.pieces.now) c.args.source.now c.args.sink.now c.args.counts.now (g.P.Pieces.holds c.feed_first.new.pieces) c.feed_first.new.self c.loop-progress.source c.flush.new.self c.loop-progress.counts
+fed g c =
+    let s = c.loop-progress.progress in
+    let inv = c.loop-progress.invariant in
+    let only = c.feed_first.ensures.only in
+    let feeds = rw inv.rule at c.feed_first.ensures.feeds in
+    going_fed _ _ _ _ _ _ _ _ (g.P.Pieces.holds c.feed_first.new.pieces) s c.feed_first.new.self only _ _ _ (going_kept _ _ _ _ _ _ _ _ _ _ _ _ _ inv.going c.in_ok-flush.ensures.kept) feeds
+
+-- and the numbers then
+sound_now : (g : Over) (c : After-feed_first g) → IsSoundCover c.feed_first.new.self c.feed_first.new.self.read
+sound_now g c = subst (IsSoundCover c.feed_first.new.self) (sym (ap (λ (s : CoverProgress). s.read) c.feed_first.ensures.only)) c.feed_first.ensures.sound
+
+near_now : (g : Over) (c : After-feed_first g) → MayRoll c.feed_first.new.self
+near_now g c = subst MayRoll (sym c.feed_first.ensures.only) c.loop-progress.invariant.near
 
 pub returns-in_err-flush-clause-leaves : goal.returns-in_err-flush-clause-leaves
 returns-in_err-flush-clause-leaves g c =
-    let inv = c.loop-from.invariant in
+    let inv = c.loop-progress.invariant in
     rw (err_passed c.from_residual.result c.in_err-flush.field-0.0 c.from_residual.ensures.1)
     (leaves_written _ _ _ _ _ _ _ _ _ c.in_err-flush.ensures.only (going_begins _ _ _ _ _ _ _ _ _ _ _ _ (going_kept _ _ _ _ _ _ _ _ _ _ _ _ _ inv.going c.in_err-flush.ensures.kept) inv.sound))
 
 pub returns-in_err-refill-clause-leaves : goal.returns-in_err-refill-clause-leaves
 returns-in_err-refill-clause-leaves g c =
-    let d = (goal.at.returns-in_err-refill-clause-leaves g c).In_ok-flush in
-    let inv = c.loop-from.invariant in
-    let going = flushed g d in
+    let d = (goal.at.returns-in_err-refill-clause-leaves g c).After-feed_first in
+    let inv = c.loop-progress.invariant in
+    let going = fed g d in
     let refilled = c.in_err-refill.ensures in
+    let sound = sound_now g d in
+    let near = near_now g d in
     rw (err_passed c.from_residual-in_err-refill.result c.in_err-refill.field-0.0 c.from_residual-in_err-refill.ensures.1)
-    (leaves_read _ _ _ _ _ _ _ _ _ (begins_more _ _ _ _ _ _ _ _ _ _ _ _ _ _ going refilled.takes _ going.writes inv.sound refilled.ended) (upto_more _ _ _ _ _ _ _ _ _ _ _ _ _ _ going refilled.takes _ going.writes inv.sound inv.near refilled.fails refilled.ended)
+    (leaves_read _ _ _ _ _ _ _ _ _ (begins_more _ _ _ _ _ _ _ _ _ _ _ _ _ _ going refilled.takes _ going.writes sound refilled.ended) (upto_more _ _ _ _ _ _ _ _ _ _ _ _ _ _ going refilled.takes _ going.writes sound near refilled.fails refilled.ended)
     (λ met. limit_more _ _ _ _ _ _ _ _ _ _ _ _ _ _ going refilled.takes refilled.fails (refilled.limit met) refilled.ended))
 
 pub returns-then-branch-clause-leaves : goal.returns-then-branch-clause-leaves
 returns-then-branch-clause-leaves g c =
-    let d = (goal.at.returns-then-branch-clause-leaves g c).In_ok-flush in
-    let going = flushed g d in
+    let d = (goal.at.returns-then-branch-clause-leaves g c).After-feed_first in
+    let going = fed g d in
     let refilled = c.in_ok-refill.ensures in
+    let made = c.feed_first.ensures.rule ∙ c.loop-progress.invariant.rule in
     let ended : c.in_ok-refill.field-0 ≡ true = c.if-branch.true in
     let same = refilled.none (ap Ok ended) in
-    let counts = subst (λ (b : Bool). g.R.Source.empty_reads c.refill.new.source ≡ counted b (g.R.Source.empty_reads c.loop-from.source)) ended refilled.ended in
+    let counts = subst (λ (b : Bool). g.R.Source.empty_reads c.refill.new.source ≡ counted b (g.R.Source.empty_reads c.loop-progress.source)) ended refilled.ended in
     leaves_ended _ _ _ _ _ _ _ _ c.finish.result c.finish.ensures.tells.only
-    (if_ok c.finish.result _ _ (λ writes. covers_all _ _ _ _ _ _ _ _ _ _ _ _ _ _ going refilled.takes same counts _ _ writes) c.finish.ensures.covers)
-    (if_err c.finish.result _ _ (λ writes. begins_end _ _ _ _ _ _ _ _ _ _ _ _ _ _ going refilled.takes same counts _ _ writes) c.finish.ensures.begins)
+    (if_ok c.finish.result _ _ (λ writes. covers_all _ _ _ _ _ _ _ _ _ _ _ _ _ _ going refilled.takes same counts _ _ writes) (rw made at c.finish.ensures.covers))
+    (if_err c.finish.result _ _ (λ writes. begins_end _ _ _ _ _ _ _ _ _ _ _ _ _ _ going refilled.takes same counts _ _ writes) (rw made at c.finish.ensures.begins))
 
 -- more was read, and the end was not seen
-not_ended : (g : Over) (c : Else-branch g) → g.R.Source.empty_reads c.refill.new.source ≡ counted false (g.R.Source.empty_reads c.loop-from.source)
-not_ended g c = subst (λ (b : Bool). g.R.Source.empty_reads c.refill.new.source ≡ counted b (g.R.Source.empty_reads c.loop-from.source)) c.if-branch.false c.in_ok-refill.ensures.ended
+not_ended : (g : Over) (c : Else-branch g) → g.R.Source.empty_reads c.refill.new.source ≡ counted false (g.R.Source.empty_reads c.loop-progress.source)
+not_ended g c = subst (λ (b : Bool). g.R.Source.empty_reads c.refill.new.source ≡ counted b (g.R.Source.empty_reads c.loop-progress.source)) c.if-branch.false c.in_ok-refill.ensures.ended
 
 pub walk_read-requires-clause-can : goal.walk_read-requires-clause-can
 walk_read-requires-clause-can g c =
-    let d = (goal.at.walk_read-requires-clause-can g c).In_ok-flush in
+    let d = (goal.at.walk_read-requires-clause-can g c).After-feed_first in
     let a = g.A.Automaton in
-    let inv = c.loop-from.invariant in
-    let s = c.loop-from.progress in
+    let inv = c.loop-progress.invariant in
+    let s = c.feed_first.new.self in
     let next = c.refill.new.progress in
-    let automaton = c.loop-from.walk.automaton.now in
-    let pieces = pieces_of c.args.pieces.now in
-    let going = flushed g d in
+    let automaton = c.loop-progress.walk.automaton.now in
+    let made = c.feed_first.ensures.rule ∙ inv.rule in
+    let read : c.loop-progress.progress.read ≡ s.read = sym (ap (λ (t : CoverProgress). t.read) c.feed_first.ensures.only) in
+    let going = fed g d in
     let (p, of) = c.requires.some in
-    let sid : s.sid ≡ next.sid = sym (ap (λ (t : CoverProgress). t.sid) c.in_ok-refill.ensures.takes.others) in
+    let sid : c.loop-progress.progress.sid ≡ next.sid = sym (ap (λ (t : CoverProgress). t.sid) c.in_ok-refill.ensures.takes.others ∙ ap (λ (t : CoverProgress). t.sid) c.feed_first.ensures.only) in
     let given : List ℕ = (going.given ++ c.in_ok-refill.ensures.takes.bytes) ++ [] in
     record {
       standard = inv.can.standard;
       no_empty = inv.can.no_empty;
       is_state = subst (a.valid automaton) sid inv.can.is_state;
-      cheap = subst (λ (n : ℕ). c.loop-from.walk.work + a.depth automaton n ≤ 2 * s.read) sid inv.can.cheap;
-      stands = (p, given, going.written, subst (λ x. CoversOn a x pieces next s.read p given going.written) (sym inv.same) (covers_more _ _ _ _ _ _ _ _ _ _ _ _ _ _ going c.in_ok-refill.ensures.takes p [] of));
+      cheap = subst (λ (n : ℕ). c.loop-progress.walk.work + a.depth automaton n ≤ 2 * s.read) sid (omega (arith, inv.can.cheap, read));
+      stands = (
+        p,
+        given,
+        going.written,
+        subst (λ (rule : PieceRule). Feeding (g.P.Pieces.holds c.feed_first.new.pieces) next (CoversOn a automaton rule next s.read) p given going.written) (sym made)
+            (subst (λ x. Feeding (g.P.Pieces.holds c.feed_first.new.pieces) next (CoversOn a x (g.P.Pieces.rule c.args.pieces.now) next s.read) p given going.written) (sym inv.same) (covers_more _ _ _ _ _ _ _ _ _ _ _ _ _ _ going c.in_ok-refill.ensures.takes p [] of)),
+      );
     }
 
-pub loop-from-preserved : goal.loop-from-preserved
-loop-from-preserved g c =
-    let d = (goal.at.loop-from-preserved g c).In_ok-flush in
-    let e = (goal.at.loop-from-preserved g c).Else-branch in
-    let inv = c.loop-from.invariant in
-    let going = flushed g d in
+pub loop-progress-preserved : goal.loop-progress-preserved
+loop-progress-preserved g c =
+    let d = (goal.at.loop-progress-preserved g c).After-feed_first in
+    let e = (goal.at.loop-progress-preserved g c).Else-branch in
+    let inv = c.loop-progress.invariant in
+    let going = fed g d in
     let one = c.in_ok-walk_read.ensures in
     let refilled = c.in_ok-refill.ensures in
     record {
-      going = going_on _ _ _ _ _ _ _ _ _ _ _ _ _ _ going refilled.takes _ _ _ (rw inv.same at one.writes) one.bytes.read (not_ended g e);
+      going = going_on _ _ _ _ _ _ _ _ _ _ _ _ _ _ going refilled.takes _ _ _ (rw (c.feed_first.ensures.rule ∙ inv.rule) at (rw inv.same at one.writes)) one.bytes.read (not_ended g e);
       sound = one.sound;
       near = one.near;
       can = one.can;
-      room = record { least = one.room.least ∙ refilled.room.least ∙ inv.room.least; room = one.room.room ∙ refilled.room.room ∙ inv.room.room };
+      rule = one.rule ∙ c.feed_first.ensures.rule ∙ inv.rule;
+      room = record {
+        least = one.room.least ∙ refilled.room.least ∙ ap (λ (s : CoverProgress). s.buffer.least) c.feed_first.ensures.only ∙ inv.room.least;
+        room = one.room.room ∙ refilled.room.room ∙ ap (λ (s : CoverProgress). room_in s.hand) c.feed_first.ensures.only ∙ inv.room.room;
+      };
       same = one.same ∙ inv.same;
       reads = refilled.read_failed ∙ inv.reads;
       writes = one.tells.write_failed ∙ c.in_ok-flush.ensures.failures ∙ inv.writes;
@@ -116,42 +152,43 @@ loop-from-preserved g c =
 
 pub returns-in_err-walk_read-clause-leaves : goal.returns-in_err-walk_read-clause-leaves
 returns-in_err-walk_read-clause-leaves g c =
-    let d = (goal.at.returns-in_err-walk_read-clause-leaves g c).In_ok-flush in
+    let d = (goal.at.returns-in_err-walk_read-clause-leaves g c).After-feed_first in
     let e = (goal.at.returns-in_err-walk_read-clause-leaves g c).Else-branch in
-    let inv = c.loop-from.invariant in
-    let going = flushed g d in
+    let inv = c.loop-progress.invariant in
+    let going = fed g d in
     rw (err_passed c.from_residual-in_err-walk_read.result c.in_err-walk_read.field-0.0 c.from_residual-in_err-walk_read.ensures.1)
     (leaves_written _ _ _ _ _ _ _ _ _ c.in_err-walk_read.ensures.tells.only
-    (begins_on _ _ _ _ _ _ _ _ _ _ _ _ _ _ going c.in_ok-refill.ensures.takes _ _ (rw inv.same at c.in_err-walk_read.ensures.begins) (not_ended g e)))
+    (begins_on _ _ _ _ _ _ _ _ _ _ _ _ _ _ going c.in_ok-refill.ensures.takes _ _ (rw (c.feed_first.ensures.rule ∙ inv.rule) at (rw inv.same at c.in_err-walk_read.ensures.begins)) (not_ended g e)))
 
 pub returns-in_err-flush-clause-counted : goal.returns-in_err-flush-clause-counted
 returns-in_err-flush-clause-counted g c =
-    let inv = c.loop-from.invariant in
+    let inv = c.loop-progress.invariant in
     rw (err_passed c.from_residual.result c.in_err-flush.field-0.0 c.from_residual.ensures.1)
     (leaves_counts _ _ _ _ _ _ (Err c.in_err-flush.field-0.0) tt (going_counts _ _ _ _ _ _ _ _ _ _ _ _ (going_kept _ _ _ _ _ _ _ _ _ _ _ _ _ inv.going c.in_err-flush.ensures.kept) inv.sound))
 
 pub returns-in_err-refill-clause-counted : goal.returns-in_err-refill-clause-counted
 returns-in_err-refill-clause-counted g c =
-    let d = (goal.at.returns-in_err-refill-clause-counted g c).In_ok-flush in
+    let d = (goal.at.returns-in_err-refill-clause-counted g c).After-feed_first in
     rw (err_passed c.from_residual-in_err-refill.result c.in_err-refill.field-0.0 c.from_residual-in_err-refill.ensures.1)
-    (leaves_counts _ _ _ _ _ _ (Err c.in_err-refill.field-0.0) tt (counts_more _ _ _ _ _ _ _ _ _ _ _ _ _ _ (flushed g d) c.in_err-refill.ensures.takes c.loop-from.invariant.sound c.in_err-refill.ensures.ended))
+    (leaves_counts _ _ _ _ _ _ (Err c.in_err-refill.field-0.0) tt (counts_more _ _ _ _ _ _ _ _ _ _ _ _ _ _ (fed g d) c.in_err-refill.ensures.takes (sound_now g d) c.in_err-refill.ensures.ended))
 
 pub returns-then-branch-clause-counted : goal.returns-then-branch-clause-counted
 returns-then-branch-clause-counted g c =
-    let d = (goal.at.returns-then-branch-clause-counted g c).In_ok-flush in
-    let going = flushed g d in
+    let d = (goal.at.returns-then-branch-clause-counted g c).After-feed_first in
+    let going = fed g d in
     let refilled = c.in_ok-refill.ensures in
+    let made = c.feed_first.ensures.rule ∙ c.loop-progress.invariant.rule in
     let ended : c.in_ok-refill.field-0 ≡ true = c.if-branch.true in
     let same = refilled.none (ap Ok ended) in
-    let counts = subst (λ (b : Bool). g.R.Source.empty_reads c.refill.new.source ≡ counted b (g.R.Source.empty_reads c.loop-from.source)) ended refilled.ended in
+    let counts = subst (λ (b : Bool). g.R.Source.empty_reads c.refill.new.source ≡ counted b (g.R.Source.empty_reads c.loop-progress.source)) ended refilled.ended in
     leaves_counts _ _ _ _ _ _ c.finish.result
-    (if_ok c.finish.result _ _ (λ writes. counts_all _ _ _ _ _ _ _ _ _ _ _ _ _ _ going refilled.takes same counts _ _ writes) c.finish.ensures.covers)
-    (if_err c.finish.result _ _ (λ writes. counts_end _ _ _ _ _ _ _ _ _ _ _ _ _ _ going refilled.takes same counts _ _ writes) c.finish.ensures.begins)
+    (if_ok c.finish.result _ _ (λ writes. counts_all _ _ _ _ _ _ _ _ _ _ _ _ _ _ going refilled.takes same counts _ _ writes) (rw made at c.finish.ensures.covers))
+    (if_err c.finish.result _ _ (λ writes. counts_end _ _ _ _ _ _ _ _ _ _ _ _ _ _ going refilled.takes same counts _ _ writes) (rw made at c.finish.ensures.begins))
 
 pub returns-in_err-walk_read-clause-counted : goal.returns-in_err-walk_read-clause-counted
 returns-in_err-walk_read-clause-counted g c =
-    let d = (goal.at.returns-in_err-walk_read-clause-counted g c).In_ok-flush in
+    let d = (goal.at.returns-in_err-walk_read-clause-counted g c).After-feed_first in
     let e = (goal.at.returns-in_err-walk_read-clause-counted g c).Else-branch in
     rw (err_passed c.from_residual-in_err-walk_read.result c.in_err-walk_read.field-0.0 c.from_residual-in_err-walk_read.ensures.1)
     (leaves_counts _ _ _ _ _ _ (Err c.in_err-walk_read.field-0.0) tt
-    (counts_on _ _ _ _ _ _ _ _ _ _ _ _ _ _ (flushed g d) c.in_ok-refill.ensures.takes _ _ (rw c.loop-from.invariant.same at c.in_err-walk_read.ensures.begins) (not_ended g e)))
+    (counts_on _ _ _ _ _ _ _ _ _ _ _ _ _ _ (fed g d) c.in_ok-refill.ensures.takes _ _ (rw (c.feed_first.ensures.rule ∙ c.loop-progress.invariant.rule) at (rw c.loop-progress.invariant.same at c.in_err-walk_read.ensures.begins)) (not_ended g e)))

@@ -3,9 +3,9 @@ use Rattle.std.proofs.Common.{◌≡◌, ℕ, ◌-◌, ◌∷◌, List, ap, arit
 use Rattle.aho_core.specs.Occurrence.{Occurrence}
 use Rattle.aho_core.specs.Overlapping.{occurrences_ending}
 use Rattle.aho_core.specs.Patterns.{Patterns}
-use Rattle.aho_core.specs.Replacement.{pieces_of}
 use Rattle.aho_cover.specs.declared.progress.CoverProgress.{CoverProgress}
 use Rattle.aho_cover.specs.Counting.{Output}
+use Rattle.aho_cover.specs.Feeds.{Feeding}
 use Rattle.aho_cover.specs.Progress.{ClearlyCovered, EndsNext, HasCovered, IsBeginning}
 use Rattle.aho_cover.proofs.Covered.{has-joined, has-open}
 use Rattle.aho_cover.proofs.Sound.{order-joined, room-joined, sound-joined}
@@ -15,18 +15,18 @@ use Rattle.aho_cover.proofs.progress.CoverProgress.join.Goals.{After-open_place-
 use Rattle.aho_cover.proofs.progress.CoverProgress.join.Goals as goal
 
 -- what ends later begins behind the open place
-clearly : (g : Over) (c : After-open_place-open g) (p : Patterns) (haystack : List ℕ) (written : Output) → HasCovered (pieces_of c.args.pieces.now) c.args.self.now (c.args.m.end - 1) p haystack written
-    → ClearlyCovered (pieces_of c.args.pieces.now) c.args.self.now (c.args.m.end - 1) c.open_place-open.result p haystack written
+clearly : (g : Over) (c : After-open_place-open g) (p : Patterns) (haystack : List ℕ) (written : Output) → HasCovered (g.P.Pieces.rule c.args.pieces.now) c.args.self.now (c.args.m.end - 1) p haystack written
+    → ClearlyCovered (g.P.Pieces.rule c.args.pieces.now) c.args.self.now (c.args.m.end - 1) c.open_place-open.result p haystack written
 clearly g c p haystack written has =
-    (has, λ m occurs later. omega (arith, has-open p haystack (pieces_of c.args.pieces.now) c.args.self.now (c.args.m.end - 1) written has m occurs later, c.open_place-open.ensures.place, c.end.ensures.end))
+    (has, λ m occurs later. omega (arith, has-open p haystack (g.P.Pieces.rule c.args.pieces.now) c.args.self.now (c.args.m.end - 1) written has m occurs later, c.open_place-open.ensures.place, c.end.ensures.end))
 
 pub returns-in_err-settle-clause-begins : goal.returns-in_err-settle-clause-begins
 returns-in_err-settle-clause-begins g c =
     let d = (goal.at.returns-in_err-settle-clause-begins g c).After-open_place-open in
-    let pieces = pieces_of c.args.pieces.now in
+    let rule = g.P.Pieces.rule c.args.pieces.now in
     let before = c.args.m.end - 1 in
     on_err c.from_residual.result _
-    (writes_still (HasCovered pieces c.args.self.now before) (IsBeginning pieces) (clearly g d) (λ p haystack written begins. begins) (c.in_err-settle.ensures.begins before))
+    (writes_still (Feeding (g.P.Pieces.holds c.args.pieces.now) c.args.self.now (HasCovered rule c.args.self.now before)) (IsBeginning rule) (λ p haystack written has. (clearly g d p haystack written has.0, has.1)) (λ p haystack written begins. begins) (c.in_err-settle.ensures.begins before))
 
 pub add-requires-clause-in_order : goal.add-requires-clause-in_order
 add-requires-clause-in_order g c =
@@ -38,21 +38,26 @@ add-requires-clause-room g c =
     room-joined c.settle.new.self c.args.m (c.in_ok-settle.ensures.sound (c.args.m.end - 1) c.requires.sound) c.requires.some c.open_place-open.result
     (omega (arith, c.open_place-open.ensures.place, c.end.ensures.end, least)) c.in_ok-settle.ensures.last
 
+pub add-requires-clause-whole : goal.add-requires-clause-whole
+add-requires-clause-whole g c = (c.in_ok-settle.ensures.sound (c.args.m.end - 1) c.requires.sound).whole
+
 pub returns-clause-sound : goal.returns-clause-sound
 returns-clause-sound g c =
     let s = c.settle.new.self in
     let read = ap (λ (s' : CoverProgress). s'.read) c.in_ok-settle.ensures.others in
+    let fed = ap (λ (s' : CoverProgress). s'.fed) c.in_ok-settle.ensures.others in
     sound-joined s c.args.m (c.in_ok-settle.ensures.sound (c.args.m.end - 1) c.requires.sound) c.requires.some c.add.new.self c.add.ensures.joined
-    (omega (arith, c.requires.read, read)) (omega (arith, c.in_ok-settle.ensures.copied, c.open_place-open.ensures.place, c.end.ensures.end, c.requires.behind)) c.add.ensures.whole c.add.ensures.same_room
+    (omega (arith, c.requires.read, read)) (omega (arith, c.in_ok-settle.ensures.copied, c.open_place-open.ensures.place, c.end.ensures.end, c.requires.behind)) (omega (arith, c.requires.unfed, fed)) c.add.ensures.whole c.add.ensures.same_room
 
 pub returns-clause-writes : goal.returns-clause-writes
 returns-clause-writes g c =
     let d = (goal.at.returns-clause-writes g c).After-open_place-open in
     let s = c.settle.new.self in
     let m = c.args.m in
-    let pieces = pieces_of c.args.pieces.now in
+    let rule = g.P.Pieces.rule c.args.pieces.now in
     let read = ap (λ (s' : CoverProgress). s'.read) c.in_ok-settle.ensures.others in
-    writes_still (EndsNext pieces c.args.self.now m) (HasCovered pieces (record s { hand = c.add.new.self }) m.end)
-    (λ p haystack written h. (clearly g d p haystack written h.0, h.1))
-    (λ p haystack written h. has-joined p haystack pieces s m c.add.new.self written h.0.0 h.1.0 h.1.1 c.requires.some (omega (arith, c.requires.read, read)) c.add.ensures.joined)
+    writes_still (Feeding (g.P.Pieces.holds c.args.pieces.now) c.args.self.now (EndsNext rule c.args.self.now m))
+    (Feeding (g.P.Pieces.holds c.settle.new.pieces) (record s { hand = c.add.new.self }) (HasCovered rule (record s { hand = c.add.new.self }) m.end))
+    (λ p haystack written h. ((clearly g d p haystack written h.0.0, h.1), h.0.1))
+    (λ p haystack written h. (has-joined p haystack rule s m c.add.new.self written h.0.0.0 h.1.0 h.1.1 c.requires.some (omega (arith, c.requires.read, read)) c.add.ensures.joined, h.0.1))
     (writes_with (λ p haystack. (others : List Occurrence) × (occurrences_ending p haystack 0 m.end ≡ m ∷ others)) (c.in_ok-settle.ensures.writes (m.end - 1)))

@@ -1,7 +1,7 @@
 -- One run after another.
 use Rattle.std.proofs.Common.{◌∙◌, refl, ap, arith}
-use Rattle.aho_core.specs.Replacement.{pieces_of}
 use Rattle.aho_cover.specs.declared.progress.CoverProgress.{CoverProgress}
+use Rattle.aho_cover.specs.Feeds.{Feeding}
 use Rattle.aho_cover.specs.Progress.{ClearlyCovered}
 use Rattle.aho_cover.proofs.Written.{on_err, writes_nothing, writes_then}
 use Rattle.aho_cover.proofs.progress.CoverProgress.settle.Goals as goal
@@ -12,7 +12,8 @@ loop-init g c = record {
   others = refl;
   room = record { least = refl; room = refl };
   copied = omega arith;
-  writes = λ at. writes_nothing g.W.Sink c.args.sink.now c.args.counts.now _ (ClearlyCovered (pieces_of c.args.pieces.now) c.args.self.now at c.args.place) (λ p haystack written before. before);
+  rule = refl;
+  writes = λ at. writes_nothing g.W.Sink c.args.sink.now c.args.counts.now _ (Feeding (g.P.Pieces.holds c.args.pieces.now) c.args.self.now (ClearlyCovered (g.P.Pieces.rule c.args.pieces.now) c.args.self.now at c.args.place)) (λ p haystack written before. before);
   failures = refl;
   empty_writes = refl;
 }
@@ -22,7 +23,7 @@ settle_one-requires g c = record { sound = (c.requires.sound.0, c.loop.invariant
 
 pub returns-in_err-settle_one-clause-begins : goal.returns-in_err-settle_one-clause-begins
 returns-in_err-settle_one-clause-begins g c =
-    on_err c.from_residual.result _ (λ at. writes_then (c.loop.invariant.writes at) (c.in_err-settle_one.ensures.begins at))
+    on_err c.from_residual.result _ (λ at. writes_then (c.loop.invariant.writes at) ((rw c.loop.invariant.rule at c.in_err-settle_one.ensures.begins) at))
 
 pub loop-preserved : goal.loop-preserved
 loop-preserved g c =
@@ -34,7 +35,8 @@ loop-preserved g c =
       others = one.others ∙ ap (λ (s : CoverProgress). record s { copied = next.copied; hand = next.hand }) inv.others;
       room = record { least = one.room.least ∙ inv.room.least; room = one.room.room ∙ inv.room.room };
       copied = omega (arith, one.copied, inv.copied);
-      writes = λ at. writes_then (inv.writes at) (one.writes at);
+      rule = one.rule ∙ inv.rule;
+      writes = λ at. writes_then (inv.writes at) ((rw inv.rule at one.writes) at);
       failures = one.tells.write_failed ∙ inv.failures;
       empty_writes = one.tells.took_nothing ∙ inv.empty_writes;
     }
@@ -43,4 +45,4 @@ pub returns-clause-sound : goal.returns-clause-sound
 returns-clause-sound g c = λ at sound. c.in_ok-settle_one.ensures.sound at (c.loop.invariant.sound at sound)
 
 pub returns-clause-writes : goal.returns-clause-writes
-returns-clause-writes g c = λ at. writes_then (c.loop.invariant.writes at) (c.in_ok-settle_one.ensures.writes at)
+returns-clause-writes g c = λ at. writes_then (c.loop.invariant.writes at) ((rw c.loop.invariant.rule at c.in_ok-settle_one.ensures.writes) at)

@@ -32,20 +32,20 @@ returns-in_err-write_whole-clause-begins g c =
     let sound = c.requires.sound in
     let copied = max s.copied end in
     let after = sound-outside s sound.0 sound.1 c.args.place copied sound.2 (ap (max s.copied) c.outside_end-end.ensures.end) in
-    on_err c.from_residual.result _ (λ at pieces counts. record {
+    on_err c.from_residual.result _ (λ at rule counts. record {
       bytes = take some.0 c.gap.result.now;
       appends = some.2;
       runs = [];
       counted = counts_none counts;
       follows = λ p haystack written before.
           let bytes = c.gap.ensures.part haystack before.0.given in
-          let next = has-copied p haystack pieces s at written end copied before.0 refl (clear_end g d at p haystack before.1) in
-          begins_before p haystack pieces written c.gap.result.now [] some.0 some.1
-          (subst (λ (xs : List ℕ). IsBeginning pieces p haystack (put_on written xs [])) (sym bytes) (has-begun p haystack pieces (record s { copied = copied }) at _ next after.behind));
+          let next = has-copied p haystack rule s at written end copied before.0 refl (clear_end g d at p haystack before.1) in
+          begins_before p haystack rule written c.gap.result.now [] some.0 some.1
+          (subst (λ (xs : List ℕ). IsBeginning rule p haystack (put_on written xs [])) (sym bytes) (has-begun p haystack rule (record s { copied = copied }) at _ next after.behind));
     })
 
 pub returns-clause-writes : goal.returns-clause-writes
-returns-clause-writes g c = λ at pieces counts.
+returns-clause-writes g c = λ at rule counts.
     let d = (goal.at.returns-clause-writes g c).After-outside_end-end in
     let s = c.args.self.now in
     let end = c.outside_end-end.result in
@@ -57,6 +57,6 @@ returns-clause-writes g c = λ at pieces counts.
       counted = counts_none counts;
       follows = λ p haystack written before.
           let bytes = c.gap.ensures.part haystack before.0.given in
-          let next = has-copied p haystack pieces s at written end copied before.0 (omega (arith, c.max-self.ensures)) (clear_end g d at p haystack before.1) in
-          subst (λ (xs : List ℕ). HasCovered pieces (record s { copied = copied }) at p haystack (put_on written xs [])) (sym bytes) next;
+          let next = has-copied p haystack rule s at written end copied before.0 (omega (arith, c.max-self.ensures)) (clear_end g d at p haystack before.1) in
+          subst (λ (xs : List ℕ). HasCovered rule (record s { copied = copied }) at p haystack (put_on written xs [])) (sym bytes) next;
     }

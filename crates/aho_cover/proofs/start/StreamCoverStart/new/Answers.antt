@@ -21,11 +21,12 @@ returns-clause-unbegun g c =
       is_state = check.valid;
       shallow = check.shallow;
       unread = refl;
+      unfed = refl;
       sound = begun-sound buffer hand c.in_ok-sid.sid (omega (arith, least)) c.in_ok-buffer.ensures.empty c.in_ok-hand.ensures.none c.in_ok-hand.ensures.whole (c.in_ok-hand.ensures.room ∙ ap (λ (n : ℕ). n / 2 + 1) c.min_buffer_len.ensures.least);
-      covers = λ p pieces haystack of. record {
+      covers = λ p rule haystack of. record {
         of = of;
         is_held = begun-held a automaton p haystack c.in_ok-sid.sid (check.begins p of);
-        covered = begun-covered p pieces haystack buffer hand c.in_ok-sid.sid c.in_ok-buffer.ensures.empty c.in_ok-hand.ensures.none
+        covered = begun-covered p rule haystack buffer hand c.in_ok-sid.sid c.in_ok-buffer.ensures.empty c.in_ok-hand.ensures.none
             (least ∙ ap (λ (lengths : List ℕ). max 1 (longest lengths)) (g.met.A.Automaton.laws automaton p of).lengths_are);
       };
     })

@@ -1,6 +1,6 @@
 -- The next stream begins as this one did.
 use Rattle.aho_cover.proofs.Begun.{unbegun-again}
-use Rattle.aho_cover.proofs.stream.cover_counted.Goals as goal
+use Rattle.aho_cover.proofs.stream.cover_made.Goals as goal
 
 pub returns-clause-unbegun : goal.returns-clause-unbegun
 returns-clause-unbegun g c =

@@ -1,0 +1,26 @@
+-- The piece of a run, made of the number of its pattern and of its bytes.
+use Rattle.std.specs.Prelude.{◌≡◌, ℕ, List, [], slice_index_or, slice_range}
+use Rattle.aho_core.specs.Cover.{AreRuns}
+use Rattle.aho_core.specs.Occurrence.{Occurrence}
+use Rattle.aho_core.specs.Patterns.{Patterns}
+use Rattle.aho_core.specs.Replacement.{replaced_by}
+use Rattle.aho_automaton.specs.Covering.{runs_in}
+
+-- what makes pieces
+abbrev pub PieceRule : Type 0
+PieceRule = ℕ → List ℕ → List ℕ
+
+-- the piece of a run of these bytes
+abbrev pub piece_in : PieceRule → List ℕ → Occurrence → List ℕ
+piece_in rule haystack run = rule run.pattern (slice_range haystack run.start run.end)
+
+-- one piece for each pattern, whatever the bytes of a run are
+abbrev pub fixed_rule : List (List ℕ) → PieceRule
+fixed_rule pieces number bytes = slice_index_or pieces number []
+
+-- the cover of a text: each run is replaced by the piece that is made of it
+abbrev pub IsCoverBy : Patterns → List ℕ → PieceRule → List ℕ → Type 0
+IsCoverBy p haystack rule output = (runs : List Occurrence) × AreRuns p haystack runs × (output ≡ replaced_by haystack runs (piece_in rule haystack))
+
+abbrev pub cover_by : Patterns → List ℕ → PieceRule → List ℕ
+cover_by p haystack rule = replaced_by haystack (runs_in p haystack) (piece_in rule haystack)
