@@ -1,6 +1,6 @@
 //! The automaton with rows by which `acfind` searches, and its prefilter. Both are made for speed: no answer depends on them.
 
-ghost use Rattle.std.specs.Prelude.{◌≡◌, IfOk, map, string_bytes};
+ghost use Rattle.std.specs.Prelude.{◌≡◌, ◌<◌, IfErr, IfOk, length, map, string_bytes};
 ghost use Rattle.aho_core.specs.Patterns.{Patterns};
 ghost use Rattle.aho_core.specs.Replacement.{pieces_of};
 ghost use Rattle.programs.specs.Asked.{request_patterns, ArePatterns};
@@ -9,7 +9,6 @@ ghost use Rattle.programs.specs.Automata.{AreRowsFor, HaveKindOf, IsNFAFor, IsPr
 use crate::command::Request;
 use aho_automaton::automaton::Automaton;
 use aho_corasick::noncontiguous::NFA;
-use aho_core::error::BuildError;
 use aho_hybrid::hybrid::{DEFAULT_BUDGET, Hybrid};
 use aho_prefilter::prefilter::Prefilter;
 use std::alloc::{AllocError, Global};
@@ -18,7 +17,7 @@ use std::alloc::{AllocError, Global};
 ///
 /// # Errors
 ///
-/// The error says that memory ran out.
+/// The error says that memory ran out. None is wanted where there are no patterns.
 pub fn prefilter_of(
     alloc: Global,
     ignore_case: bool,
@@ -26,15 +25,17 @@ pub fn prefilter_of(
 ) -> Result<Option<Prefilter>, AllocError>
     ensures of { (p : Patterns) → ArePatterns p ignore_case (pieces_of patterns.now)
         → IfOk result (IsPrefilterFor p) }
+    ensures wanted { IfErr result (λ _. 0 < length patterns.now) }
 {
     Prefilter::quickest(alloc, ignore_case, patterns)
 }
 
-/// The automaton with rows of what an `NFA` of these patterns is of; none where it would have too many states.
+/// The automaton with rows of what an `NFA` of these patterns is of; none where it would have too many states, or where memory for
+/// it is refused.
 ///
 /// # Errors
 ///
-/// The error says that memory ran out.
+/// The error says that memory for the prefilter ran out.
 pub fn rows_of(
     alloc: Global,
     nfa: &NFA,
@@ -45,11 +46,11 @@ pub fn rows_of(
         → IsNFAFor p nfa.now → IfOk result (AreRowsFor p) }
     ensures kind { IfOk result (HaveKindOf nfa.now) }
     ensures starts { IfOk result TakeUnanchored }
+    ensures wanted { IfErr result (λ _. 0 < length patterns.now) }
 {
     let prefilter = prefilter_of(alloc, ignore_case, patterns)?;
     match Hybrid::with_prefilter(alloc, nfa, DEFAULT_BUDGET, prefilter) {
         Ok(rows) => Ok(Some(rows)),
-        Err(BuildError::OutOfMemory) => Err(AllocError),
         Err(_) => Ok(None),
     }
 }

@@ -10,4 +10,5 @@ returns c = record {
       let given = c.quickest.ensures.of p.kind in
       let worded = subst (λ (words : List (List ℕ)). IfOk c.quickest.result (λ held. IfSome held (λ prefilter. IsPrefilterOf prefilter (patterns_from p.kind c.args.ignore_case words)))) (sym are.words_are) given in
       subst (λ (rule : Bool). IfOk c.quickest.result (λ held. IfSome held (λ prefilter. IsPrefilterOf prefilter (patterns_from p.kind rule p.words)))) (sym are.rule) worded;
+  wanted = c.quickest.ensures.some;
 }
