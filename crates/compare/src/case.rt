@@ -2,6 +2,7 @@
 
 ghost use Rattle.std.specs.Prelude.{◌<◌};
 
+use crate::hostile::{Family, Made, fibonacci, nested, periodic};
 use aho_core::search::MatchKind;
 use anyhow::Result;
 use bench::numbers::Numbers;
@@ -219,16 +220,27 @@ fn part_of_some<'w>(numbers: &mut Numbers, words: &'w [Vec<u8>]) -> &'w [u8] {
     word.get(start..end).unwrap_or(&[])
 }
 
+/// Some patterns of random letters, and a text that is made for them.
+fn random(alloc: Global, numbers: &mut Numbers) -> Result<Made, AllocError> {
+    let making = Making::new(numbers);
+    let patterns = making.patterns(alloc, numbers)?;
+    let text = making.text(alloc, numbers, patterns.as_slice())?;
+    Ok(Made { patterns, text })
+}
+
 impl Case {
-    /// The case of this seed.
-    pub(crate) fn new(alloc: Global, seed: u64) -> Result<Case, AllocError> {
+    /// The case of this seed and this family.
+    pub(crate) fn new(alloc: Global, seed: u64, family: Family) -> Result<Case, AllocError> {
         let mut numbers = Numbers::new(seed);
-        let making = Making::new(&mut numbers);
-        let patterns = making.patterns(alloc, &mut numbers)?;
-        let text = making.text(alloc, &mut numbers, patterns.as_slice())?;
+        let made = match family {
+            Family::Random => random(alloc, &mut numbers)?,
+            Family::Nested => nested(alloc, &mut numbers)?,
+            Family::Periodic => periodic(alloc, &mut numbers)?,
+            Family::Fibonacci => fibonacci(alloc, &mut numbers)?,
+        };
         Ok(Case {
-            patterns,
-            text,
+            patterns: made.patterns,
+            text: made.text,
             kind: KINDS[numbers.below(3)],
             ignore_case: numbers.once_in(3),
         })

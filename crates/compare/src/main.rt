@@ -1,6 +1,7 @@
 //! `compare SEED ROUNDS [NAME..]` makes random calls of the whole interface, and compares each with a plain program that computes
-//! the definitions. Each round has patterns and a text of its own, which its seed tells: the first round has SEED, and each
-//! later one the next number.
+//! the definitions. Each round has patterns and texts of its own, which its seed tells: the first round has SEED, and each
+//! later one the next number. It has words of random letters, and of three families that are hostile to a search: powers of a letter,
+//! powers of a word, and Fibonacci words.
 //!
 //! A NAME is a part of the calls, and without one all but the last are made. `memory`: searches, lists and replacements in memory by each
 //! automaton, compared with the plain program. `streams`: streams whose devices cut, end and fail, compared with the same
@@ -15,6 +16,7 @@ mod case;
 mod count;
 mod covers;
 mod fixed;
+mod hostile;
 mod memory;
 mod parts;
 mod pieces;
@@ -28,6 +30,7 @@ use anyhow::{Context, Result, bail};
 use case::Case;
 use count::Count;
 use fixed::compare_fixed;
+use hostile::{FAMILIES, Family};
 use parts::{Parts, parts_of};
 use round::compare;
 use short::compare_short;
@@ -59,10 +62,12 @@ fn rounds_from(rt: &HostRuntime, seed: u64, rounds: u64, parts: Parts) -> Result
     }
     for round in 0..rounds {
         let seed = seed.wrapping_add(round);
-        if let Err(error) = compare(rt.alloc(), seed, parts, &mut count) {
-            println!(rt; "{error:#}\nseed {seed}")?;
-            tell(rt, seed)?;
-            return Ok(ExitCode::FAILURE);
+        for family in FAMILIES {
+            if let Err(error) = compare(rt.alloc(), seed, family, parts, &mut count) {
+                println!(rt; "{error:#}\nseed {seed}, {family:?} words")?;
+                tell(rt, seed, family)?;
+                return Ok(ExitCode::FAILURE);
+            }
         }
     }
     println!(rt; "{} calls compared", count.calls())?;
@@ -75,9 +80,9 @@ fn same_in_each_run(alloc: Global, parts: Parts, count: &mut Count) -> Result<()
     compare_fixed(alloc, parts.all(), count)
 }
 
-/// Tells what the patterns and the text of a round are.
-fn tell(rt: &HostRuntime, seed: u64) -> Result<()> {
-    let case = Case::new(rt.alloc(), seed)?;
+/// Tells what the patterns and the text of a case are.
+fn tell(rt: &HostRuntime, seed: u64, family: Family) -> Result<()> {
+    let case = Case::new(rt.alloc(), seed, family)?;
     for pattern in case.patterns() {
         println!(rt; "pattern {}", case::shown(rt.alloc(), pattern)?)?;
     }

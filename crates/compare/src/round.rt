@@ -1,9 +1,10 @@
-//! One round of comparisons.
+//! One case of a round of comparisons.
 
 use crate::automata::compare_automata;
 use crate::backward::{compare_backward, compare_backward_streams};
 use crate::case::Case;
 use crate::count::Count;
+use crate::hostile::Family;
 use crate::memory::Asked;
 use crate::parts::Parts;
 use crate::pieces::{bytes_of, pieces_for};
@@ -14,9 +15,15 @@ use bench::numbers::Numbers;
 use bench::pattern_set::PatternSet;
 use std::alloc::Global;
 
-/// Compares the calls of the round of this seed.
-pub(crate) fn compare(alloc: Global, seed: u64, parts: Parts, count: &mut Count) -> Result<()> {
-    let case = Case::new(alloc, seed)?;
+/// Compares the calls of the case of this seed and this family.
+pub(crate) fn compare(
+    alloc: Global,
+    seed: u64,
+    family: Family,
+    parts: Parts,
+    count: &mut Count,
+) -> Result<()> {
+    let case = Case::new(alloc, seed, family)?;
     let mut words = Vec::new(alloc);
     for pattern in case.patterns() {
         words.push(pattern.as_slice())?;
