@@ -16,7 +16,7 @@ use std::alloc::Global;
 pub enum Searcher {
     /// The automaton of rows, with a prefilter where there is one for the patterns.
     Rows(Hybrid),
-    /// The automaton that rows are made of, where it has too many states for them.
+    /// The automaton that rows are made of, where they were not made.
     Trie(NFA),
 }
 
