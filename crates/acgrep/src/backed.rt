@@ -12,9 +12,9 @@ ghost use Rattle.aho_backward.specs.Searcher.{IsBackwardOf};
 ghost use Rattle.acgrep.specs.Backing.{IsBackedBy};
 ghost use Rattle.acgrep.specs.Searchers.{ForAsked};
 
+use aho_corasick::noncontiguous::NFA;
 use aho_core::error::MatchError;
 use aho_core::search::{Anchored, Match, MatchKind, PatternID, StateID, Work};
-use aho_corasick::noncontiguous::NFA;
 use aho_prefilter::prefilter::Prefilter;
 use chromesquid::overhang::is_worth_it;
 use chromesquid::{Automaton, Backward};
@@ -72,17 +72,22 @@ fn finds_by(alloc: Global, backward: &Backward, line: &[u8]) -> Option<Vec<Match
     }
 }
 
-/// The searcher by a walk backward of these patterns, where it is worth it and can be made. The automaton is of these patterns.
+/// The searcher by a walk backward of these patterns, where all finds of a line are asked for, it is worth it, and it can be made. The
+/// automaton is of these patterns.
 pub fn backward_of(
     alloc: Global,
     nfa: &NFA,
     kind: MatchKind,
     ignore_case: bool,
     patterns: &[&[u8]],
+    listed: bool,
 ) -> Option<Backward>
     requires of { (p : Patterns) × ⟦<NFA as Automaton>⟧.is_of nfa.now p }
     ensures of { ForAsked kind ignore_case (pieces_of patterns.now) (λ p. IsBackedBy p result) }
 {
+    if !listed {
+        return None;
+    }
     if !is_worth_it(nfa, patterns) {
         return None;
     }

@@ -35,19 +35,13 @@ pub fn put_objects<A: Lister, W: Write>(
     if alone {
         return put_alone(automaton, output, style, place, line);
     }
-    match automaton.list_finds(line) {
-        Some(found) => Ok(put_listed_objects(
-            output,
-            style,
-            place,
-            line,
-            found.as_slice(),
-        )?),
-        None => {
-            let matches = automaton.try_find_iter(Input::new(line))?;
-            Ok(put_each(output, style, place, line, matches)?)
-        }
+    if let Some(found) = automaton.list_finds(line) {
+        put_listed_objects(output, style, place, line, found.as_slice())?;
+        return Ok(());
     }
+    let matches = automaton.try_find_iter(Input::new(line))?;
+    put_each(output, style, place, line, matches)?;
+    Ok(())
 }
 
 /// The same of the matches that stand alone.

@@ -44,11 +44,7 @@ pub fn put_listed_objects<W: Write>(
 }
 
 /// Writes the bytes of a line with these matches of it coloured.
-pub fn put_listed_colors<W: Write>(
-    output: &mut W,
-    line: &[u8],
-    matches: &[Match],
-) -> io::Result<()>
+pub fn put_listed_colors<W: Write>(output: &mut W, line: &[u8], matches: &[Match]) -> io::Result<()>
     ensures written { Puts W.Write output.old output.new result
         (colored_from line.now 0 matches.now) }
 {

@@ -256,13 +256,13 @@ fn put_colored_bytes<A: Lister, W: Write>(
     if alone {
         return put_colored_alone(automaton, output, line);
     }
-    match automaton.list_finds(line) {
-        Some(found) => Ok(put_listed_colors(output, line, found.as_slice())?),
-        None => {
-            let matches = automaton.try_find_iter(Input::new(line))?;
-            Ok(put_colored(output, line, matches)?)
-        }
+    if let Some(found) = automaton.list_finds(line) {
+        put_listed_colors(output, line, found.as_slice())?;
+        return Ok(());
     }
+    let matches = automaton.try_find_iter(Input::new(line))?;
+    put_colored(output, line, matches)?;
+    Ok(())
 }
 
 /// The same of the matches that stand alone.
@@ -306,7 +306,12 @@ fn put_colored<W: Write, I: Iterator<Item = Match> + Drop>(
 
 /// Writes a line from a place on up to the end of a match, which is coloured, and answers that end. An empty match
 /// changes nothing.
-pub fn put_up_to<W: Write>(output: &mut W, line: &[u8], at: usize, found: &Match) -> io::Result<usize>
+pub fn put_up_to<W: Write>(
+    output: &mut W,
+    line: &[u8],
+    at: usize,
+    found: &Match,
+) -> io::Result<usize>
     ensures behind { IfOk result (λ behind. behind ≡ behind_match at found.now) }
     ensures written { Puts W.Write output.old output.new result
         (colored_by line.now at found.now) }
@@ -337,13 +342,13 @@ pub fn put_matches<A: Lister, W: Write>(
     if alone {
         return put_alone(automaton, output, style, place, line);
     }
-    match automaton.list_finds(line) {
-        Some(found) => Ok(put_listed(output, style, place, line, found.as_slice())?),
-        None => {
-            let matches = automaton.try_find_iter(Input::new(line))?;
-            Ok(put_each(output, style, place, line, matches)?)
-        }
+    if let Some(found) = automaton.list_finds(line) {
+        put_listed(output, style, place, line, found.as_slice())?;
+        return Ok(());
     }
+    let matches = automaton.try_find_iter(Input::new(line))?;
+    put_each(output, style, place, line, matches)?;
+    Ok(())
 }
 
 /// The same of the matches that stand alone.

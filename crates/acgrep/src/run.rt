@@ -289,13 +289,7 @@ fn search<F: Open + Folders, R: Read, W: Sink, E: Sink>(
         files,
     };
     let listed = lists_finds(flags, terminal);
-    match Searcher::build(
-        alloc,
-        kind_sought(flags),
-        flags.ignore_case,
-        words,
-        listed,
-    ) {
+    match Searcher::build(alloc, kind_sought(flags), flags.ignore_case, words, listed) {
         Ok(searcher) => search_operands(&searcher, given, terminal, &named, input, output, errors),
         Err(error) => {
             tell_refusal(&keys, sources, &error, errors);

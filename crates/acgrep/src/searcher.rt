@@ -38,11 +38,7 @@ impl Searcher {
             (λ p. IfOk result (IsSearcherOf p)) }
     {
         let nfa = trie_of(alloc, kind, ignore_case, patterns)?;
-        let backward = if listed {
-            backward_of(alloc, &nfa, kind, ignore_case, patterns)
-        } else {
-            None
-        };
+        let backward = backward_of(alloc, &nfa, kind, ignore_case, patterns, listed);
         match rows_of(alloc, &nfa, ignore_case, patterns) {
             Ok(Some(rows)) => Ok(Searcher::Rows(Backed::new(alloc, rows, backward))),
             Ok(None) => Ok(Searcher::Trie(Backed::new(alloc, nfa, backward))),
