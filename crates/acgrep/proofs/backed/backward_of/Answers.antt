@@ -1,6 +1,5 @@
 -- The searcher was made of these patterns.
 use Rattle.std.proofs.Common.{Bool, List, ℕ, sym, subst}
-use Rattle.aho_core.specs.Patterns.{Patterns}
 use Rattle.aho_core.specs.Replacement.{pieces_of}
 use Rattle.aho_core.specs.declared.search.MatchKind.{MatchKind}
 use Rattle.aho_corasick.specs.contracts.noncontiguous.NFAAutomaton.TheImpl.{ghosts}
