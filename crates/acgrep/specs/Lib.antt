@@ -1,5 +1,6 @@
 pub mod Alone
 pub mod Arguments
+pub mod Backing
 pub mod Base64
 pub mod Contexts
 pub mod Files

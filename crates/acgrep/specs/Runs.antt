@@ -19,6 +19,8 @@ use Rattle.acgrep.specs.declared.options.Color.TheVariants.{Auto, Always, Never}
 use Rattle.acgrep.specs.declared.options.Fit.{Fit}
 use Rattle.acgrep.specs.declared.options.Fit.TheVariants.{AnyPart, WholeWord, WholeLine}
 use Rattle.acgrep.specs.declared.options.Flags.{Flags}
+use Rattle.acgrep.specs.declared.options.Shown.{Shown}
+use Rattle.acgrep.specs.declared.options.Shown.TheVariants.{Lines, Matches, Objects, Count, Names, Lacking, Nothing}
 use Rattle.acgrep.specs.declared.format.Piece.{Piece}
 use Rattle.acgrep.specs.declared.print.Form.{Form}
 use Rattle.acgrep.specs.declared.print.Form.TheVariants.{Json, Pieces}
@@ -122,11 +124,25 @@ kind_sought flags = if takes_any (fit_by flags) then flags.kind else LeftmostLon
 abbrev pub knows_none : Flags → List (List ℕ) → Bool
 knows_none flags words = (flags.quiet || not flags.lacking) && selects_none (fit_by flags) (inverts flags) words
 
+-- whether what is written of a line are its matches, or shows them in colour
+abbrev pub shows_finds : Shown → Bool → Bool
+shows_finds Lines colored = colored
+shows_finds Matches colored = true
+shows_finds Objects colored = true
+shows_finds Count colored = false
+shows_finds Names colored = false
+shows_finds Lacking colored = false
+shows_finds Nothing colored = false
+
 -- whether matches are coloured
 abbrev pub is_colored : Color → Bool → Bool
 is_colored Auto terminal = terminal
 is_colored Always terminal = true
 is_colored Never terminal = false
+
+-- whether matches are written, or coloured
+abbrev pub lists_finds : Flags → Bool → Bool
+lists_finds flags terminal = shows_finds (shown_by flags) (is_colored flags.color terminal)
 
 -- where the first line of each file stands: its number is the asked one, as many lines stand before it as one less
 abbrev pub first_place : Flags → Place

@@ -7,6 +7,7 @@ use Rattle.aho_build.specs.declared.settings.Settings.{Settings}
 use Rattle.aho_corasick.specs.contracts.noncontiguous.NFAAutomaton.TheImpl.{ghosts as of_nfa}
 use Rattle.aho_hybrid.specs.contracts.hybrid.HybridAutomaton.TheImpl.{ghosts as of_hybrid}
 use Rattle.programs.specs.Asked.{ArePatterns}
+use Rattle.acgrep.specs.Backing.{IsBackedBy}
 use Rattle.acgrep.specs.declared.searcher.Searcher.{Searcher}
 use Rattle.acgrep.specs.declared.searcher.Searcher.TheVariants.{Rows, Trie}
 
@@ -22,7 +23,7 @@ settings_asked kind ignore_case = record default_settings { kind = kind; ignore_
 abbrev pub ForAsked : MatchKind → Bool → List (List ℕ) → (Patterns → Type 0) → Type 0
 ForAsked kind ignore_case words Holds = (p : Patterns) → p.kind ≡ kind → ArePatterns p ignore_case words → Holds p
 
--- the automaton that is held is of these patterns
+-- the automaton that is held is of these patterns, and so is what lists all finds of a line, if it is held
 abbrev pub IsSearcherOf : Patterns → Searcher → Type 0
-IsSearcherOf p (Rows rows) = of_hybrid.is_of rows p
-IsSearcherOf p (Trie nfa) = of_nfa.is_of nfa p
+IsSearcherOf p (Rows rows) = of_hybrid.is_of rows.automaton p × IsBackedBy p rows.backward
+IsSearcherOf p (Trie nfa) = of_nfa.is_of nfa.automaton p × IsBackedBy p nfa.backward

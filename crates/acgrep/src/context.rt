@@ -9,6 +9,7 @@ ghost use Rattle.acgrep.specs.Printed.{Puts};
 ghost use Rattle.acgrep.specs.Searched.{BeginsLineAround, BeginsPassedBy, BeginsTakenBy, PassesLineBy, ShowsEachBy, ShowsGroupBy, TakesLineBy, WalksBegunBy, WalksLineBy, WalksTextBy};
 ghost use Rattle.acgrep.specs.Written.{IsMatched};
 
+use crate::backed::Lister;
 use crate::failure::Stop;
 use crate::lines::{behind, line_end};
 use crate::options::Context;
@@ -20,7 +21,7 @@ use std::io;
 use std::io::Write;
 
 /// Searches a text of whole lines, and writes what is asked of those that are selected and of those around them.
-pub fn search_around<A: Automaton, W: Sink>(
+pub fn search_around<A: Lister, W: Sink>(
     automaton: &A,
     job: &Job<'_>,
     context: &Context,
@@ -47,7 +48,7 @@ pub fn search_around<A: Automaton, W: Sink>(
 }
 
 /// Goes over a line.
-fn pass_any<A: Automaton, W: Sink>(
+fn pass_any<A: Lister, W: Sink>(
     automaton: &A,
     job: &Job<'_>,
     context: &Context,
@@ -100,7 +101,7 @@ fn has_match<A: Automaton>(automaton: &A, job: &Job<'_>, line: &[u8]) -> Result<
 }
 
 /// Goes over a line that is selected, and writes what is asked of it and of those before it.
-fn pass_chosen<A: Automaton, W: Sink>(
+fn pass_chosen<A: Lister, W: Sink>(
     automaton: &A,
     job: &Job<'_>,
     context: &Context,
@@ -125,7 +126,7 @@ fn pass_chosen<A: Automaton, W: Sink>(
 }
 
 /// Puts together what is asked of a selected line and of those that are held before it.
-fn put_group<A: Automaton, W: Write>(
+fn put_group<A: Lister, W: Write>(
     automaton: &A,
     job: &Job<'_>,
     context: &Context,
@@ -168,7 +169,7 @@ fn put_between<W: Write>(job: &Job<'_>, asked: bool, output: &mut W) -> io::Resu
 }
 
 /// Puts together what is asked of each line of a text, the first of which stands there.
-fn put_each_line<A: Automaton, W: Write>(
+fn put_each_line<A: Lister, W: Write>(
     automaton: &A,
     job: &Job<'_>,
     text: &[u8],
@@ -191,7 +192,7 @@ fn put_each_line<A: Automaton, W: Write>(
 }
 
 /// Goes over any other line. It is written where it is due behind a selected one, and else held.
-fn pass_beside<A: Automaton, W: Sink>(
+fn pass_beside<A: Lister, W: Sink>(
     automaton: &A,
     job: &Job<'_>,
     context: &Context,
@@ -216,7 +217,7 @@ fn pass_beside<A: Automaton, W: Sink>(
 }
 
 /// Goes over a line that is due behind a selected one.
-fn pass_due<A: Automaton, W: Sink>(
+fn pass_due<A: Lister, W: Sink>(
     automaton: &A,
     job: &Job<'_>,
     context: &Context,

@@ -11,6 +11,7 @@ ghost use Rattle.acgrep.specs.Printed.{Puts};
 ghost use Rattle.acgrep.specs.Searched.{BeginsFileBy, BeginsFilesBy, SearchesFileBy, SearchesReaderBy};
 ghost use Rattle.acgrep.specs.Selected.{ForLines};
 
+use crate::backed::Lister;
 use crate::buffer::Buffer;
 use crate::failure::Stop;
 use crate::keys::{INPUT, is_input, open_named};
@@ -20,7 +21,7 @@ use crate::print::{Style, put_count, put_name};
 use crate::select::{Job, State};
 use crate::stream::search_stream;
 use crate::tell::{tell_fault, tell_memory, tell_search, tell_write};
-use chromesquid::{Automaton, Sink, write_whole};
+use chromesquid::{Sink, write_whole};
 use programs::errors::Errors;
 use programs::reason::Reason;
 use std::alloc::Global;
@@ -122,7 +123,7 @@ fn is_enough(shown: Shown, any: bool) -> bool
 }
 
 /// Searches all files, and answers the status. A file that cannot be read does not stop the others.
-pub fn search_files<A: Automaton, F: Open, R: Read, W: Sink, E: Sink>(
+pub fn search_files<A: Lister, F: Open, R: Read, W: Sink, E: Sink>(
     automaton: &A,
     job: &Job<'_>,
     files: &Files<'_, F>,
@@ -172,7 +173,7 @@ pub fn search_files<A: Automaton, F: Open, R: Read, W: Sink, E: Sink>(
 }
 
 /// Searches the files of these names, and answers the status.
-fn search_names<A: Automaton, F: Open, R: Read, W: Sink, E: Sink>(
+fn search_names<A: Lister, F: Open, R: Read, W: Sink, E: Sink>(
     automaton: &A,
     job: &Job<'_>,
     alloc: Global,
@@ -215,7 +216,7 @@ fn search_names<A: Automaton, F: Open, R: Read, W: Sink, E: Sink>(
 }
 
 /// Searches the files of these names, one after another, and answers what was seen.
-fn search_each<A: Automaton, F: Open, R: Read, W: Sink, E: Sink>(
+fn search_each<A: Lister, F: Open, R: Read, W: Sink, E: Sink>(
     automaton: &A,
     job: &Job<'_>,
     files: &F,
@@ -269,7 +270,7 @@ fn goes_on(rest: &[&[u8]], seen: Seen) -> bool
 }
 
 /// Searches the file of a name.
-fn search_name<A: Automaton, F: Open, R: Read, W: Sink, E: Sink>(
+fn search_name<A: Lister, F: Open, R: Read, W: Sink, E: Sink>(
     automaton: &A,
     job: &Job<'_>,
     files: &F,
@@ -307,7 +308,7 @@ fn search_name<A: Automaton, F: Open, R: Read, W: Sink, E: Sink>(
 }
 
 /// Opens the file of a name and searches it.
-fn search_named<A: Automaton, F: Open, W: Sink, E: Sink>(
+fn search_named<A: Lister, F: Open, W: Sink, E: Sink>(
     automaton: &A,
     job: &Job<'_>,
     files: &F,
@@ -339,7 +340,7 @@ fn search_named<A: Automaton, F: Open, W: Sink, E: Sink>(
 }
 
 /// Searches what a reader gives, and writes what is asked of it.
-fn search_one<A: Automaton, R: Read, W: Sink, E: Sink>(
+fn search_one<A: Lister, R: Read, W: Sink, E: Sink>(
     automaton: &A,
     job: &Job<'_>,
     buffer: &mut Buffer,

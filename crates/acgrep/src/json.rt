@@ -8,17 +8,19 @@ ghost use Rattle.acgrep.specs.Printed.{Puts, PutsEach};
 ghost use Rattle.acgrep.specs.Objects.{PutsObjects, bytes_named, escaped_byte, fields_told, formatted_by, hex_of, json_by, json_escaped, object_by, objects_by, stands_for};
 
 use crate::alone::{behind_alone, next_alone};
+use crate::backed::Lister;
 use crate::base64::put_base64;
 use crate::failure::Stop;
 use crate::fields::{Fields, fields_of, put_decimal};
 use crate::format::Piece;
+use crate::listed::put_listed_objects;
 use crate::print::{Form, Place, Style};
 use chromesquid::{Automaton, Input, Match};
 use std::io::Write;
 use std::{io, str};
 
 /// Writes each match of a line that is not empty, or each of those that stand alone, as an object, and a newline behind it.
-pub fn put_objects<A: Automaton, W: Write>(
+pub fn put_objects<A: Lister, W: Write>(
     automaton: &A,
     output: &mut W,
     alone: bool,
@@ -32,6 +34,10 @@ pub fn put_objects<A: Automaton, W: Write>(
 {
     if alone {
         return put_alone(automaton, output, style, place, line);
+    }
+    if let Some(found) = automaton.list_finds(line) {
+        put_listed_objects(output, style, place, line, found.as_slice())?;
+        return Ok(());
     }
     let matches = automaton.try_find_iter(Input::new(line))?;
     put_each(output, style, place, line, matches)?;
@@ -78,7 +84,7 @@ fn put_each<W: Write, I: Iterator<Item = Match> + Drop>(
 }
 
 /// Writes a match, if it is not empty.
-fn put_object<W: Write>(
+pub fn put_object<W: Write>(
     output: &mut W,
     style: &Style<'_>,
     place: Place,

@@ -6,6 +6,7 @@
 
 mod alone;
 mod arguments;
+mod backed;
 mod base64;
 mod below;
 mod buffer;
@@ -20,6 +21,7 @@ mod help;
 mod json;
 mod keys;
 mod lines;
+mod listed;
 mod long;
 mod open;
 mod options;

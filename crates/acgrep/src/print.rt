@@ -6,8 +6,10 @@ ghost use Rattle.aho_core.specs.Patterns.{Patterns};
 ghost use Rattle.acgrep.specs.Printed.{Puts, PutsColored, PutsColoredBytes, PutsEach, PutsFinds, behind_match, colored_by, colored_from, count_by, file_line, head_of, line_by, match_by, matches_by, name_ended, name_part, number_by, number_if, painted, part_by, part_of, separator_by, tab_before};
 
 use crate::alone::{behind_alone, next_alone};
+use crate::backed::Lister;
 use crate::failure::Stop;
 use crate::format::Piece;
+use crate::listed::{put_listed, put_listed_colors};
 use chromesquid::{Automaton, Input, Match};
 use itoa::write_digits;
 use std::io;
@@ -216,7 +218,7 @@ pub fn part<'t>(line: &'t [u8], start: usize, end: usize) -> &'t [u8]
 }
 
 /// Writes a line with its matches coloured, or those that stand alone.
-pub fn put_colored_line<A: Automaton, W: Write>(
+pub fn put_colored_line<A: Lister, W: Write>(
     automaton: &A,
     output: &mut W,
     alone: bool,
@@ -241,7 +243,7 @@ pub fn put_colored_line<A: Automaton, W: Write>(
 }
 
 /// Writes the bytes of a line with its matches coloured.
-fn put_colored_bytes<A: Automaton, W: Write>(
+fn put_colored_bytes<A: Lister, W: Write>(
     automaton: &A,
     output: &mut W,
     alone: bool,
@@ -253,6 +255,10 @@ fn put_colored_bytes<A: Automaton, W: Write>(
 {
     if alone {
         return put_colored_alone(automaton, output, line);
+    }
+    if let Some(found) = automaton.list_finds(line) {
+        put_listed_colors(output, line, found.as_slice())?;
+        return Ok(());
     }
     let matches = automaton.try_find_iter(Input::new(line))?;
     put_colored(output, line, matches)?;
@@ -300,7 +306,12 @@ fn put_colored<W: Write, I: Iterator<Item = Match> + Drop>(
 
 /// Writes a line from a place on up to the end of a match, which is coloured, and answers that end. An empty match
 /// changes nothing.
-fn put_up_to<W: Write>(output: &mut W, line: &[u8], at: usize, found: &Match) -> io::Result<usize>
+pub fn put_up_to<W: Write>(
+    output: &mut W,
+    line: &[u8],
+    at: usize,
+    found: &Match,
+) -> io::Result<usize>
     ensures behind { IfOk result (λ behind. behind ≡ behind_match at found.now) }
     ensures written { Puts W.Write output.old output.new result
         (colored_by line.now at found.now) }
@@ -316,7 +327,7 @@ fn put_up_to<W: Write>(output: &mut W, line: &[u8], at: usize, found: &Match) ->
 }
 
 /// Writes each match of a line that is not empty, or each of those that stand alone, with what stands before it.
-pub fn put_matches<A: Automaton, W: Write>(
+pub fn put_matches<A: Lister, W: Write>(
     automaton: &A,
     output: &mut W,
     alone: bool,
@@ -330,6 +341,10 @@ pub fn put_matches<A: Automaton, W: Write>(
 {
     if alone {
         return put_alone(automaton, output, style, place, line);
+    }
+    if let Some(found) = automaton.list_finds(line) {
+        put_listed(output, style, place, line, found.as_slice())?;
+        return Ok(());
     }
     let matches = automaton.try_find_iter(Input::new(line))?;
     put_each(output, style, place, line, matches)?;
@@ -376,7 +391,7 @@ fn put_each<W: Write, I: Iterator<Item = Match> + Drop>(
 }
 
 /// Writes a match with what stands before it, if it is not empty.
-fn put_match<W: Write>(
+pub fn put_match<W: Write>(
     output: &mut W,
     style: &Style<'_>,
     place: Place,

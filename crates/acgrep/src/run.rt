@@ -13,7 +13,7 @@ ghost use Rattle.acgrep.specs.Told.{MaySaid, MayTell, TellsCause, TellsOfCall, T
 ghost use Rattle.acgrep.specs.Mistakes.{TellsLacking, TellsMistake, TellsNoPattern, TellsRefused};
 ghost use Rattle.acgrep.specs.Files.{AreFilesBegun, AreSearchedOr, files_named};
 ghost use Rattle.acgrep.specs.Folders.{known_by, tree_of};
-ghost use Rattle.acgrep.specs.Runs.{AsksToSearch, BeginsSearch, BeginsFor, GivesNone, IfSaid, IsJob, Searches, SearchesFor, SearchesSaid, are_empty, asks_none, form_asked, form_said, inverts, is_colored, kind_sought, knows_none, origins_of, selects_none, status_told, takes_any, words_sought};
+ghost use Rattle.acgrep.specs.Runs.{AsksToSearch, BeginsSearch, BeginsFor, GivesNone, IfSaid, IsJob, Searches, SearchesFor, SearchesSaid, are_empty, asks_none, form_asked, form_said, inverts, is_colored, kind_sought, knows_none, lists_finds, origins_of, selects_none, status_told, takes_any, words_sought};
 ghost use Rattle.acgrep.specs.Searchers.{IsSearcherOf};
 ghost use Rattle.acgrep.specs.Selected.{ForLines};
 
@@ -24,7 +24,7 @@ use crate::folders::Folders;
 use crate::help::{HELP, VERSION};
 use crate::keys::{read_keys, tell_refusal};
 use crate::open::Open;
-use crate::options::{Color, Fit, Flags};
+use crate::options::{Color, Fit, Flags, Shown};
 use crate::patterns::lines_of;
 use crate::print::{Form, Place, Style};
 use crate::searcher::Searcher;
@@ -288,7 +288,8 @@ fn search<F: Open + Folders, R: Read, W: Sink, E: Sink>(
         names,
         files,
     };
-    match Searcher::build(alloc, kind_sought(flags), flags.ignore_case, words) {
+    let listed = lists_finds(flags, terminal);
+    match Searcher::build(alloc, kind_sought(flags), flags.ignore_case, words, listed) {
         Ok(searcher) => search_operands(&searcher, given, terminal, &named, input, output, errors),
         Err(error) => {
             tell_refusal(&keys, sources, &error, errors);
@@ -400,6 +401,17 @@ fn are_empty(patterns: &[&[u8]]) -> bool
         rest = &rest[1..];
     }
     true
+}
+
+/// Whether matches are written, or coloured.
+fn lists_finds(flags: &Flags, terminal: bool) -> bool
+    ensures listed { result ≡ lists_finds flags.now terminal }
+{
+    match flags.shown() {
+        Shown::Matches | Shown::Objects => true,
+        Shown::Lines => is_colored(flags.color, terminal),
+        _ => false,
+    }
 }
 
 /// What is written of each file, but for its name. `several` says whether names stand before lines where nothing is said of that.

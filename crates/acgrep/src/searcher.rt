@@ -5,6 +5,7 @@ ghost use Rattle.aho_core.specs.Replacement.{pieces_of};
 ghost use Rattle.programs.specs.Automata.{IsNFAFor};
 ghost use Rattle.acgrep.specs.Searchers.{ForAsked, IsSearcherOf, settings_asked};
 
+use crate::backed::{Backed, backward_of};
 use aho_corasick::noncontiguous::{Builder, NFA};
 use aho_hybrid::hybrid::Hybrid;
 use chromesquid::{Automaton, BuildError, MatchKind};
@@ -15,13 +16,13 @@ use std::alloc::Global;
 #[derive(Drop)]
 pub enum Searcher {
     /// The automaton of rows, with a prefilter where there is one for the patterns.
-    Rows(Hybrid),
+    Rows(Backed<Hybrid>),
     /// The automaton that rows are made of, where they were not made.
-    Trie(NFA),
+    Trie(Backed<NFA>),
 }
 
 impl Searcher {
-    /// The automaton of these patterns.
+    /// The automaton of these patterns; `listed` says whether all finds of a line are asked for.
     ///
     /// # Errors
     ///
@@ -31,14 +32,16 @@ impl Searcher {
         kind: MatchKind,
         ignore_case: bool,
         patterns: &[&[u8]],
+        listed: bool,
     ) -> Result<Searcher, BuildError>
         ensures of { ForAsked kind ignore_case (pieces_of patterns.now)
             (λ p. IfOk result (IsSearcherOf p)) }
     {
         let nfa = trie_of(alloc, kind, ignore_case, patterns)?;
+        let backward = backward_of(alloc, &nfa, kind, ignore_case, patterns, listed);
         match rows_of(alloc, &nfa, ignore_case, patterns) {
-            Ok(Some(rows)) => Ok(Searcher::Rows(rows)),
-            Ok(None) => Ok(Searcher::Trie(nfa)),
+            Ok(Some(rows)) => Ok(Searcher::Rows(Backed::new(alloc, rows, backward))),
+            Ok(None) => Ok(Searcher::Trie(Backed::new(alloc, nfa, backward))),
             Err(_) => Err(BuildError::OutOfMemory),
         }
     }

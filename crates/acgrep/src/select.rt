@@ -12,6 +12,7 @@ ghost use Rattle.acgrep.specs.Selected.{FindsNone, ForLines, IsLine, IsNextLine,
 ghost use Rattle.acgrep.specs.Written.{HasMatch, IsMatched, NumbersLines, IsSettled, SamePlace, after_line, after_lines, is_full, is_numbered, needs_one, next_count, place_behind, selects};
 
 use crate::alone::has_alone;
+use crate::backed::Lister;
 use crate::context::search_around;
 use crate::failure::Stop;
 use crate::json::put_objects;
@@ -202,7 +203,7 @@ fn line_around(text: &[u8], place: usize) -> Span
 }
 
 /// Searches a text of whole lines, and writes what is asked of those that are selected.
-pub fn search_text<A: Automaton, W: Sink>(
+pub fn search_text<A: Lister, W: Sink>(
     automaton: &A,
     job: &Job<'_>,
     text: &[u8],
@@ -231,7 +232,7 @@ pub fn search_text<A: Automaton, W: Sink>(
 }
 
 /// The same where no lines around selected ones are written.
-fn search_plain<A: Automaton, W: Sink>(
+fn search_plain<A: Lister, W: Sink>(
     automaton: &A,
     job: &Job<'_>,
     text: &[u8],
@@ -255,7 +256,7 @@ fn search_plain<A: Automaton, W: Sink>(
 }
 
 /// Searches the lines up to the first with a match and that one, and answers what follows.
-fn search_some<'t, A: Automaton, W: Sink>(
+fn search_some<'t, A: Lister, W: Sink>(
     automaton: &A,
     job: &Job<'_>,
     text: &'t [u8],
@@ -294,7 +295,7 @@ fn search_some<'t, A: Automaton, W: Sink>(
 }
 
 /// Goes over a line in which a pattern occurs.
-fn pass_matched<A: Automaton, W: Sink>(
+fn pass_matched<A: Lister, W: Sink>(
     automaton: &A,
     job: &Job<'_>,
     line: &[u8],
@@ -361,7 +362,7 @@ fn spans(start: usize, end: usize, len: usize) -> bool
 }
 
 /// Goes over a line of which it is known whether it matches.
-fn pass_line<A: Automaton, W: Sink>(
+fn pass_line<A: Lister, W: Sink>(
     automaton: &A,
     job: &Job<'_>,
     matched: bool,
@@ -387,7 +388,7 @@ fn pass_line<A: Automaton, W: Sink>(
 }
 
 /// Goes over a selected line. Where so many lines are selected already as are asked for nothing is written of it.
-fn pass_selected<A: Automaton, W: Sink>(
+fn pass_selected<A: Lister, W: Sink>(
     automaton: &A,
     job: &Job<'_>,
     line: &[u8],
@@ -415,7 +416,7 @@ fn pass_selected<A: Automaton, W: Sink>(
 }
 
 /// Goes over lines without a match.
-fn pass_others<A: Automaton, W: Sink>(
+fn pass_others<A: Lister, W: Sink>(
     automaton: &A,
     job: &Job<'_>,
     text: &[u8],
@@ -441,7 +442,7 @@ fn pass_others<A: Automaton, W: Sink>(
 }
 
 /// Goes over lines that are all selected.
-fn pass_each<A: Automaton, W: Sink>(
+fn pass_each<A: Lister, W: Sink>(
     automaton: &A,
     job: &Job<'_>,
     text: &[u8],
@@ -516,7 +517,7 @@ fn newlines(text: &[u8]) -> u64
 
 /// Writes what is asked of a selected line. It is put together first: where the output cannot be written to the end, what is
 /// there is a beginning of it.
-pub fn show<A: Automaton, W: Sink>(
+pub fn show<A: Lister, W: Sink>(
     automaton: &A,
     job: &Job<'_>,
     line: &[u8],
@@ -538,7 +539,7 @@ pub fn show<A: Automaton, W: Sink>(
 }
 
 /// Puts together what is asked of a selected line.
-pub fn put_shown<A: Automaton, W: Write>(
+pub fn put_shown<A: Lister, W: Write>(
     automaton: &A,
     job: &Job<'_>,
     line: &[u8],

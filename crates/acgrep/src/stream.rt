@@ -7,16 +7,17 @@ ghost use Rattle.acgrep.specs.Lines.{IsNewline};
 ghost use Rattle.acgrep.specs.Selected.{ForLines};
 ghost use Rattle.acgrep.specs.Streamed.{BeginsSome, BeginsStream, BeginsWhole, ReadsSome, SearchesStream, SearchesWhole, course_of};
 
+use crate::backed::Lister;
 use crate::buffer::Buffer;
 use crate::failure::Stop;
 use crate::lines::line_start;
 use crate::select::{Job, State, search_text};
-use chromesquid::{Automaton, Sink};
+use chromesquid::Sink;
 use programs::reason::Reason;
 use std::io::Read;
 
 /// Searches all that a reader gives. What is settled is handed on before each read.
-pub fn search_stream<A: Automaton, R: Read, W: Sink>(
+pub fn search_stream<A: Lister, R: Read, W: Sink>(
     automaton: &A,
     job: &Job<'_>,
     buffer: &mut Buffer,
@@ -51,7 +52,7 @@ pub fn search_stream<A: Automaton, R: Read, W: Sink>(
 }
 
 /// Reads once and searches the whole lines that are there, or tells that nothing came.
-fn read_some<A: Automaton, R: Read, W: Sink>(
+fn read_some<A: Lister, R: Read, W: Sink>(
     automaton: &A,
     job: &Job<'_>,
     buffer: &mut Buffer,
@@ -85,7 +86,7 @@ fn read_some<A: Automaton, R: Read, W: Sink>(
 }
 
 /// Searches the whole lines, where a newline can be among the last `count` bytes alone, and keeps what follows.
-fn search_whole<A: Automaton, W: Sink>(
+fn search_whole<A: Lister, W: Sink>(
     automaton: &A,
     job: &Job<'_>,
     buffer: &mut Buffer,
