@@ -21,7 +21,7 @@ use Rattle.acgrep.specs.declared.arguments.Wrong.TheVariants.{NotText, NoPattern
 use Rattle.acgrep.specs.declared.files.Outcome.{Outcome}
 use Rattle.acgrep.specs.declared.files.Outcome.TheVariants.{Searched, Unread, Stopped}
 use Rattle.acgrep.specs.declared.long.Valued.{Valued}
-use Rattle.acgrep.specs.declared.long.Valued.TheVariants.{Regexp, PatternFile, Kind, Offset, FirstLine, MaxCount, After, Before, Around, Separator, Label, Format}
+use Rattle.acgrep.specs.declared.long.Valued.TheVariants.{Regexp, PatternFile, Kind, Offset, FirstLine, MaxCount, After, Before, Around, Separator, Label, Format, Included, Excluded, ExcludedFolder}
 use Rattle.acgrep.specs.declared.options.Shown.{Shown}
 use Rattle.acgrep.specs.declared.options.Shown.TheVariants.{Nothing}
 
@@ -81,6 +81,9 @@ valued_name Around = codes "-C"
 valued_name Separator = codes "--group-separator"
 valued_name Label = codes "--label"
 valued_name Format = codes "--format"
+valued_name Included = codes "--include"
+valued_name Excluded = codes "--exclude"
+valued_name ExcludedFolder = codes "--exclude-dir"
 
 -- an option of this name has no argument, or one that is no number
 abbrev pub unargued_parts : List ℕ → List (List ℕ)
@@ -158,12 +161,11 @@ abbrev pub is_hushed : Option Said → Bool
 is_hushed None = false
 is_hushed (Some said) = said.flags.no_messages
 
--- a line of a recursive call may name a file that an operand names, or what cannot be looked at or read
+-- a line of a call may name a file that an operand names or that is below it, or what cannot be looked at or read
 pub record NamesReached (tree : Tree) (given : Said) (names : List (List ℕ)) (line : List ℕ) : Type 0 where
-  pub recursive : given.flags.recursive ≡ true
   pub files : List (List ℕ)
   pub unread : List (List ℕ)
-  pub reached : AreReached tree given.flags names files unread
+  pub reached : AreReached tree given names files unread
   pub message : IsMessage (if given.flags.no_messages then [] else (shown_names given.label files ++ unread)) line
 
 -- a file that cannot be read, or nothing more can be searched
@@ -175,7 +177,7 @@ stopped_if true = Stopped
 abbrev pub MayTell : List (List ℕ) → List ℕ → Type 0
 MayTell names line = IsMessage names line ⊎ IsUsage line
 
--- or, where a search is recursive, such a line
+-- or, where operands are looked at, such a line
 abbrev pub MaySay : Tree → Said → List Origin → List (List ℕ) → List ℕ → Type 0
 MaySay tree given sources names line =
     MayTell (names_told given.flags.no_messages given.label sources names) line ⊎ NamesReached tree given names line

@@ -5,7 +5,7 @@
 
 ghost use Rattle.std.specs.Prelude.{◌≡◌, ◌≤◌, ◌<◌, Some, IfOk, IfErr, OnOk, length, string_bytes};
 ghost use Rattle.programs.specs.Arguments.{kind_by, texts};
-ghost use Rattle.acgrep.specs.Arguments.{AreDigits, FailsBy, ReadsBy, SaysMore, argument_by, color_by, fresh_by, joined_by, letters_by, long_by, named_by, nothing_said, number_by, numbered, numbered_by, plain_by, said, said_by, source_option, so_far, taken_by, turned_by, value_by, with_format, with_operand, with_separator, with_source};
+ghost use Rattle.acgrep.specs.Arguments.{AreDigits, FailsBy, ReadsBy, SaysMore, argument_by, color_by, fresh_by, joined_by, letters_by, long_by, named_by, nothing_said, number_by, numbered, numbered_by, plain_by, said, said_by, source_option, so_far, taken_by, turned_by, value_by, with_format, with_operand, with_rule, with_separator, with_source};
 ghost use Rattle.acgrep.specs.Long.{option_by};
 ghost use Rattle.acgrep.specs.Mistakes.{IsFirstMistake, TellsBy, mistake_at, wrong_fresh, wrong_joined, wrong_letters, wrong_long, wrong_name, wrong_numbered, wrong_plain, wrong_value};
 ghost use Rattle.acgrep.specs.Told.{color_parts, format_parts, kind_parts, number_parts, valued_name};
@@ -13,6 +13,7 @@ ghost use Rattle.acgrep.specs.Told.{color_parts, format_parts, kind_parts, numbe
 use crate::format::{Piece, read_format};
 use crate::long::{Long, Valued, option_of};
 use crate::options::{Color, Flags, switch_of};
+use crate::rules::{Rule, Sense, without_slashes};
 use chromesquid::MatchKind;
 use programs::command::parse_kind;
 use std::alloc::{AllocError, Global};
@@ -69,6 +70,8 @@ pub struct Given<'a> {
     pub label: &'a [u8],
     /// The pieces of the last `--format`.
     pub format: Vec<Piece>,
+    /// Each `--include`, `--exclude` and `--exclude-dir`, in order.
+    pub rules: Vec<Rule<'a>>,
 }
 
 impl<'a> Given<'a> {
@@ -83,6 +86,7 @@ impl<'a> Given<'a> {
             separator: b"--",
             label: b"(standard input)",
             format: Vec::new(alloc),
+            rules: Vec::new(alloc),
         }
     }
 }
@@ -258,6 +262,13 @@ fn read_value<'a>(
         Valued::Separator => set_separator(given, argument.as_bytes()),
         Valued::Label => given.label = argument.as_bytes(),
         Valued::Format => set_format(given, argument.as_bytes())?,
+        Valued::Included => add_rule(given, Sense::Include, argument.as_bytes())?,
+        Valued::Excluded => add_rule(given, Sense::Exclude, argument.as_bytes())?,
+        Valued::ExcludedFolder => add_rule(
+            given,
+            Sense::ExcludeFolder,
+            without_slashes(argument.as_bytes()),
+        )?,
         _ => {
             let number = read_number(valued, argument.as_bytes())?;
             given.flags = given.flags.numbered(valued, number);
@@ -485,6 +496,14 @@ fn add_source<'a>(
         Source::Text(argument)
     };
     given.sources.push(source)?;
+    Ok(())
+}
+
+/// Adds a rule of which files are searched.
+fn add_rule<'a>(given: &mut Given<'a>, sense: Sense, glob: &'a [u8]) -> Result<(), AllocError>
+    ensures added { SaysMore (with_rule sense glob.now) given.old given.new result }
+{
+    given.rules.push(Rule { sense, glob })?;
     Ok(())
 }
 

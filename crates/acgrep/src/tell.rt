@@ -163,6 +163,9 @@ fn valued_name<'a>(valued: Valued) -> &'a [u8]
         Valued::Separator => b"--group-separator",
         Valued::Label => b"--label",
         Valued::Format => b"--format",
+        Valued::Included => b"--include",
+        Valued::Excluded => b"--exclude",
+        Valued::ExcludedFolder => b"--exclude-dir",
     }
 }
 
