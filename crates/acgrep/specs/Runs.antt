@@ -1,16 +1,16 @@
 -- What a call searches for and in which files, by what its arguments say.
-use Rattle.std.specs.Prelude.{◌≡◌, ◌⊎◌, ℕ, ◌+◌, ◌-◌, ◌%◌, ◌^◌, ◌==◌, ◌&&◌, ◌||◌, nat_lt, Bool, MatchBool, true, false, not, List, [], ◌∷◌, ◌++◌, Option, None, Some, IfSome, String, codes, length, map, unwrap_or, if◌then◌else◌}
+use Rattle.std.specs.Prelude.{◌≡◌, ◌⊎◌, ℕ, ◌+◌, ◌-◌, ◌%◌, ◌^◌, ◌==◌, ◌&&◌, ◌||◌, nat_lt, Bool, MatchBool, true, false, not, List, [], ◌∷◌, ◌++◌, Option, None, Some, IfSome, Vec, codes, length, map, unwrap_or, if◌then◌else◌}
 use Rattle.std.specs.Io.KnownBytes.{Consumes, IsAtEnd, Keeps}
 use Rattle.std.specs.Str.{bytes_eq}
 use Rattle.aho_core.specs.Patterns.{Patterns}
 use Rattle.aho_core.specs.declared.search.MatchKind.{MatchKind}
 use Rattle.aho_core.specs.declared.search.MatchKind.TheVariants.{LeftmostLongest}
-use Rattle.programs.specs.Arguments.{texts}
 use Rattle.acgrep.specs.Arguments.{Origin, Said, context_by, fit_by, origin_of, said_by, shown_by}
 use Rattle.programs.specs.Names.{is_input, or_input}
 use Rattle.acgrep.specs.Files.{AreFilesBegun, AreSearchedOr}
 use Rattle.acgrep.specs.Folders.{AreBelow, AreChosen, Known, Tree}
 use Rattle.acgrep.specs.Lines.{lines}
+use Rattle.acgrep.specs.Listed.{listed_bytes}
 use Rattle.acgrep.specs.Rules.{RuleSaid}
 use Rattle.acgrep.specs.Searchers.{patterns_asked}
 use Rattle.acgrep.specs.Written.{IsPassedOver}
@@ -27,8 +27,8 @@ use Rattle.acgrep.specs.declared.print.Place.{Place}
 use Rattle.acgrep.specs.declared.select.Job.{Job}
 
 -- what holds of what the arguments say, where they are right
-abbrev pub IfSaid : {Z : Type 0} → List (String Z) → (Said → Type 0) → Type 0
-IfSaid arguments Holds = (given : Said) → said_by (texts arguments) ≡ Some given → Holds given
+abbrev pub IfSaid : {Z : Type 0} → List (Vec ℕ Z) → (Said → Type 0) → Type 0
+IfSaid arguments Holds = (given : Said) → said_by (listed_bytes arguments) ≡ Some given → Holds given
 
 -- a search is asked for, and neither `--help` nor `--version`
 pub record AsksToSearch (flags : Flags) : Type 0 where

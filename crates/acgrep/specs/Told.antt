@@ -17,7 +17,7 @@ use Rattle.acgrep.specs.Formats.{unknown_in}
 use Rattle.acgrep.specs.Runs.{AreReached, names_by, origins_of, sources_by}
 use Rattle.acgrep.specs.declared.arguments.Source.{Source}
 use Rattle.acgrep.specs.declared.arguments.Wrong.{Wrong}
-use Rattle.acgrep.specs.declared.arguments.Wrong.TheVariants.{NotText, NoPattern, UnknownLetter, UnknownName, Ambiguous, NoArgument, TakesNone, UnknownKind, UnknownColor, UnknownField, NoNumber}
+use Rattle.acgrep.specs.declared.arguments.Wrong.TheVariants.{NoPattern, UnknownLetter, UnknownName, Ambiguous, NoArgument, TakesNone, UnknownKind, UnknownColor, UnknownField, NoNumber}
 use Rattle.acgrep.specs.declared.files.Outcome.{Outcome}
 use Rattle.acgrep.specs.declared.files.Outcome.TheVariants.{Searched, Unread, Stopped}
 use Rattle.acgrep.specs.declared.long.Valued.{Valued}
@@ -122,7 +122,6 @@ format_parts format = field_parts (unknown_in format)
 
 -- why arguments are wrong, and how to get help
 abbrev pub wrong_parts : Wrong → List (List ℕ)
-wrong_parts NotText = codes "acgrep: an argument is not UTF-8\n" ∷ []
 wrong_parts NoPattern = codes "acgrep: no pattern is given\n" ∷ usage_text ∷ []
 wrong_parts (UnknownLetter letter) = letter_parts letter
 wrong_parts (UnknownName name) = name_parts name.now

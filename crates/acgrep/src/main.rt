@@ -7,6 +7,7 @@
 mod alone;
 mod arguments;
 mod base64;
+mod bytes;
 mod below;
 mod buffer;
 mod chosen;
@@ -36,12 +37,11 @@ mod tell;
 mod trail;
 mod walk;
 
+use bytes::arguments;
 use chromesquid::FromWrite;
 use open::System;
-use programs::arguments::arguments;
 use programs::closed::{Noted, Quiet};
 use programs::errors::Errors;
-use programs::failure::Failure;
 use run::{refuse, run};
 use std::cell::Cell;
 use std::env;
@@ -54,14 +54,13 @@ const OUTPUT_CAPACITY: usize = 64 * 1024;
 fn main(rt: HostRuntime) -> ExitCode {
     let reason = Cell::new(None);
     let mut errors = Errors::new(FromWrite::new(Quiet::new(rt.stderr(), &reason)), &reason);
-    let given = match arguments(&rt) {
-        Ok(given) => given,
-        Err(failure) => return ExitCode::from(refuse(&failure, &mut errors)),
+    let Ok(given) = arguments(&rt) else {
+        return ExitCode::from(refuse(&mut errors));
     };
     let terminal = rt.stdout().is_terminal() && has_colors(&rt);
     let noted = Noted::new(rt.stdout(), &reason);
     let Ok(output) = BufWriter::with_capacity(rt.alloc(), OUTPUT_CAPACITY, noted) else {
-        return ExitCode::from(refuse(&Failure::OutOfMemory, &mut errors));
+        return ExitCode::from(refuse(&mut errors));
     };
     let status = run(
         rt.alloc(),

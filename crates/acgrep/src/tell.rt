@@ -75,7 +75,6 @@ pub fn tell_wrong<E: Sink>(errors: &mut Errors<'_, E>, wrong: Wrong<'_>)
     ensures told { TellsWrong E.Sink wrong.entry errors.old errors.new }
 {
     match wrong {
-        Wrong::NotText => errors.write(&[b"acgrep: an argument is not UTF-8\n"]),
         Wrong::NoPattern => errors.write(&[b"acgrep: no pattern is given\n", USAGE]),
         Wrong::UnknownLetter(letter) => {
             errors.write(&[b"acgrep: unknown option '-", &[letter], b"'\n", USAGE])
