@@ -282,11 +282,7 @@ fn read_value<'a>(
         Valued::Format => set_format(given, argument)?,
         Valued::Included => add_rule(given, Sense::Include, argument)?,
         Valued::Excluded => add_rule(given, Sense::Exclude, argument)?,
-        Valued::ExcludedFolder => add_rule(
-            given,
-            Sense::ExcludeFolder,
-            without_slashes(argument),
-        )?,
+        Valued::ExcludedFolder => add_rule(given, Sense::ExcludeFolder, without_slashes(argument))?,
         _ => {
             let number = read_number(valued, argument)?;
             given.flags = given.flags.numbered(valued, number);

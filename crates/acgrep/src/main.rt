@@ -7,9 +7,9 @@
 mod alone;
 mod arguments;
 mod base64;
-mod bytes;
 mod below;
 mod buffer;
+mod bytes;
 mod chosen;
 mod context;
 mod failure;
