@@ -14,6 +14,7 @@ pub mod Globbed
 pub mod Grouped
 pub mod HeldLines
 pub mod Kept
+pub mod KindNames
 pub mod LineLists
 pub mod LongNames
 pub mod Mistaken

@@ -33,10 +33,14 @@ others_told = codes "write error" ∷ codes "search" ∷ codes "patterns" ∷ co
 abbrev pub loop_text : List ℕ
 loop_text = codes "warning: recursive directory loop"
 
--- a call of the system failed, the patterns or the search were refused, or a folder stands in itself
+-- and of a file to which the output goes
+abbrev pub output_text : List ℕ
+output_text = codes "input file is also the output"
+
+-- a call of the system failed, the patterns or the search were refused, a folder stands in itself, or a file is the output
 abbrev pub IsToldCause : List ℕ → Type 0
 IsToldCause cause = ((reason : Reason) × (cause ≡ reason_text reason))
-    ⊎ (((error : BuildError) × (cause ≡ build_error_text error)) ⊎ (((error : MatchErrorKind) × (cause ≡ match_error_text error)) ⊎ (cause ≡ loop_text)))
+    ⊎ (((error : BuildError) × (cause ≡ build_error_text error)) ⊎ (((error : MatchErrorKind) × (cause ≡ match_error_text error)) ⊎ ((cause ≡ loop_text) ⊎ (cause ≡ output_text))))
 
 -- that, or one of these files
 abbrev pub MayName : List (List ℕ) → List ℕ → Type 0

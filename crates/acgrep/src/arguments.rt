@@ -6,7 +6,7 @@
 ghost use Rattle.std.specs.Prelude.{◌≡◌, ◌≤◌, ◌<◌, Some, IfOk, IfErr, OnOk, length};
 ghost use Rattle.std.specs.List.{position_or_len};
 ghost use Rattle.programs.specs.Arguments.{kind_by};
-ghost use Rattle.acgrep.specs.Arguments.{AreDigits, FailsBy, ReadsBy, SaysMore, argument_by, color_by, fresh_by, is_equals, joined_by, letters_by, long_by, named_by, nothing_said, number_by, numbered, numbered_by, plain_by, said, said_by, source_option, so_far, taken_by, turned_by, value_by, with_format, with_operand, with_rule, with_separator, with_source};
+ghost use Rattle.acgrep.specs.Arguments.{AreDigits, FailsBy, ReadsBy, SaysMore, argument_by, color_by, color_named, fresh_by, is_equals, joined_by, letters_by, long_by, named_by, nothing_said, number_by, numbered, numbered_by, plain_by, said, said_by, source_option, so_far, taken_by, turned_by, value_by, with_format, with_operand, with_rule, with_separator, with_source};
 ghost use Rattle.acgrep.specs.Listed.{listed_bytes};
 ghost use Rattle.acgrep.specs.Long.{option_by};
 ghost use Rattle.acgrep.specs.Mistakes.{IsFirstMistake, TellsBy, mistake_at, wrong_fresh, wrong_joined, wrong_letters, wrong_long, wrong_name, wrong_numbered, wrong_plain, wrong_value};
@@ -254,13 +254,33 @@ fn read_color<'a>(given: &mut Given<'a>, argument: &'a [u8]) -> Result<Awaited, 
     ensures refused { FailsBy (color_by argument.now (said given.old)) result }
     ensures wrong { TellsBy (color_parts argument.now) result }
 {
-    given.flags.color = match argument {
-        b"auto" => Color::Auto,
-        b"always" => Color::Always,
-        b"never" => Color::Never,
-        _ => return Err(Refusal::Wrong(Wrong::UnknownColor(argument))),
-    };
+    match color_in(argument) {
+        Some(color) => given.flags.color = color,
+        None => return Err(Refusal::Wrong(Wrong::UnknownColor(argument))),
+    }
     Ok(Awaited::Fresh)
+}
+
+/// When matches are coloured, if bytes name that.
+fn color_in(bytes: &[u8]) -> Option<Color>
+    ensures color { result ≡ color_named bytes.now }
+{
+    match str::from_utf8(bytes) {
+        Ok(name) => color_of(name),
+        Err(_) => None,
+    }
+}
+
+/// When matches are coloured, if this is a name of that.
+fn color_of(name: &str) -> Option<Color>
+    ensures color { result ≡ color_named name.now }
+{
+    match name {
+        "auto" => Some(Color::Auto),
+        "always" => Some(Color::Always),
+        "never" => Some(Color::Never),
+        _ => None,
+    }
 }
 
 /// Reads the argument of an option.

@@ -5,7 +5,7 @@ ghost use Rattle.std.specs.List.Sorted.{IsPermutation};
 ghost use Rattle.acgrep.specs.Listed.{listed_bytes};
 ghost use Rattle.acgrep.specs.declared.folders.Kind.{Kind};
 
-use crate::open::System;
+use crate::open::{Identity, System};
 use std::alloc::{AllocError, Global};
 use std::fs::{FileType, Files};
 use std::io::Read;
@@ -23,15 +23,6 @@ pub enum Kind {
     Link,
     /// A device, a socket or a FIFO.
     Device,
-}
-
-/// What tells a folder from all others: the number of its device, and its own there.
-#[derive(Clone, Copy, PartialEq, Eq)]
-pub struct Identity {
-    /// That of its device.
-    pub device: u64,
-    /// Its own.
-    pub number: u64,
 }
 
 /// What looks at names, and lists folders.

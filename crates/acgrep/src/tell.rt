@@ -16,6 +16,9 @@ use programs::reason::Reason;
 /// What is told of a folder that stands in itself.
 const LOOP: &[u8] = b"warning: recursive directory loop";
 
+/// What is told of a file to which the output goes.
+const SAME: &[u8] = b"input file is also the output";
+
 /// The program's name.
 const PROGRAM: &[u8] = b"acgrep";
 
@@ -42,6 +45,13 @@ pub fn tell_missed<E: Sink>(name: &[u8], reason: Option<Reason>, errors: &mut Er
         Some(reason) => tell_fault(name, reason, errors),
         None => errors.tell(PROGRAM, Some(name), None, LOOP),
     }
+}
+
+/// Tells that the output goes to a file of this name.
+pub fn tell_output<E: Sink>(name: &[u8], errors: &mut Errors<'_, E>)
+    ensures told { TellsOfFile E.Sink name.now errors.old errors.new }
+{
+    errors.tell(PROGRAM, Some(name), None, SAME);
 }
 
 /// Tells why the output cannot be written.

@@ -8,8 +8,9 @@ ghost use Rattle.acgrep.specs.Listed.{listed_bytes};
 ghost use Rattle.acgrep.specs.Rules.{RuleSaid, rules_said};
 
 use crate::failure::Stop;
-use crate::folders::{Folders, Identity, Kind};
+use crate::folders::{Folders, Kind};
 use crate::keys::is_input;
+use crate::open::Identity;
 use crate::rules::{Rule, is_left_out};
 use programs::reason::Reason;
 use std::alloc::{AllocError, Global};
