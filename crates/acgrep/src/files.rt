@@ -518,7 +518,8 @@ fn tell_same<E: Sink>(job: &Job<'_>, errors: &mut Errors<'_, E>)
     ensures told { TellsOfOutcome E.Sink job.now.hushed job.now.style.name.now (stopped_if false)
         errors.old errors.new }
 {
-    if job.hushed {
+    let hushed = job.hushed;
+    if hushed {
         return;
     }
     tell_output(job.style.name, errors);

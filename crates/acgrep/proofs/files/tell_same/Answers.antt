@@ -5,14 +5,14 @@ use Rattle.programs.specs.Telling.{TellsSome}
 use Rattle.acgrep.specs.Told.{IsMessage}
 use Rattle.acgrep.proofs.files.tell_same.Goals as goal
 
-pub returns-then-job : goal.returns-then-job
-returns-then-job g c = record {
-  told = λ names is. subst (λ (b : Bool). MatchBool b (c.args.errors.now ≡ c.args.errors.now) (TellsSome g.E.Sink (IsMessage names) c.args.errors.now c.args.errors.now)) (sym c.if-job.true) refl;
+pub returns-then-hushed : goal.returns-then-hushed
+returns-then-hushed g c = record {
+  told = λ names is. subst (λ (b : Bool). MatchBool b (c.args.errors.now ≡ c.args.errors.now) (TellsSome g.E.Sink (IsMessage names) c.args.errors.now c.args.errors.now)) (sym c.if-hushed.true) refl;
 }
 
 pub returns : goal.returns
 returns g c = record {
   told = λ names is.
-      subst (λ (b : Bool). MatchBool b (c.tell_output.new.errors ≡ c.args.errors.now) (TellsSome g.E.Sink (IsMessage names) c.args.errors.now c.tell_output.new.errors)) (sym c.if-job.false)
-      (c.tell_output.ensures.told names (is c.if-job.false));
+      subst (λ (b : Bool). MatchBool b (c.tell_output.new.errors ≡ c.args.errors.now) (TellsSome g.E.Sink (IsMessage names) c.args.errors.now c.tell_output.new.errors)) (sym c.if-hushed.false)
+      (c.tell_output.ensures.told names (is c.if-hushed.false));
 }
