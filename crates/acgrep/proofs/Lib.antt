@@ -14,7 +14,6 @@ pub mod Globbed
 pub mod Grouped
 pub mod HeldLines
 pub mod Kept
-pub mod KindNames
 pub mod LineLists
 pub mod LongNames
 pub mod Mistaken

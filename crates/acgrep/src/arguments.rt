@@ -9,6 +9,8 @@ ghost use Rattle.programs.specs.Arguments.{kind_by};
 ghost use Rattle.acgrep.specs.Arguments.{AreDigits, FailsBy, ReadsBy, SaysMore, argument_by, color_by, color_named, fresh_by, is_equals, joined_by, letters_by, long_by, named_by, nothing_said, number_by, numbered, numbered_by, plain_by, said, said_by, source_option, so_far, taken_by, turned_by, value_by, with_format, with_operand, with_rule, with_separator, with_source};
 ghost use Rattle.acgrep.specs.Listed.{listed_bytes};
 ghost use Rattle.acgrep.specs.Long.{option_by};
+ghost use Rattle.acgrep.specs.Rules.{without_slashes};
+ghost use Rattle.acgrep.specs.declared.rules.Sense.TheVariants.{ExcludeFolder};
 ghost use Rattle.acgrep.specs.Mistakes.{IsFirstMistake, TellsBy, mistake_at, wrong_fresh, wrong_joined, wrong_letters, wrong_long, wrong_name, wrong_numbered, wrong_plain, wrong_value};
 ghost use Rattle.acgrep.specs.Told.{color_parts, format_parts, kind_parts, number_parts, valued_name};
 
@@ -17,12 +19,25 @@ use crate::long::{Long, Valued, option_of};
 use crate::options::{Color, Flags, switch_of};
 use crate::rules::{Rule, Sense, without_slashes};
 use chromesquid::MatchKind;
-use programs::command::parse_kind;
 use std::alloc::{AllocError, Global};
 use std::str;
 
 /// What stands before a long name, and alone ends the options.
 const HYPHENS: &[u8] = b"--";
+
+/// The names of when matches are coloured.
+const AUTO: &[u8] = b"auto";
+
+const ALWAYS: &[u8] = b"always";
+
+const NEVER: &[u8] = b"never";
+
+/// The names of the match kinds.
+const STANDARD: &[u8] = b"standard";
+
+const FIRST: &[u8] = b"first";
+
+const LONGEST: &[u8] = b"longest";
 
 /// Where patterns come from.
 #[derive(Clone, Copy)]
@@ -265,21 +280,14 @@ fn read_color<'a>(given: &mut Given<'a>, argument: &'a [u8]) -> Result<Awaited, 
 fn color_in(bytes: &[u8]) -> Option<Color>
     ensures color { result ≡ color_named bytes.now }
 {
-    match str::from_utf8(bytes) {
-        Ok(name) => color_of(name),
-        Err(_) => None,
-    }
-}
-
-/// When matches are coloured, if this is a name of that.
-fn color_of(name: &str) -> Option<Color>
-    ensures color { result ≡ color_named name.now }
-{
-    match name {
-        "auto" => Some(Color::Auto),
-        "always" => Some(Color::Always),
-        "never" => Some(Color::Never),
-        _ => None,
+    if bytes == AUTO {
+        Some(Color::Auto)
+    } else if bytes == ALWAYS {
+        Some(Color::Always)
+    } else if bytes == NEVER {
+        Some(Color::Never)
+    } else {
+        None
     }
 }
 
@@ -302,7 +310,7 @@ fn read_value<'a>(
         Valued::Format => set_format(given, argument)?,
         Valued::Included => add_rule(given, Sense::Include, argument)?,
         Valued::Excluded => add_rule(given, Sense::Exclude, argument)?,
-        Valued::ExcludedFolder => add_rule(given, Sense::ExcludeFolder, without_slashes(argument))?,
+        Valued::ExcludedFolder => add_folder_rule(given, argument)?,
         _ => {
             let number = read_number(valued, argument)?;
             given.flags = given.flags.numbered(valued, number);
@@ -346,9 +354,14 @@ fn read_kind(argument: &[u8]) -> Result<MatchKind, Refusal<'_>>
 fn kind_in(bytes: &[u8]) -> Option<MatchKind>
     ensures kind { result ≡ kind_by bytes.now }
 {
-    match str::from_utf8(bytes) {
-        Ok(name) => parse_kind(name),
-        Err(_) => None,
+    if bytes == STANDARD {
+        Some(MatchKind::Standard)
+    } else if bytes == FIRST {
+        Some(MatchKind::LeftmostFirst)
+    } else if bytes == LONGEST {
+        Some(MatchKind::LeftmostLongest)
+    } else {
+        None
     }
 }
 
@@ -549,6 +562,13 @@ fn add_rule<'a>(given: &mut Given<'a>, sense: Sense, glob: &'a [u8]) -> Result<(
 {
     given.rules.push(Rule { sense, glob })?;
     Ok(())
+}
+
+/// Adds a rule of folders. Slashes at the end of its glob mean nothing.
+fn add_folder_rule<'a>(given: &mut Given<'a>, glob: &'a [u8]) -> Result<(), AllocError>
+    ensures added { SaysMore (with_rule ExcludeFolder (without_slashes glob.now)) given.old given.new result }
+{
+    add_rule(given, Sense::ExcludeFolder, without_slashes(glob))
 }
 
 /// Adds what is no option.

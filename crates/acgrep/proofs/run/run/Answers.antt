@@ -6,6 +6,7 @@ use Rattle.acgrep.proofs.Kept.{begins_held, same_said, searches_kept}
 use Rattle.programs.specs.Telling.{Tells, TellsSome}
 use Rattle.programs.proofs.Lines.{some-tells, some-weaker}
 use Rattle.acgrep.specs.Folders.{known_by, tree_of}
+use Rattle.acgrep.specs.Listed.{listed_bytes}
 use Rattle.acgrep.specs.Told.{MaySaid, MayTell, is_hushed, names_said}
 use Rattle.acgrep.specs.Mistakes.{TellsLacking, TellsMistake, TellsNoPattern}
 use Rattle.acgrep.proofs.Mistaken.{mistake-told, refused-lacking}
