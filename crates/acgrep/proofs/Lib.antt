@@ -1,6 +1,7 @@
 pub mod AloneTried
 pub mod Around
 pub mod Beginnings
+pub mod Choosing
 pub mod Coloring
 pub mod Digits
 pub mod FileTellings
@@ -9,6 +10,7 @@ pub mod Fillings
 pub mod FirstLines
 pub mod FormatTexts
 pub mod Formatted
+pub mod Globbed
 pub mod Grouped
 pub mod HeldLines
 pub mod Kept

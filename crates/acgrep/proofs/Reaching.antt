@@ -1,6 +1,6 @@
 -- What may be told of the files that operands name.
-use Rattle.std.proofs.Common.{◌≡◌, inl, inr, ℕ, ◌<◌, ◌≤◌, Bool, true, false, List, [], ◌∷◌, ◌++◌, length, ap, refl, subst, sym, arith}
-use Rattle.std.specs.Prelude.{◌&&◌, ◌==◌, nat_lt, not, if◌then◌else◌}
+use Rattle.std.proofs.Common.{◌≡◌, inl, inr, ℕ, ◌<◌, ◌≤◌, Bool, true, false, List, [], ◌∷◌, ◌++◌, length, ap, refl, subst, sym, ◌∙◌, arith}
+use Rattle.std.specs.Prelude.{◌&&◌, ◌||◌, ◌==◌, nat_lt, if◌then◌else◌}
 use Rattle.std.specs.Borrow.{Bor}
 use Rattle.std.proofs.lemmas.List.{length-map}
 use Rattle.std.proofs.lemmas.Bool.{and_parts, cases_Bool}
@@ -10,9 +10,9 @@ use Rattle.programs.specs.Telling.{Tells, TellsSome}
 use Rattle.programs.specs.declared.errors.Errors.{Errors}
 use Rattle.programs.proofs.Lines.{some-tells, some-then, some-weaker, then-some, tells-none, tells-then, tells-weaker}
 use Rattle.acgrep.specs.Arguments.{Origin, Said, shown_by}
-use Rattle.acgrep.specs.Folders.{Tree}
+use Rattle.acgrep.specs.Folders.{AreChosen, Tree}
 use Rattle.acgrep.specs.Reached.{TellsMissed}
-use Rattle.acgrep.specs.Runs.{AreReached, are_several, is_alone, status_reached}
+use Rattle.acgrep.specs.Runs.{AreReached, are_several, asks_to_look, has_rules, status_reached}
 use Rattle.acgrep.specs.Told.{IsMessage, MaySay, TellsOfFile, TellsOfFiles, TellsStatus, files_told, names_told, shown_names, source_names}
 use Rattle.acgrep.specs.declared.options.Flags.{Flags}
 use Rattle.acgrep.specs.declared.options.Shown.{Shown}
@@ -61,7 +61,7 @@ reached-quiet flags name names found low = elim (cases_Bool (flags.quiet && (fou
 shown-quiet : (flags : Flags) → flags.quiet ≡ true → shown_by flags ≡ Nothing
 shown-quiet flags quiet = rw quiet refl
 
-module _ (tree : Tree) (given : Said) (names files unread : List (List ℕ)) (recursive : given.flags.recursive ≡ true) (reached : AreReached tree given.flags names files unread) where
+module _ (tree : Tree) (given : Said) (names files unread : List (List ℕ)) (reached : AreReached tree given names files unread) where
   more-file : (hushed : Bool) (line : List ℕ) → IsMessage (files_told hushed given.label files) line → IsMessage (if hushed then [] else (shown_names given.label files ++ unread)) line
   more-file true line message = message
   more-file false line message = message-more (shown_names given.label files) (shown_names given.label files ++ unread) (λ name is. among-first name (shown_names given.label files) unread is) line message
@@ -72,10 +72,10 @@ module _ (tree : Tree) (given : Said) (names files unread : List (List ℕ)) (re
 
   -- a file that an operand names may be told, and what cannot be read
   may-file : (line : List ℕ) → IsMessage (files_told given.flags.no_messages given.label files) line → MaySay tree given [] names line
-  may-file line message = inr (record { recursive = recursive; files = files; unread = unread; reached = reached; message = more-file given.flags.no_messages line message })
+  may-file line message = inr (record { files = files; unread = unread; reached = reached; message = more-file given.flags.no_messages line message })
 
   may-missed : given.flags.no_messages ≡ false → (line : List ℕ) → IsMessage unread line → MaySay tree given [] names line
-  may-missed asked line message = inr (record { recursive = recursive; files = files; unread = unread; reached = reached; message = more-missed given.flags.no_messages line asked message })
+  may-missed asked line message = inr (record { files = files; unread = unread; reached = reached; message = more-missed given.flags.no_messages line asked message })
 
   module _ {E : Type 0} (K : SinkGhosts E) (old mid new : Errors E) (found : ℕ) where
     -- what cannot be read is told, and then what a search tells
@@ -158,8 +158,26 @@ module _ {E : Type 0} (K : SinkGhosts E) (all : List (List ℕ)) where
 pub several-plain : (flags : Flags) (names : List (Bor (List ℕ))) (files : List (List ℕ)) → flags.recursive ≡ false → nat_lt 1 (length names) ≡ are_several flags (name_bytes names) files
 several-plain flags names files plain = rw plain (ap (nat_lt 1) (sym (length-map names (λ name. name.now))))
 
-pub several-below : (flags : Flags) (names files : List (List ℕ)) → flags.recursive ≡ true → not (is_alone names files) ≡ are_several flags names files
-several-below flags names files recursive = rw recursive refl
+or-neither : (a b : Bool) → (a || b) ≡ false → (a ≡ false) × (b ≡ false)
+or-neither true b none = absurd (cc)
+or-neither false b none = (refl, none)
+
+-- where operands are not looked at they are not entered, and there is no rule
+pub looks-not : (given : Said) → asks_to_look given ≡ false → (given.flags.recursive ≡ false) × (has_rules given.rules ≡ false)
+looks-not given none = or-neither given.flags.recursive (has_rules given.rules) none
+
+pub reached-plain : (tree : Tree) (given : Said) (names : List (List ℕ)) → asks_to_look given ≡ false → AreReached tree given names (or_input names) []
+reached-plain tree given names none =
+    let (plain, free) = looks-not given none in
+    rw plain (rw free refl, refl)
+
+-- where they are, and not entered, there are rules
+pub looks-ruled : (given : Said) → asks_to_look given ≡ true → given.flags.recursive ≡ false → has_rules given.rules ≡ true
+looks-ruled given looks plain = ap (λ (b : Bool). b || has_rules given.rules) (sym plain) ∙ looks
+
+pub reached-chosen : (tree : Tree) (given : Said) (names files unread : List (List ℕ)) → asks_to_look given ≡ true → given.flags.recursive ≡ false
+    → AreChosen tree given.rules (or_input names) files → unread ≡ [] → AreReached tree given names files unread
+reached-chosen tree given names files unread looks plain chosen none = rw plain (rw (looks-ruled given looks plain) chosen, none)
 
 -- what a search tells of files is told of those that it may name
 pub told-plain : {E : Type 0} (K : SinkGhosts E) (tree : Tree) (given : Said) (names : List (List ℕ)) (hushed : Bool) (label : List ℕ) (shown : Shown) (status : ℕ) (old new : Errors E) → hushed ≡ given.flags.no_messages → label ≡ given.label → shown ≡ shown_by given.flags

@@ -9,11 +9,14 @@ use Rattle.aho_core.specs.declared.search.MatchKind.TheVariants.{LeftmostLongest
 use Rattle.acgrep.specs.declared.arguments.Given.{Given}
 use Rattle.acgrep.specs.Formats.{format_pieces}
 use Rattle.acgrep.specs.Long.{option_by}
+use Rattle.acgrep.specs.Rules.{RuleSaid, rules_said, without_slashes}
+use Rattle.acgrep.specs.declared.rules.Sense.{Sense}
+use Rattle.acgrep.specs.declared.rules.Sense.TheVariants.{Include, Exclude, ExcludeFolder}
 use Rattle.acgrep.specs.declared.format.Piece.{Piece}
 use Rattle.acgrep.specs.declared.long.Long.{Long}
 use Rattle.acgrep.specs.declared.long.Long.TheVariants.{Plain, Takes, When}
 use Rattle.acgrep.specs.declared.long.Valued.{Valued}
-use Rattle.acgrep.specs.declared.long.Valued.TheVariants.{Regexp, PatternFile, Kind, Offset, FirstLine, MaxCount, After, Before, Around, Separator, Label, Format}
+use Rattle.acgrep.specs.declared.long.Valued.TheVariants.{Regexp, PatternFile, Kind, Offset, FirstLine, MaxCount, After, Before, Around, Separator, Label, Format, Included, Excluded, ExcludedFolder}
 use Rattle.acgrep.specs.declared.options.Color.{Color}
 use Rattle.acgrep.specs.declared.options.Context.{Context}
 use Rattle.acgrep.specs.declared.options.Switch.{Switch}
@@ -37,7 +40,7 @@ pub record Origin : Type 0 where
   pub bytes : List ℕ
 
 -- each option, the patterns in order, and what is no option; what stands between lines that do not follow one another, how standard
--- input is called, and the format of matches
+-- input is called, the format of matches, and the rules of which files are searched
 pub record Said : Type 0 where
   pub flags : Flags
   pub sources : List Origin
@@ -45,6 +48,7 @@ pub record Said : Type 0 where
   pub separator : List ℕ
   pub label : List ℕ
   pub format : List Piece
+  pub rules : List RuleSaid
 
 abbrev pub origin_of : Source → Origin
 origin_of (Text text) = record { is_file = false; bytes = text.now }
@@ -59,6 +63,7 @@ said given = record {
   separator = given.separator.now;
   label = given.label.now;
   format = given.format.items;
+  rules = rules_said given.rules.items;
 }
 
 -- the option of a letter that takes no argument
@@ -166,6 +171,9 @@ numbered_in Around number flags = record flags { context = Some number }
 numbered_in Separator number flags = flags
 numbered_in Label number flags = flags
 numbered_in Format number flags = flags
+numbered_in Included number flags = flags
+numbered_in Excluded number flags = flags
+numbered_in ExcludedFolder number flags = flags
 
 abbrev pub with_number : Valued → ℕ → Said → Said
 with_number valued number s = record s { flags = numbered_in valued number s.flags }
@@ -184,7 +192,11 @@ with_pieces s pieces = record s { flags = record s.flags { formatted = true }; f
 abbrev pub with_format : List ℕ → Said → Option Said
 with_format argument s = option_map (λ pieces. with_pieces s pieces) (format_pieces argument)
 
--- the argument of an option
+-- a rule more of which files are searched
+abbrev pub with_rule : Sense → List ℕ → Said → Said
+with_rule sense glob s = record s { rules = s.rules ++ (record { sense = sense; glob = glob } ∷ []) }
+
+-- the argument of an option; that of `--exclude-dir` has no slashes at its end
 abbrev pub value_by : Valued → List ℕ → Said → Option ReadSoFar
 value_by Regexp argument s = Some (said_so (with_source false argument s))
 value_by PatternFile argument s = Some (said_so (with_source true argument s))
@@ -198,6 +210,9 @@ value_by Around argument s = number_value Around argument s
 value_by Separator argument s = Some (said_so (with_separator argument s))
 value_by Label argument s = Some (said_so (record s { label = argument }))
 value_by Format argument s = option_map said_so (with_format argument s)
+value_by Included argument s = Some (said_so (with_rule Include argument s))
+value_by Excluded argument s = Some (said_so (with_rule Exclude argument s))
+value_by ExcludedFolder argument s = Some (said_so (with_rule ExcludeFolder (without_slashes argument) s))
 
 -- the option of a letter whose argument is a number
 abbrev pub numbered : ℕ → Option Valued
@@ -358,7 +373,7 @@ no_flags = record {
 }
 
 abbrev pub nothing_said : Said
-nothing_said = record { flags = no_flags; sources = []; operands = []; separator = codes "--"; label = codes "(standard input)"; format = [] }
+nothing_said = record { flags = no_flags; sources = []; operands = []; separator = codes "--"; label = codes "(standard input)"; format = []; rules = [] }
 
 -- what all arguments say: nothing where they are wrong
 abbrev pub said_by : List (List ℕ) → Option Said

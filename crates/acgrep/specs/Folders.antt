@@ -1,11 +1,13 @@
 -- Which files the operands of a recursive search name.
-use Rattle.std.specs.Prelude.{◌≡◌, ◌⊎◌, ℕ, ◌&&◌, ◌||◌, nat_eq, Bool, true, false, List, [], ◌∷◌, ◌++◌, Option, IfSome, codes, map, if◌then◌else◌}
+use Rattle.std.specs.Prelude.{◌≡◌, ◌⊎◌, ℕ, ◌&&◌, ◌||◌, nat_eq, Bool, MatchBool, true, false, List, [], ◌∷◌, ◌++◌, Option, None, IfSome, codes, map, not, if◌then◌else◌}
 use Rattle.std.specs.List.{ends_with}
+use Rattle.std.specs.Str.{IsUtf8}
 use Rattle.std.specs.List.Sorted.{IsPermutation, IsSorted}
 use Rattle.std.specs.Cmp.Lexicographic.{slice_cmp}
 use Rattle.std.specs.Ordering.{nat_cmp}
 use Rattle.programs.specs.Names.{is_input}
 use Rattle.acgrep.specs.Listed.{listed_bytes}
+use Rattle.acgrep.specs.Rules.{RuleSaid, is_left_out}
 use Rattle.acgrep.specs.declared.folders.Folders.{Ghosts as FolderGhosts}
 use Rattle.acgrep.specs.declared.folders.Kind.{Kind}
 use Rattle.acgrep.specs.declared.folders.Kind.TheVariants.{File, Folder, Link, Device}
@@ -85,31 +87,57 @@ pub record HoldsNames (tree : Tree) (folder : List ℕ) (names : List (List ℕ)
   pub listed : IfSome (tree.lists folder) (λ known. IsPermutation known names)
   pub ordered : IsSorted (slice_cmp nat_cmp) names
 
--- names stand for these files, one after another. A folder stands for what it holds. What cannot be looked at, or be read as a folder,
--- is left out, and told; and so is a folder that stands in itself, as links can have it
-pub data AreFiles (tree : Tree) (follow : Bool) : List Spot → (files unread : List (List ℕ)) → Type 0 where
-  none : AreFiles tree follow [] [] []
+-- whether rules leave out a file, or a folder, of a name
+abbrev pub is_spot_left : List RuleSaid → (is_folder : Bool) → Spot → Bool
+is_spot_left rules is_folder spot = is_left_out rules is_folder spot.given spot.name
+
+-- below a folder they leave out what cannot be looked at, as if it were a file
+abbrev pub is_lost_left : List RuleSaid → Spot → Bool
+is_lost_left rules spot = not spot.given && is_spot_left rules false spot
+
+-- nothing is known of a name, or it is not UTF-8
+abbrev pub IsUnknown : Tree → Bool → List ℕ → Type 0
+IsUnknown tree followed name = (tree.kinds followed name ≡ None) ⊎ (IsUtf8 name → ⊥)
+
+-- so it is of what cannot be looked at
+abbrev pub IsLost : Tree → Bool → Spot → Type 0
+IsLost tree follow spot = IsUnknown tree (is_followed follow spot) spot.name
+
+-- names stand for these files, one after another, but for those that rules leave out. A folder stands for what it holds. What cannot
+-- be looked at, or be read as a folder, is left out, and told; and so is a folder that stands in itself, as links can have it
+pub data AreFiles (tree : Tree) (rules : List RuleSaid) (follow : Bool) : List Spot → (files unread : List (List ℕ)) → Type 0 where
+  none : AreFiles tree rules follow [] [] []
   input : {spot : Spot} {spots : List Spot} {files unread : List (List ℕ)}
-      → is_standard spot ≡ true → AreFiles tree follow spots files unread → AreFiles tree follow (spot ∷ spots) (spot.name ∷ files) unread
+      → is_standard spot ≡ true → AreFiles tree rules follow spots files unread → AreFiles tree rules follow (spot ∷ spots) (spot.name ∷ files) unread
   missed : {spot : Spot} {spots : List Spot} {files unread : List (List ℕ)}
-      → is_standard spot ≡ false → AreFiles tree follow spots files unread → AreFiles tree follow (spot ∷ spots) files (spot.name ∷ unread)
+      → is_standard spot ≡ false → IsLost tree follow spot → is_lost_left rules spot ≡ false
+      → AreFiles tree rules follow spots files unread → AreFiles tree rules follow (spot ∷ spots) files (spot.name ∷ unread)
+  lost : {spot : Spot} {spots : List Spot} {files unread : List (List ℕ)}
+      → is_standard spot ≡ false → IsLost tree follow spot → is_lost_left rules spot ≡ true
+      → AreFiles tree rules follow spots files unread → AreFiles tree rules follow (spot ∷ spots) files unread
+  left : {spot : Spot} {spots : List Spot} {files unread : List (List ℕ)} (kind : Kind)
+      → is_standard spot ≡ false → IsKind tree follow spot kind → is_spot_left rules (is_folder kind) spot ≡ true
+      → AreFiles tree rules follow spots files unread → AreFiles tree rules follow (spot ∷ spots) files unread
   looked : {spot : Spot} {spots : List Spot} {files unread : List (List ℕ)} (kind : Kind)
-      → is_standard spot ≡ false → IsKind tree follow spot kind → is_folder kind ≡ false
-      → AreFiles tree follow spots files unread → AreFiles tree follow (spot ∷ spots) (files_by follow kind spot ++ files) unread
+      → is_standard spot ≡ false → IsKind tree follow spot kind → is_folder kind ≡ false → is_spot_left rules false spot ≡ false
+      → AreFiles tree rules follow spots files unread → AreFiles tree rules follow (spot ∷ spots) (files_by follow kind spot ++ files) unread
+  unlisted : {spot : Spot} {spots : List Spot} {files unread : List (List ℕ)}
+      → is_standard spot ≡ false → IsKind tree follow spot Folder → is_spot_left rules true spot ≡ false
+      → AreFiles tree rules follow spots files unread → AreFiles tree rules follow (spot ∷ spots) files (spot.name ∷ unread)
   entered : {spot : Spot} {spots : List Spot} {files unread : List (List ℕ)} (names : List (List ℕ))
-      → is_standard spot ≡ false → IsKind tree follow spot Folder → HoldsNames tree spot.name names
-      → AreFiles tree follow (map (inside spot.name) names ++ spots) files unread → AreFiles tree follow (spot ∷ spots) files unread
+      → is_standard spot ≡ false → IsKind tree follow spot Folder → is_spot_left rules true spot ≡ false → HoldsNames tree spot.name names
+      → AreFiles tree rules follow (map (inside spot.name) names ++ spots) files unread → AreFiles tree rules follow (spot ∷ spots) files unread
 
 -- those below the working folder, unless that cannot be read
-abbrev pub AreHere : Tree → Bool → (files unread : List (List ℕ)) → Type 0
-AreHere tree follow files unread =
-    ((names : List (List ℕ)) × HoldsNames tree (codes ".") names × AreFiles tree follow (map (inside []) names) files unread)
+abbrev pub AreHere : Tree → List RuleSaid → Bool → (files unread : List (List ℕ)) → Type 0
+AreHere tree rules follow files unread =
+    ((names : List (List ℕ)) × HoldsNames tree (codes ".") names × AreFiles tree rules follow (map (inside []) names) files unread)
     ⊎ ((files ≡ []) × (unread ≡ codes "." ∷ []))
 
 -- these files are named by operands, or are below them; where there is no operand, those below the working folder
-abbrev pub AreBelow : Tree → Bool → (operands files unread : List (List ℕ)) → Type 0
-AreBelow tree follow [] files unread = AreHere tree follow files unread
-AreBelow tree follow (name ∷ names) files unread = AreFiles tree follow (map operand (name ∷ names)) files unread
+abbrev pub AreBelow : Tree → List RuleSaid → Bool → (operands files unread : List (List ℕ)) → Type 0
+AreBelow tree rules follow [] files unread = AreHere tree rules follow files unread
+AreBelow tree rules follow (name ∷ names) files unread = AreFiles tree rules follow (map operand (name ∷ names)) files unread
 
 -- what is still to be looked at
 abbrev pub spot_of : Pending → Spot
@@ -123,12 +151,12 @@ abbrev pub missed_of : List Unread → List (List ℕ)
 missed_of unread = map (λ missed. missed.name.items) unread
 
 -- what was found between two times: whatever files the names behind stand for, those before stand for these and them
-pub record FindsFiles (tree : Tree) (follow : Bool) (before after : List Spot) (old new : Found) : Type 0 where
+pub record FindsFiles (tree : Tree) (rules : List RuleSaid) (follow : Bool) (before after : List Spot) (old new : Found) : Type 0 where
   pub files : List (List ℕ)
   pub unread : List (List ℕ)
   pub names : listed_bytes new.names.items ≡ listed_bytes old.names.items ++ files
   pub missed : missed_of new.unread.items ≡ missed_of old.unread.items ++ unread
-  pub leads : (more others : List (List ℕ)) → AreFiles tree follow after more others → AreFiles tree follow before (files ++ more) (unread ++ others)
+  pub leads : (more others : List (List ℕ)) → AreFiles tree rules follow after more others → AreFiles tree rules follow before (files ++ more) (unread ++ others)
 
 -- the names of a folder, in order, were put before what is still to be looked at
 pub record PutsInside (names : List (List ℕ)) (folder : List ℕ) (old new : List Spot) : Type 0 where
@@ -144,6 +172,35 @@ Enters tree folder before after old new =
     ⊎ ((after ≡ before) × (new.names ≡ old.names) × (missed_of new.unread.items ≡ missed_of old.unread.items ++ (folder ∷ [])))
 
 -- a walk begins at these names: whatever files they stand for, those are named by the operands
-pub record Begins (tree : Tree) (follow : Bool) (operands : List (List ℕ)) (spots : List Spot) (found : Found) : Type 0 where
-  pub leads : (files unread : List (List ℕ)) → AreFiles tree follow spots files unread
-      → AreBelow tree follow operands (listed_bytes found.names.items ++ files) (missed_of found.unread.items ++ unread)
+pub record Begins (tree : Tree) (rules : List RuleSaid) (follow : Bool) (operands : List (List ℕ)) (spots : List Spot) (found : Found) : Type 0 where
+  pub leads : (files unread : List (List ℕ)) → AreFiles tree rules follow spots files unread
+      → AreBelow tree rules follow operands (listed_bytes found.names.items ++ files) (missed_of found.unread.items ++ unread)
+
+-- what cannot be looked at was told, or left out
+abbrev pub Loses : List RuleSaid → Spot → Found → Found → Type 0
+Loses rules spot old new =
+    MatchBool (is_lost_left rules spot) (new ≡ old)
+    ((new.names ≡ old.names) × (missed_of new.unread.items ≡ missed_of old.unread.items ++ (spot.name ∷ [])))
+
+-- an operand is searched or not, as rules say, where it can be looked at
+abbrev pub IsKept : Tree → List RuleSaid → List ℕ → Bool → Type 0
+IsKept tree rules name kept =
+    MatchBool (is_input name) (kept ≡ true)
+    ((IsUnknown tree true name × (kept ≡ true))
+    ⊎ ((kind : Kind) × IsKind tree true (operand name) kind × (kept ≡ not (is_spot_left rules (is_folder kind) (operand name)))))
+
+abbrev pub kept_of : List ℕ → Bool → List (List ℕ)
+kept_of name kept = if kept then name ∷ [] else []
+
+-- these of the operands are searched, where folders are not entered
+abbrev pub AreChosen : Tree → List RuleSaid → (names files : List (List ℕ)) → Type 0
+AreChosen tree rules [] files = files ≡ []
+AreChosen tree rules (name ∷ names) files =
+    (kept : Bool) × (others : List (List ℕ)) × IsKept tree rules name kept × AreChosen tree rules names others × (files ≡ kept_of name kept ++ others)
+
+-- one operand was looked at
+pub record Chooses (tree : Tree) (rules : List RuleSaid) (name : List ℕ) (old new : Found) : Type 0 where
+  pub kept : Bool
+  pub is : IsKept tree rules name kept
+  pub names : listed_bytes new.names.items ≡ listed_bytes old.names.items ++ kept_of name kept
+  pub unread : new.unread ≡ old.unread

@@ -7,6 +7,7 @@ pub mod Files
 pub mod Filled
 pub mod Folders
 pub mod Formats
+pub mod Globs
 pub mod Lines
 pub mod Listed
 pub mod Loading
@@ -16,6 +17,7 @@ pub mod Objects
 pub mod Origins
 pub mod Printed
 pub mod Reached
+pub mod Rules
 pub mod Runs
 pub mod Searched
 pub mod Searchers

@@ -6,7 +6,7 @@ use Rattle.acgrep.specs.declared.long.Found.{Found}
 use Rattle.acgrep.specs.declared.long.Found.TheVariants.{Unknown, Begun, Several, Whole}
 use Rattle.acgrep.specs.declared.long.Long.{Long}
 use Rattle.acgrep.specs.declared.long.Long.TheVariants.{Plain, Takes, When}
-use Rattle.acgrep.specs.declared.long.Valued.TheVariants.{Regexp, PatternFile, Kind, Offset, FirstLine, MaxCount, After, Before, Around, Separator, Label, Format}
+use Rattle.acgrep.specs.declared.long.Valued.TheVariants.{Regexp, PatternFile, Kind, Offset, FirstLine, MaxCount, After, Before, Around, Separator, Label, Format, Included, Excluded, ExcludedFolder}
 use Rattle.acgrep.specs.declared.options.Switch.TheVariants.{IgnoreCase, MatchCase, Invert, WholeWords, WholeLines, Counts, Numbers, OnlyMatching, Offsets, OnlyNames, OnlyLacking, NullNames, Recursive, Follow, Quiet, NoSeparator, InitialTab, Json, NoName, WithName, NoMatchOk, NoMessages, Help, Version, Same}
 
 -- an option's long name, and what it means
@@ -61,6 +61,13 @@ context_options = named (codes "after-context") (Takes After)
     ∷ named (codes "group-separator") (Takes Separator)
     ∷ []
 
+-- those that say which files are searched
+abbrev pub file_options : List Name
+file_options = named (codes "include") (Takes Included)
+    ∷ named (codes "exclude") (Takes Excluded)
+    ∷ named (codes "exclude-dir") (Takes ExcludedFolder)
+    ∷ []
+
 -- and all others
 abbrev pub other_options : List Name
 other_options = named (codes "color") When
@@ -100,7 +107,7 @@ found_among [] asked found = found
 found_among (option ∷ options) asked found = found_among options asked (found_more asked found option.name option.means)
 
 unfoldable pub found_by : List ℕ → Found
-found_by asked = found_among other_options asked (found_among context_options asked (found_among output_options asked (found_among pattern_options asked Unknown)))
+found_by asked = found_among other_options asked (found_among file_options asked (found_among context_options asked (found_among output_options asked (found_among pattern_options asked Unknown))))
 
 -- the option that is meant: of this name, or the only one whose name begins so
 abbrev pub meant : Found → Option Long

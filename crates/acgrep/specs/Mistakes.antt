@@ -21,9 +21,9 @@ use Rattle.acgrep.specs.declared.long.Found.TheVariants.{Unknown, Begun, Several
 use Rattle.acgrep.specs.declared.long.Long.{Long}
 use Rattle.acgrep.specs.declared.long.Long.TheVariants.{Plain, Takes, When}
 use Rattle.acgrep.specs.declared.long.Valued.{Valued}
-use Rattle.acgrep.specs.declared.long.Valued.TheVariants.{Regexp, PatternFile, Kind, Offset, FirstLine, MaxCount, After, Before, Around, Separator, Label, Format}
+use Rattle.acgrep.specs.declared.long.Valued.TheVariants.{Regexp, PatternFile, Kind, Offset, FirstLine, MaxCount, After, Before, Around, Separator, Label, Format, Included, Excluded, ExcludedFolder}
 
--- what is told of an argument that an option cannot have; any is a pattern, a file's name, a separator or a label
+-- what is told of an argument that an option cannot have; any is a pattern, a file's name, a separator, a label or a glob
 abbrev pub wrong_value : Valued → List ℕ → List (List ℕ)
 wrong_value Regexp argument = []
 wrong_value PatternFile argument = []
@@ -37,6 +37,9 @@ wrong_value Around argument = number_parts (valued_name Around) argument
 wrong_value Separator argument = []
 wrong_value Label argument = []
 wrong_value Format argument = format_parts argument
+wrong_value Included argument = []
+wrong_value Excluded argument = []
+wrong_value ExcludedFolder argument = []
 
 -- of a long name that means no option
 abbrev pub wrong_found : Found → List ℕ → List (List ℕ)

@@ -1,16 +1,17 @@
 -- What a call searches for and in which files, by what its arguments say.
-use Rattle.std.specs.Prelude.{◌≡◌, ◌⊎◌, ℕ, ◌+◌, ◌-◌, ◌%◌, ◌^◌, ◌==◌, ◌&&◌, ◌||◌, nat_lt, Bool, MatchBool, true, false, not, List, [], ◌∷◌, ◌++◌, Option, None, Some, IfSome, String, codes, length, map, unwrap_or, if◌then◌else◌}
+use Rattle.std.specs.Prelude.{◌≡◌, ◌⊎◌, ℕ, ◌+◌, ◌-◌, ◌%◌, ◌^◌, ◌==◌, ◌&&◌, ◌||◌, nat_lt, Bool, MatchBool, true, false, not, List, [], ◌∷◌, ◌++◌, Option, None, Some, IfSome, Vec, codes, length, map, unwrap_or, if◌then◌else◌}
 use Rattle.std.specs.Io.KnownBytes.{Consumes, IsAtEnd, Keeps}
 use Rattle.std.specs.Str.{bytes_eq}
 use Rattle.aho_core.specs.Patterns.{Patterns}
 use Rattle.aho_core.specs.declared.search.MatchKind.{MatchKind}
 use Rattle.aho_core.specs.declared.search.MatchKind.TheVariants.{LeftmostLongest}
-use Rattle.programs.specs.Arguments.{texts}
 use Rattle.acgrep.specs.Arguments.{Origin, Said, context_by, fit_by, origin_of, said_by, shown_by}
 use Rattle.programs.specs.Names.{is_input, or_input}
 use Rattle.acgrep.specs.Files.{AreFilesBegun, AreSearchedOr}
-use Rattle.acgrep.specs.Folders.{AreBelow, Known, Tree}
+use Rattle.acgrep.specs.Folders.{AreBelow, AreChosen, Known, Tree}
 use Rattle.acgrep.specs.Lines.{lines}
+use Rattle.acgrep.specs.Listed.{listed_bytes}
+use Rattle.acgrep.specs.Rules.{RuleSaid}
 use Rattle.acgrep.specs.Searchers.{patterns_asked}
 use Rattle.acgrep.specs.Written.{IsPassedOver}
 use Rattle.acgrep.specs.declared.arguments.Source.{Source}
@@ -28,8 +29,8 @@ use Rattle.acgrep.specs.declared.print.Place.{Place}
 use Rattle.acgrep.specs.declared.select.Job.{Job}
 
 -- what holds of what the arguments say, where they are right
-abbrev pub IfSaid : {Z : Type 0} → List (String Z) → (Said → Type 0) → Type 0
-IfSaid arguments Holds = (given : Said) → said_by (texts arguments) ≡ Some given → Holds given
+abbrev pub IfSaid : {Z : Type 0} → List (Vec ℕ Z) → (Said → Type 0) → Type 0
+IfSaid arguments Holds = (given : Said) → said_by (listed_bytes arguments) ≡ Some given → Holds given
 
 -- a search is asked for, and neither `--help` nor `--version`
 pub record AsksToSearch (flags : Flags) : Type 0 where
@@ -187,9 +188,24 @@ pub record IsJob (given : Said) (terminal several : Bool) (job : Job) : Type 0 w
   -- how standard input is called
   pub label : job.label.now ≡ given.label
 
--- these are the files that operands name, with those below folders where that is asked for; some names cannot be looked at or read
-abbrev pub AreReached : Tree → Flags → (names files unread : List (List ℕ)) → Type 0
-AreReached tree flags names files unread = MatchBool flags.recursive (AreBelow tree flags.follow names files unread) ((files ≡ or_input names) × (unread ≡ []))
+-- whether there are rules of which files are searched
+abbrev pub has_rules : List RuleSaid → Bool
+has_rules [] = false
+has_rules (rule ∷ rules) = true
+
+-- without rules these are the files that operands name, or standard input
+abbrev pub AreNamed : Tree → List RuleSaid → (names files : List (List ℕ)) → Type 0
+AreNamed tree rules names files = MatchBool (has_rules rules) (AreChosen tree rules (or_input names) files) (files ≡ or_input names)
+
+-- these are the files that operands name, with those below folders where that is asked for, and without those that rules leave out;
+-- some names cannot be looked at or read
+abbrev pub AreReached : Tree → Said → (names files unread : List (List ℕ)) → Type 0
+AreReached tree given names files unread =
+    MatchBool given.flags.recursive (AreBelow tree given.rules given.flags.follow names files unread) (AreNamed tree given.rules names files × (unread ≡ []))
+
+-- whether operands are looked at before they are searched
+abbrev pub asks_to_look : Said → Bool
+asks_to_look given = given.flags.recursive || has_rules given.rules
 
 -- whether the only operand is the only file
 abbrev pub is_alone : (names files : List (List ℕ)) → Bool
@@ -212,7 +228,7 @@ status_reached flags (name ∷ names) status = if flags.quiet && (status == 0) t
 pub record SearchesReached (known : Known) (terminal : Bool) (given : Said) (p : Patterns) (names : List (List ℕ)) (left left' held held' : Option (List ℕ)) (status : ℕ) : Type 0 where
   pub files : List (List ℕ)
   pub unread : List (List ℕ)
-  pub reached : AreReached known.tree given.flags names files unread
+  pub reached : AreReached known.tree given names files unread
   pub job : Job
   pub is_job : IsJob given terminal (are_several given.flags names files) job
   pub found : ℕ
@@ -223,7 +239,7 @@ pub record SearchesReached (known : Known) (terminal : Bool) (given : Said) (p :
 pub record BeginsReached (known : Known) (terminal : Bool) (given : Said) (p : Patterns) (names : List (List ℕ)) (left held held' : Option (List ℕ)) : Type 0 where
   pub files : List (List ℕ)
   pub unread : List (List ℕ)
-  pub reached : AreReached known.tree given.flags names files unread
+  pub reached : AreReached known.tree given names files unread
   pub job : Job
   pub is_job : IsJob given terminal (are_several given.flags names files) job
   pub begun : AreFilesBegun p job false known.holds files left held held'

@@ -17,11 +17,11 @@ use Rattle.acgrep.specs.Formats.{unknown_in}
 use Rattle.acgrep.specs.Runs.{AreReached, names_by, origins_of, sources_by}
 use Rattle.acgrep.specs.declared.arguments.Source.{Source}
 use Rattle.acgrep.specs.declared.arguments.Wrong.{Wrong}
-use Rattle.acgrep.specs.declared.arguments.Wrong.TheVariants.{NotText, NoPattern, UnknownLetter, UnknownName, Ambiguous, NoArgument, TakesNone, UnknownKind, UnknownColor, UnknownField, NoNumber}
+use Rattle.acgrep.specs.declared.arguments.Wrong.TheVariants.{NoPattern, UnknownLetter, UnknownName, Ambiguous, NoArgument, TakesNone, UnknownKind, UnknownColor, UnknownField, NoNumber}
 use Rattle.acgrep.specs.declared.files.Outcome.{Outcome}
 use Rattle.acgrep.specs.declared.files.Outcome.TheVariants.{Searched, Unread, Stopped}
 use Rattle.acgrep.specs.declared.long.Valued.{Valued}
-use Rattle.acgrep.specs.declared.long.Valued.TheVariants.{Regexp, PatternFile, Kind, Offset, FirstLine, MaxCount, After, Before, Around, Separator, Label, Format}
+use Rattle.acgrep.specs.declared.long.Valued.TheVariants.{Regexp, PatternFile, Kind, Offset, FirstLine, MaxCount, After, Before, Around, Separator, Label, Format, Included, Excluded, ExcludedFolder}
 use Rattle.acgrep.specs.declared.options.Shown.{Shown}
 use Rattle.acgrep.specs.declared.options.Shown.TheVariants.{Nothing}
 
@@ -33,10 +33,14 @@ others_told = codes "write error" ∷ codes "search" ∷ codes "patterns" ∷ co
 abbrev pub loop_text : List ℕ
 loop_text = codes "warning: recursive directory loop"
 
--- a call of the system failed, the patterns or the search were refused, or a folder stands in itself
+-- and of a file to which the output goes
+abbrev pub output_text : List ℕ
+output_text = codes "input file is also the output"
+
+-- a call of the system failed, the patterns or the search were refused, a folder stands in itself, or a file is the output
 abbrev pub IsToldCause : List ℕ → Type 0
 IsToldCause cause = ((reason : Reason) × (cause ≡ reason_text reason))
-    ⊎ (((error : BuildError) × (cause ≡ build_error_text error)) ⊎ (((error : MatchErrorKind) × (cause ≡ match_error_text error)) ⊎ (cause ≡ loop_text)))
+    ⊎ (((error : BuildError) × (cause ≡ build_error_text error)) ⊎ (((error : MatchErrorKind) × (cause ≡ match_error_text error)) ⊎ ((cause ≡ loop_text) ⊎ (cause ≡ output_text))))
 
 -- that, or one of these files
 abbrev pub MayName : List (List ℕ) → List ℕ → Type 0
@@ -81,6 +85,9 @@ valued_name Around = codes "-C"
 valued_name Separator = codes "--group-separator"
 valued_name Label = codes "--label"
 valued_name Format = codes "--format"
+valued_name Included = codes "--include"
+valued_name Excluded = codes "--exclude"
+valued_name ExcludedFolder = codes "--exclude-dir"
 
 -- an option of this name has no argument, or one that is no number
 abbrev pub unargued_parts : List ℕ → List (List ℕ)
@@ -119,7 +126,6 @@ format_parts format = field_parts (unknown_in format)
 
 -- why arguments are wrong, and how to get help
 abbrev pub wrong_parts : Wrong → List (List ℕ)
-wrong_parts NotText = codes "acgrep: an argument is not UTF-8\n" ∷ []
 wrong_parts NoPattern = codes "acgrep: no pattern is given\n" ∷ usage_text ∷ []
 wrong_parts (UnknownLetter letter) = letter_parts letter
 wrong_parts (UnknownName name) = name_parts name.now
@@ -158,12 +164,11 @@ abbrev pub is_hushed : Option Said → Bool
 is_hushed None = false
 is_hushed (Some said) = said.flags.no_messages
 
--- a line of a recursive call may name a file that an operand names, or what cannot be looked at or read
+-- a line of a call may name a file that an operand names or that is below it, or what cannot be looked at or read
 pub record NamesReached (tree : Tree) (given : Said) (names : List (List ℕ)) (line : List ℕ) : Type 0 where
-  pub recursive : given.flags.recursive ≡ true
   pub files : List (List ℕ)
   pub unread : List (List ℕ)
-  pub reached : AreReached tree given.flags names files unread
+  pub reached : AreReached tree given names files unread
   pub message : IsMessage (if given.flags.no_messages then [] else (shown_names given.label files ++ unread)) line
 
 -- a file that cannot be read, or nothing more can be searched
@@ -175,7 +180,7 @@ stopped_if true = Stopped
 abbrev pub MayTell : List (List ℕ) → List ℕ → Type 0
 MayTell names line = IsMessage names line ⊎ IsUsage line
 
--- or, where a search is recursive, such a line
+-- or, where operands are looked at, such a line
 abbrev pub MaySay : Tree → Said → List Origin → List (List ℕ) → List ℕ → Type 0
 MaySay tree given sources names line =
     MayTell (names_told given.flags.no_messages given.label sources names) line ⊎ NamesReached tree given names line

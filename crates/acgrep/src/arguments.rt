@@ -3,20 +3,41 @@
 //! Options may be joined, take their argument joined or as the next one, and stand behind files. A long name may be a beginning that
 //! no other option's name has. Two hyphens end the options.
 
-ghost use Rattle.std.specs.Prelude.{◌≡◌, ◌≤◌, ◌<◌, Some, IfOk, IfErr, OnOk, length, string_bytes};
-ghost use Rattle.programs.specs.Arguments.{kind_by, texts};
-ghost use Rattle.acgrep.specs.Arguments.{AreDigits, FailsBy, ReadsBy, SaysMore, argument_by, color_by, fresh_by, joined_by, letters_by, long_by, named_by, nothing_said, number_by, numbered, numbered_by, plain_by, said, said_by, source_option, so_far, taken_by, turned_by, value_by, with_format, with_operand, with_separator, with_source};
+ghost use Rattle.std.specs.Prelude.{◌≡◌, ◌≤◌, ◌<◌, Some, IfOk, IfErr, OnOk, length};
+ghost use Rattle.std.specs.List.{position_or_len};
+ghost use Rattle.programs.specs.Arguments.{kind_by};
+ghost use Rattle.acgrep.specs.Arguments.{AreDigits, FailsBy, ReadsBy, SaysMore, argument_by, color_by, color_named, fresh_by, is_equals, joined_by, letters_by, long_by, named_by, nothing_said, number_by, numbered, numbered_by, plain_by, said, said_by, source_option, so_far, taken_by, turned_by, value_by, with_format, with_operand, with_rule, with_separator, with_source};
+ghost use Rattle.acgrep.specs.Listed.{listed_bytes};
 ghost use Rattle.acgrep.specs.Long.{option_by};
+ghost use Rattle.acgrep.specs.Rules.{without_slashes};
+ghost use Rattle.acgrep.specs.declared.rules.Sense.TheVariants.{ExcludeFolder};
 ghost use Rattle.acgrep.specs.Mistakes.{IsFirstMistake, TellsBy, mistake_at, wrong_fresh, wrong_joined, wrong_letters, wrong_long, wrong_name, wrong_numbered, wrong_plain, wrong_value};
 ghost use Rattle.acgrep.specs.Told.{color_parts, format_parts, kind_parts, number_parts, valued_name};
 
 use crate::format::{Piece, read_format};
 use crate::long::{Long, Valued, option_of};
 use crate::options::{Color, Flags, switch_of};
+use crate::rules::{Rule, Sense, without_slashes};
 use chromesquid::MatchKind;
-use programs::command::parse_kind;
 use std::alloc::{AllocError, Global};
 use std::str;
+
+/// What stands before a long name, and alone ends the options.
+const HYPHENS: &[u8] = b"--";
+
+/// The names of when matches are coloured.
+const AUTO: &[u8] = b"auto";
+
+const ALWAYS: &[u8] = b"always";
+
+const NEVER: &[u8] = b"never";
+
+/// The names of the match kinds.
+const STANDARD: &[u8] = b"standard";
+
+const FIRST: &[u8] = b"first";
+
+const LONGEST: &[u8] = b"longest";
 
 /// Where patterns come from.
 #[derive(Clone, Copy)]
@@ -30,8 +51,6 @@ pub enum Source<'a> {
 /// Why arguments are wrong. Each holds what has to be named.
 #[derive(Clone, Copy)]
 pub enum Wrong<'a> {
-    /// Some argument is not UTF-8.
-    NotText,
     /// There is no pattern.
     NoPattern,
     /// No option has this letter.
@@ -69,6 +88,8 @@ pub struct Given<'a> {
     pub label: &'a [u8],
     /// The pieces of the last `--format`.
     pub format: Vec<Piece>,
+    /// Each `--include`, `--exclude` and `--exclude-dir`, in order.
+    pub rules: Vec<Rule<'a>>,
 }
 
 impl<'a> Given<'a> {
@@ -83,6 +104,7 @@ impl<'a> Given<'a> {
             separator: b"--",
             label: b"(standard input)",
             format: Vec::new(alloc),
+            rules: Vec::new(alloc),
         }
     }
 }
@@ -118,17 +140,17 @@ pub enum Awaited {
 }
 
 /// Reads the arguments after the program's name.
-pub fn parse<'a>(alloc: Global, arguments: &'a [String]) -> Result<Given<'a>, Refusal<'a>>
-    ensures read { IfOk result (λ given. said_by (texts arguments.now) ≡ Some (said given)) }
-    ensures refused { FailsBy (said_by (texts arguments.now)) result }
+pub fn parse<'a>(alloc: Global, arguments: &'a [Vec<u8>]) -> Result<Given<'a>, Refusal<'a>>
+    ensures read { IfOk result (λ given. said_by (listed_bytes arguments.now) ≡ Some (said given)) }
+    ensures refused { FailsBy (said_by (listed_bytes arguments.now)) result }
     // The first mistake is told.
-    ensures wrong { IfErr result (IsFirstMistake (texts arguments.now)) }
+    ensures wrong { IfErr result (IsFirstMistake (listed_bytes arguments.now)) }
 {
     let mut given = Given::new(alloc);
     let mut awaited = Awaited::Fresh;
     let mut left = arguments;
     while let Some((argument, behind)) = left.split_first() {
-        awaited = read_argument(&mut given, awaited, argument)?;
+        awaited = read_argument(&mut given, awaited, argument.as_slice())?;
         left = behind;
     }
     match awaited {
@@ -141,56 +163,71 @@ pub fn parse<'a>(alloc: Global, arguments: &'a [String]) -> Result<Given<'a>, Re
 fn read_argument<'a>(
     given: &mut Given<'a>,
     before: Awaited,
-    argument: &'a String,
+    argument: &'a [u8],
 ) -> Result<Awaited, Refusal<'a>>
-    ensures read { ReadsBy (argument_by before (string_bytes argument.now)) given.old given.new result }
-    ensures refused { FailsBy (argument_by before (string_bytes argument.now) (said given.old)) result }
-    ensures wrong { TellsBy (mistake_at before (string_bytes argument.now)) result }
+    ensures read { ReadsBy (argument_by before argument.now) given.old given.new result }
+    ensures refused { FailsBy (argument_by before argument.now (said given.old)) result }
+    ensures wrong { TellsBy (mistake_at before argument.now) result }
 {
     match before {
-        Awaited::Argument(valued) => read_value(given, valued, argument.as_str()),
+        Awaited::Argument(valued) => read_value(given, valued, argument),
         Awaited::Operands => {
-            add_operand(given, argument.as_bytes())?;
+            add_operand(given, argument)?;
             Ok(Awaited::Operands)
         }
-        Awaited::Fresh => read_fresh(given, argument.as_str()),
+        Awaited::Fresh => read_fresh(given, argument),
     }
 }
 
 /// Reads an argument that stands where an option may.
-fn read_fresh<'a>(given: &mut Given<'a>, argument: &'a str) -> Result<Awaited, Refusal<'a>>
+fn read_fresh<'a>(given: &mut Given<'a>, argument: &'a [u8]) -> Result<Awaited, Refusal<'a>>
     ensures read { ReadsBy (fresh_by argument.now) given.old given.new result }
     ensures refused { FailsBy (fresh_by argument.now (said given.old)) result }
     ensures wrong { TellsBy (wrong_fresh argument.now) result }
 {
-    if argument == "--" {
+    if argument == HYPHENS {
         return Ok(Awaited::Operands);
     }
-    match argument.strip_prefix("--") {
+    match argument.strip_prefix(HYPHENS) {
         Some(long) => read_long(given, long),
-        None => read_plain(given, argument.as_bytes()),
+        None => read_plain(given, argument),
     }
 }
 
 /// Reads what stands behind two hyphens: a long name, which an argument may follow behind an equals sign.
-fn read_long<'a>(given: &mut Given<'a>, argument: &'a str) -> Result<Awaited, Refusal<'a>>
+fn read_long<'a>(given: &mut Given<'a>, argument: &'a [u8]) -> Result<Awaited, Refusal<'a>>
     ensures read { ReadsBy (long_by argument.now) given.old given.new result }
     ensures refused { FailsBy (long_by argument.now (said given.old)) result }
     ensures wrong { TellsBy (wrong_long argument.now) result }
 {
-    match argument.split_once('=') {
-        Some((name, value)) => read_joined(given, name, value),
-        None => read_named(given, argument),
+    let end = first_equals(argument);
+    if end < argument.len() {
+        return read_joined(given, &argument[..end], &argument[end + 1..]);
     }
+    read_named(given, argument)
+}
+
+/// Where the first equals sign stands, or else the end.
+fn first_equals(argument: &[u8]) -> usize
+    ensures place { result ≡ position_or_len is_equals argument.now }
+{
+    let mut at = 0;
+    while at < argument.len() {
+        if argument[at] == b'=' {
+            return at;
+        }
+        at += 1;
+    }
+    at
 }
 
 /// Reads a long name without an argument.
-fn read_named<'a>(given: &mut Given<'a>, name: &'a str) -> Result<Awaited, Refusal<'a>>
+fn read_named<'a>(given: &mut Given<'a>, name: &'a [u8]) -> Result<Awaited, Refusal<'a>>
     ensures read { ReadsBy (named_by name.now) given.old given.new result }
     ensures refused { FailsBy (named_by name.now (said given.old)) result }
     ensures wrong { TellsBy (wrong_name name.now) result }
 {
-    match option_of(name.as_bytes()) {
+    match option_of(name) {
         Ok(long) => Ok(turn_on(given, long)),
         Err(wrong) => Err(Refusal::Wrong(wrong)),
     }
@@ -211,55 +248,71 @@ fn turn_on(given: &mut Given<'_>, long: Long) -> Awaited
 /// Reads a long name with an argument behind an equals sign.
 fn read_joined<'a>(
     given: &mut Given<'a>,
-    name: &'a str,
-    value: &'a str,
+    name: &'a [u8],
+    value: &'a [u8],
 ) -> Result<Awaited, Refusal<'a>>
     ensures read { ReadsBy (joined_by name.now value.now) given.old given.new result }
     ensures refused { FailsBy (joined_by name.now value.now (said given.old)) result }
     ensures wrong { TellsBy (wrong_joined (option_by name.now) name.now value.now) result }
 {
-    match option_of(name.as_bytes()) {
+    match option_of(name) {
         Ok(Long::Takes(valued)) => read_value(given, valued, value),
         Ok(Long::When) => read_color(given, value),
-        Ok(Long::Plain(_)) => Err(Refusal::Wrong(Wrong::TakesNone(name.as_bytes()))),
+        Ok(Long::Plain(_)) => Err(Refusal::Wrong(Wrong::TakesNone(name))),
         Err(wrong) => Err(Refusal::Wrong(wrong)),
     }
 }
 
 /// Reads the argument of `--color`.
-fn read_color<'a>(given: &mut Given<'a>, argument: &'a str) -> Result<Awaited, Refusal<'a>>
+fn read_color<'a>(given: &mut Given<'a>, argument: &'a [u8]) -> Result<Awaited, Refusal<'a>>
     ensures read { ReadsBy (color_by argument.now) given.old given.new result }
     ensures refused { FailsBy (color_by argument.now (said given.old)) result }
     ensures wrong { TellsBy (color_parts argument.now) result }
 {
-    given.flags.color = match argument {
-        "auto" => Color::Auto,
-        "always" => Color::Always,
-        "never" => Color::Never,
-        _ => return Err(Refusal::Wrong(Wrong::UnknownColor(argument.as_bytes()))),
-    };
+    match color_in(argument) {
+        Some(color) => given.flags.color = color,
+        None => return Err(Refusal::Wrong(Wrong::UnknownColor(argument))),
+    }
     Ok(Awaited::Fresh)
+}
+
+/// When matches are coloured, if bytes name that.
+fn color_in(bytes: &[u8]) -> Option<Color>
+    ensures color { result ≡ color_named bytes.now }
+{
+    if bytes == AUTO {
+        Some(Color::Auto)
+    } else if bytes == ALWAYS {
+        Some(Color::Always)
+    } else if bytes == NEVER {
+        Some(Color::Never)
+    } else {
+        None
+    }
 }
 
 /// Reads the argument of an option.
 fn read_value<'a>(
     given: &mut Given<'a>,
     valued: Valued,
-    argument: &'a str,
+    argument: &'a [u8],
 ) -> Result<Awaited, Refusal<'a>>
     ensures read { ReadsBy (value_by valued argument.now) given.old given.new result }
     ensures refused { FailsBy (value_by valued argument.now (said given.old)) result }
     ensures wrong { TellsBy (wrong_value valued argument.now) result }
 {
     match valued {
-        Valued::Regexp => add_source(given, false, argument.as_bytes())?,
-        Valued::PatternFile => add_source(given, true, argument.as_bytes())?,
+        Valued::Regexp => add_source(given, false, argument)?,
+        Valued::PatternFile => add_source(given, true, argument)?,
         Valued::Kind => given.flags.kind = read_kind(argument)?,
-        Valued::Separator => set_separator(given, argument.as_bytes()),
-        Valued::Label => given.label = argument.as_bytes(),
-        Valued::Format => set_format(given, argument.as_bytes())?,
+        Valued::Separator => set_separator(given, argument),
+        Valued::Label => given.label = argument,
+        Valued::Format => set_format(given, argument)?,
+        Valued::Included => add_rule(given, Sense::Include, argument)?,
+        Valued::Excluded => add_rule(given, Sense::Exclude, argument)?,
+        Valued::ExcludedFolder => add_folder_rule(given, argument)?,
         _ => {
-            let number = read_number(valued, argument.as_bytes())?;
+            let number = read_number(valued, argument)?;
             given.flags = given.flags.numbered(valued, number);
         }
     }
@@ -286,14 +339,29 @@ fn set_format<'a>(given: &mut Given<'a>, argument: &'a [u8]) -> Result<(), Refus
 }
 
 /// The match kind that an argument names.
-fn read_kind(argument: &str) -> Result<MatchKind, Refusal<'_>>
+fn read_kind(argument: &[u8]) -> Result<MatchKind, Refusal<'_>>
     ensures read { IfOk result (λ kind. kind_by argument.now ≡ Some kind) }
     ensures refused { FailsBy (kind_by argument.now) result }
     ensures wrong { TellsBy (kind_parts argument.now) result }
 {
-    match parse_kind(argument) {
+    match kind_in(argument) {
         Some(kind) => Ok(kind),
-        None => Err(Refusal::Wrong(Wrong::UnknownKind(argument.as_bytes()))),
+        None => Err(Refusal::Wrong(Wrong::UnknownKind(argument))),
+    }
+}
+
+/// The match kind that bytes name, if they are the name of one.
+fn kind_in(bytes: &[u8]) -> Option<MatchKind>
+    ensures kind { result ≡ kind_by bytes.now }
+{
+    if bytes == STANDARD {
+        Some(MatchKind::Standard)
+    } else if bytes == FIRST {
+        Some(MatchKind::LeftmostFirst)
+    } else if bytes == LONGEST {
+        Some(MatchKind::LeftmostLongest)
+    } else {
+        None
     }
 }
 
@@ -486,6 +554,21 @@ fn add_source<'a>(
     };
     given.sources.push(source)?;
     Ok(())
+}
+
+/// Adds a rule of which files are searched.
+fn add_rule<'a>(given: &mut Given<'a>, sense: Sense, glob: &'a [u8]) -> Result<(), AllocError>
+    ensures added { SaysMore (with_rule sense glob.now) given.old given.new result }
+{
+    given.rules.push(Rule { sense, glob })?;
+    Ok(())
+}
+
+/// Adds a rule of folders. Slashes at the end of its glob mean nothing.
+fn add_folder_rule<'a>(given: &mut Given<'a>, glob: &'a [u8]) -> Result<(), AllocError>
+    ensures added { SaysMore (with_rule ExcludeFolder (without_slashes glob.now)) given.old given.new result }
+{
+    add_rule(given, Sense::ExcludeFolder, without_slashes(glob))
 }
 
 /// Adds what is no option.

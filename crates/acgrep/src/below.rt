@@ -1,6 +1,6 @@
 //! Searching the files that operands name, with those below folders where that is asked for.
 
-ghost use Rattle.std.specs.Prelude.{◌≡◌, ◌≤◌, ◌<◌, IfOk, false, true};
+ghost use Rattle.std.specs.Prelude.{◌≡◌, ◌≤◌, ◌<◌, IfOk, true, false};
 ghost use Rattle.aho_core.specs.Patterns.{Patterns};
 ghost use Rattle.programs.specs.Names.{name_bytes};
 ghost use Rattle.acgrep.specs.Arguments.{said};
@@ -8,12 +8,14 @@ ghost use Rattle.acgrep.specs.Files.{AreFilesBegun, AreSearchedOr};
 ghost use Rattle.acgrep.specs.Folders.{known_by, missed_of, tree_of};
 ghost use Rattle.acgrep.specs.Listed.{listed_bytes};
 ghost use Rattle.acgrep.specs.Reached.{SearchesOperands, TellsMissed};
-ghost use Rattle.acgrep.specs.Runs.{BeginsOrKeeps, is_alone, status_reached};
+ghost use Rattle.acgrep.specs.Runs.{AreReached, BeginsOrKeeps, are_several, asks_to_look, is_alone, status_reached};
 ghost use Rattle.acgrep.specs.Searchers.{IsSearcherOf};
 ghost use Rattle.acgrep.specs.Selected.{ForLines};
 ghost use Rattle.acgrep.specs.Told.{TellsOfFiles, TellsOfReached};
 
 use crate::arguments::Given;
+use crate::chosen::choose;
+use crate::failure::Stop;
 use crate::files::Files;
 use crate::folders::Folders;
 use crate::open::Open;
@@ -22,7 +24,7 @@ use crate::run::{job_of, search_by};
 use crate::searcher::Searcher;
 use crate::select::Job;
 use crate::tell::{tell_memory, tell_missed};
-use crate::walk::{Unread, walk};
+use crate::walk::{Found, Unread, walk};
 use chromesquid::Sink;
 use programs::errors::Errors;
 use std::alloc::{AllocError, Global};
@@ -50,14 +52,21 @@ pub fn search_operands<F: Open + Folders, R: Read, W: Sink, E: Sink>(
     ensures told { TellsOfReached E.Sink (tree_of F.Folders operands.now.files.now) (said given.now)
         (name_bytes operands.now.names.now) result errors.old errors.new }
 {
-    if given.flags.recursive {
+    if asks_to_look(given) {
         return search_below(searcher, given, terminal, operands, input, output, errors);
     }
     let job = job_of(given, terminal, operands.names.len() > 1);
     search_by(searcher, &job, operands, input, output, errors)
 }
 
-/// Searches them, and the files below those that are folders.
+/// Whether operands are looked at before they are searched: those that are folders are entered, or there are rules.
+fn asks_to_look(given: &Given<'_>) -> bool
+    ensures asks { result ≡ asks_to_look (said given.now) }
+{
+    given.flags.recursive || !given.rules.is_empty()
+}
+
+/// Searches those that rules do not leave out, and the files below folders where that is asked for.
 fn search_below<F: Open + Folders, R: Read, W: Sink, E: Sink>(
     searcher: &Searcher,
     given: &Given<'_>,
@@ -68,7 +77,7 @@ fn search_below<F: Open + Folders, R: Read, W: Sink, E: Sink>(
     errors: &mut Errors<'_, E>,
 ) -> u8
     requires of { (p : Patterns) × IsSearcherOf p searcher.now }
-    requires recursive { given.now.flags.recursive ≡ true }
+    requires looks { asks_to_look (said given.now) ≡ true }
     ensures bound { result ≤ 2 }
     ensures searched { SearchesOperands F.Open F.Folders R.Read W.Sink operands.now.files.now
         operands.now.names.now searcher.now terminal (said given.now)
@@ -80,12 +89,7 @@ fn search_below<F: Open + Folders, R: Read, W: Sink, E: Sink>(
     ensures told { TellsOfReached E.Sink (tree_of F.Folders operands.now.files.now) (said given.now)
         (name_bytes operands.now.names.now) result errors.old errors.new }
 {
-    let Ok(found) = walk(
-        operands.alloc,
-        operands.files,
-        given.flags.follow,
-        operands.names,
-    ) else {
+    let Ok(found) = reach(operands.alloc, operands.files, given, operands.names) else {
         tell_memory(errors);
         return 2;
     };
@@ -93,7 +97,8 @@ fn search_below<F: Open + Folders, R: Read, W: Sink, E: Sink>(
         tell_memory(errors);
         return 2;
     };
-    let job = job_of(given, terminal, !is_alone(operands.names, names.as_slice()));
+    let several = are_several(&given.flags, operands.names, names.as_slice());
+    let job = job_of(given, terminal, several);
     let named = Files {
         alloc: operands.alloc,
         names: names.as_slice(),
@@ -102,6 +107,27 @@ fn search_below<F: Open + Folders, R: Read, W: Sink, E: Sink>(
     tell_each(given.flags.no_messages, found.unread.as_slice(), errors);
     let status = search_found(searcher, &job, &named, input, output, errors);
     status_below(&given.flags, found.unread.as_slice(), status)
+}
+
+/// The files that these operands name, with those below folders where that is asked for, and without those that rules leave out.
+fn reach<F: Folders>(
+    alloc: Global,
+    files: &F,
+    given: &Given<'_>,
+    operands: &[&[u8]],
+) -> Result<Found, Stop>
+    requires looks { asks_to_look (said given.now) ≡ true }
+    ensures reached { IfOk result (λ found. AreReached (tree_of F.Folders files.now) (said given.now)
+        (name_bytes operands.now) (listed_bytes found.names.items) (missed_of found.unread.items)) }
+{
+    let rules = given.rules.as_slice();
+    if given.flags.recursive {
+        return walk(alloc, files, given.flags.follow, rules, operands);
+    }
+    match choose(alloc, files, rules, operands) {
+        Ok(found) => Ok(found),
+        Err(_) => Err(Stop::OutOfMemory),
+    }
 }
 
 /// The status of a search, by whether all could be read: an error goes before all but a selected line under `-q`.
@@ -153,6 +179,17 @@ fn tell_each<E: Sink>(hushed: bool, unread: &[Unread], errors: &mut Errors<'_, E
     while let Some((first, behind)) = rest.split_first() {
         tell_missed(first.name.as_slice(), first.reason, errors);
         rest = behind;
+    }
+}
+
+/// Whether names stand before lines where nothing is said of that.
+fn are_several(flags: &Flags, operands: &[&[u8]], files: &[&[u8]]) -> bool
+    ensures several { result ≡ are_several flags.now (name_bytes operands.now) (name_bytes files.now) }
+{
+    if flags.recursive {
+        !is_alone(operands, files)
+    } else {
+        operands.len() > 1
     }
 }
 

@@ -20,13 +20,13 @@ use crate::options::Shown;
 use crate::print::{Style, put_count, put_name};
 use crate::select::{Job, State};
 use crate::stream::search_stream;
-use crate::tell::{tell_fault, tell_memory, tell_search, tell_write};
+use crate::tell::{tell_fault, tell_memory, tell_output, tell_search, tell_write};
 use chromesquid::{Sink, write_whole};
 use programs::errors::Errors;
 use programs::reason::Reason;
 use std::alloc::Global;
-use std::io;
 use std::io::{Read, Write};
+use std::{io, str};
 
 /// The files of a call.
 #[derive(Clone, Copy)]
@@ -297,8 +297,8 @@ fn search_name<A: Lister, F: Open, R: Read, W: Sink, E: Sink>(
 {
     if is_input(name) {
         let named = job_for(job, job.label, follows);
-        return search_one(
-            automaton, &named, buffer, input, state, page, output, errors,
+        return search_input(
+            automaton, &named, files, buffer, input, state, page, output, errors,
         );
     }
     let named = job_for(job, name, follows);
@@ -327,6 +327,11 @@ fn search_named<A: Lister, F: Open, W: Sink, E: Sink>(
     ensures told { TellsOfOutcome E.Sink job.now.hushed job.now.style.name.now result
         errors.old errors.new }
 {
+    if writes_into(job, files, name) {
+        let _ = output.flush();
+        tell_same(job, errors);
+        return Outcome::Unread;
+    }
     match open_named(files, name) {
         Ok(mut file) => search_one(
             automaton, job, buffer, &mut file, state, page, output, errors,
@@ -336,6 +341,59 @@ fn search_named<A: Lister, F: Open, W: Sink, E: Sink>(
             tell_unread(job, Reason::of(&error), errors);
             Outcome::Unread
         }
+    }
+}
+
+/// Searches standard input, unless the output goes to it.
+fn search_input<A: Lister, F: Open, R: Read, W: Sink, E: Sink>(
+    automaton: &A,
+    job: &Job<'_>,
+    files: &F,
+    buffer: &mut Buffer,
+    input: &mut R,
+    state: &mut State,
+    page: &mut Vec<u8>,
+    output: &mut W,
+    errors: &mut Errors<'_, E>,
+) -> Outcome
+    requires of { (p : Patterns) × A.is_of automaton.now p }
+    ensures searched { SearchesReaderBy A.Automaton R.Read W.Sink automaton.now job.now
+        input.old input.new output.old output.new result }
+    ensures begun { BeginsFileBy A.Automaton W.Sink automaton.now job.now
+        (R.remaining input.old) output.old output.new result }
+    ensures reads { ReadsOn (R.remaining input.old) (R.remaining input.new) }
+    ensures told { TellsOfOutcome E.Sink job.now.hushed job.now.style.name.now result
+        errors.old errors.new }
+{
+    if writes_into(job, files, b"/dev/stdin") {
+        let _ = output.flush();
+        tell_same(job, errors);
+        return Outcome::Unread;
+    }
+    search_one(automaton, job, buffer, input, state, page, output, errors)
+}
+
+/// Whether several lines of the file of this name may be written to it.
+fn writes_into<F: Open>(job: &Job<'_>, files: &F, name: &[u8]) -> bool {
+    match job.most {
+        Some(most) if most < 2 => false,
+        _ => writes_lines(job.shown) && is_output(files, name),
+    }
+}
+
+/// Whether lines are written, and not what is told of a file as a whole.
+fn writes_lines(shown: Shown) -> bool {
+    match shown {
+        Shown::Lines | Shown::Matches | Shown::Objects => true,
+        Shown::Count | Shown::Names | Shown::Lacking | Shown::Nothing => false,
+    }
+}
+
+/// Whether the output goes to the file of a name.
+fn is_output<F: Open>(files: &F, name: &[u8]) -> bool {
+    match str::from_utf8(name) {
+        Ok(text) => files.is_output(text),
+        Err(_) => false,
     }
 }
 
@@ -454,6 +512,18 @@ fn tell_unread<E: Sink>(job: &Job<'_>, reason: Reason, errors: &mut Errors<'_, E
         return;
     }
     tell_fault(job.style.name, reason, errors);
+}
+
+/// Tells that the output goes to a file, if that is asked for.
+fn tell_same<E: Sink>(job: &Job<'_>, errors: &mut Errors<'_, E>)
+    ensures told { TellsOfOutcome E.Sink job.now.hushed job.now.style.name.now (stopped_if false)
+        errors.old errors.new }
+{
+    let hushed = job.hushed;
+    if hushed {
+        return;
+    }
+    tell_output(job.style.name, errors);
 }
 
 /// Tells why a search stopped, and answers whether that ends the call.

@@ -1,11 +1,11 @@
 //! What looks at names, and lists folders.
 
-ghost use Rattle.std.specs.Prelude.{◌≡◌, ℕ, Bool, List, Option, None, IfOk, IfSome};
+ghost use Rattle.std.specs.Prelude.{◌≡◌, ℕ, Bool, List, Option, None, IfErr, IfOk, IfSome};
 ghost use Rattle.std.specs.List.Sorted.{IsPermutation};
 ghost use Rattle.acgrep.specs.Listed.{listed_bytes};
 ghost use Rattle.acgrep.specs.declared.folders.Kind.{Kind};
 
-use crate::open::System;
+use crate::open::{Identity, System};
 use std::alloc::{AllocError, Global};
 use std::fs::{FileType, Files};
 use std::io::Read;
@@ -25,15 +25,6 @@ pub enum Kind {
     Device,
 }
 
-/// What tells a folder from all others: the number of its device, and its own there.
-#[derive(Clone, Copy, PartialEq, Eq)]
-pub struct Identity {
-    /// That of its device.
-    pub device: u64,
-    /// Its own.
-    pub number: u64,
-}
-
 /// What looks at names, and lists folders.
 pub trait Folders {
     /// What a name stands for, where it is known, and where links are followed or not.
@@ -45,7 +36,9 @@ pub trait Folders {
     /// What this name stands for. Where `follow` is not set it may be a link.
     fn look(&self, name: &str, follow: bool) -> io::Result<Kind>
         ensures told { IfOk result (λ kind.
-            IfSome (kinds self.now follow name.now) (λ known. kind ≡ known)) };
+            IfSome (kinds self.now follow name.now) (λ known. kind ≡ known)) }
+        // What is known can be looked at.
+        ensures lost { IfErr result (λ error. kinds self.now follow name.now ≡ None) };
 
     /// What tells the folder of this name from all others, where links are followed.
     fn identity(&self, name: &str) -> io::Result<Identity>;

@@ -64,6 +64,9 @@ Folders:
                         devices there are not read
   -R, --dereference-recursive
                         the same, but they are
+  --include GLOB        search only files with a name that GLOB fits
+  --exclude GLOB        do not search those: the last of both that fits decides
+  --exclude-dir GLOB    do not search what is in folders with such a name
 
 Others:
   -s, --no-messages     do not tell of files that cannot be read

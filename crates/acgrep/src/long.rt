@@ -1,7 +1,7 @@
 //! The long names of options, and their beginnings.
 
 ghost use Rattle.std.specs.Prelude.{◌≡◌, Some, None, IfErr, IfOk};
-ghost use Rattle.acgrep.specs.Long.{begun_too, context_options, found_among, found_by, found_more, is_color, option_by, other_options, output_options, pattern_options};
+ghost use Rattle.acgrep.specs.Long.{begun_too, context_options, file_options, found_among, found_by, found_more, is_color, option_by, other_options, output_options, pattern_options};
 ghost use Rattle.acgrep.specs.Mistakes.{wrong_name};
 ghost use Rattle.acgrep.specs.Told.{wrong_parts};
 
@@ -35,6 +35,12 @@ pub enum Valued {
     Label,
     /// `--format`
     Format,
+    /// `--include`
+    Included,
+    /// `--exclude`
+    Excluded,
+    /// `--exclude-dir`
+    ExcludedFolder,
 }
 
 /// An option by its long name.
@@ -122,7 +128,8 @@ fn found_of(name: &[u8]) -> Found
     let patterns = or_patterns(Found::Unknown, name);
     let output = or_output(patterns, name);
     let context = or_context(output, name);
-    or_others(context, name)
+    let files = or_files(context, name);
+    or_others(files, name)
 }
 
 /// What it means with the options that say what is searched for.
@@ -184,6 +191,16 @@ fn or_context(found: Found, name: &[u8]) -> Found
             Long::Plain(Switch::NoSeparator),
         )
         .or(name, b"group-separator", Long::Takes(Valued::Separator))
+}
+
+/// What it means with those that say which files are searched.
+fn or_files(found: Found, name: &[u8]) -> Found
+    ensures found { result ≡ found_among file_options name.now found }
+{
+    found
+        .or(name, b"include", Long::Takes(Valued::Included))
+        .or(name, b"exclude", Long::Takes(Valued::Excluded))
+        .or(name, b"exclude-dir", Long::Takes(Valued::ExcludedFolder))
 }
 
 /// What it means with all other options.

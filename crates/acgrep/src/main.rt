@@ -10,12 +10,15 @@ mod backed;
 mod base64;
 mod below;
 mod buffer;
+mod bytes;
+mod chosen;
 mod context;
 mod failure;
 mod fields;
 mod files;
 mod folders;
 mod format;
+mod globs;
 mod held;
 mod help;
 mod json;
@@ -27,6 +30,7 @@ mod open;
 mod options;
 mod patterns;
 mod print;
+mod rules;
 mod run;
 mod searcher;
 mod select;
@@ -35,12 +39,11 @@ mod tell;
 mod trail;
 mod walk;
 
+use bytes::arguments;
 use chromesquid::FromWrite;
 use open::System;
-use programs::arguments::arguments;
 use programs::closed::{Noted, Quiet};
 use programs::errors::Errors;
-use programs::failure::Failure;
 use run::{refuse, run};
 use std::cell::Cell;
 use std::env;
@@ -53,14 +56,13 @@ const OUTPUT_CAPACITY: usize = 64 * 1024;
 fn main(rt: HostRuntime) -> ExitCode {
     let reason = Cell::new(None);
     let mut errors = Errors::new(FromWrite::new(Quiet::new(rt.stderr(), &reason)), &reason);
-    let given = match arguments(&rt) {
-        Ok(given) => given,
-        Err(failure) => return ExitCode::from(refuse(&failure, &mut errors)),
+    let Ok(given) = arguments(&rt) else {
+        return ExitCode::from(refuse(&mut errors));
     };
     let terminal = rt.stdout().is_terminal() && has_colors(&rt);
     let noted = Noted::new(rt.stdout(), &reason);
     let Ok(output) = BufWriter::with_capacity(rt.alloc(), OUTPUT_CAPACITY, noted) else {
-        return ExitCode::from(refuse(&Failure::OutOfMemory, &mut errors));
+        return ExitCode::from(refuse(&mut errors));
     };
     let status = run(
         rt.alloc(),

@@ -5,6 +5,7 @@ ghost use Rattle.std.specs.Io.KnownBytes.{Keeps};
 
 use std::fs::Files;
 use std::io::Read;
+use std::os::unix::fs::MetadataExt;
 use std::{fs, io};
 
 /// What opens files.
@@ -19,6 +20,18 @@ pub trait Open {
     fn open(&self, name: &str) -> io::Result<Self::File>
         ensures told { IfOk result (λ file.
             Keeps (holds self.now name.now) (Self.File.remaining file)) };
+
+    /// Whether the output goes to the file of this name, as far as that can be told.
+    fn is_output(&self, name: &str) -> bool;
+}
+
+/// What tells a file from all others: the number of its device, and its own there.
+#[derive(Clone, Copy, PartialEq, Eq)]
+pub struct Identity {
+    /// That of its device.
+    pub device: u64,
+    /// Its own.
+    pub number: u64,
 }
 
 /// The files of the system. What they hold is known to nobody.
@@ -26,12 +39,28 @@ pub trait Open {
 pub struct System<'a, R> {
     /// What they are opened by.
     pub rt: &'a R,
+    /// The file to which the output goes, if it is one.
+    output: Option<Identity>,
 }
 
 impl<'a, R: Files> System<'a, R> {
     /// Those of this runtime.
     pub fn new(rt: &'a R) -> System<'a, R> {
-        System { rt }
+        System {
+            rt,
+            output: file_named(rt, "/dev/stdout"),
+        }
+    }
+}
+
+/// What tells the file of this name from all others. A folder or a device is none.
+fn file_named<R: Files>(rt: &R, name: &str) -> Option<Identity> {
+    match fs::metadata(rt, name) {
+        Ok(found) if found.file_type().is_file() => Some(Identity {
+            device: found.dev(),
+            number: found.ino(),
+        }),
+        _ => None,
     }
 }
 
@@ -40,5 +69,12 @@ impl<'a, R: Files> Open for System<'a, R> {
 
     fn open(&self, name: &str) -> io::Result<R::File> {
         fs::File::open(self.rt, name)
+    }
+
+    fn is_output(&self, name: &str) -> bool {
+        match self.output {
+            Some(output) => file_named(self.rt, name) == Some(output),
+            None => false,
+        }
     }
 }

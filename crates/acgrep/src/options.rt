@@ -318,7 +318,10 @@ impl Flags {
             | Valued::Kind
             | Valued::Separator
             | Valued::Label
-            | Valued::Format => {}
+            | Valued::Format
+            | Valued::Included
+            | Valued::Excluded
+            | Valued::ExcludedFolder => {}
         }
         flags
     }

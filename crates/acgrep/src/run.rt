@@ -5,7 +5,7 @@ ghost use Rattle.std.specs.Io.KnownBytes.{Appends, Keeps};
 ghost use Rattle.aho_devices.specs.Counts.{AppendsBeginning};
 ghost use Rattle.aho_core.specs.Patterns.{Patterns};
 ghost use Rattle.aho_core.specs.Replacement.{pieces_of};
-ghost use Rattle.programs.specs.Arguments.{texts};
+ghost use Rattle.acgrep.specs.Listed.{listed_bytes};
 ghost use Rattle.acgrep.specs.Arguments.{said, said_by};
 ghost use Rattle.programs.specs.Names.{name_bytes};
 ghost use Rattle.programs.specs.Telling.{Tells, TellsSome};
@@ -32,7 +32,6 @@ use crate::select::Job;
 use crate::tell::{tell_memory, tell_write, tell_wrong};
 use chromesquid::{MatchKind, Sink, write_whole};
 use programs::errors::Errors;
-use programs::failure::Failure;
 use std::alloc::Global;
 use std::io::Read;
 
@@ -40,7 +39,7 @@ use std::io::Read;
 /// none was, or 0 there too under `--no-match-ok`, and 2 where an error occurred. `terminal` says whether the output is a terminal with colours.
 pub fn run<F: Open + Folders, R: Read, W: Sink, E: Sink>(
     alloc: Global,
-    arguments: &[String],
+    arguments: &[Vec<u8>],
     terminal: bool,
     files: &F,
     input: &mut R,
@@ -50,11 +49,11 @@ pub fn run<F: Open + Folders, R: Read, W: Sink, E: Sink>(
     ensures bound { result ≤ 2 }
 
     // Wrong arguments are found first, and the first mistake is told.
-    ensures usage { said_by (texts arguments.now) ≡ None → result ≡ 2 }
-    ensures mistake { said_by (texts arguments.now) ≡ None
-        → TellsMistake E.Sink (texts arguments.now) errors.old errors.new }
-    ensures unread { said_by (texts arguments.now) ≡ None → input.new ≡ input.old }
-    ensures unwritten { said_by (texts arguments.now) ≡ None
+    ensures usage { said_by (listed_bytes arguments.now) ≡ None → result ≡ 2 }
+    ensures mistake { said_by (listed_bytes arguments.now) ≡ None
+        → TellsMistake E.Sink (listed_bytes arguments.now) errors.old errors.new }
+    ensures unread { said_by (listed_bytes arguments.now) ≡ None → input.new ≡ input.old }
+    ensures unwritten { said_by (listed_bytes arguments.now) ≡ None
         → Keeps (W.taken output.old) (W.taken output.new) }
 
     // A search needs a pattern, and where there is none that is told.
@@ -77,11 +76,11 @@ pub fn run<F: Open + Folders, R: Read, W: Sink, E: Sink>(
 
     // Where the status tells of no error nothing is told, but under `-q` of files that cannot be read. Where it tells of one, a line
     // says why: whole, unless writing it failed. Under `-s` no line names a file that is searched, and there may be none.
-    ensures tells { Tells E.Sink (MaySaid (tree_of F.Folders files.now) (said_by (texts arguments.now))) errors.old errors.new }
+    ensures tells { Tells E.Sink (MaySaid (tree_of F.Folders files.now) (said_by (listed_bytes arguments.now))) errors.old errors.new }
     ensures silent { IfSaid arguments.now (λ said. said.flags.quiet ≡ false
         → result < 2 → errors.new ≡ errors.old) }
-    ensures says_why { is_hushed (said_by (texts arguments.now)) ≡ false → result ≡ 2
-        → TellsSome E.Sink (MaySaid (tree_of F.Folders files.now) (said_by (texts arguments.now)))
+    ensures says_why { is_hushed (said_by (listed_bytes arguments.now)) ≡ false → result ≡ 2
+        → TellsSome E.Sink (MaySaid (tree_of F.Folders files.now) (said_by (listed_bytes arguments.now)))
         errors.old errors.new }
 
     // All output was flushed where the status tells of no error.
@@ -110,15 +109,12 @@ fn tell_refused<E: Sink>(refusal: Refusal<'_>, errors: &mut Errors<'_, E>)
     }
 }
 
-/// Tells why there are no arguments, or no memory to begin with, and answers the exit status.
-pub fn refuse<E: Sink>(failure: &Failure, errors: &mut Errors<'_, E>) -> u8
+/// Tells that there is no memory to begin with, and answers the exit status.
+pub fn refuse<E: Sink>(errors: &mut Errors<'_, E>) -> u8
     ensures failed { result ≡ 2 }
     ensures told { TellsSome E.Sink (MayTell []) errors.old errors.new }
 {
-    match failure {
-        Failure::OutOfMemory => tell_refused(Refusal::OutOfMemory, errors),
-        _ => tell_refused(Refusal::Wrong(Wrong::NotText), errors),
-    }
+    tell_refused(Refusal::OutOfMemory, errors);
     2
 }
 

@@ -16,6 +16,9 @@ use programs::reason::Reason;
 /// What is told of a folder that stands in itself.
 const LOOP: &[u8] = b"warning: recursive directory loop";
 
+/// What is told of a file to which the output goes.
+const SAME: &[u8] = b"input file is also the output";
+
 /// The program's name.
 const PROGRAM: &[u8] = b"acgrep";
 
@@ -42,6 +45,13 @@ pub fn tell_missed<E: Sink>(name: &[u8], reason: Option<Reason>, errors: &mut Er
         Some(reason) => tell_fault(name, reason, errors),
         None => errors.tell(PROGRAM, Some(name), None, LOOP),
     }
+}
+
+/// Tells that the output goes to a file of this name.
+pub fn tell_output<E: Sink>(name: &[u8], errors: &mut Errors<'_, E>)
+    ensures told { TellsOfFile E.Sink name.now errors.old errors.new }
+{
+    errors.tell(PROGRAM, Some(name), None, SAME);
 }
 
 /// Tells why the output cannot be written.
@@ -75,7 +85,6 @@ pub fn tell_wrong<E: Sink>(errors: &mut Errors<'_, E>, wrong: Wrong<'_>)
     ensures told { TellsWrong E.Sink wrong.entry errors.old errors.new }
 {
     match wrong {
-        Wrong::NotText => errors.write(&[b"acgrep: an argument is not UTF-8\n"]),
         Wrong::NoPattern => errors.write(&[b"acgrep: no pattern is given\n", USAGE]),
         Wrong::UnknownLetter(letter) => {
             errors.write(&[b"acgrep: unknown option '-", &[letter], b"'\n", USAGE])
@@ -163,6 +172,9 @@ fn valued_name<'a>(valued: Valued) -> &'a [u8]
         Valued::Separator => b"--group-separator",
         Valued::Label => b"--label",
         Valued::Format => b"--format",
+        Valued::Included => b"--include",
+        Valued::Excluded => b"--exclude",
+        Valued::ExcludedFolder => b"--exclude-dir",
     }
 }
 

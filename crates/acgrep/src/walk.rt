@@ -1,14 +1,17 @@
 //! Which files the operands of a recursive search name.
 
-ghost use Rattle.std.specs.Prelude.{◌≡◌, [], ◌∷◌, ◌++◌, IfOk, IfSome, OnOk, false, map};
+ghost use Rattle.std.specs.Prelude.{◌≡◌, [], ◌∷◌, ◌++◌, IfErr, IfOk, IfSome, List, OnOk, false, map};
 ghost use Rattle.std.specs.List.Sorted.{IsPermutation};
 ghost use Rattle.programs.specs.Names.{name_bytes};
-ghost use Rattle.acgrep.specs.Folders.{AreBelow, Begins, Enters, FindsFiles, IsKind, PutsInside, between, is_folder, is_followed, is_searched, is_standard, path_inside, missed_of, operand, spot_of, spots_of, tree_of};
+ghost use Rattle.acgrep.specs.Folders.{AreBelow, Begins, Enters, FindsFiles, IsKind, IsUnknown, Loses, PutsInside, between, is_folder, is_followed, is_lost_left, is_searched, is_spot_left, is_standard, path_inside, missed_of, operand, spot_of, spots_of, tree_of};
 ghost use Rattle.acgrep.specs.Listed.{listed_bytes};
+ghost use Rattle.acgrep.specs.Rules.{RuleSaid, rules_said};
 
 use crate::failure::Stop;
-use crate::folders::{Folders, Identity, Kind};
+use crate::folders::{Folders, Kind};
 use crate::keys::is_input;
+use crate::open::Identity;
+use crate::rules::{Rule, is_left_out};
 use programs::reason::Reason;
 use std::alloc::{AllocError, Global};
 use std::collections::VecDeque;
@@ -49,7 +52,7 @@ struct Pending {
 
 impl Found {
     /// Nothing.
-    fn new(alloc: Global) -> Found
+    pub fn new(alloc: Global) -> Found
         ensures names { result.names.items ≡ [] }
         ensures unread { result.unread.items ≡ [] }
     {
@@ -60,7 +63,7 @@ impl Found {
     }
 
     /// A file more.
-    fn add(&mut self, name: Vec<u8>) -> Result<(), AllocError>
+    pub fn add(&mut self, name: Vec<u8>) -> Result<(), AllocError>
         ensures names { OnOk result
             (listed_bytes self.new.names.items ≡ listed_bytes self.old.names.items ++ (name.items ∷ [])) }
         ensures unread { self.new.unread ≡ self.old.unread }
@@ -80,15 +83,16 @@ impl Found {
     }
 }
 
-/// The files that these operands name: themselves, and those below folders. Where there is no operand, those below the working folder.
-/// `follow` says whether links below folders are followed.
+/// The files that these operands name: themselves, and those below folders, without those that rules leave out. Where there is no
+/// operand, those below the working folder. `follow` says whether links below folders are followed.
 pub fn walk<F: Folders>(
     alloc: Global,
     files: &F,
     follow: bool,
+    rules: &[Rule<'_>],
     operands: &[&[u8]],
 ) -> Result<Found, Stop>
-    ensures found { IfOk result (λ found. AreBelow (tree_of F.Folders files.now) follow (name_bytes operands.now)
+    ensures found { IfOk result (λ found. AreBelow (tree_of F.Folders files.now) (rules_said rules.now) follow (name_bytes operands.now)
         (listed_bytes found.names.items) (missed_of found.unread.items)) }
 {
     let mut found = Found::new(alloc);
@@ -98,7 +102,7 @@ pub fn walk<F: Folders>(
         let Some(spot) = pending.pop_front() else {
             return Ok(found);
         };
-        pass(alloc, files, follow, spot, &mut pending, &mut found)?;
+        pass(alloc, files, follow, rules, spot, &mut pending, &mut found)?;
     }
     Err(Stop::Read(Reason::Fault))
 }
@@ -115,8 +119,9 @@ fn begin<F: Folders>(
     requires none { pending.old.items ≡ [] }
     requires nothing { found.old.names.items ≡ [] }
     requires nowhere { found.old.unread.items ≡ [] }
-    ensures begun { OnOk result (Begins (tree_of F.Folders files.now) follow (name_bytes operands.now)
-        (spots_of pending.new.items) found.new) }
+    // Whatever rules there are.
+    ensures begun { OnOk result ((rules : List RuleSaid) → Begins (tree_of F.Folders files.now) rules follow
+        (name_bytes operands.now) (spots_of pending.new.items) found.new) }
 {
     if !operands.is_empty() {
         return put_given(alloc, operands, pending);
@@ -174,20 +179,50 @@ fn pass<F: Folders>(
     alloc: Global,
     files: &F,
     follow: bool,
+    rules: &[Rule<'_>],
     spot: Pending,
     pending: &mut VecDeque<Pending>,
     found: &mut Found,
 ) -> Result<(), AllocError>
-    ensures finds { OnOk result (FindsFiles (tree_of F.Folders files.now) follow
+    ensures finds { OnOk result (FindsFiles (tree_of F.Folders files.now) (rules_said rules.now) follow
         (spot_of spot ∷ spots_of pending.old.items) (spots_of pending.new.items) found.old found.new) }
 {
     if is_standard(&spot) {
         return found.add(spot.name);
     }
     match look_at(files, spot.name.as_slice(), is_followed(follow, &spot)) {
-        Ok(kind) => take(alloc, files, follow, kind, spot, pending, found),
-        Err(error) => found.miss(spot.name, Some(Reason::of(&error))),
+        Ok(kind) => take(alloc, files, follow, rules, kind, spot, pending, found),
+        Err(error) => lose(rules, spot, Reason::of(&error), found),
     }
+}
+
+/// Puts down what cannot be looked at, unless it is left out as a file would be.
+fn lose(
+    rules: &[Rule<'_>],
+    spot: Pending,
+    reason: Reason,
+    found: &mut Found,
+) -> Result<(), AllocError>
+    ensures loses { OnOk result (Loses (rules_said rules.now) (spot_of spot) found.old found.new) }
+{
+    if is_lost_left(rules, &spot) {
+        return Ok(());
+    }
+    found.miss(spot.name, Some(reason))
+}
+
+/// Whether rules leave out what cannot be looked at: not where it is an operand.
+fn is_lost_left(rules: &[Rule<'_>], spot: &Pending) -> bool
+    ensures left { result ≡ is_lost_left (rules_said rules.now) (spot_of spot.now) }
+{
+    !spot.given && is_spot_left(rules, false, spot)
+}
+
+/// Whether rules leave out a file, or a folder, of a name.
+fn is_spot_left(rules: &[Rule<'_>], is_folder: bool, spot: &Pending) -> bool
+    ensures left { result ≡ is_spot_left (rules_said rules.now) is_folder (spot_of spot.now) }
+{
+    is_left_out(rules, is_folder, spot.given, spot.name.as_slice())
 }
 
 /// Whether a name is that of standard input.
@@ -204,11 +239,12 @@ fn is_followed(follow: bool, spot: &Pending) -> bool
     spot.given || follow
 }
 
-/// Takes what a name stands for.
+/// Takes what a name stands for, unless it is left out.
 fn take<F: Folders>(
     alloc: Global,
     files: &F,
     follow: bool,
+    rules: &[Rule<'_>],
     kind: Kind,
     spot: Pending,
     pending: &mut VecDeque<Pending>,
@@ -216,9 +252,12 @@ fn take<F: Folders>(
 ) -> Result<(), AllocError>
     requires other { is_standard (spot_of spot) ≡ false }
     requires kind { IsKind (tree_of F.Folders files.now) follow (spot_of spot) kind }
-    ensures finds { OnOk result (FindsFiles (tree_of F.Folders files.now) follow
+    ensures finds { OnOk result (FindsFiles (tree_of F.Folders files.now) (rules_said rules.now) follow
         (spot_of spot ∷ spots_of pending.old.items) (spots_of pending.new.items) found.old found.new) }
 {
+    if is_spot_left(rules, is_folder(kind), &spot) {
+        return Ok(());
+    }
     if is_folder(kind) {
         return enter(alloc, files, follow, spot, pending, found);
     }
@@ -229,7 +268,7 @@ fn take<F: Folders>(
 }
 
 /// Whether it is a folder.
-fn is_folder(kind: Kind) -> bool
+pub fn is_folder(kind: Kind) -> bool
     ensures { result ≡ is_folder kind }
 {
     match kind {
@@ -370,9 +409,10 @@ fn between(folder: &[u8], name: &[u8]) -> &'static [u8]
 }
 
 /// What a name stands for. A link is followed where that is asked for.
-fn look_at<F: Folders>(files: &F, name: &[u8], follow: bool) -> io::Result<Kind>
+pub fn look_at<F: Folders>(files: &F, name: &[u8], follow: bool) -> io::Result<Kind>
     ensures told { IfOk result (λ kind.
         IfSome (F.kinds files.now follow name.now) (λ known. kind ≡ known)) }
+    ensures lost { IfErr result (λ error. IsUnknown (tree_of F.Folders files.now) follow name.now) }
 {
     match str::from_utf8(name) {
         Ok(text) => files.look(text, follow),

@@ -1,6 +1,5 @@
 -- What was found was searched, and what cannot be read was told before.
 use Rattle.std.proofs.Common.{◌≡◌, ◌∙◌, ◌<◌, ◌≤◌, [], Bool, false, ℕ, List, ap, inl, inr, subst, sym}
-use Rattle.std.specs.Prelude.{not}
 use Rattle.programs.specs.Names.{name_bytes}
 use Rattle.programs.proofs.Lines.{some-weaker}
 use Rattle.acgrep.specs.Arguments.{said, shown_by}
@@ -8,10 +7,10 @@ use Rattle.acgrep.specs.Files.{AreFilesBegun, AreSearchedOr}
 use Rattle.acgrep.specs.Folders.{missed_of, tree_of}
 use Rattle.acgrep.specs.Listed.{listed_bytes}
 use Rattle.acgrep.specs.Reached.{TellsMissed}
-use Rattle.acgrep.specs.Runs.{AreReached, IsJob, are_several, is_alone, status_reached}
+use Rattle.acgrep.specs.Runs.{AreReached, IsJob, are_several, status_reached}
 use Rattle.acgrep.specs.Told.{IsMessage, MaySay, TellsStatus, files_told, names_told}
 use Rattle.acgrep.specs.declared.options.Shown.{Shown}
-use Rattle.acgrep.proofs.Reaching.{reached-bound, reached-low, reached-told, several-below}
+use Rattle.acgrep.proofs.Reaching.{reached-bound, reached-low, reached-told}
 use Rattle.acgrep.proofs.Told.{status-some}
 use Rattle.acgrep.proofs.below.search_below.Goals as goal
 
@@ -53,12 +52,11 @@ returns-clause-searched g c = λ p is plain low.
     let names = name_bytes c.args.operands.now.names.now in
     let files = listed_bytes c.in-Ok.found.names.items in
     let unread = missed_of c.in-Ok.found.unread.items in
-    let reached : AreReached tree flags names files unread = rw c.requires.recursive c.in-Ok.ensures.found in
+    let reached : AreReached tree given names files unread = c.in-Ok.ensures.reached in
     let listed : name_bytes c.in-Ok-slices_of.names.items ≡ files = c.in-Ok-slices_of.ensures.slices ∙ ap listed_bytes c.as_slice.ensures.value in
     let searched : name_bytes c.as_slice-3.result.now ≡ files = ap name_bytes c.as_slice-3.ensures.value ∙ listed in
     let found = c.search_found-status.result in
-    let alone : is_alone names (name_bytes c.as_slice-2.result.now) ≡ is_alone names files = ap (is_alone names) (ap name_bytes c.as_slice-2.ensures.value ∙ listed) in
-    let several : not c.is_alone.result ≡ are_several flags names files = ap not (c.is_alone.ensures ∙ alone) ∙ several-below flags names files c.requires.recursive in
+    let several : c.are_several-several.result ≡ are_several flags names files = c.are_several-several.ensures.several ∙ ap (are_several flags names) (ap name_bytes c.as_slice-2.ensures.value ∙ listed) in
     let is_job : IsJob given c.args.terminal (are_several flags names files) c.job_of-job.result = subst (λ (b : Bool). IsJob given c.args.terminal b c.job_of-job.result) several c.job_of-job.ensures.job in
     let status : c.status_below.result ≡ status_reached flags unread found = c.status_below.ensures.status ∙ ap (λ l. status_reached flags (missed_of l) found) c.as_slice-5.ensures.value in
     record {
@@ -82,12 +80,11 @@ returns-clause-begun g c = λ p is plain.
     let names = name_bytes c.args.operands.now.names.now in
     let files = listed_bytes c.in-Ok.found.names.items in
     let unread = missed_of c.in-Ok.found.unread.items in
-    let reached : AreReached tree flags names files unread = rw c.requires.recursive c.in-Ok.ensures.found in
+    let reached : AreReached tree given names files unread = c.in-Ok.ensures.reached in
     let listed : name_bytes c.in-Ok-slices_of.names.items ≡ files = c.in-Ok-slices_of.ensures.slices ∙ ap listed_bytes c.as_slice.ensures.value in
     let searched : name_bytes c.as_slice-3.result.now ≡ files = ap name_bytes c.as_slice-3.ensures.value ∙ listed in
     let found = c.search_found-status.result in
-    let alone : is_alone names (name_bytes c.as_slice-2.result.now) ≡ is_alone names files = ap (is_alone names) (ap name_bytes c.as_slice-2.ensures.value ∙ listed) in
-    let several : not c.is_alone.result ≡ are_several flags names files = ap not (c.is_alone.ensures ∙ alone) ∙ several-below flags names files c.requires.recursive in
+    let several : c.are_several-several.result ≡ are_several flags names files = c.are_several-several.ensures.several ∙ ap (are_several flags names) (ap name_bytes c.as_slice-2.ensures.value ∙ listed) in
     let is_job : IsJob given c.args.terminal (are_several flags names files) c.job_of-job.result = subst (λ (b : Bool). IsJob given c.args.terminal b c.job_of-job.result) several c.job_of-job.ensures.job in
     inr (record {
       files = files;
@@ -108,7 +105,7 @@ returns-clause-told g c =
     let names = name_bytes c.args.operands.now.names.now in
     let files = listed_bytes c.in-Ok.found.names.items in
     let unread = missed_of c.in-Ok.found.unread.items in
-    let reached : AreReached tree flags names files unread = rw c.requires.recursive c.in-Ok.ensures.found in
+    let reached : AreReached tree given names files unread = c.in-Ok.ensures.reached in
     let listed : name_bytes c.in-Ok-slices_of.names.items ≡ files = c.in-Ok-slices_of.ensures.slices ∙ ap listed_bytes c.as_slice.ensures.value in
     let searched : name_bytes c.as_slice-3.result.now ≡ files = ap name_bytes c.as_slice-3.ensures.value ∙ listed in
     let found = c.search_found-status.result in
@@ -123,4 +120,4 @@ returns-clause-told g c =
     (subst (λ (label : List ℕ). TellsStatus g.E.Sink (IsMessage (files_told c.job_of-job.result.hushed label files)) c.job_of-job.result.hushed c.job_of-job.result.shown found mid new) job.label
     (subst (λ (l : List (List ℕ)). TellsStatus g.E.Sink (IsMessage (files_told c.job_of-job.result.hushed c.job_of-job.result.label.now l)) c.job_of-job.result.hushed c.job_of-job.result.shown found mid new) searched c.search_found-status.ensures.told))) in
     subst (λ (n : ℕ). TellsStatus g.E.Sink (MaySay tree given [] names) flags.no_messages (shown_by flags) n old new) (sym status)
-    (reached-told tree given names files unread c.requires.recursive reached g.E.Sink old mid new found before after)
+    (reached-told tree given names files unread reached g.E.Sink old mid new found before after)

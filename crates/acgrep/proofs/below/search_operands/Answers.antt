@@ -1,10 +1,10 @@
 -- The operands themselves were searched, where folders are not entered.
-use Rattle.std.proofs.Common.{[], Bool, refl, inr, subst}
+use Rattle.std.proofs.Common.{◌≡◌, ◌∙◌, [], Bool, false, refl, inr, subst, sym}
 use Rattle.programs.specs.Names.{name_bytes, or_input}
 use Rattle.acgrep.specs.Arguments.{said}
 use Rattle.acgrep.specs.Folders.{tree_of}
-use Rattle.acgrep.specs.Runs.{IsJob}
-use Rattle.acgrep.proofs.Reaching.{several-plain, told-plain}
+use Rattle.acgrep.specs.Runs.{IsJob, asks_to_look}
+use Rattle.acgrep.proofs.Reaching.{looks-not, reached-plain, several-plain, told-plain}
 use Rattle.acgrep.proofs.below.search_operands.Goals as goal
 
 pub returns-clause-searched : goal.returns-clause-searched
@@ -12,12 +12,13 @@ returns-clause-searched g c = λ p is plain low.
     let given = said c.args.given.now in
     let flags = given.flags in
     let names = c.args.operands.now.names.now in
+    let none : asks_to_look given ≡ false = sym c.asks_to_look.ensures.asks ∙ c.if-asks_to_look.false in
     record {
       files = or_input (name_bytes names);
       unread = [];
-      reached = rw c.if-given.false (refl, refl);
+      reached = reached-plain (tree_of g.F.Folders c.args.operands.now.files.now) given (name_bytes names) none;
       job = c.job_of-job.result;
-      is_job = subst (λ (b : Bool). IsJob given c.args.terminal b c.job_of-job.result) (several-plain flags names (or_input (name_bytes names)) c.if-given.false) c.job_of-job.ensures.job;
+      is_job = subst (λ (b : Bool). IsJob given c.args.terminal b c.job_of-job.result) (several-plain flags names (or_input (name_bytes names)) (looks-not given none).0) c.job_of-job.ensures.job;
       found = c.search_by.result;
       searched = c.search_by.ensures.searched p is plain low;
       told = refl;
@@ -28,12 +29,13 @@ returns-clause-begun g c = λ p is plain.
     let given = said c.args.given.now in
     let flags = given.flags in
     let names = c.args.operands.now.names.now in
+    let none : asks_to_look given ≡ false = sym c.asks_to_look.ensures.asks ∙ c.if-asks_to_look.false in
     inr (record {
       files = or_input (name_bytes names);
       unread = [];
-      reached = rw c.if-given.false (refl, refl);
+      reached = reached-plain (tree_of g.F.Folders c.args.operands.now.files.now) given (name_bytes names) none;
       job = c.job_of-job.result;
-      is_job = subst (λ (b : Bool). IsJob given c.args.terminal b c.job_of-job.result) (several-plain flags names (or_input (name_bytes names)) c.if-given.false) c.job_of-job.ensures.job;
+      is_job = subst (λ (b : Bool). IsJob given c.args.terminal b c.job_of-job.result) (several-plain flags names (or_input (name_bytes names)) (looks-not given none).0) c.job_of-job.ensures.job;
       begun = c.search_by.ensures.begun p is plain;
     })
 

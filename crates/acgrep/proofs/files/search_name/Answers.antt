@@ -12,8 +12,8 @@ returns-then-is_input-clause-told g c = λ names is.
     let input : is_input c.args.name.now ≡ true = sym c.is_input.ensures ∙ c.if-is_input.true in
     let same : shown_name c.args.job.now.label.now c.args.name.now ≡ c.args.job.now.label.now = rw input refl in
     let hushed = c.job_for-named.ensures.named.hushed in
-    subst (λ (b : Bool). TellsOutcome g.E.Sink (IsMessage names) b c.search_one.result c.args.errors.now c.search_one.new.errors) hushed
-    (c.search_one.ensures.told names (λ asked. subst (λ (n : List ℕ). IsOneOf n names) (same ∙ sym c.job_for-named.ensures.named.name) (is (sym hushed ∙ asked))))
+    subst (λ (b : Bool). TellsOutcome g.E.Sink (IsMessage names) b c.search_input.result c.args.errors.now c.search_input.new.errors) hushed
+    (c.search_input.ensures.told names (λ asked. subst (λ (n : List ℕ). IsOneOf n names) (same ∙ sym c.job_for-named.ensures.named.name) (is (sym hushed ∙ asked))))
 
 pub returns-clause-told : goal.returns-clause-told
 returns-clause-told g c = λ names is.
@@ -30,18 +30,18 @@ returns-then-is_input-clause-searched g c = λ p is plain.
     let holds = g.F.Open.holds c.args.files.now in
     let name = c.args.name.now in
     let left = g.R.Read.remaining c.args.input.now in
-    let left' = g.R.Read.remaining c.search_one.new.reader in
+    let left' = g.R.Read.remaining c.search_input.new.input in
     let held = g.W.Sink.taken c.args.output.now in
-    let held' = g.W.Sink.taken c.search_one.new.output in
-    if_searched c.search_one.result (SearchesReader p named left left' held held') (SearchesName p job c.args.follows holds name left left' held held')
-    (input_searched p job named c.args.follows holds name left left' held held' (sym c.is_input.ensures ∙ c.if-is_input.true) c.job_for-named.ensures.named) (c.search_one.ensures.searched p is plain)
+    let held' = g.W.Sink.taken c.search_input.new.output in
+    if_searched c.search_input.result (SearchesReader p named left left' held held') (SearchesName p job c.args.follows holds name left left' held held')
+    (input_searched p job named c.args.follows holds name left left' held held' (sym c.is_input.ensures ∙ c.if-is_input.true) c.job_for-named.ensures.named) (c.search_input.ensures.searched p is plain)
 
 pub returns-then-is_input-clause-begun : goal.returns-then-is_input-clause-begun
 returns-then-is_input-clause-begun g c = λ p is plain.
-    if_broken c.search_one.result
+    if_broken c.search_input.result
     (input_begun p c.args.job.now c.job_for-named.result c.args.follows (g.F.Open.holds c.args.files.now) c.args.name.now (g.R.Read.remaining c.args.input.now)
-    (g.W.Sink.taken c.args.output.now) (g.W.Sink.taken c.search_one.new.output) (sym c.is_input.ensures ∙ c.if-is_input.true) c.job_for-named.ensures.named)
-    (c.search_one.ensures.begun p is plain)
+    (g.W.Sink.taken c.args.output.now) (g.W.Sink.taken c.search_input.new.output) (sym c.is_input.ensures ∙ c.if-is_input.true) c.job_for-named.ensures.named)
+    (c.search_input.ensures.begun p is plain)
 
 pub returns-clause-searched : goal.returns-clause-searched
 returns-clause-searched g c = λ p is plain.

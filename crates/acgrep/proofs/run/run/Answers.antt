@@ -1,12 +1,12 @@
 -- What was said was done, and a flush keeps what was written.
 use Rattle.std.proofs.Common.{false, ◌||◌, ◌≡◌, ◌<◌, ◌≤◌, ◌∙◌, Option, Some, ap, ℕ, inl, inr, arith, subst, sym}
-use Rattle.programs.specs.Arguments.{texts}
 use Rattle.acgrep.specs.Arguments.{Said, said, said_by, shown_by}
 use Rattle.acgrep.specs.Runs.{AsksToSearch, BeginsSearch, GivesNone, Searches}
 use Rattle.acgrep.proofs.Kept.{begins_held, same_said, searches_kept}
 use Rattle.programs.specs.Telling.{Tells, TellsSome}
 use Rattle.programs.proofs.Lines.{some-tells, some-weaker}
 use Rattle.acgrep.specs.Folders.{known_by, tree_of}
+use Rattle.acgrep.specs.Listed.{listed_bytes}
 use Rattle.acgrep.specs.Told.{MaySaid, MayTell, is_hushed, names_said}
 use Rattle.acgrep.specs.Mistakes.{TellsLacking, TellsMistake, TellsNoPattern}
 use Rattle.acgrep.proofs.Mistaken.{mistake-told, refused-lacking}
@@ -22,7 +22,7 @@ returns-in-Ok-clause-searches g c given is asks low =
     let held = g.W.Sink.taken c.args.output.now in
     let held' = g.W.Sink.taken c.answer-status.new.output in
     let held'' = g.W.Sink.taken c.finish.new.output in
-    let same : said c.in-Ok.given ≡ given = same_said (said_by (texts c.args.arguments.now)) given (said c.in-Ok.given) is c.in-Ok.ensures.read in
+    let same : said c.in-Ok.given ≡ given = same_said (said_by (listed_bytes c.args.arguments.now)) given (said c.in-Ok.given) is c.in-Ok.ensures.read in
     let status : c.finish.result ≡ c.answer-status.result = elim c.finish.ensures.status [ inl kept ↦ kept | inr two ↦ absurd (omega (arith, low, two)) ] in
     let done : Searches known terminal (said c.in-Ok.given) left left' held held' c.answer-status.result =
     c.answer-status.ensures.searches (subst (λ (s : Said). AsksToSearch s.flags) (sym same) asks) (subst (λ (n : ℕ). n < 2) status low) in
@@ -42,7 +42,7 @@ returns-in-Ok-clause-begins g c given is asks =
     let held = g.W.Sink.taken c.args.output.now in
     let held' = g.W.Sink.taken c.answer-status.new.output in
     let held'' = g.W.Sink.taken c.finish.new.output in
-    let same : said c.in-Ok.given ≡ given = same_said (said_by (texts c.args.arguments.now)) given (said c.in-Ok.given) is c.in-Ok.ensures.read in
+    let same : said c.in-Ok.given ≡ given = same_said (said_by (listed_bytes c.args.arguments.now)) given (said c.in-Ok.given) is c.in-Ok.ensures.read in
     let done : BeginsSearch known terminal (said c.in-Ok.given) left held held' = c.answer-status.ensures.begins (subst (λ (s : Said). AsksToSearch s.flags) (sym same) asks) in
     let kept : BeginsSearch known terminal (said c.in-Ok.given) left held held'' = begins_held held' held'' c.finish.ensures.kept known terminal _ _ _ left held done in
     subst (λ (s : Said). BeginsSearch known terminal s left held held'') same kept
@@ -76,13 +76,13 @@ returns-in-Ok-clause-silent g c given is loud low =
     let bound : c.finish.result ≤ 2 = elim c.finish.ensures.status [ inl kept ↦ omega (arith, kept, c.answer-status.ensures.bound) | inr two ↦ omega (arith, two) ] in
     let told = finished g.E.Sink names (MaySaid tree (Some (said c.in-Ok.given))) (λ line is. inl (inl is)) c.in-Ok.given.flags.no_messages (shown_by c.in-Ok.given.flags) c.answer-status.result c.finish.result c.args.errors.now c.answer-status.new.errors c.finish.new.errors
     c.answer-status.ensures.bound bound c.finish.ensures.status c.answer-status.ensures.told c.finish.ensures.silent c.finish.ensures.told_before (λ low two. c.finish.ensures.told low two names) in
-    let same : said c.in-Ok.given ≡ given = same_said (said_by (texts c.args.arguments.now)) given (said c.in-Ok.given) is c.in-Ok.ensures.read in
+    let same : said c.in-Ok.given ≡ given = same_said (said_by (listed_bytes c.args.arguments.now)) given (said c.in-Ok.given) is c.in-Ok.ensures.read in
     let flags = c.in-Ok.given.flags in
     told.silent low (λ quiet. not-quiet flags.quiet flags.names flags.lacking flags.count (flags.json || flags.formatted) flags.only_matching quiet (ap (λ (s : Said). s.flags.quiet) same ∙ loud))
 
 pub returns-in-Err-clause-tells : goal.returns-in-Err-clause-tells
 returns-in-Err-clause-tells g c =
-    let given = said_by (texts c.args.arguments.now) in
+    let given = said_by (listed_bytes c.args.arguments.now) in
     let tree = tree_of g.F.Folders c.args.files.now in
     subst (Tells g.E.Sink (MaySaid tree given) c.args.errors.now) (sym (c.finish-in-Err.ensures.told_before (omega arith)))
     (some-tells g.E.Sink (MaySaid tree given) c.args.errors.now c.tell_refused.new.errors
@@ -90,20 +90,20 @@ returns-in-Err-clause-tells g c =
 
 pub returns-in-Err-clause-says_why : goal.returns-in-Err-clause-says_why
 returns-in-Err-clause-says_why g c = λ asked failed.
-    let given = said_by (texts c.args.arguments.now) in
+    let given = said_by (listed_bytes c.args.arguments.now) in
     let tree = tree_of g.F.Folders c.args.files.now in
     subst (TellsSome g.E.Sink (MaySaid tree given) c.args.errors.now) (sym (c.finish-in-Err.ensures.told_before (omega arith)))
     (some-weaker g.E.Sink (MayTell (names_said given)) (MaySaid tree given) c.args.errors.now c.tell_refused.new.errors (told-said tree given) (c.tell_refused.ensures.told (names_said given)))
 
 pub returns-in-Err-clause-mistake : goal.returns-in-Err-clause-mistake
 returns-in-Err-clause-mistake g c wrong =
-    let arguments = texts c.args.arguments.now in
+    let arguments = listed_bytes c.args.arguments.now in
     subst (TellsMistake g.E.Sink arguments c.args.errors.now) (sym (c.finish-in-Err.ensures.told_before (omega arith)))
     (mistake-told g.E.Sink arguments c.in-Err.refusal c.args.errors.now c.tell_refused.new.errors c.in-Err.ensures.wrong c.tell_refused.ensures.exact)
 
 pub returns-in-Ok-clause-lacking : goal.returns-in-Ok-clause-lacking
 returns-in-Ok-clause-lacking g c given is asks none =
-    let same : said c.in-Ok.given ≡ given = same_said (said_by (texts c.args.arguments.now)) given (said c.in-Ok.given) is c.in-Ok.ensures.read in
+    let same : said c.in-Ok.given ≡ given = same_said (said_by (listed_bytes c.args.arguments.now)) given (said c.in-Ok.given) is c.in-Ok.ensures.read in
     let asks' = subst (λ (s : Said). AsksToSearch s.flags) (sym same) asks in
     let none' = subst GivesNone (sym same) none in
     let two : c.answer-status.result ≡ 2 = c.answer-status.ensures.patternless asks' none' in
@@ -111,6 +111,6 @@ returns-in-Ok-clause-lacking g c given is asks none =
 
 pub returns-in-Err-clause-lacking : goal.returns-in-Err-clause-lacking
 returns-in-Err-clause-lacking g c given is asks none =
-    let arguments = texts c.args.arguments.now in
+    let arguments = listed_bytes c.args.arguments.now in
     subst (TellsLacking g.E.Sink c.args.errors.now) (sym (c.finish-in-Err.ensures.told_before (omega arith)))
     (refused-lacking g.E.Sink (said_by arguments) given c.in-Err.refusal c.args.errors.now c.tell_refused.new.errors is c.in-Err.ensures.refused c.tell_refused.ensures.exact)

@@ -1,7 +1,8 @@
 -- What was found so far.
 use Rattle.programs.specs.Names.{name_bytes}
 use Rattle.acgrep.specs.Folders.{Begins, spots_of, tree_of}
+use Rattle.acgrep.specs.Rules.{rules_said}
 use Rattle.acgrep.proofs.walk.walk.Given as goal
 
 abbrev pub invariant-loop : goal.invariant-loop
-invariant-loop g l = Begins (tree_of g.F.Folders l.fn.files) l.fn.follow (name_bytes l.fn.operands) (spots_of l.pending.items) l.found
+invariant-loop g l = Begins (tree_of g.F.Folders l.fn.files) (rules_said l.fn.rules) l.fn.follow (name_bytes l.fn.operands) (spots_of l.pending.items) l.found

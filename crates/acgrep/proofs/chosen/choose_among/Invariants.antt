@@ -1,0 +1,13 @@
+-- What was chosen so far.
+use Rattle.std.proofs.Common.{length}
+use Rattle.programs.specs.Names.{name_bytes}
+use Rattle.acgrep.specs.Folders.{tree_of}
+use Rattle.acgrep.specs.Rules.{rules_said}
+use Rattle.acgrep.proofs.Choosing.{AreSoFar}
+use Rattle.acgrep.proofs.chosen.choose_among.Given as goal
+
+abbrev pub invariant-loop-rest : goal.invariant-loop-rest
+invariant-loop-rest g l = AreSoFar (tree_of g.F.Folders l.fn.files) (rules_said l.fn.rules) (name_bytes l.fn.names) (name_bytes l.rest) l.found
+
+abbrev pub decreases-loop-rest : goal.decreases-loop-rest
+decreases-loop-rest g l = length l.rest

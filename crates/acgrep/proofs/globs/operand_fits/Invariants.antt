@@ -1,0 +1,10 @@
+-- What is left decides.
+use Rattle.std.proofs.Common.{◌≡◌, length}
+use Rattle.acgrep.specs.Globs.{operand_fits, tails_fit}
+use Rattle.acgrep.proofs.globs.operand_fits.Given as goal
+
+abbrev pub invariant-loop-first : goal.invariant-loop-first
+invariant-loop-first l = operand_fits l.fn.glob l.fn.name ≡ tails_fit l.fn.glob l.rest
+
+abbrev pub decreases-loop-first : goal.decreases-loop-first
+decreases-loop-first l = length l.rest

@@ -1,0 +1,43 @@
+//! The arguments of a call, which may be any bytes.
+
+use std::alloc::{Alloc, AllocError, Global};
+use std::env::{Env, FillError};
+
+/// How long an argument may be at first.
+const FIRST_LENGTH: usize = 4096;
+
+/// The arguments after the program's name, in order.
+pub fn arguments<R: Env + Alloc<A = Global>>(rt: &R) -> Result<Vec<Vec<u8>>, AllocError> {
+    let mut arguments = Vec::new(rt.alloc());
+    let mut buffer = Vec::new(rt.alloc());
+    buffer.resize(FIRST_LENGTH, 0)?;
+    for number in 1..usize::MAX {
+        if !push_argument(rt, number, &mut buffer, &mut arguments)? {
+            return Ok(arguments);
+        }
+    }
+    Err(AllocError)
+}
+
+/// Adds the argument of a number, and answers whether there is one. It is put into a buffer first, which grows.
+fn push_argument<R: Env + Alloc<A = Global>>(
+    rt: &R,
+    number: usize,
+    buffer: &mut Vec<u8>,
+    arguments: &mut Vec<Vec<u8>>,
+) -> Result<bool, AllocError> {
+    for _ in 0..u64::MAX {
+        match rt.arg(number, buffer.as_mut_slice()) {
+            Ok(length) => {
+                arguments.push(Vec::from_slice(rt.alloc(), &buffer[..length])?)?;
+                return Ok(true);
+            }
+            Err(FillError::NotPresent) => return Ok(false),
+            Err(FillError::TooLong) => {
+                let longer = buffer.len().saturating_mul(2);
+                buffer.resize(longer, 0)?;
+            }
+        }
+    }
+    Err(AllocError)
+}
