@@ -33,5 +33,7 @@ pub mod Failures
 pub mod Calls
 pub mod Checks
 pub mod Statuses
+-- by what a walk backward redacts
+pub mod Back
 -- a file for the output
 pub mod Into

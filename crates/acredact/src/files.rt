@@ -1,6 +1,8 @@
 //! The redaction of files, one after another.
 
 ghost use Rattle.std.specs.Prelude.{◌≡◌, ◌&&◌, ℕ, List, None, Ok, Option, OnOk, false, true};
+ghost use Rattle.aho_core.specs.Patterns.{Patterns};
+ghost use Rattle.aho_backward.specs.Searcher.{IsBackwardOf};
 ghost use Rattle.aho_devices.specs.Counts.{counted};
 ghost use Rattle.programs.specs.Names.{is_input};
 ghost use Rattle.programs.specs.Streams.{bytes_left};
@@ -12,6 +14,7 @@ ghost use Rattle.acredact.specs.Streams.{StreamOutcome};
 ghost use Rattle.acredact.specs.Volumes.{AddsFile, AddsOpened, AddsText, AddsStream, FileVolume, JobVolume, files_with};
 ghost use Rattle.acredact.specs.Ways.{IfBy, Redacts};
 
+use crate::back::Backing;
 use crate::failure::{tell_output, tell_unread};
 use crate::folder::Folder;
 use crate::meter::{Known, Lent, Metered};
@@ -19,6 +22,7 @@ use crate::streams::Streams;
 use crate::summary::Volume;
 use crate::ways::{Covering, Replacing, Way};
 use aho_automaton::automaton::Automaton;
+use aho_backward::backward::Backward;
 use aho_core::error::StreamError;
 use aho_cover::start::StreamCoverStart;
 use aho_devices::adapters::{FromRead, FromWrite};
@@ -116,6 +120,39 @@ fn replace_files<A: Automaton, F: Folder, I: Read, W: Write, E: Sink>(
         alloc: job.alloc,
         automaton,
         replacements: job.replacements,
+    };
+    redact_flushed(&mut way, job, counts, volume, streams)
+}
+
+/// Redacts all files by matches that share no byte, by a walk backward of the same patterns; by covers where these are asked for.
+pub fn back_files<A: Automaton, B: Automaton, F: Folder, I: Read, W: Write, E: Sink>(
+    automaton: &A,
+    searcher: &Backward<B>,
+    job: &Job<'_, '_, F>,
+    counts: &mut [u64],
+    volume: &mut Volume,
+    streams: &mut Streams<'_, I, W, E>,
+) -> Result<bool, StreamError>
+    requires ready { CanDo A.Automaton automaton.now job.now }
+    requires both { (p : Patterns) × A.is_of automaton.now p × IsBackwardOf B.Automaton searcher.now p }
+    ensures outcome { IfOf A.Automaton automaton.now (λ p. IsBackwardOf B.Automaton searcher.now p
+        → FilesOutcome W.Write E.Sink (work_of F.Folder job.now (redactor_of job.now p)) result streams.old streams.new) }
+    ensures counted { IfOf A.Automaton automaton.now (λ p. IsBackwardOf B.Automaton searcher.now p
+        → JobCounts F.Folder job.now result streams.old streams.new counts.old counts.new p) }
+    ensures read { JobVolume F.Folder job.now result volume.old volume.new streams.old streams.new }
+    ensures flushed { OnOk result (streams.new.output.device.flushed ≡ true) }
+{
+    if job.covers {
+        return cover_files(automaton, job, counts, volume, streams);
+    }
+    let replacing = Replacing {
+        alloc: job.alloc,
+        automaton,
+        replacements: job.replacements,
+    };
+    let mut way = Backing {
+        searcher,
+        replacing,
     };
     redact_flushed(&mut way, job, counts, volume, streams)
 }

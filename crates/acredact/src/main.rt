@@ -8,6 +8,7 @@
 #![tactic(auto)]
 
 mod arguments;
+mod back;
 mod check;
 mod clean;
 mod counts;
