@@ -14,9 +14,9 @@ use Rattle.acredact.specs.Ways.{IsRedactor}
 abbrev pub IfBack : {A : Type 0} → Ghosts A → Backward A → (Patterns → Type 0) → Type 0
 IfBack G searcher Holds = (p : Patterns) → IsBackwardOf G searcher p → Holds p
 
--- it gives those of these words, by the kind and the case rule that are given
-abbrev pub IsBackAsked : {A : Type 0} → Ghosts A → List Given → List (List ℕ) → Backward A → Type 0
-IsBackAsked G given words searcher = IsBackwardOf G searcher (patterns_by_given given words)
+-- where there is one, it gives those of these words, by the kind and the case rule that are given
+abbrev pub IsBackAsked : {A : Type 0} → Ghosts A → List Given → List (List ℕ) → Option (Backward A) → Type 0
+IsBackAsked G given words searcher = IfSome searcher (λ searcher. IsBackwardOf G searcher (patterns_by_given given words))
 
 -- it and an automaton redact so, with these replacements
 pub record IsBacking {A B : Type 0} (G : Ghosts A) (H : Ghosts B) (searcher : Backward B) (automaton : A) (replacements : List (Bor (List ℕ))) (r : Redactor) : Type 0 where

@@ -1,7 +1,7 @@
 //! The redaction by a leftmost kind where patterns go far beyond others that occur in them: by a walk backward, which looks up at most
 //! four transitions for each byte whatever the patterns are.
 
-ghost use Rattle.std.specs.Prelude.{◌≡◌, IfOk, IfSome, IsOk, false};
+ghost use Rattle.std.specs.Prelude.{◌≡◌, IfOk, IsOk, false};
 ghost use Rattle.aho_core.specs.Patterns.{Patterns};
 ghost use Rattle.aho_core.specs.Replacement.{pieces_of};
 ghost use Rattle.aho_core.specs.declared.search.Anchored.TheVariants.{No};
@@ -36,8 +36,8 @@ pub fn back_of(
 ) -> Result<Option<Backward<NFA>>, AllocError>
     requires of { (p : Patterns) × ⟦<NFA as Automaton>⟧.is_of nfa.now p }
     requires starts { IsOk (⟦<NFA as Automaton>⟧.start nfa.now No) }
-    ensures of { IfOk result (λ back. IfSome back (λ back.
-        IsBackAsked ⟦<NFA as Automaton>⟧ (all_given given.now) (pieces_of words.now) back)) }
+    ensures of { IfOk result
+        (IsBackAsked ⟦<NFA as Automaton>⟧ (all_given given.now) (pieces_of words.now)) }
 {
     if covers(given) || counts(given) || !is_worth_it(nfa, words) {
         return Ok(None);
