@@ -52,6 +52,6 @@ module _ {R W : Type 0} (S : SourceGhosts R) (K : SinkGhosts W) where
     pub only : IfErr result IsStreamEnd
 
 -- of one that is redacted by the patterns of an automaton, by a cover or not, with these replacements
-abbrev pub OutcomeBy : {A R W : Type 0} → Ghosts A → SourceGhosts R → SinkGhosts W → A → (covers : Bool) → List (Bor (List ℕ)) → Result (Unit {0}) StreamError → (source source' : R) (sink sink' : W) → Type 0
-OutcomeBy G S K automaton covers replacements result source source' sink sink' =
+abbrev pub ComesOf : {A R W : Type 0} → Ghosts A → SourceGhosts R → SinkGhosts W → A → (covers : Bool) → List (Bor (List ℕ)) → Result (Unit {0}) StreamError → (source source' : R) (sink sink' : W) → Type 0
+ComesOf G S K automaton covers replacements result source source' sink sink' =
     IfOf G automaton (λ p. StreamOutcome S K (redactor_by p covers replacements) result source source' sink sink')
