@@ -13,6 +13,8 @@ mod Done
 mod Totals
 -- how an automaton redacts streams
 mod Suited
+-- what a walk backward writes
+mod Backed
 mod Loaded
 -- how many bytes a source gives
 mod Metering
@@ -28,5 +30,6 @@ mod Statuses
 -- what is seen of files
 mod Looks
 mod Checks
-mod Reading
+mod LongNames
+mod Readings
 mod Ready

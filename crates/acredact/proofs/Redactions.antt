@@ -108,6 +108,30 @@ module _ {R W : Type 0} {S : SourceGhosts R} {K : SinkGhosts W} {r : Redactor} {
     written = whole.written;
   }
 
+-- what replaces the finds of the patterns that are searched for redacts by these
+module _ {R W : Type 0} (S : SourceGhosts R) (K : SinkGhosts W) (r : Redactor) (plain : r.covers ≡ false) (AreSearched : Patterns → Type 0) (of : AreSearched r.patterns)
+    (some : 1 ≤ shortest (map length r.patterns.words)) (source source' : R) (sink sink' : W) where
+  pub whole_by : ReplacesStream S K AreSearched r.pieces source source' sink sink' → RedactsStream S K r source source' sink sink'
+  whole_by whole =
+      let finds = finds-exist r.patterns (plain_search whole.given) None (le_refl (length whole.given)) in
+      record {
+        text = whole.given;
+        gives = whole.gives;
+        redaction = replaced whole.given finds.0 r.pieces;
+        redacts = redaction_by r some whole.given finds.0 (of_finds r plain whole.given finds.0 finds.1);
+        written = whole.writes r.patterns finds.0 of finds.1;
+      }
+
+  pub begun_by : BeginsReplacing S K AreSearched r.pieces source source' sink sink' → StartsStream S K r source source' sink sink'
+  begun_by begun = record {
+    given = begun.given;
+    ended = begun.ended;
+    gives = begun.gives;
+    part = begun.written;
+    begins = begins_by r some begun.given begun.ended begun.written (λ text ms may found. begun.beginning r.patterns text ms of may (to_finds r plain text ms found));
+    written = begun.writes;
+  }
+
 -- no pattern is empty of an automaton that can search streams
 pub some_of : {A : Type 0} (G : Ghosts A) (automaton : A) (p : Patterns) → G.lengths automaton ≡ map length p.words → CanBegin G automaton → 1 ≤ shortest (map length p.words)
 some_of G automaton p are can = subst (λ (ns : List ℕ). 1 ≤ shortest ns) are can.1
@@ -116,27 +140,6 @@ module _ {A R W : Type 0} (G : Ghosts A) (S : SourceGhosts R) (K : SinkGhosts W)
     (are : G.lengths automaton ≡ map length r.patterns.words) (can : CanBegin G automaton) (source source' : R) (sink sink' : W) where
   pub some_by : 1 ≤ shortest (map length r.patterns.words)
   some_by = some_of G automaton r.patterns are can
-
-  whole_of : ReplacesStream S K (G.is_of automaton) r.pieces source source' sink sink' → RedactsStream S K r source source' sink sink'
-  whole_of whole =
-      let finds = finds-exist r.patterns (plain_search whole.given) None (le_refl (length whole.given)) in
-      record {
-        text = whole.given;
-        gives = whole.gives;
-        redaction = replaced whole.given finds.0 r.pieces;
-        redacts = redaction_by r some_by whole.given finds.0 (of_finds r plain whole.given finds.0 finds.1);
-        written = whole.writes r.patterns finds.0 of finds.1;
-      }
-
-  begun_of : BeginsReplacing S K (G.is_of automaton) r.pieces source source' sink sink' → StartsStream S K r source source' sink sink'
-  begun_of begun = record {
-    given = begun.given;
-    ended = begun.ended;
-    gives = begun.gives;
-    part = begun.written;
-    begins = begins_by r some_by begun.given begun.ended begun.written (λ text ms may found. begun.beginning r.patterns text ms of may (to_finds r plain text ms found));
-    written = begun.writes;
-  }
 
   -- what suits is not refused
   never_refused : (result : Result (Unit {0}) StreamError) (error : StreamError) → result ≡ Err error
@@ -157,8 +160,8 @@ module _ {A R W : Type 0} (G : Ghosts A) (S : SourceGhosts R) (K : SinkGhosts W)
       → ((sid : ℕ) (reason : MatchErrorKind) → 1 ≤ shortest (G.lengths automaton) → G.start automaton No ≡ Ok sid → result ≢ Err (Refused reason))
       → StreamOutcome S K r result source source' sink sink'
   outcome_of (Ok x) whole begun read_failed write_failed took_nothing limit suits = record {
-    redacted = whole_of whole;
-    begun = starts_whole (whole_of whole);
+    redacted = whole_by S K r plain (G.is_of automaton) of some_by source source' sink sink' whole;
+    begun = starts_whole (whole_by S K r plain (G.is_of automaton) of some_by source source' sink sink' whole);
     read_failed = read_failed;
     write_failed = write_failed;
     took_nothing = took_nothing;
@@ -167,7 +170,7 @@ module _ {A R W : Type 0} (G : Ghosts A) (S : SourceGhosts R) (K : SinkGhosts W)
   }
   outcome_of (Err error) whole begun read_failed write_failed took_nothing limit suits = record {
     redacted = tt;
-    begun = begun_of begun;
+    begun = begun_by S K r plain (G.is_of automaton) of some_by source source' sink sink' begun;
     read_failed = read_failed;
     write_failed = write_failed;
     took_nothing = took_nothing;

@@ -1,4 +1,5 @@
 -- what the arguments ask for, and what is told of wrong ones
+pub mod Long
 pub mod Arguments
 pub mod Messages
 pub mod Mistakes
@@ -33,5 +34,7 @@ pub mod Failures
 pub mod Calls
 pub mod Checks
 pub mod Statuses
+-- by what a walk backward redacts
+pub mod Back
 -- a file for the output
 pub mod Into

@@ -1,17 +1,21 @@
 //! The redaction of files, one after another.
 
 ghost use Rattle.std.specs.Prelude.{◌≡◌, ◌&&◌, ℕ, List, None, Ok, Option, OnOk, false, true};
+ghost use Rattle.aho_core.specs.Patterns.{Patterns};
+ghost use Rattle.aho_backward.specs.Searcher.{IsBackwardOf};
 ghost use Rattle.aho_devices.specs.Counts.{counted};
 ghost use Rattle.programs.specs.Names.{is_input};
 ghost use Rattle.programs.specs.Streams.{bytes_left};
+ghost use Rattle.acredact.specs.Back.{BackCounts, BackOutcome};
 ghost use Rattle.acredact.specs.Faults.{is_unread, reading_of};
-ghost use Rattle.acredact.specs.Files.{CanDo, FileOutcome, FilesOutcome, InputOutcome, JobOutcome, OpenedOutcome, ToldJob, work_of};
+ghost use Rattle.acredact.specs.Files.{CanDo, FileJob, FilesOutcome, InputOutcome, JobOutcome, OpenedOutcome, ToldJob, work_of};
 ghost use Rattle.acredact.specs.Secrets.{IfOf, Redactor};
 ghost use Rattle.acredact.specs.Totals.{CountsFile, CountsJob, CountsOfStream, CountsOfText, CountsOpened, CountsTold, JobCounts};
 ghost use Rattle.acredact.specs.Streams.{StreamOutcome};
 ghost use Rattle.acredact.specs.Volumes.{AddsFile, AddsOpened, AddsText, AddsStream, FileVolume, JobVolume, files_with};
 ghost use Rattle.acredact.specs.Ways.{IfBy, Redacts};
 
+use crate::back::Backing;
 use crate::failure::{tell_output, tell_unread};
 use crate::folder::Folder;
 use crate::meter::{Known, Lent, Metered};
@@ -19,6 +23,7 @@ use crate::streams::Streams;
 use crate::summary::Volume;
 use crate::ways::{Covering, Replacing, Way};
 use aho_automaton::automaton::Automaton;
+use aho_backward::backward::Backward;
 use aho_core::error::StreamError;
 use aho_cover::start::StreamCoverStart;
 use aho_devices::adapters::{FromRead, FromWrite};
@@ -116,6 +121,39 @@ fn replace_files<A: Automaton, F: Folder, I: Read, W: Write, E: Sink>(
         alloc: job.alloc,
         automaton,
         replacements: job.replacements,
+    };
+    redact_flushed(&mut way, job, counts, volume, streams)
+}
+
+/// Redacts all files by matches that share no byte, by a walk backward of the same patterns; by covers where these are asked for.
+pub fn back_files<A: Automaton, B: Automaton, F: Folder, I: Read, W: Write, E: Sink>(
+    automaton: &A,
+    searcher: &Backward<B>,
+    job: &Job<'_, '_, F>,
+    counts: &mut [u64],
+    volume: &mut Volume,
+    streams: &mut Streams<'_, I, W, E>,
+) -> Result<bool, StreamError>
+    requires ready { CanDo A.Automaton automaton.now job.now }
+    requires both { (p : Patterns) × A.is_of automaton.now p × IsBackwardOf B.Automaton searcher.now p }
+    ensures outcome { BackOutcome W.Write E.Sink A.Automaton B.Automaton F.Folder
+        automaton.now searcher.now job.now result streams.old streams.new }
+    ensures counted { BackCounts A.Automaton B.Automaton F.Folder automaton.now searcher.now job.now
+        result streams.old streams.new counts.old counts.new }
+    ensures read { JobVolume F.Folder job.now result volume.old volume.new streams.old streams.new }
+    ensures flushed { OnOk result (streams.new.output.device.flushed ≡ true) }
+{
+    if job.covers {
+        return cover_files(automaton, job, counts, volume, streams);
+    }
+    let replacing = Replacing {
+        alloc: job.alloc,
+        automaton,
+        replacements: job.replacements,
+    };
+    let mut way = Backing {
+        searcher,
+        replacing,
     };
     redact_flushed(&mut way, job, counts, volume, streams)
 }
@@ -247,8 +285,8 @@ fn redact_file<X: Way, F: Folder, I: Read, W: Write>(
     output: &mut FromWrite<W>,
 ) -> Result<Option<Reason>, StreamError>
     requires ready { (r : Redactor) × Redacts X.Way way.old r }
-    ensures outcome { IfBy X.Way way.old (λ r. FileOutcome W.Write
-        (work_of F.Folder job.now r) name.now result input.old input.new output.old output.new) }
+    ensures outcome { IfBy X.Way way.old (FileJob W.Write F.Folder job.now name.now
+        result input.old input.new output.old output.new) }
     ensures counted { IfBy X.Way way.old (CountsFile F.Folder job.now name.now
         result input.old input.new counts.old counts.new) }
     ensures read { result ≡ Ok None → AddsFile (F.holds job.now.folder.now) name.now

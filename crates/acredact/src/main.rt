@@ -8,6 +8,7 @@
 #![tactic(auto)]
 
 mod arguments;
+mod back;
 mod check;
 mod clean;
 mod counts;
@@ -16,6 +17,7 @@ mod files;
 mod folder;
 mod into;
 mod load;
+mod long;
 mod look;
 mod meter;
 mod outputs;

@@ -7,11 +7,12 @@ ghost use Rattle.programs.specs.Names.{name_bytes};
 ghost use Rattle.programs.specs.Streams.{WritesBytes, bytes_left};
 ghost use Rattle.programs.specs.Telling.{Tells, TellsBytes, TellsSome};
 ghost use Rattle.acredact.specs.Arguments.{AreMistaken, AsksToRedact, GivesNoPattern, IfAsked, IfChecking, IfNoCheck, IsCheck, RefusesUnclean, all_given, checks_asked, counts_asked, counts_given, has};
+ghost use Rattle.acredact.specs.Back.{AreBoth, FilesJob, IfBackIs, RowsCounts, RowsOutcome};
 ghost use Rattle.acredact.specs.Calls.{AskedOutcome, BeginsAsked, CountsAsked, IsCountsFailure, IsCountsLine, IsPrintFailure, IsRefusedLine, IsWrongLine, LeavesNoneAsked, LoadedOutcome, OutputFails, ReadsAsked, RedactsAsked, TellsAsked, TellsAnyCounts, WarnedJob, WarnedOutcome, WarnsAsked, call_of, gives_pattern, names_asked, text_asked, work_by};
 ghost use Rattle.acredact.specs.Checks.{MatchedAsked, SaysOfCheck, TellsUncheckedAsked, UnmatchedAsked};
 ghost use Rattle.acredact.specs.Counts.{PutsText, lines_of_rules, zeros};
 ghost use Rattle.acredact.specs.Failures.{IsFailureLine};
-ghost use Rattle.acredact.specs.Files.{CanDo, FilesOutcome, redactor_of, work_of};
+ghost use Rattle.acredact.specs.Files.{CanDo};
 ghost use Rattle.acredact.specs.Pieces.{IfOfAll, TellsUnclean, pieces_by};
 ghost use Rattle.acredact.specs.Secrets.{IfOf};
 ghost use Rattle.acredact.specs.Statuses.{SaysOfRedaction};
@@ -26,11 +27,12 @@ ghost use Rattle.acredact.specs.declared.arguments.Word.TheVariants.{Strict};
 use crate::arguments::{
     Item, Mistake, Word, checks, counts, covers, has, is_same, items, last_value,
 };
+use crate::back::back_of;
 use crate::check::check;
 use crate::clean::{Judge, Unclean, unclean_of};
 use crate::counts::{counts_of, put_counts};
 use crate::failure::{Failure, tell_failure, tell_unclean};
-use crate::files::{Job, redact_files};
+use crate::files::{Job, back_files, redact_files};
 use crate::folder::Folder;
 use crate::load::{lists_of, rules};
 use crate::patterns::{Rule, patterns_of, replacements_of};
@@ -38,6 +40,7 @@ use crate::rows::build;
 use crate::streams::Streams;
 use crate::summary::{Volume, put_summary};
 use aho_automaton::automaton::Automaton;
+use aho_backward::backward::Backward;
 use aho_core::error::StreamError;
 use aho_devices::adapters::FromWrite;
 use aho_devices::device::Sink;
@@ -57,7 +60,7 @@ const HELP: &[u8] =
 
 Writes each FILE with a text in the place of each run of bytes that lie in matches of the patterns. No FILE, or -, is standard input.
 
-  -e PATTERN    a pattern
+  -e PATTERN    a pattern; also --pattern, and --file, --table and --ignore-case for -f, -t and -i
   -f FILE       a file of patterns, one on each line; - is standard input
   -t TABLE      a table: on each line a pattern, a TAB and its replacement; \\t, \\n and \\\\ stand for bytes
   -i            ASCII letters are the same in both cases
@@ -426,6 +429,7 @@ fn redact_all<'a, F: Folder, I: Read, W: Write, E: Sink>(
     let nfa = build(alloc, given, words)?;
     let ignore_case = has(given, Word::IgnoreCase);
     let rows = rows_of(alloc, &nfa, ignore_case, words)?;
+    let back = back_of(alloc, given, words, &nfa)?;
     let job = Job {
         alloc,
         folder,
@@ -443,6 +447,7 @@ fn redact_all<'a, F: Folder, I: Read, W: Write, E: Sink>(
     redact_warned(
         &nfa,
         rows.as_ref(),
+        back.as_ref(),
         &job,
         &judge,
         strict,
@@ -453,9 +458,19 @@ fn redact_all<'a, F: Folder, I: Read, W: Write, E: Sink>(
 }
 
 /// Tells of a piece that is not clean, where a cover is asked for, or refuses it, and redacts all files.
-fn redact_warned<'a, A: Automaton, B: Automaton, F: Folder, I: Read, W: Write, E: Sink>(
+fn redact_warned<
+    'a,
+    A: Automaton,
+    B: Automaton,
+    C: Automaton,
+    F: Folder,
+    I: Read,
+    W: Write,
+    E: Sink,
+>(
     automaton: &A,
     rows: Option<&B>,
+    back: Option<&Backward<C>>,
     job: &Job<'_, '_, F>,
     judge: &Judge<'_, '_>,
     strict: bool,
@@ -465,19 +480,22 @@ fn redact_warned<'a, A: Automaton, B: Automaton, F: Folder, I: Read, W: Write, E
 ) -> Result<bool, Failure<'a>>
     requires ready { CanDo A.Automaton automaton.now job.now }
     requires rows { IfSome rows (λ rows. CanDo B.Automaton rows.now job.now) }
+    requires back { AreBoth A.Automaton C.Automaton automaton.now back }
     requires words { length judge.now.rules.now ≡ length judge.now.words.now }
     requires pieces { pieces_of job.now.replacements.now ≡ pieces_by judge.now }
     ensures outcome { IfOfAll A.Automaton B.Automaton automaton.now rows.entry judge.now
-        (λ p. WarnedJob W.Write E.Sink F.Folder strict job.now p result streams.old streams.new) }
+        (λ p. IfBackIs C.Automaton back.entry p
+        (WarnedJob W.Write E.Sink F.Folder strict job.now p result streams.old streams.new)) }
     ensures counted { IfOfAll A.Automaton B.Automaton automaton.now rows.entry judge.now
-        (JobCounts F.Folder job.now result streams.old streams.new counts.old counts.new) }
+        (λ p. IfBackIs C.Automaton back.entry p
+        (JobCounts F.Folder job.now result streams.old streams.new counts.old counts.new p)) }
     ensures read { JobVolume F.Folder job.now result volume.old volume.new streams.old streams.new }
     ensures flushed { OnOk result (streams.new.output.device.flushed ≡ true) }
 {
     let unclean = unclean_of(automaton, judge, job.covers);
     // Not by `?`: this error may hold names.
     match warn(&mut streams.errors, unclean, strict) {
-        Ok(()) => Ok(redact_by(automaton, rows, job, counts, volume, streams)?),
+        Ok(()) => Ok(redact_by(automaton, rows, back, job, counts, volume, streams)?),
         Err(failure) => Err(failure),
     }
 }
@@ -505,8 +523,36 @@ fn warn<'a, E: Sink>(
     }
 }
 
+/// Redacts all files by a walk backward, if there is a searcher for that, and else by the automaton with rows, if there is one.
+fn redact_by<A: Automaton, B: Automaton, C: Automaton, F: Folder, I: Read, W: Write, E: Sink>(
+    automaton: &A,
+    rows: Option<&B>,
+    back: Option<&Backward<C>>,
+    job: &Job<'_, '_, F>,
+    counts: &mut [u64],
+    volume: &mut Volume,
+    streams: &mut Streams<'_, I, W, E>,
+) -> Result<bool, StreamError>
+    requires ready { CanDo A.Automaton automaton.now job.now }
+    requires rows { IfSome rows (λ rows. CanDo B.Automaton rows.now job.now) }
+    requires back { AreBoth A.Automaton C.Automaton automaton.now back }
+    ensures outcome { IfOf A.Automaton automaton.now (λ p. IfSome rows.entry (λ rows. B.is_of rows.now p)
+        → IfBackIs C.Automaton back.entry p
+        (FilesJob F.Folder job.now W.Write E.Sink result streams.old streams.new p)) }
+    ensures counted { IfOf A.Automaton automaton.now (λ p. IfSome rows.entry (λ rows. B.is_of rows.now p)
+        → IfBackIs C.Automaton back.entry p
+        (JobCounts F.Folder job.now result streams.old streams.new counts.old counts.new p)) }
+    ensures read { JobVolume F.Folder job.now result volume.old volume.new streams.old streams.new }
+    ensures flushed { OnOk result (streams.new.output.device.flushed ≡ true) }
+{
+    match back {
+        Some(searcher) => back_files(automaton, searcher, job, counts, volume, streams),
+        None => redact_forward(automaton, rows, job, counts, volume, streams),
+    }
+}
+
 /// Redacts all files by the automaton with rows, if there is one.
-fn redact_by<A: Automaton, B: Automaton, F: Folder, I: Read, W: Write, E: Sink>(
+fn redact_forward<A: Automaton, B: Automaton, F: Folder, I: Read, W: Write, E: Sink>(
     automaton: &A,
     rows: Option<&B>,
     job: &Job<'_, '_, F>,
@@ -516,10 +562,10 @@ fn redact_by<A: Automaton, B: Automaton, F: Folder, I: Read, W: Write, E: Sink>(
 ) -> Result<bool, StreamError>
     requires ready { CanDo A.Automaton automaton.now job.now }
     requires rows { IfSome rows (λ rows. CanDo B.Automaton rows.now job.now) }
-    ensures outcome { IfOf A.Automaton automaton.now (λ p. IfSome rows.entry (λ rows. B.is_of rows.now p)
-        → FilesOutcome W.Write E.Sink (work_of F.Folder job.now (redactor_of job.now p)) result streams.old streams.new) }
-    ensures counted { IfOf A.Automaton automaton.now (λ p. IfSome rows.entry (λ rows. B.is_of rows.now p)
-        → JobCounts F.Folder job.now result streams.old streams.new counts.old counts.new p) }
+    ensures outcome { RowsOutcome W.Write E.Sink A.Automaton B.Automaton F.Folder
+        automaton.now rows.entry job.now result streams.old streams.new }
+    ensures counted { RowsCounts A.Automaton B.Automaton F.Folder automaton.now rows.entry job.now
+        result streams.old streams.new counts.old counts.new }
     ensures read { JobVolume F.Folder job.now result volume.old volume.new streams.old streams.new }
     ensures flushed { OnOk result (streams.new.output.device.flushed ≡ true) }
 {
