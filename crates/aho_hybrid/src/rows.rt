@@ -105,8 +105,9 @@ impl Rows {
         requires row { HasRow self.now sid }
         ensures entry { result ≡ entry_in self.now sid byte }
     {
-        let entry = self.entries[sid.as_usize() + self.classes.get(byte) as usize];
-        StateID::new_unchecked(entry.as_usize())
+        // The byte is known before the state. So the class goes first, and the state is added where the entry is loaded.
+        let of_class = &self.entries[self.classes.get(byte) as usize..];
+        StateID::new_unchecked(of_class[sid.as_usize()].as_usize())
     }
 
     /// Where the byte leads from a deep state: down the links until a state takes it.
