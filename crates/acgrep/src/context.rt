@@ -11,6 +11,7 @@ ghost use Rattle.acgrep.specs.Written.{IsMatched};
 
 use crate::backed::Lister;
 use crate::failure::Stop;
+use crate::held::Held;
 use crate::lines::{behind, line_end};
 use crate::options::Context;
 use crate::print::{Place, put_separator};
@@ -40,7 +41,7 @@ pub fn search_around<A: Lister, W: Sink>(
 {
     let mut rest = text;
     while job.goes_on(rest, state) {
-        let end = line_end(rest);
+        let end = line_end(rest, job.style.ending);
         pass_any(automaton, job, context, &rest[..end], state, page, output)?;
         rest = behind(rest, end);
     }
@@ -143,7 +144,7 @@ fn put_group<A: Lister, W: Write>(
     put_each_line(
         automaton,
         &job.beside(),
-        trail.held.bytes(),
+        &trail.held,
         trail.first,
         output,
     )?;
@@ -168,11 +169,11 @@ fn put_between<W: Write>(job: &Job<'_>, asked: bool, output: &mut W) -> io::Resu
     Ok(())
 }
 
-/// Puts together what is asked of each line of a text, the first of which stands there.
+/// Puts together what is asked of each of some held lines, the first of which stands there.
 fn put_each_line<A: Lister, W: Write>(
     automaton: &A,
     job: &Job<'_>,
-    text: &[u8],
+    held: &Held,
     first: Place,
     output: &mut W,
 ) -> Result<(), Stop>
@@ -181,12 +182,12 @@ fn put_each_line<A: Lister, W: Write>(
         first (lines text.now) output.old output.new result }
 {
     let mut place = first;
-    let mut rest = text;
-    while !rest.is_empty() {
-        let end = line_end(rest);
-        put_shown(automaton, job, &rest[..end], place, output)?;
-        place = behind_line(place, &rest[..end]);
-        rest = behind(rest, end);
+    let mut rest = held.bytes();
+    for size in held.sizes.iter() {
+        let (line, behind) = rest.split_at(*size);
+        put_shown(automaton, job, line, place, output)?;
+        place = behind_line(place, line);
+        rest = behind;
     }
     Ok(())
 }

@@ -504,6 +504,7 @@ fn job_for<'a>(job: &Job<'a>, name: &'a [u8], follows: bool) -> Job<'a>
             name,
             with_name: job.style.with_name,
             null: job.style.null,
+            ending: job.style.ending,
             number: job.style.number,
             offset: job.style.offset,
             color: job.style.color,

@@ -51,7 +51,7 @@ impl Keys {
         ensures lines { OnOk result (lines self.new.text.items ≡ lines self.old.text.items) }
         ensures ends { OnOk result (EndsLine self.new.text.items) }
     {
-        if line_start(self.text.as_slice()) < self.text.len() {
+        if line_start(self.text.as_slice(), b'\n') < self.text.len() {
             self.text.push(b'\n')?;
         }
         Ok(())
@@ -65,7 +65,7 @@ pub fn lines_of(alloc: Global, text: &[u8]) -> Result<Vec<&[u8]>, AllocError>
     let mut lines = Vec::new(alloc);
     let mut rest = text;
     while !rest.is_empty() {
-        let end = line_end(rest);
+        let end = line_end(rest, b'\n');
         lines.push(&rest[..end])?;
         rest = behind(rest, end);
     }

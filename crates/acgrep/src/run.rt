@@ -432,6 +432,7 @@ pub fn job_of<'a>(given: &'a Given<'_>, terminal: bool, several: bool) -> Job<'a
             color: is_colored(flags.color, terminal),
             hyphen: false,
             tab: flags.tab,
+            ending: flags.ending(),
             separator: given.separator,
             form: form_of(given),
         },

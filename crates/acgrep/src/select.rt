@@ -174,28 +174,28 @@ impl State {
     }
 }
 
-/// The first line of a text in which a pattern occurs, without its newline.
-pub fn next_line<A: Automaton>(automaton: &A, text: &[u8]) -> Result<Option<Span>, Stop>
+/// The first line of a text in which a pattern occurs, without what ends it.
+pub fn next_line<A: Automaton>(automaton: &A, text: &[u8], ending: u8) -> Result<Option<Span>, Stop>
     requires of { (p : Patterns) × A.is_of automaton.now p }
     ensures ordered { IfOk result (λ line. IfSome line (λ line. line.start ≤ line.end)) }
     ensures within { IfOk result (λ line. IfSome line (λ line. line.end ≤ length text.now)) }
     ensures next { ForLines (A.is_of automaton.now) (λ p. IfOk result (IsNextLine p text.now)) }
 {
     match automaton.try_find(&Input::new(text))? {
-        Some(found) => Ok(Some(line_around(text, found.start()))),
+        Some(found) => Ok(Some(line_around(text, found.start(), ending))),
         None => Ok(None),
     }
 }
 
 /// The line of a text that holds a place.
-fn line_around(text: &[u8], place: usize) -> Span
+fn line_around(text: &[u8], place: usize, ending: u8) -> Span
     requires within { place ≤ length text.now }
     ensures line { IsLine text.now result }
     ensures before { result.start ≤ place }
     ensures behind { place ≤ result.end }
 {
-    let start = line_start(&text[..place]);
-    let rest = line_end(&text[place..]);
+    let start = line_start(&text[..place], ending);
+    let rest = line_end(&text[place..], ending);
     Span {
         start,
         end: place + rest,
@@ -274,7 +274,7 @@ fn search_some<'t, A: Lister, W: Sink>(
     ensures begun { BeginsPlainBy A.Automaton W.Sink automaton.now job.now
         state.old state.new output.old output.new text.now result }
 {
-    match next_line(automaton, text)? {
+    match next_line(automaton, text, job.style.ending)? {
         Some(line) => {
             pass_others(automaton, job, &text[..line.start], state, page, output)?;
             pass_matched(
@@ -459,14 +459,14 @@ fn pass_each<A: Lister, W: Sink>(
 {
     let mut rest = text;
     while !rest.is_empty() {
-        let end = line_end(rest);
+        let end = line_end(rest, job.style.ending);
         pass_selected(automaton, job, &rest[..end], state, page, output)?;
         rest = behind(rest, end);
     }
     Ok(())
 }
 
-/// The place behind a line and its newline.
+/// The place behind a line and what ends it.
 pub fn behind_line(place: Place, line: &[u8]) -> Place
     ensures place { result ≡ after_line place line.now }
 {
@@ -503,16 +503,16 @@ fn lines_behind(job: &Job<'_>, text: &[u8], count: u64) -> u64
         → result ≡ (count + length (places (is_byte 10) text.now)) % 2 ^ 64 }
 {
     if job.numbers() {
-        return count.wrapping_add(newlines(text));
+        return count.wrapping_add(endings(text, job.style.ending));
     }
     count
 }
 
-/// How many newlines a text has.
-fn newlines(text: &[u8]) -> u64
+/// How often a byte stands in a text.
+fn endings(text: &[u8], ending: u8) -> u64
     ensures count { result ≡ length (places (is_byte 10) text.now) }
 {
-    memchr_iter(b'\n', text).count() as u64
+    memchr_iter(ending, text).count() as u64
 }
 
 /// Writes what is asked of a selected line. It is put together first: where the output cannot be written to the end, what is

@@ -85,7 +85,7 @@ fn read_some<A: Lister, R: Read, W: Sink>(
     Ok(false)
 }
 
-/// Searches the whole lines, where a newline can be among the last `count` bytes alone, and keeps what follows.
+/// Searches the whole lines, where a line can end among the last `count` bytes alone, and keeps what follows.
 fn search_whole<A: Lister, W: Sink>(
     automaton: &A,
     job: &Job<'_>,
@@ -104,7 +104,7 @@ fn search_whole<A: Lister, W: Sink>(
         OnErr result (BeginsWhole p job.now state.old state.new
         (W.taken output.old) (W.taken output.new) (bytes_buffered buffer.old))) }
 {
-    let whole = whole_lines(buffer.bytes(), count);
+    let whole = whole_lines(buffer.bytes(), count, job.style.ending);
     search_text(
         automaton,
         job,
@@ -117,13 +117,13 @@ fn search_whole<A: Lister, W: Sink>(
     Ok(())
 }
 
-/// How many bytes whole lines have, where a newline can be among the last `count` alone.
-fn whole_lines(bytes: &[u8], count: usize) -> usize
+/// How many bytes whole lines have, where one can end among the last `count` alone.
+fn whole_lines(bytes: &[u8], count: usize, ending: u8) -> usize
     ensures within { result ≤ length bytes.now }
     ensures newline { 0 < result → IsNewline bytes.now (result - 1) }
 {
     let before = bytes.len().saturating_sub(count);
-    match line_start(&bytes[before..]) {
+    match line_start(&bytes[before..], ending) {
         0 => 0,
         start => before + start,
     }

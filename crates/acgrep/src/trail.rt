@@ -6,7 +6,6 @@ ghost use Rattle.acgrep.specs.Filled.{held_bytes};
 ghost use Rattle.acgrep.specs.Lines.{EndsLine, IsNewline, lines};
 
 use crate::held::Held;
-use crate::lines::line_end;
 use crate::print::Place;
 use crate::select::behind_line;
 use std::alloc::{AllocError, Global};
@@ -124,11 +123,8 @@ impl Trail {
         ensures due { self.new.due ≡ self.old.due }
         ensures some { self.new.some ≡ self.old.some }
     {
-        let bytes = self.held.bytes();
-        let end = line_end(bytes);
-        let first = behind_line(self.first, &bytes[..end]);
-        self.held.drop_front(end + 1);
-        self.first = first;
+        self.first = behind_line(self.first, self.held.first());
+        self.held.drop_first();
         self.count -= 1;
         self.apart = true;
     }
