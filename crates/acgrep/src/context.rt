@@ -1,10 +1,9 @@
 //! Searching where the lines around selected ones are written too.
 
-ghost use Rattle.std.specs.Prelude.{◌≡◌, ◌&&◌, ◌<◌, IfOk, length};
-ghost use Rattle.memchr.specs.Find.{Nowhere};
+ghost use Rattle.std.specs.Prelude.{◌≡◌, ◌&&◌, ◌<◌, IfOk};
 ghost use Rattle.aho_core.specs.Patterns.{Patterns};
 ghost use Rattle.acgrep.specs.Contexts.{IsChosenBy, beside, separator_if};
-ghost use Rattle.acgrep.specs.Lines.{IsNewline, lines};
+ghost use Rattle.acgrep.specs.Filled.{held_lines};
 ghost use Rattle.acgrep.specs.Printed.{Puts};
 ghost use Rattle.acgrep.specs.Searched.{BeginsLineAround, BeginsPassedBy, BeginsTakenBy, PassesLineBy, ShowsEachBy, ShowsGroupBy, TakesLineBy, WalksBegunBy, WalksLineBy, WalksTextBy};
 ghost use Rattle.acgrep.specs.Written.{IsMatched};
@@ -59,7 +58,6 @@ fn pass_any<A: Lister, W: Sink>(
     output: &mut W,
 ) -> Result<(), Stop>
     requires of { (p : Patterns) × A.is_of automaton.now p }
-    requires one { Nowhere (IsNewline line.now) 0 (length line.now) }
     ensures walks { WalksLineBy A.Automaton W.Sink automaton.now job.now
         state.old state.new output.old output.new context.now line.now result }
     ensures begun { BeginsLineAround A.Automaton W.Sink automaton.now job.now
@@ -179,12 +177,12 @@ fn put_each_line<A: Lister, W: Write>(
 ) -> Result<(), Stop>
     requires of { (p : Patterns) × A.is_of automaton.now p }
     ensures shown { ShowsEachBy A.Automaton W.Write automaton.now job.now
-        first (lines text.now) output.old output.new result }
+        first (held_lines held.now) output.old output.new result }
 {
     let mut place = first;
     let mut rest = held.bytes();
-    for size in held.sizes.iter() {
-        let (line, behind) = rest.split_at(*size);
+    for index in 0..held.sizes.len() {
+        let (line, behind) = rest.split_at(held.sizes[index]);
         put_shown(automaton, job, line, place, output)?;
         place = behind_line(place, line);
         rest = behind;
@@ -203,7 +201,6 @@ fn pass_beside<A: Lister, W: Sink>(
     output: &mut W,
 ) -> Result<(), Stop>
     requires of { (p : Patterns) × A.is_of automaton.now p }
-    requires one { Nowhere (IsNewline line.now) 0 (length line.now) }
     ensures walks { PassesLineBy A.Automaton W.Sink automaton.now job.now
         state.old state.new output.old output.new context.now line.now result }
     ensures begun { BeginsPassedBy A.Automaton W.Sink automaton.now job.now

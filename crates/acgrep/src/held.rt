@@ -1,6 +1,7 @@
 //! The lines that were passed over last, which are written where the next selected line is near.
 
-ghost use Rattle.std.specs.Prelude.{◌≡◌, ◌++◌, ◌∷◌, [], ◌≤◌, ◌<◌, OnOk, drop, length, sum, vec_len};
+ghost use Rattle.std.specs.List.{sum};
+ghost use Rattle.std.specs.Prelude.{◌≡◌, ◌++◌, ◌∷◌, [], ◌≤◌, ◌<◌, OnOk, drop, length, vec_len};
 
 use std::alloc::{AllocError, Global};
 use std::collections::VecDeque;
@@ -46,20 +47,25 @@ impl Held {
         self.sizes.clear();
     }
 
-    /// Adds a line. What was dropped is first made room where it is more than what is held.
+    /// Adds a line. What was dropped is first made room where it is more than what is held. Where memory runs out no line is held.
     pub fn push(&mut self, line: &[u8]) -> Result<(), AllocError>
         ensures more { OnOk result (held_lines self.new
             ≡ held_lines self.old ++ (line.now ∷ [])) }
     {
         self.close_up();
-        self.sizes.push_back(line.len())?;
-        self.room.extend_from_slice(line)?;
+        if let Err(error) = add(&mut self.room, &mut self.sizes, line) {
+            self.room.clear();
+            self.from = 0;
+            self.sizes.clear();
+            return Err(error);
+        }
         Ok(())
     }
 
     /// The first line.
     pub fn first(&self) -> &[u8]
         requires some { 0 < length self.now.sizes.items }
+        ensures first { held_lines self.now ≡ result.now ∷ drop 1 (held_lines self.now) }
     {
         &self.bytes()[..self.sizes[0]]
     }
@@ -86,4 +92,14 @@ impl Held {
         self.room.truncate(len - self.from);
         self.from = 0;
     }
+}
+
+/// Adds the bytes of a line, and how many they are.
+fn add(room: &mut Vec<u8>, sizes: &mut VecDeque<usize>, line: &[u8]) -> Result<(), AllocError>
+    ensures bytes { OnOk result (room.new.items ≡ room.old.items ++ line.now) }
+    ensures sizes { OnOk result (sizes.new.items ≡ sizes.old.items ++ (length line.now ∷ [])) }
+{
+    room.extend_from_slice(line)?;
+    sizes.push_back(line.len())?;
+    Ok(())
 }

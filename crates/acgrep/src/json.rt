@@ -147,7 +147,7 @@ fn is_text(bytes: &[u8]) -> bool
 /// Writes a match by a format, on a line of its own.
 fn put_formatted<W: Write>(output: &mut W, pieces: &[Piece], fields: &Fields<'_>, ending: u8) -> io::Result<()>
     ensures written { Puts W.Write output.old output.new result
-        (formatted_by pieces.now (fields_told fields.now)) }
+        (formatted_by ending pieces.now (fields_told fields.now)) }
 {
     for piece in pieces {
         put_piece(output, *piece, fields)?;

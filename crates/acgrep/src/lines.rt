@@ -12,7 +12,7 @@ use memchr::{memchr, memrchr};
 pub fn line_end(text: &[u8], ending: u8) -> usize
     ensures within { result ≤ length text.now }
     ensures none { Nowhere (IsEnding ending text.now) 0 result }
-    ensures newline { result < length text.now → IsEnding ending text.now result }
+    ensures ends { result < length text.now → IsEnding ending text.now result }
 {
     match memchr(ending, text) {
         Some(at) => at,
@@ -25,7 +25,7 @@ pub fn line_end(text: &[u8], ending: u8) -> usize
 pub fn line_start(text: &[u8], ending: u8) -> usize
     ensures within { result ≤ length text.now }
     ensures none { Nowhere (IsEnding ending text.now) result (length text.now) }
-    ensures newline { 0 < result → IsEnding ending text.now (result - 1) }
+    ensures ends { 0 < result → IsEnding ending text.now (result - 1) }
 {
     match memrchr(ending, text) {
         Some(at) => at + 1,
