@@ -25,6 +25,7 @@ pub trait Lister: Automaton {
     /// All finds of a line, as iteration gives them one after another; none where iteration is to give them, because it is as fast
     /// or because there is no memory for all at once.
     fn list_finds(&self, line: &[u8]) -> Option<Vec<Match>>
+        requires of { (p : Patterns) × Self.is_of self.now p }
         ensures listed { (p : Patterns) → Self.is_of self.now p
             → IfSome result (λ found. AreFinds p (plain_search line.now) None found.items) };
 }

@@ -1,0 +1,30 @@
+-- One match more, and what follows the last.
+use Rattle.std.proofs.Common.{◌≡◌, ◌<◌, ◌≤◌, ◌+◌, ◌++◌, ◌∷◌, [], List, length, take, sym, subst, ◌∙◌, ap, arith}
+use Rattle.std.proofs.lemmas.Grind.{common_steps}
+use Rattle.std.proofs.lemmas.List.{take_all, take_more}
+use Rattle.aho_core.specs.Occurrence.{Occurrence}
+use Rattle.acgrep.proofs.Coloring.{Colored, colored_end, colored_step}
+use Rattle.acgrep.proofs.listed.put_listed_colors.Goals as goal
+
+pub loop-found-preserved : goal.loop-found-preserved
+loop-found-preserved g c =
+    let held = g.W.Write.contents in
+    let ms = c.args.matches.now in
+    let i = c.loop-found.found-index in
+    let inside : i < length ms = grind (arith, common_steps, c.loop-found-test.true) in
+    let more : take (i + 1) ms ≡ take i ms ++ (c.found-item.result ∷ []) = take_more ms i _ inside ∙ ap (λ (m : Occurrence). take i ms ++ (m ∷ [])) (sym c.found-item.is) in
+    subst (λ (l : List Occurrence). Colored c.args.line.now l c.in_ok-at.at (held c.args.output.now) (held c.put_up_to.new.output)) (sym more)
+    (colored_step c.args.line.now (take i ms) c.found-item.result c.loop-found.at c.in_ok-at.at (held c.args.output.now) (held c.loop-found.output) (held c.put_up_to.new.output)
+    c.in_ok-at.ensures.behind c.in_ok-at.ensures.written c.loop-found.invariant)
+
+pub returns : goal.returns
+returns g c =
+    let held = g.W.Write.contents in
+    let ms = c.args.matches.now in
+    let i = c.loop-found.found-index in
+    let behind : length ms ≤ i = grind (arith, common_steps, c.loop-found-test.false) in
+    let last = rw c.part.ensures.part at c.in_ok-write_all.ensures.bytes in
+    record {
+      written = colored_end c.args.line.now ms c.loop-found.at (held c.args.output.now) (held c.loop-found.output) (held c.write_all.new.self) last
+          (subst (λ (l : List Occurrence). Colored c.args.line.now l c.loop-found.at (held c.args.output.now) (held c.loop-found.output)) (take_all i ms behind) c.loop-found.invariant);
+    }
