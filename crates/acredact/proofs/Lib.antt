@@ -30,5 +30,6 @@ mod Statuses
 -- what is seen of files
 mod Looks
 mod Checks
-mod Reading
+mod LongNames
+mod Readings
 mod Ready

@@ -1,9 +1,11 @@
 -- What the arguments, those after the program's name, ask for.
-use Rattle.std.specs.Prelude.{◌≡◌, ℕ, ◌||◌, ◌&&◌, not, Bool, true, false, List, [], ◌∷◌, Option, Some, None, codes, drop, is_some, map, option_and_then, option_map, unwrap_or, nat_eq, take, String, if◌then◌else◌}
+use Rattle.std.specs.Prelude.{◌≡◌, ℕ, ◌==◌, ◌++◌, ◌||◌, ◌&&◌, not, Bool, true, false, List, [], ◌∷◌, Option, Some, None, Result, IfErr, IfOk, codes, drop, is_some, length, map, nat_lt, option_and_then, unwrap_or, take, String, if◌then◌else◌}
+use Rattle.std.specs.List.{after_first, before_first, position_or_len}
 use Rattle.std.specs.Str.{bytes_eq}
 use Rattle.aho_core.specs.declared.search.MatchKind.{MatchKind}
 use Rattle.aho_core.specs.declared.search.MatchKind.TheVariants.{Standard}
 use Rattle.programs.specs.Arguments.{kind_by, texts}
+use Rattle.acredact.specs.Long.{option_by}
 use Rattle.acredact.specs.declared.arguments.Word.{Word}
 use Rattle.acredact.specs.declared.arguments.Word.TheVariants.{IgnoreCase, Kind, Pattern, Patterns, Table, With, Output, Count, Summary, Crlf, AllowEmpty, Strict, Check, Help, Version, File}
 use Rattle.acredact.specs.declared.arguments.Expects.{Expects}
@@ -11,8 +13,6 @@ use Rattle.acredact.specs.declared.arguments.Expects.TheVariants.{Any, Value, Na
 use Rattle.acredact.specs.declared.arguments.Item.{Item}
 use Rattle.acredact.specs.declared.arguments.Mixture.{Mixture}
 use Rattle.acredact.specs.declared.arguments.Mixture.TheVariants.{StrictKind, CountCheck, SummaryCheck, OutputCheck}
-use Rattle.acredact.specs.declared.arguments.Reading.{Reading}
-use Rattle.acredact.specs.declared.arguments.Reading.TheVariants.{Whole, Begun, Wrong}
 
 -- an option with its value, or a file with its name
 pub record Given : Type 0 where
@@ -27,32 +27,6 @@ given_of item = given item.word item.value.now
 
 abbrev pub all_given : List Item → List Given
 all_given items = map given_of items
-
--- what does not begin with '-' is a file
-abbrev pub file_by : List ℕ → Option Word
-file_by [] = Some File
-file_by (first ∷ rest) = if nat_eq first 45 then None else Some File
-
--- the option of this name, or a file; '-' alone is one
-abbrev pub word_by : List ℕ → Option Word
-word_by argument =
-    if bytes_eq argument (codes "-i") then Some IgnoreCase
-    else if bytes_eq argument (codes "--kind") then Some Kind
-    else if bytes_eq argument (codes "-e") then Some Pattern
-    else if bytes_eq argument (codes "-f") then Some Patterns
-    else if bytes_eq argument (codes "-t") then Some Table
-    else if bytes_eq argument (codes "--with") then Some With
-    else if bytes_eq argument (codes "--output") then Some Output
-    else if bytes_eq argument (codes "--count") then Some Count
-    else if bytes_eq argument (codes "--summary") then Some Summary
-    else if bytes_eq argument (codes "--crlf") then Some Crlf
-    else if bytes_eq argument (codes "--allow-empty") then Some AllowEmpty
-    else if bytes_eq argument (codes "--strict") then Some Strict
-    else if bytes_eq argument (codes "--check") then Some Check
-    else if bytes_eq argument (codes "--help") then Some Help
-    else if bytes_eq argument (codes "--version") then Some Version
-    else if bytes_eq argument (codes "-") then Some File
-    else file_by argument
 
 -- the options that need a value
 abbrev pub takes_value : Word → Bool
@@ -96,64 +70,108 @@ is_value_of Help value = true
 is_value_of Version value = true
 is_value_of File value = true
 
--- what an argument is read as: an item that it completes, if any, and what is expected of the next; none where it is wrong
-pub record ReadAs : Type 0 where
-  pub item : Option Given
+-- what was read, and what is expected of the next argument
+pub record ReadSoFar : Type 0 where
   pub next : Expects
+  pub items : List Given
 
-abbrev pub completed : Word → List ℕ → Expects → Option ReadAs
-completed word value next = Some (record { item = Some (given word value); next = next })
+abbrev pub so_far : Expects → List Given → Option ReadSoFar
+so_far next items = Some (record { next = next; items = items })
 
-abbrev pub expected : Expects → Option ReadAs
-expected next = Some (record { item = None; next = next })
+-- an item more
+abbrev pub with_item : Word → List ℕ → Expects → List Given → Option ReadSoFar
+with_item word value next items = so_far next (items ++ (given word value ∷ []))
+
+-- the value of an option
+abbrev pub value_by : Word → List ℕ → List Given → Option ReadSoFar
+value_by word value items = if is_value_of word value then with_item word value Any items else None
 
 -- an option that needs a value waits for it
-abbrev pub word_read : Word → List ℕ → Option ReadAs
-word_read word argument = if takes_value word then expected (Value word) else completed word argument Any
+abbrev pub word_by : Word → List Given → Option ReadSoFar
+word_by word items = if takes_value word then so_far (Value word) items else with_item word [] Any items
 
--- an option or a file; behind '--' there are files alone
-abbrev pub value_read : Word → List ℕ → Option ReadAs
-value_read word value = if is_value_of word value then completed word value Any else None
+-- a long name without a value
+abbrev pub named_by : List ℕ → List Given → Option ReadSoFar
+named_by name items = option_and_then (λ word. word_by word items) (option_by name)
 
--- a long option with its value behind '='
-abbrev pub joined_option_of : List ℕ → Option ReadAs
-joined_option_of argument =
-    if bytes_eq (take 7 argument) (codes "--kind=") then value_read Kind (drop 7 argument)
-    else if bytes_eq (take 7 argument) (codes "--with=") then value_read With (drop 7 argument)
-    else if bytes_eq (take 9 argument) (codes "--output=") then value_read Output (drop 9 argument)
+-- one with a value behind an equals sign, which the option has to take
+abbrev pub valued_by : Word → List ℕ → List Given → Option ReadSoFar
+valued_by word value items = if takes_value word then value_by word value items else None
+
+abbrev pub joined_by : (name value : List ℕ) → List Given → Option ReadSoFar
+joined_by name value items = option_and_then (λ word. valued_by word value items) (option_by name)
+
+-- what stands behind two hyphens
+abbrev pub is_equals : ℕ → Bool
+is_equals byte = byte == 61
+
+abbrev pub long_by : List ℕ → List Given → Option ReadSoFar
+long_by argument items =
+    if nat_lt (position_or_len is_equals argument) (length argument) then joined_by (before_first is_equals argument) (after_first is_equals argument) items
+    else named_by argument items
+
+-- the value of an option stands behind its letter, or is the next argument
+abbrev pub taken_by : Word → List ℕ → List Given → Option ReadSoFar
+taken_by word [] items = so_far (Value word) items
+taken_by word (first ∷ rest) items = with_item word (first ∷ rest) Any items
+
+-- the letter of an option with a value, and what stands behind it
+abbrev pub letter_by : List ℕ → List Given → Option ReadSoFar
+letter_by [] items = so_far Any items
+letter_by (letter ∷ rest) items =
+    if letter == 101 then taken_by Pattern rest items
+    else if letter == 102 then taken_by Patterns rest items
+    else if letter == 116 then taken_by Table rest items
     else None
 
-abbrev pub word_or_joined : Option Word → List ℕ → Option ReadAs
-word_or_joined None argument = joined_option_of argument
-word_or_joined (Some word) argument = word_read word argument
+-- joined letters: those of options without a value stand in front
+abbrev pub letters_by : List ℕ → List Given → Option ReadSoFar
+letters_by [] items = so_far Any items
+letters_by (letter ∷ rest) items =
+    if letter == 105 then letters_by rest (items ++ (given IgnoreCase [] ∷ []))
+    else letter_by (letter ∷ rest) items
 
-abbrev pub any_by : List ℕ → Option ReadAs
-any_by argument =
-    if bytes_eq argument (codes "--") then expected Name
-    else word_or_joined (word_by argument) argument
+-- what stands behind a hyphen; nothing makes the hyphen a file
+abbrev pub behind_hyphen : List ℕ → List Given → Option ReadSoFar
+behind_hyphen [] items = with_item File (45 ∷ []) Any items
+behind_hyphen (first ∷ rest) items = letters_by (first ∷ rest) items
 
-abbrev pub read_by : Expects → List ℕ → Option ReadAs
-read_by Any argument = any_by argument
-read_by (Value word) argument = value_read word argument
-read_by Name argument = completed File argument Name
+-- an argument that is no long name
+abbrev pub plain_by : List ℕ → List Given → Option ReadSoFar
+plain_by [] items = with_item File [] Any items
+plain_by (first ∷ rest) items = if first == 45 then behind_hyphen rest items else with_item File (first ∷ rest) Any items
 
--- in front of the others
-abbrev pub with_item : Option Given → List Given → List Given
-with_item None items = items
-with_item (Some item) items = item ∷ items
+-- an argument that stands where an option may; behind '--' there are files alone
+abbrev pub any_by : List ℕ → List Given → Option ReadSoFar
+any_by argument items =
+    if bytes_eq argument (codes "--") then so_far Name items
+    else if bytes_eq (take 2 argument) (codes "--") then long_by (drop 2 argument) items
+    else plain_by argument items
+
+-- an argument, by what is expected of it
+abbrev pub argument_by : Expects → List ℕ → List Given → Option ReadSoFar
+argument_by Any argument items = any_by argument items
+argument_by (Value word) argument items = value_by word argument items
+argument_by Name argument items = with_item File argument Name items
+
+-- no option may wait for its value at the end
+abbrev pub ended_by : Expects → List Given → Option (List Given)
+ended_by Any items = Some items
+ended_by (Value word) items = None
+ended_by Name items = Some items
+
+-- one argument after another
+abbrev pub given_from : Expects → List (List ℕ) → List Given → Option (List Given)
+given_from expects [] items = ended_by expects items
+given_from expects (argument ∷ rest) items = option_and_then (λ read. given_from read.next rest read.items) (argument_by expects argument items)
 
 -- all options and files, in order; none where an argument is wrong, or a value is missing at the end
-abbrev pub given_by : Expects → List (List ℕ) → Option (List Given)
-given_by Any [] = Some []
-given_by (Value word) [] = None
-given_by Name [] = Some []
-given_by expects (argument ∷ rest) = option_and_then (λ read. option_map (with_item read.item) (given_by read.next rest)) (read_by expects argument)
+abbrev pub given_by : List (List ℕ) → Option (List Given)
+given_by arguments = given_from Any arguments []
 
--- what the code answers of an argument
-abbrev pub read_of : Reading → Option ReadAs
-read_of (Whole item next) = Some (record { item = Some (given_of item); next = next })
-read_of (Begun next) = expected next
-read_of (Wrong mistake) = None
+-- where it does not fail an argument was read by this
+abbrev pub ReadsBy : {X : Type 0} → (List Given → Option ReadSoFar) → List Item → List Item → Result Expects X → Type 0
+ReadsBy reads old new result = IfOk result (λ next. reads (all_given old) ≡ so_far next (all_given new))
 
 -- this option
 abbrev pub is_same : Word → Word → Bool
@@ -247,7 +265,7 @@ fitting_by (Some mixture) given = None
 
 -- all options and files that arguments ask for; none where the arguments are wrong
 abbrev pub all_asked : List (List ℕ) → Option (List Given)
-all_asked arguments = option_and_then (λ given. fitting_by (mixture_of given) given) (given_by Any arguments)
+all_asked arguments = option_and_then (λ given. fitting_by (mixture_of given) given) (given_by arguments)
 
 -- a redaction is asked for: no help, no version and no check
 pub record AsksToRedact (given : List Given) : Type 0 where

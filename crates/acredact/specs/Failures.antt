@@ -7,7 +7,7 @@ use Rattle.programs.specs.declared.failure.Failure.TheVariants.{Usage, Build, Se
 use Rattle.acredact.specs.LineFaults.{line_fault_text}
 use Rattle.programs.specs.declared.reason.Reason.{Reason}
 use Rattle.acredact.specs.Messages.{about, alone, line_about, told_line, unclean_line}
-use Rattle.acredact.specs.Mistakes.{mistake_message}
+use Rattle.acredact.specs.Mistakes.{mistake_line}
 use Rattle.acredact.specs.declared.failure.Failure.{Failure}
 use Rattle.acredact.specs.declared.failure.Failure.TheVariants.{NotText, Arguments, Pattern, Unread, Empty, Line, Unclean, Counts, Other}
 use Rattle.acredact.specs.declared.patterns.BadLine.{BadLine}
@@ -36,7 +36,7 @@ bad_line name bad = record { name = Some name; line = Some bad.number; cause = l
 -- the line that tells a failure: of what, and why. Of a pattern it holds nothing, and of a file its name
 abbrev pub IsFailureLine : Failure → List ℕ → Type 0
 IsFailureLine NotText line = line ≡ told_line (alone (codes "an argument is not UTF-8"))
-IsFailureLine (Arguments mistake) line = line ≡ told_line (mistake_message mistake)
+IsFailureLine (Arguments mistake) line = line ≡ mistake_line mistake
 IsFailureLine (Pattern fault) line = line ≡ told_line (about (codes "-e") (line_fault_text fault))
 IsFailureLine (Unread name reason) line = line ≡ told_line (about name.now (reason_text reason))
 IsFailureLine (Empty name) line = line ≡ told_line (about name.now (codes "no pattern: give --allow-empty to allow it"))

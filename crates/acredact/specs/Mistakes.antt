@@ -1,17 +1,20 @@
 -- What is wrong with arguments, and how it is told.
-use Rattle.std.specs.Prelude.{◌≡◌, ◌⊎◌, ℕ, List, [], ◌∷◌, Option, Some, None, codes, drop, take, if◌then◌else◌}
+use Rattle.std.specs.Prelude.{◌≡◌, ◌⊎◌, ℕ, ◌==◌, ◌++◌, List, [], ◌∷◌, Option, Some, None, Result, IfErr, codes, drop, length, nat_lt, take, if◌then◌else◌}
+use Rattle.std.specs.List.{after_first, before_first, position_or_len}
 use Rattle.std.specs.Str.{bytes_eq}
-use Rattle.programs.specs.Messages.{Message}
-use Rattle.acredact.specs.Arguments.{Given, ReadAs, given_by, mixture_of, option_name, read_by}
-use Rattle.acredact.specs.Messages.{about, alone}
+use Rattle.acredact.specs.Arguments.{Given, ReadSoFar, all_given, argument_by, given_by, is_equals, mixture_of, option_name, takes_value}
+use Rattle.acredact.specs.Long.{found_by, option_by}
+use Rattle.acredact.specs.Messages.{alone, told_line}
 use Rattle.acredact.specs.declared.arguments.Expects.{Expects}
 use Rattle.acredact.specs.declared.arguments.Expects.TheVariants.{Any, Value, Name}
+use Rattle.acredact.specs.declared.arguments.Item.{Item}
 use Rattle.acredact.specs.declared.arguments.Mistake.{Mistake}
-use Rattle.acredact.specs.declared.arguments.Mistake.TheVariants.{Unknown, UnknownKind, NoValue, NoPattern, Mixed, OutOfMemory}
+use Rattle.acredact.specs.declared.arguments.Mistake.TheVariants.{UnknownLetter, UnknownName, Ambiguous, NoValue, TakesNone, UnknownKind, NoPattern, Mixed, OutOfMemory}
 use Rattle.acredact.specs.declared.arguments.Mixture.{Mixture}
 use Rattle.acredact.specs.declared.arguments.Mixture.TheVariants.{StrictKind, CountCheck, SummaryCheck, OutputCheck}
-use Rattle.acredact.specs.declared.arguments.Reading.{Reading}
-use Rattle.acredact.specs.declared.arguments.Reading.TheVariants.{Whole, Begun, Wrong}
+use Rattle.acredact.specs.declared.arguments.Word.{Word}
+use Rattle.acredact.specs.declared.long.Found.{Found}
+use Rattle.acredact.specs.declared.long.Found.TheVariants.{Unknown, Begun, Several, Whole}
 
 -- what is told of options that do not go together
 abbrev pub mixture_text : Mixture → List ℕ
@@ -20,52 +23,123 @@ mixture_text SummaryCheck = codes "--summary and --check do not go together: a c
 mixture_text OutputCheck = codes "--output and --check do not go together: a check writes nothing"
 mixture_text CountCheck = codes "--count and --check do not go together: a check counts nothing"
 
--- what is told of a mistake
-abbrev pub mistake_message : Mistake → Message
-mistake_message (Unknown argument) = about (codes "unknown option") argument.now
-mistake_message (UnknownKind kind) = about (codes "unknown kind") kind.now
-mistake_message (NoValue word) = about (codes "no value") (option_name word)
-mistake_message NoPattern = alone (codes "no pattern: give -e, -f or -t, or --help")
-mistake_message (Mixed mixture) = alone (mixture_text mixture)
-mistake_message OutOfMemory = alone (codes "out of memory")
+-- the line that tells what is wrong with something that was given
+abbrev pub named_line : (before name behind : List ℕ) → List ℕ
+named_line before name behind = codes "acredact" ++ (codes ": " ++ (before ++ (name ++ (behind ++ codes "\n"))))
 
--- what is told of a wrong argument
-abbrev pub wrong_option : List ℕ → Message
-wrong_option argument =
-    if bytes_eq (take 7 argument) (codes "--kind=") then about (codes "unknown kind") (drop 7 argument)
-    else about (codes "unknown option") argument
+-- no option has this letter or this long name, several have such a beginning, this one takes no value, or it needs one
+abbrev pub letter_line : ℕ → List ℕ
+letter_line letter = named_line (codes "unknown option '-") (letter ∷ []) (codes "'")
 
-abbrev pub wrong_at : Expects → List ℕ → Message
-wrong_at Any argument = wrong_option argument
-wrong_at (Value word) argument = about (codes "unknown kind") argument
-wrong_at Name argument = about (codes "unknown option") argument
+abbrev pub name_line : List ℕ → List ℕ
+name_line name = named_line (codes "unknown option '--") name (codes "'")
 
-abbrev pub wrong_or : Message → (ReadAs → Option Message) → Option ReadAs → Option Message
+abbrev pub several_line : List ℕ → List ℕ
+several_line name = named_line (codes "several options begin with '--") name (codes "'")
+
+abbrev pub taken_line : List ℕ → List ℕ
+taken_line name = named_line (codes "option '--") name (codes "' takes no argument")
+
+abbrev pub unvalued_line : Word → List ℕ
+unvalued_line word = named_line (codes "option '") (option_name word) (codes "' needs an argument")
+
+-- there is no such kind
+abbrev pub kind_line : List ℕ → List ℕ
+kind_line kind = named_line (codes "option '--kind' takes cover, first, longest or standard, not '") kind (codes "'")
+
+-- the line that tells a mistake
+abbrev pub mistake_line : Mistake → List ℕ
+mistake_line (UnknownLetter letter) = letter_line letter
+mistake_line (UnknownName name) = name_line name.now
+mistake_line (Ambiguous name) = several_line name.now
+mistake_line (NoValue word) = unvalued_line word
+mistake_line (TakesNone name) = taken_line name.now
+mistake_line (UnknownKind kind) = kind_line kind.now
+mistake_line NoPattern = told_line (alone (codes "no pattern: give -e, -f or -t, or --help"))
+mistake_line (Mixed mixture) = told_line (alone (mixture_text mixture))
+mistake_line OutOfMemory = told_line (alone (codes "out of memory"))
+
+-- what is told of a long name that means no option
+abbrev pub wrong_found : Found → List ℕ → List ℕ
+wrong_found Unknown name = name_line name
+wrong_found (Begun word) name = []
+wrong_found Several name = several_line name
+wrong_found (Whole word) name = []
+
+abbrev pub wrong_name : List ℕ → List ℕ
+wrong_name name = wrong_found (found_by name) name
+
+-- of a long name with a value behind an equals sign, where its option cannot have that one
+abbrev pub wrong_joined : Option Word → (name value : List ℕ) → List ℕ
+wrong_joined None name value = wrong_name name
+wrong_joined (Some word) name value = if takes_value word then kind_line value else taken_line name
+
+-- of what stands behind two hyphens
+abbrev pub wrong_long : List ℕ → List ℕ
+wrong_long argument =
+    if nat_lt (position_or_len is_equals argument) (length argument)
+    then wrong_joined (option_by (before_first is_equals argument)) (before_first is_equals argument) (after_first is_equals argument)
+    else wrong_name argument
+
+-- of the letter of no option
+abbrev pub wrong_letter : List ℕ → List ℕ
+wrong_letter [] = []
+wrong_letter (letter ∷ rest) = letter_line letter
+
+-- of joined letters: of the first that no option has
+abbrev pub wrong_letters : List ℕ → List ℕ
+wrong_letters [] = []
+wrong_letters (letter ∷ rest) = if letter == 105 then wrong_letters rest else letter_line letter
+
+-- of those behind a hyphen
+abbrev pub wrong_plain : List ℕ → List ℕ
+wrong_plain [] = []
+wrong_plain (hyphen ∷ letters) = wrong_letters letters
+
+abbrev pub wrong_any : List ℕ → List ℕ
+wrong_any argument = if bytes_eq (take 2 argument) (codes "--") then wrong_long (drop 2 argument) else wrong_plain argument
+
+-- of a wrong argument, by what is expected of it; a file's name is never wrong
+abbrev pub wrong_at : Expects → List ℕ → List ℕ
+wrong_at Any argument = wrong_any argument
+wrong_at (Value word) argument = kind_line argument
+wrong_at Name argument = []
+
+abbrev pub wrong_or : List ℕ → (ReadSoFar → Option (List ℕ)) → Option ReadSoFar → Option (List ℕ)
 wrong_or wrong rest None = Some wrong
 wrong_or wrong rest (Some read) = rest read
 
+-- an option has no value at the end
+abbrev pub wrong_end : Expects → Option (List ℕ)
+wrong_end Any = None
+wrong_end (Value word) = Some (unvalued_line word)
+wrong_end Name = None
+
 -- what is told of the first argument that is wrong, or of the value that is missing at the end
-abbrev pub wrong_by : Expects → List (List ℕ) → Option Message
-wrong_by Any [] = None
-wrong_by (Value word) [] = Some (about (codes "no value") (option_name word))
-wrong_by Name [] = None
-wrong_by expects (argument ∷ rest) = wrong_or (wrong_at expects argument) (λ read. wrong_by read.next rest) (read_by expects argument)
+abbrev pub wrong_from : Expects → List (List ℕ) → List Given → Option (List ℕ)
+wrong_from expects [] items = wrong_end expects
+wrong_from expects (argument ∷ rest) items = wrong_or (wrong_at expects argument) (λ read. wrong_from read.next rest read.items) (argument_by expects argument items)
+
+abbrev pub wrong_by : List (List ℕ) → Option (List ℕ)
+wrong_by arguments = wrong_from Any arguments []
 
 -- this is what is wrong with the arguments, or memory runs out
-abbrev pub IsMistake : Expects → List (List ℕ) → Mistake → Type 0
-IsMistake expects arguments mistake = (mistake ≡ OutOfMemory) ⊎ (wrong_by expects arguments ≡ Some (mistake_message mistake))
+abbrev pub IsMistake : List (List ℕ) → Mistake → Type 0
+IsMistake arguments mistake = (mistake ≡ OutOfMemory) ⊎ (wrong_by arguments ≡ Some (mistake_line mistake))
+
+-- where it fails the argument is wrong by this, or memory runs out
+abbrev pub FailsBy : {X : Type 0} → (List Given → Option ReadSoFar) → List Item → Result X Mistake → Type 0
+FailsBy reads old result = IfErr result (λ mistake. (mistake ≡ OutOfMemory) ⊎ (reads (all_given old) ≡ None))
+
+-- and this is told
+abbrev pub TellsBy : {X : Type 0} → List ℕ → Result X Mistake → Type 0
+TellsBy line result = IfErr result (λ mistake. (mistake ≡ OutOfMemory) ⊎ (mistake_line mistake ≡ line))
 
 -- options that are right each do not go together
 abbrev pub AreMixed : List (List ℕ) → Mistake → Type 0
 AreMixed arguments mistake =
-    (given : List Given) × (mixture : Mixture) × (given_by Any arguments ≡ Some given) × (mixture_of given ≡ Some mixture) × (mistake ≡ Mixed mixture)
+    (given : List Given) × (mixture : Mixture) × (given_by arguments ≡ Some given) × (mixture_of given ≡ Some mixture) × (mistake ≡ Mixed mixture)
 
 -- what is wrong with the arguments of a call: one of them, or that they do not go together
 abbrev pub IsMistakeOfCall : List (List ℕ) → Mistake → Type 0
-IsMistakeOfCall arguments mistake = IsMistake Any arguments mistake ⊎ AreMixed arguments mistake
-
--- a wrong argument is told as such
-abbrev pub IsMistaken : Expects → List ℕ → Reading → Type 0
-IsMistaken expects argument (Whole item next) = Unit {0}
-IsMistaken expects argument (Begun next) = Unit {0}
-IsMistaken expects argument (Wrong mistake) = mistake_message mistake ≡ wrong_at expects argument
+IsMistakeOfCall arguments mistake = IsMistake arguments mistake ⊎ AreMixed arguments mistake

@@ -1,13 +1,14 @@
 //! What the arguments of a call are: options with their values, and names of files.
 
-ghost use Rattle.std.specs.Prelude.{◌≡◌, Some, None, IfErr, IfOk, option_map};
+ghost use Rattle.std.specs.Prelude.{◌≡◌, ◌++◌, [], ◌∷◌, Some, None, IfErr, IfOk, OnOk, option_map, string_bytes};
 ghost use Rattle.programs.specs.Arguments.{kind_by, texts};
-ghost use Rattle.acredact.specs.Arguments.{all_given, all_asked, any_by, checks_asked, completed, counts_asked, covers_asked, file_by, given_by, has, is_cover, is_same, is_value_of, joined_option_of, kind_asked, last_value, mixture_of, option_name, output_asked, read_by, read_of, takes_value, word_by, word_read};
-ghost use Rattle.acredact.specs.Mistakes.{IsMistake, IsMistakeOfCall, IsMistaken};
-ghost use Rattle.acredact.specs.declared.arguments.Expects.TheVariants.{Any, Value};
+ghost use Rattle.acredact.specs.Arguments.{ReadsBy, all_given, all_asked, any_by, argument_by, behind_hyphen, checks_asked, counts_asked, covers_asked, given, given_by, has, is_cover, is_same, is_value_of, joined_by, kind_asked, last_value, letter_by, letters_by, long_by, mixture_of, named_by, option_name, output_asked, plain_by, taken_by, takes_value, value_by};
+ghost use Rattle.acredact.specs.Long.{option_by};
+ghost use Rattle.acredact.specs.Mistakes.{FailsBy, IsMistake, IsMistakeOfCall, TellsBy, kind_line, wrong_any, wrong_at, wrong_joined, wrong_letter, wrong_letters, wrong_long, wrong_name, wrong_plain};
 
+use crate::long::option_of;
 use aho_core::search::MatchKind;
-use std::alloc::Global;
+use std::alloc::{AllocError, Global};
 
 /// What an argument is, or the option that it is the value of.
 #[derive(Clone, Copy, PartialEq, Eq)]
@@ -79,15 +80,21 @@ pub enum Mixture {
     OutputCheck,
 }
 
-/// Why arguments are wrong.
+/// Why arguments are wrong. Each holds what has to be named.
 #[derive(Clone, Copy)]
 pub enum Mistake<'a> {
-    /// There is no such option.
-    Unknown(&'a str),
-    /// There is no such match kind.
-    UnknownKind(&'a str),
+    /// No option has this letter.
+    UnknownLetter(u8),
+    /// No option has this long name.
+    UnknownName(&'a [u8]),
+    /// Several options have long names that begin so.
+    Ambiguous(&'a [u8]),
     /// The last argument is this option, which needs a value.
     NoValue(Word),
+    /// The option of this long name has a value, and takes none.
+    TakesNone(&'a [u8]),
+    /// There is no such match kind.
+    UnknownKind(&'a [u8]),
     /// There is no pattern, no file of patterns and no table.
     NoPattern,
     /// These options do not go together.
@@ -96,49 +103,13 @@ pub enum Mistake<'a> {
     OutOfMemory,
 }
 
-/// What an argument is read as.
-#[derive(Clone, Copy)]
-pub enum Reading<'a> {
-    /// It completes an item, and this is expected of the next.
-    Whole(Item<'a>, Expects),
-    /// Only the next argument tells.
-    Begun(Expects),
-    /// It is wrong.
-    Wrong(Mistake<'a>),
-}
+impl From<AllocError> for Mistake<'_> {
+    ghost use Rattle.acredact.specs.declared.arguments.Mistake.TheVariants.{OutOfMemory};
 
-/// The option of this name, or a file: what does not begin with `-`, and `-` alone.
-fn word_of(argument: &str) -> Option<Word>
-    ensures word { result ≡ word_by argument.now }
-{
-    match argument {
-        "-i" => Some(Word::IgnoreCase),
-        "--kind" => Some(Word::Kind),
-        "-e" => Some(Word::Pattern),
-        "-f" => Some(Word::Patterns),
-        "-t" => Some(Word::Table),
-        "--with" => Some(Word::With),
-        "--output" => Some(Word::Output),
-        "--count" => Some(Word::Count),
-        "--summary" => Some(Word::Summary),
-        "--crlf" => Some(Word::Crlf),
-        "--allow-empty" => Some(Word::AllowEmpty),
-        "--strict" => Some(Word::Strict),
-        "--check" => Some(Word::Check),
-        "--help" => Some(Word::Help),
-        "--version" => Some(Word::Version),
-        "-" => Some(Word::File),
-        _ => file_of(argument),
-    }
-}
+    ghost from_gives = { λ _ mistake. mistake ≡ OutOfMemory };
 
-/// What does not begin with `-` is a file.
-fn file_of(argument: &str) -> Option<Word>
-    ensures file { result ≡ file_by argument.now }
-{
-    match argument.as_bytes().first() {
-        Some(b'-') => None,
-        _ => Some(Word::File),
+    fn from(_error: AllocError) -> Self {
+        Mistake::OutOfMemory
     }
 }
 
@@ -156,8 +127,8 @@ pub fn name_of(word: Word) -> &'static str
     }
 }
 
-/// Whether the next argument is the value of this option.
-fn takes_value(word: Word) -> bool
+/// Whether this option needs a value.
+pub fn takes_value(word: Word) -> bool
     ensures takes { result ≡ takes_value word }
 {
     matches!(
@@ -213,101 +184,203 @@ fn mixture_of(items: &[Item<'_>]) -> Option<Mixture>
 /// All options and files, in order.
 fn read_items(alloc: Global, arguments: &[String]) -> Result<Vec<Item<'_>>, Mistake<'_>>
     ensures given { IfOk result (λ items.
-        given_by Any (texts arguments.now) ≡ Some (all_given items.items)) }
-    ensures wrong { IfErr result (IsMistake Any (texts arguments.now)) }
+        given_by (texts arguments.now) ≡ Some (all_given items.items)) }
+    ensures wrong { IfErr result (IsMistake (texts arguments.now)) }
 {
     let mut items = Vec::new(alloc);
     let mut expects = Expects::Any;
     let mut rest = arguments;
-    while !rest.is_empty() {
-        match read(expects, rest[0].as_str()) {
-            Reading::Whole(item, next) => {
-                if items.push(item).is_err() {
-                    return Err(Mistake::OutOfMemory);
-                }
-                expects = next;
-            }
-            Reading::Begun(next) => expects = next,
-            Reading::Wrong(mistake) => return Err(mistake),
-        }
-        rest = &rest[1..];
+    while let Some((argument, behind)) = rest.split_first() {
+        expects = read(&mut items, expects, argument)?;
+        rest = behind;
     }
     match expects {
         Expects::Value(word) => Err(Mistake::NoValue(word)),
-        _ => Ok(items),
+        Expects::Any | Expects::Name => Ok(items),
     }
 }
 
-/// What an argument is read as, where this is expected.
-fn read(expects: Expects, argument: &str) -> Reading<'_>
-    ensures read { read_of result ≡ read_by expects argument.now }
-    ensures wrong { IsMistaken expects argument.now result }
+/// Reads an argument, where this is expected, and answers what is expected of the next.
+fn read<'a>(
+    items: &mut Vec<Item<'a>>,
+    expects: Expects,
+    argument: &'a String,
+) -> Result<Expects, Mistake<'a>>
+    ensures read { ReadsBy (argument_by expects (string_bytes argument.now)) items.old items.new result }
+    ensures refused { FailsBy (argument_by expects (string_bytes argument.now)) items.old result }
+    ensures wrong { TellsBy (wrong_at expects (string_bytes argument.now)) result }
 {
     match expects {
-        Expects::Any => read_any(argument),
-        Expects::Value(word) => read_value(word, argument),
-        Expects::Name => whole(Word::File, argument, Expects::Name),
+        Expects::Any => read_any(items, argument.as_str()),
+        Expects::Value(word) => read_value(items, word, argument.as_str()),
+        Expects::Name => {
+            add(items, Word::File, argument.as_str())?;
+            Ok(Expects::Name)
+        }
     }
 }
 
-/// An item that is whole.
-fn whole(word: Word, value: &str, next: Expects) -> Reading<'_>
-    ensures read { read_of result ≡ completed word value.now next }
+/// Adds an option with its value, or a file with its name.
+fn add<'a>(items: &mut Vec<Item<'a>>, word: Word, value: &'a str) -> Result<(), AllocError>
+    ensures added { OnOk result (all_given items.new.items
+        ≡ all_given items.old.items ++ (given word value.now ∷ [])) }
 {
-    Reading::Whole(Item { word, value }, next)
+    items.push(Item { word, value })?;
+    Ok(())
 }
 
-/// An option, a file, or `--`.
-fn read_any(argument: &str) -> Reading<'_>
-    ensures read { read_of result ≡ any_by argument.now }
-    // An option that there is not is named.
-    ensures wrong { IsMistaken Any argument.now result }
+/// Reads an argument that stands where an option may.
+fn read_any<'a>(items: &mut Vec<Item<'a>>, argument: &'a str) -> Result<Expects, Mistake<'a>>
+    ensures read { ReadsBy (any_by argument.now) items.old items.new result }
+    ensures refused { FailsBy (any_by argument.now) items.old result }
+    ensures wrong { TellsBy (wrong_any argument.now) result }
 {
     if argument == "--" {
-        return Reading::Begun(Expects::Name);
+        return Ok(Expects::Name);
     }
-    match word_of(argument) {
-        Some(word) => read_word(word, argument),
-        None => read_joined(argument),
-    }
-}
-
-/// A long option with its value behind `=`.
-fn read_joined(argument: &str) -> Reading<'_>
-    ensures read { read_of result ≡ joined_option_of argument.now }
-    ensures wrong { IsMistaken Any argument.now result }
-{
-    if let Some(kind) = argument.strip_prefix("--kind=") {
-        return read_value(Word::Kind, kind);
-    }
-    if let Some(text) = argument.strip_prefix("--with=") {
-        return whole(Word::With, text, Expects::Any);
-    }
-    match argument.strip_prefix("--output=") {
-        Some(name) => whole(Word::Output, name, Expects::Any),
-        None => Reading::Wrong(Mistake::Unknown(argument)),
+    match argument.strip_prefix("--") {
+        Some(long) => read_long(items, long),
+        None => read_plain(items, argument),
     }
 }
 
-/// An option, or a file.
-fn read_word(word: Word, argument: &str) -> Reading<'_>
-    ensures read { read_of result ≡ word_read word argument.now }
+/// Reads what stands behind two hyphens: a long name, which a value may follow behind an equals sign.
+fn read_long<'a>(items: &mut Vec<Item<'a>>, argument: &'a str) -> Result<Expects, Mistake<'a>>
+    ensures read { ReadsBy (long_by argument.now) items.old items.new result }
+    ensures refused { FailsBy (long_by argument.now) items.old result }
+    ensures wrong { TellsBy (wrong_long argument.now) result }
 {
+    match argument.split_once('=') {
+        Some((name, value)) => read_joined(items, name, value),
+        None => read_named(items, argument),
+    }
+}
+
+/// Reads a long name with a value behind an equals sign.
+fn read_joined<'a>(
+    items: &mut Vec<Item<'a>>,
+    name: &'a str,
+    value: &'a str,
+) -> Result<Expects, Mistake<'a>>
+    ensures read { ReadsBy (joined_by name.now value.now) items.old items.new result }
+    ensures refused { FailsBy (joined_by name.now value.now) items.old result }
+    ensures wrong { TellsBy (wrong_joined (option_by name.now) name.now value.now) result }
+{
+    let word = option_of(name.as_bytes())?;
     if takes_value(word) {
-        return Reading::Begun(Expects::Value(word));
+        return read_value(items, word, value);
     }
-    whole(word, argument, Expects::Any)
+    Err(Mistake::TakesNone(name.as_bytes()))
 }
 
-/// The value of an option.
-fn read_value(word: Word, value: &str) -> Reading<'_>
-    ensures read { read_of result ≡ read_by (Value word) value.now }
-    ensures wrong { IsMistaken (Value word) value.now result }
+/// Reads a long name without a value.
+fn read_named<'a>(items: &mut Vec<Item<'a>>, name: &'a str) -> Result<Expects, Mistake<'a>>
+    ensures read { ReadsBy (named_by name.now) items.old items.new result }
+    ensures refused { FailsBy (named_by name.now) items.old result }
+    ensures wrong { TellsBy (wrong_name name.now) result }
 {
-    if is_value_of(word, value) {
-        return whole(word, value, Expects::Any);
+    let word = option_of(name.as_bytes())?;
+    if takes_value(word) {
+        return Ok(Expects::Value(word));
     }
-    Reading::Wrong(Mistake::UnknownKind(value))
+    add(items, word, "")?;
+    Ok(Expects::Any)
+}
+
+/// Reads an argument that is no long name: letters behind a hyphen, or a file.
+fn read_plain<'a>(items: &mut Vec<Item<'a>>, argument: &'a str) -> Result<Expects, Mistake<'a>>
+    ensures read { ReadsBy (plain_by argument.now) items.old items.new result }
+    ensures refused { FailsBy (plain_by argument.now) items.old result }
+    ensures wrong { TellsBy (wrong_plain argument.now) result }
+{
+    match argument.strip_prefix("-") {
+        Some(letters) => read_hyphen(items, letters),
+        None => {
+            add(items, Word::File, argument)?;
+            Ok(Expects::Any)
+        }
+    }
+}
+
+/// Reads what stands behind a hyphen: joined letters. Nothing makes the hyphen a file.
+fn read_hyphen<'a>(items: &mut Vec<Item<'a>>, letters: &'a str) -> Result<Expects, Mistake<'a>>
+    ensures read { ReadsBy (behind_hyphen letters.now) items.old items.new result }
+    ensures refused { FailsBy (behind_hyphen letters.now) items.old result }
+    ensures wrong { TellsBy (wrong_letters letters.now) result }
+{
+    if letters.is_empty() {
+        add(items, Word::File, "-")?;
+        return Ok(Expects::Any);
+    }
+    read_letters(items, letters)
+}
+
+/// Reads joined letters. That of an option with a value takes what stands behind it.
+fn read_letters<'a>(items: &mut Vec<Item<'a>>, letters: &'a str) -> Result<Expects, Mistake<'a>>
+    ensures read { ReadsBy (letters_by letters.now) items.old items.new result }
+    ensures refused { FailsBy (letters_by letters.now) items.old result }
+    ensures wrong { TellsBy (wrong_letters letters.now) result }
+{
+    let mut rest = letters;
+    while let Some(behind) = rest.strip_prefix("i") {
+        add(items, Word::IgnoreCase, "")?;
+        rest = behind;
+    }
+    read_letter(items, rest)
+}
+
+/// Reads the letter of an option with a value, and what stands behind it.
+fn read_letter<'a>(items: &mut Vec<Item<'a>>, letters: &'a str) -> Result<Expects, Mistake<'a>>
+    ensures read { ReadsBy (letter_by letters.now) items.old items.new result }
+    ensures refused { FailsBy (letter_by letters.now) items.old result }
+    ensures wrong { TellsBy (wrong_letter letters.now) result }
+{
+    if let Some(behind) = letters.strip_prefix("e") {
+        return take_value(items, Word::Pattern, behind);
+    }
+    if let Some(behind) = letters.strip_prefix("f") {
+        return take_value(items, Word::Patterns, behind);
+    }
+    if let Some(behind) = letters.strip_prefix("t") {
+        return take_value(items, Word::Table, behind);
+    }
+    match letters.as_bytes().first() {
+        Some(letter) => Err(Mistake::UnknownLetter(*letter)),
+        None => Ok(Expects::Any),
+    }
+}
+
+/// Takes what stands behind the letter of an option for its value, if it is not empty.
+fn take_value<'a>(
+    items: &mut Vec<Item<'a>>,
+    word: Word,
+    behind: &'a str,
+) -> Result<Expects, Mistake<'a>>
+    ensures read { ReadsBy (taken_by word behind.now) items.old items.new result }
+    ensures memory { IfErr result (λ mistake. mistake ≡ Mistake.OutOfMemory) }
+{
+    if behind.is_empty() {
+        return Ok(Expects::Value(word));
+    }
+    add(items, word, behind)?;
+    Ok(Expects::Any)
+}
+
+/// Reads the value of an option.
+fn read_value<'a>(
+    items: &mut Vec<Item<'a>>,
+    word: Word,
+    value: &'a str,
+) -> Result<Expects, Mistake<'a>>
+    ensures read { ReadsBy (value_by word value.now) items.old items.new result }
+    ensures refused { FailsBy (value_by word value.now) items.old result }
+    ensures wrong { TellsBy (kind_line value.now) result }
+{
+    if !is_value_of(word, value) {
+        return Err(Mistake::UnknownKind(value.as_bytes()));
+    }
+    add(items, word, value)?;
+    Ok(Expects::Any)
 }
 
 /// Whether this is the kind that covers each byte of each match.

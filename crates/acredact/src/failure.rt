@@ -6,7 +6,7 @@ ghost use Rattle.programs.specs.Telling.{TellsBytes};
 ghost use Rattle.acredact.specs.Failures.{IsFailureLine, IsOtherLine, bad_line, is_of_output};
 ghost use Rattle.acredact.specs.LineFaults.{line_fault_text};
 ghost use Rattle.acredact.specs.Messages.{alone, flaw_text, line_about, output_line, piece_line, told_line, unclean_line};
-ghost use Rattle.acredact.specs.Mistakes.{mistake_message, mixture_text};
+ghost use Rattle.acredact.specs.Mistakes.{mistake_line, mixture_text, named_line};
 ghost use Rattle.acredact.specs.declared.clean.Flaw.TheVariants.{Empty, Spells};
 
 use crate::arguments::{Mistake, Mixture, name_of};
@@ -196,16 +196,43 @@ fn digits_of(number: usize, room: &mut [u8; MAX_DIGITS]) -> &[u8]
 
 /// Tells as a line what is wrong with the arguments.
 fn tell_mistake<E: Sink>(errors: &mut Errors<'_, E>, mistake: Mistake<'_>)
-    ensures told { TellsBytes E.Sink errors.old errors.new (told_line (mistake_message mistake.entry)) }
+    ensures told { TellsBytes E.Sink errors.old errors.new (mistake_line mistake.entry) }
 {
     match mistake {
-        Mistake::Unknown(argument) => tell_about(errors, "unknown option", argument),
-        Mistake::UnknownKind(kind) => tell_about(errors, "unknown kind", kind),
-        Mistake::NoValue(word) => tell_about(errors, "no value", name_of(word)),
+        Mistake::UnknownLetter(letter) => tell_named(errors, b"unknown option '-", &[letter], b"'"),
+        Mistake::UnknownName(name) => tell_named(errors, b"unknown option '--", name, b"'"),
+        Mistake::Ambiguous(name) => tell_named(
+            errors,
+            b"several options begin with '--",
+            name,
+            b"'",
+        ),
+        Mistake::NoValue(word) => {
+            tell_named(
+                errors,
+                b"option '",
+                name_of(word).as_bytes(),
+                b"' needs an argument",
+            )
+        }
+        Mistake::TakesNone(name) => tell_named(errors, b"option '--", name, b"' takes no argument"),
+        Mistake::UnknownKind(kind) => tell_named(
+            errors,
+            b"option '--kind' takes cover, first, longest or standard, not '",
+            kind,
+            b"'",
+        ),
         Mistake::NoPattern => tell_alone(errors, "no pattern: give -e, -f or -t, or --help"),
         Mistake::Mixed(mixture) => tell_alone(errors, mixture_text(mixture)),
         Mistake::OutOfMemory => tell_alone(errors, "out of memory"),
     }
+}
+
+/// Tells as a line what is wrong with something that was given.
+fn tell_named<E: Sink>(errors: &mut Errors<'_, E>, before: &[u8], name: &[u8], behind: &[u8])
+    ensures told { TellsBytes E.Sink errors.old errors.new (named_line before.now name.now behind.now) }
+{
+    errors.write(&[PROGRAM, b": ", before, name, behind, b"\n"]);
 }
 
 /// What is told of options that do not go together.

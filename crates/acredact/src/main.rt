@@ -17,6 +17,7 @@ mod files;
 mod folder;
 mod into;
 mod load;
+mod long;
 mod look;
 mod meter;
 mod outputs;

@@ -60,7 +60,7 @@ const HELP: &[u8] =
 
 Writes each FILE with a text in the place of each run of bytes that lie in matches of the patterns. No FILE, or -, is standard input.
 
-  -e PATTERN    a pattern
+  -e PATTERN    a pattern; also --pattern, and --file, --table and --ignore-case for -f, -t and -i
   -f FILE       a file of patterns, one on each line; - is standard input
   -t TABLE      a table: on each line a pattern, a TAB and its replacement; \\t, \\n and \\\\ stand for bytes
   -i            ASCII letters are the same in both cases
