@@ -1,9 +1,15 @@
 # The completion of acredact for bash: its options, the values of --kind, and names of files.
 _acredact() {
-    local word=${COMP_WORDS[COMP_CWORD]} words=""
-    case ${COMP_WORDS[COMP_CWORD - 1]} in
+    local word=${COMP_WORDS[COMP_CWORD]} option=${COMP_WORDS[COMP_CWORD - 1]} words=""
+    # bash takes `--kind=first` for three words.
+    if [[ $word == = ]]; then
+        word=""
+    elif [[ $option == = ]]; then
+        option=${COMP_WORDS[COMP_CWORD - 2]}
+    fi
+    case $option in
     --kind) words='cover first longest standard' ;;
-    -e | --with) return ;;
+    -e | --pattern | --with) return ;;
     *) [[ $word != -* ]] || words='-e -f -t -i --kind --with --output --count --summary --check --crlf --allow-empty --strict -- --help --version' ;;
     esac
     mapfile -t COMPREPLY < <(compgen -W "$words" -- "$word")
