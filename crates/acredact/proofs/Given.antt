@@ -1,8 +1,8 @@
 -- Right arguments have nothing wrong.
 use Rattle.std.proofs.Common.{◌≡◌, inl, inr, ℕ, List, [], ◌∷◌, Option, refl, sym, ap, ◌∙◌, Bool, true, false}
 use Rattle.std.specs.Prelude.{◌&&◌, ◌||◌, Some, None, if◌then◌else◌, is_some, not, option_and_then, option_map}
-use Rattle.acredact.specs.Arguments.{Given, ReadSoFar, all_asked, argument_by, covers_asked, fitting_by, given_by, given_from, has, last_value, mixture_of, output_asked}
-use Rattle.acredact.specs.Mistakes.{IsMistakeOfCall, wrong_at, wrong_by, wrong_from, wrong_or}
+use Rattle.acredact.specs.Arguments.{Given, ItemsSoFar, all_asked, by_argument, covers_asked, fitting_by, given_by, given_from, has, last_value, mixture_of, output_asked}
+use Rattle.acredact.specs.Mistakes.{IsMistakeOfCall, line_of_argument, first_mistake_line, line_from, line_or}
 use Rattle.acredact.specs.declared.arguments.Expects.{Expects}
 use Rattle.acredact.specs.declared.arguments.Expects.TheVariants.{Any, Value, Name}
 use Rattle.acredact.specs.declared.arguments.Mistake.{Mistake}
@@ -17,20 +17,20 @@ pub same_given : (asked : Option (List Given)) (given items : List Given) → as
 same_given asked given items first second = some_same items given (sym second ∙ first)
 
 -- where some are given, nothing is wrong: not with an argument that is read, if not with the rest
-given_step : (wrong : List ℕ) (rest : List (List ℕ)) (read : Option ReadSoFar) (given : List Given)
-    → ((next : Expects) (items : List Given) → given_from next rest items ≡ Some given → wrong_from next rest items ≡ None)
-    → option_and_then (λ read. given_from read.next rest read.items) read ≡ Some given → wrong_or wrong (λ read. wrong_from read.next rest read.items) read ≡ None
+given_step : (wrong : List ℕ) (rest : List (List ℕ)) (read : Option ItemsSoFar) (given : List Given)
+    → ((next : Expects) (items : List Given) → given_from next rest items ≡ Some given → line_from next rest items ≡ None)
+    → option_and_then (λ read. given_from read.next rest read.items) read ≡ Some given → line_or wrong (λ read. line_from read.next rest read.items) read ≡ None
 given_step wrong rest None given later is = absurd (cc)
 given_step wrong rest (Some read) given later is = later read.next read.items is
 
-given_right : (arguments : List (List ℕ)) (expects : Expects) (items given : List Given) → given_from expects arguments items ≡ Some given → wrong_from expects arguments items ≡ None
+given_right : (arguments : List (List ℕ)) (expects : Expects) (items given : List Given) → given_from expects arguments items ≡ Some given → line_from expects arguments items ≡ None
 given_right [] Any items given is = refl
 given_right [] (Value word) items given is = absurd (cc)
 given_right [] Name items given is = refl
 given_right (argument ∷ rest) expects items given is =
-    given_step (wrong_at expects argument) rest (argument_by expects argument items) given (λ next more right. given_right rest next more given right) is
+    given_step (line_of_argument expects argument) rest (by_argument expects argument items) given (λ next more right. given_right rest next more given right) is
 
-never_wrong : (arguments : List (List ℕ)) (given : List Given) (line : List ℕ) → given_by arguments ≡ Some given → wrong_by arguments ≡ Some line → ⊥
+never_wrong : (arguments : List (List ℕ)) (given : List Given) (line : List ℕ) → given_by arguments ≡ Some given → first_mistake_line arguments ≡ Some line → ⊥
 never_wrong arguments given line is wrong = let clash : None ≡ Some line = sym (given_right arguments Any [] given is) ∙ wrong in cc
 
 -- options that go together are those that were read

@@ -4,8 +4,8 @@ use Rattle.std.specs.Prelude.{◌≢◌, None, Some}
 use Rattle.std.proofs.lemmas.Bool.{cases_Bool, eqb-true}
 use Rattle.std.proofs.lemmas.Slice.Eq.{bytes_eq-Decides}
 use Rattle.std.specs.Str.{bytes_eq}
-use Rattle.acredact.specs.Arguments.{Given, ReadSoFar, any_by, argument_by, given_from, letter_by, letters_by, plain_by, with_item}
-use Rattle.acredact.specs.Mistakes.{IsMistake, mistake_line, wrong_any, wrong_at, wrong_by, wrong_from, wrong_letter, wrong_letters, wrong_or, wrong_plain}
+use Rattle.acredact.specs.Arguments.{Given, ItemsSoFar, by_any, by_argument, given_from, by_letter, by_letters, by_plain, with_item}
+use Rattle.acredact.specs.Mistakes.{IsMistake, mistake_line, line_of_any, line_of_argument, first_mistake_line, line_from, line_of_letter, line_of_letters, line_or, line_of_plain}
 use Rattle.acredact.specs.declared.arguments.Expects.{Expects}
 use Rattle.acredact.specs.declared.arguments.Expects.TheVariants.{Any}
 use Rattle.acredact.specs.declared.arguments.Mistake.{Mistake}
@@ -22,10 +22,10 @@ no_front text lacks =
       | inr not ↦ not
     ]
 
-pub plain_any : (text : List ℕ) (items : List Given) → bytes_eq text (codes "--") ≡ false → bytes_eq (take 2 text) (codes "--") ≡ false → any_by text items ≡ plain_by text items
+pub plain_any : (text : List ℕ) (items : List Given) → bytes_eq text (codes "--") ≡ false → bytes_eq (take 2 text) (codes "--") ≡ false → by_any text items ≡ by_plain text items
 plain_any text items whole front = rw whole (rw front refl)
 
-pub plain_wrong : (text : List ℕ) → bytes_eq (take 2 text) (codes "--") ≡ false → wrong_any text ≡ wrong_plain text
+pub plain_wrong : (text : List ℕ) → bytes_eq (take 2 text) (codes "--") ≡ false → line_of_any text ≡ line_of_plain text
 plain_wrong text front = rw front refl
 
 -- one byte in front of others, or another
@@ -37,22 +37,22 @@ first_not wanted first rest lacks =
     ]
 
 -- what does not begin with a hyphen is a file
-pub file_plain : (text : List ℕ) (items : List Given) → ((rest : List ℕ) → text ≢ 45 ∷ rest) → plain_by text items ≡ with_item File text Any items
+pub file_plain : (text : List ℕ) (items : List Given) → ((rest : List ℕ) → text ≢ 45 ∷ rest) → by_plain text items ≡ with_item File text Any items
 file_plain [] items lacks = refl
 file_plain (first ∷ rest) items lacks = let not = first_not 45 first rest lacks in rw not refl
 
 -- letters that do not begin with that of an option without a value
-pub last_letter : (letters : List ℕ) (items : List Given) → ((rest : List ℕ) → letters ≢ 105 ∷ rest) → letters_by letters items ≡ letter_by letters items
+pub last_letter : (letters : List ℕ) (items : List Given) → ((rest : List ℕ) → letters ≢ 105 ∷ rest) → by_letters letters items ≡ by_letter letters items
 last_letter [] items lacks = refl
 last_letter (letter ∷ rest) items lacks = let not = first_not 105 letter rest lacks in rw not refl
 
-pub last_wrong : (letters : List ℕ) → ((rest : List ℕ) → letters ≢ 105 ∷ rest) → wrong_letters letters ≡ wrong_letter letters
+pub last_wrong : (letters : List ℕ) → ((rest : List ℕ) → letters ≢ 105 ∷ rest) → line_of_letters letters ≡ line_of_letter letters
 last_wrong [] lacks = refl
 last_wrong (letter ∷ rest) lacks = let not = first_not 105 letter rest lacks in rw not refl
 
 -- a letter that no option has
 pub no_letter : (letter : ℕ) (behind : List ℕ) (items : List Given) → ((rest : List ℕ) → (letter ∷ behind) ≢ 101 ∷ rest) → ((rest : List ℕ) → (letter ∷ behind) ≢ 102 ∷ rest) → ((rest : List ℕ) → (letter ∷ behind) ≢ 116 ∷ rest)
-    → letter_by (letter ∷ behind) items ≡ None
+    → by_letter (letter ∷ behind) items ≡ None
 no_letter letter behind items first second third =
     let one = first_not 101 letter behind first in
     let two = first_not 102 letter behind second in
@@ -61,10 +61,10 @@ no_letter letter behind items first second third =
 
 -- the first argument that is wrong is told
 pub step_wrong : (all rest : List (List ℕ)) (argument : List ℕ) (expects : Expects) (items : List Given) (mistake : Mistake)
-    → (mistake ≡ OutOfMemory) ⊎ (argument_by expects argument items ≡ None) → (mistake ≡ OutOfMemory) ⊎ (mistake_line mistake ≡ wrong_at expects argument)
-    → wrong_from expects (argument ∷ rest) items ≡ wrong_by all → IsMistake all mistake
+    → (mistake ≡ OutOfMemory) ⊎ (by_argument expects argument items ≡ None) → (mistake ≡ OutOfMemory) ⊎ (mistake_line mistake ≡ line_of_argument expects argument)
+    → line_from expects (argument ∷ rest) items ≡ first_mistake_line all → IsMistake all mistake
 step_wrong all rest argument expects items mistake (inl memory) told so = inl memory
 step_wrong all rest argument expects items mistake (inr none) (inl memory) so = inl memory
 step_wrong all rest argument expects items mistake (inr none) (inr line) so =
-    let here : wrong_from expects (argument ∷ rest) items ≡ Some (wrong_at expects argument) = ap (wrong_or (wrong_at expects argument) (λ read. wrong_from read.next rest read.items)) none in
+    let here : line_from expects (argument ∷ rest) items ≡ Some (line_of_argument expects argument) = ap (line_or (line_of_argument expects argument) (λ read. line_from read.next rest read.items)) none in
     inr (sym so ∙ here ∙ ap Some (sym line))

@@ -5,7 +5,7 @@ use Rattle.std.specs.Str.{bytes_eq}
 use Rattle.aho_core.specs.declared.search.MatchKind.{MatchKind}
 use Rattle.aho_core.specs.declared.search.MatchKind.TheVariants.{Standard}
 use Rattle.programs.specs.Arguments.{kind_by, texts}
-use Rattle.acredact.specs.Long.{option_by}
+use Rattle.acredact.specs.Long.{word_by_name}
 use Rattle.acredact.specs.declared.arguments.Word.{Word}
 use Rattle.acredact.specs.declared.arguments.Word.TheVariants.{IgnoreCase, Kind, Pattern, Patterns, Table, With, Output, Count, Summary, Crlf, AllowEmpty, Strict, Check, Help, Version, File}
 use Rattle.acredact.specs.declared.arguments.Expects.{Expects}
@@ -71,107 +71,107 @@ is_value_of Version value = true
 is_value_of File value = true
 
 -- what was read, and what is expected of the next argument
-pub record ReadSoFar : Type 0 where
+pub record ItemsSoFar : Type 0 where
   pub next : Expects
   pub items : List Given
 
-abbrev pub so_far : Expects → List Given → Option ReadSoFar
-so_far next items = Some (record { next = next; items = items })
+abbrev pub items_so_far : Expects → List Given → Option ItemsSoFar
+items_so_far next items = Some (record { next = next; items = items })
 
 -- an item more
-abbrev pub with_item : Word → List ℕ → Expects → List Given → Option ReadSoFar
-with_item word value next items = so_far next (items ++ (given word value ∷ []))
+abbrev pub with_item : Word → List ℕ → Expects → List Given → Option ItemsSoFar
+with_item word value next items = items_so_far next (items ++ (given word value ∷ []))
 
 -- the value of an option
-abbrev pub value_by : Word → List ℕ → List Given → Option ReadSoFar
-value_by word value items = if is_value_of word value then with_item word value Any items else None
+abbrev pub by_value : Word → List ℕ → List Given → Option ItemsSoFar
+by_value word value items = if is_value_of word value then with_item word value Any items else None
 
 -- an option that needs a value waits for it
-abbrev pub word_by : Word → List Given → Option ReadSoFar
-word_by word items = if takes_value word then so_far (Value word) items else with_item word [] Any items
+abbrev pub word_by : Word → List Given → Option ItemsSoFar
+word_by word items = if takes_value word then items_so_far (Value word) items else with_item word [] Any items
 
 -- a long name without a value
-abbrev pub named_by : List ℕ → List Given → Option ReadSoFar
-named_by name items = option_and_then (λ word. word_by word items) (option_by name)
+abbrev pub by_name : List ℕ → List Given → Option ItemsSoFar
+by_name name items = option_and_then (λ word. word_by word items) (word_by_name name)
 
 -- one with a value behind an equals sign, which the option has to take
-abbrev pub valued_by : Word → List ℕ → List Given → Option ReadSoFar
-valued_by word value items = if takes_value word then value_by word value items else None
+abbrev pub by_valued : Word → List ℕ → List Given → Option ItemsSoFar
+by_valued word value items = if takes_value word then by_value word value items else None
 
-abbrev pub joined_by : (name value : List ℕ) → List Given → Option ReadSoFar
-joined_by name value items = option_and_then (λ word. valued_by word value items) (option_by name)
+abbrev pub by_joined : (name value : List ℕ) → List Given → Option ItemsSoFar
+by_joined name value items = option_and_then (λ word. by_valued word value items) (word_by_name name)
 
 -- what stands behind two hyphens
-abbrev pub is_equals : ℕ → Bool
-is_equals byte = byte == 61
+abbrev pub is_equals_sign : ℕ → Bool
+is_equals_sign byte = byte == 61
 
-abbrev pub long_by : List ℕ → List Given → Option ReadSoFar
-long_by argument items =
-    if nat_lt (position_or_len is_equals argument) (length argument) then joined_by (before_first is_equals argument) (after_first is_equals argument) items
-    else named_by argument items
+abbrev pub by_long : List ℕ → List Given → Option ItemsSoFar
+by_long argument items =
+    if nat_lt (position_or_len is_equals_sign argument) (length argument) then by_joined (before_first is_equals_sign argument) (after_first is_equals_sign argument) items
+    else by_name argument items
 
 -- the value of an option stands behind its letter, or is the next argument
-abbrev pub taken_by : Word → List ℕ → List Given → Option ReadSoFar
-taken_by word [] items = so_far (Value word) items
-taken_by word (first ∷ rest) items = with_item word (first ∷ rest) Any items
+abbrev pub by_taken : Word → List ℕ → List Given → Option ItemsSoFar
+by_taken word [] items = items_so_far (Value word) items
+by_taken word (first ∷ rest) items = with_item word (first ∷ rest) Any items
 
 -- the letter of an option with a value, and what stands behind it
-abbrev pub letter_by : List ℕ → List Given → Option ReadSoFar
-letter_by [] items = so_far Any items
-letter_by (letter ∷ rest) items =
-    if letter == 101 then taken_by Pattern rest items
-    else if letter == 102 then taken_by Patterns rest items
-    else if letter == 116 then taken_by Table rest items
+abbrev pub by_letter : List ℕ → List Given → Option ItemsSoFar
+by_letter [] items = items_so_far Any items
+by_letter (letter ∷ rest) items =
+    if letter == 101 then by_taken Pattern rest items
+    else if letter == 102 then by_taken Patterns rest items
+    else if letter == 116 then by_taken Table rest items
     else None
 
 -- joined letters: those of options without a value stand in front
-abbrev pub letters_by : List ℕ → List Given → Option ReadSoFar
-letters_by [] items = so_far Any items
-letters_by (letter ∷ rest) items =
-    if letter == 105 then letters_by rest (items ++ (given IgnoreCase [] ∷ []))
-    else letter_by (letter ∷ rest) items
+abbrev pub by_letters : List ℕ → List Given → Option ItemsSoFar
+by_letters [] items = items_so_far Any items
+by_letters (letter ∷ rest) items =
+    if letter == 105 then by_letters rest (items ++ (given IgnoreCase [] ∷ []))
+    else by_letter (letter ∷ rest) items
 
 -- what stands behind a hyphen; nothing makes the hyphen a file
-abbrev pub behind_hyphen : List ℕ → List Given → Option ReadSoFar
-behind_hyphen [] items = with_item File (45 ∷ []) Any items
-behind_hyphen (first ∷ rest) items = letters_by (first ∷ rest) items
+abbrev pub by_hyphen : List ℕ → List Given → Option ItemsSoFar
+by_hyphen [] items = with_item File (45 ∷ []) Any items
+by_hyphen (first ∷ rest) items = by_letters (first ∷ rest) items
 
 -- an argument that is no long name
-abbrev pub plain_by : List ℕ → List Given → Option ReadSoFar
-plain_by [] items = with_item File [] Any items
-plain_by (first ∷ rest) items = if first == 45 then behind_hyphen rest items else with_item File (first ∷ rest) Any items
+abbrev pub by_plain : List ℕ → List Given → Option ItemsSoFar
+by_plain [] items = with_item File [] Any items
+by_plain (first ∷ rest) items = if first == 45 then by_hyphen rest items else with_item File (first ∷ rest) Any items
 
 -- an argument that stands where an option may; behind '--' there are files alone
-abbrev pub any_by : List ℕ → List Given → Option ReadSoFar
-any_by argument items =
-    if bytes_eq argument (codes "--") then so_far Name items
-    else if bytes_eq (take 2 argument) (codes "--") then long_by (drop 2 argument) items
-    else plain_by argument items
+abbrev pub by_any : List ℕ → List Given → Option ItemsSoFar
+by_any argument items =
+    if bytes_eq argument (codes "--") then items_so_far Name items
+    else if bytes_eq (take 2 argument) (codes "--") then by_long (drop 2 argument) items
+    else by_plain argument items
 
 -- an argument, by what is expected of it
-abbrev pub argument_by : Expects → List ℕ → List Given → Option ReadSoFar
-argument_by Any argument items = any_by argument items
-argument_by (Value word) argument items = value_by word argument items
-argument_by Name argument items = with_item File argument Name items
+abbrev pub by_argument : Expects → List ℕ → List Given → Option ItemsSoFar
+by_argument Any argument items = by_any argument items
+by_argument (Value word) argument items = by_value word argument items
+by_argument Name argument items = with_item File argument Name items
 
 -- no option may wait for its value at the end
-abbrev pub ended_by : Expects → List Given → Option (List Given)
-ended_by Any items = Some items
-ended_by (Value word) items = None
-ended_by Name items = Some items
+abbrev pub items_at_end : Expects → List Given → Option (List Given)
+items_at_end Any items = Some items
+items_at_end (Value word) items = None
+items_at_end Name items = Some items
 
 -- one argument after another
 abbrev pub given_from : Expects → List (List ℕ) → List Given → Option (List Given)
-given_from expects [] items = ended_by expects items
-given_from expects (argument ∷ rest) items = option_and_then (λ read. given_from read.next rest read.items) (argument_by expects argument items)
+given_from expects [] items = items_at_end expects items
+given_from expects (argument ∷ rest) items = option_and_then (λ read. given_from read.next rest read.items) (by_argument expects argument items)
 
 -- all options and files, in order; none where an argument is wrong, or a value is missing at the end
 abbrev pub given_by : List (List ℕ) → Option (List Given)
 given_by arguments = given_from Any arguments []
 
 -- where it does not fail an argument was read by this
-abbrev pub ReadsBy : {X : Type 0} → (List Given → Option ReadSoFar) → List Item → List Item → Result Expects X → Type 0
-ReadsBy reads old new result = IfOk result (λ next. reads (all_given old) ≡ so_far next (all_given new))
+abbrev pub ReadsAs : {X : Type 0} → (List Given → Option ItemsSoFar) → List Item → List Item → Result Expects X → Type 0
+ReadsAs reads old new result = IfOk result (λ next. reads (all_given old) ≡ items_so_far next (all_given new))
 
 -- this option
 abbrev pub is_same : Word → Word → Bool

@@ -2,8 +2,8 @@
 use Rattle.std.specs.Prelude.{◌≡◌, ◌⊎◌, ℕ, ◌==◌, ◌++◌, List, [], ◌∷◌, Option, Some, None, Result, IfErr, codes, drop, length, nat_lt, take, if◌then◌else◌}
 use Rattle.std.specs.List.{after_first, before_first, position_or_len}
 use Rattle.std.specs.Str.{bytes_eq}
-use Rattle.acredact.specs.Arguments.{Given, ReadSoFar, all_given, argument_by, given_by, is_equals, mixture_of, option_name, takes_value}
-use Rattle.acredact.specs.Long.{found_by, option_by}
+use Rattle.acredact.specs.Arguments.{Given, ItemsSoFar, all_given, by_argument, given_by, is_equals_sign, mixture_of, option_name, takes_value}
+use Rattle.acredact.specs.Long.{found_of_name, word_by_name}
 use Rattle.acredact.specs.Messages.{alone, told_line}
 use Rattle.acredact.specs.declared.arguments.Expects.{Expects}
 use Rattle.acredact.specs.declared.arguments.Expects.TheVariants.{Any, Value, Name}
@@ -60,80 +60,80 @@ mistake_line (Mixed mixture) = told_line (alone (mixture_text mixture))
 mistake_line OutOfMemory = told_line (alone (codes "out of memory"))
 
 -- what is told of a long name that means no option
-abbrev pub wrong_found : Found → List ℕ → List ℕ
-wrong_found Unknown name = name_line name
-wrong_found (Begun word) name = []
-wrong_found Several name = several_line name
-wrong_found (Whole word) name = []
+abbrev pub line_of_found : Found → List ℕ → List ℕ
+line_of_found Unknown name = name_line name
+line_of_found (Begun word) name = []
+line_of_found Several name = several_line name
+line_of_found (Whole word) name = []
 
-abbrev pub wrong_name : List ℕ → List ℕ
-wrong_name name = wrong_found (found_by name) name
+abbrev pub line_of_name : List ℕ → List ℕ
+line_of_name name = line_of_found (found_of_name name) name
 
 -- of a long name with a value behind an equals sign, where its option cannot have that one
-abbrev pub wrong_joined : Option Word → (name value : List ℕ) → List ℕ
-wrong_joined None name value = wrong_name name
-wrong_joined (Some word) name value = if takes_value word then kind_line value else taken_line name
+abbrev pub line_of_joined : Option Word → (name value : List ℕ) → List ℕ
+line_of_joined None name value = line_of_name name
+line_of_joined (Some word) name value = if takes_value word then kind_line value else taken_line name
 
 -- of what stands behind two hyphens
-abbrev pub wrong_long : List ℕ → List ℕ
-wrong_long argument =
-    if nat_lt (position_or_len is_equals argument) (length argument)
-    then wrong_joined (option_by (before_first is_equals argument)) (before_first is_equals argument) (after_first is_equals argument)
-    else wrong_name argument
+abbrev pub line_of_long : List ℕ → List ℕ
+line_of_long argument =
+    if nat_lt (position_or_len is_equals_sign argument) (length argument)
+    then line_of_joined (word_by_name (before_first is_equals_sign argument)) (before_first is_equals_sign argument) (after_first is_equals_sign argument)
+    else line_of_name argument
 
 -- of the letter of no option
-abbrev pub wrong_letter : List ℕ → List ℕ
-wrong_letter [] = []
-wrong_letter (letter ∷ rest) = letter_line letter
+abbrev pub line_of_letter : List ℕ → List ℕ
+line_of_letter [] = []
+line_of_letter (letter ∷ rest) = letter_line letter
 
 -- of joined letters: of the first that no option has
-abbrev pub wrong_letters : List ℕ → List ℕ
-wrong_letters [] = []
-wrong_letters (letter ∷ rest) = if letter == 105 then wrong_letters rest else letter_line letter
+abbrev pub line_of_letters : List ℕ → List ℕ
+line_of_letters [] = []
+line_of_letters (letter ∷ rest) = if letter == 105 then line_of_letters rest else letter_line letter
 
 -- of those behind a hyphen
-abbrev pub wrong_plain : List ℕ → List ℕ
-wrong_plain [] = []
-wrong_plain (hyphen ∷ letters) = wrong_letters letters
+abbrev pub line_of_plain : List ℕ → List ℕ
+line_of_plain [] = []
+line_of_plain (hyphen ∷ letters) = line_of_letters letters
 
-abbrev pub wrong_any : List ℕ → List ℕ
-wrong_any argument = if bytes_eq (take 2 argument) (codes "--") then wrong_long (drop 2 argument) else wrong_plain argument
+abbrev pub line_of_any : List ℕ → List ℕ
+line_of_any argument = if bytes_eq (take 2 argument) (codes "--") then line_of_long (drop 2 argument) else line_of_plain argument
 
 -- of a wrong argument, by what is expected of it; a file's name is never wrong
-abbrev pub wrong_at : Expects → List ℕ → List ℕ
-wrong_at Any argument = wrong_any argument
-wrong_at (Value word) argument = kind_line argument
-wrong_at Name argument = []
+abbrev pub line_of_argument : Expects → List ℕ → List ℕ
+line_of_argument Any argument = line_of_any argument
+line_of_argument (Value word) argument = kind_line argument
+line_of_argument Name argument = []
 
-abbrev pub wrong_or : List ℕ → (ReadSoFar → Option (List ℕ)) → Option ReadSoFar → Option (List ℕ)
-wrong_or wrong rest None = Some wrong
-wrong_or wrong rest (Some read) = rest read
+abbrev pub line_or : List ℕ → (ItemsSoFar → Option (List ℕ)) → Option ItemsSoFar → Option (List ℕ)
+line_or wrong rest None = Some wrong
+line_or wrong rest (Some read) = rest read
 
 -- an option has no value at the end
-abbrev pub wrong_end : Expects → Option (List ℕ)
-wrong_end Any = None
-wrong_end (Value word) = Some (unvalued_line word)
-wrong_end Name = None
+abbrev pub line_at_end : Expects → Option (List ℕ)
+line_at_end Any = None
+line_at_end (Value word) = Some (unvalued_line word)
+line_at_end Name = None
 
 -- what is told of the first argument that is wrong, or of the value that is missing at the end
-abbrev pub wrong_from : Expects → List (List ℕ) → List Given → Option (List ℕ)
-wrong_from expects [] items = wrong_end expects
-wrong_from expects (argument ∷ rest) items = wrong_or (wrong_at expects argument) (λ read. wrong_from read.next rest read.items) (argument_by expects argument items)
+abbrev pub line_from : Expects → List (List ℕ) → List Given → Option (List ℕ)
+line_from expects [] items = line_at_end expects
+line_from expects (argument ∷ rest) items = line_or (line_of_argument expects argument) (λ read. line_from read.next rest read.items) (by_argument expects argument items)
 
-abbrev pub wrong_by : List (List ℕ) → Option (List ℕ)
-wrong_by arguments = wrong_from Any arguments []
+abbrev pub first_mistake_line : List (List ℕ) → Option (List ℕ)
+first_mistake_line arguments = line_from Any arguments []
 
 -- this is what is wrong with the arguments, or memory runs out
 abbrev pub IsMistake : List (List ℕ) → Mistake → Type 0
-IsMistake arguments mistake = (mistake ≡ OutOfMemory) ⊎ (wrong_by arguments ≡ Some (mistake_line mistake))
+IsMistake arguments mistake = (mistake ≡ OutOfMemory) ⊎ (first_mistake_line arguments ≡ Some (mistake_line mistake))
 
 -- where it fails the argument is wrong by this, or memory runs out
-abbrev pub FailsBy : {X : Type 0} → (List Given → Option ReadSoFar) → List Item → Result X Mistake → Type 0
-FailsBy reads old result = IfErr result (λ mistake. (mistake ≡ OutOfMemory) ⊎ (reads (all_given old) ≡ None))
+abbrev pub FailsAs : {X : Type 0} → (List Given → Option ItemsSoFar) → List Item → Result X Mistake → Type 0
+FailsAs reads old result = IfErr result (λ mistake. (mistake ≡ OutOfMemory) ⊎ (reads (all_given old) ≡ None))
 
 -- and this is told
-abbrev pub TellsBy : {X : Type 0} → List ℕ → Result X Mistake → Type 0
-TellsBy line result = IfErr result (λ mistake. (mistake ≡ OutOfMemory) ⊎ (mistake_line mistake ≡ line))
+abbrev pub TellsAs : {X : Type 0} → List ℕ → Result X Mistake → Type 0
+TellsAs line result = IfErr result (λ mistake. (mistake ≡ OutOfMemory) ⊎ (mistake_line mistake ≡ line))
 
 -- options that are right each do not go together
 abbrev pub AreMixed : List (List ℕ) → Mistake → Type 0

@@ -2,9 +2,9 @@
 
 ghost use Rattle.std.specs.Prelude.{◌≡◌, ◌++◌, [], ◌∷◌, Some, None, IfErr, IfOk, OnOk, option_map, string_bytes};
 ghost use Rattle.programs.specs.Arguments.{kind_by, texts};
-ghost use Rattle.acredact.specs.Arguments.{ReadsBy, all_given, all_asked, any_by, argument_by, behind_hyphen, checks_asked, counts_asked, covers_asked, given, given_by, has, is_cover, is_same, is_value_of, joined_by, kind_asked, last_value, letter_by, letters_by, long_by, mixture_of, named_by, option_name, output_asked, plain_by, taken_by, takes_value, value_by};
-ghost use Rattle.acredact.specs.Long.{option_by};
-ghost use Rattle.acredact.specs.Mistakes.{FailsBy, IsMistake, IsMistakeOfCall, TellsBy, kind_line, wrong_any, wrong_at, wrong_joined, wrong_letter, wrong_letters, wrong_long, wrong_name, wrong_plain};
+ghost use Rattle.acredact.specs.Arguments.{ReadsAs, all_given, all_asked, by_any, by_argument, by_hyphen, checks_asked, counts_asked, covers_asked, given, given_by, has, is_cover, is_same, is_value_of, by_joined, kind_asked, last_value, by_letter, by_letters, by_long, mixture_of, by_name, option_name, output_asked, by_plain, by_taken, takes_value, by_value};
+ghost use Rattle.acredact.specs.Long.{word_by_name};
+ghost use Rattle.acredact.specs.Mistakes.{FailsAs, IsMistake, IsMistakeOfCall, TellsAs, kind_line, line_of_any, line_of_argument, line_of_joined, line_of_letter, line_of_letters, line_of_long, line_of_name, line_of_plain};
 
 use crate::long::option_of;
 use aho_core::search::MatchKind;
@@ -206,9 +206,9 @@ fn read<'a>(
     expects: Expects,
     argument: &'a String,
 ) -> Result<Expects, Mistake<'a>>
-    ensures read { ReadsBy (argument_by expects (string_bytes argument.now)) items.old items.new result }
-    ensures refused { FailsBy (argument_by expects (string_bytes argument.now)) items.old result }
-    ensures wrong { TellsBy (wrong_at expects (string_bytes argument.now)) result }
+    ensures read { ReadsAs (by_argument expects (string_bytes argument.now)) items.old items.new result }
+    ensures refused { FailsAs (by_argument expects (string_bytes argument.now)) items.old result }
+    ensures wrong { TellsAs (line_of_argument expects (string_bytes argument.now)) result }
 {
     match expects {
         Expects::Any => read_any(items, argument.as_str()),
@@ -231,9 +231,9 @@ fn add<'a>(items: &mut Vec<Item<'a>>, word: Word, value: &'a str) -> Result<(), 
 
 /// Reads an argument that stands where an option may.
 fn read_any<'a>(items: &mut Vec<Item<'a>>, argument: &'a str) -> Result<Expects, Mistake<'a>>
-    ensures read { ReadsBy (any_by argument.now) items.old items.new result }
-    ensures refused { FailsBy (any_by argument.now) items.old result }
-    ensures wrong { TellsBy (wrong_any argument.now) result }
+    ensures read { ReadsAs (by_any argument.now) items.old items.new result }
+    ensures refused { FailsAs (by_any argument.now) items.old result }
+    ensures wrong { TellsAs (line_of_any argument.now) result }
 {
     if argument == "--" {
         return Ok(Expects::Name);
@@ -246,9 +246,9 @@ fn read_any<'a>(items: &mut Vec<Item<'a>>, argument: &'a str) -> Result<Expects,
 
 /// Reads what stands behind two hyphens: a long name, which a value may follow behind an equals sign.
 fn read_long<'a>(items: &mut Vec<Item<'a>>, argument: &'a str) -> Result<Expects, Mistake<'a>>
-    ensures read { ReadsBy (long_by argument.now) items.old items.new result }
-    ensures refused { FailsBy (long_by argument.now) items.old result }
-    ensures wrong { TellsBy (wrong_long argument.now) result }
+    ensures read { ReadsAs (by_long argument.now) items.old items.new result }
+    ensures refused { FailsAs (by_long argument.now) items.old result }
+    ensures wrong { TellsAs (line_of_long argument.now) result }
 {
     match argument.split_once('=') {
         Some((name, value)) => read_joined(items, name, value),
@@ -262,9 +262,9 @@ fn read_joined<'a>(
     name: &'a str,
     value: &'a str,
 ) -> Result<Expects, Mistake<'a>>
-    ensures read { ReadsBy (joined_by name.now value.now) items.old items.new result }
-    ensures refused { FailsBy (joined_by name.now value.now) items.old result }
-    ensures wrong { TellsBy (wrong_joined (option_by name.now) name.now value.now) result }
+    ensures read { ReadsAs (by_joined name.now value.now) items.old items.new result }
+    ensures refused { FailsAs (by_joined name.now value.now) items.old result }
+    ensures wrong { TellsAs (line_of_joined (word_by_name name.now) name.now value.now) result }
 {
     let word = option_of(name.as_bytes())?;
     if takes_value(word) {
@@ -275,9 +275,9 @@ fn read_joined<'a>(
 
 /// Reads a long name without a value.
 fn read_named<'a>(items: &mut Vec<Item<'a>>, name: &'a str) -> Result<Expects, Mistake<'a>>
-    ensures read { ReadsBy (named_by name.now) items.old items.new result }
-    ensures refused { FailsBy (named_by name.now) items.old result }
-    ensures wrong { TellsBy (wrong_name name.now) result }
+    ensures read { ReadsAs (by_name name.now) items.old items.new result }
+    ensures refused { FailsAs (by_name name.now) items.old result }
+    ensures wrong { TellsAs (line_of_name name.now) result }
 {
     let word = option_of(name.as_bytes())?;
     if takes_value(word) {
@@ -289,9 +289,9 @@ fn read_named<'a>(items: &mut Vec<Item<'a>>, name: &'a str) -> Result<Expects, M
 
 /// Reads an argument that is no long name: letters behind a hyphen, or a file.
 fn read_plain<'a>(items: &mut Vec<Item<'a>>, argument: &'a str) -> Result<Expects, Mistake<'a>>
-    ensures read { ReadsBy (plain_by argument.now) items.old items.new result }
-    ensures refused { FailsBy (plain_by argument.now) items.old result }
-    ensures wrong { TellsBy (wrong_plain argument.now) result }
+    ensures read { ReadsAs (by_plain argument.now) items.old items.new result }
+    ensures refused { FailsAs (by_plain argument.now) items.old result }
+    ensures wrong { TellsAs (line_of_plain argument.now) result }
 {
     match argument.strip_prefix("-") {
         Some(letters) => read_hyphen(items, letters),
@@ -304,9 +304,9 @@ fn read_plain<'a>(items: &mut Vec<Item<'a>>, argument: &'a str) -> Result<Expect
 
 /// Reads what stands behind a hyphen: joined letters. Nothing makes the hyphen a file.
 fn read_hyphen<'a>(items: &mut Vec<Item<'a>>, letters: &'a str) -> Result<Expects, Mistake<'a>>
-    ensures read { ReadsBy (behind_hyphen letters.now) items.old items.new result }
-    ensures refused { FailsBy (behind_hyphen letters.now) items.old result }
-    ensures wrong { TellsBy (wrong_letters letters.now) result }
+    ensures read { ReadsAs (by_hyphen letters.now) items.old items.new result }
+    ensures refused { FailsAs (by_hyphen letters.now) items.old result }
+    ensures wrong { TellsAs (line_of_letters letters.now) result }
 {
     if letters.is_empty() {
         add(items, Word::File, "-")?;
@@ -317,9 +317,9 @@ fn read_hyphen<'a>(items: &mut Vec<Item<'a>>, letters: &'a str) -> Result<Expect
 
 /// Reads joined letters. That of an option with a value takes what stands behind it.
 fn read_letters<'a>(items: &mut Vec<Item<'a>>, letters: &'a str) -> Result<Expects, Mistake<'a>>
-    ensures read { ReadsBy (letters_by letters.now) items.old items.new result }
-    ensures refused { FailsBy (letters_by letters.now) items.old result }
-    ensures wrong { TellsBy (wrong_letters letters.now) result }
+    ensures read { ReadsAs (by_letters letters.now) items.old items.new result }
+    ensures refused { FailsAs (by_letters letters.now) items.old result }
+    ensures wrong { TellsAs (line_of_letters letters.now) result }
 {
     let mut rest = letters;
     while let Some(behind) = rest.strip_prefix("i") {
@@ -331,9 +331,9 @@ fn read_letters<'a>(items: &mut Vec<Item<'a>>, letters: &'a str) -> Result<Expec
 
 /// Reads the letter of an option with a value, and what stands behind it.
 fn read_letter<'a>(items: &mut Vec<Item<'a>>, letters: &'a str) -> Result<Expects, Mistake<'a>>
-    ensures read { ReadsBy (letter_by letters.now) items.old items.new result }
-    ensures refused { FailsBy (letter_by letters.now) items.old result }
-    ensures wrong { TellsBy (wrong_letter letters.now) result }
+    ensures read { ReadsAs (by_letter letters.now) items.old items.new result }
+    ensures refused { FailsAs (by_letter letters.now) items.old result }
+    ensures wrong { TellsAs (line_of_letter letters.now) result }
 {
     if let Some(behind) = letters.strip_prefix("e") {
         return take_value(items, Word::Pattern, behind);
@@ -356,7 +356,7 @@ fn take_value<'a>(
     word: Word,
     behind: &'a str,
 ) -> Result<Expects, Mistake<'a>>
-    ensures read { ReadsBy (taken_by word behind.now) items.old items.new result }
+    ensures read { ReadsAs (by_taken word behind.now) items.old items.new result }
     ensures memory { IfErr result (λ mistake. mistake ≡ Mistake.OutOfMemory) }
 {
     if behind.is_empty() {
@@ -372,9 +372,9 @@ fn read_value<'a>(
     word: Word,
     value: &'a str,
 ) -> Result<Expects, Mistake<'a>>
-    ensures read { ReadsBy (value_by word value.now) items.old items.new result }
-    ensures refused { FailsBy (value_by word value.now) items.old result }
-    ensures wrong { TellsBy (kind_line value.now) result }
+    ensures read { ReadsAs (by_value word value.now) items.old items.new result }
+    ensures refused { FailsAs (by_value word value.now) items.old result }
+    ensures wrong { TellsAs (kind_line value.now) result }
 {
     if !is_value_of(word, value) {
         return Err(Mistake::UnknownKind(value.as_bytes()));

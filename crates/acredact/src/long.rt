@@ -1,8 +1,8 @@
 //! The long names of options, and their beginnings.
 
 ghost use Rattle.std.specs.Prelude.{◌≡◌, Some, None, IfErr, IfOk};
-ghost use Rattle.acredact.specs.Long.{begun_too, found_among, found_by, found_more, option_by, output_options, pattern_options};
-ghost use Rattle.acredact.specs.Mistakes.{mistake_line, wrong_name};
+ghost use Rattle.acredact.specs.Long.{also_begun, found_in_options, found_of_name, found_with, word_by_name, options_of_output, options_of_patterns};
+ghost use Rattle.acredact.specs.Mistakes.{mistake_line, line_of_name};
 
 use crate::arguments::{Mistake, Word};
 
@@ -21,22 +21,22 @@ pub enum Found {
 
 impl Found {
     /// What it means with a further option.
-    #[tactic(auto, unfolding(crate::specs::Long::found_more))]
+    #[tactic(auto, unfolding(crate::specs::Long::found_with))]
     fn or(self, asked: &[u8], name: &[u8], word: Word) -> Found
-        ensures found { result ≡ found_more asked.now self name.now word }
+        ensures found { result ≡ found_with asked.now self name.now word }
     {
         if asked == name {
             Found::Whole(word)
         } else if name.starts_with(asked) {
-            self.begun_too(word)
+            self.also_begun(word)
         } else {
             self
         }
     }
 
     /// What it means where the name of a further option begins so too.
-    fn begun_too(self, word: Word) -> Found
-        ensures found { result ≡ begun_too self word }
+    fn also_begun(self, word: Word) -> Found
+        ensures found { result ≡ also_begun self word }
     {
         match self {
             Found::Unknown => Found::Begun(word),
@@ -48,9 +48,9 @@ impl Found {
 
 /// The option of a long name, or of a beginning that no other option's name has.
 pub fn option_of(name: &[u8]) -> Result<Word, Mistake<'_>>
-    ensures found { IfOk result (λ word. option_by name.now ≡ Some word) }
-    ensures refused { IfErr result (λ mistake. option_by name.now ≡ None) }
-    ensures wrong { IfErr result (λ mistake. mistake_line mistake ≡ wrong_name name.now) }
+    ensures found { IfOk result (λ word. word_by_name name.now ≡ Some word) }
+    ensures refused { IfErr result (λ mistake. word_by_name name.now ≡ None) }
+    ensures wrong { IfErr result (λ mistake. mistake_line mistake ≡ line_of_name name.now) }
 {
     match found_of(name) {
         Found::Whole(word) => Ok(word),
@@ -62,7 +62,7 @@ pub fn option_of(name: &[u8]) -> Result<Word, Mistake<'_>>
 
 /// What a name means.
 fn found_of(name: &[u8]) -> Found
-    ensures found { result ≡ found_by name.now }
+    ensures found { result ≡ found_of_name name.now }
 {
     let patterns = or_patterns(Found::Unknown, name);
     or_output(patterns, name)
@@ -70,7 +70,7 @@ fn found_of(name: &[u8]) -> Found
 
 /// What it means with the options that say what is replaced, and by what.
 fn or_patterns(found: Found, name: &[u8]) -> Found
-    ensures found { result ≡ found_among pattern_options name.now found }
+    ensures found { result ≡ found_in_options options_of_patterns name.now found }
 {
     found
         .or(name, b"ignore-case", Word::IgnoreCase)
@@ -85,7 +85,7 @@ fn or_patterns(found: Found, name: &[u8]) -> Found
 
 /// What it means with all others.
 fn or_output(found: Found, name: &[u8]) -> Found
-    ensures found { result ≡ found_among output_options name.now found }
+    ensures found { result ≡ found_in_options options_of_output name.now found }
 {
     found
         .or(name, b"output", Word::Output)
