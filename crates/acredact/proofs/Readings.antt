@@ -13,12 +13,16 @@ use Rattle.acredact.specs.declared.arguments.Mistake.TheVariants.{OutOfMemory}
 use Rattle.acredact.specs.declared.arguments.Word.TheVariants.{File}
 
 -- what does not begin with two hyphens is no long name
-pub no_front : (text : List ℕ) → ((rest : List ℕ) → text ≢ codes "--" ++ rest) → bytes_eq (take 2 text) (codes "--") ≡ false
+drop_none : (text : List ℕ) → drop 0 text ≡ text
+drop_none [] = refl
+drop_none (first ∷ rest) = refl
+
+pub no_front : (text : List ℕ) → ((rest : List ℕ) → drop 0 text ≢ codes "--" ++ rest) → bytes_eq (take 2 text) (codes "--") ≡ false
 no_front text lacks =
     elim (cases_Bool (bytes_eq (take 2 text) (codes "--"))) [
       | inl is ↦
           (let same : take 2 text ≡ codes "--" = (bytes_eq-Decides (take 2 text) (codes "--")).0 is in
-          absurd (lacks (drop 2 text) (sym (take-append-drop 2 text) ∙ ap (λ (l : List ℕ). l ++ drop 2 text) same)))
+          absurd (lacks (drop 2 text) (drop_none text ∙ sym (take-append-drop 2 text) ∙ ap (λ (l : List ℕ). l ++ drop 2 text) same)))
       | inr not ↦ not
     ]
 

@@ -312,7 +312,7 @@ fn read_plain<'a>(items: &mut Vec<Item<'a>>, argument: &'a str) -> Result<Expect
     ensures refused { FailsAs (by_plain argument.now) items.old result }
     ensures wrong { TellsAs (line_of_plain argument.now) result }
 {
-    match argument.strip_prefix("-") {
+    match argument.strip_prefix('-') {
         Some(letters) => read_hyphen(items, letters),
         None => {
             add(items, Word::File, argument)?;
@@ -341,7 +341,7 @@ fn read_letters<'a>(items: &mut Vec<Item<'a>>, letters: &'a str) -> Result<Expec
     ensures wrong { TellsAs (line_of_letters letters.now) result }
 {
     let mut rest = letters;
-    while let Some(behind) = rest.strip_prefix("i") {
+    while let Some(behind) = rest.strip_prefix('i') {
         add(items, Word::IgnoreCase, "")?;
         rest = behind;
     }
@@ -354,13 +354,13 @@ fn read_letter<'a>(items: &mut Vec<Item<'a>>, letters: &'a str) -> Result<Expect
     ensures refused { FailsAs (by_letter letters.now) items.old result }
     ensures wrong { TellsAs (line_of_letter letters.now) result }
 {
-    if let Some(behind) = letters.strip_prefix("e") {
+    if let Some(behind) = letters.strip_prefix('e') {
         return take_value(items, Word::Pattern, behind);
     }
-    if let Some(behind) = letters.strip_prefix("f") {
+    if let Some(behind) = letters.strip_prefix('f') {
         return take_value(items, Word::Patterns, behind);
     }
-    if let Some(behind) = letters.strip_prefix("t") {
+    if let Some(behind) = letters.strip_prefix('t') {
         return take_value(items, Word::Table, behind);
     }
     match letters.as_bytes().first() {

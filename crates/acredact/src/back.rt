@@ -1,15 +1,13 @@
 //! The redaction by a leftmost kind where patterns go far beyond others that occur in them: by a walk backward, which looks up at most
 //! four transitions for each byte whatever the patterns are.
 
-ghost use Rattle.std.specs.Prelude.{◌≡◌, IfOk, IfSome, IsOk, false};
+ghost use Rattle.std.specs.Prelude.{◌≡◌, IfOk, IsOk};
 ghost use Rattle.aho_core.specs.Patterns.{Patterns};
 ghost use Rattle.aho_core.specs.Replacement.{pieces_of};
 ghost use Rattle.aho_core.specs.declared.search.Anchored.TheVariants.{No};
 ghost use Rattle.aho_backward.specs.Searcher.{IsBackwardOf};
 ghost use Rattle.acredact.specs.Arguments.{all_given};
-ghost use Rattle.acredact.specs.Back.{IfBack, IsBackAsked};
-ghost use Rattle.acredact.specs.Secrets.{redactor_by};
-ghost use Rattle.acredact.specs.Streams.{StreamOutcome};
+ghost use Rattle.acredact.specs.Back.{BackStream, IsBackAsked};
 
 use crate::arguments::{Item, Word, counts, covers, has, kind_of};
 use crate::ways::{Replacing, Way};
@@ -36,8 +34,8 @@ pub fn back_of(
 ) -> Result<Option<Backward<NFA>>, AllocError>
     requires of { (p : Patterns) × ⟦<NFA as Automaton>⟧.is_of nfa.now p }
     requires starts { IsOk (⟦<NFA as Automaton>⟧.start nfa.now No) }
-    ensures of { IfOk result (λ back. IfSome back (λ back.
-        IsBackAsked ⟦<NFA as Automaton>⟧ (all_given given.now) (pieces_of words.now) back)) }
+    ensures of { IfOk result
+        (IsBackAsked ⟦<NFA as Automaton>⟧ (all_given given.now) (pieces_of words.now)) }
 {
     if covers(given) || counts(given) || !is_worth_it(nfa, words) {
         return Ok(None);
@@ -63,8 +61,8 @@ pub fn redact_back<A: Automaton, R: Source, W: Sink>(
     sink: &mut W,
 ) -> Result<(), StreamError>
     requires of { (p : Patterns) × IsBackwardOf A.Automaton searcher.now p }
-    ensures outcome { IfBack A.Automaton searcher.now (λ p. StreamOutcome R.Source W.Sink
-        (redactor_by p false replacements.now) result source.old source.new sink.old sink.new) }
+    ensures outcome { BackStream A.Automaton R.Source W.Sink searcher.now replacements.now
+        result source.old source.new sink.old sink.new }
 {
     searcher.try_stream_replace_all(alloc, source, sink, replacements)
 }

@@ -6,8 +6,9 @@ ghost use Rattle.aho_backward.specs.Searcher.{IsBackwardOf};
 ghost use Rattle.aho_devices.specs.Counts.{counted};
 ghost use Rattle.programs.specs.Names.{is_input};
 ghost use Rattle.programs.specs.Streams.{bytes_left};
+ghost use Rattle.acredact.specs.Back.{BackCounts, BackOutcome};
 ghost use Rattle.acredact.specs.Faults.{is_unread, reading_of};
-ghost use Rattle.acredact.specs.Files.{CanDo, FileOutcome, FilesOutcome, InputOutcome, JobOutcome, OpenedOutcome, ToldJob, work_of};
+ghost use Rattle.acredact.specs.Files.{CanDo, FileJob, FilesOutcome, InputOutcome, JobOutcome, OpenedOutcome, ToldJob, work_of};
 ghost use Rattle.acredact.specs.Secrets.{IfOf, Redactor};
 ghost use Rattle.acredact.specs.Totals.{CountsFile, CountsJob, CountsOfStream, CountsOfText, CountsOpened, CountsTold, JobCounts};
 ghost use Rattle.acredact.specs.Streams.{StreamOutcome};
@@ -135,10 +136,10 @@ pub fn back_files<A: Automaton, B: Automaton, F: Folder, I: Read, W: Write, E: S
 ) -> Result<bool, StreamError>
     requires ready { CanDo A.Automaton automaton.now job.now }
     requires both { (p : Patterns) × A.is_of automaton.now p × IsBackwardOf B.Automaton searcher.now p }
-    ensures outcome { IfOf A.Automaton automaton.now (λ p. IsBackwardOf B.Automaton searcher.now p
-        → FilesOutcome W.Write E.Sink (work_of F.Folder job.now (redactor_of job.now p)) result streams.old streams.new) }
-    ensures counted { IfOf A.Automaton automaton.now (λ p. IsBackwardOf B.Automaton searcher.now p
-        → JobCounts F.Folder job.now result streams.old streams.new counts.old counts.new p) }
+    ensures outcome { BackOutcome W.Write E.Sink A.Automaton B.Automaton F.Folder
+        automaton.now searcher.now job.now result streams.old streams.new }
+    ensures counted { BackCounts A.Automaton B.Automaton F.Folder automaton.now searcher.now job.now
+        result streams.old streams.new counts.old counts.new }
     ensures read { JobVolume F.Folder job.now result volume.old volume.new streams.old streams.new }
     ensures flushed { OnOk result (streams.new.output.device.flushed ≡ true) }
 {
@@ -284,8 +285,8 @@ fn redact_file<X: Way, F: Folder, I: Read, W: Write>(
     output: &mut FromWrite<W>,
 ) -> Result<Option<Reason>, StreamError>
     requires ready { (r : Redactor) × Redacts X.Way way.old r }
-    ensures outcome { IfBy X.Way way.old (λ r. FileOutcome W.Write
-        (work_of F.Folder job.now r) name.now result input.old input.new output.old output.new) }
+    ensures outcome { IfBy X.Way way.old (FileJob W.Write F.Folder job.now name.now
+        result input.old input.new output.old output.new) }
     ensures counted { IfBy X.Way way.old (CountsFile F.Folder job.now name.now
         result input.old input.new counts.old counts.new) }
     ensures read { result ≡ Ok None → AddsFile (F.holds job.now.folder.now) name.now

@@ -4,8 +4,8 @@ ghost use Rattle.std.specs.Prelude.{◌≡◌, ◌∷◌, [], false, slice_index
 ghost use Rattle.aho_core.specs.Replacement.{pieces_of};
 ghost use Rattle.aho_cover.specs.Counting.{CountsThese};
 ghost use Rattle.aho_cover.specs.Covers.{IsUnbegunCover};
-ghost use Rattle.acredact.specs.Secrets.{IfOf, CanRedact, redactor_by};
-ghost use Rattle.acredact.specs.Streams.{StreamOutcome, WritesPiece};
+ghost use Rattle.acredact.specs.Secrets.{CanRedact};
+ghost use Rattle.acredact.specs.Streams.{ComesOf, WritesPiece};
 ghost use Rattle.acredact.specs.Totals.{CountsBy};
 
 use aho_automaton::automaton::Automaton;
@@ -35,8 +35,8 @@ pub fn cover<A: Automaton, R: Source, W: Sink>(
 ) -> Result<(), StreamError>
     requires ready { CanRedact A.Automaton start.old.automaton.now true replacements.now }
     requires unbegun { IsUnbegunCover A.Automaton start.old.automaton.now start.old.progress }
-    ensures outcome { IfOf A.Automaton start.old.automaton.now (λ p. StreamOutcome R.Source W.Sink
-        (redactor_by p true replacements.now) result source.old source.new sink.old sink.new) }
+    ensures outcome { ComesOf A.Automaton R.Source W.Sink start.old.automaton.now true
+        replacements.now result source.old source.new sink.old sink.new }
     ensures counted { CountsBy A.Automaton R.Source start.old.automaton.now true replacements.now
         result source.old source.new counts.old counts.new }
     ensures same { start.new.automaton.now ≡ start.old.automaton.now }
@@ -59,8 +59,8 @@ pub fn redact<A: Automaton, R: Source, W: Sink>(
     sink: &mut W,
 ) -> Result<(), StreamError>
     requires ready { CanRedact A.Automaton automaton.now false replacements.now }
-    ensures outcome { IfOf A.Automaton automaton.now (λ p. StreamOutcome R.Source W.Sink
-        (redactor_by p false replacements.now) result source.old source.new sink.old sink.new) }
+    ensures outcome { ComesOf A.Automaton R.Source W.Sink automaton.now false replacements.now
+        result source.old source.new sink.old sink.new }
 {
     try_stream_replace_all(alloc, automaton, source, sink, replacements)
 }
@@ -75,8 +75,8 @@ pub fn redact_counting<A: Automaton, R: Source, W: Sink>(
     sink: &mut W,
 ) -> Result<(), StreamError>
     requires ready { CanRedact A.Automaton automaton.now false replacements.now }
-    ensures outcome { IfOf A.Automaton automaton.now (λ p. StreamOutcome R.Source W.Sink
-        (redactor_by p false replacements.now) result source.old source.new sink.old sink.new) }
+    ensures outcome { ComesOf A.Automaton R.Source W.Sink automaton.now false replacements.now
+        result source.old source.new sink.old sink.new }
     ensures counted { CountsBy A.Automaton R.Source automaton.now false replacements.now
         result source.old source.new counts.old counts.new }
 {
