@@ -58,7 +58,7 @@ module _ {F X O Z : Type 0} (D : Folders F X) (U : Places O Z) where
   abbrev pub PlacesJob : {Y : Type 0} → Job F → Patterns → Result Bool Y → (outputs outputs' : O) → Type 0
   PlacesJob job p result outputs outputs' = PlacesOutcome U (work_of D job (redactor_of job p)) result outputs outputs'
 
-  module _ (folder : F) (given : List Given) (left : Option (List ℕ)) (outputs outputs' : O) where
+  module _ (folder : F) (left : Option (List ℕ)) (outputs outputs' : O) (given : List Given) where
     -- all patterns were loaded, of the input with so many bytes left, and each file was replaced
     pub record ReplacesAsked : Type 0 where
       pub secrets : List Secret
@@ -79,5 +79,5 @@ module _ {F X O Z : Type 0} (D : Folders F X) (U : Places O Z) where
 
   -- what comes of a call
   pub record AskedPlaces {Y : Type 0} (folder : F) (given : List Given) (result : Result Bool Y) (left : Option (List ℕ)) (outputs outputs' : O) : Type 0 where
-    pub replaces : result ≡ Ok true → ReplacesAsked folder given left outputs outputs'
-    pub keeps : KeepsAsked folder given left outputs outputs'
+    pub replaces : result ≡ Ok true → ReplacesAsked folder left outputs outputs' given
+    pub keeps : KeepsAsked folder left outputs outputs' given

@@ -66,10 +66,10 @@ pub fn replace_in_place<F: Folder, O: Outputs, I: Read + Drop, E: Sink + Drop>(
     ensures unmade { AreMistaken arguments.now → outputs.new ≡ outputs.old }
     // Where the status is 0, each file was redacted into a new one, which took its place.
     ensures replaces { IfAsked arguments.now (λ given. result ≡ 0
-        → ReplacesAsked F.Folder O.Outputs folder.now given (I.remaining input) outputs.old outputs.new) }
+        → ReplacesAsked F.Folder O.Outputs folder.now (I.remaining input) outputs.old outputs.new given) }
     // Whatever it is, each file was replaced by its whole redaction, or is as it was.
-    ensures keeps { IfAsked arguments.now (λ given.
-        KeepsAsked F.Folder O.Outputs folder.now given (I.remaining input) outputs.old outputs.new) }
+    ensures keeps { IfAsked arguments.now
+        (KeepsAsked F.Folder O.Outputs folder.now (I.remaining input) outputs.old outputs.new) }
     ensures bound { result ≤ 2 }
 {
     let mut errors = errors;
@@ -94,10 +94,10 @@ fn answer_places<F: Folder, O: Outputs, I: Read, E: Sink>(
     outputs: &mut O,
     streams: &mut Streams<'_, I, O::File, E>,
 ) -> u8
-    ensures replaces { result ≡ 0 → ReplacesAsked F.Folder O.Outputs folder.now (all_given given.now)
-        (bytes_left streams.old.input) outputs.old outputs.new }
-    ensures keeps { KeepsAsked F.Folder O.Outputs folder.now (all_given given.now)
-        (bytes_left streams.old.input) outputs.old outputs.new }
+    ensures replaces { result ≡ 0 → ReplacesAsked F.Folder O.Outputs folder.now
+        (bytes_left streams.old.input) outputs.old outputs.new (all_given given.now) }
+    ensures keeps { KeepsAsked F.Folder O.Outputs folder.now (bytes_left streams.old.input)
+        outputs.old outputs.new (all_given given.now) }
     ensures bound { result ≤ 2 }
 {
     match load_places(alloc, given, folder, outputs, streams) {
