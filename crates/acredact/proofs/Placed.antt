@@ -24,9 +24,9 @@ all_redacted Writes K work (Ok all) streams streams' files is =
 all_redacted Writes K work (Err error) streams streams' files is = absurd (cc)
 
 -- what is not true is false
-pub not_true : {X : Type 0} (b : Bool) → ((Ok b : Result Bool X) ≡ Ok true → ⊥) → b ≡ false
-not_true true not = absurd (not refl)
-not_true false not = refl
+pub not_true : {X : Type 0} (b : Bool) (result : Result Bool X) → result ≡ Ok b → (result ≡ Ok true → ⊥) → b ≡ false
+not_true true result is not = absurd (not is)
+not_true false result is not = refl
 
 module _ {O Z : Type 0} (U : Places O Z) (work : Work) where
   whole_none : (names : List (List ℕ)) (outputs : O) → AreWhole U work names outputs outputs

@@ -1,7 +1,10 @@
 -- What becomes of files that are replaced in place: of each a new one is filled, and takes its place where all was done.
 use Rattle.std.specs.Prelude.{◌≡◌, ◌⊎◌, ℕ, Bool, true, false, List, [], ◌∷◌, Option, Result, Ok}
+use Rattle.std.specs.declared.io.traits.Read.{Ghosts as Readers}
 use Rattle.aho_core.specs.Patterns.{Patterns}
+use Rattle.aho_devices.specs.declared.adapters.FromRead.{FromRead}
 use Rattle.programs.specs.Names.{is_input}
+use Rattle.programs.specs.Streams.{bytes_left}
 use Rattle.acredact.specs.Arguments.{Given}
 use Rattle.acredact.specs.Calls.{call_of, names_asked, reading_by, work_by}
 use Rattle.acredact.specs.Files.{AreRedacted, Work, redactor_of, work_of}
@@ -78,6 +81,6 @@ module _ {F X O Z : Type 0} (D : Folders F X) (U : Places O Z) where
     KeepsAsked = (outputs' ≡ outputs) ⊎ SparesAsked
 
   -- what comes of a call
-  pub record AskedPlaces {Y : Type 0} (folder : F) (given : List Given) (result : Result Bool Y) (left : Option (List ℕ)) (outputs outputs' : O) : Type 0 where
-    pub replaces : result ≡ Ok true → ReplacesAsked folder left outputs outputs' given
-    pub keeps : KeepsAsked folder left outputs outputs' given
+  pub record AskedPlaces {Y R : Type 0} {Reads : Readers R} (folder : F) (given : List Given) (result : Result Bool Y) (input : FromRead R Reads) (outputs outputs' : O) : Type 0 where
+    pub replaces : result ≡ Ok true → ReplacesAsked folder (bytes_left input) outputs outputs' given
+    pub keeps : KeepsAsked folder (bytes_left input) outputs outputs' given

@@ -116,7 +116,7 @@ fn load_places<'a, F: Folder, O: Outputs, I: Read, E: Sink>(
     streams: &mut Streams<'_, I, O::File, E>,
 ) -> Result<bool, Failure<'a>>
     ensures outcome { AskedPlaces F.Folder O.Outputs folder.now (all_given given.now) result
-        (bytes_left streams.old.input) outputs.old outputs.new }
+        streams.old.input outputs.old outputs.new }
 {
     if !gives_pattern(given) {
         return Err(Failure::Arguments(Mistake::NoPattern));
