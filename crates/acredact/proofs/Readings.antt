@@ -1,5 +1,5 @@
 -- How an argument is read: by what it begins with.
-use Rattle.std.proofs.Common.{◌≡◌, ◌⊎◌, inl, inr, ◌==◌, ℕ, false, true, List, [], ◌∷◌, ◌++◌, Option, take, drop, codes, refl, sym, ap, ◌∙◌, take-append-drop}
+use Rattle.std.proofs.Common.{◌≡◌, ◌⊎◌, inl, inr, ◌==◌, ◌≤◌, ℕ, false, true, List, [], ◌∷◌, ◌++◌, Option, take, drop, codes, length, refl, sym, ap, ◌∙◌, arith, take-append-drop}
 use Rattle.std.specs.Prelude.{◌≢◌, None, Some}
 use Rattle.std.proofs.lemmas.Bool.{cases_Bool, eqb-true}
 use Rattle.std.proofs.lemmas.Slice.Eq.{bytes_eq-Decides}
@@ -55,9 +55,10 @@ last_wrong [] lacks = refl
 last_wrong (letter ∷ rest) lacks = let not = first_not 105 letter rest lacks in rw not refl
 
 -- a letter that no option has
-pub no_letter : (letter : ℕ) (behind : List ℕ) (items : List Given) → ((rest : List ℕ) → (letter ∷ behind) ≢ 101 ∷ rest) → ((rest : List ℕ) → (letter ∷ behind) ≢ 102 ∷ rest) → ((rest : List ℕ) → (letter ∷ behind) ≢ 116 ∷ rest)
-    → by_letter (letter ∷ behind) items ≡ None
-no_letter letter behind items first second third =
+pub no_letter : (letters : List ℕ) (items : List Given) → 1 ≤ length letters → ((rest : List ℕ) → letters ≢ 101 ∷ rest) → ((rest : List ℕ) → letters ≢ 102 ∷ rest) → ((rest : List ℕ) → letters ≢ 116 ∷ rest)
+    → by_letter letters items ≡ None
+no_letter [] items some first second third = absurd (omega (arith, some))
+no_letter (letter ∷ behind) items some first second third =
     let one = first_not 101 letter behind first in
     let two = first_not 102 letter behind second in
     let three = first_not 116 letter behind third in

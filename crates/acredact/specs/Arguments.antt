@@ -1,5 +1,5 @@
 -- What the arguments, those after the program's name, ask for.
-use Rattle.std.specs.Prelude.{◌≡◌, ℕ, ◌==◌, ◌++◌, ◌||◌, ◌&&◌, not, Bool, true, false, List, [], ◌∷◌, Option, Some, None, Result, IfErr, IfOk, codes, drop, is_some, length, map, nat_lt, option_and_then, unwrap_or, take, String, if◌then◌else◌}
+use Rattle.std.specs.Prelude.{◌≡◌, ℕ, ◌==◌, ◌++◌, ◌||◌, ◌&&◌, not, Bool, true, false, List, [], ◌∷◌, Option, Some, None, Result, IfErr, IfOk, codes, drop, is_some, length, map, nat_lt, option_and_then, unwrap_or, take, String, Vec, if◌then◌else◌}
 use Rattle.std.specs.List.{after_first, before_first, position_or_len}
 use Rattle.std.specs.Str.{bytes_eq}
 use Rattle.aho_core.specs.declared.search.MatchKind.{MatchKind}
@@ -172,8 +172,8 @@ abbrev pub given_by : List (List ℕ) → Option (List Given)
 given_by arguments = given_from Any arguments []
 
 -- where it does not fail an argument was read by this
-abbrev pub ReadsAs : {X : Type 0} → (List Given → Option ItemsSoFar) → List Item → List Item → Result Expects X → Type 0
-ReadsAs reads old new result = IfOk result (λ next. reads (all_given old) ≡ items_so_far next (all_given new))
+abbrev pub ReadsAs : {X Z : Type 0} → (List Given → Option ItemsSoFar) → Vec Item Z → Vec Item Z → Result Expects X → Type 0
+ReadsAs reads old new result = IfOk result (λ next. reads (all_given old.items) ≡ items_so_far next (all_given new.items))
 
 -- this option
 abbrev pub is_same : Word → Word → Bool

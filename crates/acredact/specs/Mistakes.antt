@@ -1,5 +1,5 @@
 -- What is wrong with arguments, and how it is told.
-use Rattle.std.specs.Prelude.{◌≡◌, ◌⊎◌, ℕ, ◌==◌, ◌++◌, List, [], ◌∷◌, Option, Some, None, Result, IfErr, codes, drop, length, nat_lt, take, if◌then◌else◌}
+use Rattle.std.specs.Prelude.{◌≡◌, ◌⊎◌, ℕ, ◌==◌, ◌++◌, List, [], ◌∷◌, Option, Some, None, Result, IfErr, codes, drop, length, nat_lt, take, Vec, if◌then◌else◌}
 use Rattle.std.specs.List.{after_first, before_first, position_or_len}
 use Rattle.std.specs.Str.{bytes_eq}
 use Rattle.acredact.specs.Arguments.{Given, ItemsSoFar, all_given, by_argument, given_by, is_equals_sign, mixture_of, option_name, takes_value}
@@ -130,8 +130,8 @@ abbrev pub IsMistake : List (List ℕ) → Mistake → Type 0
 IsMistake arguments mistake = (mistake ≡ OutOfMemory) ⊎ (first_mistake_line arguments ≡ Some (mistake_line mistake))
 
 -- where it fails the argument is wrong by this, or memory runs out
-abbrev pub FailsAs : {X : Type 0} → (List Given → Option ItemsSoFar) → List Item → Result X Mistake → Type 0
-FailsAs reads old result = IfErr result (λ mistake. (mistake ≡ OutOfMemory) ⊎ (reads (all_given old) ≡ None))
+abbrev pub FailsAs : {X Z : Type 0} → (List Given → Option ItemsSoFar) → Vec Item Z → Result X Mistake → Type 0
+FailsAs reads old result = IfErr result (λ mistake. (mistake ≡ OutOfMemory) ⊎ (reads (all_given old.items) ≡ None))
 
 -- and this is told
 abbrev pub TellsAs : {X : Type 0} → List ℕ → Result X Mistake → Type 0

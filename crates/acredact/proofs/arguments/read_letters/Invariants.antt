@@ -1,4 +1,6 @@
 -- What is left of the letters says what all of them do, and the first that no option has is among them.
+use denote.Shadow.{shadow}
+use denote.Text.{Utf8}
 use Rattle.std.proofs.Common.{◌≡◌, length}
 use Rattle.acredact.specs.Arguments.{all_given, by_letters}
 use Rattle.acredact.specs.Mistakes.{line_of_letters}
@@ -8,6 +10,7 @@ abbrev pub invariant-loop-behind : goal.invariant-loop-behind
 invariant-loop-behind l = record {
   read : by_letters l.rest (all_given l.items.items) ≡ by_letters l.fn.letters (all_given l.initial.items.items);
   mistake : line_of_letters l.rest ≡ line_of_letters l.fn.letters;
+  text : shadow (Utf8 l.rest);
 }
 
 abbrev pub decreases-loop-behind : goal.decreases-loop-behind

@@ -1,5 +1,6 @@
 -- Both automata are of the patterns that are asked for, and there is a replacement for each.
 use Rattle.std.proofs.Common.{rules, refl, ◌≡◌, ◌≤◌, ◌∙◌, ap, sym, subst, length, map, true, List, ℕ}
+use Rattle.std.specs.Option.{option_map}
 use Rattle.std.specs.Prelude.{Bool, IfSome, IsOk, None, Option, Some, Err, Result}
 use Rattle.std.specs.Borrow.{Bor}
 use Rattle.std.proofs.lemmas.List.{length-map}
@@ -13,10 +14,14 @@ use Rattle.aho_hybrid.specs.contracts.hybrid.HybridAutomaton.TheImpl.{ghosts as 
 use Rattle.aho_corasick.specs.contracts.noncontiguous.NFAAutomaton.TheImpl.Laws.{laws-law as nfa-laws}
 use Rattle.aho_hybrid.specs.contracts.hybrid.HybridAutomaton.TheImpl.Laws.{laws-law as rows-laws}
 use Rattle.aho_hybrid.specs.declared.hybrid.Hybrid.{Hybrid}
+use Rattle.aho_corasick.specs.declared.noncontiguous.NFA.{NFA}
+use Rattle.aho_backward.specs.Searcher.{IsBackwardOf}
+use Rattle.aho_backward.specs.declared.backward.Backward.{Backward}
 use Rattle.programs.specs.Asked.{ArePatterns}
 use Rattle.programs.specs.Names.{name_bytes}
 use Rattle.programs.specs.Streams.{bytes_left}
-use Rattle.acredact.specs.Arguments.{all_given, covers_asked, has}
+use Rattle.acredact.specs.Arguments.{Given, all_given, covers_asked, has}
+use Rattle.acredact.specs.Back.{AreBoth, IsBackAsked}
 use Rattle.acredact.specs.Builds.{RefusesPatterns, patterns_by_given}
 use Rattle.acredact.specs.Calls.{WarnedOutcome, call_of, names_asked, pieces_asked, work_by}
 use Rattle.acredact.specs.Secrets.{CanRedact}
@@ -57,6 +62,17 @@ rows_are g c =
     lent c.in_ok-rows.rows c.as_ref.result (λ rows. HybridGhosts.is_of rows p) c.as_ref.ensures.value
     (c.in_ok-rows.ensures.of p (record { words_are = sym (words_are g c); rule = sym c.has-ignore_case.ensures.has }) (nfa_is g c))
 
+-- where there is a searcher by a walk backward, it is of these patterns
+back_is : (given : List Given) (words words' : List (List ℕ)) (back : Option (Backward NFA)) (borrowed : Option (Bor (Backward NFA))) → words ≡ words' → option_map (λ b. b.now) borrowed ≡ back
+    → IsBackAsked NFAGhosts given words back → IfSome borrowed (λ b. IsBackwardOf NFAGhosts b.now (patterns_by_given given words'))
+back_is given words words' back borrowed same value asked =
+    lent back borrowed (λ b. IsBackwardOf NFAGhosts b (patterns_by_given given words')) value
+    (subst (λ (l : List (List ℕ)). IsBackAsked NFAGhosts given l back) same asked)
+
+both_are : (p : Patterns) (nfa : NFA) (borrowed : Option (Bor (Backward NFA))) → NFAGhosts.is_of nfa p → IfSome borrowed (λ b. IsBackwardOf NFAGhosts b.now p) → AreBoth NFAGhosts NFAGhosts nfa borrowed
+both_are p nfa None of is = tt
+both_are p nfa (Some b) of is = (p, of, is)
+
 rows_ready : (rows : Option (Bor Hybrid)) (p : Patterns) (replacements : List (Bor (List ℕ))) → IfSome rows (λ rows. HybridGhosts.is_of rows.now p) → IfSome rows (λ rows. IsOk (HybridGhosts.start rows.now No))
     → (covers : Bool) → (covers ≡ true → p.kind ≡ Standard) → 1 ≤ shortest (map length p.words) → length replacements ≡ length p.words → IfSome rows (λ rows. CanRedact HybridGhosts rows.now covers replacements)
 rows_ready None p replacements of starts covers standard some one = tt
@@ -79,6 +95,7 @@ redact_warned-requires g c =
     let standard : c.covers.result ≡ true → p.kind ≡ Standard = λ is. covers_standard (all_given c.args.given.now) (sym c.covers.ensures.covers ∙ is) in
     record {
       ready = ready_of NFAGhosts c.in_ok-nfa.nfa p c.covers.result _ (nfa_is g after) laws.lengths_are laws.kind_is standard c.in_ok-nfa.ensures.starts some one;
+      back = both_are p c.in_ok-nfa.nfa c.as_ref-2.result (nfa_is g after) (back_is (all_given c.args.given.now) _ _ c.in_ok-back.back c.as_ref-2.result (words_are g after) c.as_ref-2.ensures.value c.in_ok-back.ensures.of);
       rows = rows_ready c.as_ref.result p _ (rows_are g after) starts c.covers.result standard some one;
       words = sym (sym (length-map c.as_slice-words.result.now (λ piece. piece.now)) ∙ ap length (words_are g after) ∙ length-map (secrets_of c.args.rules.now) _ ∙ length-map c.args.rules.now secret_of);
       pieces = ap pieces_of c.as_slice-2.ensures.value ∙ c.in_ok-replacements.ensures.pieces;
@@ -100,12 +117,20 @@ returns-in_err-rows-clause-outcome g c =
     subst (λ (r : Result Bool Failure). WarnedOutcome g.W.Write g.E.Sink (has Strict (all_given c.args.given.now)) work r c.args.streams.now c.args.streams.now) (sym is)
     (warned_memory g.W.Write g.E.Sink (has Strict (all_given c.args.given.now)) work c.args.streams.now)
 
+pub returns-in_err-back-clause-outcome : goal.returns-in_err-back-clause-outcome
+returns-in_err-back-clause-outcome g c =
+    let work = work_by (call_of g.F.Folder c.args.folder.now (all_given c.args.given.now)) (secrets_of c.args.rules.now) in
+    let is : c.from_residual-in_err-back.result ≡ Err (Other OutOfMemory) = search rules in
+    subst (λ (r : Result Bool Failure). WarnedOutcome g.W.Write g.E.Sink (has Strict (all_given c.args.given.now)) work r c.args.streams.now c.args.streams.now) (sym is)
+    (warned_memory g.W.Write g.E.Sink (has Strict (all_given c.args.given.now)) work c.args.streams.now)
+
 pub returns-clause-counted : goal.returns-clause-counted
 returns-clause-counted g c =
     let p = patterns_by_given (all_given c.args.given.now) (patterns_in (secrets_of c.args.rules.now)) in
     let after = (goal.at.returns-clause-counted g c).After-as_ref in
     work_as (g.F.Folder.holds c.args.folder.now) (g.F.Folder.refuses c.args.folder.now) (g.F.Folder.meets c.args.folder.now) p _ _ _ _ _ _ (names_are g after) (covers_are g after) (pieces_are g after)
-    (λ w. CountsWork w c.redact_warned.result c.args.streams.now c.redact_warned.new.streams c.args.counts.now c.redact_warned.new.counts) (c.redact_warned.ensures.counted p (nfa_is g after) (patterns_are g after) (rows_are g after))
+    (λ w. CountsWork w c.redact_warned.result c.args.streams.now c.redact_warned.new.streams c.args.counts.now c.redact_warned.new.counts) (c.redact_warned.ensures.counted p (nfa_is g after) (patterns_are g after) (rows_are g after)
+    (back_is (all_given c.args.given.now) _ _ c.in_ok-back.back c.as_ref-2.result (words_are g after) c.as_ref-2.ensures.value c.in_ok-back.ensures.of))
 
 pub returns-clause-outcome : goal.returns-clause-outcome
 returns-clause-outcome g c =
@@ -114,7 +139,8 @@ returns-clause-outcome g c =
     let work = work_by (call_of g.F.Folder c.args.folder.now (all_given c.args.given.now)) (secrets_of c.args.rules.now) in
     subst (λ (b : Bool). WarnedOutcome g.W.Write g.E.Sink b work c.redact_warned.result c.args.streams.now c.redact_warned.new.streams) c.has-strict.ensures.has
     (work_as (g.F.Folder.holds c.args.folder.now) (g.F.Folder.refuses c.args.folder.now) (g.F.Folder.meets c.args.folder.now) p _ _ _ _ _ _ (names_are g after) (covers_are g after) (pieces_are g after)
-    (λ w. WarnedOutcome g.W.Write g.E.Sink c.has-strict.result w c.redact_warned.result c.args.streams.now c.redact_warned.new.streams) (c.redact_warned.ensures.outcome p (nfa_is g after) (patterns_are g after) (rows_are g after)))
+    (λ w. WarnedOutcome g.W.Write g.E.Sink c.has-strict.result w c.redact_warned.result c.args.streams.now c.redact_warned.new.streams) (c.redact_warned.ensures.outcome p (nfa_is g after) (patterns_are g after) (rows_are g after)
+    (back_is (all_given c.args.given.now) _ _ c.in_ok-back.back c.as_ref-2.result (words_are g after) c.as_ref-2.ensures.value c.in_ok-back.ensures.of)))
 
 pub returns-clause-read : goal.returns-clause-read
 returns-clause-read g c = λ whole.

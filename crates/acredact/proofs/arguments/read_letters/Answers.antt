@@ -1,0 +1,22 @@
+-- What is left is the letter of an option with a value.
+use Rattle.std.proofs.Common.{◌≡◌, ◌⊎◌, ℕ, List, Option, ap, sym, subst, ◌∙◌, lit<}
+use Rattle.std.specs.Prelude.{None, IfErr}
+use Rattle.std.proofs.lemmas.Str.Pattern.{strip_prefix_char}
+use Rattle.acredact.specs.Arguments.{ItemsSoFar, all_given}
+use Rattle.acredact.specs.Mistakes.{TellsAs}
+use Rattle.acredact.specs.declared.arguments.Mistake.TheVariants.{OutOfMemory}
+use Rattle.acredact.proofs.Readings.{last_letter, last_wrong}
+use Rattle.acredact.proofs.arguments.read_letters.Goals as goal
+
+pub returns-clause-refused : goal.returns-clause-refused
+returns-clause-refused c =
+    let rest = c.loop-behind.rest.now in
+    let lacks = strip_prefix_char 105 rest None c.in_default.ensures.cases (lit< tt) in
+    subst (λ (o : Option ItemsSoFar). IfErr c.read_letter.result (λ mistake. (mistake ≡ OutOfMemory) ⊎ (o ≡ None)))
+    (sym (last_letter rest (all_given c.loop-behind.items.items) lacks) ∙ c.loop-behind.invariant.read) c.read_letter.ensures.refused
+
+pub returns-clause-wrong : goal.returns-clause-wrong
+returns-clause-wrong c =
+    let rest = c.loop-behind.rest.now in
+    let lacks = strip_prefix_char 105 rest None c.in_default.ensures.cases (lit< tt) in
+    subst (λ (line : List ℕ). TellsAs line c.read_letter.result) (sym (last_wrong rest lacks) ∙ c.loop-behind.invariant.mistake) c.read_letter.ensures.wrong
