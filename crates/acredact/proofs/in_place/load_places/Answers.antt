@@ -20,14 +20,14 @@ place_counted-requires g c = record {
 pub returns-in-Ok : goal.returns-in-Ok
 returns-in-Ok g c = record {
   outcome =
-        let call = call_of g.F.Folder c.args.folder.now (all_given c.args.given.now) in
-        let given = reading_from g.F.Folder c.lists_of-lists.result c.args.folder.now (rules_asked (all_given c.args.given.now)) c.lists_of-lists.ensures.folder c.lists_of-lists.ensures.rules
-        (λ r. AreGiven r (all_given c.args.given.now) (secrets_of c.in-Ok.rules.items) (bytes_left c.args.streams.now.input) (bytes_left c.rules.new.input)) c.in-Ok.ensures.given in
-        let loaded = subst (λ (l : List Secret). AreGiven (reading_by call) (all_given c.args.given.now) l (bytes_left c.args.streams.now.input) (bytes_left c.rules.new.input)) (sym (ap secrets_of c.as_slice.ensures.value)) given in
-        record {
-          replaces = λ is. record { secrets = _; between = _; loaded = loaded; replaced = c.place_counted.ensures.outcome.all is };
-          keeps = inr (record { secrets = _; between = _; loaded = loaded; whole = c.place_counted.ensures.outcome.whole });
-        };
+      let call = call_of g.F.Folder c.args.folder.now (all_given c.args.given.now) in
+      let given = reading_from g.F.Folder c.lists_of-lists.result c.args.folder.now (rules_asked (all_given c.args.given.now)) c.lists_of-lists.ensures.folder c.lists_of-lists.ensures.rules
+      (λ r. AreGiven r (all_given c.args.given.now) (secrets_of c.in-Ok.rules.items) (bytes_left c.args.streams.now.input) (bytes_left c.rules.new.input)) c.in-Ok.ensures.given in
+      let loaded = subst (λ (l : List Secret). AreGiven (reading_by call) (all_given c.args.given.now) l (bytes_left c.args.streams.now.input) (bytes_left c.rules.new.input)) (sym (ap secrets_of c.as_slice.ensures.value)) given in
+      record {
+        replaces = λ is. record { secrets = _; between = _; loaded = loaded; replaced = c.place_counted.ensures.outcome.all is };
+        keeps = inr (record { secrets = _; between = _; loaded = loaded; whole = c.place_counted.ensures.outcome.whole });
+      };
 }
 
 pub returns-then-not-gives_pattern : goal.returns-then-not-gives_pattern
