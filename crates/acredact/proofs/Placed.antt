@@ -41,10 +41,10 @@ module _ {O Z : Type 0} (U : Places O Z) (work : Work) where
   pub places_fail : {X Y : Type 0} (error : X) (other : Y) (outputs outputs' : O) → PlacesOutcome U work (Err error) outputs outputs' → PlacesOutcome U work (Err other) outputs outputs'
   places_fail error other outputs outputs' of = record { all = λ (is : Err other ≡ Ok true). absurd (cc); whole = of.whole }
 
-  pub places_done : {X Y : Type 0} (all : Bool) (outputs outputs' : O) → PlacesOutcome {X = X} U work (Ok all) outputs outputs' → PlacesOutcome {X = Y} U work (Ok all) outputs outputs'
+  pub places_done : {X Y : Type 0} (all : Bool) (outputs outputs' : O) → PlacesOutcome U work {X = X} (Ok all) outputs outputs' → PlacesOutcome U work {X = Y} (Ok all) outputs outputs'
   places_done all outputs outputs' of = record { all = λ is. of.all (let so : all ≡ true = cc in ap Ok so); whole = of.whole }
 
-  pub places_told : {X Y : Type 0} (all : Bool) (result : Result Bool Y) (outputs outputs' : O) → PlacesOutcome {X = X} U work (Ok all) outputs outputs' → IfOk result (λ done. done ≡ all) → PlacesOutcome U work result outputs outputs'
+  pub places_told : {X Y : Type 0} (all : Bool) (result : Result Bool Y) (outputs outputs' : O) → PlacesOutcome U work {X = X} (Ok all) outputs outputs' → IfOk result (λ done. done ≡ all) → PlacesOutcome U work result outputs outputs'
   places_told all (Ok done) outputs outputs' of same = record { all = λ is. of.all (let so : done ≡ true = cc in ap Ok (sym same ∙ so)); whole = of.whole }
   places_told all (Err error) outputs outputs' of same = record { all = λ (is : Err error ≡ Ok true). absurd (cc); whole = of.whole }
 
@@ -57,12 +57,12 @@ module _ {O Z : Type 0} (U : Places O Z) (work : Work) where
   placed_none names outputs = record { all = λ so last are. are; whole = λ last are. are }
 
   module _ (names : List (List ℕ)) (name : List ℕ) (left : List (List ℕ)) (so : Bool) (first mid new : O) (far : PlacedSoFar names (name ∷ left) so first mid) where
-    became : {X : Type 0} (whole : Bool) → PlaceOutcome {X = X} U work name (Ok whole) mid new → IsReplaced U work name mid new ⊎ IsSpared U work name mid new
+    became : {X : Type 0} (whole : Bool) → PlaceOutcome U work {X = X} name (Ok whole) mid new → IsReplaced U work name mid new ⊎ IsSpared U work name mid new
     became true of = inl (of.replaced refl)
     became false of = inr (of.spared (λ is. let clash : false ≡ true = cc in cc))
 
     -- a file more
-    pub placed_next : {X : Type 0} (whole both : Bool) → PlaceOutcome {X = X} U work name (Ok whole) mid new → both ≡ so && whole → PlacedSoFar names left both first new
+    pub placed_next : {X : Type 0} (whole both : Bool) → PlaceOutcome U work {X = X} name (Ok whole) mid new → both ≡ so && whole → PlacedSoFar names left both first new
     placed_next whole both of is = record {
       all = λ are last rest. let two = both_so so whole both is are in far.all two.0 last (new, of.replaced (ap Ok two.1), rest);
       whole = λ last rest. far.whole last (inr (new, became whole of, rest));
@@ -72,5 +72,5 @@ module _ {O Z : Type 0} (U : Places O Z) (work : Work) where
     pub placed_cut : {X : Type 0} (error : X) → PlaceOutcome U work name (Err error) mid new → AreWhole U work names first new
     placed_cut error of = far.whole new (inr (new, inr (of.spared (λ (is : Err error ≡ Ok true). cc)), whole_none left new))
 
-  pub placed_all : {X : Type 0} (so : Bool) (first last : O) → PlacedSoFar work.names [] so first last → PlacesOutcome {X = X} U work (Ok so) first last
+  pub placed_all : {X : Type 0} (so : Bool) (first last : O) → PlacedSoFar work.names [] so first last → PlacesOutcome U work {X = X} (Ok so) first last
   placed_all so first last far = record { all = λ is. far.all (let are : so ≡ true = cc in are) last refl; whole = far.whole last refl }

@@ -1,11 +1,11 @@
 //! Why a call ends early, and how that is told.
 
 ghost use Rattle.std.specs.Prelude.{◌≡◌, ℕ, List, decimal};
-ghost use Rattle.programs.specs.Messages.{no_file_line, reason_text};
+ghost use Rattle.programs.specs.Messages.{reason_text};
 ghost use Rattle.programs.specs.Telling.{TellsBytes};
 ghost use Rattle.acredact.specs.Failures.{IsFailureLine, IsOtherLine, bad_line, is_of_output};
 ghost use Rattle.acredact.specs.LineFaults.{line_fault_text};
-ghost use Rattle.acredact.specs.Messages.{alone, flaw_text, line_about, output_line, piece_line, told_line, unclean_line};
+ghost use Rattle.acredact.specs.Messages.{alone, flaw_text, line_about, no_file_line, output_line, piece_line, told_line, unclean_line};
 ghost use Rattle.acredact.specs.Mistakes.{mistake_line, mixture_text, named_line};
 ghost use Rattle.acredact.specs.declared.clean.Flaw.TheVariants.{Empty, Spells};
 
