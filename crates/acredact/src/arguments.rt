@@ -24,6 +24,8 @@ pub enum Word {
     Table,
     /// `--with`: the replacement of each pattern that has none of its own.
     With,
+    /// `--pseudonym`: the file of a key, by which a piece is made of each run's bytes.
+    Pseudonym,
     /// `--output`: the file that is written, in the place of standard output.
     Output,
     /// `--count`: how often the text of each pattern was written is told.
@@ -71,6 +73,12 @@ pub enum Expects {
 pub enum Mixture {
     /// `--strict` with another kind than cover: it promises something of covers alone.
     StrictKind,
+    /// `--pseudonym` with another kind than cover.
+    PseudonymKind,
+    /// `--pseudonym` with `--with`: each is what is written in the place of a match.
+    PseudonymWith,
+    /// `--pseudonym` with a table, which has replacements of its own.
+    PseudonymTable,
     /// `--count` with `--check`, which counts nothing.
     CountCheck,
     /// `--summary` with `--check`.
@@ -118,6 +126,7 @@ fn word_of(argument: &str) -> Option<Word>
         "-f" => Some(Word::Patterns),
         "-t" => Some(Word::Table),
         "--with" => Some(Word::With),
+        "--pseudonym" => Some(Word::Pseudonym),
         "--output" => Some(Word::Output),
         "--count" => Some(Word::Count),
         "--summary" => Some(Word::Summary),
@@ -151,6 +160,7 @@ pub fn name_of(word: Word) -> &'static str
         Word::Patterns => "-f",
         Word::Table => "-t",
         Word::With => "--with",
+        Word::Pseudonym => "--pseudonym",
         Word::Output => "--output",
         _ => "-e",
     }
@@ -162,7 +172,13 @@ fn takes_value(word: Word) -> bool
 {
     matches!(
         word,
-        Word::Kind | Word::Pattern | Word::Patterns | Word::Table | Word::With | Word::Output
+        Word::Kind
+            | Word::Pattern
+            | Word::Patterns
+            | Word::Table
+            | Word::With
+            | Word::Pseudonym
+            | Word::Output
     )
 }
 
@@ -197,6 +213,15 @@ fn mixture_of(items: &[Item<'_>]) -> Option<Mixture>
 {
     if has(items, Word::Strict) && !covers(items) {
         return Some(Mixture::StrictKind);
+    }
+    if has(items, Word::Pseudonym) && !covers(items) {
+        return Some(Mixture::PseudonymKind);
+    }
+    if has(items, Word::Pseudonym) && has(items, Word::With) {
+        return Some(Mixture::PseudonymWith);
+    }
+    if has(items, Word::Pseudonym) && has(items, Word::Table) {
+        return Some(Mixture::PseudonymTable);
     }
     if has(items, Word::Count) && has(items, Word::Check) {
         return Some(Mixture::CountCheck);
@@ -282,6 +307,9 @@ fn read_joined(argument: &str) -> Reading<'_>
     }
     if let Some(text) = argument.strip_prefix("--with=") {
         return whole(Word::With, text, Expects::Any);
+    }
+    if let Some(name) = argument.strip_prefix("--pseudonym=") {
+        return whole(Word::Pseudonym, name, Expects::Any);
     }
     match argument.strip_prefix("--output=") {
         Some(name) => whole(Word::Output, name, Expects::Any),

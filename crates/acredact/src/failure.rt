@@ -37,6 +37,8 @@ pub enum Failure<'a> {
     Pattern(LineFault),
     /// A file of patterns or a table cannot be read, for this reason.
     Unread(&'a str, Reason),
+    /// The file of a key is empty.
+    EmptyKey(&'a str),
     /// A file of patterns or a table is empty.
     Empty(&'a str),
     /// A line of a file of patterns or of a table is wrong.
@@ -130,6 +132,7 @@ pub fn tell_failure<E: Sink>(errors: &mut Errors<'_, E>, failure: &Failure<'_>)
         Failure::Arguments(mistake) => tell_mistake(errors, *mistake),
         Failure::Pattern(fault) => tell_about(errors, "-e", text_of(*fault)),
         Failure::Unread(name, reason) => tell_unread(errors, name, *reason),
+        Failure::EmptyKey(name) => tell_about(errors, name, "empty key"),
         Failure::Empty(name) => tell_about(
             errors,
             name,
@@ -214,6 +217,13 @@ fn mixture_text(mixture: Mixture) -> &'static str
 {
     match mixture {
         Mixture::StrictKind => "--strict needs --kind cover: it promises nothing by another kind",
+        Mixture::PseudonymKind => "--pseudonym needs --kind cover",
+        Mixture::PseudonymWith => {
+            "--pseudonym and --with do not go together: each is what is written"
+        }
+        Mixture::PseudonymTable => {
+            "--pseudonym and -t do not go together: a table has replacements of its own"
+        }
         Mixture::SummaryCheck => {
             "--summary and --check do not go together: a check counts nothing"
         }

@@ -17,13 +17,14 @@ use crate::folder::Folder;
 use crate::meter::{Known, Lent, Metered};
 use crate::streams::Streams;
 use crate::summary::Volume;
-use crate::ways::{Covering, Replacing, Way};
+use crate::ways::{Covering, Key, Naming, Replacing, Way};
 use aho_automaton::automaton::Automaton;
 use aho_core::error::StreamError;
 use aho_cover::start::StreamCoverStart;
 use aho_devices::adapters::{FromRead, FromWrite};
 use aho_devices::device::{Sink, Source};
 use programs::reason::Reason;
+use pseudonyms::pseudonym::Pseudonyms;
 use std::alloc::Global;
 use std::io::{Read, Write};
 use std::marker::{Brand, PhantomData};
@@ -39,6 +40,8 @@ pub struct Job<'s, 't, F> {
     pub names: &'s [&'t str],
     /// What is written in the place of each pattern.
     pub replacements: &'s [&'t [u8]],
+    /// By what key a piece is made of each run's bytes, if it is.
+    pub key: Option<Key<'s>>,
     /// Whether all bytes of all matches are replaced, and not only matches that share no byte.
     pub covers: bool,
 }
@@ -88,6 +91,11 @@ fn cover_files<A: Automaton, F: Folder, I: Read, W: Write, E: Sink>(
     ensures flushed { OnOk result (streams.new.output.device.flushed ≡ true) }
 {
     let start = StreamCoverStart::new(job.alloc, automaton)?;
+    if let Some(key) = job.key {
+        let pieces = Pseudonyms::new(key.bytes, key.ignore_case);
+        let mut way = Naming { start, pieces };
+        return redact_flushed(&mut way, job, counts, volume, streams);
+    }
     let mut way = Covering {
         start,
         replacements: job.replacements,

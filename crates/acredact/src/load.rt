@@ -9,7 +9,7 @@ ghost use Rattle.acredact.specs.Loading.{AddsFile, AddsItem, AddsList, CannotLoa
 ghost use Rattle.acredact.specs.Reads.{ReadsText};
 ghost use Rattle.acredact.specs.Tables.{AddsLine};
 
-use crate::arguments::{Item, Word, has};
+use crate::arguments::{Item, Word, has, last_value};
 use crate::failure::Failure;
 use crate::files::is_input;
 use crate::folder::Folder;
@@ -74,6 +74,30 @@ pub fn rules<'a, F: Folder, I: Read>(
         rest = &rest[1..];
     }
     Ok(rules)
+}
+
+/// The key by which pieces are made, where one is asked for.
+///
+/// # Errors
+///
+/// Its file cannot be read, or is empty.
+pub fn key_asked<'a, F: Folder, I: Read>(
+    lists: &Lists<'_, F>,
+    items: &[Item<'a>],
+    input: &mut FromRead<I>,
+) -> Result<Option<Vec<u8>>, Failure<'a>> {
+    match last_value(items, Word::Pseudonym) {
+        None => Ok(None),
+        Some(name) => match read_list(lists, name, input) {
+            Ok(key) => {
+                if key.is_empty() {
+                    return Err(Failure::EmptyKey(name));
+                }
+                Ok(Some(key))
+            }
+            Err(reason) => Err(Failure::Unread(name, reason)),
+        },
+    }
 }
 
 /// Adds the rules of an item, if it has any.

@@ -23,6 +23,7 @@ mod patterns;
 mod redact;
 mod rows;
 mod run;
+mod spelled;
 mod streams;
 mod summary;
 mod ways;

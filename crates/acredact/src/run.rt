@@ -32,11 +32,13 @@ use crate::counts::{counts_of, put_counts};
 use crate::failure::{Failure, tell_failure, tell_unclean};
 use crate::files::{Job, redact_files};
 use crate::folder::Folder;
-use crate::load::{lists_of, rules};
+use crate::load::{key_asked, lists_of, rules};
 use crate::patterns::{Rule, patterns_of, replacements_of};
 use crate::rows::build;
+use crate::spelled::spelled_of;
 use crate::streams::Streams;
 use crate::summary::{Volume, put_summary};
+use crate::ways::Key;
 use aho_automaton::automaton::Automaton;
 use aho_core::error::StreamError;
 use aho_devices::adapters::FromWrite;
@@ -53,7 +55,7 @@ const REDACTED: &[u8] = b"[redacted]";
 
 /// What `--help` writes.
 const HELP: &[u8] =
-    b"usage: acredact [-i] [--kind KIND] (-e PATTERN | -f FILE | -t TABLE).. [--with TEXT] [--output FILE] [--count] [--summary] [--check] [FILE]..
+    b"usage: acredact [-i] [--kind KIND] (-e PATTERN | -f FILE | -t TABLE).. [--with TEXT | --pseudonym KEYFILE] [--output FILE] [--count] [--summary] [--check] [FILE]..
 
 Writes each FILE with a text in the place of each run of bytes that lie in matches of the patterns. No FILE, or -, is standard input.
 
@@ -64,6 +66,8 @@ Writes each FILE with a text in the place of each run of bytes that lie in match
   --kind KIND   what is replaced: cover (if none is given) each byte of each match; longest, first and standard
                 one of several matches that overlap, and then a part of another can stay
   --with TEXT   the replacement of patterns that have none of their own: [redacted] if none is given
+  --pseudonym KEYFILE
+                write [redacted: and 12 digits ], which are the same for equal runs: of their HMAC-SHA-256 by the key in KEYFILE
   --output FILE replace this FILE, if all is redacted: the output goes to a new file that takes its place at the end
   --count       write to standard error how often the text of each pattern was written
   --summary     write to standard error how many files and bytes were read, and these counts, as an object of JSON
@@ -258,8 +262,13 @@ fn load<'a, F: Folder, I: Read, W: Write, E: Sink>(
     ensures flushed { OnOk result (streams.new.output.device.flushed ≡ true) }
 {
     let lists = lists_of(alloc, given, folder);
-    match rules(&lists, given, &mut streams.input) {
-        Ok(rules) => redact_counted(alloc, given, rules.as_slice(), folder, streams),
+    let rules = match rules(&lists, given, &mut streams.input) {
+        Ok(rules) => rules,
+        Err(failure) => return Err(failure),
+    };
+    match key_asked(&lists, given, &mut streams.input) {
+        Ok(Some(key)) => redact_counted(alloc, given, rules.as_slice(), Some(key.as_slice()), folder, streams),
+        Ok(None) => redact_counted(alloc, given, rules.as_slice(), None, folder, streams),
         Err(failure) => Err(failure),
     }
 }
@@ -269,6 +278,7 @@ fn redact_counted<'a, F: Folder, I: Read, W: Write, E: Sink>(
     alloc: Global,
     given: &[Item<'_>],
     rules: &[Rule],
+    key: Option<&[u8]>,
     folder: &F,
     streams: &mut Streams<'_, I, W, E>,
 ) -> Result<bool, Failure<'a>>
@@ -279,7 +289,7 @@ fn redact_counted<'a, F: Folder, I: Read, W: Write, E: Sink>(
 {
     let counted = counts(given);
     let mut tally = counts_of(alloc, rules, counted)?;
-    redact_telling(alloc, given, rules, folder, tally.as_mut_slice(), streams)
+    redact_telling(alloc, given, rules, key, folder, tally.as_mut_slice(), streams)
 }
 
 /// Redacts all files by these rules, tells what was added to the counts, where they are asked for, and answers whether all files were
@@ -288,6 +298,7 @@ fn redact_telling<'a, F: Folder, I: Read, W: Write, E: Sink>(
     alloc: Global,
     given: &[Item<'_>],
     rules: &[Rule],
+    key: Option<&[u8]>,
     folder: &F,
     tally: &mut [u64],
     streams: &mut Streams<'_, I, W, E>,
@@ -300,7 +311,7 @@ fn redact_telling<'a, F: Folder, I: Read, W: Write, E: Sink>(
 {
     let mut volume = Volume { files: 0, bytes: 0 };
     // Not by `?`: this error may hold names.
-    match redact_all(alloc, given, rules, folder, tally, &mut volume, streams) {
+    match redact_all(alloc, given, rules, key, folder, tally, &mut volume, streams) {
         Ok(all) => tell_counted(alloc, all, given, rules, tally, volume, &mut streams.errors),
         Err(failure) => Err(failure),
     }
@@ -403,6 +414,7 @@ fn redact_all<'a, F: Folder, I: Read, W: Write, E: Sink>(
     alloc: Global,
     given: &[Item<'_>],
     rules: &[Rule],
+    key: Option<&[u8]>,
     folder: &F,
     counts: &mut [u64],
     volume: &mut Volume,
@@ -431,6 +443,7 @@ fn redact_all<'a, F: Folder, I: Read, W: Write, E: Sink>(
         folder,
         names: names.as_slice(),
         replacements: replacements.as_slice(),
+        key: key.map(|bytes: &[u8]| Key { bytes, ignore_case }),
         covers: covers(given),
     };
     let judge = Judge {
@@ -474,7 +487,11 @@ fn redact_warned<'a, A: Automaton, B: Automaton, F: Folder, I: Read, W: Write, E
     ensures read { JobVolume F.Folder job.now result volume.old volume.new streams.old streams.new }
     ensures flushed { OnOk result (streams.new.output.device.flushed ≡ true) }
 {
-    let unclean = unclean_of(automaton, judge, job.covers);
+    let unclean = if job.key.is_some() {
+        spelled_of(judge)
+    } else {
+        unclean_of(automaton, judge, job.covers)
+    };
     // Not by `?`: this error may hold names.
     match warn(&mut streams.errors, unclean, strict) {
         Ok(()) => Ok(redact_by(automaton, rows, job, counts, volume, streams)?),
