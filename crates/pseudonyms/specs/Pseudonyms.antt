@@ -1,5 +1,5 @@
 -- The piece of a run by a key.
-use Rattle.std.specs.Prelude.{◌≡◌, ℕ, ◌+◌, ◌/◌, ◌%◌, Bool, List, [], ◌∷◌, ◌++◌, codes, map, nat_lt, slice_index_or, if◌then◌else◌}
+use Rattle.std.specs.Prelude.{ℕ, ◌+◌, ◌/◌, ◌%◌, Bool, List, [], ◌∷◌, ◌++◌, codes, map, nat_lt, slice_index_or, if◌then◌else◌}
 use Rattle.aho_core.specs.Bytes.{folded_by}
 use Rattle.aho_cover.specs.Pieces.{PieceRule}
 use Rattle.sha2.specs.Hashers.{Holds256}

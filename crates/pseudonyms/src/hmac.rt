@@ -10,6 +10,7 @@ pub(crate) const BLOCK: usize = 64;
 
 /// What the bytes of the key are mixed with for the inner digest, and for the outer one.
 pub(crate) const INNER: u8 = 0x36;
+
 pub(crate) const OUTER: u8 = 0x5c;
 
 /// The two blocks that a key makes.

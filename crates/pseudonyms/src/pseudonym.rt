@@ -63,7 +63,11 @@ fn hex_digit(value: u8) -> u8
     requires below { value < 16 }
     ensures digit { result ≡ hex_digit value }
 {
-    if value < 10 { b'0' + value } else { b'a' + (value - 10) }
+    if value < 10 {
+        b'0' + value
+    } else {
+        b'a' + (value - 10)
+    }
 }
 
 /// The piece of a digest.

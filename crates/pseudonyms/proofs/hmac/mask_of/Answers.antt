@@ -1,14 +1,14 @@
 -- One byte after another.
-use Rattle.std.proofs.Common.{◌≡◌, ℕ, ◌++◌, ◌∷◌, [], List, arith, refl, sym, ap, ◌∙◌, map, take}
+use Rattle.std.proofs.Common.{◌≡◌, ℕ, ◌++◌, ◌∷◌, [], List, arith, refl, sym, ap, ◌∙◌, map}
 use Rattle.std.specs.Prelude.{bit_xor}
 use Rattle.std.specs.List.{range_with_len}
-use Rattle.std.proofs.lemmas.List.{length-replicate, length-set, take_all, take_more_set}
+use Rattle.std.proofs.lemmas.List.{length-set, take_all, take_more_set}
 use Rattle.std.proofs.lemmas.List.FromFn.{map-range_with_len_more}
 use Rattle.pseudonyms.specs.Hmac.{mask_byte}
 use Rattle.pseudonyms.proofs.hmac.mask_of.Goals as goal
 
 pub bytes-init : goal.bytes-init
-bytes-init c = (length-replicate _ _, refl)
+bytes-init c = (refl, refl)
 
 pub bytes-preserved : goal.bytes-preserved
 bytes-preserved c =

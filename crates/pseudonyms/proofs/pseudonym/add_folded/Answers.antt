@@ -1,5 +1,5 @@
 -- One byte after another.
-use Rattle.std.proofs.Common.{◌≡◌, ℕ, List, ◌++◌, ◌∷◌, [], arith, refl, sym, ap, ◌∙◌, subst, take, length, append_assoc, append-nil}
+use Rattle.std.proofs.Common.{◌≡◌, ℕ, ◌+◌, List, ◌++◌, ◌∷◌, [], arith, sym, ap, ◌∙◌, subst, take, append_assoc, append-nil}
 use Rattle.std.specs.Prelude.{slice_index, true}
 use Rattle.std.proofs.lemmas.List.{map-append, take_all, take_more}
 use Rattle.aho_core.specs.Bytes.{folded_by}
