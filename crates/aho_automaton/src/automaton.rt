@@ -43,6 +43,7 @@ pub use crate::find::{find_in, find_in_by};
 pub use crate::iter::FindIter;
 use crate::overlapping::next_match;
 pub use crate::overlapping::{FindOverlappingIter, OverlappingState};
+use crate::patience::Patience;
 use crate::replace::{append_piece, append_text, replace_bytes, replace_text};
 pub use crate::walk::{Counted, Walk};
 use aho_core::error::{MatchError, ReplaceError};
@@ -267,21 +268,7 @@ pub trait Automaton {
             start self.now input.now.anchored ≡ Err e → result ≡ Err e }
         ensures done { input.now.end < input.now.start → result ≡ Ok None }
     {
-        let mut walk = Counted::new(self);
-        let mut text = Bytes::new(input.haystack());
-        let span = Span {
-            start: input.start(),
-            end: input.end(),
-        };
-        let reach = self.max_pattern_len();
-        find_in_by(
-            &mut walk,
-            &mut text,
-            span,
-            input.get_anchored(),
-            input.get_earliest(),
-            reach,
-        )
+        find_patiently(self, input, &mut Patience::new())
     }
 
     /// The matches of the input's search, one after another: each is what the search from the end of the match before
@@ -634,4 +621,37 @@ pub trait Automaton {
         cover_bytes(runs, haystack, &mut dst, replace_with)?;
         Ok(dst)
     }
+}
+
+/// What `try_find` answers, with what the searches before have left of the patience with the prefilter.
+pub(crate) fn find_patiently<A: Automaton>(
+    automaton: &A,
+    input: &Input,
+    patience: &mut Patience,
+) -> Result<Option<Match>, MatchError>
+    requires of { (p : Patterns) × A.is_of automaton.now p }
+    ensures found { (p : Patterns) → A.is_of automaton.now p →
+        IfOk result (IsAnswer p input.now) }
+    ensures error { IfErr result (λ reason. A.start automaton.now input.now.anchored ≡ Err reason) }
+    ensures ok { (sid : ℕ) → A.start automaton.now input.now.anchored ≡ Ok sid → IsOk result }
+    ensures refused { (e : MatchErrorKind) → input.now.start ≤ input.now.end →
+        A.start automaton.now input.now.anchored ≡ Err e → result ≡ Err e }
+    ensures done { input.now.end < input.now.start → result ≡ Ok None }
+{
+    let mut walk = Counted::new(automaton);
+    let mut text = Bytes::new(input.haystack());
+    let span = Span {
+        start: input.start(),
+        end: input.end(),
+    };
+    let reach = automaton.max_pattern_len();
+    find_in_by(
+        &mut walk,
+        &mut text,
+        span,
+        input.get_anchored(),
+        input.get_earliest(),
+        reach,
+        patience,
+    )
 }

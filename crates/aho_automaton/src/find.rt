@@ -50,7 +50,7 @@ ghost use Rattle.aho_automaton.specs.Effects.{BeginsIn, Costs, CostsNothing, Rea
 ghost use Rattle.aho_automaton.specs.WalkEnds.{AnswersSearch, NoneLonger, ResumesAt, WaitsFor, WaitsOnlyIf, WaitsWithin};
 ghost use Rattle.aho_automaton.specs.declared.find.WalkEnd.TheVariants.{Answer};
 
-use crate::patience::{PATIENCE, patience_after};
+use crate::patience::Patience;
 use crate::walk::Walk;
 use aho_core::error::MatchError;
 use aho_core::search::{Anchored, Match, MatchKind, Span, StateID};
@@ -171,10 +171,34 @@ fn resumes_at<W: Walk, T: Text>(
     }
 }
 
+/// Whether a walk waits in starts: one that may wait, unless it rests.
+#[inline(always)]
+fn waits_in_starts(may_wait: bool, rests: bool) -> bool
+    ensures only { result ≡ true → may_wait ≡ true }
+{
+    may_wait && !rests
+}
+
+/// Where a walk asks next for a candidate, past the beginning of what it has still to read: once so many bytes have passed since the
+/// last one, or never.
+#[inline(always)]
+fn asks_at(asks: bool, last: usize, reach: usize, walked: Span) -> usize
+    requires ordered { walked.start < walked.end }
+    ensures later { walked.start < result }
+    ensures within { result ≤ walked.end }
+{
+    if !asks {
+        return walked.end;
+    }
+    last.saturating_add(reach)
+        .max(walked.start + 1)
+        .min(walked.end)
+}
+
 /// The walk of a search from a state that is held after no byte, over the bytes of a span that is not done.
 ///
-/// Where it may wait, it ends in the first start that it is led to with nothing found, or where `reach`, which no match is
-/// longer than, lets it go on at a later candidate. The clauses on its answer are those of `find_in`, which says what they mean.
+/// Where it may wait, it ends in the first start that it is led to with nothing found, unless it rests, or where `reach`, which no
+/// match is longer than, lets it go on at a later candidate. The clauses on its answer are those of `find_in`, which says what they mean.
 #[inline(always)]
 fn find_from<W: Walk, T: Text>(
     walk: &mut W,
@@ -183,7 +207,9 @@ fn find_from<W: Walk, T: Text>(
     anchored: Anchored,
     earliest: bool,
     may_wait: bool,
+    rests: bool,
     reach: usize,
+    patience: &mut Patience,
     mut sid: StateID,
 ) -> WalkEnd
     requires within { span.end ≤ length (T.bytes text.old) }
@@ -213,28 +239,41 @@ fn find_from<W: Walk, T: Text>(
     if stops && best.is_some() {
         return WalkEnd::Answer(best);
     }
+    let waits = waits_in_starts(may_wait, rests);
     let mut last = start;
-    for at in start..end {
-        let byte = text.byte(at);
-        sid = walk.step(anchored, sid, byte);
-        if looks_at(walk, may_wait, sid) {
-            if walk.is_dead(sid) {
-                return WalkEnd::Answer(best);
-            }
-            if let Some(m) = told_at(walk, anchored, sid, start, at + 1) {
-                best = Some(m);
-                if stops {
+    let mut from = start;
+    while from < end {
+        let unread = Span { start: from, end };
+        let due = asks_at(
+            may_wait && best.is_none(),
+            last,
+            patience.pace(reach),
+            unread,
+        );
+        for at in from..due {
+            let byte = text.byte(at);
+            sid = walk.step(anchored, sid, byte);
+            if looks_at(walk, waits, sid) {
+                if walk.is_dead(sid) {
                     return WalkEnd::Answer(best);
                 }
-            } else if waits_in(walk, may_wait, &best, sid) {
-                return WalkEnd::Waits(at + 1, at + 1);
+                if let Some(m) = told_at(walk, anchored, sid, start, at + 1) {
+                    best = Some(m);
+                    if stops {
+                        return WalkEnd::Answer(best);
+                    }
+                } else if waits_in(walk, waits, &best, sid) {
+                    return WalkEnd::Waits(at + 1, at + 1);
+                }
             }
         }
-        let rest = Span { start: at + 1, end };
+        from = due;
+        let rest = Span { start: due, end };
         last = resumes_at(walk, text, may_wait, &best, reach, last, rest);
-        if last > at {
-            return WalkEnd::Waits(at + 1, last);
+        if last >= due {
+            return WalkEnd::Waits(due, last);
         }
+        patience.spend(0);
     }
     WalkEnd::Answer(best)
 }
@@ -264,10 +303,76 @@ fn find_to_end<W: Walk, T: Text>(
     ensures reads { ReadsNoFurther W.Of.Automaton (W.of walk.old) T.Text text.old text.new
         (search_of (T.bytes text.old) span anchored earliest) (λ m. result ≡ Some m) }
 {
-    match find_from(walk, text, span, anchored, earliest, false, 0, sid) {
+    let mut patience = Patience::new();
+    match find_from(
+        walk,
+        text,
+        span,
+        anchored,
+        earliest,
+        false,
+        false,
+        0,
+        &mut patience,
+        sid,
+    ) {
         WalkEnd::Answer(found) => found,
         WalkEnd::Waits(_, _) => unreachable!(),
     }
+}
+
+/// A walk that rests: it waits in no start, and asks for a candidate once it has no patience left to regain.
+///
+/// Its clauses are those of `find_from`.
+#[inline(always)]
+fn find_resting<W: Walk, T: Text>(
+    walk: &mut W,
+    text: &mut T,
+    span: Span,
+    earliest: bool,
+    reach: usize,
+    patience: &mut Patience,
+    sid: StateID,
+) -> WalkEnd
+    requires within { span.end ≤ length (T.bytes text.old) }
+    requires ordered { span.start ≤ span.end }
+    requires unread { T.next text.old ≤ span.start }
+    requires room { W.lookups walk.old + 2 * (span.end - span.start) < 2 ^ 128 }
+    requires of { (p : Patterns) × W.Of.is_of (W.of walk.old) p }
+    requires begins { BeginsIn W.Of.Automaton (W.of walk.old) No sid }
+    requires held { IsSome (W.Of.prefilter (W.of walk.old)) }
+    requires reach { (p : Patterns) → W.Of.is_of (W.of walk.old) p →
+        NoneLonger p (T.bytes text.old) span.start span.end reach }
+    ensures found { (p : Patterns) → W.Of.is_of (W.of walk.old) p →
+        AnswersSearch p (search_of (T.bytes text.old) span No earliest) result }
+    ensures waits_within { WaitsWithin span.start span.end (T.next text.new) result }
+    ensures waits_for { (p : Patterns) → W.Of.is_of (W.of walk.old) p →
+        WaitsFor p (T.bytes text.old) span.start span.end result }
+    ensures untouched { Untouched W.Walk T.Text walk.old walk.new text.old text.new }
+    ensures costs { Costs W.Walk T.Text walk.old walk.new text.old text.new span.start }
+    ensures reads { ReadsNoFurther W.Of.Automaton (W.of walk.old) T.Text text.old text.new
+        (search_of (T.bytes text.old) span No earliest) (λ m. result ≡ Answer (Some m)) }
+{
+    let start = span.start;
+    let walked = find_from(
+        walk,
+        text,
+        span,
+        Anchored::No,
+        earliest,
+        true,
+        true,
+        reach,
+        patience,
+        sid,
+    );
+    let to = match &walked {
+        WalkEnd::Answer(Some(m)) => m.end(),
+        WalkEnd::Answer(None) => start,
+        WalkEnd::Waits(from, _) => *from,
+    };
+    patience.rest(to.wrapping_sub(start));
+    walked
 }
 
 /// Whether a search skips by the automaton's prefilter: no anchored one does.
@@ -302,6 +407,7 @@ fn find_skipping<W: Walk, T: Text>(
     span: Span,
     earliest: bool,
     reach: usize,
+    patience: &mut Patience,
     sid: StateID,
 ) -> Option<Match>
     requires reach { (p : Patterns) → W.Of.is_of (W.of walk.old) p →
@@ -323,23 +429,42 @@ fn find_skipping<W: Walk, T: Text>(
     let Span { start, end } = span;
     let mut at = start;
     let mut walked = start;
-    let mut patience = PATIENCE;
     'skips: loop {
+        if patience.is_out() {
+            let part = Span { start: at, end };
+            match find_resting(walk, text, part, earliest, reach, patience, sid) {
+                WalkEnd::Answer(found) => return found,
+                WalkEnd::Waits(from, place) => {
+                    walked = from;
+                    at = place;
+                    continue 'skips;
+                }
+            }
+        }
         let candidate = candidate_in(walk, text, Span { start: at, end });
         if let Candidate::Match(found) = &candidate {
             if !earliest {
+                patience.spend(found.start().wrapping_sub(walked));
                 return Some(*found);
             }
         }
         let Some(origin) = candidate.into_option() else {
             return None;
         };
-        patience = patience_after(patience, origin.wrapping_sub(walked));
+        patience.spend(origin.wrapping_sub(walked));
         let part = Span { start: origin, end };
-        if patience == 0 {
-            return find_to_end(walk, text, part, Anchored::No, earliest, sid);
-        }
-        match find_from(walk, text, part, Anchored::No, earliest, true, reach, sid) {
+        match find_from(
+            walk,
+            text,
+            part,
+            Anchored::No,
+            earliest,
+            true,
+            false,
+            reach,
+            patience,
+            sid,
+        ) {
             WalkEnd::Answer(found) => return found,
             WalkEnd::Waits(from, place) => {
                 walked = from;
@@ -368,6 +493,7 @@ pub fn find_in_by<W: Walk, T: Text>(
     anchored: Anchored,
     earliest: bool,
     reach: usize,
+    patience: &mut Patience,
 ) -> Result<Option<Match>, MatchError>
     requires within { span.end ≤ length (T.bytes text.old) }
     requires ordered { span.start ≤ span.end + 1 }
@@ -406,7 +532,7 @@ pub fn find_in_by<W: Walk, T: Text>(
     }
     let sid = walk.start_state(anchored)?;
     if skips(walk, anchored) {
-        return Ok(find_skipping(walk, text, span, earliest, reach, sid));
+        return Ok(find_skipping(walk, text, span, earliest, reach, patience, sid));
     }
     Ok(find_to_end(walk, text, span, anchored, earliest, sid))
 }
@@ -458,5 +584,14 @@ pub fn find_in<W: Walk, T: Text>(
     ensures done_free { span.end < span.start →
         CostsNothing W.Walk T.Text walk.old walk.new text.old text.new }
 {
-    find_in_by(walk, text, span, anchored, earliest, usize::MAX)
+    let mut patience = Patience::new();
+    find_in_by(
+        walk,
+        text,
+        span,
+        anchored,
+        earliest,
+        usize::MAX,
+        &mut patience,
+    )
 }

@@ -9,7 +9,8 @@ ghost use Rattle.aho_core.specs.declared.error.MatchErrorKind.{MatchErrorKind};
 ghost use Rattle.aho_automaton.specs.Fused.{IsFused};
 ghost use Rattle.aho_automaton.specs.Finding.{GivesFinds, GivesFirstFinds, GivesNext, from_next_place, last_after, span_places, places_left, search_after};
 
-use crate::automaton::Automaton;
+use crate::automaton::{Automaton, find_patiently};
+use crate::patience::Patience;
 use aho_core::error::MatchError;
 use aho_core::search::{Input, Match};
 use std::iter::FusedIterator;
@@ -23,6 +24,8 @@ pub struct FindIter<'a, 'h, A> {
     automaton: &'a A,
     input: Input<'h>,
     last_match_end: Option<usize>,
+    /// What the searches so far have left of the patience with the prefilter.
+    patience: Patience,
 }
 
 impl<'a, 'h, A: Automaton> FindIter<'a, 'h, A> {
@@ -33,11 +36,8 @@ impl<'a, 'h, A: Automaton> FindIter<'a, 'h, A> {
     /// It is refused exactly where `start_state` refuses the input's anchoring.
     pub(crate) fn new(automaton: &'a A, input: Input<'h>) -> Result<FindIter<'a, 'h, A>, MatchError>
         requires of { (p : Patterns) × A.is_of automaton.now p }
-        ensures made { IfOk result (λ it. it ≡ record {
-          automaton = automaton.entry;
-          input = input.entry;
-          last_match_end = None;
-        }) }
+        ensures made { IfOk result (λ it. (it.automaton ≡ automaton.entry)
+            × (it.input ≡ input.entry) × (it.last_match_end ≡ None)) }
         ensures ready { IfOk result (λ it.
             ⟦<FindIter<'a, 'h, A> as Iterator>⟧.can_next it) }
         ensures finds { (p : Patterns) → A.is_of automaton.entry.now p → IfOk result
@@ -59,17 +59,19 @@ impl<'a, 'h, A: Automaton> FindIter<'a, 'h, A> {
             automaton,
             input,
             last_match_end: None,
+            patience: Patience::new(),
         })
     }
 
     /// What the search of what is left finds.
-    fn search(&self) -> Option<Match>
-        requires of { (p : Patterns) × A.is_of self.now.automaton.now p }
-        requires starts { IsOk (A.start self.now.automaton.now self.now.input.anchored) }
-        ensures found { (p : Patterns) → A.is_of self.now.automaton.now p →
-            IsAnswer p self.now.input result }
+    fn search(&mut self) -> Option<Match>
+        requires of { (p : Patterns) × A.is_of self.old.automaton.now p }
+        requires starts { IsOk (A.start self.old.automaton.now self.old.input.anchored) }
+        ensures found { (p : Patterns) → A.is_of self.old.automaton.now p →
+            IsAnswer p self.old.input result }
+        ensures moved { self.new ≡ record self.old { patience = self.new.patience } }
     {
-        self.automaton.try_find(&self.input).unwrap()
+        find_patiently(self.automaton, &self.input, &mut self.patience).unwrap()
     }
 
     /// The match from one place on, where an empty match at the last match's end was found.
@@ -81,6 +83,7 @@ impl<'a, 'h, A: Automaton> FindIter<'a, 'h, A> {
             IsAnswer p (from_next_place self.old.input) result }
         ensures moved { self.new ≡ record self.old {
           input = from_next_place self.old.input;
+          patience = self.new.patience;
         } }
     {
         let _end = self.input.end();
@@ -102,6 +105,7 @@ impl<'a, 'h, A: Automaton> FindIter<'a, 'h, A> {
             < places_left self.old.input self.old.last_match_end) }
         ensures moved { self.new ≡ record self.old {
           input = record self.old.input { start = self.new.input.start };
+          patience = self.new.patience;
         } }
     {
         let found = self.search();

@@ -7,7 +7,7 @@ use Rattle.aho_automaton.proofs.Told.{is_none}
 use Rattle.aho_automaton.proofs.Walks.{Standing, stands_at_start, stands_silent, stands_unlisted, stands_first, stands_last, answer_at_end, answer_when_dead, answer_found, not_before, later, near_at_start, near_further, anchored_near_further}
 use Rattle.aho_automaton.proofs.Skipping.{jumps_there, waits_there}
 use Rattle.aho_automaton.proofs.find.find_from.Given.{Over}
-use Rattle.aho_automaton.proofs.find.find_from.Goals.{After-step-sid, Joined-else-stops, Joined-looks_at, then-looks_at+else-is_dead+in-Some+else-stops-2, then-looks_at+else-is_dead+in_default+else-waits_in, else-looks_at, else-stops-via-then-stops+else-is_some, else-stops-via-else-stops}
+use Rattle.aho_automaton.proofs.find.find_from.Goals.{After-step-sid, After-waits_in_starts-waits, Joined-looks_at, then-looks_at+else-is_dead+in-Some+else-stops-2, then-looks_at+else-is_dead+in_default+else-waits_in, else-looks_at, else-stops-via-then-stops+else-is_some, else-stops-via-else-stops}
 use Rattle.aho_automaton.proofs.find.find_from.Goals as goal
 
 -- a match that is told before the first byte is the answer of a search that stops there
@@ -18,12 +18,12 @@ returns-then-is_some-clause-found g c p of =
     (stands_at_start laws _ _ _ _ _ (c.requires.begins.held p of) c.told_at-best.ensures.told)
 
 -- before the first byte
-begun : (g : Over) (c : Joined-else-stops g) (p : Patterns) → g.W.Of.Automaton.is_of (g.W.Walk.of c.args.walk.now) p
+begun : (g : Over) (c : After-waits_in_starts-waits g) (p : Patterns) → g.W.Of.Automaton.is_of (g.W.Walk.of c.args.walk.now) p
     → Standing p (g.W.Of.Automaton.held (g.W.Walk.of c.args.walk.now) p) c.args.anchored (g.T.Text.bytes c.args.text.now) c.args.span.start c.args.span.start c.args.sid c.told_at-best.result
 begun g c p of = stands_at_start (g.met.W.Of.Automaton.laws _ p of) _ _ _ _ _ (c.requires.begins.held p of) c.told_at-best.ensures.told
 
-pub loop-at-init : goal.loop-at-init
-loop-at-init g c = record {
+pub loop-from-init : goal.loop-from-init
+loop-from-init g c = record {
   same_walk = refl;
   same_text = refl;
   unread = c.requires.unread;
@@ -38,6 +38,7 @@ loop-at-init g c = record {
   anchored_near = λ is_anchored. omega arith;
   low = omega arith;
   here = omega arith;
+  within = omega arith;
   stands = begun g c;
 }
 
@@ -128,15 +129,13 @@ loop-at-preserved g c =
       ];
       near = λ unanchored leftmost m is. near_further (g.met.W.Of.Automaton.laws _ _ c.requires.of.1) _ _ _ (c.loop-at.at + 1) _ _ m unanchored leftmost (omega arith) (alive g e) (stood g e _ c.requires.of.1) is;
       anchored_near = λ is_anchored. anchored_near_further (g.met.W.Of.Automaton.laws _ _ c.requires.of.1) _ _ _ (c.loop-at.at + 1) _ _ is_anchored (omega arith) (omega arith) (alive g e) (stood g e _ c.requires.of.1);
-      low = omega (arith, c.resumes_at-last.ensures.forward c.requires.of.0 (rw (sym (same_walk g d)) at c.requires.of.1), c.loop-at.invariant.low);
-      here = omega (arith, c.if-last-at.false);
       stands = stood g e;
     }
 
 -- what is held at the end of the span is the answer
 pub returns-clause-found : goal.returns-clause-found
 returns-clause-found g c p of =
-    answer_at_end (g.met.W.Of.Automaton.laws (g.W.Walk.of c.args.walk.now) p of) _ _ _ _ _ c.loop-at.at c.loop-at.sid _ (omega arith) c.loop-at.invariant.quiet (omega arith) (omega arith) (c.loop-at.invariant.stands p of)
+    answer_at_end (g.met.W.Of.Automaton.laws (g.W.Walk.of c.args.walk.now) p of) _ _ _ _ _ c.loop-from.from c.loop-from.sid _ (omega arith) c.loop-from.invariant.quiet (omega arith) (omega arith) (c.loop-from.invariant.stands p of)
 
 -- where it waits in a start, nothing was found
 pub returns-then-waits_in-clause-waits_for : goal.returns-then-waits_in-clause-waits_for
@@ -145,22 +144,12 @@ returns-then-waits_in-clause-waits_for g c p of =
     let laws = g.met.W.Of.Automaton.laws (g.W.Walk.of c.args.walk.now) p of in
     let waits = c.waits_in.ensures.waits c.if-waits_in.true in
     let stands = stands_silent laws _ _ _ _ _ _ _ _ (omega arith) (omega arith) (held_after g d p of) (rw (same_walk g d) at c.in_default.ensures.told) (c.loop-at.invariant.stands p of) refl in
-    waits_there p _ _ _ _ _ _ laws _ (c.requires.unanchored waits.0) _ _ _ _ _ (omega arith) (omega arith) (omega arith)
+    waits_there p _ _ _ _ _ _ laws _ (c.requires.unanchored (c.waits_in_starts-waits.ensures.only waits.0)) _ _ _ _ _ (omega arith) (omega arith) (omega arith)
     (rw waits.1 at stands) (rw (same_walk g d) at waits.2)
 
 -- where it goes on behind the last candidate, all that starts there has ended with nothing found
-pub returns-then-last-at-clause-waits_within : goal.returns-then-last-at-clause-waits_within
-returns-then-last-at-clause-waits_within g c =
-    let d = (goal.at.returns-then-last-at-clause-waits_within g c).After-step-sid in
-    let of = rw (sym (same_walk g d)) at c.requires.of.1 in
-    let resumes = c.resumes_at-last.ensures.resumes c.requires.of.0 of (omega (arith, c.if-last-at.true)) in
-    (omega (arith, c.loop-at.invariant.low, c.loop-at.invariant.here, c.if-last-at.true), resumes.within, omega (arith, c.byte-byte.ensures.passed, c.if-last-at.true))
-
-pub returns-then-last-at-clause-waits_for : goal.returns-then-last-at-clause-waits_for
-returns-then-last-at-clause-waits_for g c p of =
-    let d = (goal.at.returns-then-last-at-clause-waits_for g c).After-step-sid in
-    let e = (goal.at.returns-then-last-at-clause-waits_for g c).Joined-looks_at in
-    let resumes = (rw (same_walk g d) at c.resumes_at-last.ensures.resumes) p of (omega (arith, c.if-last-at.true)) in
-    let stands = stood g e p of in
+pub returns-then-last-due-clause-waits_for : goal.returns-then-last-due-clause-waits_for
+returns-then-last-due-clause-waits_for g c p of =
+    let resumes = (rw c.loop-at.invariant.same_walk at c.resumes_at-last.ensures.resumes) p of (omega (arith, c.if-last-due.true)) in
     jumps_there p _ _ (c.requires.unanchored resumes.waits) _ _ _ _ _ _ _ _ (omega arith) (omega arith) (omega arith)
-    (rw resumes.none at stands) (c.requires.reach resumes.waits p of) resumes.ended (rw (c.byte-byte.ensures.same ∙ c.loop-at.invariant.same_text) at resumes.behind)
+    (rw resumes.none at c.loop-at.invariant.stands p of) (c.requires.reach resumes.waits p of) (omega (arith, resumes.ended)) (rw c.loop-at.invariant.same_text at resumes.behind)

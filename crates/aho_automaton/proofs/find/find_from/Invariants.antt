@@ -9,7 +9,7 @@ use Rattle.aho_core.specs.declared.search.MatchKind.TheVariants.{Standard}
 use Rattle.aho_automaton.proofs.Walks.{Standing}
 use Rattle.aho_automaton.proofs.find.find_from.Given as goal
 
--- Over the same automaton and the same text, of which nothing from `at` on was read:
+-- Over the same automaton and the same text, of which nothing from `from` on was read:
 -- `paid`: two look-ups for each byte that was read pay for the look-ups so far, and the state's depth is left over;
 -- `once`: no more bytes were read than were passed;
 -- `quiet`: a search that stops at its first match has none yet;
@@ -17,23 +17,47 @@ use Rattle.aho_automaton.proofs.find.find_from.Given as goal
 -- `anchored_near`: an anchored search has not read more than the longest pattern;
 -- `low`, `here`: the place behind which it may go on is one of those so far;
 -- `stands`: the state is held after the bytes that were read, and the best so far is theirs.
-abbrev pub invariant-loop-at : goal.invariant-loop-at
-invariant-loop-at g l =
-    let automaton = g.W.Walk.of l.initial.walk in
+abbrev pub invariant-loop-from : goal.invariant-loop-from
+invariant-loop-from g l =
+    let automaton = g.W.Walk.of l.fn.walk in
     record {
       same_walk : g.W.Walk.of l.walk ≡ automaton;
-      same_text : g.T.Text.bytes l.text ≡ g.T.Text.bytes l.initial.text;
+      same_text : g.T.Text.bytes l.text ≡ g.T.Text.bytes l.fn.text;
+      unread : g.T.Text.next l.text ≤ l.from;
+      forward : g.T.Text.next l.fn.text ≤ g.T.Text.next l.text;
+      paid : g.W.Walk.lookups l.walk + g.W.Of.Automaton.depth automaton l.sid ≤ g.W.Walk.lookups l.fn.walk + 2 * (g.T.Text.reads l.text - g.T.Text.reads l.fn.text);
+      once : g.T.Text.reads l.text - g.T.Text.reads l.fn.text ≤ g.T.Text.next l.text - l.start;
+      reads_grow : g.T.Text.reads l.fn.text ≤ g.T.Text.reads l.text;
+      grows : g.W.Walk.lookups l.fn.walk ≤ g.W.Walk.lookups l.walk;
+      valid : g.W.Of.Automaton.valid automaton l.sid;
+      quiet : first_is_answer (g.W.Of.Automaton.kind automaton) l.earliest ≡ true → l.best ≡ None;
+      near : l.anchored ≡ No → g.W.Of.Automaton.kind automaton ≢ Standard → (m : Occurrence) → l.best ≡ Some m → l.from ≤ m.start + longest (g.W.Of.Automaton.lengths automaton);
+      anchored_near : l.anchored ≡ Yes → l.from ≤ l.start + longest (g.W.Of.Automaton.lengths automaton);
+      low : l.start ≤ l.last;
+      here : l.last ≤ l.from;
+      within : l.from ≤ l.end;
+      stands : (p : Patterns) → g.W.Of.Automaton.is_of automaton p → Standing p (g.W.Of.Automaton.held automaton p) l.anchored (g.T.Text.bytes l.fn.text) l.start l.from l.sid l.best;
+    }
+
+abbrev pub decreases-loop-from : goal.decreases-loop-from
+decreases-loop-from g l = l.end - l.from
+
+-- The same of the walk up to where it asks next.
+abbrev pub invariant-loop-at : goal.invariant-loop-at
+invariant-loop-at g l =
+    let automaton = g.W.Walk.of l.fn.walk in
+    record {
+      same_walk : g.W.Walk.of l.walk ≡ automaton;
+      same_text : g.T.Text.bytes l.text ≡ g.T.Text.bytes l.fn.text;
       unread : g.T.Text.next l.text ≤ l.at;
-      forward : g.T.Text.next l.initial.text ≤ g.T.Text.next l.text;
-      paid : g.W.Walk.lookups l.walk + g.W.Of.Automaton.depth automaton l.sid ≤ g.W.Walk.lookups l.initial.walk + 2 * (g.T.Text.reads l.text - g.T.Text.reads l.initial.text);
-      once : g.T.Text.reads l.text - g.T.Text.reads l.initial.text ≤ g.T.Text.next l.text - l.start;
-      reads_grow : g.T.Text.reads l.initial.text ≤ g.T.Text.reads l.text;
-      grows : g.W.Walk.lookups l.initial.walk ≤ g.W.Walk.lookups l.walk;
+      forward : g.T.Text.next l.fn.text ≤ g.T.Text.next l.text;
+      paid : g.W.Walk.lookups l.walk + g.W.Of.Automaton.depth automaton l.sid ≤ g.W.Walk.lookups l.fn.walk + 2 * (g.T.Text.reads l.text - g.T.Text.reads l.fn.text);
+      once : g.T.Text.reads l.text - g.T.Text.reads l.fn.text ≤ g.T.Text.next l.text - l.start;
+      reads_grow : g.T.Text.reads l.fn.text ≤ g.T.Text.reads l.text;
+      grows : g.W.Walk.lookups l.fn.walk ≤ g.W.Walk.lookups l.walk;
       valid : g.W.Of.Automaton.valid automaton l.sid;
       quiet : first_is_answer (g.W.Of.Automaton.kind automaton) l.earliest ≡ true → l.best ≡ None;
       near : l.anchored ≡ No → g.W.Of.Automaton.kind automaton ≢ Standard → (m : Occurrence) → l.best ≡ Some m → l.at ≤ m.start + longest (g.W.Of.Automaton.lengths automaton);
       anchored_near : l.anchored ≡ Yes → l.at ≤ l.start + longest (g.W.Of.Automaton.lengths automaton);
-      low : l.start ≤ l.last;
-      here : l.last ≤ l.at;
-      stands : (p : Patterns) → g.W.Of.Automaton.is_of automaton p → Standing p (g.W.Of.Automaton.held automaton p) l.anchored (g.T.Text.bytes l.initial.text) l.start l.at l.sid l.best;
+      stands : (p : Patterns) → g.W.Of.Automaton.is_of automaton p → Standing p (g.W.Of.Automaton.held automaton p) l.anchored (g.T.Text.bytes l.fn.text) l.start l.at l.sid l.best;
     }
