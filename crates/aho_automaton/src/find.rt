@@ -303,18 +303,9 @@ fn find_to_end<W: Walk, T: Text>(
     ensures reads { ReadsNoFurther W.Of.Automaton (W.of walk.old) T.Text text.old text.new
         (search_of (T.bytes text.old) span anchored earliest) (λ m. result ≡ Some m) }
 {
-    let mut patience = Patience::new();
+    let mut fresh = Patience::new();
     match find_from(
-        walk,
-        text,
-        span,
-        anchored,
-        earliest,
-        false,
-        false,
-        0,
-        &mut patience,
-        sid,
+        walk, text, span, anchored, earliest, false, false, 0, &mut fresh, sid,
     ) {
         WalkEnd::Answer(found) => found,
         WalkEnd::Waits(_, _) => unreachable!(),
