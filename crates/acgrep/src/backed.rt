@@ -121,6 +121,8 @@ impl<A: Automaton> Automaton for Backed<A> {
 
     ghost depth = { λ a sid. A.depth a.automaton sid };
 
+    ghost reach = { λ a sid. A.reach a.automaton sid };
+
     ghost next = { λ a anchored sid byte. A.next a.automaton anchored sid byte };
 
     ghost lookups = { λ a p anchored word byte. A.lookups a.automaton p anchored word byte };
@@ -167,6 +169,10 @@ impl<A: Automaton> Automaton for Backed<A> {
 
     fn is_start(&self, sid: StateID) -> bool {
         self.automaton.is_start(sid)
+    }
+
+    fn reach_back(&self, sid: StateID) -> usize {
+        self.automaton.reach_back(sid)
     }
 
     fn match_kind(&self) -> MatchKind {
@@ -220,6 +226,8 @@ impl<A: Automaton> Automaton for Backed<A> {
     ghost dead_shallow = { λ a. A.dead_shallow a.automaton };
 
     ghost starts_shallow = { λ a. A.starts_shallow a.automaton };
+
+    ghost reaches = { λ a p word sid of. A.reaches a.automaton p word sid of.0 };
 
     ghost prefilters = { λ a p of. A.prefilters a.automaton p of.0 };
 }

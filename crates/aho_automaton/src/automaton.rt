@@ -26,6 +26,7 @@ ghost use Rattle.aho_core.specs.declared.search.Anchored.{Anchored};
 ghost use Rattle.aho_core.specs.declared.search.Anchored.TheVariants.{No, Yes};
 ghost use Rattle.aho_core.specs.declared.search.MatchKind.{MatchKind};
 ghost use Rattle.aho_core.specs.declared.search.MatchKind.TheVariants.{Standard};
+ghost use Rattle.aho_core.specs.Step.{depth_of};
 ghost use Rattle.aho_core.specs.Steps.{GoesOn, IsPaid};
 ghost use Rattle.aho_prefilter.specs.Prefilter.{IsPrefilterOf};
 ghost use Rattle.aho_prefilter.specs.declared.prefilter.Searcher.{Searcher};
@@ -87,6 +88,9 @@ pub trait Automaton {
 
     /// How far the state is from the start of a search, where it is 0: what the steps back may cost.
     ghost depth: { Self → ℕ → ℕ };
+
+    /// How many of the last bytes read begin a pattern, so that a match may begin there and end further on.
+    ghost reach: { Self → ℕ → ℕ };
 
     /// The state that a byte leads to: `next_state` and `step` both answer it.
     ghost next: { Self → Anchored → ℕ → ℕ → ℕ };
@@ -171,6 +175,12 @@ pub trait Automaton {
         requires valid { valid self.now sid }
         ensures starts { result ≡ starts self.now sid };
 
+    /// How many of the last bytes read begin a pattern: the greatest number that does. So no match that ends further on begins
+    /// before them.
+    fn reach_back(&self, sid: StateID) -> usize
+        requires valid { valid self.now sid }
+        ensures reach { result ≡ reach self.now sid };
+
     /// Which of several matches is found.
     fn match_kind(&self) -> MatchKind
         ensures kind { result ≡ kind self.now };
@@ -244,6 +254,10 @@ pub trait Automaton {
     /// Nor is any start.
     ghost starts_shallow: { (a : Self) (sid : ℕ) → valid a sid → starts a sid ≡ true →
         depth a sid ≡ 0 };
+
+    /// A state reaches back as far as its own word is long: the longest end of the bytes read that begins a pattern.
+    ghost reaches: { (a : Self) (p : Patterns) (word : List ℕ) (sid : ℕ) → is_of a p →
+        held a p No word sid → reach a sid ≡ depth_of (held_after p No word) };
 
     /// What is held is a prefilter of the patterns.
     ghost prefilters: { (a : Self) (p : Patterns) → is_of a p →

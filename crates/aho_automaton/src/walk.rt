@@ -81,6 +81,11 @@ pub trait Walk {
         requires valid { Self.Of.valid (of self.now) sid }
         ensures starts { result ≡ Self.Of.starts (of self.now) sid };
 
+    /// How many of the last bytes read begin a pattern.
+    fn reach_back(&self, sid: StateID) -> usize
+        requires valid { Self.Of.valid (of self.now) sid }
+        ensures reach { result ≡ Self.Of.reach (of self.now) sid };
+
     /// Which of several matches is found.
     fn match_kind(&self) -> MatchKind
         ensures kind { result ≡ Self.Of.kind (of self.now) };
@@ -167,6 +172,10 @@ impl<'a, A: Automaton> Walk for Counted<'a, A> {
 
     fn is_start(&self, sid: StateID) -> bool {
         self.automaton.is_start(sid)
+    }
+
+    fn reach_back(&self, sid: StateID) -> usize {
+        self.automaton.reach_back(sid)
     }
 
     fn match_kind(&self) -> MatchKind {

@@ -9,6 +9,7 @@ use Rattle.aho_core.specs.declared.search.MatchKind.{MatchKind}
 use Rattle.aho_core.specs.Held.{held_after}
 use Rattle.aho_core.specs.Laws.{Reads}
 use Rattle.aho_core.specs.Patterns.{Patterns}
+use Rattle.aho_core.specs.Step.{depth_of}
 use Rattle.aho_core.specs.Trie.{is_node}
 use Rattle.aho_laws.proofs.Kept.{is_node-root}
 use Rattle.aho_laws.proofs.NamedStates.{reads_by_words}
@@ -97,3 +98,15 @@ starts_shallow_of special states sid starts e =
       | inl root ↦ ap (depth_in states) root ∙ starts.unanchored.depth
       | inr anchored ↦ ap (depth_in states) anchored ∙ starts.anchored.depth
     ]
+
+-- a state is as deep as its word is long
+as_deep : (special : Special) (p : Patterns) (names : List (Option (List ℕ))) (states : List State) → IsAutomaton special p names states → IsSound states
+    → (state : Option (List ℕ)) (sid : ℕ) → IsStateOf names state sid → depth_in states sid ≡ depth_of state
+as_deep special p names states automaton sound None sid dead = ap (depth_in states) dead ∙ sound.dead_depth
+as_deep special p names states automaton sound (Some word) sid named = automaton.nodes.depths sid word named
+
+-- so the state that is held is as deep as the word's own state is long
+pub reaches_of : (p : Patterns) (kind : MatchKind) (lengths : List ℕ) (special : Special) (states : List State) → IsSound states → IsOf p kind lengths special states
+    → (word : List ℕ) (sid : ℕ) → IsHeld p special states No word sid → depth_in states sid ≡ depth_of (held_after p No word)
+reaches_of p kind lengths special states sound of word sid held =
+    as_deep special p of.names states of.automaton sound (held_after p No word) sid (held of.names of.automaton)

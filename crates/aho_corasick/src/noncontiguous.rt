@@ -174,7 +174,7 @@ impl Automaton for NFA {
     ghost use Rattle.aho_prefilter.specs.Prefilter.{IsPrefilterOf};
     ghost use Rattle.aho_table.specs.Table.{dead_id, depth_in, matches_in};
     ghost use Rattle.aho_build.specs.Walking.{IsState, step_in};
-    ghost use Rattle.aho_build.proofs.AutomatonLaws.{alike_of, reads_of, plain_of, dead_shallow_of, starts_shallow_of};
+    ghost use Rattle.aho_build.proofs.AutomatonLaws.{alike_of, reaches_of, reads_of, plain_of, dead_shallow_of, starts_shallow_of};
 
     ghost is_of = { λ n p. IsOf p n.match_kind n.pattern_lens.items n.special n.table.states
         × IfSome n.prefilter (λ searcher. IsPrefilterOf searcher p)
@@ -199,6 +199,8 @@ impl Automaton for NFA {
     ghost starts = { λ n sid. is_start_in n.special sid };
 
     ghost depth = { λ n sid. depth_in n.table.states sid };
+
+    ghost reach = { λ n sid. depth_in n.table.states sid };
 
     ghost next = { λ n anchored sid byte. step_in n.table.states anchored sid byte };
 
@@ -247,6 +249,10 @@ impl Automaton for NFA {
 
     fn is_start(&self, sid: StateID) -> bool {
         sid == self.special.start_unanchored_id || sid == self.special.start_anchored_id
+    }
+
+    fn reach_back(&self, sid: StateID) -> usize {
+        self.table.depth(sid)
     }
 
     fn match_kind(&self) -> MatchKind {
@@ -306,6 +312,9 @@ impl Automaton for NFA {
     ghost dead_shallow = { λ n sid valid. dead_shallow_of n.table.states sid n.sound };
 
     ghost starts_shallow = { λ n sid valid. starts_shallow_of n.special n.table.states sid n.starts };
+
+    ghost reaches = { λ n p word sid of.
+        reaches_of p n.match_kind n.pattern_lens.items n.special n.table.states n.sound of.0 word sid };
 
     ghost prefilters = { λ n p of. of.1 };
 }

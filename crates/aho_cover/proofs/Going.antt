@@ -1,6 +1,10 @@
 -- How far the cover of a stream has come, from one read to the next.
 use Rattle.aho_cover.specs.Hand.{held_runs}
-use Rattle.aho_core.specs.Occurs.{Occurs}
+use Rattle.aho_core.specs.Held.{held_after}
+use Rattle.aho_core.specs.Occurs.{Occurs, OccursIn}
+use Rattle.aho_core.specs.Search.{plain_search}
+use Rattle.aho_core.specs.Step.{depth_of}
+use Rattle.aho_core.specs.declared.search.MatchKind.TheVariants.{Standard}
 use Rattle.aho_core.specs.Listing.{IsMember}
 use Rattle.aho_core.specs.declared.search.Anchored.TheVariants.{No}
 use Rattle.aho_laws.proofs.Listed.{member-right}
@@ -33,9 +37,10 @@ use Rattle.aho_cover.specs.Feeds.{Feeding}
 use Rattle.aho_cover.specs.Pieces.{IsCoverBy, PieceRule, cover_by, piece_in}
 use Rattle.aho_cover.specs.Progress.{EndsHere, HasCovered, IsAll, IsBeginning, IsGiven, IsSoundCover}
 use Rattle.aho_cover.specs.Refilling.{TakesIn}
-use Rattle.aho_cover.specs.Steps.{CoversOn, MayRoll}
+use Rattle.aho_cover.specs.Steps.{CoversOn, IsPrompt, MayRoll}
 use Rattle.aho_cover.specs.Walks.{StandsIn}
 use Rattle.aho_cover.specs.Writes.{WritesOn}
+use Rattle.aho_cover.proofs.Back.{may-go_on}
 use Rattle.aho_cover.proofs.Counted.{counts_none, counts_then}
 use Rattle.aho_cover.proofs.Copied.{nothing_between}
 use Rattle.aho_cover.proofs.Covered.{has-begun, has-upto}
@@ -323,23 +328,36 @@ module _ {A R W : Type 0} (G : Automata A) (S : SourceGhosts R) (K : SinkGhosts 
     given_same : s'.read ≡ s.read → given_now ≡ going.given
     given_same same = ap (λ (xs : List ℕ). going.given ++ xs) (no_items takes.bytes (omega (arith, takes.count, same))) ∙ append-nil going.given
 
+    -- so much of it was covered
+    covers_given : s'.read ≡ s.read → (p : Patterns) → G.is_of a p → CoversOn G a rule s s.read p given_now going.written
+    covers_given same p of = subst (λ (h : List ℕ). CoversOn G a rule s s.read p h going.written) (append-nil going.given ∙ sym (given_same same)) (going.covers p [] of).0
+
+    -- a byte that no match holds lies in no run in hand
+    not_in_hand : s'.read ≡ s.read → (p : Patterns) (at : ℕ) → G.is_of a p → (IsCovered (OccursIn p (plain_search given_now)) at → ⊥) → IsCovered (IsMember (held_runs s.hand)) at → ⊥
+    not_in_hand same p at of bare c =
+        let has = (covers_given same p of).covered in
+        let runs = upto-covers p given_now s.read (omega (arith, count_more, same)) in
+        let long : s.read ≡ length given_now = sym same ∙ count_more in
+        let there = subst (λ (xs : List Occurrence). IsMember xs c.found) (sym has.runs) (member-right going.written.runs (held_runs s.hand) c.found c.member) in
+        bare (subst (λ (end : ℕ). IsCovered (λ m. Occurs p No given_now 0 end m) at) long (runs.only at (record { found = c.found; member = there; after_start = c.after_start; before_end = c.before_end })))
+
     -- what was written then is the cover up to a place, and few bytes are left out that lie in no match
-    pub upto_more : (sink' : W) → Appends (K.taken begun) (K.taken sink') going.written.bytes → IsSoundCover s s.read → MayRoll s → s'.read ≡ s.read → S.empty_reads source' ≡ counted false (S.empty_reads source)
+    pub upto_more : (sink' : W) → Appends (K.taken begun) (K.taken sink') going.written.bytes → IsSoundCover s s.read → MayRoll s → IsPrompt G a s → ((p : Patterns) → G.is_of a p → p.kind ≡ Standard)
+        → ((p : Patterns) (word : List ℕ) (sid : ℕ) → G.is_of a p → G.held a p No word sid → G.reach a sid ≡ depth_of (held_after p No word)) → s'.read ≡ s.read → S.empty_reads source' ≡ counted false (S.empty_reads source)
         → CoversStreamUpToBy S K (G.is_of a) rule first source' begun sink'
-    upto_more sink' writes sound near same counts = record {
+    upto_more sink' writes sound near prompt standard reaches same counts = record {
       given = given_now;
       ended = false;
       gives = gives_more false counts;
       place = s.copied;
       within = omega (arith, sound.copied_walked, count_more, same);
       near = λ p at of low bare.
-          let has = (subst (λ (h : List ℕ). CoversOn G a rule s s.read p h going.written) (append-nil going.given ∙ sym (given_same same)) (going.covers p [] of).0).covered in
-          let runs = upto-covers p given_now s.read (omega (arith, count_more, same)) in
+          let has = (covers_given same p of).covered in
+          omega (arith, near at low (not_in_hand same p at of bare), has.far, count_more, same);
+      prompt = λ p at of low inside bare.
+          let covers = covers_given same p of in
           let long : s.read ≡ length given_now = sym same ∙ count_more in
-          let rolls = near at low (λ c.
-          let there = subst (λ (xs : List Occurrence). IsMember xs c.found) (sym has.runs) (member-right going.written.runs (held_runs s.hand) c.found c.member) in
-          bare (subst (λ (end : ℕ). IsCovered (λ m. Occurs p No given_now 0 end m) at) long (runs.only at (record { found = c.found; member = there; after_start = c.after_start; before_end = c.before_end })))) in
-          omega (arith, rolls, has.far, long);
+          may-go_on G a p given_now (standard p of) (λ word sid held. reaches p word sid of held) at s.sid (subst (StandsIn G a p given_now s.sid) long covers.is_held) inside (omega (arith, prompt at low (not_in_hand same p at of bare), long));
       writes = λ p bytes runs of may are.
           let whole : bytes ≡ going.given ++ (takes.bytes ++ may.0) = may.1 ∙ append_assoc going.given takes.bytes may.0 in
           let upto = has-upto p (going.given ++ (takes.bytes ++ may.0)) rule s s.read going.written (going.covers p (takes.bytes ++ may.0) of).0.covered sound.behind in

@@ -7,6 +7,8 @@ pub mod Copied
 pub mod Covered
 pub mod Sound
 pub mod Fed
+-- How far a state reaches back.
+pub mod Back
 -- From one match that is told to the next.
 pub mod Reached
 -- From one read to the next.

@@ -95,7 +95,7 @@ module _ {A : Type 0} (G : Automata A) (a : A) (p : Patterns) (standard : G.kind
       )
 
   module _ (rule : PieceRule) (s : CoverProgress) (at : ℕ) (written : Output) (covers : CoversOn G a rule s at p haystack written) (reached : Reached)
-      (within : at + reached.count ≤ s.read) (reaches : Reaches G a p haystack at s.since reached) (counted : told_before reached ≤ reached.count) where
+      (within : at + reached.count ≤ s.read) (reaches : Reaches G a p haystack at reached) (counted : told_before reached ≤ reached.count) where
     read_within : s.read ≤ length haystack
     read_within = covers.covered.given.within
 
@@ -106,14 +106,14 @@ module _ {A : Type 0} (G : Automata A) (a : A) (p : Patterns) (standard : G.kind
         sym (listed-here k sid stands) ∙ ap (map (ended (G.lengths a) k)) nothing
 
     -- so the cover has come there
-    pub has-moved : HasCovered rule (record s { sid = reached.sid; since = reached.since }) (at + told_before reached) p haystack written
+    pub has-moved : HasCovered rule (record s { sid = reached.sid }) (at + told_before reached) p haystack written
     has-moved =
         let has = covers.covered in
         record {
           given = record { within = has.given.within; last = has.given.last };
           walked_within = omega (arith, counted);
           far = has.far;
-          since_clear = reaches.clear has.since_clear;
+          since_clear = λ m occurs later. has.since_clear m occurs (omega arith);
           runs = still-runs p haystack (told_before reached) at none_ends ∙ has.runs;
           settled = λ x there m occurs later. has.settled x there m occurs (omega arith);
           before = has.before;
@@ -123,13 +123,13 @@ module _ {A : Type 0} (G : Automata A) (a : A) (p : Patterns) (standard : G.kind
         }
 
     -- where nothing is told, the cover has come as far as the walk
-    pub moved-all : reached.found ≡ None → CoversOn G a rule (record s { sid = reached.sid; since = reached.since }) (at + reached.count) p haystack written
+    pub moved-all : reached.found ≡ None → CoversOn G a rule (record s { sid = reached.sid }) (at + reached.count) p haystack written
     moved-all none =
         let all : told_before reached ≡ reached.count = ap (λ (found : Option Occurrence). walked_before found reached.count) none in
         record {
           of = covers.of;
           is_held = reaches.stands;
-          covered = subst (λ (n : ℕ). HasCovered rule (record s { sid = reached.sid; since = reached.since }) (at + n) p haystack written) all has-moved;
+          covered = subst (λ (n : ℕ). HasCovered rule (record s { sid = reached.sid }) (at + n) p haystack written) all has-moved;
         }
 
     module _ (m : Occurrence) (some : reached.found ≡ Some m) (full : 1 ≤ shortest (G.lengths a)) (further : 0 < reached.count) where
@@ -137,11 +137,11 @@ module _ {A : Type 0} (G : Automata A) (a : A) (p : Patterns) (standard : G.kind
       moved-end = told-ends (G.lengths a) (G.list a reached.sid) (at + reached.count) m (sym reaches.told_is ∙ some)
 
       -- all but the last byte of the match was walked
-      pub moved-before : HasCovered rule (record s { sid = reached.sid; since = reached.since }) (m.end - 1) p haystack written
+      pub moved-before : HasCovered rule (record s { sid = reached.sid }) (m.end - 1) p haystack written
       moved-before =
           let all : told_before reached ≡ reached.count - 1 = ap (λ (found : Option Occurrence). walked_before found reached.count) some in
           let place : at + told_before reached ≡ m.end - 1 = omega (arith, all, moved-end) in
-          subst (λ (n : ℕ). HasCovered rule (record s { sid = reached.sid; since = reached.since }) n p haystack written) place has-moved
+          subst (λ (n : ℕ). HasCovered rule (record s { sid = reached.sid }) n p haystack written) place has-moved
 
       -- it is the longest that ends there
       pub moved-found : ((others : List Occurrence) × (occurrences_ending p haystack 0 m.end ≡ m ∷ others)) × (m.start < m.end) × Occurs p No haystack 0 (length haystack) m
@@ -150,16 +150,16 @@ module _ {A : Type 0} (G : Automata A) (a : A) (p : Patterns) (standard : G.kind
           (subst (λ (k : ℕ). (others : List Occurrence) × (occurrences_ending p haystack 0 k ≡ m ∷ others)) (sym moved-end) found.0, found.1, found.2)
 
       -- so it begins behind all that is settled
-      pub moved-behind : max s.copied (open_place (record s { sid = reached.sid; since = reached.since }) (m.end - 1)) ≤ m.start
+      pub moved-behind : max s.copied (open_place (record s { sid = reached.sid }) (m.end - 1)) ≤ m.start
       moved-behind =
           let later : m.end - 1 < m.end = omega (arith, moved-found.1) in
-          omega (arith, moved-before.clear m moved-found.2 later, has-open p haystack rule (record s { sid = reached.sid; since = reached.since }) (m.end - 1) written moved-before m moved-found.2 later)
+          omega (arith, moved-before.clear m moved-found.2 later, has-open p haystack rule (record s { sid = reached.sid }) (m.end - 1) written moved-before m moved-found.2 later)
 
       -- and behind what was fed
       pub moved-unfed : s.fed ≤ m.start
       moved-unfed = (let later : m.end - 1 < m.end = omega (arith, moved-found.1) in moved-before.fed_clear m moved-found.2 later)
 
-      pub moved-next : EndsNext rule (record s { sid = reached.sid; since = reached.since }) m p haystack written × (G.is_of a p × StandsIn G a p haystack reached.sid m.end)
+      pub moved-next : EndsNext rule (record s { sid = reached.sid }) m p haystack written × (G.is_of a p × StandsIn G a p haystack reached.sid m.end)
       moved-next = ((moved-before, moved-found.0), (covers.of, subst (λ (k : ℕ). StandsIn G a p haystack reached.sid k) (sym moved-end) reaches.stands))
 
 -- no more was walked before a match was told than in all

@@ -1,5 +1,5 @@
 -- What the cover of a stream leaves, and why one is refused.
-use Rattle.std.specs.Prelude.{◌≡◌, ℕ, ◌+◌, ◌≤◌, Bool, true, List, [], ◌∷◌, ◌++◌, Option, Some, Result, Err, IfErr, OnErr, OnOk, if◌then◌else◌, length, map, nat_le, slice_range}
+use Rattle.std.specs.Prelude.{◌≡◌, ℕ, ◌+◌, ◌<◌, ◌≤◌, Bool, true, List, [], ◌∷◌, ◌++◌, Option, Some, Result, Err, IfErr, OnErr, OnOk, if◌then◌else◌, length, map, nat_le, slice_range}
 use Rattle.std.specs.Io.{StartsWith}
 use Rattle.std.specs.Io.KnownBytes.{Appends}
 use Rattle.aho_core.specs.declared.error.MatchErrorKind.{MatchErrorKind}
@@ -10,6 +10,7 @@ use Rattle.aho_core.specs.Cover.{AreRuns, IsCovered}
 use Rattle.aho_core.specs.Laws.{shortest}
 use Rattle.aho_core.specs.Occurrence.{Occurrence}
 use Rattle.aho_core.specs.Occurs.{OccursIn}
+use Rattle.aho_core.specs.Overlapping.{begins_some}
 use Rattle.aho_core.specs.Patterns.{Patterns}
 use Rattle.aho_core.specs.Search.{plain_search}
 use Rattle.aho_devices.specs.Refusals.{IsFillRefusal}
@@ -33,6 +34,10 @@ covered_up_to bytes place at (run ∷ runs) piece =
     then slice_range bytes at run.start ++ (piece run ++ covered_up_to bytes place run.end runs piece)
     else slice_range bytes at place
 
+-- the last bytes, from some place up to this one on, begin a pattern: so a match may hold this place and end further on
+abbrev pub MayGoOn : Patterns → List ℕ → ℕ → Type 0
+MayGoOn p given at = (from : ℕ) × (from ≤ at) × (begins_some p (slice_range given from (length given)) ≡ true)
+
 -- of the patterns that are searched for, with a piece that is made of each run: from a source and a sink before a call to those after it
 module _ {R W : Type 0} (S : SourceGhosts R) (K : SinkGhosts W) (AreSearched : Patterns → Type 0) (rule : PieceRule) (source source' : R) (sink sink' : W) where
   -- the stream has ended, and the cover of all that was given was written
@@ -52,8 +57,8 @@ module _ {R W : Type 0} (S : SourceGhosts R) (K : SinkGhosts W) (AreSearched : P
     pub writes : Appends (K.taken sink) (K.taken sink') written
     pub beginning : (p : Patterns) (bytes output : List ℕ) → AreSearched p → MayBe given ended bytes → IsCoverBy p bytes rule output → StartsWith output written
 
-  -- the cover was written up to a place, whatever bytes may follow: each byte behind it lies in a match of the bytes given, or at
-  -- most as many are given from it on as the longest pattern has
+  -- the cover was written up to a place, whatever bytes may follow: each byte behind it lies in a match of the bytes given, or among
+  -- the last that begin a pattern. So at most as many are given from it on as the longest pattern has
   pub record CoversStreamUpToBy : Type 0 where
     pub given : List ℕ
     pub ended : Bool
@@ -61,6 +66,7 @@ module _ {R W : Type 0} (S : SourceGhosts R) (K : SinkGhosts W) (AreSearched : P
     pub place : ℕ
     pub within : place ≤ length given
     pub near : (p : Patterns) (at : ℕ) → AreSearched p → place ≤ at → (IsCovered (OccursIn p (plain_search given)) at → ⊥) → length given ≤ at + kept_for (map length p.words)
+    pub prompt : (p : Patterns) (at : ℕ) → AreSearched p → place ≤ at → at < length given → (IsCovered (OccursIn p (plain_search given)) at → ⊥) → MayGoOn p given at
     pub writes : (p : Patterns) (bytes : List ℕ) (runs : List Occurrence) → AreSearched p → MayBe given ended bytes → AreRuns p bytes runs
         → Appends (K.taken sink) (K.taken sink') (covered_up_to bytes place 0 runs (piece_in rule bytes))
 

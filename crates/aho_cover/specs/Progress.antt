@@ -21,7 +21,7 @@ use Rattle.aho_cover.specs.Walks.{NoneReaches}
 abbrev pub unbegun_cover : Buffered → Hand → ℕ → CoverProgress
 unbegun_cover buffer hand sid = record { buffer = buffer; read = 0; since = 0; copied = 0; fed = 0; sid = sid; hand = hand }
 
--- the place before which nothing begins that ends behind another: the last start, or as far back as the longest pattern reaches
+-- the place before which nothing begins that ends behind another: one that is known, or as far back as the longest pattern reaches
 abbrev pub open_place : CoverProgress → ℕ → ℕ
 open_place s at = max s.since (at + 1 - s.buffer.least)
 

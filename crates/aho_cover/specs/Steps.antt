@@ -44,6 +44,10 @@ pub record CanWalk {A : Type 0} (G : Automata A) (walk : Counted A) (rule : Piec
 abbrev pub MayRoll : CoverProgress → Type 0
 MayRoll s = BareFrom s.copied (held_runs s.hand) (s.read - s.buffer.least)
 
+-- all was written that can be: each byte that was not, and lies in no run in hand, is among those over which the state reaches back
+abbrev pub IsPrompt : {A : Type 0} → Automata A → A → CoverProgress → Type 0
+IsPrompt G a s = BareFrom s.copied (held_runs s.hand) (s.read - G.reach a s.sid)
+
 -- nothing was read, and the buffer holds the same
 pub record KeepsBytes (s s' : CoverProgress) : Type 0 where
   pub read : s'.read ≡ s.read

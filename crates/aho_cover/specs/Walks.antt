@@ -34,16 +34,15 @@ abbrev pub told_before : Reached → ℕ
 told_before reached = walked_before reached.found reached.count
 
 -- after the bytes that were walked the state is held. It tells what was found, and none of those before it tells any
-pub record Reaches {A : Type 0} (G : Automata A) (a : A) (p : Patterns) (haystack : List ℕ) (at since : ℕ) (reached : Reached) : Type 0 where
+pub record Reaches {A : Type 0} (G : Automata A) (a : A) (p : Patterns) (haystack : List ℕ) (at : ℕ) (reached : Reached) : Type 0 where
   pub stands : StandsIn G a p haystack reached.sid (at + reached.count)
   pub told_is : reached.found ≡ told (G.lengths a) No 0 (at + reached.count) (G.list a reached.sid)
   pub plain : (k : ℕ) → at < k → k ≤ at + told_before reached → (sid : ℕ) × StandsIn G a p haystack sid k × (G.list a sid ≡ [])
-  pub clear : NoneReaches p haystack at since → NoneReaches p haystack (at + told_before reached) reached.since
 
 -- in some text these are the next bytes
 abbrev pub LiesAheadOfSome : {A : Type 0} → Automata A → A → ℕ → ℕ → List ℕ → Type 0
 LiesAheadOfSome G a at sid bytes = (p : Patterns) × (haystack : List ℕ) × LiesAhead G a at sid bytes p haystack
 
 -- a walk on from there, whatever the text is
-abbrev pub ReachesFrom : {A : Type 0} → Automata A → A → ℕ → ℕ → ℕ → List ℕ → Reached → Type 0
-ReachesFrom G a at sid since bytes reached = (p : Patterns) (haystack : List ℕ) → LiesAhead G a at sid bytes p haystack → Reaches G a p haystack at since reached
+abbrev pub ReachesFrom : {A : Type 0} → Automata A → A → ℕ → ℕ → List ℕ → Reached → Type 0
+ReachesFrom G a at sid bytes reached = (p : Patterns) (haystack : List ℕ) → LiesAhead G a at sid bytes p haystack → Reaches G a p haystack at reached

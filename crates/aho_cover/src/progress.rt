@@ -24,7 +24,7 @@ pub(crate) struct CoverProgress {
     pub(crate) buffer: Buffer,
     /// How many bytes were given.
     pub(crate) read: usize,
-    /// The last place at which a start was held: what ends later begins there or behind it.
+    /// A place before which nothing begins that ends behind the bytes that were walked.
     pub(crate) since: usize,
     /// The place up to which all was written: the bytes themselves, or the pieces of runs.
     pub(crate) copied: usize,
@@ -237,8 +237,8 @@ impl CoverProgress {
         ensures sound { OnOk result (IsSoundCover self.new at) }
         ensures others { OnOk result
             (self.new ≡ record self.old { copied = self.new.copied; hand = self.new.hand }) }
-        ensures near { OnOk result (BareFrom self.new.copied (held_runs self.new.hand)
-            (at + 1 - self.old.buffer.least)) }
+        ensures open { OnOk result (BareFrom self.new.copied (held_runs self.new.hand)
+            (open_place self.old at)) }
         ensures writes { OnOk result (WritesOn W.Sink sink.old sink.new counts.old counts.new
             (Feeding (P.holds pieces.old) self.old (HasCovered (P.rule pieces.old) self.old at))
             (Feeding (P.holds pieces.new) self.new (HasCovered (P.rule pieces.old) self.new at))) }

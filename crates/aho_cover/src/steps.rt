@@ -1,9 +1,11 @@
 //! One read of a stream: the walk over its bytes, and what is written of them.
 
-ghost use Rattle.std.specs.Prelude.{◌≡◌, ◌<◌, IfOk, OnErr, OnOk, Ok, IfErr, true, false};
-ghost use Rattle.aho_cover.specs.Feeds.{Feeding};
-ghost use Rattle.aho_cover.specs.Progress.{IsBeginning, IsSoundCover, KeepsRoom};
-ghost use Rattle.aho_cover.specs.Steps.{CanWalk, CoversOn, MayRoll, KeepsBytes, WalksAlong};
+ghost use Rattle.std.specs.Prelude.{◌≡◌, ◌+◌, ◌-◌, ◌<◌, ◌≤◌, IfOk, OnErr, OnOk, Ok, IfErr, true, false};
+ghost use Rattle.aho_cover.specs.Feeds.{Feeding, any_bytes};
+ghost use Rattle.aho_cover.specs.Hand.{held_runs};
+ghost use Rattle.aho_cover.specs.Pieces.{PieceRule};
+ghost use Rattle.aho_cover.specs.Progress.{BareFrom, IsBeginning, IsSoundCover, KeepsRoom};
+ghost use Rattle.aho_cover.specs.Steps.{CanWalk, CoversOn, IsPrompt, MayRoll, KeepsBytes, PassesOver, WalksAlong};
 ghost use Rattle.aho_cover.specs.Writes.{TellsWrites, WritesOn};
 
 use crate::pieces::Pieces;
@@ -12,7 +14,7 @@ use crate::skip::{may_wait, skip};
 use crate::walk::walk_to_match;
 use aho_automaton::automaton::Automaton;
 use aho_automaton::patience::PATIENCE;
-use aho_automaton::walk::Counted;
+use aho_automaton::walk::{Counted, Walk};
 use aho_core::error::StreamError;
 use aho_devices::device::Sink;
 
@@ -47,9 +49,8 @@ fn walk_once<A: Automaton, W: Sink, P: Pieces>(
     ensures tells { TellsWrites W.Sink sink.old sink.new result }
 {
     let bytes = progress.bytes(at, progress.read);
-    let reached = walk_to_match(walk, bytes, at, progress.sid, progress.since, may_wait);
+    let reached = walk_to_match(walk, bytes, at, progress.sid, may_wait);
     progress.sid = reached.sid;
-    progress.since = reached.since;
     let next = at + reached.count;
     let Some(m) = reached.found else {
         return Ok(next);
@@ -93,6 +94,52 @@ fn walk_further<A: Automaton, W: Sink, P: Pieces>(
     walk_once(walk, progress, sink, pieces, counts, next, waits)
 }
 
+/// What ends behind the bytes that were walked begins among the last of them, as far as the state reaches back.
+fn look_back<A: Automaton>(walk: &Counted<'_, A>, progress: &mut CoverProgress, at: usize)
+    requires sound { IsSoundCover progress.old at }
+    requires can { (rule : PieceRule) × CanWalk A.Automaton walk.now rule any_bytes progress.old at }
+    ensures sound { IsSoundCover progress.new at }
+    ensures passes { PassesOver A.Automaton walk.now.automaton.now progress.old at progress.new at }
+    ensures only { progress.new ≡ record progress.old { since = progress.new.since } }
+    ensures reach { at ≤ progress.new.since + A.reach walk.now.automaton.now progress.old.sid }
+{
+    let back = walk.reach_back(progress.sid);
+    progress.since = progress.since.max(at.saturating_sub(back));
+}
+
+/// Writes all that is settled once `at` bytes were walked: all that no match can hold or touch that ends later.
+fn write_walked<A: Automaton, W: Sink, P: Pieces>(
+    walk: &Counted<'_, A>,
+    progress: &mut CoverProgress,
+    sink: &mut W,
+    pieces: &mut P,
+    counts: &mut [u64],
+    at: usize,
+) -> Result<(), StreamError>
+    requires sound { IsSoundCover progress.old at }
+    requires can { CanWalk A.Automaton walk.now (P.rule pieces.old) (P.holds pieces.old) progress.old at }
+    ensures sound { OnOk result (IsSoundCover progress.new at) }
+    ensures others { OnOk result (progress.new ≡ record progress.old {
+      copied = progress.new.copied; hand = progress.new.hand; since = progress.new.since;
+    }) }
+    ensures near { OnOk result (BareFrom progress.new.copied (held_runs progress.new.hand)
+        (at + 1 - progress.old.buffer.least)) }
+    ensures prompt { OnOk result (BareFrom progress.new.copied (held_runs progress.new.hand)
+        (at - A.reach walk.now.automaton.now progress.old.sid)) }
+    ensures writes { OnOk result (WalksAlong A.Automaton W.Sink P.Pieces walk.now.automaton.now
+        pieces.old pieces.new sink.old sink.new counts.old counts.new progress.old at progress.new at) }
+    ensures begins { OnErr result (WritesOn W.Sink sink.old sink.new counts.old counts.new
+        (Feeding (P.holds pieces.old) progress.old
+        (CoversOn A.Automaton walk.now.automaton.now (P.rule pieces.old) progress.old at))
+        (IsBeginning (P.rule pieces.old))) }
+    ensures rule { P.rule pieces.new ≡ P.rule pieces.old }
+    ensures room { KeepsRoom progress.old progress.new }
+    ensures tells { TellsWrites W.Sink sink.old sink.new result }
+{
+    look_back(walk, progress, at);
+    progress.write_settled(sink, pieces, counts, at)
+}
+
 /// Walks over all that was read and not walked, and writes all that is settled then.
 pub(crate) fn walk_read<A: Automaton, W: Sink, P: Pieces>(
     walk: &mut Counted<'_, A>,
@@ -106,6 +153,7 @@ pub(crate) fn walk_read<A: Automaton, W: Sink, P: Pieces>(
     requires can { CanWalk A.Automaton walk.old (P.rule pieces.old) (P.holds pieces.old) progress.old from }
     ensures sound { OnOk result (IsSoundCover progress.new progress.new.read) }
     ensures near { OnOk result (MayRoll progress.new) }
+    ensures prompt { OnOk result (IsPrompt A.Automaton walk.new.automaton.now progress.new) }
     ensures can { OnOk result (CanWalk A.Automaton walk.new
         (P.rule pieces.new) (P.holds pieces.new) progress.new progress.new.read) }
     ensures bytes { OnOk result (KeepsBytes progress.old progress.new) }
@@ -125,5 +173,5 @@ pub(crate) fn walk_read<A: Automaton, W: Sink, P: Pieces>(
     while at < progress.read {
         at = walk_further(walk, progress, sink, pieces, counts, at, &mut patience)?;
     }
-    progress.write_settled(sink, pieces, counts, at)
+    write_walked(walk, progress, sink, pieces, counts, at)
 }

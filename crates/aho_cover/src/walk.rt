@@ -1,7 +1,7 @@
 //! The walk over the bytes of a stream, from one match that is told to the next.
 
-ghost use Rattle.std.specs.Prelude.{◌≡◌, ◌+◌, ◌*◌, ◌<◌, ◌≤◌, ◌^◌, ◌⊎◌, None, length, true, false};
-ghost use Rattle.aho_cover.specs.Walks.{LiesAheadOfSome, ReachesFrom, told_before};
+ghost use Rattle.std.specs.Prelude.{◌≡◌, ◌+◌, ◌*◌, ◌<◌, ◌≤◌, ◌^◌, None, length};
+ghost use Rattle.aho_cover.specs.Walks.{LiesAheadOfSome, ReachesFrom};
 
 use aho_automaton::automaton::Automaton;
 use aho_automaton::find::{looks_at, told_at};
@@ -15,25 +15,13 @@ pub(crate) struct Reached {
     pub(crate) count: usize,
     /// The state that is held after them.
     pub(crate) sid: StateID,
-    /// The last place at which a start was held, from the first byte of the stream.
-    pub(crate) since: usize,
     /// The longest match that ends there, where one does.
     pub(crate) found: Option<Match>,
-}
-
-/// The last place at which a start was held, after one byte more.
-#[inline(always)]
-fn start_after<A: Automaton>(walk: &Counted<'_, A>, sid: StateID, at: usize, since: usize) -> usize
-    requires valid { A.valid walk.now.automaton.now sid }
-    ensures since { ((result ≡ at) × (A.starts walk.now.automaton.now sid ≡ true)) ⊎ (result ≡ since) }
-{
-    if walk.is_start(sid) { at } else { since }
 }
 
 /// Whether a walk that may wait ends in a state that tells no match: the state is a start.
 fn waits_in<A: Automaton>(walk: &Counted<'_, A>, may_wait: bool, sid: StateID) -> bool
     requires valid { A.valid walk.now.automaton.now sid }
-    ensures starts { result ≡ true → A.starts walk.now.automaton.now sid ≡ true }
 {
     may_wait && walk.is_start(sid)
 }
@@ -46,7 +34,6 @@ pub(crate) fn walk_to_match<A: Automaton>(
     bytes: &[u8],
     at: usize,
     sid: StateID,
-    since: usize,
     may_wait: bool,
 ) -> Reached
     requires valid { A.valid walk.old.automaton.now sid }
@@ -55,18 +42,15 @@ pub(crate) fn walk_to_match<A: Automaton>(
     requires places { at + length bytes.now < 2 ^ 64 }
     requires room { walk.old.work + A.depth walk.old.automaton.now sid
         + 2 * length bytes.now < 2 ^ 128 }
-    requires since { since ≤ at }
-    ensures reaches { ReachesFrom A.Automaton walk.old.automaton.now at sid since bytes.now result }
+    ensures reaches { ReachesFrom A.Automaton walk.old.automaton.now at sid bytes.now result }
     ensures valid { A.valid walk.old.automaton.now result.sid }
     ensures within { result.count ≤ length bytes.now }
     ensures some { 0 < result.count }
-    ensures since { result.since ≤ at + told_before result }
     ensures same { walk.new.automaton.now ≡ walk.old.automaton.now }
     ensures cost { walk.new.work + A.depth walk.old.automaton.now result.sid
         ≤ walk.old.work + A.depth walk.old.automaton.now sid + 2 * result.count }
 {
     let mut sid = sid;
-    let mut since = since;
     for count in 0..bytes.len() {
         sid = walk.step(Anchored::No, sid, bytes[count]);
         let place = at + count + 1;
@@ -76,7 +60,6 @@ pub(crate) fn walk_to_match<A: Automaton>(
                 return Reached {
                     count: count + 1,
                     sid,
-                    since,
                     found,
                 };
             }
@@ -84,17 +67,14 @@ pub(crate) fn walk_to_match<A: Automaton>(
                 return Reached {
                     count: count + 1,
                     sid,
-                    since: place,
                     found: None,
                 };
             }
         }
-        since = start_after(walk, sid, place, since);
     }
     Reached {
         count: bytes.len(),
         sid,
-        since,
         found: None,
     }
 }

@@ -8,6 +8,7 @@ pub mod Rising
 pub mod Stepping
 pub mod Sizes
 pub mod Filling
+pub mod Depths
 pub mod Shared
 pub mod Near
 pub mod Lows

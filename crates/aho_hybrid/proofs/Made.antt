@@ -1,7 +1,7 @@
 -- The states that were laid out are an automaton of the same patterns: what is read of them by numbers alone.
 use Rattle.std.proofs.Common.{◌≡◌, ◌≢◌, ◌⊎◌, ℕ, ◌+◌, ◌-◌, ◌*◌, ◌<◌, ◌≤◌, ◌/◌, ◌||◌, Bool, cond, List, length, take, drop, get_or, nat_eq, refl, sym, ap, subst, ◌∙◌, inl, inr, arith, ne_eqb}
 use Rattle.std.specs.Prelude.{Some, None, nat_lt}
-use Rattle.std.proofs.Math.Nat.{mul-le-mul_right, mul-mod_left}
+use Rattle.std.proofs.Math.Nat.{mul-div_cancel, mul-le-mul_right, mul-mod_left}
 use Rattle.std.proofs.lemmas.Bool.{cases_Bool, cases_eq, cond-true, cond-false, le-ltb}
 use Rattle.std.proofs.lemmas.Bool.Decides.{nat_tests}
 use Rattle.std.proofs.lemmas.Nat.{div-add-mod'}
@@ -16,7 +16,7 @@ use Rattle.aho_hybrid.proofs.Stepping.{flat-child, link-depth, step-near, told, 
 use Rattle.aho_hybrid.specs.declared.fill.Filled.{Filled}
 use Rattle.aho_hybrid.specs.Filled.{IsDeepState, AreLaidOut, IsListAt, IsPlan, IsRecord, IsShallow, Parts, deep_count, is_deep, leads_in, moves_of, number_in, record_place, row_in, rows_count, row_entries, source_of, transitions_of}
 use Rattle.aho_hybrid.proofs.Rising.{flat-rising}
-use Rattle.aho_hybrid.specs.Layout.{AreRisingMoves, HasRow, IsDeep, IsAtStride, IsSoundDeep, IsSoundLayout, IsSoundRows, IsStateIn, Layout, child_in, child_of, depth_below_rows, is_row, link_in, list_place, moves_in, record_size, stride_of, record_word}
+use Rattle.aho_hybrid.specs.Layout.{AreRisingMoves, HasRow, IsDeep, IsAtStride, IsSoundDeep, IsSoundLayout, IsSoundRows, IsStateIn, Layout, child_in, child_of, depth_below_rows, depth_of_state, is_row, link_in, list_place, moves_in, record_size, stride_of, record_word}
 use Rattle.aho_hybrid.specs.Reading.{deep-test, row-depth, row-test, state-cases, state-of_deep, state-of_row}
 
 module _ (plan : Parts) (words : ℕ) (planned : IsPlan plan words) (filled : Filled) (done : AreLaidOut plan (length plan.states) filled)
@@ -36,6 +36,8 @@ module _ (plan : Parts) (words : ℕ) (planned : IsPlan plan words) (filled : Fi
     deep = filled.deep.items;
     moves = filled.moves.items;
     lists = plan.lists;
+    depths = plan.depths;
+    row_depth = plan.row_depth;
     classes = plan.classes;
     start = number_in plan root;
     low = filled.low;
@@ -152,6 +154,25 @@ module _ (plan : Parts) (words : ℕ) (planned : IsPlan plan words) (filled : Fi
 
   pub row-shallow : (i : ℕ) → IsShallow plan i → depth_in plan.states i ≤ plan.row_depth
   row-shallow i shallow = grind (arith, nat_tests)
+
+  -- and from the start
+  pub depth-is : (i : ℕ) → i < count → depth_of_state layout (number_in plan i) ≡ depth_in plan.states i
+  depth-is i below =
+      elim (cases_Bool (is_deep plan.row_depth (state_at plan.states i))) [
+        | inl deep ↦
+            cond-false (is_row layout (number_in plan i)) _ _ (deep-test layout (number_in plan i) (deep-of i below deep))
+            ∙ omega (arith, word-of i 2 below deep, (record-of i below deep).height)
+        | inr shallow ↦
+            cond-true (is_row layout (number_in plan i)) _ _ (row-test layout (number_in plan i) (row-of i below shallow))
+            ∙ ap (λ (m : ℕ). get_or plan.depths (m / stride) 0) (number-row i below shallow)
+            ∙ ap (λ (m : ℕ). get_or plan.depths m 0) (mul-div_cancel (rows_at i) (omega arith))
+            ∙ planned.deepnesses.depth i below shallow
+      ]
+
+  has-depth : (i : ℕ) → i < count → IsShallow plan i → number_in plan i / stride < length plan.depths
+  has-depth i below shallow =
+      let number : number_in plan i / stride ≡ rows_at i = ap (λ (m : ℕ). m / stride) (number-row i below shallow) ∙ mul-div_cancel (rows_at i) (omega arith) in
+      omega (arith, number, row-before plan.row_depth plan.states i count below (omega arith) shallow, planned.deepnesses.sized)
 
   height-most : (i most : ℕ) → i < count → depth_in plan.states i ≤ most + plan.row_depth → depth_below_rows layout (number_in plan i) ≤ most
   height-most i most below near =
@@ -366,6 +387,9 @@ module _ (plan : Parts) (words : ℕ) (planned : IsPlan plan words) (filled : Fi
         (λ i below.
         let at = place-of i below in
         subst (λ (m : ℕ). m + get_or layout.lists m 0 < length layout.lists) (sym at.1) (within-at layout.lists at.0 (matches_in plan.states (source_of plan i)) at.2));
+    deepnesses = by-row (λ (m : ℕ). m / stride < length plan.depths) (λ i below shallow. has-depth i below shallow);
+    depths_small = by-deep (λ (m : ℕ). plan.row_depth + record_word layout m 2 ≤ greatest_index)
+        (λ i below deep. omega (arith, word-of i 2 below deep, (record-of i below deep).height, (record-of i below deep).depth_small));
     shallow = by-state (λ (m : ℕ). depth_below_rows layout m ≤ greatest_index) (λ i below. shallow i below);
     small = small;
     small_lists = small_lists;
@@ -380,10 +404,10 @@ module _ (plan : Parts) (words : ℕ) (planned : IsPlan plan words) (filled : Fi
           ]
 
 -- two layouts are one where their borders and starts are
-pub same-layout : (rows deep moves lists : List ℕ) (classes classes' : List Bool) (start start' low list_low deep_low : ℕ) → classes ≡ classes' → start ≡ start'
-    → let one : Layout = record { rows = rows; deep = deep; moves = moves; lists = lists; classes = classes; start = start; low = low; list_low = list_low; deep_low = deep_low } in
-    let other : Layout = record { rows = rows; deep = deep; moves = moves; lists = lists; classes = classes'; start = start'; low = low; list_low = list_low; deep_low = deep_low } in
+pub same-layout : (rows deep moves lists depths : List ℕ) (row_depth : ℕ) (classes classes' : List Bool) (start start' low list_low deep_low : ℕ) → classes ≡ classes' → start ≡ start'
+    → let one : Layout = record { rows = rows; deep = deep; moves = moves; lists = lists; depths = depths; row_depth = row_depth; classes = classes; start = start; low = low; list_low = list_low; deep_low = deep_low } in
+    let other : Layout = record { rows = rows; deep = deep; moves = moves; lists = lists; depths = depths; row_depth = row_depth; classes = classes'; start = start'; low = low; list_low = list_low; deep_low = deep_low } in
     one ≡ other
-same-layout rows deep moves lists classes classes' start start' low list_low deep_low classes_are start_is =
-    ap (λ (cs : List Bool). record { rows = rows; deep = deep; moves = moves; lists = lists; classes = cs; start = start; low = low; list_low = list_low; deep_low = deep_low }) classes_are
-    ∙ ap (λ (n : ℕ). record { rows = rows; deep = deep; moves = moves; lists = lists; classes = classes'; start = n; low = low; list_low = list_low; deep_low = deep_low }) start_is
+same-layout rows deep moves lists depths row_depth classes classes' start start' low list_low deep_low classes_are start_is =
+    ap (λ (cs : List Bool). record { rows = rows; deep = deep; moves = moves; lists = lists; depths = depths; row_depth = row_depth; classes = cs; start = start; low = low; list_low = list_low; deep_low = deep_low }) classes_are
+    ∙ ap (λ (n : ℕ). record { rows = rows; deep = deep; moves = moves; lists = lists; depths = depths; row_depth = row_depth; classes = classes'; start = n; low = low; list_low = list_low; deep_low = deep_low }) start_is

@@ -32,12 +32,12 @@ use Rattle.aho_hybrid.proofs.Alike.{follows, step-alike}
 use Rattle.aho_hybrid.proofs.Counting.{deep-before, row-before, rows_below}
 use Rattle.aho_hybrid.proofs.Filling.{in-row}
 use Rattle.aho_hybrid.proofs.Listed.{list-at}
-use Rattle.aho_hybrid.proofs.Made.{child-of, dead-shallow, deep-of, entry-of, height-deep, height-row, layout, link-of, number-dead, number-deep, number-row, place-of, root-shallow, row-of, row-shallow}
+use Rattle.aho_hybrid.proofs.Made.{child-of, dead-shallow, deep-of, depth-is, entry-of, height-deep, height-row, layout, link-of, number-dead, number-deep, number-row, place-of, root-shallow, row-of, row-shallow}
 use Rattle.aho_hybrid.proofs.Stepping.{told-none, told-some}
 use Rattle.aho_hybrid.specs.declared.fill.Filled.{Filled}
 use Rattle.aho_hybrid.specs.Filled.{AreFirstBytes, IsDeepState, AreLaidOut, IsPlan, IsShallow, Parts, first_low, is_deep, leads_in, number_in, row_in, source_of}
 use Rattle.aho_hybrid.specs.Made.{AreMarkedIn, HasRowsDownTo}
-use Rattle.aho_hybrid.specs.Layout.{IsSoundLayout, Layout, along, child_in, depth_below_rows, is_row, is_marked_number, link_in, list_from, list_in, list_place, next_state_in, run_from, standing_in, stride_of, IsHeldIn, is_special_number}
+use Rattle.aho_hybrid.specs.Layout.{IsSoundLayout, Layout, along, child_in, depth_below_rows, depth_of_state, is_row, is_marked_number, link_in, list_from, list_in, list_place, next_state_in, run_from, standing_in, stride_of, IsHeldIn, is_special_number}
 use Rattle.aho_hybrid.specs.Reading.{IsLayoutOf, along-child, along-link, along-row, deep-test, row-test}
 
 -- what holds of all holds of those behind some
@@ -264,6 +264,15 @@ module _ (plan : Parts) (words : ℕ) (planned : IsPlan plan words) (filled : Fi
       apart stands.0 start (of-state state stands.0 stands.2).0 starts.unanchored.state.0 (root-shallow plan words planned filled done starts sound) number in
       sym (state-named start p names plan.states a.nodes state stands.0 stands.2).1 ∙ ap (name_at names) is ∙ a.nodes.root
 
+  -- a state is as deep as its word is long
+  as-deep : (state : Option (List ℕ)) (s : ℕ) → IsStateOf names state s → depth_in plan.states s ≡ depth_of state
+  as-deep None s dead = ap (depth_in plan.states) dead ∙ sound.dead_depth
+  as-deep (Some word) s named = a.nodes.depths s word named
+
+  stands-deep : (state : Option (List ℕ)) (sid : ℕ) → Stands state sid → depth_of_state t sid ≡ depth_of state
+  stands-deep state sid stands =
+      ap (depth_of_state t) stands.1 ∙ depth-is plan words planned filled done starts sound stands.0 (of-state state stands.0 stands.2).0 ∙ as-deep state stands.0 stands.2
+
   pub layout-of : (kind : MatchKind) (lengths : List ℕ) → kind ≡ p.kind → lengths ≡ map length p.words → IsLayoutOf t p kind lengths
   layout-of kind lengths kind_is lengths_are = record {
     kind_is = kind_is;
@@ -273,6 +282,7 @@ module _ (plan : Parts) (words : ℕ) (planned : IsPlan plan words) (filled : Fi
     begins = λ word small same. stands-begins (held_after p No word) (run_from t t.start word) (stands-word word small) same;
     stands = λ word small. stands-there word small (held_after p No word) refl;
     none = stands-lists None 0 (0, sym (number-dead plan words planned filled done starts sound), refl);
+    deepness = λ word small. stands-deep (held_after p No word) (run_from t t.start word) (stands-word word small);
   }
 
   -- ---- which have rows
@@ -281,11 +291,6 @@ module _ (plan : Parts) (words : ℕ) (planned : IsPlan plan words) (filled : Fi
   stands-held word sid ((bytes, small, same), is) =
       subst (λ (o : Option (List ℕ)). Stands o sid) same
       (subst (λ (n : ℕ). Stands (held_after p No bytes) n) (stands-there bytes small (held_after p No word) same ∙ sym is) (stands-word bytes small))
-
-  -- a state is as deep as its word is long
-  as-deep : (state : Option (List ℕ)) (s : ℕ) → IsStateOf names state s → depth_in plan.states s ≡ depth_of state
-  as-deep None s dead = ap (depth_in plan.states) dead ∙ sound.dead_depth
-  as-deep (Some word) s named = a.nodes.depths s word named
 
   stands-row : (state : Option (List ℕ)) (sid : ℕ) → Stands state sid → is_row t sid ≡ not (nat_lt plan.row_depth (depth_of state))
   stands-row state sid (s, number, is) =

@@ -67,6 +67,11 @@ pub record AreStateNumbers (row_depth : ℕ) (states : List State) (classes : Li
   pub sized : length numbers ≡ count
   pub number : (sid : ℕ) → sid < count → slice_index_or numbers sid 0 ≡ number_of row_depth states classes sid
 
+-- how deep the states below the count are that have a row, in the order of the rows
+pub record AreDepths (row_depth : ℕ) (states : List State) (count : ℕ) (depths : List ℕ) : Type 0 where
+  pub sized : length depths ≡ rows_count row_depth (take count states)
+  pub depth : (sid : ℕ) → sid < count → is_deep row_depth (state_at states sid) ≡ false → slice_index_or depths (rows_count row_depth (take sid states)) 0 ≡ depth_in states sid
+
 -- ---- lists and transitions
 
 -- the state whose row stands at the place of this one: for FAIL and the anchored start it is the unanchored start
@@ -147,6 +152,7 @@ pub record HasSizes (nfa : NFA) (row_depth : ℕ) (t : Layout) : Type 0 where
   pub deep : length t.deep ≡ deep_count row_depth (states_of nfa) * record_size
   pub moves : length t.moves ≡ moves_size nfa row_depth
   pub lists : length t.lists ≡ lists_size nfa
+  pub depths : length t.depths ≡ rows_count row_depth (states_of nfa)
 
 -- ---- what is refused
 
@@ -188,7 +194,7 @@ pub record AreFirstBytes (classes : List Bool) (firsts : List ℕ) : Type 0 wher
   pub of_class : (byte : ℕ) → byte < 256 → class_of classes (slice_index_or firsts (class_of classes byte) 0) ≡ class_of classes byte
 
 -- what the states are made of: the states that are read out, the borders, a byte for each class, the number of each state, the lists
--- and where that of each state stands, how deep states have rows, and whether a search may skip from the start
+-- and where that of each state stands, how deep each state with a row is, how deep states have rows, and whether a search may skip from the start
 pub record Parts : Type 0 where
   pub special : Special
   pub states : List State
@@ -197,11 +203,12 @@ pub record Parts : Type 0 where
   pub numbers : List ℕ
   pub lists : List ℕ
   pub places : List ℕ
+  pub depths : List ℕ
   pub row_depth : ℕ
   pub skips : Bool
 
-abbrev pub parts_of : NFA → List ℕ → List ℕ → List ℕ → List ℕ → ℕ → Bool → Parts
-parts_of nfa firsts numbers lists places row_depth skips = record {
+abbrev pub parts_of : NFA → List ℕ → List ℕ → List ℕ → List ℕ → List ℕ → ℕ → Bool → Parts
+parts_of nfa firsts numbers lists places depths row_depth skips = record {
   special = special_of nfa;
   states = states_of nfa;
   classes = classes_of nfa;
@@ -209,21 +216,23 @@ parts_of nfa firsts numbers lists places row_depth skips = record {
   numbers = numbers;
   lists = lists;
   places = places;
+  depths = depths;
   row_depth = row_depth;
   skips = skips;
 }
 
 abbrev pub plan_of : NFA → Plan → Parts
-plan_of nfa plan = parts_of nfa plan.firsts plan.numbers.items plan.lists.items plan.places.items plan.row_depth plan.skips
+plan_of nfa plan = parts_of nfa plan.firsts plan.numbers.items plan.lists.items plan.places.items plan.depths.items plan.row_depth plan.skips
 
--- the numbers are those of the states, the places those of their lists, and the entries of a row are as many as there are classes, and
--- one
+-- the numbers are those of the states, the places those of their lists, the depths those of the states with rows, and the entries of a
+-- row are as many as there are classes, and one
 pub record IsPlan (plan : Parts) (stride : ℕ) : Type 0 where
   pub stride_is : stride ≡ stride_of plan.classes
   pub bounded : stride ≤ 257
   pub sized : length plan.firsts ≡ 256
   pub numbered : AreStateNumbers plan.row_depth plan.states plan.classes (length plan.states) plan.numbers
   pub placed : AreListPlaces plan.states plan.lists plan.places
+  pub deepnesses : AreDepths plan.row_depth plan.states (length plan.states) plan.depths
 
 -- the number of a state, and 0 where there is none
 abbrev pub number_or_zero : List ℕ → ℕ → ℕ

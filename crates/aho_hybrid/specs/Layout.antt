@@ -1,5 +1,5 @@
 -- How the states of a `Hybrid` lie in memory, and what is read there.
-use Rattle.std.specs.Prelude.{◌≡◌, ◌≢◌, ◌||◌, ℕ, zero, suc, ◌+◌, ◌-◌, ◌<◌, ◌≤◌, ◌%◌, Bool, true, false, List, [], ◌∷◌, length, take, drop, nat_eq, nat_lt, slice_index_or, if◌then◌else◌, Result, Ok, Err, Option, Some, None, is_some, ◌*◌}
+use Rattle.std.specs.Prelude.{◌≡◌, ◌≢◌, ◌||◌, ℕ, zero, suc, ◌+◌, ◌-◌, ◌<◌, ◌≤◌, ◌%◌, ◌/◌, Bool, true, false, List, [], ◌∷◌, length, take, drop, nat_eq, nat_lt, slice_index_or, if◌then◌else◌, Result, Ok, Err, Option, Some, None, is_some, ◌*◌}
 use Rattle.std.specs.List.{All}
 use Rattle.aho_core.specs.Held.{held_after}
 use Rattle.aho_core.specs.Numbers.{greatest_index}
@@ -12,14 +12,16 @@ use Rattle.aho_prefilter.specs.Prefilter.{prefilter_bytes}
 use Rattle.aho_prefilter.specs.declared.prefilter.Searcher.{Searcher}
 use Rattle.aho_table.specs.Alphabet.{class_of, class_count}
 
--- the rows, one behind the other; the records of the deep states, and their transitions; the lists of patterns; the borders
--- between the classes of bytes; the start; and the numbers below which a state with a row is special, may list a pattern or is
+-- the rows, one behind the other; the records of the deep states, and their transitions; the lists of patterns; how deep each
+-- state with a row is, and how deep the deepest may be; the borders between the classes of bytes; the start; and the numbers below which a state with a row is special, may list a pattern or is
 -- dead, and below which a deep state does all of it
 pub record Layout : Type 0 where
   pub rows : List ℕ
   pub deep : List ℕ
   pub moves : List ℕ
   pub lists : List ℕ
+  pub depths : List ℕ
+  pub row_depth : ℕ
   pub classes : List Bool
   pub start : ℕ
   pub low : ℕ
@@ -71,6 +73,10 @@ link_in t sid = record_word t sid 0
 -- how deep a state is below the rows: 0 for a state that has one
 abbrev pub depth_below_rows : Layout → ℕ → ℕ
 depth_below_rows t sid = if is_row t sid then 0 else record_word t sid 2
+
+-- how deep a state is, from the start: one with a row as the number for its row says
+abbrev pub depth_of_state : Layout → ℕ → ℕ
+depth_of_state t sid = if is_row t sid then slice_index_or t.depths (sid / stride_of t.classes) 0 else t.row_depth + record_word t sid 2
 
 -- transitions are bytes, each with the state that it leads to: the first of a byte
 abbrev pub child_of : List ℕ → ℕ → Option ℕ
@@ -189,13 +195,16 @@ pub record IsSoundLayout (t : Layout) : Type 0 where
   pub in_deep : IsSoundDeep t
   -- a state's list stands within the lists
   pub listed : (sid : ℕ) → IsStateIn t sid → list_place t sid + slice_index_or t.lists (list_place t sid) 0 < length t.lists
-  -- how deep it is is an index
+  -- there is a number for each row, and how deep a deep state is is an index
+  pub deepnesses : (sid : ℕ) → HasRow t sid → sid / stride_of t.classes < length t.depths
+  pub depths_small : (sid : ℕ) → IsDeep t sid → t.row_depth + record_word t sid 2 ≤ greatest_index
+  -- and so is how deep it is below the rows
   pub shallow : (sid : ℕ) → IsStateIn t sid → depth_below_rows t sid ≤ greatest_index
   pub small : length t.rows + length t.deep ≤ greatest_index
   pub small_lists : length t.lists ≤ greatest_index + 1
   pub small_moves : length t.moves ≤ greatest_index
 
--- the bytes of the entries, the records, the transitions, the lists and the lengths of patterns, by stated sizes, and what a
--- prefilter holds
+-- the bytes of the entries, the records, the transitions, the lists, the depths and the lengths of patterns, by stated sizes, and
+-- what a prefilter holds
 abbrev pub memory_in : Layout → List ℕ → Option Searcher → ℕ
-memory_in t lengths prefilter = 4 * (length t.rows + length t.deep + length t.moves + length t.lists + length lengths) + prefilter_bytes prefilter
+memory_in t lengths prefilter = 4 * (length t.rows + length t.deep + length t.moves + length t.lists + length t.depths + length lengths) + prefilter_bytes prefilter

@@ -9,7 +9,7 @@ use Rattle.aho_core.specs.Held.{held_after}
 use Rattle.aho_core.specs.Laws.{Reads}
 use Rattle.aho_core.specs.MatchList.{matches_of}
 use Rattle.aho_core.specs.Patterns.{Patterns}
-use Rattle.aho_core.specs.Step.{follow}
+use Rattle.aho_core.specs.Step.{depth_of, follow}
 use Rattle.aho_core.specs.declared.search.Anchored.{Anchored}
 use Rattle.aho_core.specs.declared.search.Anchored.TheVariants.{No, Yes}
 use Rattle.aho_core.specs.declared.search.MatchKind.{MatchKind}
@@ -17,10 +17,11 @@ use Rattle.aho_laws.proofs.NamedStates.{reads_by_words}
 use Rattle.aho_laws.proofs.StepLaw.{held_after-push}
 use Rattle.aho_table.proofs.Classes.{class_of-count}
 use Rattle.aho_table.specs.Alphabet.{class_of}
-use Rattle.aho_hybrid.specs.Layout.{HasRow, IsDeep, Layout, IsSoundLayout, IsReached, IsStateIn, IsHeldIn, along, child_in, depth_below_rows, entry_in, is_marked_number, is_row, is_special_number, link_in, list_from, list_in, list_place, looks_along, looks_in, lookups_in, next_state_in, run_from, standing_in, told_or, record_word}
+use Rattle.aho_hybrid.specs.Layout.{HasRow, IsDeep, Layout, IsSoundLayout, IsReached, IsStateIn, IsHeldIn, along, child_in, depth_below_rows, depth_of_state, entry_in, is_marked_number, is_row, is_special_number, link_in, list_from, list_in, list_place, looks_along, looks_in, lookups_in, next_state_in, run_from, standing_in, told_or, record_word}
 
 -- after each word the state that is held lists what the word does, and is dead where it is; the start is held again only where
--- nothing of the word is left; it stands where the word's state does; and the dead state lists nothing
+-- nothing of the word is left; it stands where the word's state does; the dead state lists nothing; and it is as deep as the word's
+-- state
 pub record IsLayoutOf (t : Layout) (p : Patterns) (kind : MatchKind) (lengths : List ℕ) : Type 0 where
   pub kind_is : kind ≡ p.kind
   pub lengths_are : lengths ≡ map length p.words
@@ -29,6 +30,7 @@ pub record IsLayoutOf (t : Layout) (p : Patterns) (kind : MatchKind) (lengths : 
   pub begins : (word : List ℕ) → All (λ byte. byte < 256) word → nat_eq (run_from t t.start word) t.start ≡ true → held_after p No word ≡ Some []
   pub stands : (word : List ℕ) → All (λ byte. byte < 256) word → run_from t t.start word ≡ standing_in t (held_after p No word)
   pub none : list_in t 0 ≡ []
+  pub deepness : (word : List ℕ) → All (λ byte. byte < 256) word → depth_of_state t (run_from t t.start word) ≡ depth_of (held_after p No word)
 
 -- by its number a state has a row, or is deep
 pub row-test : (t : Layout) (sid : ℕ) → HasRow t sid → is_row t sid ≡ true
@@ -206,6 +208,10 @@ module _ (t : Layout) (sound : IsSoundLayout t) where
       (([], All-nil (λ (b : ℕ). b < 256), refl), eqb-true sid t.start first),
       sym reached.2 ∙ of.begins reached.0 reached.1 (sym (ap (λ (n : ℕ). nat_eq n t.start) (held-run word sid reached is)) ∙ first),
     )
+
+    -- the held state is as deep as the word's
+    pub reaches_in : (word : List ℕ) (sid : ℕ) → IsHeldIn t p No word sid → depth_of_state t sid ≡ depth_of (held_after p No word)
+    reaches_in word sid (reached, is) = ap (depth_of_state t) (held-run word sid reached is) ∙ of.deepness reached.0 reached.1 ∙ ap depth_of reached.2
 
     -- the states that may be held have the laws of an automaton
     pub reads_of : Reads p kind lengths (IsHeldIn t p) (list_in t) (λ sid. nat_eq sid 0) (λ sid. nat_eq sid t.start)

@@ -185,7 +185,7 @@ fn deepest(nfa: &NFA) -> usize
 }
 
 /// How many states are no deeper.
-fn rows_count(nfa: &NFA, depth: usize) -> usize
+pub fn rows_count(nfa: &NFA, depth: usize) -> usize
     ensures count { result ≡ rows_count depth (states_of nfa.now) }
     ensures bound { result ≤ length (states_of nfa.now) }
     ensures small { length (states_of nfa.now) ≤ greatest_index + 1 }

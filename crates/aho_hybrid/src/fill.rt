@@ -11,9 +11,9 @@ ghost use Rattle.aho_table.specs.Table.{matches_in};
 ghost use Rattle.aho_hybrid.specs.Layout.{IsSoundLayout, stride_of};
 ghost use Rattle.aho_hybrid.specs.Reading.{IsLayoutOf};
 ghost use Rattle.aho_hybrid.specs.Made.{AreMarkedIn, IsLaidOutOf};
-ghost use Rattle.aho_hybrid.specs.Filled.{AreFirstBytes, AreMarked, AreStateNumbers, AreRows, HasEntries, HasRowBefore, FitIndexes, IsDeepState, AreLaidOut, IsNear, IsOutOfMemory, IsPlan, IsRowsRefusal, IsShallow, IsStep, IsToldBy, first_low, flat, is_deep, leads_in, number_or_zero, number_in, plan_of, row_entries, state_words};
+ghost use Rattle.aho_hybrid.specs.Filled.{AreFirstBytes, AreMarked, AreStateNumbers, AreRows, HasEntries, HasRowBefore, FitIndexes, IsDeepState, AreDepths, AreLaidOut, IsNear, IsOutOfMemory, IsPlan, IsRowsRefusal, IsShallow, IsStep, IsToldBy, first_low, flat, is_deep, leads_in, number_or_zero, number_in, plan_of, row_entries, state_words};
 
-use crate::budget::{RECORD_SIZE, Sizes, either, is_deep, row_depth, sizes_of, source_of};
+use crate::budget::{RECORD_SIZE, Sizes, either, is_deep, row_depth, rows_count, sizes_of, source_of};
 use crate::lists::lists_of;
 use crate::rows::Rows;
 use aho_automaton::automaton::Automaton;
@@ -39,6 +39,8 @@ struct Plan {
     lists: Vec<SmallIndex>,
     /// Where the list of each state stands, by the number that the `NFA` knows the state by.
     places: Vec<SmallIndex>,
+    /// How deep each state with a row is, in the order of the rows.
+    depths: Vec<SmallIndex>,
     /// Whether a search may skip from the start.
     skips: bool,
 }
@@ -79,6 +81,7 @@ pub fn rows_of(alloc: Global, nfa: &NFA, budget: usize, skips: bool) -> Result<R
     let sizes = sizes_of(nfa, stride, row_depth)?;
     let numbers = numbers_of(alloc, nfa, stride, row_depth, sizes.dense)?;
     let lists = lists_of(alloc, nfa, sizes.lists)?;
+    let depths = depths_of(alloc, nfa, row_depth)?;
     let plan = Plan {
         stride,
         row_depth,
@@ -86,6 +89,7 @@ pub fn rows_of(alloc: Global, nfa: &NFA, budget: usize, skips: bool) -> Result<R
         numbers,
         lists: lists.words,
         places: lists.places,
+        depths,
         skips,
     };
     let filled = filled_states(alloc, nfa, &plan, sizes)?;
@@ -96,6 +100,8 @@ pub fn rows_of(alloc: Global, nfa: &NFA, budget: usize, skips: bool) -> Result<R
         deep: filled.deep,
         moves: filled.moves,
         lists: plan.lists,
+        depths: plan.depths,
+        row_depth,
         start: StateID::new_unchecked(start.as_usize()),
         low: filled.low,
         list_low: filled.list_low,
@@ -130,6 +136,39 @@ fn numbers_of(
         record = either(deep, record + RECORD_SIZE, record);
     }
     Ok(numbers)
+}
+
+/// How deep each state is that has a row, in the order of the rows.
+fn depths_of(alloc: Global, nfa: &NFA, row_depth: usize) -> Result<Vec<SmallIndex>, BuildError>
+    ensures depths { IfOk result (λ depths. AreDepths row_depth (states_of nfa.now)
+        (length (states_of nfa.now)) depths.items) }
+    ensures refused { IfErr result IsOutOfMemory }
+{
+    let mut depths = vec_of(alloc, rows_count(nfa, row_depth))?;
+    for index in 0..nfa.states_len() {
+        add_depth(&mut depths, nfa, row_depth, index)?;
+    }
+    Ok(depths)
+}
+
+/// How deep one state more is, where it has a row.
+fn add_depth(
+    depths: &mut Vec<SmallIndex>,
+    nfa: &NFA,
+    row_depth: usize,
+    index: usize,
+) -> Result<(), BuildError>
+    requires within { index < length (states_of nfa.now) }
+    requires small { index ≤ greatest_index }
+    requires depths { AreDepths row_depth (states_of nfa.now) index depths.old.items }
+    ensures depths { OnOk result (AreDepths row_depth (states_of nfa.now) (index + 1) depths.new.items) }
+    ensures refused { IfErr result IsOutOfMemory }
+{
+    if is_deep(nfa, index, row_depth) {
+        return Ok(());
+    }
+    let depth = nfa.depth(StateID::new_unchecked(index));
+    push(depths, SmallIndex::new_unchecked(depth))
 }
 
 /// All states.

@@ -162,8 +162,8 @@ impl Automaton for Hybrid {
     ghost use Rattle.std.specs.Prelude.{ℕ, IfSome, nat_eq, true};
     ghost use Rattle.aho_core.specs.Patterns.{Patterns};
     ghost use Rattle.aho_prefilter.specs.Prefilter.{IsPrefilterOf};
-    ghost use Rattle.aho_hybrid.specs.Layout.{IsStateIn, IsHeldIn, depth_below_rows, is_marked_number, is_special_number, lookups_in, next_state_in, list_in, start_for, memory_in};
-    ghost use Rattle.aho_hybrid.specs.Reading.{IsLayoutOf, alike_of, reads_of, plain_of, unmarked_of, dead_shallow_of, starts_shallow_of};
+    ghost use Rattle.aho_hybrid.specs.Layout.{IsStateIn, IsHeldIn, depth_below_rows, depth_of_state, is_marked_number, is_special_number, lookups_in, next_state_in, list_in, start_for, memory_in};
+    ghost use Rattle.aho_hybrid.specs.Reading.{IsLayoutOf, alike_of, reaches_in, reads_of, plain_of, unmarked_of, dead_shallow_of, starts_shallow_of};
 
     ghost is_of = { λ h p. IsLayoutOf h.rows p h.match_kind h.pattern_lens.items
         × IfSome h.prefilter (λ searcher. IsPrefilterOf searcher p) };
@@ -187,6 +187,8 @@ impl Automaton for Hybrid {
     ghost starts = { λ h sid. nat_eq sid h.rows.start };
 
     ghost depth = { λ h sid. depth_below_rows h.rows sid };
+
+    ghost reach = { λ h sid. depth_of_state h.rows sid };
 
     ghost next = { λ h anchored sid byte. next_state_in h.rows sid byte };
 
@@ -237,6 +239,10 @@ impl Automaton for Hybrid {
         sid == self.rows.start()
     }
 
+    fn reach_back(&self, sid: StateID) -> usize {
+        self.rows.depth(sid)
+    }
+
     fn match_kind(&self) -> MatchKind {
         self.match_kind
     }
@@ -275,8 +281,8 @@ impl Automaton for Hybrid {
 
     fn memory_usage(&self) -> usize {
         let states = self.rows.entries.len() + self.rows.deep.len() + self.rows.moves.len();
-        ENTRY_BYTES * (states + self.rows.lists.len() + self.pattern_lens.len())
-            + bytes_of(&self.prefilter)
+        let listed = self.rows.lists.len() + self.pattern_lens.len();
+        ENTRY_BYTES * (states + listed + self.rows.depths.len()) + bytes_of(&self.prefilter)
     }
 
     ghost laws = { λ h p of. reads_of h.rows h.sound p h.match_kind h.pattern_lens.items of.0 };
@@ -290,6 +296,9 @@ impl Automaton for Hybrid {
     ghost dead_shallow = { λ h sid valid. dead_shallow_of h.rows h.sound sid };
 
     ghost starts_shallow = { λ h sid valid. starts_shallow_of h.rows h.sound sid };
+
+    ghost reaches = { λ h p word sid of.
+        reaches_in h.rows h.sound p h.match_kind h.pattern_lens.items of.0 word sid };
 
     ghost prefilters = { λ h p of. of.1 };
 }

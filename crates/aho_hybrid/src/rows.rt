@@ -3,7 +3,7 @@
 
 ghost use Rattle.std.specs.Prelude.{◌≡◌, ◌+◌, ◌*◌, ◌/◌, ◌<◌, ◌≤◌, ◌^◌, length, nat_lt, slice_get, take, drop, Some, IfOk};
 ghost use Rattle.aho_core.specs.Numbers.{greatest_index};
-ghost use Rattle.aho_hybrid.specs.Layout.{AreRisingMoves, HasRow, IsAmong, IsDeep, IsSoundLayout, IsStateIn, child_in, child_of, depth_below_rows, link_in, next_state_in, list_in, list_place, looks_in, is_marked_number, is_special_number, entry_in, record_size, record_word};
+ghost use Rattle.aho_hybrid.specs.Layout.{AreRisingMoves, HasRow, IsAmong, IsDeep, IsSoundLayout, IsStateIn, child_in, child_of, depth_below_rows, depth_of_state, link_in, next_state_in, list_in, list_place, looks_in, is_marked_number, is_special_number, entry_in, record_size, record_word};
 
 use aho_core::search::{PatternID, SmallIndex, StateID, Work};
 use aho_table::alphabet::ByteClasses;
@@ -23,6 +23,10 @@ pub struct Rows {
     pub(crate) moves: Vec<SmallIndex>,
     /// For each list its length, and then its patterns.
     pub(crate) lists: Vec<SmallIndex>,
+    /// How deep each state with a row is, in the order of the rows.
+    pub(crate) depths: Vec<SmallIndex>,
+    /// The states down to this depth have rows.
+    pub(crate) row_depth: usize,
     pub(crate) start: StateID,
     /// The states with rows are special below this number.
     pub(crate) low: usize,
@@ -42,6 +46,8 @@ impl Model for Rows {
       deep = r.deep.items;
       moves = r.moves.items;
       lists = r.lists.items;
+      depths = r.depths.items;
+      row_depth = r.row_depth;
       classes = r.classes;
       start = r.start;
       low = r.low;
@@ -65,6 +71,8 @@ impl Rows {
             deep: self.deep.clone()?,
             moves: self.moves.clone()?,
             lists: self.lists.clone()?,
+            depths: self.depths.clone()?,
+            row_depth: self.row_depth,
             start: self.start,
             low: self.low,
             list_low: self.list_low,
@@ -186,6 +194,19 @@ impl Rows {
         } else {
             sid.as_usize() < self.deep_low
         }
+    }
+
+    /// How deep the state is: the length of its word.
+    pub fn depth(&self, sid: StateID) -> usize
+        requires sound { IsSoundLayout self.now }
+        requires state { IsStateIn self.now sid }
+        ensures depth { result ≡ depth_of_state self.now sid }
+    {
+        if sid.as_usize() < self.entries.len() {
+            let stride = self.classes.alphabet_len() + 1;
+            return self.depths[sid.as_usize() / stride].as_usize();
+        }
+        self.row_depth + self.word(sid, 2)
     }
 
     /// Where the list of a state stands.

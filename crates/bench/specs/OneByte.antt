@@ -8,7 +8,7 @@ use Rattle.aho_core.specs.Held.{held_after}
 use Rattle.aho_core.specs.Laws.{Reads}
 use Rattle.aho_core.specs.MatchList.{matches_of, own_matches}
 use Rattle.aho_core.specs.Patterns.{Patterns}
-use Rattle.aho_core.specs.Step.{follow}
+use Rattle.aho_core.specs.Step.{depth_of, follow}
 use Rattle.aho_core.specs.Trie.{is_node, is_kept, pattern_word}
 use Rattle.aho_core.specs.declared.error.MatchErrorKind.{MatchErrorKind}
 use Rattle.aho_core.specs.declared.error.MatchErrorKind.TheVariants.{InvalidInputAnchored}
@@ -109,6 +109,14 @@ reads_one byte p of = subst (λ (q : Patterns). Reads q Standard (1 ∷ []) (IsH
 -- a state that is held after some bytes is held after any others that lead to the same state of the words
 pub alike_one : (byte : ℕ) (p : Patterns) (word other : List ℕ) (sid : ℕ) → IsHeldByOne byte p No word sid → held_after p No other ≡ held_after p No word → IsHeldByOne byte p No other sid
 alike_one byte p word other sid held same = (held.0, held.1 ∙ sym same)
+
+-- a state is as deep as the word for which it stands is long
+pub reaches_one : (byte : ℕ) (p : Patterns) (word : List ℕ) (sid : ℕ) → IsHeldByOne byte p No word sid → sid ≡ depth_of (held_after p No word)
+reaches_one byte p word sid held = by_word sid held.0 ∙ ap depth_of held.1
+  where
+    by_word : (sid : ℕ) → sid < 2 → sid ≡ depth_of (word_held byte sid)
+    by_word zero small = refl
+    by_word (suc n) small = omega (arith, small)
 
 -- a state that follows is held after one more byte
 pub held-next : (byte : ℕ) (p : Patterns) (anchored : Anchored) (word : List ℕ) (x sid next : ℕ) → p ≡ one_pattern byte → next ≡ next_of byte x → IsHeldByOne byte p anchored word sid → IsHeldByOne byte p anchored (word ++ x ∷ []) next

@@ -35,7 +35,7 @@ impl OneByte {
 impl Automaton for OneByte {
     ghost use Rattle.std.specs.Prelude.{◌≡◌, ℕ, [], ◌∷◌, ◌<◌, true, false, refl, None};
     ghost use Rattle.aho_core.specs.declared.search.MatchKind.TheVariants.{Standard};
-    ghost use Rattle.bench.specs.OneByte.{IsHeldByOne, alike_one, all_special, is_start_of_one, list_of, next_of, one_pattern, reads_one, start_of_one};
+    ghost use Rattle.bench.specs.OneByte.{IsHeldByOne, alike_one, all_special, is_start_of_one, list_of, next_of, one_pattern, reaches_one, reads_one, start_of_one};
 
     ghost is_of = { λ one p. p ≡ one_pattern one };
 
@@ -58,6 +58,8 @@ impl Automaton for OneByte {
     ghost starts = { λ one sid. is_start_of_one sid };
 
     ghost depth = { λ one sid. 0 };
+
+    ghost reach = { λ one sid. sid };
 
     ghost next = { λ one anchored sid byte. next_of one byte };
 
@@ -107,6 +109,10 @@ impl Automaton for OneByte {
 
     fn is_start(&self, sid: StateID) -> bool {
         sid == StateID::ZERO
+    }
+
+    fn reach_back(&self, sid: StateID) -> usize {
+        sid.as_usize()
     }
 
     fn match_kind(&self) -> MatchKind {
@@ -160,6 +166,8 @@ impl Automaton for OneByte {
     ghost dead_shallow = { λ one sid valid dead. refl };
 
     ghost starts_shallow = { λ one sid valid starts. refl };
+
+    ghost reaches = { λ one p word sid of. reaches_one one p word sid };
 
     ghost prefilters = { λ one p of. tt };
 }

@@ -148,7 +148,7 @@ impl Automaton for Relinked {
     ghost use Rattle.aho_core.specs.Step.{lookups};
     ghost use Rattle.aho_build.specs.Automaton.{IsOf, IsHeld, start_of, is_special_in, is_start_in, memory_of};
     ghost use Rattle.aho_build.specs.Walking.{IsState, step_in};
-    ghost use Rattle.aho_build.proofs.AutomatonLaws.{alike_of, reads_of, plain_of, dead_shallow_of, starts_shallow_of};
+    ghost use Rattle.aho_build.proofs.AutomatonLaws.{alike_of, reaches_of, reads_of, plain_of, dead_shallow_of, starts_shallow_of};
     ghost use Rattle.aho_table.specs.Table.{dead_id, depth_in, matches_in};
 
     ghost is_of = { λ r p. IsOf p r.match_kind r.pattern_lens.items r.special r.table.states };
@@ -172,6 +172,8 @@ impl Automaton for Relinked {
     ghost starts = { λ r sid. is_start_in r.special sid };
 
     ghost depth = { λ r sid. depth_in r.table.states sid };
+
+    ghost reach = { λ r sid. depth_in r.table.states sid };
 
     ghost next = { λ r anchored sid byte. step_in r.table.states anchored sid byte };
 
@@ -218,6 +220,10 @@ impl Automaton for Relinked {
 
     fn is_start(&self, sid: StateID) -> bool {
         sid == self.special.start_unanchored_id || sid == self.special.start_anchored_id
+    }
+
+    fn reach_back(&self, sid: StateID) -> usize {
+        self.table.depth(sid)
     }
 
     fn match_kind(&self) -> MatchKind {
@@ -272,6 +278,9 @@ impl Automaton for Relinked {
     ghost dead_shallow = { λ r sid valid. dead_shallow_of r.table.states sid r.sound };
 
     ghost starts_shallow = { λ r sid valid. starts_shallow_of r.special r.table.states sid r.starts };
+
+    ghost reaches = { λ r p word sid of.
+        reaches_of p r.match_kind r.pattern_lens.items r.special r.table.states r.sound of word sid };
 
     ghost prefilters = { λ r p of. tt };
 }

@@ -66,6 +66,8 @@ impl<A: Automaton> Automaton for Tally<A> {
 
     ghost depth = { λ a sid. A.depth a.automaton sid };
 
+    ghost reach = { λ a sid. A.reach a.automaton sid };
+
     ghost next = { λ a anchored sid byte. A.next a.automaton anchored sid byte };
 
     ghost lookups = { λ a p anchored word byte. A.lookups a.automaton p anchored word byte };
@@ -109,6 +111,10 @@ impl<A: Automaton> Automaton for Tally<A> {
 
     fn is_start(&self, sid: StateID) -> bool {
         self.automaton.is_start(sid)
+    }
+
+    fn reach_back(&self, sid: StateID) -> usize {
+        self.automaton.reach_back(sid)
     }
 
     fn match_kind(&self) -> MatchKind {
@@ -162,6 +168,8 @@ impl<A: Automaton> Automaton for Tally<A> {
     ghost dead_shallow = { λ a. A.dead_shallow a.automaton };
 
     ghost starts_shallow = { λ a. A.starts_shallow a.automaton };
+
+    ghost reaches = { λ a. A.reaches a.automaton };
 
     ghost prefilters = { λ a. A.prefilters a.automaton };
 }

@@ -5,6 +5,7 @@ use Rattle.aho_core.specs.Laws.{Reads}
 use Rattle.aho_core.specs.Occurrence.{Occurrence}
 use Rattle.aho_core.specs.Patterns.{Patterns}
 use Rattle.aho_core.specs.Search.{Search}
+use Rattle.aho_core.specs.Step.{depth_of}
 use Rattle.aho_core.specs.declared.error.BuildError.TheVariants.{StateIDOverflow}
 use Rattle.aho_core.specs.declared.error.MatchErrorKind.{MatchErrorKind}
 use Rattle.aho_core.specs.declared.search.Anchored.{Anchored}
@@ -12,11 +13,11 @@ use Rattle.aho_core.specs.declared.search.Anchored.TheVariants.{No}
 use Rattle.aho_core.specs.declared.search.MatchKind.{MatchKind}
 use Rattle.aho_build.specs.declared.settings.Settings.{Settings}
 use Rattle.aho_corasick.specs.contracts.noncontiguous.NFAAutomaton.TheImpl.{ghosts as of_nfa}
-use Rattle.aho_corasick.specs.contracts.noncontiguous.NFAAutomaton.TheImpl.Laws.{alike-law as nfa-alike, dead_shallow-law as nfa-dead_shallow, laws-law as nfa-laws, plain-law as nfa-plain, prefilters-law as nfa-prefilters, starts_shallow-law as nfa-starts_shallow, unmarked-law as nfa-unmarked}
+use Rattle.aho_corasick.specs.contracts.noncontiguous.NFAAutomaton.TheImpl.Laws.{alike-law as nfa-alike, dead_shallow-law as nfa-dead_shallow, laws-law as nfa-laws, plain-law as nfa-plain, prefilters-law as nfa-prefilters, reaches-law as nfa-reaches, starts_shallow-law as nfa-starts_shallow, unmarked-law as nfa-unmarked}
 use Rattle.aho_corasick.specs.declared.noncontiguous.NFA.{NFA}
 use Rattle.aho_hybrid.specs.Filled.{IsRowsRefusal, default_budget}
 use Rattle.aho_hybrid.specs.contracts.hybrid.HybridAutomaton.TheImpl.{ghosts as of_hybrid}
-use Rattle.aho_hybrid.specs.contracts.hybrid.HybridAutomaton.TheImpl.Laws.{alike-law as rows-alike, dead_shallow-law as rows-dead_shallow, laws-law as rows-laws, plain-law as rows-plain, prefilters-law as rows-prefilters, starts_shallow-law as rows-starts_shallow, unmarked-law as rows-unmarked}
+use Rattle.aho_hybrid.specs.contracts.hybrid.HybridAutomaton.TheImpl.Laws.{alike-law as rows-alike, dead_shallow-law as rows-dead_shallow, laws-law as rows-laws, plain-law as rows-plain, prefilters-law as rows-prefilters, reaches-law as rows-reaches, starts_shallow-law as rows-starts_shallow, unmarked-law as rows-unmarked}
 use Rattle.aho_prefilter.specs.Prefilter.{IsPrefilterOf, quickest_for}
 use Rattle.aho_prefilter.specs.declared.prefilter.Searcher.{Searcher}
 use Rattle.chromesquid.specs.declared.engine.Engine.{Engine}
@@ -97,6 +98,10 @@ abbrev pub depth_by : Engine → ℕ → ℕ
 depth_by (Noncontiguous nfa) sid = of_nfa.depth nfa sid
 depth_by (Rows hybrid) sid = of_hybrid.depth hybrid sid
 
+abbrev pub reach_by : Engine → ℕ → ℕ
+reach_by (Noncontiguous nfa) sid = of_nfa.reach nfa sid
+reach_by (Rows hybrid) sid = of_hybrid.reach hybrid sid
+
 abbrev pub next_by : Engine → Anchored → ℕ → ℕ → ℕ
 next_by (Noncontiguous nfa) anchored sid byte = of_nfa.next nfa anchored sid byte
 next_by (Rows hybrid) anchored sid byte = of_hybrid.next hybrid anchored sid byte
@@ -154,3 +159,7 @@ starts_shallow_by (Rows hybrid) sid valid = rows-starts_shallow hybrid sid valid
 pub prefilters_by : (e : Engine) (p : Patterns) → IsEngineOf e p → IfSome (prefilter_by e) (λ searcher. IsPrefilterOf searcher p)
 prefilters_by (Noncontiguous nfa) p of = nfa-prefilters nfa p of
 prefilters_by (Rows hybrid) p of = rows-prefilters hybrid p of
+
+pub reaches_by : (e : Engine) (p : Patterns) (word : List ℕ) (sid : ℕ) → IsEngineOf e p → IsHeldBy e p No word sid → reach_by e sid ≡ depth_of (held_after p No word)
+reaches_by (Noncontiguous nfa) p word sid of = nfa-reaches nfa p word sid of
+reaches_by (Rows hybrid) p word sid of = rows-reaches hybrid p word sid of

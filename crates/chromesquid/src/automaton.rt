@@ -10,7 +10,7 @@ use aho_prefilter::prefilter::Prefilter;
 
 impl Automaton for AhoCorasick {
     ghost use Rattle.std.specs.Prelude.{true};
-    ghost use Rattle.chromesquid.specs.Engine.{alike_by, dead_shallow_by, laws_by, plain_state_by, prefilters_by, starts_shallow_by, unmarked_by};
+    ghost use Rattle.chromesquid.specs.Engine.{alike_by, dead_shallow_by, laws_by, plain_state_by, prefilters_by, reaches_by, starts_shallow_by, unmarked_by};
     ghost use Rattle.chromesquid.specs.Searcher.{IsBuiltFrom, start_by};
 
     ghost is_of = { λ s p. IsBuiltFrom s p };
@@ -34,6 +34,8 @@ impl Automaton for AhoCorasick {
     ghost starts = { λ s sid. ⟦<Engine as Automaton>⟧.starts s.automaton sid };
 
     ghost depth = { λ s sid. ⟦<Engine as Automaton>⟧.depth s.automaton sid };
+
+    ghost reach = { λ s sid. ⟦<Engine as Automaton>⟧.reach s.automaton sid };
 
     ghost next = { λ s anchored sid byte. ⟦<Engine as Automaton>⟧.next s.automaton anchored sid byte };
 
@@ -82,6 +84,10 @@ impl Automaton for AhoCorasick {
 
     fn is_start(&self, sid: StateID) -> bool {
         self.automaton().is_start(sid)
+    }
+
+    fn reach_back(&self, sid: StateID) -> usize {
+        self.automaton().reach_back(sid)
     }
 
     fn match_kind(&self) -> MatchKind {
@@ -135,6 +141,8 @@ impl Automaton for AhoCorasick {
     ghost dead_shallow = { λ s sid valid. dead_shallow_by s.automaton sid valid };
 
     ghost starts_shallow = { λ s sid valid. starts_shallow_by s.automaton sid valid };
+
+    ghost reaches = { λ s p word sid built. reaches_by s.automaton p word sid built.reads };
 
     ghost prefilters = { λ s p built. prefilters_by s.automaton p built.reads };
 }

@@ -213,7 +213,7 @@ fn earliest_by<A: Automaton, T: Text>(
 
 impl Automaton for Engine {
     ghost use Rattle.std.specs.Prelude.{true};
-    ghost use Rattle.chromesquid.specs.Engine.{IsEngineOf, IsHeldBy, IsStateBy, alike_by, dead_by, dead_shallow_by, depth_by, match_kind_by, laws_by, lengths_by, list_by, lookups_by, marked_by, memory_by, next_by, plain_state_by, prefilter_by, prefilters_by, special_by, start_by, starts_by, starts_shallow_by, unmarked_by};
+    ghost use Rattle.chromesquid.specs.Engine.{IsEngineOf, IsHeldBy, IsStateBy, alike_by, dead_by, dead_shallow_by, depth_by, match_kind_by, laws_by, lengths_by, list_by, lookups_by, marked_by, memory_by, next_by, plain_state_by, prefilter_by, prefilters_by, reach_by, reaches_by, special_by, start_by, starts_by, starts_shallow_by, unmarked_by};
 
     ghost is_of = { λ e p. IsEngineOf e p };
 
@@ -236,6 +236,8 @@ impl Automaton for Engine {
     ghost starts = { λ e sid. starts_by e sid };
 
     ghost depth = { λ e sid. depth_by e sid };
+
+    ghost reach = { λ e sid. reach_by e sid };
 
     ghost next = { λ e anchored sid byte. next_by e anchored sid byte };
 
@@ -305,6 +307,13 @@ impl Automaton for Engine {
         match self {
             Engine::Noncontiguous(nfa) => nfa.is_start(sid),
             Engine::Rows(hybrid) => hybrid.is_start(sid),
+        }
+    }
+
+    fn reach_back(&self, sid: StateID) -> usize {
+        match self {
+            Engine::Noncontiguous(nfa) => nfa.reach_back(sid),
+            Engine::Rows(hybrid) => hybrid.reach_back(sid),
         }
     }
 
@@ -386,6 +395,8 @@ impl Automaton for Engine {
     ghost dead_shallow = { λ e sid valid. dead_shallow_by e sid valid };
 
     ghost starts_shallow = { λ e sid valid. starts_shallow_by e sid valid };
+
+    ghost reaches = { λ e p word sid of. reaches_by e p word sid of };
 
     ghost prefilters = { λ e p of. prefilters_by e p of };
 }

@@ -29,6 +29,8 @@ impl<A: Automaton> Automaton for &A {
 
     ghost depth = { λ a sid. A.depth a.now sid };
 
+    ghost reach = { λ a sid. A.reach a.now sid };
+
     ghost next = { λ a anchored sid byte. A.next a.now anchored sid byte };
 
     ghost lookups = { λ a p anchored word byte. A.lookups a.now p anchored word byte };
@@ -71,6 +73,10 @@ impl<A: Automaton> Automaton for &A {
 
     fn is_start(&self, sid: StateID) -> bool {
         (**self).is_start(sid)
+    }
+
+    fn reach_back(&self, sid: StateID) -> usize {
+        (**self).reach_back(sid)
     }
 
     fn match_kind(&self) -> MatchKind {
@@ -124,6 +130,8 @@ impl<A: Automaton> Automaton for &A {
     ghost dead_shallow = { λ a. A.dead_shallow a.now };
 
     ghost starts_shallow = { λ a. A.starts_shallow a.now };
+
+    ghost reaches = { λ a. A.reaches a.now };
 
     ghost prefilters = { λ a. A.prefilters a.now };
 }

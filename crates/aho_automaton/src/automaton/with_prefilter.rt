@@ -63,6 +63,8 @@ impl<'a, A: Automaton> Automaton for WithPrefilter<'a, A> {
 
     ghost depth = { λ a sid. A.depth a.automaton.now sid };
 
+    ghost reach = { λ a sid. A.reach a.automaton.now sid };
+
     ghost next = { λ a anchored sid byte. A.next a.automaton.now anchored sid byte };
 
     ghost lookups = { λ a p anchored word byte. A.lookups a.automaton.now p anchored word byte };
@@ -105,6 +107,10 @@ impl<'a, A: Automaton> Automaton for WithPrefilter<'a, A> {
 
     fn is_start(&self, sid: StateID) -> bool {
         self.automaton.is_start(sid)
+    }
+
+    fn reach_back(&self, sid: StateID) -> usize {
+        self.automaton.reach_back(sid)
     }
 
     fn match_kind(&self) -> MatchKind {
@@ -158,6 +164,8 @@ impl<'a, A: Automaton> Automaton for WithPrefilter<'a, A> {
     ghost dead_shallow = { λ a. A.dead_shallow a.automaton.now };
 
     ghost starts_shallow = { λ a. A.starts_shallow a.automaton.now };
+
+    ghost reaches = { λ a p word sid of. A.reaches a.automaton.now p word sid of.0 };
 
     ghost prefilters = { λ a p of. of.1 };
 }

@@ -36,7 +36,7 @@ Before g c p haystack written = CoversOn g.A.Automaton c.args.walk.now.automaton
 
 -- the progress with what was reached
 abbrev reached_by : (g : Over) (c : After-walk_to_match-reached g) → CoverProgress
-reached_by g c = record c.args.progress.now { sid = c.walk_to_match-reached.result.sid; since = c.walk_to_match-reached.result.since }
+reached_by g c = record c.args.progress.now { sid = c.walk_to_match-reached.result.sid }
 
 module _ (g : Over) (c : After-walk_to_match-reached g) (p : Patterns) (haystack : List ℕ) (written : Output) (covers : Before g c p haystack written) where
   -- the bytes lie ahead, and what was reached
@@ -48,7 +48,7 @@ module _ (g : Over) (c : After-walk_to_match-reached g) (p : Patterns) (haystack
   within : c.args.at + c.walk_to_match-reached.result.count ≤ c.args.progress.now.read
   within = omega (arith, c.walk_to_match-reached.ensures.within, ap length (c.bytes-bytes.ensures.part haystack covers.covered.given), length_part haystack c.args.at c.args.progress.now.read covers.covered.given.within, c.requires.further)
 
-  reaches : Reaches g.A.Automaton c.args.walk.now.automaton.now p haystack c.args.at c.args.progress.now.since c.walk_to_match-reached.result
+  reaches : Reaches g.A.Automaton c.args.walk.now.automaton.now p haystack c.args.at c.walk_to_match-reached.result
   reaches = c.walk_to_match-reached.ensures.reaches p haystack ahead
 
   to_end : c.walk_to_match-reached.result.found ≡ None → CoversOn g.A.Automaton c.args.walk.now.automaton.now (g.P.Pieces.rule c.args.pieces.now) (reached_by g c) (c.args.at + c.walk_to_match-reached.result.count) p haystack written
@@ -82,8 +82,8 @@ returns-in_default-clause-sound g c =
     let d = (goal.at.returns-in_default-clause-sound g c).After-walk_to_match-reached in
     let (p, haystack, written, (covers, fed)) = c.requires.can.stands in
     let r = c.walk_to_match-reached.result in
-    sound-moved c.args.progress.now c.args.at (c.args.at + r.count) r.sid r.since c.requires.sound (omega arith) (within g d p haystack written covers)
-    (omega (arith, c.walk_to_match-reached.ensures.since, told-counted r))
+    sound-moved c.args.progress.now c.args.at (c.args.at + r.count) r.sid c.args.progress.now.since c.requires.sound (omega arith) (within g d p haystack written covers)
+    (omega (arith, c.requires.sound.since_walked))
 
 pub returns-in_default-clause-can : goal.returns-in_default-clause-can
 returns-in_default-clause-can g c =
@@ -113,9 +113,8 @@ join-requires-clause-sound g c =
     let r = c.walk_to_match-reached.result in
     let m = c.in-Some.m in
     let last = ends g d p haystack written covers m c.in-Some.is in
-    let some : told_before r ≡ r.count - 1 = ap (λ (found : Option Occurrence). walked_before found r.count) c.in-Some.is in
-    sound-moved c.args.progress.now c.args.at (m.end - 1) r.sid r.since c.requires.sound (omega (arith, last, c.walk_to_match-reached.ensures.some)) (omega (arith, last, within g d p haystack written covers))
-    (omega (arith, last, some, c.walk_to_match-reached.ensures.since, c.walk_to_match-reached.ensures.some))
+    sound-moved c.args.progress.now c.args.at (m.end - 1) r.sid c.args.progress.now.since c.requires.sound (omega (arith, last, c.walk_to_match-reached.ensures.some)) (omega (arith, last, within g d p haystack written covers))
+    (omega (arith, last, c.requires.sound.since_walked, c.walk_to_match-reached.ensures.some))
 
 pub join-requires-clause-some : goal.join-requires-clause-some
 join-requires-clause-some g c =

@@ -1,5 +1,7 @@
 -- One read after another.
 use Rattle.std.proofs.Common.{◌≡◌, ℕ, ◌+◌, ◌*◌, ◌≤◌, ◌++◌, List, [], Bool, false, true, Ok, Err, refl, sym, ◌∙◌, ap, subst, arith}
+use Rattle.aho_core.specs.Patterns.{Patterns}
+use Rattle.aho_core.specs.declared.search.MatchKind.TheVariants.{Standard}
 use Rattle.aho_devices.specs.Counts.{counted}
 use Rattle.aho_cover.specs.declared.progress.CoverProgress.{CoverProgress}
 use Rattle.aho_cover.specs.Counting.{no_output}
@@ -7,7 +9,7 @@ use Rattle.aho_cover.specs.Feeds.{Feeding}
 use Rattle.aho_cover.specs.Hand.{room_in}
 use Rattle.aho_cover.specs.Pieces.{PieceRule}
 use Rattle.aho_cover.specs.Progress.{IsSoundCover}
-use Rattle.aho_cover.specs.Steps.{CoversOn, MayRoll}
+use Rattle.aho_cover.specs.Steps.{CoversOn, IsPrompt, MayRoll}
 use Rattle.aho_cover.proofs.Copied.{nothing_between}
 use Rattle.aho_cover.proofs.Going.{Going, begins_end, begins_more, begins_on, counts_all, counts_end, counts_more, counts_on, covers_all, covers_more, err_passed, going_begins, going_counts, going_fed, going_first, going_kept, going_on, leaves_counts, leaves_ended, leaves_read, leaves_written, limit_more, upto_more}
 use Rattle.aho_cover.proofs.Written.{if_err, if_ok}
@@ -27,6 +29,7 @@ loop-progress-init g c =
       rule = refl;
       sound = subst (IsSoundCover s) unread unbegun.sound;
       near = λ place low bare. omega (arith, unbegun.unread);
+      prompt = λ place low bare. omega (arith, unbegun.unread);
       can = record {
         standard = unbegun.standard;
         no_empty = unbegun.no_empty;
@@ -63,6 +66,9 @@ sound_now g c = subst (IsSoundCover c.feed_first.new.self) (sym (ap (λ (s : Cov
 near_now : (g : Over) (c : After-feed_first g) → MayRoll c.feed_first.new.self
 near_now g c = subst MayRoll (sym c.feed_first.ensures.only) c.loop-progress.invariant.near
 
+prompt_now : (g : Over) (c : After-feed_first g) → IsPrompt g.A.Automaton c.args.walk.now.automaton.now c.feed_first.new.self
+prompt_now g c = subst (IsPrompt g.A.Automaton c.args.walk.now.automaton.now) (sym c.feed_first.ensures.only) c.loop-progress.invariant.prompt
+
 pub returns-in_err-flush-clause-leaves : goal.returns-in_err-flush-clause-leaves
 returns-in_err-flush-clause-leaves g c =
     let inv = c.loop-progress.invariant in
@@ -77,8 +83,10 @@ returns-in_err-refill-clause-leaves g c =
     let refilled = c.in_err-refill.ensures in
     let sound = sound_now g d in
     let near = near_now g d in
+    let automaton = c.args.walk.now.automaton.now in
+    let standard : (p : Patterns) → g.A.Automaton.is_of automaton p → p.kind ≡ Standard = λ p of. sym (g.met.A.Automaton.laws automaton p of).kind_is ∙ c.requires.unbegun.standard in
     rw (err_passed c.from_residual-in_err-refill.result c.in_err-refill.field-0.0 c.from_residual-in_err-refill.ensures.1)
-    (leaves_read _ _ _ _ _ _ _ _ _ (begins_more _ _ _ _ _ _ _ _ _ _ _ _ _ _ going refilled.takes _ going.writes sound refilled.ended) (upto_more _ _ _ _ _ _ _ _ _ _ _ _ _ _ going refilled.takes _ going.writes sound near refilled.fails refilled.ended)
+    (leaves_read _ _ _ _ _ _ _ _ _ (begins_more _ _ _ _ _ _ _ _ _ _ _ _ _ _ going refilled.takes _ going.writes sound refilled.ended) (upto_more _ _ _ _ _ _ _ _ _ _ _ _ _ _ going refilled.takes _ going.writes sound near (prompt_now g d) standard (λ p word sid of held. g.met.A.Automaton.reaches automaton p word sid of held) refilled.fails refilled.ended)
     (λ met. limit_more _ _ _ _ _ _ _ _ _ _ _ _ _ _ going refilled.takes refilled.fails (refilled.limit met) refilled.ended))
 
 pub returns-then-branch-clause-leaves : goal.returns-then-branch-clause-leaves
@@ -138,6 +146,7 @@ loop-progress-preserved g c =
       going = going_on _ _ _ _ _ _ _ _ _ _ _ _ _ _ going refilled.takes _ _ _ (rw (c.feed_first.ensures.rule ∙ inv.rule) at (rw inv.same at one.writes)) one.bytes.read (not_ended g e);
       sound = one.sound;
       near = one.near;
+      prompt = subst (λ x. IsPrompt g.A.Automaton x c.walk_read.new.progress) (one.same ∙ inv.same) one.prompt;
       can = one.can;
       rule = one.rule ∙ c.feed_first.ensures.rule ∙ inv.rule;
       room = record {

@@ -1,7 +1,7 @@
 -- What the loop keeps: so much was given and written, all of it was walked, and no device has failed.
 use Rattle.std.proofs.Common.{◌≡◌, ◌-◌}
 use Rattle.aho_cover.specs.Progress.{IsSoundCover, KeepsRoom}
-use Rattle.aho_cover.specs.Steps.{CanWalk, MayRoll}
+use Rattle.aho_cover.specs.Steps.{CanWalk, IsPrompt, MayRoll}
 use Rattle.aho_cover.proofs.Going.{Going}
 use Rattle.aho_cover.proofs.stream.cover_from.Given as goal
 
@@ -14,6 +14,7 @@ invariant-loop-progress g l =
       room : KeepsRoom l.initial.progress l.progress;
       sound : IsSoundCover l.progress l.progress.read;
       near : MayRoll l.progress;
+      prompt : IsPrompt g.A.Automaton automaton l.progress;
       can : CanWalk g.A.Automaton l.walk (g.P.Pieces.rule l.pieces) (g.P.Pieces.holds l.pieces) l.progress l.progress.read;
       same : l.walk.automaton.now ≡ automaton;
       reads : g.R.Source.failures l.source ≡ g.R.Source.failures l.initial.source;

@@ -5,7 +5,7 @@ use Rattle.aho_core.specs.Laws.{Fits, told}
 use Rattle.aho_core.specs.Patterns.{Patterns}
 use Rattle.aho_core.specs.declared.search.Anchored.TheVariants.{No}
 use Rattle.aho_cover.specs.Walks.{LiesAhead, StandsIn}
-use Rattle.aho_cover.proofs.Further.{byte-ahead, clear-start, fits-later, not-some, one-told, stands-fits, stands-further, told-nothing}
+use Rattle.aho_cover.proofs.Further.{byte-ahead, fits-later, not-some, one-told, stands-fits, stands-further, told-nothing}
 use Rattle.aho_cover.proofs.walk.walk_to_match.Given.{Over}
 use Rattle.aho_cover.proofs.walk.walk_to_match.Goals.{After-step-sid, else-looks_at, then-looks_at+else-is_some+else-waits_in}
 use Rattle.aho_cover.proofs.walk.walk_to_match.Goals as goal
@@ -39,7 +39,6 @@ loop-count-preserved g c =
       same = same;
       valid = rw inv.same at c.step-sid.ensures.valid;
       paid = omega (arith, rw inv.same at c.step-sid.ensures.cost, inv.paid);
-      since = elim c.start_after-since.ensures.since [ inl now ↦ omega (arith, now.0) | inr before ↦ omega (arith, before, inv.since) ];
       held = λ p haystack ahead. held_more g d p haystack ahead;
       plain = λ p haystack ahead k some within. elim (cases_lt (c.args.at + n) k) [
         | inl last ↦
@@ -48,12 +47,6 @@ loop-count-preserved g c =
         | inr before ↦ inv.plain p haystack ahead k some before
       ];
       quiet = λ some. quiet;
-      clear = λ p haystack ahead clear. elim c.start_after-since.ensures.since [
-        | inl now ↦
-            (let start = clear-start g.A.Automaton automaton p haystack (g.met.A.Automaton.laws automaton p ahead.of) (c.args.at + (n + 1)) c.step-sid.result (held_more g d p haystack ahead) (rw same at now.1) in
-            λ m occurs ends. omega (arith, start m occurs ends, now.0))
-        | inr before ↦ λ m occurs ends. omega (arith, inv.clear p haystack ahead clear m occurs (omega (arith, ends)), before)
-      ];
     }
 
 pub told_at-found-requires-clause-fits : goal.told_at-found-requires-clause-fits
@@ -79,7 +72,6 @@ returns-then-is_some-clause-reaches g c p haystack ahead =
       stands = held_more g d p haystack ahead;
       told_is = rw (same_walk g d) at c.told_at-found.ensures.told ∙ ap (λ (k : ℕ). told (g.A.Automaton.lengths automaton) No 0 k (g.A.Automaton.list automaton c.step-sid.result)) place;
       plain = λ k some within. inv.plain p haystack ahead k some (omega (arith, within, before));
-      clear = λ clear m occurs ends. inv.clear p haystack ahead clear m occurs (omega (arith, ends, before));
     }
 
 -- a start is held
@@ -92,7 +84,6 @@ returns-then-waits_in-clause-reaches g c p haystack ahead =
     let same = same_walk g d in
     let held = held_more g d p haystack ahead in
     let quiet = told-nothing (g.A.Automaton.lengths automaton) (g.A.Automaton.list automaton c.step-sid.result) (c.args.at + n + 1) (sym (rw same at c.told_at-found.ensures.told) ∙ not-some c.told_at-found.result (sym c.is_some.ensures ∙ c.if-is_some.false)) in
-    let start = clear-start g.A.Automaton automaton p haystack (g.met.A.Automaton.laws automaton p ahead.of) (c.args.at + (n + 1)) c.step-sid.result held (rw same at c.if-waits_in.ensures.starts refl) in
     record {
       stands = held;
       told_is = sym (ap (told (g.A.Automaton.lengths automaton) No 0 (c.args.at + (n + 1))) quiet);
@@ -102,7 +93,6 @@ returns-then-waits_in-clause-reaches g c p haystack ahead =
             (c.step-sid.result, subst (λ (m : ℕ). StandsIn g.A.Automaton automaton p haystack c.step-sid.result m) there held, quiet))
         | inr before ↦ inv.plain p haystack ahead k some before
       ];
-      clear = λ clear m occurs ends. omega (arith, start m occurs ends);
     }
 
 pub returns-clause-reaches : goal.returns-clause-reaches
@@ -114,5 +104,4 @@ returns-clause-reaches g c p haystack ahead =
       stands = subst (λ (n : ℕ). StandsIn g.A.Automaton c.args.walk.now.automaton.now p haystack c.loop-count.sid (c.args.at + n)) all (inv.held p haystack ahead);
       told_is = sym (ap (told (g.A.Automaton.lengths c.args.walk.now.automaton.now) No 0 (c.args.at + length bytes)) (inv.quiet (omega (arith, c.requires.some))));
       plain = λ k some within. inv.plain p haystack ahead k some (omega arith);
-      clear = λ clear m occurs ends. inv.clear p haystack ahead clear m occurs (omega (arith, ends, all));
     }

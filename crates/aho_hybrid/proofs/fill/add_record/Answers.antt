@@ -14,7 +14,7 @@ use Rattle.aho_hybrid.proofs.fill.add_record.Goals as goal
 pub new_unchecked-requires-2 : goal.new_unchecked-requires-2
 new_unchecked-requires-2 c =
     let nfa = c.args.nfa.now in
-    let plan : Parts = parts_of nfa c.args.plan.now.firsts c.args.plan.now.numbers.items c.args.plan.now.lists.items c.args.plan.now.places.items c.args.plan.now.row_depth c.args.plan.now.skips in
+    let plan : Parts = parts_of nfa c.args.plan.now.firsts c.args.plan.now.numbers.items c.args.plan.now.lists.items c.args.plan.now.places.items c.args.plan.now.depths.items c.args.plan.now.row_depth c.args.plan.now.skips in
     let index = c.args.index in
     record {
       within = omega (arith, c.len-place.ensures, c.args.filled.now.moves.ok.0, c.requires.filled.moves_sized, moves-grow plan.special plan.states plan.row_depth index (length plan.states) (omega (arith, c.requires.within)), c.requires.fits.moves);
@@ -23,7 +23,7 @@ new_unchecked-requires-2 c =
 pub new_unchecked-requires-3 : goal.new_unchecked-requires-3
 new_unchecked-requires-3 c =
     let nfa = c.args.nfa.now in
-    let plan : Parts = parts_of nfa c.args.plan.now.firsts c.args.plan.now.numbers.items c.args.plan.now.lists.items c.args.plan.now.places.items c.args.plan.now.row_depth c.args.plan.now.skips in
+    let plan : Parts = parts_of nfa c.args.plan.now.firsts c.args.plan.now.numbers.items c.args.plan.now.lists.items c.args.plan.now.places.items c.args.plan.now.depths.items c.args.plan.now.row_depth c.args.plan.now.skips in
     let index = c.args.index in
     let old = c.args.filled.now in
     let source : c.source_of-sid.result ≡ source_of plan index = c.source_of-sid.ensures.source ∙ ap (λ (s : Special). source_in s index) c.special.ensures.special in
@@ -43,7 +43,7 @@ new_unchecked-requires-3 c =
 pub returns-clause-filled : goal.returns-clause-filled
 returns-clause-filled c =
     let nfa = c.args.nfa.now in
-    let plan : Parts = parts_of nfa c.args.plan.now.firsts c.args.plan.now.numbers.items c.args.plan.now.lists.items c.args.plan.now.places.items c.args.plan.now.row_depth c.args.plan.now.skips in
+    let plan : Parts = parts_of nfa c.args.plan.now.firsts c.args.plan.now.numbers.items c.args.plan.now.lists.items c.args.plan.now.places.items c.args.plan.now.depths.items c.args.plan.now.row_depth c.args.plan.now.skips in
     let index = c.args.index in
     let old = c.args.filled.now in
     let list = c.entry_at.result in

@@ -15,7 +15,7 @@ use Rattle.aho_hybrid.proofs.fill.add_row.Goals as goal
 pub returns-clause-filled : goal.returns-clause-filled
 returns-clause-filled c =
     let nfa = c.args.nfa.now in
-    let plan : Parts = parts_of nfa c.args.plan.now.firsts c.args.plan.now.numbers.items c.args.plan.now.lists.items c.args.plan.now.places.items c.args.plan.now.row_depth c.args.plan.now.skips in
+    let plan : Parts = parts_of nfa c.args.plan.now.firsts c.args.plan.now.numbers.items c.args.plan.now.lists.items c.args.plan.now.places.items c.args.plan.now.depths.items c.args.plan.now.row_depth c.args.plan.now.skips in
     let index = c.args.index in
     let old = c.args.filled.now in
     let mid = c.push_entries.new.entries.items in

@@ -7,7 +7,7 @@ use Rattle.aho_hybrid.proofs.fill.filled_states.Goals as goal
 
 pub loop-index-init : goal.loop-index-init
 loop-index-init c =
-    let plan : Parts = parts_of c.args.nfa.now c.args.plan.now.firsts c.args.plan.now.numbers.items c.args.plan.now.lists.items c.args.plan.now.places.items c.args.plan.now.row_depth c.args.plan.now.skips in
+    let plan : Parts = parts_of c.args.nfa.now c.args.plan.now.firsts c.args.plan.now.numbers.items c.args.plan.now.lists.items c.args.plan.now.places.items c.args.plan.now.depths.items c.args.plan.now.row_depth c.args.plan.now.skips in
     let rows : AreRows plan 0 c.in_ok-vec_of.field-0.items 1 = subst (λ (l : List ℕ). AreRows plan 0 l 1) (sym c.in_ok-vec_of.ensures.empty) (rows-none plan 1 (omega arith)) in
     let records : AreRecords plan 0 c.in_ok-vec_of-2.field-0.items c.in_ok-vec_of-3.field-0.items 0 =
     subst (λ (l : List ℕ). AreRecords plan 0 l c.in_ok-vec_of-3.field-0.items 0) (sym c.in_ok-vec_of-2.ensures.empty)
@@ -18,4 +18,4 @@ pub returns-clause-filled : goal.returns-clause-filled
 returns-clause-filled c =
     let nfa = c.args.nfa.now in
     let all : c.loop-index.index ≡ length (states_of nfa) = omega (arith, c.loop-index-test.false, c.loop-index.auto.index-end, c.states_len-index-end.ensures.len) in
-    subst (λ (n : ℕ). AreLaidOut (parts_of nfa c.args.plan.now.firsts c.args.plan.now.numbers.items c.args.plan.now.lists.items c.args.plan.now.places.items c.args.plan.now.row_depth c.args.plan.now.skips) n c.loop-index.filled) all c.loop-index.invariant
+    subst (λ (n : ℕ). AreLaidOut (parts_of nfa c.args.plan.now.firsts c.args.plan.now.numbers.items c.args.plan.now.lists.items c.args.plan.now.places.items c.args.plan.now.depths.items c.args.plan.now.row_depth c.args.plan.now.skips) n c.loop-index.filled) all c.loop-index.invariant

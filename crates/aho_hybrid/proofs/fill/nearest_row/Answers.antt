@@ -13,7 +13,7 @@ returns-then-has_row c =
     let nfa = c.args.nfa.now in
     let states = states_of nfa in
     let sound = c.states_len-len.ensures.sound in
-    let plan : Parts = parts_of nfa c.args.plan.now.firsts c.args.plan.now.numbers.items c.args.plan.now.lists.items c.args.plan.now.places.items c.args.plan.now.row_depth c.args.plan.now.skips in
+    let plan : Parts = parts_of nfa c.args.plan.now.firsts c.args.plan.now.numbers.items c.args.plan.now.lists.items c.args.plan.now.places.items c.args.plan.now.depths.items c.args.plan.now.row_depth c.args.plan.now.skips in
     let link = c.fail-link.result in
     let marked : AreMarked (state_at states c.loop.at).transitions c.loop.taken c.mark.new.taken =
     subst (λ (l : List (ℕ × ℕ)). AreMarked l c.loop.taken c.mark.new.taken) c.transitions.ensures.listed c.mark.ensures.marked in

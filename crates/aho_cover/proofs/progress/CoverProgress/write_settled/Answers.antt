@@ -6,7 +6,7 @@ use Rattle.aho_cover.specs.declared.progress.CoverProgress.{CoverProgress}
 use Rattle.aho_cover.specs.Counting.{Output}
 use Rattle.aho_cover.specs.Feeds.{Feeding}
 use Rattle.aho_cover.specs.Hand.{held_runs}
-use Rattle.aho_cover.specs.Progress.{BareFrom, ClearlyCovered, HasCovered, IsBeginning, IsSoundCover, outside_end}
+use Rattle.aho_cover.specs.Progress.{BareFrom, ClearlyCovered, HasCovered, IsBeginning, IsSoundCover, open_place, outside_end}
 use Rattle.aho_cover.specs.Writes.{WritesOn}
 use Rattle.aho_cover.proofs.Covered.{has-open}
 use Rattle.aho_cover.proofs.Fed.{fed-outside, writes_feeding}
@@ -41,7 +41,7 @@ write_outside-requires g c = record {
 
 -- the bytes behind the runs are written
 after : (g : Over) (c : After-write_outside g) → c.write_outside.new.self ≡ record c.settle.new.self { copied = max c.settle.new.self.copied (outside_end c.open_place-open.result (held_runs c.settle.new.self.hand)) }
-    → IsSoundCover c.write_outside.new.self c.args.at × BareFrom c.write_outside.new.self.copied (held_runs c.write_outside.new.self.hand) (c.args.at + 1 - c.args.self.now.buffer.least)
+    → IsSoundCover c.write_outside.new.self c.args.at × BareFrom c.write_outside.new.self.copied (held_runs c.write_outside.new.self.hand) (open_place c.args.self.now c.args.at)
 after g c is =
     let s = c.settle.new.self in
     let at = c.args.at in
@@ -51,7 +51,7 @@ after g c is =
     let within : place ≤ at = omega (arith, open-within c.args.self.now at c.requires.sound, c.open_place-open.ensures.place) in
     let near = near-outside s at sound place c.in_ok-settle.ensures.last in (
       subst (λ (s' : CoverProgress). IsSoundCover s' at) (sym is) (sound-outside s at sound place copied within refl),
-      subst (λ (s' : CoverProgress). BareFrom s'.copied (held_runs s'.hand) (at + 1 - c.args.self.now.buffer.least)) (sym is)
+      subst (λ (s' : CoverProgress). BareFrom s'.copied (held_runs s'.hand) (open_place c.args.self.now at)) (sym is)
           (λ other low bare. omega (arith, near other low bare, c.open_place-open.ensures.place)),
     )
 
@@ -60,9 +60,9 @@ returns-clause-sound g c =
     let d = (goal.at.returns-clause-sound g c).After-write_outside in
     if_ok c.write_outside.result _ _ (λ is. (after g d is).0) c.write_outside.ensures.copied
 
-pub returns-clause-near : goal.returns-clause-near
-returns-clause-near g c =
-    let d = (goal.at.returns-clause-near g c).After-write_outside in
+pub returns-clause-open : goal.returns-clause-open
+returns-clause-open g c =
+    let d = (goal.at.returns-clause-open g c).After-write_outside in
     if_ok c.write_outside.result _ _ (λ is. (after g d is).1) c.write_outside.ensures.copied
 
 -- what was written of the runs

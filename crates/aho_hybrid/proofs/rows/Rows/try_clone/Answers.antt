@@ -10,11 +10,14 @@ returns c =
     let deep : c.in_ok-clone-2.field-0.items ≡ inside.deep.items = each_same inside.deep.items c.in_ok-clone-2.field-0.items c.in_ok-clone-2.ensures.cases.0 in
     let moves : c.in_ok-clone-3.field-0.items ≡ inside.moves.items = each_same inside.moves.items c.in_ok-clone-3.field-0.items c.in_ok-clone-3.ensures.cases.0 in
     let lists : c.in_ok-clone-4.field-0.items ≡ inside.lists.items = each_same inside.lists.items c.in_ok-clone-4.field-0.items c.in_ok-clone-4.ensures.cases.0 in
+    let depths : c.in_ok-clone-5.field-0.items ≡ inside.depths.items = each_same inside.depths.items c.in_ok-clone-5.field-0.items c.in_ok-clone-5.ensures.cases.0 in
     let same : Layout = record {
       rows = inside.entries.items;
       deep = inside.deep.items;
       moves = inside.moves.items;
       lists = inside.lists.items;
+      depths = inside.depths.items;
+      row_depth = inside.row_depth;
       classes = inside.classes;
       start = inside.start;
       low = inside.low;
@@ -26,6 +29,8 @@ returns c =
       deep = c.in_ok-clone-2.field-0.items;
       moves = c.in_ok-clone-3.field-0.items;
       lists = c.in_ok-clone-4.field-0.items;
+      depths = c.in_ok-clone-5.field-0.items;
+      row_depth = inside.row_depth;
       classes = c.copy.result;
       start = inside.start;
       low = inside.low;
@@ -37,5 +42,6 @@ returns c =
     ∙ ap (λ (l : List ℕ). record made { rows = inside.entries.items; deep = l }) deep
     ∙ ap (λ (l : List ℕ). record made { rows = inside.entries.items; deep = inside.deep.items; moves = l }) moves
     ∙ ap (λ (l : List ℕ). record made { rows = inside.entries.items; deep = inside.deep.items; moves = inside.moves.items; lists = l }) lists
+    ∙ ap (λ (l : List ℕ). record same { depths = l; classes = c.copy.result }) depths
     ∙ ap (λ (cs : List Bool). record same { classes = cs }) c.copy.ensures.same in
     record { same = equal ∙ c.self.view_is }
