@@ -8,9 +8,9 @@
 //!
 //! # What is written when
 //!
-//! A match that ends later begins at most as far back as the longest pattern reaches, and behind the last place at which the
-//! automaton stood in a start. What lies before both is settled: the runs that end there are written as their pieces, and the
-//! bytes between them as they are. All that is settled is written and flushed before the source is read again.
+//! A match that ends later begins among the last bytes that begin a pattern: as many as the automaton's state reaches back over.
+//! What lies before them is settled: the runs that end there are written as their pieces, and the bytes between them as they are.
+//! All that is settled is written and flushed before the source is read again.
 
 ghost use Rattle.std.specs.Prelude.{◌≡◌, ℕ, List, [], IfErr, length};
 ghost use Rattle.aho_core.specs.Patterns.{Patterns};
@@ -79,8 +79,7 @@ fn cover_from<A: Automaton, R: Source, W: Sink, P: Pieces>(
 /// `Read` exactly where a read fails, `Write` where a write or a flush fails, `WriteZero` where a write of some bytes takes
 /// none, and `PositionLimit` where 2^63 - 1 bytes were given and the end was not seen. Nothing is tried again, and what was
 /// written then is a beginning of the cover, whatever bytes would have followed. After `Read` and `PositionLimit` it is all of
-/// it up to a place: each byte that was given from there on lies in a match, or is among the last, as many as the longest
-/// pattern has.
+/// it up to a place: each byte that was given from there on lies in a match, or is among the last that begin a pattern.
 pub fn cover_stream<'a, A: Automaton, R: Source, W: Sink>(
     start: StreamCoverStart<'a, A>,
     source: &mut R,

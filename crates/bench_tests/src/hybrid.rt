@@ -88,6 +88,10 @@ fn leads<A: Automaton>(rt: &impl Abort, alloc: Global, automaton: &A) -> Result<
     assert_same(rt, listed.as_slice(), [0, 1].as_slice());
     let back = state_after(rt, automaton, Anchored::No, b"abcx");
     assert!(rt; automaton.is_start(back) && !automaton.is_match(back));
+    let begun = state_after(rt, automaton, Anchored::No, b"abcab");
+    assert_same(rt, automaton.reach_back(back), 0);
+    assert_same(rt, automaton.reach_back(begun), 2);
+    assert_same(rt, automaton.reach_back(found), 3);
     Ok(())
 }
 
@@ -122,24 +126,24 @@ fn made(
 
 #[test]
 fn it_is_made_with_rows_for_all_states(rt: HostRuntime) -> Result<(), Fail> {
-    // Nine states with entries for five classes and a list, 6 entries of lists, and two lengths.
+    // Nine states with entries for five classes and a list, and a depth, 6 entries of lists, and two lengths.
     Ok(made(
         &rt,
         rt.alloc(),
         &[b"abc", b"bc"],
         usize::MAX,
-        4 * (9 * 6 + 6 + 2),
+        4 * (9 * 7 + 6 + 2),
     )?)
 }
 
 #[test]
 fn it_is_made_with_rows_for_the_states_without_depth(rt: HostRuntime) -> Result<(), Fail> {
-    // Four states with such entries, five records of five words, three transitions, 6 entries of lists, and two lengths.
+    // Four states with such entries and a depth, five records of five words, three transitions, 6 entries of lists, and two lengths.
     Ok(made(
         &rt,
         rt.alloc(),
         &[b"abc", b"bc"],
         0,
-        4 * (4 * 6 + 5 * 5 + 3 * 2 + 6 + 2),
+        4 * (4 * 7 + 5 * 5 + 3 * 2 + 6 + 2),
     )?)
 }
