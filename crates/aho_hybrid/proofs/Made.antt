@@ -1,7 +1,7 @@
 -- The states that were laid out are an automaton of the same patterns: what is read of them by numbers alone.
 use Rattle.std.proofs.Common.{◌≡◌, ◌≢◌, ◌⊎◌, ℕ, ◌+◌, ◌-◌, ◌*◌, ◌<◌, ◌≤◌, ◌/◌, ◌||◌, Bool, cond, List, length, take, drop, get_or, nat_eq, refl, sym, ap, subst, ◌∙◌, inl, inr, arith, ne_eqb}
 use Rattle.std.specs.Prelude.{Some, None, nat_lt}
-use Rattle.std.proofs.Math.Nat.{mul-div_cancel, mul-le-mul_right, mul-mod_left}
+use Rattle.std.proofs.Math.Nat.{le-mul_of_pos_right, mul-div_cancel, mul-le-mul_right, mul-mod_left}
 use Rattle.std.proofs.lemmas.Bool.{cases_Bool, cases_eq, cond-true, cond-false, le-ltb}
 use Rattle.std.proofs.lemmas.Bool.Decides.{nat_tests}
 use Rattle.std.proofs.lemmas.Nat.{div-add-mod'}
@@ -394,6 +394,7 @@ module _ (plan : Parts) (words : ℕ) (planned : IsPlan plan words) (filled : Fi
     small = small;
     small_lists = small_lists;
     small_moves = small_moves;
+    small_depths = omega (arith, small, done.rows.sized, planned.deepnesses.sized, le-mul_of_pos_right {m = stride} (rows_at count) (omega arith));
   }
     where
       shallow : (i : ℕ) → i < count → depth_below_rows layout (number_in plan i) ≤ greatest_index

@@ -203,6 +203,7 @@ pub record IsSoundLayout (t : Layout) : Type 0 where
   pub small : length t.rows + length t.deep ≤ greatest_index
   pub small_lists : length t.lists ≤ greatest_index + 1
   pub small_moves : length t.moves ≤ greatest_index
+  pub small_depths : length t.depths ≤ greatest_index
 
 -- the bytes of the entries, the records, the transitions, the lists, the depths and the lengths of patterns, by stated sizes, and
 -- what a prefilter holds

@@ -74,6 +74,7 @@ module _ {R W : Type 0} (S : SourceGhosts R) (K : SinkGhosts W) (is_of : Pattern
     place = upto.place;
     within = upto.within;
     near = λ q at same. upto.near q at (of_one q same);
+    prompt = λ q at same. upto.prompt q at (of_one q same);
     writes = λ q bytes runs same may are. upto.writes q bytes runs (of_one q same) may are;
   }
 
