@@ -1,12 +1,11 @@
 -- How far a state reaches back: what ends behind the bytes that were walked begins among the last, which begin a pattern.
-use Rattle.std.proofs.Common.{◌≡◌, ℕ, ◌+◌, ◌-◌, ◌<◌, ◌≤◌, inl, inr, Bool, true, false, List, [], ◌∷◌, ◌++◌, length, drop, max, refl, sym, ◌∙◌, ap, subst, arith, length-append}
+use Rattle.std.proofs.Common.{◌≡◌, ℕ, ◌+◌, ◌-◌, ◌<◌, ◌≤◌, inl, inr, true, false, List, [], ◌∷◌, ◌++◌, length, drop, max, refl, sym, ◌∙◌, ap, subst, arith, length-append}
 use Rattle.std.specs.Prelude.{Option, Some, None, slice_range}
 use Rattle.std.proofs.lemmas.Bool.{cases_lt}
 use Rattle.std.proofs.lemmas.List.{drop_at, map-append}
 use Rattle.aho_core.specs.Bytes.{folded, folded_word}
-use Rattle.aho_core.specs.Failure.{is_leftmost, state_after}
+use Rattle.aho_core.specs.Failure.{is_leftmost}
 use Rattle.aho_core.specs.Held.{held_after}
-use Rattle.aho_core.specs.Laws.{Reads}
 use Rattle.aho_core.specs.Occurrence.{Occurrence}
 use Rattle.aho_core.specs.Occurs.{Occurs}
 use Rattle.aho_core.specs.Overlapping.{begins_some}
@@ -25,7 +24,7 @@ use Rattle.aho_cover.specs.Counting.{Output}
 use Rattle.aho_cover.specs.Covers.{MayGoOn}
 use Rattle.aho_cover.specs.Pieces.{PieceRule}
 use Rattle.aho_cover.specs.Steps.{CoversOn}
-use Rattle.aho_cover.specs.Walks.{NoneReaches, StandsIn}
+use Rattle.aho_cover.specs.Walks.{StandsIn}
 use Rattle.aho_cover.specs.declared.progress.CoverProgress.{CoverProgress}
 
 module _ (p : Patterns) (standard : p.kind ≡ Standard) where

@@ -237,7 +237,7 @@ impl CoverProgress {
         ensures sound { OnOk result (IsSoundCover self.new at) }
         ensures others { OnOk result
             (self.new ≡ record self.old { copied = self.new.copied; hand = self.new.hand }) }
-        ensures open { OnOk result (BareFrom self.new.copied (held_runs self.new.hand)
+        ensures bare { OnOk result (BareFrom self.new.copied (held_runs self.new.hand)
             (open_place self.old at)) }
         ensures writes { OnOk result (WritesOn W.Sink sink.old sink.new counts.old counts.new
             (Feeding (P.holds pieces.old) self.old (HasCovered (P.rule pieces.old) self.old at))

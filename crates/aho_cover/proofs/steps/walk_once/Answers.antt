@@ -1,6 +1,6 @@
 -- To the next match, or to the end of the bytes.
 use Rattle.std.proofs.Common.{◌≡◌, ℕ, ◌+◌, ◌-◌, ◌*◌, ◌<◌, ◌≤◌, max, List, length, sym, ap, subst, arith}
-use Rattle.std.specs.Prelude.{Option, None, Some}
+use Rattle.std.specs.Prelude.{None, Some}
 use Rattle.aho_core.specs.Laws.{shortest}
 use Rattle.aho_core.specs.Occurrence.{Occurrence}
 use Rattle.aho_core.specs.Patterns.{Patterns}
@@ -12,7 +12,7 @@ use Rattle.aho_cover.specs.Feeds.{Feeding}
 use Rattle.aho_cover.specs.Pieces.{PieceRule}
 use Rattle.aho_cover.specs.Progress.{EndsNext, HasCovered, IsBeginning, IsSoundCover, open_place}
 use Rattle.aho_cover.specs.Steps.{CoversOn}
-use Rattle.aho_cover.specs.Walks.{LiesAhead, Reaches, StandsIn, told_before, walked_before}
+use Rattle.aho_cover.specs.Walks.{LiesAhead, Reaches, StandsIn}
 use Rattle.aho_cover.specs.Writes.{WritesOn}
 use Rattle.aho_cover.proofs.Reached.{lies-ahead, moved-all, moved-behind, moved-end, moved-found, moved-next, moved-unfed, sound-moved, told-counted}
 use Rattle.aho_cover.proofs.Written.{on_err, writes_nothing, writes_still, writes_with}

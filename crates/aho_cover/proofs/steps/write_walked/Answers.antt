@@ -1,5 +1,5 @@
 -- The walk looks back, and then what is settled is written.
-use Rattle.std.proofs.Common.{◌≡◌, ℕ, ◌+◌, List, sym, ◌∙◌, ap, subst, arith}
+use Rattle.std.proofs.Common.{◌≡◌, ℕ, List, sym, ◌∙◌, ap, subst, arith}
 use Rattle.std.specs.Prelude.{slice_range}
 use Rattle.aho_core.specs.Patterns.{Patterns}
 use Rattle.aho_cover.specs.declared.progress.CoverProgress.{CoverProgress}
@@ -80,11 +80,11 @@ returns-clause-others g c =
 pub returns-clause-near : goal.returns-clause-near
 returns-clause-near g c =
     let least = ap (λ (s : CoverProgress). s.buffer.least) c.look_back.ensures.only in
-    if_ok c.write_settled.result _ _ (λ open place low bare. omega (arith, open place low bare, least)) c.write_settled.ensures.open
+    if_ok c.write_settled.result _ _ (λ from place low bare. omega (arith, from place low bare, least)) c.write_settled.ensures.bare
 
 pub returns-clause-prompt : goal.returns-clause-prompt
 returns-clause-prompt g c =
-    if_ok c.write_settled.result _ _ (λ open place low bare. omega (arith, open place low bare, c.look_back.ensures.reach)) c.write_settled.ensures.open
+    if_ok c.write_settled.result _ _ (λ from place low bare. omega (arith, from place low bare, c.look_back.ensures.reach)) c.write_settled.ensures.bare
 
 pub returns-clause-room : goal.returns-clause-room
 returns-clause-room g c =

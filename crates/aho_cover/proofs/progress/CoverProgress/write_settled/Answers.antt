@@ -60,9 +60,9 @@ returns-clause-sound g c =
     let d = (goal.at.returns-clause-sound g c).After-write_outside in
     if_ok c.write_outside.result _ _ (λ is. (after g d is).0) c.write_outside.ensures.copied
 
-pub returns-clause-open : goal.returns-clause-open
-returns-clause-open g c =
-    let d = (goal.at.returns-clause-open g c).After-write_outside in
+pub returns-clause-bare : goal.returns-clause-bare
+returns-clause-bare g c =
+    let d = (goal.at.returns-clause-bare g c).After-write_outside in
     if_ok c.write_outside.result _ _ (λ is. (after g d is).1) c.write_outside.ensures.copied
 
 -- what was written of the runs
