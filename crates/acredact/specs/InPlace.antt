@@ -1,32 +1,36 @@
 -- What becomes of files that are replaced in place: of each a new one is filled, and takes its place where all was done.
 use Rattle.std.specs.Prelude.{◌≡◌, ◌⊎◌, ℕ, Bool, true, false, List, [], ◌∷◌, Option, Result, Ok}
 use Rattle.std.specs.declared.io.traits.Read.{Ghosts as Readers}
+use Rattle.std.specs.declared.io.traits.Write.{Ghosts as Writers}
 use Rattle.aho_core.specs.Patterns.{Patterns}
 use Rattle.aho_devices.specs.declared.adapters.FromRead.{FromRead}
+use Rattle.aho_devices.specs.declared.adapters.FromWrite.{FromWrite}
 use Rattle.programs.specs.Names.{is_input}
-use Rattle.programs.specs.Streams.{bytes_left}
+use Rattle.programs.specs.Streams.{bytes_left, output_bytes}
 use Rattle.acredact.specs.Arguments.{Given}
 use Rattle.acredact.specs.Calls.{call_of, names_asked, reading_by, work_by}
 use Rattle.acredact.specs.Files.{AreRedacted, Work, redactor_of, work_of}
 use Rattle.acredact.specs.Into.{LeavesOld}
 use Rattle.acredact.specs.Loading.{AreGiven}
-use Rattle.acredact.specs.Tables.{Secret}
+use Rattle.acredact.specs.Tables.{Secret, secrets_of}
 use Rattle.acredact.specs.declared.files.Job.{Job}
 use Rattle.acredact.specs.declared.folder.Folder.{Ghosts as Folders}
 use Rattle.acredact.specs.declared.outputs.Outputs.{Ghosts as Places}
+use Rattle.acredact.specs.declared.patterns.Rule.{Rule}
 
-module _ {O Z : Type 0} (U : Places O Z) (work : Work) where
-  -- a new file was made, all of the file of this name was redacted into it, and then it took its place
+module _ {O Z : Type 0} (Writes : Writers Z) (U : Places O Z) (work : Work) where
+  -- a new file was made, all of the file of this name was redacted into it and flushed, and then it took its place
   pub record IsReplaced (name : List ℕ) (outputs outputs' : O) : Type 0 where
     pub named : is_input name ≡ false
-    pub held : Option (List ℕ)
-    pub held' : Option (List ℕ)
+    pub file : FromWrite Z
+    pub file' : FromWrite Z
     pub left : Option (List ℕ)
     pub left' : Option (List ℕ)
     pub meanwhile : O
-    pub made : U.makes outputs meanwhile name held
-    pub redacted : AreRedacted work (name ∷ []) left left' held held'
-    pub puts : U.puts meanwhile outputs' name held'
+    pub made : U.makes outputs meanwhile name (output_bytes Writes file)
+    pub redacted : AreRedacted work (name ∷ []) left left' (output_bytes Writes file) (output_bytes Writes file')
+    pub flushed : file'.device.flushed ≡ true
+    pub puts : U.puts meanwhile outputs' name (output_bytes Writes file')
 
   -- or what has the name is as it was; standard input has none
   abbrev pub IsSpared : List ℕ → (outputs outputs' : O) → Type 0
@@ -53,13 +57,17 @@ module _ {O Z : Type 0} (U : Places O Z) (work : Work) where
     pub all : result ≡ Ok true → AreReplacedAll work.names outputs outputs'
     pub whole : AreWhole work.names outputs outputs'
 
-module _ {F X O Z : Type 0} (D : Folders F X) (U : Places O Z) where
+module _ {F X O Z : Type 0} (Writes : Writers Z) (D : Folders F X) (U : Places O Z) where
   -- the same of a job, where files are redacted by these patterns
   abbrev pub PlaceJob : {Y : Type 0} → Job F → List ℕ → Patterns → Result Bool Y → (outputs outputs' : O) → Type 0
-  PlaceJob job name p result outputs outputs' = PlaceOutcome U (work_of D job (redactor_of job p)) name result outputs outputs'
+  PlaceJob job name p result outputs outputs' = PlaceOutcome Writes U (work_of D job (redactor_of job p)) name result outputs outputs'
 
   abbrev pub PlacesJob : {Y : Type 0} → Job F → Patterns → Result Bool Y → (outputs outputs' : O) → Type 0
-  PlacesJob job p result outputs outputs' = PlacesOutcome U (work_of D job (redactor_of job p)) result outputs outputs'
+  PlacesJob job p result outputs outputs' = PlacesOutcome Writes U (work_of D job (redactor_of job p)) result outputs outputs'
+
+  -- and of a call whose patterns were loaded as these rules
+  abbrev pub LoadedPlaces : {Y : Type 0} → F → List Given → List Rule → Result Bool Y → (outputs outputs' : O) → Type 0
+  LoadedPlaces folder given rules result outputs outputs' = PlacesOutcome Writes U (work_by (call_of D folder given) (secrets_of rules)) result outputs outputs'
 
   module _ (folder : F) (left : Option (List ℕ)) (outputs outputs' : O) (given : List Given) where
     -- all patterns were loaded, of the input with so many bytes left, and each file was replaced
@@ -67,20 +75,20 @@ module _ {F X O Z : Type 0} (D : Folders F X) (U : Places O Z) where
       pub secrets : List Secret
       pub between : Option (List ℕ)
       pub loaded : AreGiven (reading_by (call_of D folder given)) given secrets left between
-      pub replaced : AreReplacedAll U (work_by (call_of D folder given) secrets) (names_asked given) outputs outputs'
+      pub replaced : AreReplacedAll Writes U (work_by (call_of D folder given) secrets) (names_asked given) outputs outputs'
 
     -- they were, and each file was replaced or spared
     pub record SparesAsked : Type 0 where
       pub secrets : List Secret
       pub between : Option (List ℕ)
       pub loaded : AreGiven (reading_by (call_of D folder given)) given secrets left between
-      pub whole : AreWhole U (work_by (call_of D folder given) secrets) (names_asked given) outputs outputs'
+      pub whole : AreWhole Writes U (work_by (call_of D folder given) secrets) (names_asked given) outputs outputs'
 
     -- or no file was made
-    abbrev pub KeepsAsked : Type 0
-    KeepsAsked = (outputs' ≡ outputs) ⊎ SparesAsked
+    abbrev pub KeepsEach : Type 0
+    KeepsEach = (outputs' ≡ outputs) ⊎ SparesAsked
 
   -- what comes of a call
   pub record AskedPlaces {Y R : Type 0} {Reads : Readers R} (folder : F) (given : List Given) (result : Result Bool Y) (input : FromRead R Reads) (outputs outputs' : O) : Type 0 where
     pub replaces : result ≡ Ok true → ReplacesAsked folder (bytes_left input) outputs outputs' given
-    pub keeps : KeepsAsked folder (bytes_left input) outputs outputs' given
+    pub keeps : KeepsEach folder (bytes_left input) outputs outputs' given

@@ -5,9 +5,9 @@ ghost use Rattle.programs.specs.Arguments.{texts};
 ghost use Rattle.programs.specs.Streams.{bytes_left, output_bytes};
 ghost use Rattle.acredact.specs.Arguments.{AreMistaken, AsksInPlace, IfAsked, all_given};
 ghost use Rattle.acredact.specs.Back.{AreBoth, IfBackIs};
-ghost use Rattle.acredact.specs.Calls.{IsWrongFailure, call_of, work_by};
+ghost use Rattle.acredact.specs.Calls.{IsWrongFailure};
 ghost use Rattle.acredact.specs.Files.{CanDo};
-ghost use Rattle.acredact.specs.InPlace.{AskedPlaces, KeepsAsked, PlaceJob, PlacesJob, PlacesOutcome, ReplacesAsked};
+ghost use Rattle.acredact.specs.InPlace.{AskedPlaces, KeepsEach, LoadedPlaces, PlaceJob, PlacesJob, ReplacesAsked};
 ghost use Rattle.acredact.specs.Into.{IsKept};
 ghost use Rattle.acredact.specs.Secrets.{IfOf};
 ghost use Rattle.acredact.specs.Tables.{HaveNoEmpty, secrets_of};
@@ -64,12 +64,12 @@ pub fn replace_in_place<F: Folder, O: Outputs, I: Read + Drop, E: Sink + Drop>(
     // Wrong arguments are found before a file is made.
     ensures wrong { AreMistaken arguments.now → result ≡ 2 }
     ensures unmade { AreMistaken arguments.now → outputs.new ≡ outputs.old }
-    // Where the status is 0, each file was redacted into a new one, which took its place.
-    ensures replaces { IfAsked arguments.now (λ given. result ≡ 0
-        → ReplacesAsked F.Folder O.Outputs folder.now (I.remaining input) outputs.old outputs.new given) }
+    // Where the status is 0, each file was redacted into a new one, which was flushed and took its place.
+    ensures replaces { IfAsked arguments.now (λ given. result ≡ 0 → ReplacesAsked O.File.Write
+        F.Folder O.Outputs folder.now (I.remaining input) outputs.old outputs.new given) }
     // Whatever it is, each file was replaced by its whole redaction, or is as it was.
     ensures keeps { IfAsked arguments.now
-        (KeepsAsked F.Folder O.Outputs folder.now (I.remaining input) outputs.old outputs.new) }
+        (KeepsEach O.File.Write F.Folder O.Outputs folder.now (I.remaining input) outputs.old outputs.new) }
     ensures bound { result ≤ 2 }
 {
     let mut errors = errors;
@@ -94,9 +94,9 @@ fn answer_places<F: Folder, O: Outputs, I: Read, E: Sink>(
     outputs: &mut O,
     streams: &mut Streams<'_, I, O::File, E>,
 ) -> u8
-    ensures replaces { result ≡ 0 → ReplacesAsked F.Folder O.Outputs folder.now
+    ensures replaces { result ≡ 0 → ReplacesAsked O.File.Write F.Folder O.Outputs folder.now
         (bytes_left streams.old.input) outputs.old outputs.new (all_given given.now) }
-    ensures keeps { KeepsAsked F.Folder O.Outputs folder.now (bytes_left streams.old.input)
+    ensures keeps { KeepsEach O.File.Write F.Folder O.Outputs folder.now (bytes_left streams.old.input)
         outputs.old outputs.new (all_given given.now) }
     ensures bound { result ≤ 2 }
 {
@@ -115,7 +115,7 @@ fn load_places<'a, F: Folder, O: Outputs, I: Read, E: Sink>(
     outputs: &mut O,
     streams: &mut Streams<'_, I, O::File, E>,
 ) -> Result<bool, Failure<'a>>
-    ensures outcome { AskedPlaces F.Folder O.Outputs folder.now (all_given given.now) result
+    ensures outcome { AskedPlaces O.File.Write F.Folder O.Outputs folder.now (all_given given.now) result
         streams.old.input outputs.old outputs.new }
 {
     if !gives_pattern(given) {
@@ -138,9 +138,8 @@ fn place_counted<'a, F: Folder, O: Outputs, I: Read, E: Sink>(
     streams: &mut Streams<'_, I, O::File, E>,
 ) -> Result<bool, Failure<'a>>
     requires some { HaveNoEmpty (secrets_of rules.now) }
-    ensures outcome { PlacesOutcome O.Outputs
-        (work_by (call_of F.Folder folder.now (all_given given.now)) (secrets_of rules.now))
-        result outputs.old outputs.new }
+    ensures outcome { LoadedPlaces O.File.Write F.Folder O.Outputs
+        folder.now (all_given given.now) rules.now result outputs.old outputs.new }
 {
     let counted = counts(given);
     let mut tally = counts_of(alloc, rules, counted)?;
@@ -174,9 +173,8 @@ fn place_all<'a, F: Folder, O: Outputs, I: Read, E: Sink>(
     streams: &mut Streams<'_, I, O::File, E>,
 ) -> Result<bool, Failure<'a>>
     requires some { HaveNoEmpty (secrets_of rules.now) }
-    ensures outcome { PlacesOutcome O.Outputs
-        (work_by (call_of F.Folder folder.now (all_given given.now)) (secrets_of rules.now))
-        result outputs.old outputs.new }
+    ensures outcome { LoadedPlaces O.File.Write F.Folder O.Outputs
+        folder.now (all_given given.now) rules.now result outputs.old outputs.new }
 {
     let patterns = patterns_of(alloc, rules)?;
     let text = text_of(given);
@@ -242,7 +240,8 @@ fn place_warned<
     requires back { AreBoth A.Automaton C.Automaton automaton.now back }
     requires words { length judge.now.rules.now ≡ length judge.now.words.now }
     ensures outcome { IfOf A.Automaton automaton.now (λ p. IfSome rows.entry (λ rows. B.is_of rows.now p)
-        → IfBackIs C.Automaton back.entry p (PlacesJob F.Folder O.Outputs job.now p result outputs.old outputs.new)) }
+        → IfBackIs C.Automaton back.entry p
+        (PlacesJob O.File.Write F.Folder O.Outputs job.now p result outputs.old outputs.new)) }
 {
     let unclean = unclean_of(automaton, judge, job.covers);
     // Not by `?`: this error may hold names.
@@ -267,7 +266,8 @@ fn place_each<A: Automaton, B: Automaton, C: Automaton, F: Folder, O: Outputs, I
     requires rows { IfSome rows (λ rows. CanDo B.Automaton rows.now job.now) }
     requires back { AreBoth A.Automaton C.Automaton automaton.now back }
     ensures outcome { IfOf A.Automaton automaton.now (λ p. IfSome rows.entry (λ rows. B.is_of rows.now p)
-        → IfBackIs C.Automaton back.entry p (PlacesJob F.Folder O.Outputs job.now p result outputs.old outputs.new)) }
+        → IfBackIs C.Automaton back.entry p
+        (PlacesJob O.File.Write F.Folder O.Outputs job.now p result outputs.old outputs.new)) }
 {
     let mut all = true;
     let mut rest = job.names;
@@ -298,7 +298,7 @@ fn place_one<A: Automaton, B: Automaton, C: Automaton, F: Folder, O: Outputs, I:
     requires back { AreBoth A.Automaton C.Automaton automaton.now back }
     ensures outcome { IfOf A.Automaton automaton.now (λ p. IfSome rows.entry (λ rows. B.is_of rows.now p)
         → IfBackIs C.Automaton back.entry p
-        (PlaceJob F.Folder O.Outputs job.now name.now p result outputs.old outputs.new)) }
+        (PlaceJob O.File.Write F.Folder O.Outputs job.now name.now p result outputs.old outputs.new)) }
 {
     if is_input(name) {
         tell_no_file(&mut streams.errors, name);

@@ -102,37 +102,37 @@ pub returns-in_err-patterns : goal.returns-in_err-patterns
 returns-in_err-patterns g c =
     let work = work_by (call_of g.F.Folder c.args.folder.now (all_given c.args.given.now)) (secrets_of c.args.rules.now) in
     let is : c.from_residual.result ≡ Err (Other OutOfMemory) = search rules in
-    record { outcome = subst (λ (r : Result Bool Failure). PlacesOutcome g.O.Outputs work r c.args.outputs.now c.args.outputs.now) (sym is) (places_none g.O.Outputs work _ _) }
+    record { outcome = subst (λ (r : Result Bool Failure). PlacesOutcome g.O.File.Write g.O.Outputs work r c.args.outputs.now c.args.outputs.now) (sym is) (places_none g.O.File.Write g.O.Outputs work _ _) }
 
 pub returns-in_err-replacements : goal.returns-in_err-replacements
 returns-in_err-replacements g c =
     let work = work_by (call_of g.F.Folder c.args.folder.now (all_given c.args.given.now)) (secrets_of c.args.rules.now) in
     let is : c.from_residual-in_err-replacements.result ≡ Err (Other OutOfMemory) = search rules in
-    record { outcome = subst (λ (r : Result Bool Failure). PlacesOutcome g.O.Outputs work r c.args.outputs.now c.args.outputs.now) (sym is) (places_none g.O.Outputs work _ _) }
+    record { outcome = subst (λ (r : Result Bool Failure). PlacesOutcome g.O.File.Write g.O.Outputs work r c.args.outputs.now c.args.outputs.now) (sym is) (places_none g.O.File.Write g.O.Outputs work _ _) }
 
 pub returns-in_err-names : goal.returns-in_err-names
 returns-in_err-names g c =
     let work = work_by (call_of g.F.Folder c.args.folder.now (all_given c.args.given.now)) (secrets_of c.args.rules.now) in
     let is : c.from_residual-in_err-names.result ≡ Err (Other OutOfMemory) = search rules in
-    record { outcome = subst (λ (r : Result Bool Failure). PlacesOutcome g.O.Outputs work r c.args.outputs.now c.args.outputs.now) (sym is) (places_none g.O.Outputs work _ _) }
+    record { outcome = subst (λ (r : Result Bool Failure). PlacesOutcome g.O.File.Write g.O.Outputs work r c.args.outputs.now c.args.outputs.now) (sym is) (places_none g.O.File.Write g.O.Outputs work _ _) }
 
 pub returns-in_err-nfa : goal.returns-in_err-nfa
 returns-in_err-nfa g c =
     let work = work_by (call_of g.F.Folder c.args.folder.now (all_given c.args.given.now)) (secrets_of c.args.rules.now) in
     let is : c.from_residual-in_err-nfa.result ≡ Err (Other (Build c.in_err-nfa.field-0.0)) = search rules in
-    record { outcome = subst (λ (r : Result Bool Failure). PlacesOutcome g.O.Outputs work r c.args.outputs.now c.args.outputs.now) (sym is) (places_none g.O.Outputs work _ _) }
+    record { outcome = subst (λ (r : Result Bool Failure). PlacesOutcome g.O.File.Write g.O.Outputs work r c.args.outputs.now c.args.outputs.now) (sym is) (places_none g.O.File.Write g.O.Outputs work _ _) }
 
 pub returns-in_err-rows : goal.returns-in_err-rows
 returns-in_err-rows g c =
     let work = work_by (call_of g.F.Folder c.args.folder.now (all_given c.args.given.now)) (secrets_of c.args.rules.now) in
     let is : c.from_residual-in_err-rows.result ≡ Err (Other OutOfMemory) = search rules in
-    record { outcome = subst (λ (r : Result Bool Failure). PlacesOutcome g.O.Outputs work r c.args.outputs.now c.args.outputs.now) (sym is) (places_none g.O.Outputs work _ _) }
+    record { outcome = subst (λ (r : Result Bool Failure). PlacesOutcome g.O.File.Write g.O.Outputs work r c.args.outputs.now c.args.outputs.now) (sym is) (places_none g.O.File.Write g.O.Outputs work _ _) }
 
 pub returns-in_err-back : goal.returns-in_err-back
 returns-in_err-back g c =
     let work = work_by (call_of g.F.Folder c.args.folder.now (all_given c.args.given.now)) (secrets_of c.args.rules.now) in
     let is : c.from_residual-in_err-back.result ≡ Err (Other OutOfMemory) = search rules in
-    record { outcome = subst (λ (r : Result Bool Failure). PlacesOutcome g.O.Outputs work r c.args.outputs.now c.args.outputs.now) (sym is) (places_none g.O.Outputs work _ _) }
+    record { outcome = subst (λ (r : Result Bool Failure). PlacesOutcome g.O.File.Write g.O.Outputs work r c.args.outputs.now c.args.outputs.now) (sym is) (places_none g.O.File.Write g.O.Outputs work _ _) }
 
 pub returns : goal.returns
 returns g c =
@@ -141,6 +141,6 @@ returns g c =
     record {
       outcome =
           work_as (g.F.Folder.holds c.args.folder.now) (g.F.Folder.refuses c.args.folder.now) (g.F.Folder.meets c.args.folder.now) p _ _ _ _ _ _ (names_are g after) (covers_are g after) (pieces_are g after)
-          (λ w. PlacesOutcome g.O.Outputs w c.place_warned.result c.args.outputs.now c.place_warned.new.outputs) (c.place_warned.ensures.outcome p (nfa_is g after) (rows_are g after)
+          (λ w. PlacesOutcome g.O.File.Write g.O.Outputs w c.place_warned.result c.args.outputs.now c.place_warned.new.outputs) (c.place_warned.ensures.outcome p (nfa_is g after) (rows_are g after)
           (back_is (all_given c.args.given.now) _ _ c.in_ok-back.back c.as_ref-2.result (words_are g after) c.as_ref-2.ensures.value c.in_ok-back.ensures.of));
     }

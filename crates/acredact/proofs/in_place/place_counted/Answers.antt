@@ -15,10 +15,10 @@ pub returns-in_err-tally : goal.returns-in_err-tally
 returns-in_err-tally g c =
     let work = work_by (call_of g.F.Folder c.args.folder.now (all_given c.args.given.now)) (secrets_of c.args.rules.now) in
     let is : c.from_residual.result ≡ Err (Other OutOfMemory) = search rules in
-    record { outcome = subst (λ (r : Result Bool Failure). PlacesOutcome g.O.Outputs work r c.args.outputs.now c.args.outputs.now) (sym is) (places_none g.O.Outputs work _ _) }
+    record { outcome = subst (λ (r : Result Bool Failure). PlacesOutcome g.O.File.Write g.O.Outputs work r c.args.outputs.now c.args.outputs.now) (sym is) (places_none g.O.File.Write g.O.Outputs work _ _) }
 
 pub returns-in-Ok : goal.returns-in-Ok
-returns-in-Ok g c = record { outcome = places_told g.O.Outputs _ c.in-Ok.all _ _ _ c.in-Ok.ensures.outcome c.tell_counted.ensures.all }
+returns-in-Ok g c = record { outcome = places_told g.O.File.Write g.O.Outputs _ c.in-Ok.all _ _ _ c.in-Ok.ensures.outcome c.tell_counted.ensures.all }
 
 pub returns-in-Err : goal.returns-in-Err
-returns-in-Err g c = record { outcome = places_fail g.O.Outputs _ _ _ _ _ c.in-Err.ensures.outcome }
+returns-in-Err g c = record { outcome = places_fail g.O.File.Write g.O.Outputs _ _ _ _ _ c.in-Err.ensures.outcome }

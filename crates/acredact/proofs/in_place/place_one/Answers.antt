@@ -4,7 +4,7 @@ use Rattle.std.specs.Prelude.{Bool, Ok, Result}
 use Rattle.programs.specs.Streams.{bytes_left, output_bytes}
 use Rattle.programs.specs.Names.{is_input}
 use Rattle.acredact.specs.Files.{redactor_of, work_of}
-use Rattle.acredact.proofs.Placed.{all_redacted}
+use Rattle.acredact.proofs.Placed.{all_redacted, flushed_so}
 use Rattle.acredact.proofs.in_place.place_one.Goals as goal
 
 pub returns-then-is_input : goal.returns-then-is_input
@@ -30,13 +30,14 @@ returns-in-Ok g c = record {
       record {
         replaced = λ is. record {
           named = named;
-          held = _;
-          held' = _;
+          file = c.new-in-Ok.result;
+          file' = c.redact_by-done.new.streams.output;
           left = _;
           left' = _;
           meanwhile = c.make.new.self;
           made = subst (λ file. g.O.Outputs.makes c.args.outputs.now c.make.new.self c.args.name.now (g.O.File.Write.contents file)) (sym c.new-in-Ok.ensures.writer) c.in-Ok.ensures.made;
           redacted = all_redacted g.O.File.Write g.E.Sink _ c.redact_by-done.result _ _ (c.redact_by-done.ensures.outcome p of rows back) (c.settle.ensures.done is);
+          flushed = flushed_so c.redact_by-done.result c.redact_by-done.ensures.flushed (c.settle.ensures.done is);
           puts = c.settle.ensures.puts is;
         };
         spared = λ not. inr (inr (record { held = _; meanwhile = c.make.new.self; made = c.in-Ok.ensures.made; kept = c.settle.ensures.kept not }));

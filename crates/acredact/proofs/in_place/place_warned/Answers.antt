@@ -23,19 +23,19 @@ returns-in_err-place_each-in-Ok g c = record {
       λ p of rows back.
       let work = work_of g.F.Folder c.args.job.now (redactor_of c.args.job.now p) in
       let is : c.from_residual.result ≡ Err (Other (failure_of_stream c.in_err-place_each-in-Ok.field-0.0)) = search rules in
-      subst (λ (r : Result Bool Failure). PlacesOutcome g.O.Outputs work r c.args.outputs.now c.place_each.new.outputs) (sym is)
-      (places_fail g.O.Outputs work _ _ _ _ (c.in_err-place_each-in-Ok.ensures.outcome p of rows back));
+      subst (λ (r : Result Bool Failure). PlacesOutcome g.O.File.Write g.O.Outputs work r c.args.outputs.now c.place_each.new.outputs) (sym is)
+      (places_fail g.O.File.Write g.O.Outputs work _ _ _ _ (c.in_err-place_each-in-Ok.ensures.outcome p of rows back));
 }
 
 pub returns-in_ok-place_each-in-Ok : goal.returns-in_ok-place_each-in-Ok
 returns-in_ok-place_each-in-Ok g c = record {
   outcome =
       λ p of rows back.
-      places_done g.O.Outputs _ _ _ _ (c.in_ok-place_each-in-Ok.ensures.outcome p of rows back);
+      places_done g.O.File.Write g.O.Outputs _ _ _ _ (c.in_ok-place_each-in-Ok.ensures.outcome p of rows back);
 }
 
 pub returns-in-Err : goal.returns-in-Err
 returns-in-Err g c = record {
   outcome =
-      λ p of rows back. places_none g.O.Outputs _ _ _;
+      λ p of rows back. places_none g.O.File.Write g.O.Outputs _ _ _;
 }

@@ -3,7 +3,7 @@ use Rattle.std.proofs.Common.{◌≡◌, inl, ℕ, List, Option, ap, refl, sym, 
 use Rattle.std.specs.Prelude.{None, Some}
 use Rattle.programs.specs.Arguments.{texts}
 use Rattle.acredact.specs.Arguments.{AsksToRedact, Given, all_asked, all_given}
-use Rattle.acredact.specs.InPlace.{KeepsAsked, ReplacesAsked}
+use Rattle.acredact.specs.InPlace.{KeepsEach, ReplacesAsked}
 use Rattle.acredact.proofs.Given.{same_given}
 use Rattle.acredact.proofs.in_place.replace_in_place.Goals as goal
 
@@ -17,11 +17,11 @@ returns-in-Ok g c =
       wrong = λ wrong. let clash : None ≡ Some items = sym wrong ∙ mine in absurd (cc);
       unmade = λ wrong. let clash : None ≡ Some items = sym wrong ∙ mine in absurd (cc);
       replaces = λ given right asks zero.
-          subst (λ (l : List Given). ReplacesAsked g.F.Folder g.O.Outputs c.args.folder.now (g.I.Read.remaining c.args.input) c.args.outputs.now c.answer_places.new.outputs l) (same given right)
-          (subst (λ (bytes : Option (List ℕ)). ReplacesAsked g.F.Folder g.O.Outputs c.args.folder.now bytes c.args.outputs.now c.answer_places.new.outputs items) left (c.answer_places.ensures.replaces zero));
+          subst (λ (l : List Given). ReplacesAsked g.O.File.Write g.F.Folder g.O.Outputs c.args.folder.now (g.I.Read.remaining c.args.input) c.args.outputs.now c.answer_places.new.outputs l) (same given right)
+          (subst (λ (bytes : Option (List ℕ)). ReplacesAsked g.O.File.Write g.F.Folder g.O.Outputs c.args.folder.now bytes c.args.outputs.now c.answer_places.new.outputs items) left (c.answer_places.ensures.replaces zero));
       keeps = λ given right asks.
-          subst (λ (l : List Given). KeepsAsked g.F.Folder g.O.Outputs c.args.folder.now (g.I.Read.remaining c.args.input) c.args.outputs.now c.answer_places.new.outputs l) (same given right)
-          (subst (λ (bytes : Option (List ℕ)). KeepsAsked g.F.Folder g.O.Outputs c.args.folder.now bytes c.args.outputs.now c.answer_places.new.outputs items) left c.answer_places.ensures.keeps);
+          subst (λ (l : List Given). KeepsEach g.O.File.Write g.F.Folder g.O.Outputs c.args.folder.now (g.I.Read.remaining c.args.input) c.args.outputs.now c.answer_places.new.outputs l) (same given right)
+          (subst (λ (bytes : Option (List ℕ)). KeepsEach g.O.File.Write g.F.Folder g.O.Outputs c.args.folder.now bytes c.args.outputs.now c.answer_places.new.outputs items) left c.answer_places.ensures.keeps);
       bound = c.answer_places.ensures.bound;
     }
 
