@@ -62,12 +62,12 @@ fn main(rt: HostRuntime) -> ExitCode {
     let reason = Cell::new(None);
     let mut errors = Errors::new(FromWrite::new(Quiet::new(rt.stderr(), &reason)), &reason);
     if let Ok(arguments) = &given {
-        match asks_in_place(rt.alloc(), arguments.as_slice()) {
+        let arguments = arguments.as_slice();
+        let folder = Host::new(&rt);
+        let mut outputs = Beside::new(rt.alloc(), &rt, &reason);
+        match asks_in_place(rt.alloc(), arguments) {
             Ok(false) => {}
             Ok(true) => {
-                let mut outputs = Beside::new(rt.alloc(), &rt, &reason);
-                let folder = Host::new(&rt);
-                let arguments = arguments.as_slice();
                 return ExitCode::from(replace_in_place(
                     rt.alloc(),
                     arguments,
@@ -79,12 +79,9 @@ fn main(rt: HostRuntime) -> ExitCode {
             }
             Err(failure) => return ExitCode::from(report(&failure, &mut errors)),
         }
-        match named_output(rt.alloc(), arguments.as_slice()) {
+        match named_output(rt.alloc(), arguments) {
             Ok(None) => {}
             Ok(Some(name)) => {
-                let mut outputs = Beside::new(rt.alloc(), &rt, &reason);
-                let folder = Host::new(&rt);
-                let arguments = arguments.as_slice();
                 return ExitCode::from(make_and_run(
                     rt.alloc(),
                     arguments,
