@@ -20,5 +20,5 @@ returns-in_err-tally g c =
 pub returns-in-Ok : goal.returns-in-Ok
 returns-in-Ok g c = record { outcome = places_told g.O.File.Write g.O.Outputs _ c.in-Ok.all _ _ _ c.in-Ok.ensures.outcome c.tell_counted.ensures.all }
 
-pub returns-in-Err : goal.returns-in-Err
-returns-in-Err g c = record { outcome = places_fail g.O.File.Write g.O.Outputs _ _ _ _ _ c.in-Err.ensures.outcome }
+pub returns : goal.returns
+returns g c = record { outcome = places_fail g.O.File.Write g.O.Outputs _ _ _ _ _ c.in-Err.ensures.outcome }

@@ -1,5 +1,5 @@
 -- A file more is come to.
-use Rattle.std.proofs.Common.{rules, ◌≡◌, ◌≤◌, ℕ, List, length, subst, sym, true}
+use Rattle.std.proofs.Common.{rules, ◌≡◌, ◌≤◌, ◌∙◌, ℕ, List, length, subst, sym, true}
 use Rattle.std.specs.Prelude.{Bool, Result, Err, Ok}
 use Rattle.aho_core.specs.declared.error.stream.StreamError.{StreamError}
 use Rattle.programs.specs.Names.{name_bytes}

@@ -30,12 +30,12 @@ returns-in-Ok g c = record {
       record {
         replaced = λ is. record {
           named = named;
-          file = c.new-in-Ok.result;
+          file = c.new.result;
           file' = c.redact_by-done.new.streams.output;
           left = _;
           left' = _;
           meanwhile = c.make.new.self;
-          made = subst (λ file. g.O.Outputs.makes c.args.outputs.now c.make.new.self c.args.name.now (g.O.File.Write.contents file)) (sym c.new-in-Ok.ensures.writer) c.in-Ok.ensures.made;
+          made = subst (λ file. g.O.Outputs.makes c.args.outputs.now c.make.new.self c.args.name.now (g.O.File.Write.contents file)) (sym c.new.ensures.writer) c.in-Ok.ensures.made;
           redacted = all_redacted g.O.File.Write g.E.Sink _ c.redact_by-done.result _ _ (c.redact_by-done.ensures.outcome p of rows back) (c.settle.ensures.done is);
           flushed = flushed_so c.redact_by-done.result c.redact_by-done.ensures.flushed (c.settle.ensures.done is);
           puts = c.settle.ensures.puts is;
