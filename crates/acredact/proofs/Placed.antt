@@ -1,5 +1,5 @@
 -- What becomes of files that are replaced in place, one after another.
-use Rattle.std.proofs.Common.{◌≡◌, inl, inr, ℕ, List, [], ◌∷◌, Option, true, false, refl, sym, ap, subst, ◌∙◌}
+use Rattle.std.proofs.Common.{◌≡◌, inl, inr, ℕ, List, [], ◌∷◌, true, false, refl, sym, ap, ◌∙◌}
 use Rattle.std.specs.Prelude.{◌⊎◌, Bool, ◌&&◌, Result, Ok, Err, IfOk, OnOk}
 use Rattle.std.specs.declared.io.traits.Read.{Ghosts as Readers}
 use Rattle.std.specs.declared.io.traits.Write.{Ghosts as Writers}

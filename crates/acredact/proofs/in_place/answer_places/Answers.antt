@@ -1,6 +1,6 @@
 -- The status is that of the call.
-use Rattle.std.proofs.Common.{rules, ◌≡◌, sym, ◌∙◌, arith, true, false}
-use Rattle.std.specs.Prelude.{Ok, Err}
+use Rattle.std.proofs.Common.{rules, ◌≡◌, arith, true}
+use Rattle.std.specs.Prelude.{Ok}
 use Rattle.acredact.proofs.in_place.answer_places.Goals as goal
 
 pub returns-in-Ok-true : goal.returns-in-Ok-true

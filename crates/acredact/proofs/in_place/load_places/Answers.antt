@@ -4,7 +4,6 @@ use Rattle.std.specs.Prelude.{Err, Ok}
 use Rattle.programs.specs.Streams.{bytes_left}
 use Rattle.acredact.specs.Arguments.{all_given}
 use Rattle.acredact.specs.Calls.{call_of, reading_by, rules_asked}
-use Rattle.acredact.specs.InPlace.{AskedPlaces}
 use Rattle.acredact.specs.Loading.{AreGiven}
 use Rattle.acredact.specs.Tables.{HaveNoEmpty, Secret, secrets_of}
 use Rattle.acredact.specs.declared.arguments.Mistake.TheVariants.{NoPattern}

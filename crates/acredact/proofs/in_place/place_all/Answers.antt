@@ -1,5 +1,5 @@
 -- Both automata are of the patterns that are asked for, and there is a replacement for each.
-use Rattle.std.proofs.Common.{rules, refl, ◌≡◌, ◌≤◌, ◌∙◌, ap, sym, subst, length, map, true, List, ℕ}
+use Rattle.std.proofs.Common.{rules, ◌≡◌, ◌≤◌, ◌∙◌, ap, sym, subst, length, map, true, List, ℕ}
 use Rattle.std.specs.Option.{option_map}
 use Rattle.std.specs.Prelude.{Bool, IfSome, IsOk, None, Option, Some, Err, Result}
 use Rattle.std.specs.Borrow.{Bor}
@@ -17,20 +17,15 @@ use Rattle.aho_hybrid.specs.declared.hybrid.Hybrid.{Hybrid}
 use Rattle.aho_corasick.specs.declared.noncontiguous.NFA.{NFA}
 use Rattle.aho_backward.specs.Searcher.{IsBackwardOf}
 use Rattle.aho_backward.specs.declared.backward.Backward.{Backward}
-use Rattle.programs.specs.Asked.{ArePatterns}
 use Rattle.programs.specs.Names.{name_bytes}
-use Rattle.programs.specs.Streams.{bytes_left}
 use Rattle.acredact.specs.Arguments.{Given, all_given, covers_asked, has}
 use Rattle.acredact.specs.Back.{AreBoth, IsBackAsked}
-use Rattle.acredact.specs.Builds.{RefusesPatterns, patterns_by_given}
+use Rattle.acredact.specs.Builds.{patterns_by_given}
 use Rattle.acredact.specs.Calls.{call_of, names_asked, pieces_asked, work_by}
 use Rattle.acredact.specs.InPlace.{PlacesOutcome}
 use Rattle.acredact.specs.Secrets.{CanRedact}
 use Rattle.acredact.specs.Tables.{patterns_in, piece_by, secret_of, secrets_of}
-use Rattle.acredact.specs.Totals.{CountsWork}
-use Rattle.acredact.specs.Volumes.{ReadsVolume}
 use Rattle.acredact.specs.declared.failure.Failure.{Failure}
-use Rattle.acredact.specs.declared.arguments.Word.TheVariants.{Strict}
 use Rattle.acredact.specs.declared.failure.Failure.TheVariants.{Other}
 use Rattle.programs.specs.declared.failure.Failure.TheVariants.{Build, OutOfMemory}
 use Rattle.programs.proofs.Lent.{lent}

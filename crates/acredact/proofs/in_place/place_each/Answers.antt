@@ -1,10 +1,8 @@
 -- A file more is come to.
 use Rattle.std.proofs.Common.{rules, ◌≡◌, ◌≤◌, ◌∙◌, ℕ, List, length, subst, sym, true}
-use Rattle.std.specs.Prelude.{Bool, Result, Err, Ok}
-use Rattle.aho_core.specs.declared.error.stream.StreamError.{StreamError}
+use Rattle.std.specs.Prelude.{Err, Ok}
 use Rattle.programs.specs.Names.{name_bytes}
 use Rattle.acredact.specs.Files.{redactor_of, work_of}
-use Rattle.acredact.specs.InPlace.{PlacesOutcome}
 use Rattle.acredact.proofs.Done.{names_cut, names_end}
 use Rattle.acredact.proofs.Placed.{PlacedSoFar, placed_all, placed_cut, placed_next, placed_none}
 use Rattle.acredact.proofs.in_place.place_each.Goals as goal

@@ -1,9 +1,7 @@
 -- A new file is made, filled, and takes the place; or the file stays as it was.
-use Rattle.std.proofs.Common.{rules, ◌≡◌, inl, inr, refl, sym, subst, ◌∙◌, true, false}
-use Rattle.std.specs.Prelude.{Bool, Ok, Result}
-use Rattle.programs.specs.Streams.{bytes_left, output_bytes}
+use Rattle.std.proofs.Common.{rules, ◌≡◌, inl, inr, refl, sym, subst, true, false}
+use Rattle.std.specs.Prelude.{Ok}
 use Rattle.programs.specs.Names.{is_input}
-use Rattle.acredact.specs.Files.{redactor_of, work_of}
 use Rattle.acredact.proofs.Placed.{all_redacted, flushed_so}
 use Rattle.acredact.proofs.in_place.place_one.Goals as goal
 

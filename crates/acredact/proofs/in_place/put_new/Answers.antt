@@ -1,5 +1,5 @@
 -- The new file takes the place, or is removed.
-use Rattle.std.proofs.Common.{◌≡◌, inr, refl, true, false}
+use Rattle.std.proofs.Common.{◌≡◌, inr, true, false}
 use Rattle.acredact.proofs.in_place.put_new.Goals as goal
 
 pub returns-in-Ok : goal.returns-in-Ok

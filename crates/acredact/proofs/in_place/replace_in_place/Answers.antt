@@ -2,7 +2,7 @@
 use Rattle.std.proofs.Common.{◌≡◌, inl, ℕ, List, Option, ap, refl, sym, subst, ◌∙◌, arith}
 use Rattle.std.specs.Prelude.{None, Some}
 use Rattle.programs.specs.Arguments.{texts}
-use Rattle.acredact.specs.Arguments.{AsksToRedact, Given, all_asked, all_given}
+use Rattle.acredact.specs.Arguments.{Given, all_asked, all_given}
 use Rattle.acredact.specs.InPlace.{KeepsEach, ReplacesAsked}
 use Rattle.acredact.proofs.Given.{same_given}
 use Rattle.acredact.proofs.in_place.replace_in_place.Goals as goal

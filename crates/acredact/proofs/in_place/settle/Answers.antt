@@ -1,8 +1,5 @@
 -- What was all redacted is put, and else removed.
-use Rattle.std.proofs.Common.{rules, ◌≡◌, inl, refl, true, false}
-use Rattle.std.specs.Prelude.{Bool, Result, Ok, Err}
-use Rattle.aho_core.specs.declared.error.stream.StreamError.{StreamError}
-use Rattle.aho_core.specs.declared.error.stream.StreamError.TheVariants.{Memory}
+use Rattle.std.proofs.Common.{rules, refl}
 use Rattle.acredact.proofs.Placed.{not_true}
 use Rattle.acredact.proofs.in_place.settle.Goals as goal
 
