@@ -36,7 +36,7 @@ use Rattle.acredact.proofs.Done.{concat_both, cut_of, redacted_of, tells_none}
 use Rattle.acredact.proofs.Totals.{totals_told}
 
 -- no line is one
-none_are : (lines : List (List ℕ)) → are_none lines ≡ true → lines ≡ []
+pub none_are : (lines : List (List ℕ)) → are_none lines ≡ true → lines ≡ []
 none_are [] none = refl
 none_are (line ∷ lines) none = absurd (cc)
 

@@ -26,6 +26,8 @@ mod Free
 mod Calls
 mod Warned
 mod Given
+-- files that are replaced in place
+mod Placed
 mod Statuses
 -- what is seen of files
 mod Looks

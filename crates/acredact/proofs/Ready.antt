@@ -21,7 +21,7 @@ use Rattle.acredact.specs.Looks.{CanLook}
 use Rattle.acredact.specs.Secrets.{CanRedact}
 use Rattle.acredact.specs.Tables.{HaveNoEmpty, HoldsBy, Secret, patterns_in}
 use Rattle.acredact.specs.declared.arguments.Word.{Word}
-use Rattle.acredact.specs.declared.arguments.Word.TheVariants.{IgnoreCase, Kind, Pattern, Patterns as PatternFile, Table, With, Output, Count, Summary, Crlf, AllowEmpty, Strict, Check, Help, Version, File}
+use Rattle.acredact.specs.declared.arguments.Word.TheVariants.{IgnoreCase, Kind, Pattern, Patterns as PatternFile, Table, With, Output, InPlace, Count, Summary, Crlf, AllowEmpty, Strict, Check, Help, Version, File}
 use Rattle.acredact.specs.declared.folder.Folder.{Ghosts as Folders}
 use Rattle.acredact.specs.declared.load.Lists.{Lists}
 use Rattle.acredact.specs.declared.patterns.Form.{Form}
@@ -54,6 +54,7 @@ option_some reading Output value secrets left left' gives = none_some secrets gi
 option_some reading Count value secrets left left' gives = none_some secrets gives.0
 option_some reading Summary value secrets left left' gives = none_some secrets gives.0
 option_some reading Crlf value secrets left left' gives = none_some secrets gives.0
+option_some reading InPlace value secrets left left' gives = none_some secrets gives.0
 option_some reading AllowEmpty value secrets left left' gives = none_some secrets gives.0
 option_some reading Strict value secrets left left' gives = none_some secrets gives.0
 option_some reading Check value secrets left left' gives = none_some secrets gives.0

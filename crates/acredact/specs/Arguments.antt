@@ -7,12 +7,12 @@ use Rattle.aho_core.specs.declared.search.MatchKind.TheVariants.{Standard}
 use Rattle.programs.specs.Arguments.{kind_by, texts}
 use Rattle.acredact.specs.Long.{word_by_name}
 use Rattle.acredact.specs.declared.arguments.Word.{Word}
-use Rattle.acredact.specs.declared.arguments.Word.TheVariants.{IgnoreCase, Kind, Pattern, Patterns, Table, With, Output, Count, Summary, Crlf, AllowEmpty, Strict, Check, Help, Version, File}
+use Rattle.acredact.specs.declared.arguments.Word.TheVariants.{IgnoreCase, Kind, Pattern, Patterns, Table, With, Output, InPlace, Count, Summary, Crlf, AllowEmpty, Strict, Check, Help, Version, File}
 use Rattle.acredact.specs.declared.arguments.Expects.{Expects}
 use Rattle.acredact.specs.declared.arguments.Expects.TheVariants.{Any, Value, Name}
 use Rattle.acredact.specs.declared.arguments.Item.{Item}
 use Rattle.acredact.specs.declared.arguments.Mixture.{Mixture}
-use Rattle.acredact.specs.declared.arguments.Mixture.TheVariants.{StrictKind, CountCheck, SummaryCheck, OutputCheck}
+use Rattle.acredact.specs.declared.arguments.Mixture.TheVariants.{StrictKind, CountCheck, SummaryCheck, OutputCheck, InPlaceCheck, InPlaceOutput}
 
 -- an option with its value, or a file with its name
 pub record Given : Type 0 where
@@ -37,6 +37,7 @@ takes_value Table = true
 takes_value With = true
 takes_value Output = true
 takes_value IgnoreCase = false
+takes_value InPlace = false
 takes_value Count = false
 takes_value Summary = false
 takes_value Crlf = false
@@ -60,6 +61,7 @@ is_value_of Patterns value = true
 is_value_of Table value = true
 is_value_of With value = true
 is_value_of Output value = true
+is_value_of InPlace value = true
 is_value_of Count value = true
 is_value_of Summary value = true
 is_value_of Crlf value = true
@@ -182,6 +184,7 @@ is_same Patterns Patterns = true
 is_same Table Table = true
 is_same With With = true
 is_same Output Output = true
+is_same InPlace InPlace = true
 is_same Count Count = true
 is_same Summary Summary = true
 is_same Crlf Crlf = true
@@ -220,6 +223,7 @@ option_name Table = codes "-t"
 option_name With = codes "--with"
 option_name Output = codes "--output"
 option_name IgnoreCase = codes "-e"
+option_name InPlace = codes "-e"
 option_name Count = codes "-e"
 option_name Summary = codes "-e"
 option_name Crlf = codes "-e"
@@ -249,6 +253,13 @@ counts_asked items = has Count items || has Summary items
 abbrev pub counts_given : List Item → Bool
 counts_given items = counts_asked (all_given items)
 
+-- those of --in-place
+abbrev pub in_place_mixture_of : List Given → Option Mixture
+in_place_mixture_of given =
+    if has InPlace given && has Check given then Some InPlaceCheck
+    else if has InPlace given && has Output given then Some InPlaceOutput
+    else None
+
 -- the options that do not go together, where some do not: pieces are refused of covers alone, and a check counts nothing
 abbrev pub mixture_of : List Given → Option Mixture
 mixture_of given =
@@ -256,7 +267,7 @@ mixture_of given =
     else if has Count given && has Check given then Some CountCheck
     else if has Summary given && has Check given then Some SummaryCheck
     else if has Output given && has Check given then Some OutputCheck
-    else None
+    else in_place_mixture_of given
 
 -- all options and files, where they go together
 abbrev pub fitting_by : Option Mixture → List Given → Option (List Given)
@@ -282,6 +293,10 @@ pub record AsksToCheck (given : List Given) : Type 0 where
 abbrev pub checks_asked : List Given → Bool
 checks_asked given = has Check given && not (has Help given) && not (has Version given)
 
+-- whether files are to be replaced in place
+abbrev pub in_place_asked : List Given → Bool
+in_place_asked given = has InPlace given && not (has Help given) && not (has Version given)
+
 -- pieces of a cover that are not clean are to be refused
 pub record RefusesUnclean (given : List Given) : Type 0 where
   pub strict : has Strict given ≡ true
@@ -304,6 +319,10 @@ IfChecking arguments Holds = (given : List Given) → all_asked (texts arguments
 -- the options that are given name this file for the output, or none
 abbrev pub NamesOutput : {Z : Type 0} → List (String Z) → Option (List ℕ) → Type 0
 NamesOutput arguments output = (given : List Given) × (all_asked (texts arguments) ≡ Some given) × (output ≡ output_asked given)
+
+-- the options that are given ask for files to be replaced in place, or do not
+abbrev pub AsksInPlace : {Z : Type 0} → List (String Z) → Bool → Type 0
+AsksInPlace arguments asked = (given : List Given) × (all_asked (texts arguments) ≡ Some given) × (asked ≡ in_place_asked given)
 
 -- these arguments ask for a check
 abbrev pub IsCheck : {Z : Type 0} → List (String Z) → Type 0

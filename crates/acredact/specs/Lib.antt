@@ -36,5 +36,6 @@ pub mod Checks
 pub mod Statuses
 -- by what a walk backward redacts
 pub mod Back
--- a file for the output
+-- files for the output
 pub mod Into
+pub mod InPlace

@@ -12,7 +12,7 @@ use Rattle.acredact.specs.LineFaults.{IsLineFault, IsListFault}
 use Rattle.acredact.specs.Reads.{OfName, ReadsText}
 use Rattle.acredact.specs.Tables.{Holds, HoldsBy, Secret, lines_in, secrets_of}
 use Rattle.acredact.specs.declared.arguments.Word.{Word}
-use Rattle.acredact.specs.declared.arguments.Word.TheVariants.{IgnoreCase, Kind, Pattern, Patterns, Table, With, Output, Count, Summary, Crlf, AllowEmpty, Strict, Check, Help, Version, File}
+use Rattle.acredact.specs.declared.arguments.Word.TheVariants.{IgnoreCase, Kind, Pattern, Patterns, Table, With, Output, InPlace, Count, Summary, Crlf, AllowEmpty, Strict, Check, Help, Version, File}
 use Rattle.acredact.specs.declared.failure.Failure.{Failure}
 use Rattle.acredact.specs.declared.failure.Failure.TheVariants.{NotText, Arguments, Pattern as BadPattern, Unread, Empty, Line, Unclean, Counts, Other}
 use Rattle.acredact.specs.declared.folder.Folder.{Ghosts as Folders}
@@ -67,6 +67,7 @@ OptionGives reading Output value secrets left left' = (secrets ≡ []) × (left'
 OptionGives reading Count value secrets left left' = (secrets ≡ []) × (left' ≡ left)
 OptionGives reading Summary value secrets left left' = (secrets ≡ []) × (left' ≡ left)
 OptionGives reading Crlf value secrets left left' = (secrets ≡ []) × (left' ≡ left)
+OptionGives reading InPlace value secrets left left' = (secrets ≡ []) × (left' ≡ left)
 OptionGives reading AllowEmpty value secrets left left' = (secrets ≡ []) × (left' ≡ left)
 OptionGives reading Strict value secrets left left' = (secrets ≡ []) × (left' ≡ left)
 OptionGives reading Check value secrets left left' = (secrets ≡ []) × (left' ≡ left)

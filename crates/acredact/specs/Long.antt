@@ -3,7 +3,7 @@ use Rattle.std.specs.Prelude.{ℕ, nat_eq, List, [], ◌∷◌, Option, Some, No
 use Rattle.std.specs.List.{starts_with}
 use Rattle.std.specs.Str.{bytes_eq}
 use Rattle.acredact.specs.declared.arguments.Word.{Word}
-use Rattle.acredact.specs.declared.arguments.Word.TheVariants.{IgnoreCase, Kind, Pattern, Patterns, Table, With, Output, Count, Summary, Crlf, AllowEmpty, Strict, Check, Help, Version}
+use Rattle.acredact.specs.declared.arguments.Word.TheVariants.{IgnoreCase, Kind, Pattern, Patterns, Table, With, Output, InPlace, Count, Summary, Crlf, AllowEmpty, Strict, Check, Help, Version}
 use Rattle.acredact.specs.declared.long.Found.{Found}
 use Rattle.acredact.specs.declared.long.Found.TheVariants.{Unknown, Begun, Several, Whole}
 
@@ -30,6 +30,7 @@ options_of_patterns = long_name (codes "ignore-case") IgnoreCase
 -- and all others
 abbrev pub options_of_output : List LongName
 options_of_output = long_name (codes "output") Output
+    ∷ long_name (codes "in-place") InPlace
     ∷ long_name (codes "count") Count
     ∷ long_name (codes "summary") Summary
     ∷ long_name (codes "strict") Strict

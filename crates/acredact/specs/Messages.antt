@@ -24,6 +24,10 @@ line_about name cause = told_line (about name cause)
 abbrev pub output_line : List ℕ → List ℕ
 output_line name = line_about name (codes "input file is also the output")
 
+-- the line that tells that standard input is no file that can be replaced
+abbrev pub no_file_line : List ℕ → List ℕ
+no_file_line name = line_about name (codes "standard input cannot be replaced")
+
 -- the line that tells of which pattern the piece is not clean, and why: numbers, and no byte of a pattern or of a piece
 abbrev pub piece_line : (number why : List ℕ) → List ℕ
 piece_line number why = codes "acredact" ++ (codes ": the replacement of pattern " ++ (number ++ why))

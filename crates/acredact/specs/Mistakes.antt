@@ -11,7 +11,7 @@ use Rattle.acredact.specs.declared.arguments.Item.{Item}
 use Rattle.acredact.specs.declared.arguments.Mistake.{Mistake}
 use Rattle.acredact.specs.declared.arguments.Mistake.TheVariants.{UnknownLetter, UnknownName, Ambiguous, NoValue, TakesNone, UnknownKind, NoPattern, Mixed, OutOfMemory}
 use Rattle.acredact.specs.declared.arguments.Mixture.{Mixture}
-use Rattle.acredact.specs.declared.arguments.Mixture.TheVariants.{StrictKind, CountCheck, SummaryCheck, OutputCheck}
+use Rattle.acredact.specs.declared.arguments.Mixture.TheVariants.{StrictKind, CountCheck, SummaryCheck, OutputCheck, InPlaceCheck, InPlaceOutput}
 use Rattle.acredact.specs.declared.arguments.Word.{Word}
 use Rattle.acredact.specs.declared.long.Found.{Found}
 use Rattle.acredact.specs.declared.long.Found.TheVariants.{Unknown, Begun, Several, Whole}
@@ -21,6 +21,8 @@ abbrev pub mixture_text : Mixture → List ℕ
 mixture_text StrictKind = codes "--strict needs --kind cover: it promises nothing by another kind"
 mixture_text SummaryCheck = codes "--summary and --check do not go together: a check counts nothing"
 mixture_text OutputCheck = codes "--output and --check do not go together: a check writes nothing"
+mixture_text InPlaceCheck = codes "--in-place and --check do not go together: a check writes nothing"
+mixture_text InPlaceOutput = codes "--in-place and --output do not go together: each says which file is replaced"
 mixture_text CountCheck = codes "--count and --check do not go together: a check counts nothing"
 
 -- the line that tells what is wrong with something that was given

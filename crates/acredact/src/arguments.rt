@@ -2,7 +2,7 @@
 
 ghost use Rattle.std.specs.Prelude.{◌≡◌, ◌++◌, [], ◌∷◌, Some, None, IfErr, IfOk, OnOk, option_map, string_bytes};
 ghost use Rattle.programs.specs.Arguments.{kind_by, texts};
-ghost use Rattle.acredact.specs.Arguments.{ReadsAs, all_given, all_asked, by_any, by_argument, by_hyphen, checks_asked, counts_asked, covers_asked, given, given_by, has, is_cover, is_same, is_value_of, by_joined, kind_asked, last_value, by_letter, by_letters, by_long, mixture_of, by_name, option_name, output_asked, by_plain, by_taken, takes_value, by_value};
+ghost use Rattle.acredact.specs.Arguments.{ReadsAs, all_asked, all_given, by_any, by_argument, by_hyphen, checks_asked, counts_asked, covers_asked, given, given_by, has, in_place_asked, in_place_mixture_of, is_cover, is_same, is_value_of, by_joined, kind_asked, last_value, by_letter, by_letters, by_long, mixture_of, by_name, option_name, output_asked, by_plain, by_taken, takes_value, by_value};
 ghost use Rattle.acredact.specs.Long.{word_by_name};
 ghost use Rattle.acredact.specs.Mistakes.{FailsAs, IsMistake, IsMistakeOfCall, TellsAs, kind_line, line_of_any, line_of_argument, line_of_joined, line_of_letter, line_of_letters, line_of_long, line_of_name, line_of_plain};
 
@@ -27,6 +27,8 @@ pub enum Word {
     With,
     /// `--output`: the file that is written, in the place of standard output.
     Output,
+    /// `--in-place`: each file is replaced, and nothing goes to standard output.
+    InPlace,
     /// `--count`: how often the text of each pattern was written is told.
     Count,
     /// `--summary`: how much was read, and how often the text of each pattern was written, is told as JSON.
@@ -78,6 +80,10 @@ pub enum Mixture {
     SummaryCheck,
     /// `--output` with `--check`, which writes nothing.
     OutputCheck,
+    /// `--in-place` with `--check`.
+    InPlaceCheck,
+    /// `--in-place` with `--output`: each says what is replaced.
+    InPlaceOutput,
 }
 
 /// Why arguments are wrong. Each holds what has to be named.
@@ -177,6 +183,19 @@ fn mixture_of(items: &[Item<'_>]) -> Option<Mixture>
     }
     if has(items, Word::Output) && has(items, Word::Check) {
         return Some(Mixture::OutputCheck);
+    }
+    in_place_mixture_of(items)
+}
+
+/// That of `--in-place` with another option, where they do not go together.
+fn in_place_mixture_of(items: &[Item<'_>]) -> Option<Mixture>
+    ensures mixture { result ≡ in_place_mixture_of (all_given items.now) }
+{
+    if has(items, Word::InPlace) && has(items, Word::Check) {
+        return Some(Mixture::InPlaceCheck);
+    }
+    if has(items, Word::InPlace) && has(items, Word::Output) {
+        return Some(Mixture::InPlaceOutput);
     }
     None
 }
@@ -444,6 +463,13 @@ pub fn output_of<'a>(items: &[Item<'a>]) -> Option<&'a str>
         return None;
     }
     last_value(items, Word::Output)
+}
+
+/// Whether files are to be replaced in place, and no help and no version is asked for.
+pub fn replaces_in_place(items: &[Item<'_>]) -> bool
+    ensures asked { result ≡ in_place_asked (all_given items.now) }
+{
+    has(items, Word::InPlace) && !has(items, Word::Help) && !has(items, Word::Version)
 }
 
 /// Whether a cover is asked for: so it is where no kind is given.

@@ -206,7 +206,7 @@ fn redact_each<X: Way, F: Folder, I: Read, W: Write, E: Sink>(
 }
 
 /// Whether both are so.
-fn both(first: bool, second: bool) -> bool
+pub fn both(first: bool, second: bool) -> bool
     ensures both { result ≡ first && second }
 {
     first && second

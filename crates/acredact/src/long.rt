@@ -89,6 +89,7 @@ fn or_output(found: Found, name: &[u8]) -> Found
 {
     found
         .or(name, b"output", Word::Output)
+        .or(name, b"in-place", Word::InPlace)
         .or(name, b"count", Word::Count)
         .or(name, b"summary", Word::Summary)
         .or(name, b"strict", Word::Strict)

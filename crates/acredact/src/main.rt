@@ -1,4 +1,4 @@
-//! `acredact [-i] [--kind KIND] (-e PATTERN | -f FILE | -t TABLE).. [--with TEXT] [--output FILE] [--count] [--summary] [--check] [FILE]..` writes each FILE with a
+//! `acredact [-i] [--kind KIND] (-e PATTERN | -f FILE | -t TABLE).. [--with TEXT] [--output FILE | --in-place] [--count] [--summary] [--check] [FILE]..` writes each FILE with a
 //! text in the place of each match of some patterns: `[redacted]`, TEXT, or the pattern's own of a TABLE. No FILE, or `-`, is standard
 //! input.
 //!
@@ -15,6 +15,7 @@ mod counts;
 mod failure;
 mod files;
 mod folder;
+mod in_place;
 mod into;
 mod load;
 mod long;
@@ -39,6 +40,7 @@ ghost use Rattle.acredact.specs.Checks.{MatchedAsked, UnmatchedAsked};
 use aho_devices::adapters::{FromRead, FromWrite};
 use aho_devices::device::Sink;
 use folder::{Folder, Host};
+use in_place::{asks_in_place, replace_in_place};
 use into::{make_and_run, named_output};
 use outputs::Beside;
 use programs::arguments::arguments;
@@ -60,12 +62,26 @@ fn main(rt: HostRuntime) -> ExitCode {
     let reason = Cell::new(None);
     let mut errors = Errors::new(FromWrite::new(Quiet::new(rt.stderr(), &reason)), &reason);
     if let Ok(arguments) = &given {
-        match named_output(rt.alloc(), arguments.as_slice()) {
+        let arguments = arguments.as_slice();
+        let folder = Host::new(&rt);
+        let mut outputs = Beside::new(rt.alloc(), &rt, &reason);
+        match asks_in_place(rt.alloc(), arguments) {
+            Ok(false) => {}
+            Ok(true) => {
+                return ExitCode::from(replace_in_place(
+                    rt.alloc(),
+                    arguments,
+                    &folder,
+                    &mut outputs,
+                    rt.stdin(),
+                    errors,
+                ));
+            }
+            Err(failure) => return ExitCode::from(report(&failure, &mut errors)),
+        }
+        match named_output(rt.alloc(), arguments) {
             Ok(None) => {}
             Ok(Some(name)) => {
-                let mut outputs = Beside::new(rt.alloc(), &rt, &reason);
-                let folder = Host::new(&rt);
-                let arguments = arguments.as_slice();
                 return ExitCode::from(make_and_run(
                     rt.alloc(),
                     arguments,

@@ -1,6 +1,6 @@
 //! Files that are replaced whole: a new one is written beside each, and takes its place at the end.
 
-ghost use Rattle.std.specs.Prelude.{ℕ, List, MatchResult, Option, ⊤};
+ghost use Rattle.std.specs.Prelude.{ℕ, List, MatchResult, None, Option, ⊤};
 ghost use Rattle.programs.specs.declared.reason.Reason.{Reason};
 
 use aho_devices::adapters::FromWrite;
@@ -8,9 +8,9 @@ use programs::closed::Noted;
 use programs::reason::Reason;
 use std::alloc::{AllocError, Global};
 use std::cell::Cell;
-use std::fs;
 use std::fs::{File, Files, OpenFile, Permissions};
 use std::io::{BufWriter, ErrorKind, Write};
+use std::{fs, io};
 
 /// How many bytes of a new file are kept before they are written.
 const FILE_CAPACITY: usize = 64 * 1024;
@@ -39,6 +39,9 @@ pub trait Outputs {
     /// The new file was removed that was to take the place of the one of this name.
     ghost removes: { Self → Self → List ℕ → Type 0 };
 
+    /// A writer to no file, which takes nothing.
+    fn idle(&self) -> Self::File;
+
     /// Makes a new file, which is to take the place of the one of this name, whether there is one or not.
     fn make(&mut self, name: &str) -> Result<Self::File, Reason>
         ensures made { MatchResult result
@@ -51,9 +54,37 @@ pub trait Outputs {
             (λ _. puts self.old self.new name.now (Self.File.contents file.now.device.writer))
             (λ reason. puts_none self.old self.new name.now reason) };
 
+    /// Why the new file could not be written, or another file last.
+    fn unwritten(&self) -> Reason;
+
     /// Removes the new file that was to take the place of the one of this name.
     fn remove(&mut self, name: &str)
         ensures removed { removes self.old self.new name.now };
+}
+
+/// A file that is written, if there is one.
+#[derive(Drop)]
+pub struct Slot<W> {
+    file: Option<W>,
+}
+
+impl<W: Write> Write for Slot<W> {
+    // What the process did to files is told by nothing.
+    ghost contents = { λ slot. None };
+
+    fn write(&mut self, buf: &[u8]) -> io::Result<usize> {
+        match &mut self.file {
+            Some(file) => file.write(buf),
+            None => Err(io::Error::from(ErrorKind::BrokenPipe)),
+        }
+    }
+
+    fn flush(&mut self) -> io::Result<()> {
+        match &mut self.file {
+            Some(file) => file.flush(),
+            None => Ok(()),
+        }
+    }
 }
 
 /// New files of the process, each in the folder of the one whose place it is to take.
@@ -147,7 +178,7 @@ fn permissions_of<R: Files>(rt: &R, name: &str) -> Result<Option<Permissions>, R
 }
 
 impl<'c, R: Files> Outputs for Beside<'c, '_, R> {
-    type File = BufWriter<Noted<'c, R::File>>;
+    type File = Slot<BufWriter<Noted<'c, R::File>>>;
 
     // What the process did to files is told by nothing.
     ghost makes = { λ before after name held. ⊤ };
@@ -160,11 +191,15 @@ impl<'c, R: Files> Outputs for Beside<'c, '_, R> {
 
     ghost removes = { λ before after name. ⊤ };
 
-    fn make(&mut self, name: &str) -> Result<BufWriter<Noted<'c, R::File>>, Reason> {
+    fn idle(&self) -> Slot<BufWriter<Noted<'c, R::File>>> {
+        Slot { file: None }
+    }
+
+    fn make(&mut self, name: &str) -> Result<Slot<BufWriter<Noted<'c, R::File>>>, Reason> {
         let permissions = permissions_of(self.rt, name)?;
         let file = self.create(name)?;
         match self.prepare(file, permissions) {
-            Ok(file) => Ok(file),
+            Ok(file) => Ok(Slot { file: Some(file) }),
             Err(reason) => {
                 self.remove_made();
                 Err(reason)
@@ -175,7 +210,7 @@ impl<'c, R: Files> Outputs for Beside<'c, '_, R> {
     fn put(
         &mut self,
         name: &str,
-        _file: &FromWrite<BufWriter<Noted<'c, R::File>>>,
+        _file: &FromWrite<Slot<BufWriter<Noted<'c, R::File>>>>,
     ) -> Result<(), Reason> {
         let Some(made) = &self.made else {
             return Err(Reason::NotFound);
@@ -186,6 +221,13 @@ impl<'c, R: Files> Outputs for Beside<'c, '_, R> {
                 Ok(())
             }
             Err(error) => Err(Reason::of(&error)),
+        }
+    }
+
+    fn unwritten(&self) -> Reason {
+        match self.reason.get() {
+            Some(reason) => reason,
+            None => Reason::Fault,
         }
     }
 

@@ -56,7 +56,7 @@ const REDACTED: &[u8] = b"[redacted]";
 
 /// What `--help` writes.
 const HELP: &[u8] =
-    b"usage: acredact [-i] [--kind KIND] (-e PATTERN | -f FILE | -t TABLE).. [--with TEXT] [--output FILE] [--count] [--summary] [--check] [FILE]..
+    b"usage: acredact [-i] [--kind KIND] (-e PATTERN | -f FILE | -t TABLE).. [--with TEXT] [--output FILE | --in-place] [--count] [--summary] [--check] [FILE]..
 
 Writes each FILE with a text in the place of each run of bytes that lie in matches of the patterns. No FILE, or -, is standard input.
 
@@ -68,6 +68,7 @@ Writes each FILE with a text in the place of each run of bytes that lie in match
                 one of several matches that overlap, and then a part of another can stay
   --with TEXT   the replacement of patterns that have none of their own: [redacted] if none is given
   --output FILE replace this FILE, if all is redacted: the output goes to a new file that takes its place at the end
+  --in-place    do the same for each FILE: it is replaced, if all of it is redacted
   --count       write to standard error how often the text of each pattern was written
   --summary     write to standard error how many files and bytes were read, and these counts, as an object of JSON
   --check       write nothing: the status is 1 if something would be replaced, 0 if nothing
@@ -310,7 +311,7 @@ fn redact_telling<'a, F: Folder, I: Read, W: Write, E: Sink>(
 }
 
 /// Tells the counts, where they are asked for, and answers whether all files were read.
-fn tell_counted<'a, E: Sink>(
+pub fn tell_counted<'a, E: Sink>(
     alloc: Global,
     all: bool,
     given: &[Item<'_>],
@@ -392,7 +393,7 @@ fn put_asked_summary(
 }
 
 /// What is written for a pattern that has no replacement of its own.
-fn text_of<'a>(given: &[Item<'a>]) -> &'a [u8]
+pub fn text_of<'a>(given: &[Item<'a>]) -> &'a [u8]
     ensures text { result.now ≡ text_asked (all_given given.now) }
 {
     match last_value(given, Word::With) {
@@ -501,7 +502,7 @@ fn redact_warned<
 }
 
 /// Tells of a piece that is not clean, or refuses it.
-fn warn<'a, E: Sink>(
+pub fn warn<'a, E: Sink>(
     errors: &mut Errors<'_, E>,
     unclean: Option<Unclean>,
     strict: bool,
@@ -524,7 +525,7 @@ fn warn<'a, E: Sink>(
 }
 
 /// Redacts all files by a walk backward, if there is a searcher for that, and else by the automaton with rows, if there is one.
-fn redact_by<A: Automaton, B: Automaton, C: Automaton, F: Folder, I: Read, W: Write, E: Sink>(
+pub fn redact_by<A: Automaton, B: Automaton, C: Automaton, F: Folder, I: Read, W: Write, E: Sink>(
     automaton: &A,
     rows: Option<&B>,
     back: Option<&Backward<C>>,

@@ -1,0 +1,36 @@
+-- What was loaded is what is redacted.
+use Rattle.std.proofs.Common.{◌≡◌, inl, inr, List, ap, refl, sym, subst, true}
+use Rattle.std.specs.Prelude.{Err, Ok}
+use Rattle.programs.specs.Streams.{bytes_left}
+use Rattle.acredact.specs.Arguments.{all_given}
+use Rattle.acredact.specs.Calls.{call_of, reading_by, rules_asked}
+use Rattle.acredact.specs.Loading.{AreGiven}
+use Rattle.acredact.specs.Tables.{HaveNoEmpty, Secret, secrets_of}
+use Rattle.acredact.specs.declared.arguments.Mistake.TheVariants.{NoPattern}
+use Rattle.acredact.specs.declared.failure.Failure.TheVariants.{Arguments}
+use Rattle.acredact.proofs.Ready.{given_some, reading_from}
+use Rattle.acredact.proofs.in_place.load_places.Goals as goal
+
+pub place_counted-requires : goal.place_counted-requires
+place_counted-requires g c = record {
+  some = subst (λ (l : List _). HaveNoEmpty (secrets_of l)) (sym c.as_slice.ensures.value) (given_some _ _ _ _ _ c.in-Ok.ensures.given);
+}
+
+pub returns-in-Ok : goal.returns-in-Ok
+returns-in-Ok g c = record {
+  outcome =
+      let call = call_of g.F.Folder c.args.folder.now (all_given c.args.given.now) in
+      let given = reading_from g.F.Folder c.lists_of-lists.result c.args.folder.now (rules_asked (all_given c.args.given.now)) c.lists_of-lists.ensures.folder c.lists_of-lists.ensures.rules
+      (λ r. AreGiven r (all_given c.args.given.now) (secrets_of c.in-Ok.rules.items) (bytes_left c.args.streams.now.input) (bytes_left c.rules.new.input)) c.in-Ok.ensures.given in
+      let loaded = subst (λ (l : List Secret). AreGiven (reading_by call) (all_given c.args.given.now) l (bytes_left c.args.streams.now.input) (bytes_left c.rules.new.input)) (sym (ap secrets_of c.as_slice.ensures.value)) given in
+      record {
+        replaces = λ is. record { secrets = _; between = _; loaded = loaded; replaced = c.place_counted.ensures.outcome.all is };
+        keeps = inr (record { secrets = _; between = _; loaded = loaded; whole = c.place_counted.ensures.outcome.whole });
+      };
+}
+
+pub returns-then-not-gives_pattern : goal.returns-then-not-gives_pattern
+returns-then-not-gives_pattern g c = record { outcome = record { replaces = λ (is : Err (Arguments NoPattern) ≡ Ok true). absurd (cc); keeps = inl refl } }
+
+pub returns-in-Err : goal.returns-in-Err
+returns-in-Err g c = record { outcome = record { replaces = λ (is : Err c.in-Err.failure ≡ Ok true). absurd (cc); keeps = inl refl } }

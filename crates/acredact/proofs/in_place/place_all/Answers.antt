@@ -1,0 +1,141 @@
+-- Both automata are of the patterns that are asked for, and there is a replacement for each.
+use Rattle.std.proofs.Common.{rules, ◌≡◌, ◌≤◌, ◌∙◌, ap, sym, subst, length, map, true, List, ℕ}
+use Rattle.std.specs.Option.{option_map}
+use Rattle.std.specs.Prelude.{Bool, IfSome, IsOk, None, Option, Some, Err, Result}
+use Rattle.std.specs.Borrow.{Bor}
+use Rattle.std.proofs.lemmas.List.{length-map}
+use Rattle.aho_core.specs.Laws.{shortest}
+use Rattle.aho_core.specs.Patterns.{Patterns}
+use Rattle.aho_core.specs.declared.search.Anchored.TheVariants.{No}
+use Rattle.aho_core.specs.declared.search.MatchKind.TheVariants.{Standard}
+use Rattle.aho_core.specs.Replacement.{pieces_of}
+use Rattle.aho_corasick.specs.contracts.noncontiguous.NFAAutomaton.TheImpl.{ghosts as NFAGhosts}
+use Rattle.aho_hybrid.specs.contracts.hybrid.HybridAutomaton.TheImpl.{ghosts as HybridGhosts}
+use Rattle.aho_corasick.specs.contracts.noncontiguous.NFAAutomaton.TheImpl.Laws.{laws-law as nfa-laws}
+use Rattle.aho_hybrid.specs.contracts.hybrid.HybridAutomaton.TheImpl.Laws.{laws-law as rows-laws}
+use Rattle.aho_hybrid.specs.declared.hybrid.Hybrid.{Hybrid}
+use Rattle.aho_corasick.specs.declared.noncontiguous.NFA.{NFA}
+use Rattle.aho_backward.specs.Searcher.{IsBackwardOf}
+use Rattle.aho_backward.specs.declared.backward.Backward.{Backward}
+use Rattle.programs.specs.Names.{name_bytes}
+use Rattle.acredact.specs.Arguments.{Given, all_given, covers_asked, has}
+use Rattle.acredact.specs.Back.{AreBoth, IsBackAsked}
+use Rattle.acredact.specs.Builds.{patterns_by_given}
+use Rattle.acredact.specs.Calls.{call_of, names_asked, pieces_asked, work_by}
+use Rattle.acredact.specs.InPlace.{PlacesOutcome}
+use Rattle.acredact.specs.Secrets.{CanRedact}
+use Rattle.acredact.specs.Tables.{patterns_in, piece_by, secret_of, secrets_of}
+use Rattle.acredact.specs.declared.failure.Failure.{Failure}
+use Rattle.acredact.specs.declared.failure.Failure.TheVariants.{Other}
+use Rattle.programs.specs.declared.failure.Failure.TheVariants.{Build, OutOfMemory}
+use Rattle.programs.proofs.Lent.{lent}
+use Rattle.acredact.proofs.Ready.{covers_standard, ready_of, some_shortest}
+use Rattle.acredact.proofs.Calls.{work_as}
+use Rattle.acredact.proofs.Placed.{places_none}
+use Rattle.acredact.proofs.in_place.place_all.Goals.{After-as_ref}
+use Rattle.acredact.proofs.in_place.place_all.Given.{Over}
+use Rattle.acredact.proofs.in_place.place_all.Goals as goal
+
+words_are : (g : Over) (c : After-as_ref g) → pieces_of c.as_slice-words.result.now ≡ patterns_in (secrets_of c.args.rules.now)
+words_are g c = ap pieces_of c.as_slice-words.ensures.value ∙ c.in_ok-patterns.ensures.patterns
+
+pieces_are : (g : Over) (c : After-as_ref g) → pieces_of c.as_slice-2.result.now ≡ pieces_asked (all_given c.args.given.now) (secrets_of c.args.rules.now)
+pieces_are g c = ap pieces_of c.as_slice-2.ensures.value ∙ c.in_ok-replacements.ensures.pieces ∙ ap (λ text. map (piece_by text) (secrets_of c.args.rules.now)) c.text_of-text.ensures.text
+
+names_are : (g : Over) (c : After-as_ref g) → name_bytes c.as_slice.result.now ≡ names_asked (all_given c.args.given.now)
+names_are g c = ap name_bytes c.as_slice.ensures.value ∙ c.in_ok-names.ensures.names
+
+covers_are : (g : Over) (c : After-as_ref g) → c.covers.result ≡ covers_asked (all_given c.args.given.now)
+covers_are g c = c.covers.ensures.covers
+
+nfa_is : (g : Over) (c : After-as_ref g) → NFAGhosts.is_of c.in_ok-nfa.nfa (patterns_by_given (all_given c.args.given.now) (patterns_in (secrets_of c.args.rules.now)))
+nfa_is g c = subst (λ (words : List (List ℕ)). NFAGhosts.is_of c.in_ok-nfa.nfa (patterns_by_given (all_given c.args.given.now) words)) (words_are g c) c.in_ok-nfa.ensures.of
+
+rows_are : (g : Over) (c : After-as_ref g)
+    → IfSome c.as_ref.result (λ rows. HybridGhosts.is_of rows.now (patterns_by_given (all_given c.args.given.now) (patterns_in (secrets_of c.args.rules.now))))
+rows_are g c =
+    let p = patterns_by_given (all_given c.args.given.now) (patterns_in (secrets_of c.args.rules.now)) in
+    lent c.in_ok-rows.rows c.as_ref.result (λ rows. HybridGhosts.is_of rows p) c.as_ref.ensures.value
+    (c.in_ok-rows.ensures.of p (record { words_are = sym (words_are g c); rule = sym c.has-ignore_case.ensures.has }) (nfa_is g c))
+
+-- where there is a searcher by a walk backward, it is of these patterns
+back_is : (given : List Given) (words words' : List (List ℕ)) (back : Option (Backward NFA)) (borrowed : Option (Bor (Backward NFA))) → words ≡ words' → option_map (λ b. b.now) borrowed ≡ back
+    → IsBackAsked NFAGhosts given words back → IfSome borrowed (λ b. IsBackwardOf NFAGhosts b.now (patterns_by_given given words'))
+back_is given words words' back borrowed same value asked =
+    lent back borrowed (λ b. IsBackwardOf NFAGhosts b (patterns_by_given given words')) value
+    (subst (λ (l : List (List ℕ)). IsBackAsked NFAGhosts given l back) same asked)
+
+both_are : (p : Patterns) (nfa : NFA) (borrowed : Option (Bor (Backward NFA))) → NFAGhosts.is_of nfa p → IfSome borrowed (λ b. IsBackwardOf NFAGhosts b.now p) → AreBoth NFAGhosts NFAGhosts nfa borrowed
+both_are p nfa None of is = tt
+both_are p nfa (Some b) of is = (p, of, is)
+
+rows_ready : (rows : Option (Bor Hybrid)) (p : Patterns) (replacements : List (Bor (List ℕ))) → IfSome rows (λ rows. HybridGhosts.is_of rows.now p) → IfSome rows (λ rows. IsOk (HybridGhosts.start rows.now No))
+    → (covers : Bool) → (covers ≡ true → p.kind ≡ Standard) → 1 ≤ shortest (map length p.words) → length replacements ≡ length p.words → IfSome rows (λ rows. CanRedact HybridGhosts rows.now covers replacements)
+rows_ready None p replacements of starts covers standard some one = tt
+rows_ready (Some rows) p replacements of starts covers standard some one =
+    let laws = rows-laws rows.now p of in
+    ready_of HybridGhosts rows.now p covers replacements of laws.lengths_are laws.kind_is standard starts some one
+
+pub place_warned-requires : goal.place_warned-requires
+place_warned-requires g c =
+    let p = patterns_by_given (all_given c.args.given.now) (patterns_in (secrets_of c.args.rules.now)) in
+    let after = (goal.at.place_warned-requires g c).After-as_ref in
+    let some = some_shortest (secrets_of c.args.rules.now) c.requires.some in
+    let one : length c.as_slice-2.result.now ≡ length (patterns_in (secrets_of c.args.rules.now)) =
+    sym (length-map c.as_slice-2.result.now (λ piece. piece.now)) ∙ ap length (pieces_are g after) ∙ length-map (secrets_of c.args.rules.now) _ ∙ sym (length-map (secrets_of c.args.rules.now) _) in
+    let starts = lent c.in_ok-rows.rows c.as_ref.result (λ rows. IsOk (HybridGhosts.start rows No)) c.as_ref.ensures.value c.in_ok-rows.ensures.starts in
+    let laws = nfa-laws c.in_ok-nfa.nfa p (nfa_is g after) in
+    let standard : c.covers.result ≡ true → p.kind ≡ Standard = λ is. covers_standard (all_given c.args.given.now) (sym c.covers.ensures.covers ∙ is) in
+    record {
+      ready = ready_of NFAGhosts c.in_ok-nfa.nfa p c.covers.result _ (nfa_is g after) laws.lengths_are laws.kind_is standard c.in_ok-nfa.ensures.starts some one;
+      back = both_are p c.in_ok-nfa.nfa c.as_ref-2.result (nfa_is g after) (back_is (all_given c.args.given.now) _ _ c.in_ok-back.back c.as_ref-2.result (words_are g after) c.as_ref-2.ensures.value c.in_ok-back.ensures.of);
+      rows = rows_ready c.as_ref.result p _ (rows_are g after) starts c.covers.result standard some one;
+      words = sym (sym (length-map c.as_slice-words.result.now (λ piece. piece.now)) ∙ ap length (words_are g after) ∙ length-map (secrets_of c.args.rules.now) _ ∙ length-map c.args.rules.now secret_of);
+    }
+
+pub returns-in_err-patterns : goal.returns-in_err-patterns
+returns-in_err-patterns g c =
+    let work = work_by (call_of g.F.Folder c.args.folder.now (all_given c.args.given.now)) (secrets_of c.args.rules.now) in
+    let is : c.from_residual.result ≡ Err (Other OutOfMemory) = search rules in
+    record { outcome = subst (λ (r : Result Bool Failure). PlacesOutcome g.O.File.Write g.O.Outputs work r c.args.outputs.now c.args.outputs.now) (sym is) (places_none g.O.File.Write g.O.Outputs work _ _) }
+
+pub returns-in_err-replacements : goal.returns-in_err-replacements
+returns-in_err-replacements g c =
+    let work = work_by (call_of g.F.Folder c.args.folder.now (all_given c.args.given.now)) (secrets_of c.args.rules.now) in
+    let is : c.from_residual-in_err-replacements.result ≡ Err (Other OutOfMemory) = search rules in
+    record { outcome = subst (λ (r : Result Bool Failure). PlacesOutcome g.O.File.Write g.O.Outputs work r c.args.outputs.now c.args.outputs.now) (sym is) (places_none g.O.File.Write g.O.Outputs work _ _) }
+
+pub returns-in_err-names : goal.returns-in_err-names
+returns-in_err-names g c =
+    let work = work_by (call_of g.F.Folder c.args.folder.now (all_given c.args.given.now)) (secrets_of c.args.rules.now) in
+    let is : c.from_residual-in_err-names.result ≡ Err (Other OutOfMemory) = search rules in
+    record { outcome = subst (λ (r : Result Bool Failure). PlacesOutcome g.O.File.Write g.O.Outputs work r c.args.outputs.now c.args.outputs.now) (sym is) (places_none g.O.File.Write g.O.Outputs work _ _) }
+
+pub returns-in_err-nfa : goal.returns-in_err-nfa
+returns-in_err-nfa g c =
+    let work = work_by (call_of g.F.Folder c.args.folder.now (all_given c.args.given.now)) (secrets_of c.args.rules.now) in
+    let is : c.from_residual-in_err-nfa.result ≡ Err (Other (Build c.in_err-nfa.field-0.0)) = search rules in
+    record { outcome = subst (λ (r : Result Bool Failure). PlacesOutcome g.O.File.Write g.O.Outputs work r c.args.outputs.now c.args.outputs.now) (sym is) (places_none g.O.File.Write g.O.Outputs work _ _) }
+
+pub returns-in_err-rows : goal.returns-in_err-rows
+returns-in_err-rows g c =
+    let work = work_by (call_of g.F.Folder c.args.folder.now (all_given c.args.given.now)) (secrets_of c.args.rules.now) in
+    let is : c.from_residual-in_err-rows.result ≡ Err (Other OutOfMemory) = search rules in
+    record { outcome = subst (λ (r : Result Bool Failure). PlacesOutcome g.O.File.Write g.O.Outputs work r c.args.outputs.now c.args.outputs.now) (sym is) (places_none g.O.File.Write g.O.Outputs work _ _) }
+
+pub returns-in_err-back : goal.returns-in_err-back
+returns-in_err-back g c =
+    let work = work_by (call_of g.F.Folder c.args.folder.now (all_given c.args.given.now)) (secrets_of c.args.rules.now) in
+    let is : c.from_residual-in_err-back.result ≡ Err (Other OutOfMemory) = search rules in
+    record { outcome = subst (λ (r : Result Bool Failure). PlacesOutcome g.O.File.Write g.O.Outputs work r c.args.outputs.now c.args.outputs.now) (sym is) (places_none g.O.File.Write g.O.Outputs work _ _) }
+
+pub returns : goal.returns
+returns g c =
+    let p = patterns_by_given (all_given c.args.given.now) (patterns_in (secrets_of c.args.rules.now)) in
+    let after = (goal.at.returns g c).After-as_ref in
+    record {
+      outcome =
+          work_as (g.F.Folder.holds c.args.folder.now) (g.F.Folder.refuses c.args.folder.now) (g.F.Folder.meets c.args.folder.now) p _ _ _ _ _ _ (names_are g after) (covers_are g after) (pieces_are g after)
+          (λ w. PlacesOutcome g.O.File.Write g.O.Outputs w c.place_warned.result c.args.outputs.now c.place_warned.new.outputs) (c.place_warned.ensures.outcome p (nfa_is g after) (rows_are g after)
+          (back_is (all_given c.args.given.now) _ _ c.in_ok-back.back c.as_ref-2.result (words_are g after) c.as_ref-2.ensures.value c.in_ok-back.ensures.of));
+    }

@@ -1,0 +1,379 @@
+//! A call that replaces each file: a new one is written beside it, and takes its place where all of it was redacted.
+
+ghost use Rattle.std.specs.Prelude.{◌≡◌, ◌≤◌, IfErr, IfOk, IfSome, Ok, false, length, true};
+ghost use Rattle.programs.specs.Arguments.{texts};
+ghost use Rattle.programs.specs.Streams.{bytes_left, output_bytes};
+ghost use Rattle.acredact.specs.Arguments.{AreMistaken, AsksInPlace, IfAsked, all_given};
+ghost use Rattle.acredact.specs.Back.{AreBoth, IfBackIs};
+ghost use Rattle.acredact.specs.Calls.{IsWrongFailure};
+ghost use Rattle.acredact.specs.Files.{CanDo};
+ghost use Rattle.acredact.specs.InPlace.{AskedPlaces, KeepsEach, LoadedPlaces, PlaceJob, PlacesJob, ReplacesAsked};
+ghost use Rattle.acredact.specs.Into.{IsKept};
+ghost use Rattle.acredact.specs.Secrets.{IfOf};
+ghost use Rattle.acredact.specs.Tables.{HaveNoEmpty, secrets_of};
+
+use crate::arguments::{Item, Mistake, Word, counts, covers, has, items, replaces_in_place};
+use crate::back::back_of;
+use crate::clean::{Judge, unclean_of};
+use crate::counts::counts_of;
+use crate::failure::{Failure, tell_no_file, tell_unread};
+use crate::files::{Job, both, is_input};
+use crate::folder::Folder;
+use crate::load::{lists_of, rules};
+use crate::outputs::Outputs;
+use crate::patterns::{Rule, patterns_of, replacements_of};
+use crate::rows::build;
+use crate::run::{FAILED, gives_pattern, names, redact_by, report, tell_counted, text_of, warn};
+use crate::streams::Streams;
+use crate::summary::Volume;
+use aho_automaton::automaton::Automaton;
+use aho_backward::backward::Backward;
+use aho_core::error::StreamError;
+use aho_devices::adapters::{FromRead, FromWrite};
+use aho_devices::device::Sink;
+use programs::errors::Errors;
+use programs::rows::rows_of;
+use std::alloc::Global;
+use std::io::Read;
+
+/// Whether the arguments ask for files to be replaced in place.
+///
+/// # Errors
+///
+/// As `items`: the arguments are wrong, or memory runs out.
+pub fn asks_in_place<'a>(alloc: Global, arguments: &'a [String]) -> Result<bool, Failure<'a>>
+    ensures asked { IfOk result (AsksInPlace arguments.now) }
+    ensures wrong { IfErr result (λ failure. IsWrongFailure (texts arguments.now) failure) }
+{
+    match items(alloc, arguments) {
+        Ok(given) => Ok(replaces_in_place(given.as_slice())),
+        Err(mistake) => Err(Failure::Arguments(mistake)),
+    }
+}
+
+/// Replaces each file by its redaction, and answers the exit status: 0 where all were, and 2 where the arguments or the patterns are
+/// wrong, memory runs out, or a file cannot be read or replaced. Such a file stays as it was, and it is told why.
+pub fn replace_in_place<F: Folder, O: Outputs, I: Read + Drop, E: Sink + Drop>(
+    alloc: Global,
+    arguments: &[String],
+    folder: &F,
+    outputs: &mut O,
+    input: I,
+    errors: Errors<'_, E>,
+) -> u8
+    // Wrong arguments are found before a file is made.
+    ensures wrong { AreMistaken arguments.now → result ≡ 2 }
+    ensures unmade { AreMistaken arguments.now → outputs.new ≡ outputs.old }
+    // Where the status is 0, each file was redacted into a new one, which was flushed and took its place.
+    ensures replaces { IfAsked arguments.now (λ given. result ≡ 0 → ReplacesAsked O.File.Write
+        F.Folder O.Outputs folder.now (I.remaining input) outputs.old outputs.new given) }
+    // Whatever it is, each file was replaced by its whole redaction, or is as it was.
+    ensures keeps { IfAsked arguments.now
+        (KeepsEach O.File.Write F.Folder O.Outputs folder.now (I.remaining input) outputs.old outputs.new) }
+    ensures bound { result ≤ 2 }
+{
+    let mut errors = errors;
+    match items(alloc, arguments) {
+        Ok(given) => {
+            let mut streams = Streams {
+                input: FromRead::new(input),
+                output: FromWrite::new(outputs.idle()),
+                errors,
+            };
+            answer_places(alloc, given.as_slice(), folder, outputs, &mut streams)
+        }
+        Err(mistake) => report(&Failure::Arguments(mistake), &mut errors),
+    }
+}
+
+/// Replaces each file, and answers the exit status.
+fn answer_places<F: Folder, O: Outputs, I: Read, E: Sink>(
+    alloc: Global,
+    given: &[Item<'_>],
+    folder: &F,
+    outputs: &mut O,
+    streams: &mut Streams<'_, I, O::File, E>,
+) -> u8
+    ensures replaces { result ≡ 0 → ReplacesAsked O.File.Write F.Folder O.Outputs folder.now
+        (bytes_left streams.old.input) outputs.old outputs.new (all_given given.now) }
+    ensures keeps { KeepsEach O.File.Write F.Folder O.Outputs folder.now (bytes_left streams.old.input)
+        outputs.old outputs.new (all_given given.now) }
+    ensures bound { result ≤ 2 }
+{
+    match load_places(alloc, given, folder, outputs, streams) {
+        Ok(true) => 0,
+        Ok(false) => FAILED,
+        Err(failure) => report(&failure, &mut streams.errors),
+    }
+}
+
+/// Loads all patterns, replaces each file by them, and answers whether all were replaced.
+fn load_places<'a, F: Folder, O: Outputs, I: Read, E: Sink>(
+    alloc: Global,
+    given: &[Item<'a>],
+    folder: &F,
+    outputs: &mut O,
+    streams: &mut Streams<'_, I, O::File, E>,
+) -> Result<bool, Failure<'a>>
+    ensures outcome { AskedPlaces O.File.Write F.Folder O.Outputs folder.now (all_given given.now) result
+        streams.old.input outputs.old outputs.new }
+{
+    if !gives_pattern(given) {
+        return Err(Failure::Arguments(Mistake::NoPattern));
+    }
+    let lists = lists_of(alloc, given, folder);
+    match rules(&lists, given, &mut streams.input) {
+        Ok(rules) => place_counted(alloc, given, rules.as_slice(), folder, outputs, streams),
+        Err(failure) => Err(failure),
+    }
+}
+
+/// Replaces each file by these rules, tells the counts where they are asked for, and answers whether all were replaced.
+fn place_counted<'a, F: Folder, O: Outputs, I: Read, E: Sink>(
+    alloc: Global,
+    given: &[Item<'_>],
+    rules: &[Rule],
+    folder: &F,
+    outputs: &mut O,
+    streams: &mut Streams<'_, I, O::File, E>,
+) -> Result<bool, Failure<'a>>
+    requires some { HaveNoEmpty (secrets_of rules.now) }
+    ensures outcome { LoadedPlaces O.File.Write F.Folder O.Outputs
+        folder.now (all_given given.now) rules.now result outputs.old outputs.new }
+{
+    let counted = counts(given);
+    let mut tally = counts_of(alloc, rules, counted)?;
+    let tally = tally.as_mut_slice();
+    let mut volume = Volume { files: 0, bytes: 0 };
+    // Not by `?`: this error may hold names.
+    match place_all(
+        alloc,
+        given,
+        rules,
+        folder,
+        tally,
+        &mut volume,
+        outputs,
+        streams,
+    ) {
+        Ok(all) => tell_counted(alloc, all, given, rules, tally, volume, &mut streams.errors),
+        Err(failure) => Err(failure),
+    }
+}
+
+/// Replaces each file by these rules, and answers whether all were replaced.
+fn place_all<'a, F: Folder, O: Outputs, I: Read, E: Sink>(
+    alloc: Global,
+    given: &[Item<'_>],
+    rules: &[Rule],
+    folder: &F,
+    counts: &mut [u64],
+    volume: &mut Volume,
+    outputs: &mut O,
+    streams: &mut Streams<'_, I, O::File, E>,
+) -> Result<bool, Failure<'a>>
+    requires some { HaveNoEmpty (secrets_of rules.now) }
+    ensures outcome { LoadedPlaces O.File.Write F.Folder O.Outputs
+        folder.now (all_given given.now) rules.now result outputs.old outputs.new }
+{
+    let patterns = patterns_of(alloc, rules)?;
+    let text = text_of(given);
+    let replacements = replacements_of(alloc, rules, text)?;
+    let names = names(alloc, given)?;
+    let words = patterns.as_slice();
+    let nfa = build(alloc, given, words)?;
+    let ignore_case = has(given, Word::IgnoreCase);
+    let rows = rows_of(alloc, &nfa, ignore_case, words)?;
+    let back = back_of(alloc, given, words, &nfa)?;
+    let job = Job {
+        alloc,
+        folder,
+        names: names.as_slice(),
+        replacements: replacements.as_slice(),
+        covers: covers(given),
+    };
+    let judge = Judge {
+        words,
+        ignore_case,
+        rules,
+        usual: text,
+    };
+    let strict = has(given, Word::Strict);
+    place_warned(
+        &nfa,
+        rows.as_ref(),
+        back.as_ref(),
+        &job,
+        &judge,
+        strict,
+        counts,
+        volume,
+        outputs,
+        streams,
+    )
+}
+
+/// Tells of a piece that is not clean, where a cover is asked for, or refuses it, and replaces each file.
+fn place_warned<
+    'a,
+    A: Automaton,
+    B: Automaton,
+    C: Automaton,
+    F: Folder,
+    O: Outputs,
+    I: Read,
+    E: Sink,
+>(
+    automaton: &A,
+    rows: Option<&B>,
+    back: Option<&Backward<C>>,
+    job: &Job<'_, '_, F>,
+    judge: &Judge<'_, '_>,
+    strict: bool,
+    counts: &mut [u64],
+    volume: &mut Volume,
+    outputs: &mut O,
+    streams: &mut Streams<'_, I, O::File, E>,
+) -> Result<bool, Failure<'a>>
+    requires ready { CanDo A.Automaton automaton.now job.now }
+    requires rows { IfSome rows (λ rows. CanDo B.Automaton rows.now job.now) }
+    requires back { AreBoth A.Automaton C.Automaton automaton.now back }
+    requires words { length judge.now.rules.now ≡ length judge.now.words.now }
+    ensures outcome { IfOf A.Automaton automaton.now (λ p. IfSome rows.entry (λ rows. B.is_of rows.now p)
+        → IfBackIs C.Automaton back.entry p
+        (PlacesJob O.File.Write F.Folder O.Outputs job.now p result outputs.old outputs.new)) }
+{
+    let unclean = unclean_of(automaton, judge, job.covers);
+    // Not by `?`: this error may hold names.
+    match warn(&mut streams.errors, unclean, strict) {
+        Ok(()) => Ok(place_each(automaton, rows, back, job, counts, volume, outputs, streams)?),
+        Err(failure) => Err(failure),
+    }
+}
+
+/// Replaces each file, and answers whether all were replaced.
+fn place_each<A: Automaton, B: Automaton, C: Automaton, F: Folder, O: Outputs, I: Read, E: Sink>(
+    automaton: &A,
+    rows: Option<&B>,
+    back: Option<&Backward<C>>,
+    job: &Job<'_, '_, F>,
+    counts: &mut [u64],
+    volume: &mut Volume,
+    outputs: &mut O,
+    streams: &mut Streams<'_, I, O::File, E>,
+) -> Result<bool, StreamError>
+    requires ready { CanDo A.Automaton automaton.now job.now }
+    requires rows { IfSome rows (λ rows. CanDo B.Automaton rows.now job.now) }
+    requires back { AreBoth A.Automaton C.Automaton automaton.now back }
+    ensures outcome { IfOf A.Automaton automaton.now (λ p. IfSome rows.entry (λ rows. B.is_of rows.now p)
+        → IfBackIs C.Automaton back.entry p
+        (PlacesJob O.File.Write F.Folder O.Outputs job.now p result outputs.old outputs.new)) }
+{
+    let mut all = true;
+    let mut rest = job.names;
+    while !rest.is_empty() {
+        let whole = place_one(
+            automaton, rows, back, job, rest[0], counts, volume, outputs, streams,
+        )?;
+        all = both(all, whole);
+        rest = &rest[1..];
+    }
+    Ok(all)
+}
+
+/// Replaces a file, and answers whether it was replaced. One that was not is told.
+fn place_one<A: Automaton, B: Automaton, C: Automaton, F: Folder, O: Outputs, I: Read, E: Sink>(
+    automaton: &A,
+    rows: Option<&B>,
+    back: Option<&Backward<C>>,
+    job: &Job<'_, '_, F>,
+    name: &str,
+    counts: &mut [u64],
+    volume: &mut Volume,
+    outputs: &mut O,
+    streams: &mut Streams<'_, I, O::File, E>,
+) -> Result<bool, StreamError>
+    requires ready { CanDo A.Automaton automaton.now job.now }
+    requires rows { IfSome rows (λ rows. CanDo B.Automaton rows.now job.now) }
+    requires back { AreBoth A.Automaton C.Automaton automaton.now back }
+    ensures outcome { IfOf A.Automaton automaton.now (λ p. IfSome rows.entry (λ rows. B.is_of rows.now p)
+        → IfBackIs C.Automaton back.entry p
+        (PlaceJob O.File.Write F.Folder O.Outputs job.now name.now p result outputs.old outputs.new)) }
+{
+    if is_input(name) {
+        tell_no_file(&mut streams.errors, name);
+        return Ok(false);
+    }
+    match outputs.make(name) {
+        Ok(file) => {
+            streams.output = FromWrite::new(file);
+            let names = [name];
+            let one = Job {
+                names: &names,
+                ..*job
+            };
+            let done = redact_by(automaton, rows, back, &one, counts, volume, streams);
+            settle(outputs, name, done, streams)
+        }
+        Err(reason) => {
+            tell_unread(&mut streams.errors, name, reason);
+            Ok(false)
+        }
+    }
+}
+
+/// Has the new file take the place of the one of this name, where all was redacted, and else removes it. Answers whether it took it.
+/// It is told why not, but where memory ran out.
+fn settle<O: Outputs, I: Read, E: Sink>(
+    outputs: &mut O,
+    name: &str,
+    done: Result<bool, StreamError>,
+    streams: &mut Streams<'_, I, O::File, E>,
+) -> Result<bool, StreamError>
+    ensures done { result ≡ Ok true → done ≡ Ok true }
+    ensures puts { result ≡ Ok true → O.puts outputs.old outputs.new name.now
+        (output_bytes O.File.Write streams.old.output) }
+    ensures kept { (result ≡ Ok true → ⊥) → IsKept O.Outputs name.now outputs.old outputs.new }
+{
+    match done {
+        Ok(true) => Ok(put_new(outputs, name, streams)),
+        Ok(false) => {
+            outputs.remove(name);
+            Ok(false)
+        }
+        Err(error) => {
+            let reason = outputs.unwritten();
+            outputs.remove(name);
+            if is_memory(error) {
+                return Err(StreamError::Memory);
+            }
+            tell_unread(&mut streams.errors, name, reason);
+            Ok(false)
+        }
+    }
+}
+
+/// Whether memory ran out.
+fn is_memory(error: StreamError) -> bool {
+    matches!(error, StreamError::Memory)
+}
+
+/// Has the new file take the place of the one of this name, and answers whether it did. Else it is told and removed.
+fn put_new<O: Outputs, I: Read, E: Sink>(
+    outputs: &mut O,
+    name: &str,
+    streams: &mut Streams<'_, I, O::File, E>,
+) -> bool
+    ensures puts { result ≡ true → O.puts outputs.old outputs.new name.now
+        (output_bytes O.File.Write streams.old.output) }
+    ensures kept { result ≡ false → IsKept O.Outputs name.now outputs.old outputs.new }
+{
+    match outputs.put(name, &streams.output) {
+        Ok(()) => true,
+        Err(reason) => {
+            tell_unread(&mut streams.errors, name, reason);
+            outputs.remove(name);
+            false
+        }
+    }
+}
