@@ -1,54 +1,37 @@
 -- Lines that are held, and one more or one less of them.
-use Rattle.std.proofs.Common.{◌≡◌, inl, inr, ℕ, suc, ◌+◌, ◌-◌, ◌≤◌, ◌<◌, ◌==◌, Bool, true, List, [], ◌∷◌, ◌++◌, length, take, drop, refl, sym, ◌∙◌, ap, arith}
-use Rattle.std.specs.Prelude.{if◌then◌else◌}
+use Rattle.std.proofs.Common.{◌≡◌, ℕ, ◌+◌, ◌≤◌, ◌<◌, List, [], ◌∷◌, ◌++◌, length, take, drop, sym, ◌∙◌, ap, arith}
 use Rattle.std.specs.List.{sum}
-use Rattle.std.proofs.lemmas.Bool.{cases_Bool, eqb-true}
-use Rattle.std.proofs.lemmas.List.{drop-append-le, length-drop, take-append-le, take_all}
-use Rattle.acgrep.specs.Contexts.{Holding, dropped_of, first_in, with_line, without_first}
+use Rattle.std.specs.Prelude.{slice_index_or}
+use Rattle.std.proofs.lemmas.List.Sums.{sum_by-cons, sum_by-drop_more}
+use Rattle.std.proofs.lemmas.List.{at_drop_more, drop-append-le, length-drop, take-append-le, take_all}
 use Rattle.acgrep.specs.Filled.{cut_by}
-use Rattle.acgrep.specs.Written.{after_line}
-use Rattle.acgrep.specs.declared.print.Place.{Place}
+
+sum_first : (size : ℕ) (sizes : List ℕ) → sum (size ∷ sizes) ≡ size + sum sizes
+sum_first size sizes = sum_by-cons (λ n. n) size sizes
 
 -- bytes of so many lines, and those of one more behind them
 pub cut_more : (sizes : List ℕ) (bytes line : List ℕ) → sum sizes ≡ length bytes → cut_by (sizes ++ (length line ∷ [])) (bytes ++ line) ≡ cut_by sizes bytes ++ (line ∷ [])
 cut_more [] [] line same = ap (λ (l : List ℕ). l ∷ []) (take_all (length line) line (omega arith))
 cut_more [] (byte ∷ bytes) line same = absurd (omega (arith, same))
 cut_more (size ∷ sizes) bytes line same =
-    let within : size ≤ length bytes = omega (arith, same) in
+    let all : size + sum sizes ≡ length bytes = sym (sum_first size sizes) ∙ same in
+    let within : size ≤ length bytes = omega (arith, all) in
+    let left : sum sizes ≡ length (drop size bytes) = omega (arith, all, length-drop size bytes) in
     ap (λ (l : List ℕ). l ∷ cut_by (sizes ++ (length line ∷ [])) (drop size (bytes ++ line))) (take-append-le size bytes line within)
     ∙ ap (λ (l : List ℕ). take size bytes ∷ cut_by (sizes ++ (length line ∷ [])) l) (drop-append-le size bytes line within)
-    ∙ ap (λ (l : List (List ℕ)). take size bytes ∷ l) (cut_more sizes (drop size bytes) line (omega (arith, same, length-drop size bytes)))
+    ∙ ap (λ (l : List (List ℕ)). take size bytes ∷ l) (cut_more sizes (drop size bytes) line left)
 
-pub cut_length : (sizes bytes : List ℕ) → length (cut_by sizes bytes) ≡ length sizes
-cut_length [] bytes = refl
-cut_length (size ∷ sizes) bytes = ap suc (cut_length sizes (drop size bytes))
+-- a line is cut off where its size is the next one
+pub sum_left : (sizes : List ℕ) (index size : ℕ) (rest left : List ℕ) → index < length sizes → size ≡ slice_index_or sizes index size → sum (drop index sizes) ≡ length rest
+    → left ≡ drop size rest → sum (drop (index + 1) sizes) ≡ length left
+sum_left sizes index size rest left some is all cut =
+    let first : sum (drop index sizes) ≡ slice_index_or sizes index size + sum (drop (index + 1) sizes) = sum_by-drop_more (λ n. n) sizes index size some in
+    omega (arith, all, is, first, ap length cut, length-drop size rest)
 
--- the first line is dropped
-pub dropped_is : (h : Holding) (line : List ℕ) (rest : List (List ℕ)) (first : Place) (held : List (List ℕ)) → h.held ≡ line ∷ rest → first ≡ after_line h.first line → held ≡ rest
-    → record { apart = true; first = first; held = held } ≡ without_first h
-dropped_is h line rest first held all at same =
-    ap (λ (at : Place). dropped apart_now at held) at ∙ ap (dropped apart_now (after_line h.first line)) same ∙ sym (ap (dropped_of h) all)
-  where
-    apart_now : Bool
-    apart_now = true
-
-    dropped : Bool → Place → List (List ℕ) → Holding
-    dropped apart first held = record { apart = apart; first = first; held = held }
-
-first_by : (count : ℕ) (place first : Place) (ls : List (List ℕ)) → count ≡ length ls → (if count == 0 then place else first) ≡ first_in place first ls
-first_by count place first [] is = ap (λ (n : ℕ). if n == 0 then place else first) is
-first_by count place first (line ∷ rest) is =
-    elim (cases_Bool (count == 0)) [
-      | inl none ↦ absurd (omega (arith, is, eqb-true count 0 none))
-      | inr some ↦ rw some refl
-    ]
-
-abbrev pub holding_by : Bool → Place → List (List ℕ) → Holding
-holding_by apart first held = record { apart = apart; first = first; held = held }
-
--- and a line more is held
-pub pushed_is : (apart : Bool) (first place start : Place) (count : ℕ) (before after : List (List ℕ)) (line : List ℕ) → count ≡ length before → after ≡ before ++ (line ∷ [])
-    → start ≡ (if count == 0 then place else first) → holding_by apart start after ≡ with_line place (holding_by apart first before) line
-pushed_is apart first place start count before after line counted more is =
-    ap (λ (at : Place). holding_by apart at after) (is ∙ first_by count place first before counted)
-    ∙ ap (holding_by apart (first_in place first before)) more
+pub cut_left : (sizes : List ℕ) (index size : ℕ) (rest line left : List ℕ) → index < length sizes → size ≡ slice_index_or sizes index size → line ≡ take size rest → left ≡ drop size rest
+    → cut_by (drop index sizes) rest ≡ line ∷ cut_by (drop (index + 1) sizes) left
+cut_left sizes index size rest line left some is front back =
+    at_drop_more (λ (l : List ℕ). cut_by l rest) sizes index size some
+    ∙ ap (λ (n : ℕ). take n rest ∷ cut_by (drop (index + 1) sizes) (drop n rest)) (sym is)
+    ∙ ap (λ (l : List ℕ). l ∷ cut_by (drop (index + 1) sizes) (drop size rest)) (sym front)
+    ∙ ap (λ (l : List ℕ). line ∷ cut_by (drop (index + 1) sizes) l) (sym back)

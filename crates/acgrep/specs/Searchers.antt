@@ -9,10 +9,11 @@ use Rattle.aho_hybrid.specs.contracts.hybrid.HybridAutomaton.TheImpl.{ghosts as 
 use Rattle.programs.specs.Asked.{ArePatterns}
 use Rattle.acgrep.specs.Arguments.{ending_by}
 use Rattle.acgrep.specs.Backing.{IsBackedBy}
-use Rattle.acgrep.specs.Selected.{ForLines}
+use Rattle.acgrep.specs.Selected.{ForJob, ForLines}
 use Rattle.acgrep.specs.declared.options.Flags.{Flags}
 use Rattle.acgrep.specs.declared.searcher.Searcher.{Searcher}
 use Rattle.acgrep.specs.declared.searcher.Searcher.TheVariants.{Rows, Trie}
+use Rattle.acgrep.specs.declared.select.Job.{Job}
 
 -- these words, by a match kind and a case rule
 abbrev pub patterns_asked : MatchKind → Bool → List (List ℕ) → Patterns
@@ -34,3 +35,7 @@ IsSearcherOf p (Trie nfa) = of_nfa.is_of nfa.automaton p × IsBackedBy p nfa.bac
 -- what holds of its patterns where none holds the byte that ends a line
 abbrev pub ForSearcher : Searcher → Flags → (Patterns → Type 0) → Type 0
 ForSearcher searcher flags Holds = ForLines (ending_by flags) (λ p. IsSearcherOf p searcher) Holds
+
+-- so by what is written of each line
+abbrev pub ForSearch : Searcher → Job → (Patterns → Type 0) → Type 0
+ForSearch searcher job Holds = ForJob job (λ p. IsSearcherOf p searcher) Holds

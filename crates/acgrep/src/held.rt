@@ -1,7 +1,7 @@
 //! The lines that were passed over last, which are written where the next selected line is near.
 
 ghost use Rattle.std.specs.List.{sum};
-ghost use Rattle.std.specs.Prelude.{◌≡◌, ◌++◌, ◌∷◌, [], ◌≤◌, ◌<◌, OnOk, drop, length, vec_len};
+ghost use Rattle.std.specs.Prelude.{◌≡◌, ◌++◌, ◌∷◌, [], ◌≤◌, ◌<◌, ◌+◌, OnOk, drop, length, vec_len};
 
 use std::alloc::{AllocError, Global};
 use std::collections::VecDeque;
@@ -83,6 +83,7 @@ impl Held {
     /// Moves what is held to the front of the room, where it is the smaller part.
     fn close_up(&mut self)
         ensures same { held_bytes self.new ≡ held_bytes self.old }
+        ensures sizes { self.new.sizes.items ≡ self.old.sizes.items }
     {
         let len = self.room.len();
         if self.from <= len / 2 {

@@ -14,8 +14,7 @@ ghost use Rattle.acgrep.specs.Mistakes.{TellsLacking, TellsMistake, TellsNoPatte
 ghost use Rattle.acgrep.specs.Files.{AreFilesBegun, AreSearchedOr, files_named};
 ghost use Rattle.acgrep.specs.Folders.{known_by, tree_of};
 ghost use Rattle.acgrep.specs.Runs.{AsksToSearch, BeginsSearch, BeginsFor, GivesNone, IfSaid, IsJob, Searches, SearchesFor, SearchesSaid, are_empty, asks_none, form_asked, form_said, inverts, is_colored, kind_sought, knows_none, lists_finds, origins_of, selects_none, status_told, takes_any, words_sought};
-ghost use Rattle.acgrep.specs.Searchers.{IsSearcherOf};
-ghost use Rattle.acgrep.specs.Selected.{ForJob};
+ghost use Rattle.acgrep.specs.Searchers.{ForSearch, IsSearcherOf};
 
 use crate::arguments::{Given, Refusal, Source, Wrong, parse};
 use crate::below::search_operands;
@@ -309,11 +308,11 @@ pub fn search_by<F: Open, R: Read, W: Sink, E: Sink>(
 ) -> u8
     requires of { (p : Patterns) × IsSearcherOf p searcher.now }
     ensures bound { result ≤ 2 }
-    ensures searched { ForJob job.now (λ p. IsSearcherOf p searcher.now) (λ p. result < 2
+    ensures searched { ForSearch searcher.now job.now (λ p. result < 2
         → AreSearchedOr p job.now (F.holds files.now.files.now) (files_named files.now)
         (R.remaining input.old) (R.remaining input.new)
         (W.taken output.old) (W.taken output.new) result) }
-    ensures begun { ForJob job.now (λ p. IsSearcherOf p searcher.now) (λ p.
+    ensures begun { ForSearch searcher.now job.now (λ p.
         AreFilesBegun p job.now false (F.holds files.now.files.now) (files_named files.now)
         (R.remaining input.old) (W.taken output.old) (W.taken output.new)) }
     ensures told { TellsOfFiles E.Sink job.now.hushed job.now.label.now (files_named files.now)
