@@ -1,7 +1,7 @@
 -- Patterns that hold no byte by which lines end.
-use Rattle.std.proofs.Common.{◌≡◌, inl, inr, ℕ, ◌≤◌, ◌<◌, ◌==◌, Bool, true, false, List, length, sym, ◌∙◌, ap, arith}
+use Rattle.std.proofs.Common.{◌≡◌, ℕ, ◌+◌, ◌≤◌, ◌<◌, ◌==◌, Bool, true, false, List, length, refl, ◌∙◌, arith}
 use Rattle.std.specs.Prelude.{nat_le, ◌&&◌, slice_index, if◌then◌else◌}
-use Rattle.std.proofs.lemmas.Bool.{cases_Bool, eq-eqb}
+use Rattle.std.proofs.lemmas.Bool.{and_parts, eq-eqb, leb-true}
 use Rattle.aho_core.specs.Bytes.{folded_by}
 use Rattle.aho_core.specs.declared.search.MatchKind.{MatchKind}
 use Rattle.acgrep.specs.Arguments.{ending_by}
@@ -10,14 +10,14 @@ use Rattle.acgrep.specs.Searchers.{patterns_asked}
 use Rattle.acgrep.specs.Selected.{HoldNoEnding}
 use Rattle.acgrep.specs.declared.options.Flags.{Flags}
 
+raised_low : (upper : Bool) (byte low : ℕ) → (nat_le 65 byte && nat_le byte 90) ≡ upper → low < 65 → (if upper then byte + 32 else byte) ≡ low → byte ≡ low
+raised_low true byte low upper less is = absurd (omega (arith, less, is, leb-true 65 byte (and_parts (nat_le 65 byte) (nat_le byte 90) upper).0))
+raised_low false byte low upper less is = is
+
 -- by the case rule a byte below the letters is the same as no other byte
 fold_low : (ignore_case : Bool) (byte low : ℕ) → low < 65 → folded_by ignore_case byte ≡ low → byte ≡ low
 fold_low false byte low less is = is
-fold_low true byte low less is =
-    elim (cases_Bool (nat_le 65 byte && nat_le byte 90)) [
-      | inl upper ↦ absurd (omega (arith, less, rw upper at is))
-      | inr other ↦ rw other at is
-    ]
+fold_low true byte low less is = raised_low (nat_le 65 byte && nat_le byte 90) byte low refl less is
 
 fold_zero : (ignore_case : Bool) → folded_by ignore_case 0 ≡ 0
 fold_zero true = refl
