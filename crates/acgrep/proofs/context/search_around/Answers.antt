@@ -4,19 +4,12 @@ use Rattle.acgrep.specs.Contexts.{walk_of}
 use Rattle.acgrep.specs.Lines.{lines}
 use Rattle.acgrep.proofs.Beginnings.{on_err}
 use Rattle.acgrep.proofs.FirstLines.{lines_first}
-use Rattle.acgrep.proofs.HeldLines.{front_none}
 use Rattle.acgrep.proofs.Stepped.{to_begun, to_start, to_step}
 use Rattle.acgrep.proofs.context.search_around.Goals as goal
 
 pub loop-rest-init : goal.loop-rest-init
 loop-rest-init g c = record {
   walks = λ p is. to_start p c.args.job.now c.args.context.now (walk_of c.args.state.now) (g.W.Sink.taken c.args.output.now) c.args.text.now;
-}
-
-pub pass_any-requires : goal.pass_any-requires
-pass_any-requires g c = record {
-  of = c.requires.of;
-  one = front_none c.loop-rest.rest.now c.line_end-end.result c.line_end-end.ensures.within c.line_end-end.ensures.none;
 }
 
 pub loop-rest-preserved : goal.loop-rest-preserved
