@@ -139,13 +139,7 @@ fn put_group<A: Lister, W: Write>(
 {
     let trail = &state.trail;
     put_between(job, is_parted(context, trail), output)?;
-    put_each_line(
-        automaton,
-        &job.beside(),
-        &trail.held,
-        trail.first,
-        output,
-    )?;
+    put_each_line(automaton, &job.beside(), &trail.held, trail.first, output)?;
     put_shown(automaton, job, line, state.place, output)
 }
 

@@ -145,7 +145,12 @@ fn is_text(bytes: &[u8]) -> bool
 }
 
 /// Writes a match by a format, on a line of its own.
-fn put_formatted<W: Write>(output: &mut W, pieces: &[Piece], fields: &Fields<'_>, ending: u8) -> io::Result<()>
+fn put_formatted<W: Write>(
+    output: &mut W,
+    pieces: &[Piece],
+    fields: &Fields<'_>,
+    ending: u8,
+) -> io::Result<()>
     ensures written { Puts W.Write output.old output.new result
         (formatted_by ending pieces.now (fields_told fields.now)) }
 {

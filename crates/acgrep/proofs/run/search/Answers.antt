@@ -32,7 +32,7 @@ returns-in-Ok-build-clause-searches g c low =
     let sought = words_sought flags (lines 10 text) in
     let same : pieces_of c.sought-words.result.now ≡ sought =
     c.sought-words.ensures.words ∙ ap (words_sought flags) (ap pieces_of c.as_slice-all.ensures.value ∙ c.in-Ok.ensures.lines ∙ ap (lines 10) c.as_slice.ensures.value) in
-    let free : AreFreeOf (ending_by flags) sought = subst (AreFreeOf (ending_by flags)) same (subst (λ (n : ℕ). AreFreeOf n (pieces_of c.sought-words.result.now)) c.ending.ensures.ending (c.first_holding.ensures.none ?)) in
+    let free : AreFreeOf (ending_by flags) sought = subst (AreFreeOf (ending_by flags)) same (subst (λ (n : ℕ). AreFreeOf n (pieces_of c.sought-words.result.now)) c.ending.ensures.ending (c.first_holding.ensures.none c.in_default-first_holding.is)) in
     let asked = patterns_asked (kind_sought flags) flags.ignore_case sought in
     let some : knows_none flags sought ≡ false = ap (knows_none flags) (sym same) ∙ sym c.knows_none.ensures ∙ c.if-knows_none.false in
     record {
@@ -69,7 +69,7 @@ returns-in-Ok-build-clause-begins g c =
     let sought = words_sought flags (lines 10 text) in
     let same : pieces_of c.sought-words.result.now ≡ sought =
     c.sought-words.ensures.words ∙ ap (words_sought flags) (ap pieces_of c.as_slice-all.ensures.value ∙ c.in-Ok.ensures.lines ∙ ap (lines 10) c.as_slice.ensures.value) in
-    let free : AreFreeOf (ending_by flags) sought = subst (AreFreeOf (ending_by flags)) same (subst (λ (n : ℕ). AreFreeOf n (pieces_of c.sought-words.result.now)) c.ending.ensures.ending (c.first_holding.ensures.none ?)) in
+    let free : AreFreeOf (ending_by flags) sought = subst (AreFreeOf (ending_by flags)) same (subst (λ (n : ℕ). AreFreeOf n (pieces_of c.sought-words.result.now)) c.ending.ensures.ending (c.first_holding.ensures.none c.in_default-first_holding.is)) in
     let asked = patterns_asked (kind_sought flags) flags.ignore_case sought in
     elim (c.search_operands.ensures.begun asked (c.in-Ok-build.ensures.of asked (sym c.kind_sought.ensures) (record { words_are = sym same; rule = refl })) (free_plain flags (kind_sought flags) flags.ignore_case sought free)) [
       | inl keeps ↦ inl keeps
