@@ -2,7 +2,7 @@
 use Rattle.std.proofs.Common.{List, ℕ, subst}
 use Rattle.std.specs.Io.KnownBytes.{Appends}
 use Rattle.std.proofs.lemmas.Result.{on_ok_weaker}
-use Rattle.acgrep.specs.Contexts.{ShowsEach, beside, walk_of}
+use Rattle.acgrep.specs.Contexts.{ShowsEach, walk_of}
 use Rattle.acgrep.specs.Filled.{held_lines}
 use Rattle.acgrep.specs.declared.select.Job.{Job}
 use Rattle.acgrep.proofs.Stepped.{group_put}
