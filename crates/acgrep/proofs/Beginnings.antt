@@ -134,32 +134,32 @@ module _ (p : Patterns) (job : Job) where
   }
 
   -- selected lines so far, and a beginning of the next
-  pub begins_passing : (a b : State) (count : ℕ) (x y z : Option (List ℕ)) (text rest line left : List ℕ) → job.invert ≡ true → lines rest ≡ line ∷ lines left
-      → Passing p job a b x y text rest → (IsSelected p job.fit job.invert line → BeginsLines p job b count y z (line ∷ [])) → BeginsLines p job a count x z (lines text)
+  pub begins_passing : (a b : State) (count : ℕ) (x y z : Option (List ℕ)) (text rest line left : List ℕ) → job.invert ≡ true → lines job.style.ending rest ≡ line ∷ lines job.style.ending left
+      → Passing p job a b x y text rest → (IsSelected p job.fit job.invert line → BeginsLines p job b count y z (line ∷ [])) → BeginsLines p job a count x z (lines job.style.ending text)
   begins_passing a b count x y z text rest line left invert first so_far begins =
-      let each : EachLine (HasNone p) (line ∷ lines left) = subst (EachLine (HasNone p)) first so_far.each in
+      let each : EachLine (HasNone p) (line ∷ lines job.style.ending left) = subst (EachLine (HasNone p)) first so_far.each in
       let selected : IsSelected p job.fit job.invert line =
       subst (λ (b : Bool). MatchBool b (DoesNotMatch p job.fit line) (DoesMatch p job.fit line)) (sym invert) (none_matches p job.fit line each.0) in
       let there : SamePlace job b.place (after_lines a.place so_far.searched) = subst (λ (place : Place). SamePlace job b.place place) so_far.placed (same_place job b.place) in
       subst (BeginsLines p job a count x z) (sym (so_far.cut ∙ ap (λ (l : List (List ℕ)). so_far.searched ++ l) first))
-      (begins_join a b count x y z so_far.searched (line ∷ lines left) so_far.tells there (begins_more b count y z (line ∷ []) (lines left) (begins selected)))
+      (begins_join a b count x y z so_far.searched (line ∷ lines job.style.ending left) so_far.tells there (begins_more b count y z (line ∷ []) (lines job.style.ending left) (begins selected)))
 
   -- lines with no match, and a beginning of one with a match
-  pub begins_line : (a b : State) (count : ℕ) (x y z : Option (List ℕ)) (text front line left : List ℕ) → lines text ≡ lines front ++ (line ∷ lines left)
-      → TellsLines p job a b x y (lines front) → SamePlace job b.place (after_lines a.place (lines front)) → BeginsLines p job b count y z (line ∷ [])
-      → BeginsLines p job a count x z (lines text)
+  pub begins_line : (a b : State) (count : ℕ) (x y z : Option (List ℕ)) (text front line left : List ℕ) → lines job.style.ending text ≡ lines job.style.ending front ++ (line ∷ lines job.style.ending left)
+      → TellsLines p job a b x y (lines job.style.ending front) → SamePlace job b.place (after_lines a.place (lines job.style.ending front)) → BeginsLines p job b count y z (line ∷ [])
+      → BeginsLines p job a count x z (lines job.style.ending text)
   begins_line a b count x y z text front line left cut one same other =
       subst (BeginsLines p job a count x z) (sym cut)
-      (begins_join a b count x y z (lines front) (line ∷ lines left) one same (begins_more b count y z (line ∷ []) (lines left) other))
+      (begins_join a b count x y z (lines job.style.ending front) (line ∷ lines job.style.ending left) one same (begins_more b count y z (line ∷ []) (lines job.style.ending left) other))
 
   -- the lines before those with a match
-  pub begins_front : (a : State) (count : ℕ) (x y : Option (List ℕ)) (text front : List ℕ) (more : List (List ℕ)) → lines text ≡ lines front ++ more
-      → BeginsLines p job a count x y (lines front) → BeginsLines p job a count x y (lines text)
-  begins_front a count x y text front more cut begins = subst (BeginsLines p job a count x y) (sym cut) (begins_more a count x y (lines front) more begins)
+  pub begins_front : (a : State) (count : ℕ) (x y : Option (List ℕ)) (text front : List ℕ) (more : List (List ℕ)) → lines job.style.ending text ≡ lines job.style.ending front ++ more
+      → BeginsLines p job a count x y (lines job.style.ending front) → BeginsLines p job a count x y (lines job.style.ending text)
+  begins_front a count x y text front more cut begins = subst (BeginsLines p job a count x y) (sym cut) (begins_more a count x y (lines job.style.ending front) more begins)
 
   -- lines that were searched, and a beginning of those that follow
   pub begins_rest : (a b : State) (count : ℕ) (x y z : Option (List ℕ)) (text rest : List ℕ) → SearchesTo p job a b x y text rest → 0 < length rest
-      → BeginsLines p job b count y z (lines rest) → BeginsLines p job a count x z (lines text)
+      → BeginsLines p job b count y z (lines job.style.ending rest) → BeginsLines p job a count x z (lines job.style.ending text)
   begins_rest a b count x y z text rest so_far some begins =
       subst (BeginsLines p job a count x z) (sym so_far.cut)
-      (begins_join a b count x y z so_far.searched (lines rest) so_far.tells (so_far.placed (inl some)) begins)
+      (begins_join a b count x y z so_far.searched (lines job.style.ending rest) so_far.tells (so_far.placed (inl some)) begins)

@@ -96,22 +96,22 @@ module _ (p : Patterns) (job : Job) where
       ]
 
   -- what is written of a whole text
-  by_whole : (shown : Shown) → shown ≡ job.shown → (text told : List ℕ) (count : ℕ) → TellsIn p job (around_by shown job.context) (lines text) told count
+  by_whole : (shown : Shown) → shown ≡ job.shown → (text told : List ℕ) (count : ℕ) → TellsIn p job (around_by shown job.context) (lines job.style.ending text) told count
       → TellsBy p job shown text (nat_lt 0 count) (told ++ total_if shown job.style count)
   by_whole Lines is text told count tells =
-      (told, count, subst (λ (shown : Shown). TellsIn p job (around_by shown job.context) (lines text) told count) is tells, ap (λ (shown : Shown). told ++ count_if shown job.style count) is)
+      (told, count, subst (λ (shown : Shown). TellsIn p job (around_by shown job.context) (lines job.style.ending text) told count) is tells, ap (λ (shown : Shown). told ++ count_if shown job.style count) is)
   by_whole Matches is text told count tells =
-      (told, count, subst (λ (shown : Shown). TellsIn p job (around_by shown job.context) (lines text) told count) is tells, ap (λ (shown : Shown). told ++ count_if shown job.style count) is)
+      (told, count, subst (λ (shown : Shown). TellsIn p job (around_by shown job.context) (lines job.style.ending text) told count) is tells, ap (λ (shown : Shown). told ++ count_if shown job.style count) is)
   by_whole Objects is text told count tells =
-      (told, count, subst (λ (shown : Shown). TellsIn p job (around_by shown job.context) (lines text) told count) is tells, ap (λ (shown : Shown). told ++ count_if shown job.style count) is)
+      (told, count, subst (λ (shown : Shown). TellsIn p job (around_by shown job.context) (lines job.style.ending text) told count) is tells, ap (λ (shown : Shown). told ++ count_if shown job.style count) is)
   by_whole Count is text told count tells =
-      (told, count, subst (λ (shown : Shown). TellsIn p job (around_by shown job.context) (lines text) told count) is tells, ap (λ (shown : Shown). told ++ count_if shown job.style count) is)
+      (told, count, subst (λ (shown : Shown). TellsIn p job (around_by shown job.context) (lines job.style.ending text) told count) is tells, ap (λ (shown : Shown). told ++ count_if shown job.style count) is)
   by_whole Names is text told count tells =
-      ap (λ (l : List ℕ). l ++ total_if Names job.style count) (tells_none (lines text) job.first 0 told count (ap needs_one (sym is)) tells)
+      ap (λ (l : List ℕ). l ++ total_if Names job.style count) (tells_none (lines job.style.ending text) job.first 0 told count (ap needs_one (sym is)) tells)
   by_whole Lacking is text told count tells =
-      ap (λ (l : List ℕ). l ++ total_if Lacking job.style count) (tells_none (lines text) job.first 0 told count (ap needs_one (sym is)) tells)
+      ap (λ (l : List ℕ). l ++ total_if Lacking job.style count) (tells_none (lines job.style.ending text) job.first 0 told count (ap needs_one (sym is)) tells)
   by_whole Nothing is text told count tells =
-      ap (λ (l : List ℕ). l ++ []) (tells_none (lines text) job.first 0 told count (ap needs_one (sym is)) tells)
+      ap (λ (l : List ℕ). l ++ []) (tells_none (lines job.style.ending text) job.first 0 told count (ap needs_one (sym is)) tells)
 
   -- and where one selected line told all
   by_front : (shown : Shown) (text : List ℕ) (count : ℕ) → needs_one shown ≡ true → 0 < count → TellsBy p job shown text true (total_if shown job.style count)
@@ -129,14 +129,14 @@ module _ (p : Patterns) (job : Job) where
 
   -- all of a text was searched
   file_whole : (state : State) (known held meanwhile held' : Option (List ℕ)) (text told plain : List ℕ) → IfSome known (λ (all : List ℕ). text ≡ all)
-      → TellsOfLines p job job.first 0 (lines text) plain state.selected → TellsFile p job (lines text) told state.selected → Appends held meanwhile told
+      → TellsOfLines p job job.first 0 (lines job.style.ending text) plain state.selected → TellsFile p job (lines job.style.ending text) told state.selected → Appends held meanwhile told
       → (any : Bool) → EndsFile job state.selected meanwhile held' any → SearchesFile p job known held held' any
   file_whole state known held meanwhile held' text told plain of selects tells written any ends =
       let count = state.selected in
       record {
         text = text;
         of = of;
-        selected = subst (IsAny p job.fit job.invert (lines text)) (sym ends.is_any) (tells_any (lines text) job.first plain count selects);
+        selected = subst (IsAny p job.fit job.invert (lines job.style.ending text)) (sym ends.is_any) (tells_any (lines job.style.ending text) job.first plain count selects);
         bytes = told ++ total_if job.shown job.style count;
         tells = subst (λ (any : Bool). TellsBy p job job.shown text any (told ++ total_if job.shown job.style count)) (sym ends.is_any) (by_whole job.shown refl text told count tells);
         written = Appends-trans held meanwhile held' told (total_if job.shown job.style count) written ends.written;
@@ -144,7 +144,7 @@ module _ (p : Patterns) (job : Job) where
 
   -- a line was selected that told all
   file_front : (state : State) (known held meanwhile held' : Option (List ℕ)) (text told : List ℕ) (ls : List (List ℕ)) → IfSome known (λ (all : List ℕ). text ≡ all)
-      → TellsOfLines p job job.first 0 ls told state.selected → needs_one job.shown ≡ true → 0 < state.selected → (SomeLine (IsSelected p job.fit job.invert) ls → SomeLine (IsSelected p job.fit job.invert) (lines text))
+      → TellsOfLines p job job.first 0 ls told state.selected → needs_one job.shown ≡ true → 0 < state.selected → (SomeLine (IsSelected p job.fit job.invert) ls → SomeLine (IsSelected p job.fit job.invert) (lines job.style.ending text))
       → Appends held meanwhile told → (any : Bool) → EndsFile job state.selected meanwhile held' any → SearchesFile p job known held held' any × (any ≡ true)
   file_front state known held meanwhile held' text told ls of tells one some front written any ends =
       let count = state.selected in
@@ -153,7 +153,7 @@ module _ (p : Patterns) (job : Job) where
         record {
           text = text;
           of = of;
-          selected = subst (IsAny p job.fit job.invert (lines text)) (sym is) (front (tells_some ls job.first 0 told count tells refl some));
+          selected = subst (IsAny p job.fit job.invert (lines job.style.ending text)) (sym is) (front (tells_some ls job.first 0 told count tells refl some));
           bytes = total_if job.shown job.style count;
           tells = subst (λ (any : Bool). TellsBy p job job.shown text any (total_if job.shown job.style count)) (sym is) (by_front job.shown text count one some);
           written = subst (λ (l : List ℕ). Appends held held' (l ++ total_if job.shown job.style count)) none
@@ -166,7 +166,7 @@ module _ (p : Patterns) (job : Job) where
   pub record TextTold (around : Option Context) (state : State) (held meanwhile : Option (List ℕ)) (text : List ℕ) : Type 0 where
     pub left : List ℕ
     pub searched : List (List ℕ)
-    pub cut : lines text ≡ searched ++ lines left
+    pub cut : lines job.style.ending text ≡ searched ++ lines job.style.ending left
     pub bytes : List ℕ
     pub plain : List ℕ
     pub tells : TellsOfLines p job job.first 0 searched plain state.selected
@@ -246,11 +246,11 @@ module _ (p : Patterns) (job : Job) where
       let told = text_told (around_of job) before state held meanwhile stream.searched begin stream.searches in
       let all : text ≡ stream.searched = ap (λ (l : List ℕ). (stream.searched ++ stream.rest) ++ l) (none end) ∙ append-nil (stream.searched ++ stream.rest)
       ∙ ap (λ (l : List ℕ). stream.searched ++ l) empty ∙ append-nil stream.searched in
-      let same : lines text ≡ told.searched ++ lines told.left = ap lines all ∙ told.cut in
+      let same : lines job.style.ending text ≡ told.searched ++ lines job.style.ending told.left = ap (lines job.style.ending) all ∙ told.cut in
       let read : IsRead p job left left' any = record { bytes = stream.searched ++ stream.rest; read = stream.consumed; ended = inl end } in
       elim told.ends [
         | inl whole ↦
-            let first : lines text ≡ told.searched ++ [] = same ∙ ap (λ (l : List ℕ). told.searched ++ lines l) whole in
+            let first : lines job.style.ending text ≡ told.searched ++ [] = same ∙ ap (λ (l : List ℕ). told.searched ++ lines job.style.ending l) whole in
             record {
               file = file_whole state left held meanwhile held' text told.bytes told.plain known
                   (subst (λ (ls : List (List ℕ)). TellsOfLines p job job.first 0 ls told.plain state.selected) (sym (first ∙ append-nil told.searched)) told.tells)
@@ -259,30 +259,30 @@ module _ (p : Patterns) (job : Job) where
             }
         | inr (inl (one, some)) ↦ record {
           file = (file_front state left held meanwhile held' text told.plain told.searched known told.tells one some
-              (λ (is : SomeLine (IsSelected p job.fit job.invert) told.searched). subst (SomeLine (IsSelected p job.fit job.invert)) (sym same) (some_front (IsSelected p job.fit job.invert) told.searched (lines told.left) is))
+              (λ (is : SomeLine (IsSelected p job.fit job.invert) told.searched). subst (SomeLine (IsSelected p job.fit job.invert)) (sym same) (some_front (IsSelected p job.fit job.invert) told.searched (lines job.style.ending told.left) is))
               (subst (Appends held meanwhile) (told.single (one_around job.shown job.context one)) told.written) any ends).0;
           reads = read;
         }
         | inr (inr (full, past)) ↦ record {
           file = file_whole state left held meanwhile held' text told.bytes told.plain known
               (subst (λ (ls : List (List ℕ)). TellsOfLines p job job.first 0 ls told.plain state.selected) (sym same)
-              (tells_full p job told.searched (lines told.left) job.first 0 state.selected told.plain full told.tells))
-              (subst (λ (ls : List (List ℕ)). TellsFile p job ls told.bytes state.selected) (sym same) (told.file (lines told.left) (inr (full, past)))) told.written any ends;
+              (tells_full p job told.searched (lines job.style.ending told.left) job.first 0 state.selected told.plain full told.tells))
+              (subst (λ (ls : List (List ℕ)). TellsFile p job ls told.bytes state.selected) (sym same) (told.file (lines job.style.ending told.left) (inr (full, past)))) told.written any ends;
           reads = read;
         }
       ]
 
   -- or up to lines behind which nothing more is told
   read_front : (before state : State) (left left' held meanwhile held' : Option (List ℕ)) → IsBegin job before → (stream : SearchesStream p job (course before state held meanwhile left left'))
-      → EndsLine stream.searched → IsSettled job state → (any : Bool) → EndsFile job state.selected meanwhile held' any → SearchesReader p job left left' held held' any
+      → EndsLine job.style.ending stream.searched → IsSettled job state → (any : Bool) → EndsFile job state.selected meanwhile held' any → SearchesReader p job left left' held held' any
   read_front before state left left' held meanwhile held' begin stream whole settled any ends =
       let (more, known, none) = text_behind left left' (stream.searched ++ stream.rest) stream.consumed in
       let text = (stream.searched ++ stream.rest) ++ more in
       let told = text_told (around_of job) before state held meanwhile stream.searched begin stream.searches in
-      let later = lines told.left ++ lines (stream.rest ++ more) in
-      let same : lines text ≡ told.searched ++ later =
-      ap lines (append_assoc stream.searched stream.rest more) ∙ lines_append stream.searched (stream.rest ++ more) whole
-      ∙ ap (λ (l : List (List ℕ)). l ++ lines (stream.rest ++ more)) told.cut ∙ append_assoc told.searched (lines told.left) (lines (stream.rest ++ more)) in
+      let later = lines job.style.ending told.left ++ lines job.style.ending (stream.rest ++ more) in
+      let same : lines job.style.ending text ≡ told.searched ++ later =
+      ap (lines job.style.ending) (append_assoc stream.searched stream.rest more) ∙ lines_append job.style.ending stream.searched (stream.rest ++ more) whole
+      ∙ ap (λ (l : List (List ℕ)). l ++ lines job.style.ending (stream.rest ++ more)) told.cut ∙ append_assoc told.searched (lines job.style.ending told.left) (lines job.style.ending (stream.rest ++ more)) in
       elim settled [
         | inl (one, some) ↦
             let found = file_front state left held meanwhile held' text told.plain told.searched known told.tells one some
@@ -293,8 +293,8 @@ module _ (p : Patterns) (job : Job) where
               reads = record { bytes = stream.searched ++ stream.rest; read = stream.consumed; ended = inr (inl (one, found.1)) };
             }
         | inr (full, past) ↦
-            let front : lines (stream.searched ++ stream.rest) ≡ told.searched ++ (lines told.left ++ lines stream.rest) =
-            lines_append stream.searched stream.rest whole ∙ ap (λ (l : List (List ℕ)). l ++ lines stream.rest) told.cut ∙ append_assoc told.searched (lines told.left) (lines stream.rest) in
+            let front : lines job.style.ending (stream.searched ++ stream.rest) ≡ told.searched ++ (lines job.style.ending told.left ++ lines job.style.ending stream.rest) =
+            lines_append job.style.ending stream.searched stream.rest whole ∙ ap (λ (l : List (List ℕ)). l ++ lines job.style.ending stream.rest) told.cut ∙ append_assoc told.searched (lines job.style.ending told.left) (lines job.style.ending stream.rest) in
             record {
               file = file_whole state left held meanwhile held' text told.bytes told.plain known
                   (subst (λ (ls : List (List ℕ)). TellsOfLines p job job.first 0 ls told.plain state.selected) (sym same)
@@ -307,7 +307,7 @@ module _ (p : Patterns) (job : Job) where
                   told.plain,
                   state.selected,
                   subst (λ (ls : List (List ℕ)). TellsOfLines p job job.first 0 ls told.plain state.selected) (sym front)
-                      (tells_full p job told.searched (lines told.left ++ lines stream.rest) job.first 0 state.selected told.plain full told.tells),
+                      (tells_full p job told.searched (lines job.style.ending told.left ++ lines job.style.ending stream.rest) job.first 0 state.selected told.plain full told.tells),
                   full,
                 ));
               };

@@ -88,24 +88,24 @@ module _ (p : Patterns) (job : Job) where
 
   -- the lines of a text that was read, and those behind it
   lines_read : (before state : State) (left left' held meanwhile : Option (List ℕ)) (stream : BeginsStream p job (course before state held meanwhile left left'))
-      → (text : List ℕ) × IfSome left (λ (all : List ℕ). text ≡ all) × (others : List (List ℕ)) × (lines text ≡ lines stream.searched ++ others)
+      → (text : List ℕ) × IfSome left (λ (all : List ℕ). text ≡ all) × (others : List (List ℕ)) × (lines job.style.ending text ≡ lines job.style.ending stream.searched ++ others)
   lines_read before state left left' held meanwhile stream =
       let (more, known, none) = text_behind left left' (stream.searched ++ stream.rest) stream.consumed in
       let text = (stream.searched ++ stream.rest) ++ more in
-      let (others, cut) : (others : List (List ℕ)) × (lines text ≡ lines stream.searched ++ others) =
+      let (others, cut) : (others : List (List ℕ)) × (lines job.style.ending text ≡ lines job.style.ending stream.searched ++ others) =
       elim stream.ends [
-        | inl whole ↦ (lines (stream.rest ++ more), ap lines (append_assoc stream.searched stream.rest more) ∙ lines_append stream.searched (stream.rest ++ more) whole)
+        | inl whole ↦ (lines job.style.ending (stream.rest ++ more), ap (lines job.style.ending) (append_assoc stream.searched stream.rest more) ∙ lines_append job.style.ending stream.searched (stream.rest ++ more) whole)
         | inr (empty, end) ↦ (
           [],
-          ap lines (ap (λ (l : List ℕ). (stream.searched ++ stream.rest) ++ l) (none end) ∙ append-nil (stream.searched ++ stream.rest)
-              ∙ ap (λ (l : List ℕ). stream.searched ++ l) empty ∙ append-nil stream.searched) ∙ sym (append-nil (lines stream.searched)),
+          ap (lines job.style.ending) (ap (λ (l : List ℕ). (stream.searched ++ stream.rest) ++ l) (none end) ∙ append-nil (stream.searched ++ stream.rest)
+              ∙ ap (λ (l : List ℕ). stream.searched ++ l) empty ∙ append-nil stream.searched) ∙ sym (append-nil (lines job.style.ending stream.searched)),
         )
       ] in
       (text, known, others, cut)
 
   -- lines of which a beginning was told, and a beginning of what is asked of the file as a whole
   plain_begins : (before state : State) (known held meanwhile held' : Option (List ℕ)) (text : List ℕ) (ls others : List (List ℕ)) → IsBegin job before
-      → IfSome known (λ (all : List ℕ). text ≡ all) → lines text ≡ ls ++ others
+      → IfSome known (λ (all : List ℕ). text ≡ all) → lines job.style.ending text ≡ ls ++ others
       → BeginsLines p job before state.selected held meanwhile ls → BeginsTotal job state.selected meanwhile held' → BeginsPlain p job known held held'
   plain_begins before state known held meanwhile held' text ls others begin of cut begins total =
       let start = after_lines job.first begins.first in
@@ -113,7 +113,7 @@ module _ (p : Patterns) (job : Job) where
       let starts = subst (λ (at : Place). StartsNext p job at state.selected begins.left begins.begun) there begins.starts in
       let tells = subst (λ (at : Place). TellsOfLines p job at 0 begins.first begins.told state.selected) begin.place
       (subst (λ (n : ℕ). TellsOfLines p job before.place n begins.first begins.told state.selected) begin.selected begins.tells) in
-      let all : lines text ≡ begins.first ++ (begins.left ++ others) = cut ∙ ap (λ (l : List (List ℕ)). l ++ others) begins.cut ∙ append_assoc begins.first begins.left others in
+      let all : lines job.style.ending text ≡ begins.first ++ (begins.left ++ others) = cut ∙ ap (λ (l : List (List ℕ)). l ++ others) begins.cut ∙ append_assoc begins.first begins.left others in
       let written : Appends held held' ((begins.told ++ begins.begun) ++ total.begun) =
       Appends-trans held meanwhile held' (begins.told ++ begins.begun) total.begun begins.written total.written in
       elim (either_none start begins.left begins.begun state.selected total.begun total.missing starts total.cut) [
@@ -147,7 +147,7 @@ module _ (p : Patterns) (job : Job) where
 
   -- the same with lines around selected ones
   around_begins : (context : Context) (before state : State) (known held meanwhile held' : Option (List ℕ)) (text : List ℕ) (ls others : List (List ℕ)) → IsBegin job before
-      → IfSome known (λ (all : List ℕ). text ≡ all) → lines text ≡ ls ++ others → WalksBegun p job context (walk_of before) held meanwhile ls → Appends meanwhile held' []
+      → IfSome known (λ (all : List ℕ). text ≡ all) → lines job.style.ending text ≡ ls ++ others → WalksBegun p job context (walk_of before) held meanwhile ls → Appends meanwhile held' []
       → BeginsAround p job context known held held'
   around_begins context before state known held meanwhile held' text ls others begin of cut begins keeps = record {
     text = text;
@@ -175,7 +175,7 @@ module _ (p : Patterns) (job : Job) where
   no_total Nothing asked context style count is = absurd (cc)
 
   begins_in : (around : Option Context) → around_of job ≡ around → (before state : State) (known held meanwhile held' : Option (List ℕ)) (text : List ℕ) (ls others : List (List ℕ)) → IsBegin job before
-      → IfSome known (λ (all : List ℕ). text ≡ all) → lines text ≡ ls ++ others → BeginsAsked p job around before state.selected held meanwhile ls → BeginsTotal job state.selected meanwhile held'
+      → IfSome known (λ (all : List ℕ). text ≡ all) → lines job.style.ending text ≡ ls ++ others → BeginsAsked p job around before state.selected held meanwhile ls → BeginsTotal job state.selected meanwhile held'
       → BeginsFileIn p job around known held held'
   begins_in None is before state known held meanwhile held' text ls others begin of cut begins total =
       plain_begins before state known held meanwhile held' text ls others begin of cut begins total
@@ -188,7 +188,7 @@ module _ (p : Patterns) (job : Job) where
       → BeginsTotal job state.selected meanwhile held' → BeginsFile p job left held held'
   file_begins before state left left' held meanwhile held' begin stream total =
       let (text, known, others, cut) = lines_read before state left left' held meanwhile stream in
-      begins_in (around_of job) refl before state left held meanwhile held' text (lines stream.searched) others begin known cut stream.begins total
+      begins_in (around_of job) refl before state left held meanwhile held' text (lines job.style.ending stream.searched) others begin known cut stream.begins total
 
   -- nothing is written of a file
   none_plain : (known held held' : Option (List ℕ)) → Keeps held held' → BeginsPlain p job known held held'
@@ -209,13 +209,13 @@ module _ (p : Patterns) (job : Job) where
     text = bytes;
     of = refl;
     first = [];
-    left = lines bytes;
+    left = lines job.style.ending bytes;
     cut = refl;
     told = [];
     count = 0;
     tells = (refl, refl);
     begun = [];
-    starts = inl (starts_none p job job.first 0 (lines bytes));
+    starts = inl (starts_none p job job.first 0 (lines job.style.ending bytes));
     written = keeps_nil held held' keeps;
   }
 
@@ -224,7 +224,7 @@ module _ (p : Patterns) (job : Job) where
     text = text;
     of = of;
     first = [];
-    left = lines text;
+    left = lines job.style.ending text;
     cut = refl;
     all = [];
     count = 0;

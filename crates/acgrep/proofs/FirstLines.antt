@@ -4,31 +4,32 @@ use Rattle.std.proofs.lemmas.Bool.{cases_Bool}
 use denote.Ref.{Bor}
 use Rattle.aho_core.specs.Replacement.{pieces_of}
 use Rattle.memchr.specs.Find.{Nowhere}
-use Rattle.acgrep.specs.Lines.{IsNewline, joined_to, lines}
+use Rattle.acgrep.specs.Lines.{IsEnding, joined_to, lines}
 
--- a byte that is no newline belongs to the first line
-pub lines_joined : (byte : ℕ) (rest : List ℕ) → (byte == 10) ≡ false → lines (byte ∷ rest) ≡ joined_to byte (lines rest)
-lines_joined byte rest other = rw other refl
+module _ (ending : ℕ) where
+  -- a byte that is no newline belongs to the first line
+  pub lines_joined : (byte : ℕ) (rest : List ℕ) → (byte == ending) ≡ false → lines ending (byte ∷ rest) ≡ joined_to byte (lines ending rest)
+  lines_joined byte rest other = rw other refl
 
--- a text that is not empty is its first line, and then the lines behind its newline
-pub lines_first : (text : List ℕ) (end : ℕ) → 0 < length text → end ≤ length text → Nowhere (IsNewline text) 0 end → (end < length text → IsNewline text end)
-    → lines text ≡ take end text ∷ lines (drop (suc end) text)
-lines_first [] end full within none newline = absurd (omega (arith, full))
-lines_first (byte ∷ rest) zero full within none newline =
-    let is : (byte == 10) ≡ true = newline (omega arith) in
-    rw is refl
-lines_first (byte ∷ []) (suc zero) full within none newline =
-    elim (cases_Bool (byte == 10)) [
-      | inl is ↦ absurd (none 0 (omega arith) (omega arith) is)
-      | inr other ↦ lines_joined byte [] other
-    ]
-lines_first (byte ∷ []) (suc (suc end)) full within none newline = absurd (omega (arith, within))
-lines_first (byte ∷ next ∷ rest) (suc end) full within none newline =
-    let IH = lines_first (next ∷ rest) end (omega arith) (omega (arith, within)) (λ k low high is. none (suc k) (omega arith) (omega (arith, high)) is) (λ more. newline (omega (arith, more))) in
-    elim (cases_Bool (byte == 10)) [
-      | inl is ↦ absurd (none 0 (omega arith) (omega arith) is)
-      | inr other ↦ lines_joined byte (next ∷ rest) other ∙ ap (joined_to byte) IH
-    ]
+  -- a text that is not empty is its first line, and then the lines behind its newline
+  pub lines_first : (text : List ℕ) (end : ℕ) → 0 < length text → end ≤ length text → Nowhere (IsEnding ending text) 0 end → (end < length text → IsEnding ending text end)
+      → lines ending text ≡ take end text ∷ lines ending (drop (suc end) text)
+  lines_first [] end full within none newline = absurd (omega (arith, full))
+  lines_first (byte ∷ rest) zero full within none newline =
+      let is : (byte == ending) ≡ true = newline (omega arith) in
+      rw is refl
+  lines_first (byte ∷ []) (suc zero) full within none newline =
+      elim (cases_Bool (byte == ending)) [
+        | inl is ↦ absurd (none 0 (omega arith) (omega arith) is)
+        | inr other ↦ lines_joined byte [] other
+      ]
+  lines_first (byte ∷ []) (suc (suc end)) full within none newline = absurd (omega (arith, within))
+  lines_first (byte ∷ next ∷ rest) (suc end) full within none newline =
+      let IH = lines_first (next ∷ rest) end (omega arith) (omega (arith, within)) (λ k low high is. none (suc k) (omega arith) (omega (arith, high)) is) (λ more. newline (omega (arith, more))) in
+      elim (cases_Bool (byte == ending)) [
+        | inl is ↦ absurd (none 0 (omega arith) (omega arith) is)
+        | inr other ↦ lines_joined byte (next ∷ rest) other ∙ ap (joined_to byte) IH
+      ]
 
 -- one more piece, and others behind it
 pub pieces_more : (held : List (Bor (List ℕ))) (piece : Bor (List ℕ)) (others : List (List ℕ)) → pieces_of (held ++ (piece ∷ [])) ++ others ≡ pieces_of held ++ (piece.now ∷ others)

@@ -23,6 +23,7 @@ pub mod NoneInLines
 pub mod Numbers
 pub mod Objected
 pub mod PlacesBehind
+pub mod PlainWords
 pub mod Reaching
 pub mod Statuses
 pub mod Stepped

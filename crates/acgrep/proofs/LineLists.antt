@@ -13,8 +13,8 @@ use Rattle.aho_core.specs.declared.search.Span.{Span}
 use Rattle.aho_laws.specs.CutLaws.{moved}
 use Rattle.aho_laws.proofs.ClearCuts.{Occurs-in}
 use Rattle.aho_laws.proofs.SpanTexts.{Occurs-moved, Occurs-moved_back, length_part, moved-zero, moved_back}
-use Rattle.acgrep.specs.Lines.{EndsLine, IsNewline, joined_to, lines}
-use Rattle.acgrep.specs.Selected.{HoldNoNewline, IsFirstWith}
+use Rattle.acgrep.specs.Lines.{EndsLine, IsEnding, joined_to, lines}
+use Rattle.acgrep.specs.Selected.{HoldNoEnding, IsFirstWith}
 use Rattle.acgrep.specs.Written.{EachLine, HasMatch, HasNone}
 use Rattle.acgrep.proofs.Around.{behind_newline, ends_before, front_newline, newline_behind}
 use Rattle.acgrep.proofs.FirstLines.{lines_first, lines_joined}
@@ -27,197 +27,198 @@ pub take_zero : (xs : List ℕ) → take 0 xs ≡ []
 take_zero [] = refl
 take_zero (x ∷ xs) = refl
 
--- a text of one byte that ends a line is a newline
-pub ends_one : (byte : ℕ) → EndsLine (byte ∷ []) → (byte == 10) ≡ true
-ends_one byte ends =
-    let last : length (byte ∷ []) - 1 ≡ 0 = omega arith in
-    subst (λ (n : ℕ). IsNewline (byte ∷ []) n) last (ends (omega arith))
+module _ (ending : ℕ) where
+  -- a text of one byte that ends a line is a newline
+  pub ends_one : (byte : ℕ) → EndsLine ending (byte ∷ []) → (byte == ending) ≡ true
+  ends_one byte ends =
+      let last : length (byte ∷ []) - 1 ≡ 0 = omega arith in
+      subst (λ (n : ℕ). IsEnding ending (byte ∷ []) n) last (ends (omega arith))
 
--- and a longer one ends as it does without its first byte
-pub ends_tail : (byte next : ℕ) (rest : List ℕ) → EndsLine (byte ∷ next ∷ rest) → EndsLine (next ∷ rest)
-ends_tail byte next rest ends some =
-    let last : length (byte ∷ next ∷ rest) - 1 ≡ suc (length rest) = omega arith in
-    let same : length rest ≡ length (next ∷ rest) - 1 = omega arith in
-    let here : IsNewline (next ∷ rest) (length rest) = subst (λ (n : ℕ). IsNewline (byte ∷ next ∷ rest) n) last (ends (omega arith)) in
-    subst (λ (n : ℕ). IsNewline (next ∷ rest) n) same here
+  -- and a longer one ends as it does without its first byte
+  pub ends_tail : (byte next : ℕ) (rest : List ℕ) → EndsLine ending (byte ∷ next ∷ rest) → EndsLine ending (next ∷ rest)
+  ends_tail byte next rest ends some =
+      let last : length (byte ∷ next ∷ rest) - 1 ≡ suc (length rest) = omega arith in
+      let same : length rest ≡ length (next ∷ rest) - 1 = omega arith in
+      let here : IsEnding ending (next ∷ rest) (length rest) = subst (λ (n : ℕ). IsEnding ending (byte ∷ next ∷ rest) n) last (ends (omega arith)) in
+      subst (λ (n : ℕ). IsEnding ending (next ∷ rest) n) same here
 
--- a text that is not empty begins with its first line
-pub first_line : (rest : List ℕ) (byte : ℕ) → (end : ℕ) × (others : List (List ℕ)) × (end ≤ suc (length rest)) × (lines (byte ∷ rest) ≡ take end (byte ∷ rest) ∷ others)
-first_line [] byte =
-    elim (cases_Bool (byte == 10)) [
-      | inl is ↦ (0, [], omega arith, rw is refl)
-      | inr other ↦ (1, [], omega arith, rw other refl)
-    ]
-first_line (next ∷ rest) byte =
-    elim (cases_Bool (byte == 10)) [
-      | inl is ↦ (0, lines (next ∷ rest), omega arith, rw is refl)
-      | inr other ↦
-          let (end, others, within, same) = first_line rest next in
-          (suc end, others, omega (arith, within), lines_joined byte (next ∷ rest) other ∙ ap (joined_to byte) same)
-    ]
-
--- behind a newline new lines begin
-pub lines_append : (a b : List ℕ) → EndsLine a → lines (a ++ b) ≡ lines a ++ lines b
-lines_append [] b ends = refl
-lines_append (byte ∷ []) b ends =
-    rw (ends_one byte ends) refl
-lines_append (byte ∷ next ∷ rest) b ends =
-    let IH : lines ((next ∷ rest) ++ b) ≡ lines (next ∷ rest) ++ lines b = lines_append (next ∷ rest) b (ends_tail byte next rest ends) in
-    elim (cases_Bool (byte == 10)) [
-      | inl is ↦ rw is (ap (λ (l : List (List ℕ)). [] ∷ l) IH)
-      | inr other ↦
-          let (end, others, within, same) = first_line rest next in
-          lines_joined byte ((next ∷ rest) ++ b) other
-          ∙ ap (joined_to byte) (IH ∙ ap (λ (l : List (List ℕ)). l ++ lines b) same)
-          ∙ ap (λ (l : List (List ℕ)). joined_to byte l ++ lines b) (sym same)
-          ∙ ap (λ (l : List (List ℕ)). l ++ lines b) (sym (lines_joined byte (next ∷ rest) other))
-    ]
-
-module _ (p : Patterns) where
-  -- what occurs nowhere in a text occurs in no part of it
-  none_part : (text : List ℕ) (start end : ℕ) → start ≤ end → end ≤ length text → HasNone p text → HasNone p (slice_range text start end)
-  none_part text start end ordered within none m occurs =
-      let long : length (slice_range text start end) ≡ end - start = length_part text start end within in
-      let there : Occurs p No text (start + 0) (start + length (slice_range text start end)) (moved start m) =
-      Occurs-moved p text start end 0 (length (slice_range text start end)) m (omega (arith, long, ordered)) occurs in
-      none (moved start m) (Occurs-in p text (start + 0) (start + length (slice_range text start end)) 0 (length text) (moved start m) (omega arith) (omega (arith, there.before_end, long, ordered, within)) there)
-
-  -- what occurs in a front occurs in the text
-  occurs_front : (text : List ℕ) (end : ℕ) (m : Occurrence) → end ≤ length text → OccursIn p (plain_search (take end text)) m → OccursIn p (plain_search text) m
-  occurs_front text end m within occurs =
-      let part = slice_range text 0 end in
-      let count : end - 0 ≡ end = omega arith in
-      let same : part ≡ take end text = ap (λ (n : ℕ). take n (drop 0 text)) count ∙ ap (take end) (drop_zero text) in
-      let long : length part ≡ end - 0 = length_part text 0 end within in
-      let here : Occurs p No part 0 (length part) m = subst (λ (l : List ℕ). OccursIn p (plain_search l) m) (sym same) occurs in
-      let there : Occurs p No text (0 + 0) (0 + length part) (moved 0 m) = Occurs-moved p text 0 end 0 (length part) m (omega (arith, long)) here in
-      let whole : OccursIn p (plain_search text) (moved 0 m) =
-      Occurs-in p text (0 + 0) (0 + length part) 0 (length text) (moved 0 m) (omega arith) (omega (arith, there.before_end, long, within)) there in
-      subst (λ (n : Occurrence). OccursIn p (plain_search text) n) (moved-zero m) whole
-
-  none_front : (text : List ℕ) (end : ℕ) → end ≤ length text → HasNone p text → HasNone p (take end text)
-  none_front text end within none m occurs = none m (occurs_front text end m within occurs)
-
-  none_rest : (byte : ℕ) (rest : List ℕ) → HasNone p (byte ∷ rest) → HasNone p rest
-  none_rest byte rest none =
-      let size : length rest ≤ suc (length rest) - 1 = omega arith in
-      let same : slice_range (byte ∷ rest) 1 (suc (length rest)) ≡ rest = ap (take (suc (length rest) - 1)) (drop_zero rest) ∙ take_all (suc (length rest) - 1) rest size in
-      subst (HasNone p) same (none_part (byte ∷ rest) 1 (suc (length rest)) (omega arith) (omega arith) none)
-
-  -- nor in a line of it
-  pub none_in_lines : (text : List ℕ) → HasNone p text → EachLine (HasNone p) (lines text)
-  none_in_lines [] none = tt
-  none_in_lines (byte ∷ []) none =
-      elim (cases_Bool (byte == 10)) [
-        | inl is ↦ rw is (none_front (byte ∷ []) 0 (omega arith) none, tt)
-        | inr other ↦ rw other (none, tt)
+  -- a text that is not empty begins with its first line
+  pub first_line : (rest : List ℕ) (byte : ℕ) → (end : ℕ) × (others : List (List ℕ)) × (end ≤ suc (length rest)) × (lines ending (byte ∷ rest) ≡ take end (byte ∷ rest) ∷ others)
+  first_line [] byte =
+      elim (cases_Bool (byte == ending)) [
+        | inl is ↦ (0, [], omega arith, rw is refl)
+        | inr other ↦ (1, [], omega arith, rw other refl)
       ]
-  none_in_lines (byte ∷ next ∷ rest) none =
-      let IH = none_in_lines (next ∷ rest) (none_rest byte (next ∷ rest) none) in
-      elim (cases_Bool (byte == 10)) [
-        | inl is ↦ rw is (none_front (byte ∷ next ∷ rest) 0 (omega arith) none, IH)
+  first_line (next ∷ rest) byte =
+      elim (cases_Bool (byte == ending)) [
+        | inl is ↦ (0, lines ending (next ∷ rest), omega arith, rw is refl)
         | inr other ↦
             let (end, others, within, same) = first_line rest next in
-            let behind : EachLine (HasNone p) (take end (next ∷ rest) ∷ others) = subst (EachLine (HasNone p)) same IH in
-            subst (EachLine (HasNone p)) (sym (lines_joined byte (next ∷ rest) other ∙ ap (joined_to byte) same))
-            (none_front (byte ∷ next ∷ rest) (suc end) (omega (arith, within)) none, behind.1)
+            (suc end, others, omega (arith, within), lines_joined ending byte (next ∷ rest) other ∙ ap (joined_to byte) same)
       ]
 
-  -- what occurs in a range of a text occurs in the range's bytes
-  match_part : (text : List ℕ) (start end : ℕ) → start ≤ end → end ≤ length text → (m : Occurrence) × Occurs p No text start end m → HasMatch p (slice_range text start end)
-  match_part text start end ordered within (m, occurs) =
-      let long : length (slice_range text start end) ≡ end - start = length_part text start end within in
-      let low : start + 0 ≡ start = omega arith in
-      let high : start + length (slice_range text start end) ≡ end = omega (arith, long, ordered) in
-      let here : Occurs p No text (start + 0) (start + length (slice_range text start end)) m =
-      subst (λ (n : ℕ). Occurs p No text n (start + length (slice_range text start end)) m) (sym low) (subst (λ (n : ℕ). Occurs p No text start n m) (sym high) occurs) in
-      (moved_back start m, Occurs-moved_back p text start end 0 (length (slice_range text start end)) m (omega (arith, high)) here)
+  -- behind a newline new lines begin
+  pub lines_append : (a b : List ℕ) → EndsLine ending a → lines ending (a ++ b) ≡ lines ending a ++ lines ending b
+  lines_append [] b ends = refl
+  lines_append (byte ∷ []) b ends =
+      rw (ends_one byte ends) refl
+  lines_append (byte ∷ next ∷ rest) b ends =
+      let IH : lines ending ((next ∷ rest) ++ b) ≡ lines ending (next ∷ rest) ++ lines ending b = lines_append (next ∷ rest) b (ends_tail byte next rest ends) in
+      elim (cases_Bool (byte == ending)) [
+        | inl is ↦ rw is (ap (λ (l : List (List ℕ)). [] ∷ l) IH)
+        | inr other ↦
+            let (end, others, within, same) = first_line rest next in
+            lines_joined ending byte ((next ∷ rest) ++ b) other
+            ∙ ap (joined_to byte) (IH ∙ ap (λ (l : List (List ℕ)). l ++ lines ending b) same)
+            ∙ ap (λ (l : List (List ℕ)). joined_to byte l ++ lines ending b) (sym same)
+            ∙ ap (λ (l : List (List ℕ)). l ++ lines ending b) (sym (lines_joined ending byte (next ∷ rest) other))
+      ]
 
-  module _ (plain : HoldNoNewline p) (text : List ℕ) (line : Span) (first : IsFirstWith p text line) where
-    pub first_has : HasMatch p (slice_range text line.start line.end)
-    first_has = match_part text line.start line.end first.is_line.ordered first.is_line.within first.some
+  module _ (p : Patterns) where
+    -- what occurs nowhere in a text occurs in no part of it
+    none_part : (text : List ℕ) (start end : ℕ) → start ≤ end → end ≤ length text → HasNone p text → HasNone p (slice_range text start end)
+    none_part text start end ordered within none m occurs =
+        let long : length (slice_range text start end) ≡ end - start = length_part text start end within in
+        let there : Occurs p No text (start + 0) (start + length (slice_range text start end)) (moved start m) =
+        Occurs-moved p text start end 0 (length (slice_range text start end)) m (omega (arith, long, ordered)) occurs in
+        none (moved start m) (Occurs-in p text (start + 0) (start + length (slice_range text start end)) 0 (length text) (moved start m) (omega arith) (omega (arith, there.before_end, long, ordered, within)) there)
 
-    -- the front ends in a newline
-    pub front_ends : EndsLine (take line.start text)
-    front_ends some =
-        let long : length (take line.start text) ≡ line.start = length-take-le line.start text (omega (arith, first.is_line.ordered, first.is_line.within)) in
-        subst (λ (n : ℕ). IsNewline (take line.start text) (n - 1)) (sym long)
-        (front_newline text line.start (line.start - 1) (omega (arith, long, some)) (first.is_line.begins (omega (arith, long, some))))
+    -- what occurs in a front occurs in the text
+    occurs_front : (text : List ℕ) (end : ℕ) (m : Occurrence) → end ≤ length text → OccursIn p (plain_search (take end text)) m → OccursIn p (plain_search text) m
+    occurs_front text end m within occurs =
+        let part = slice_range text 0 end in
+        let count : end - 0 ≡ end = omega arith in
+        let same : part ≡ take end text = ap (λ (n : ℕ). take n (drop 0 text)) count ∙ ap (take end) (drop_zero text) in
+        let long : length part ≡ end - 0 = length_part text 0 end within in
+        let here : Occurs p No part 0 (length part) m = subst (λ (l : List ℕ). OccursIn p (plain_search l) m) (sym same) occurs in
+        let there : Occurs p No text (0 + 0) (0 + length part) (moved 0 m) = Occurs-moved p text 0 end 0 (length part) m (omega (arith, long)) here in
+        let whole : OccursIn p (plain_search text) (moved 0 m) =
+        Occurs-in p text (0 + 0) (0 + length part) 0 (length text) (moved 0 m) (omega arith) (omega (arith, there.before_end, long, within)) there in
+        subst (λ (n : Occurrence). OccursIn p (plain_search text) n) (moved-zero m) whole
 
-    -- an empty pattern occurs at the begin too
-    empty_first : (m : Occurrence) → OccursIn p (plain_search text) m → m.end ≤ m.start → OccursIn p (plain_search text) (record { pattern = m.pattern; start = 0; end = 0 })
-    empty_first m occurs empty =
-        let none : m.end - m.start ≡ 0 = omega (arith, empty) in
-        let bytes : slice_range text m.start m.end ≡ slice_range text 0 0 =
-        ap (λ (n : ℕ). take n (drop m.start text)) none ∙ take_zero (drop m.start text) ∙ sym (take_zero (drop 0 text)) in
-        record {
-          numbered = occurs.numbered;
-          after_start = omega arith;
-          before_end = omega arith;
-          sized = omega (arith, occurs.sized, empty);
-          same = subst (IsSameWord p (pattern_at p m.pattern)) bytes occurs.same;
-          admitted = λ e. cc;
-        }
+    none_front : (text : List ℕ) (end : ℕ) → end ≤ length text → HasNone p text → HasNone p (take end text)
+    none_front text end within none m occurs = none m (occurs_front text end m within occurs)
 
-    -- and nothing occurs in it
-    front_none : 0 < line.start → HasNone p (take line.start text)
-    front_none some m occurs =
-        let within : line.start ≤ length text = omega (arith, first.is_line.ordered, first.is_line.within) in
-        let long : length (take line.start text) ≡ line.start = length-take-le line.start text within in
-        let whole : OccursIn p (plain_search text) m = occurs_front text line.start m within occurs in
-        let late : line.start ≤ m.end = first.first m whole in
-        elim (cases_lt (line.start - 1) m.start) [
-          | inl behind ↦
-              let empty = empty_first m whole (omega (arith, behind, occurs.before_end, long, some)) in
-              absurd (omega (arith, some, first.first (record { pattern = m.pattern; start = 0; end = 0 }) empty))
-          | inr before ↦
-              let early : m.end ≤ line.start - 1 = ends_before p plain text (line.start - 1) m whole before (λ _. first.is_line.begins some) in
-              absurd (omega (arith, late, early, some))
+    none_rest : (byte : ℕ) (rest : List ℕ) → HasNone p (byte ∷ rest) → HasNone p rest
+    none_rest byte rest none =
+        let size : length rest ≤ suc (length rest) - 1 = omega arith in
+        let same : slice_range (byte ∷ rest) 1 (suc (length rest)) ≡ rest = ap (take (suc (length rest) - 1)) (drop_zero rest) ∙ take_all (suc (length rest) - 1) rest size in
+        subst (HasNone p) same (none_part (byte ∷ rest) 1 (suc (length rest)) (omega arith) (omega arith) none)
+
+    -- nor in a line of it
+    pub none_in_lines : (text : List ℕ) → HasNone p text → EachLine (HasNone p) (lines ending text)
+    none_in_lines [] none = tt
+    none_in_lines (byte ∷ []) none =
+        elim (cases_Bool (byte == ending)) [
+          | inl is ↦ rw is (none_front (byte ∷ []) 0 (omega arith) none, tt)
+          | inr other ↦ rw other (none, tt)
+        ]
+    none_in_lines (byte ∷ next ∷ rest) none =
+        let IH = none_in_lines (next ∷ rest) (none_rest byte (next ∷ rest) none) in
+        elim (cases_Bool (byte == ending)) [
+          | inl is ↦ rw is (none_front (byte ∷ next ∷ rest) 0 (omega arith) none, IH)
+          | inr other ↦
+              let (end, others, within, same) = first_line rest next in
+              let behind : EachLine (HasNone p) (take end (next ∷ rest) ∷ others) = subst (EachLine (HasNone p)) same IH in
+              subst (EachLine (HasNone p)) (sym (lines_joined ending byte (next ∷ rest) other ∙ ap (joined_to byte) same))
+              (none_front (byte ∷ next ∷ rest) (suc end) (omega (arith, within)) none, behind.1)
         ]
 
-    pub front_lines : EachLine (HasNone p) (lines (take line.start text))
-    front_lines =
-        elim (cases_lt 0 line.start) [
-          | inl some ↦ none_in_lines (take line.start text) (front_none some)
-          | inr none ↦
-              let begin : line.start ≡ 0 = omega (arith, none) in
-              subst (λ (n : ℕ). EachLine (HasNone p) (lines (take n text))) (sym begin) (subst (λ (l : List ℕ). EachLine (HasNone p) (lines l)) (sym (take_zero text)) tt)
-        ]
+    -- what occurs in a range of a text occurs in the range's bytes
+    match_part : (text : List ℕ) (start end : ℕ) → start ≤ end → end ≤ length text → (m : Occurrence) × Occurs p No text start end m → HasMatch p (slice_range text start end)
+    match_part text start end ordered within (m, occurs) =
+        let long : length (slice_range text start end) ≡ end - start = length_part text start end within in
+        let low : start + 0 ≡ start = omega arith in
+        let high : start + length (slice_range text start end) ≡ end = omega (arith, long, ordered) in
+        let here : Occurs p No text (start + 0) (start + length (slice_range text start end)) m =
+        subst (λ (n : ℕ). Occurs p No text n (start + length (slice_range text start end)) m) (sym low) (subst (λ (n : ℕ). Occurs p No text start n m) (sym high) occurs) in
+        (moved_back start m, Occurs-moved_back p text start end 0 (length (slice_range text start end)) m (omega (arith, high)) here)
 
-    -- the line begins before the end of a text that is not empty
-    begins_before : 0 < length text → line.start < length text
-    begins_before some =
-        elim (cases_lt line.start (length text)) [
-          | inl before ↦ before
-          | inr behind ↦
-              let (m, occurs) = first.some in
-              let whole : OccursIn p (plain_search text) m =
-              Occurs-in p text line.start line.end 0 (length text) m (omega arith) (omega (arith, occurs.before_end, first.is_line.within)) occurs in
-              let empty = empty_first m whole (omega (arith, behind, occurs.after_start, occurs.before_end, first.is_line.within)) in
-              absurd (omega (arith, some, behind, first.first (record { pattern = m.pattern; start = 0; end = 0 }) empty))
-        ]
+    module _ (plain : HoldNoEnding ending p) (text : List ℕ) (line : Span) (first : IsFirstWith p ending text line) where
+      pub first_has : HasMatch p (slice_range text line.start line.end)
+      first_has = match_part text line.start line.end first.is_line.ordered first.is_line.within first.some
 
-    pub cut_lines : 0 < length text → lines text ≡ lines (take line.start text) ++ (slice_range text line.start line.end ∷ lines (drop (line.end + 1) text))
-    cut_lines some =
-        let start = line.start in
-        let rest = drop line.start text in
-        let low = begins_before some in
-        let ordered = first.is_line.ordered in
-        let within = first.is_line.within in
-        let long : length rest + start ≡ length text = omega (arith, length-drop start text, low) in
-        let size : start + (line.end - start) ≡ line.end = omega (arith, ordered) in
-        let begins = lines_first rest (line.end - start) (omega (arith, long, low)) (omega (arith, long, within, ordered))
-        (λ k least most is. first.is_line.one (start + k) (omega arith) (omega (arith, most, ordered)) (newline_behind text start k is))
-        (λ more. behind_newline text start (line.end - start) (subst (IsNewline text) (sym size) (first.is_line.ends (omega (arith, more, long, ordered))))) in
-        let next : start + suc (line.end - start) ≡ line.end + 1 = omega (arith, ordered) in
-        ap lines (sym (take-append-drop start text))
-        ∙ lines_append (take start text) rest front_ends
-        ∙ ap (λ (l : List (List ℕ)). lines (take start text) ++ l) begins
-        ∙ ap (λ (l : List ℕ). lines (take start text) ++ (slice_range text start line.end ∷ lines l)) (drop-drop (suc (line.end - start)) start text ∙ ap (λ (n : ℕ). drop n text) next)
+      -- the front ends in a newline
+      pub front_ends : EndsLine ending (take line.start text)
+      front_ends some =
+          let long : length (take line.start text) ≡ line.start = length-take-le line.start text (omega (arith, first.is_line.ordered, first.is_line.within)) in
+          subst (λ (n : ℕ). IsEnding ending (take line.start text) (n - 1)) (sym long)
+          (front_newline ending text line.start (line.start - 1) (omega (arith, long, some)) (first.is_line.begins (omega (arith, long, some))))
 
--- a text and what follows a place of it end alike
-pub ends_drop : (text : List ℕ) (at : ℕ) → EndsLine text → EndsLine (drop at text)
-ends_drop text at ends some =
-    let long : length (drop at text) ≡ length text - at = length-drop at text in
-    let place : at + (length (drop at text) - 1) ≡ length text - 1 = omega (arith, long, some) in
-    behind_newline text at (length (drop at text) - 1) (subst (IsNewline text) (sym place) (ends (omega (arith, long, some))))
+      -- an empty pattern occurs at the begin too
+      empty_first : (m : Occurrence) → OccursIn p (plain_search text) m → m.end ≤ m.start → OccursIn p (plain_search text) (record { pattern = m.pattern; start = 0; end = 0 })
+      empty_first m occurs empty =
+          let none : m.end - m.start ≡ 0 = omega (arith, empty) in
+          let bytes : slice_range text m.start m.end ≡ slice_range text 0 0 =
+          ap (λ (n : ℕ). take n (drop m.start text)) none ∙ take_zero (drop m.start text) ∙ sym (take_zero (drop 0 text)) in
+          record {
+            numbered = occurs.numbered;
+            after_start = omega arith;
+            before_end = omega arith;
+            sized = omega (arith, occurs.sized, empty);
+            same = subst (IsSameWord p (pattern_at p m.pattern)) bytes occurs.same;
+            admitted = λ e. cc;
+          }
+
+      -- and nothing occurs in it
+      front_none : 0 < line.start → HasNone p (take line.start text)
+      front_none some m occurs =
+          let within : line.start ≤ length text = omega (arith, first.is_line.ordered, first.is_line.within) in
+          let long : length (take line.start text) ≡ line.start = length-take-le line.start text within in
+          let whole : OccursIn p (plain_search text) m = occurs_front text line.start m within occurs in
+          let late : line.start ≤ m.end = first.first m whole in
+          elim (cases_lt (line.start - 1) m.start) [
+            | inl behind ↦
+                let empty = empty_first m whole (omega (arith, behind, occurs.before_end, long, some)) in
+                absurd (omega (arith, some, first.first (record { pattern = m.pattern; start = 0; end = 0 }) empty))
+            | inr before ↦
+                let early : m.end ≤ line.start - 1 = ends_before ending p plain text (line.start - 1) m whole before (λ _. first.is_line.begins some) in
+                absurd (omega (arith, late, early, some))
+          ]
+
+      pub front_lines : EachLine (HasNone p) (lines ending (take line.start text))
+      front_lines =
+          elim (cases_lt 0 line.start) [
+            | inl some ↦ none_in_lines (take line.start text) (front_none some)
+            | inr none ↦
+                let begin : line.start ≡ 0 = omega (arith, none) in
+                subst (λ (n : ℕ). EachLine (HasNone p) (lines ending (take n text))) (sym begin) (subst (λ (l : List ℕ). EachLine (HasNone p) (lines ending l)) (sym (take_zero text)) tt)
+          ]
+
+      -- the line begins before the end of a text that is not empty
+      begins_before : 0 < length text → line.start < length text
+      begins_before some =
+          elim (cases_lt line.start (length text)) [
+            | inl before ↦ before
+            | inr behind ↦
+                let (m, occurs) = first.some in
+                let whole : OccursIn p (plain_search text) m =
+                Occurs-in p text line.start line.end 0 (length text) m (omega arith) (omega (arith, occurs.before_end, first.is_line.within)) occurs in
+                let empty = empty_first m whole (omega (arith, behind, occurs.after_start, occurs.before_end, first.is_line.within)) in
+                absurd (omega (arith, some, behind, first.first (record { pattern = m.pattern; start = 0; end = 0 }) empty))
+          ]
+
+      pub cut_lines : 0 < length text → lines ending text ≡ lines ending (take line.start text) ++ (slice_range text line.start line.end ∷ lines ending (drop (line.end + 1) text))
+      cut_lines some =
+          let start = line.start in
+          let rest = drop line.start text in
+          let low = begins_before some in
+          let ordered = first.is_line.ordered in
+          let within = first.is_line.within in
+          let long : length rest + start ≡ length text = omega (arith, length-drop start text, low) in
+          let size : start + (line.end - start) ≡ line.end = omega (arith, ordered) in
+          let begins = lines_first ending rest (line.end - start) (omega (arith, long, low)) (omega (arith, long, within, ordered))
+          (λ k least most is. first.is_line.one (start + k) (omega arith) (omega (arith, most, ordered)) (newline_behind ending text start k is))
+          (λ more. behind_newline ending text start (line.end - start) (subst (IsEnding ending text) (sym size) (first.is_line.ends (omega (arith, more, long, ordered))))) in
+          let next : start + suc (line.end - start) ≡ line.end + 1 = omega (arith, ordered) in
+          ap (lines ending) (sym (take-append-drop start text))
+          ∙ lines_append (take start text) rest front_ends
+          ∙ ap (λ (l : List (List ℕ)). lines ending (take start text) ++ l) begins
+          ∙ ap (λ (l : List ℕ). lines ending (take start text) ++ (slice_range text start line.end ∷ lines ending l)) (drop-drop (suc (line.end - start)) start text ∙ ap (λ (n : ℕ). drop n text) next)
+
+  -- a text and what follows a place of it end alike
+  pub ends_drop : (text : List ℕ) (at : ℕ) → EndsLine ending text → EndsLine ending (drop at text)
+  ends_drop text at ends some =
+      let long : length (drop at text) ≡ length text - at = length-drop at text in
+      let place : at + (length (drop at text) - 1) ≡ length text - 1 = omega (arith, long, some) in
+      behind_newline ending text at (length (drop at text) - 1) (subst (IsEnding ending text) (sym place) (ends (omega (arith, long, some))))

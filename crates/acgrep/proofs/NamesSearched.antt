@@ -65,8 +65,9 @@ module _ (p : Patterns) (job : Job) (holds : List ℕ → Option (List ℕ)) (na
   name_has follows name left left' held held' searched = (
     searched.file.text,
     searched.file.of,
-    subst (λ (invert : Bool). IsAny p job.fit invert (lines searched.file.text) true) searched.is_named.invert
-        (subst (λ (fit : Fit). IsAny p fit searched.named.invert (lines searched.file.text) true) searched.is_named.fit searched.file.selected),
+    subst (λ (ending : ℕ). IsAny p job.fit job.invert (lines ending searched.file.text) true) searched.is_named.ending
+        (subst (λ (invert : Bool). IsAny p job.fit invert (lines searched.named.style.ending searched.file.text) true) searched.is_named.invert
+        (subst (λ (fit : Fit). IsAny p fit searched.named.invert (lines searched.named.style.ending searched.file.text) true) searched.is_named.fit searched.file.selected)),
   )
 
   -- one file more

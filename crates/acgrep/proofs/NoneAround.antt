@@ -3,7 +3,7 @@ use Rattle.std.proofs.Common.{◌≡◌, inl, inr, Bool, false, List, ℕ, [], �
 use Rattle.aho_core.specs.Patterns.{Patterns}
 use Rattle.acgrep.specs.Contexts.{WalksText, walk_of}
 use Rattle.acgrep.specs.Lines.{lines}
-use Rattle.acgrep.specs.Selected.{HoldNoNewline, IsNoneSelected}
+use Rattle.acgrep.specs.Selected.{HoldNoEnding, IsNoneSelected}
 use Rattle.acgrep.specs.Written.{EachLine, HasNone, IsPassedOver}
 use Rattle.acgrep.specs.declared.options.Context.{Context}
 use Rattle.acgrep.specs.declared.options.Fit.{Fit}
@@ -15,13 +15,13 @@ use Rattle.acgrep.proofs.NoneInLines.{none_by_lines}
 use Rattle.acgrep.proofs.Tellings.{settled_some}
 use Rattle.acgrep.proofs.Walked.{walks_tells}
 
-pub walks_nothing : (p : Patterns) (job : Job) (context : Context) (a b : State) (x y : Option (List ℕ)) (text : List ℕ) → HoldNoNewline p → WalksText p job context a b x y text
+pub walks_nothing : (p : Patterns) (job : Job) (context : Context) (a b : State) (x y : Option (List ℕ)) (text : List ℕ) → HoldNoEnding job.style.ending p → WalksText p job context a b x y text
     → IsNoneSelected p job text b
 walks_nothing p job context a b x y text plain walks invert part some zero =
     let none : walks.left ≡ [] = elim walks.ends [ inl none ↦ none | inr settled ↦ absurd (omega (arith, zero, settled_some job b settled)) ] in
-    let all : lines text ≡ walks.searched = walks.cut ∙ ap (λ (l : List ℕ). walks.searched ++ lines l) none ∙ append-nil walks.searched in
+    let all : lines job.style.ending text ≡ walks.searched = walks.cut ∙ ap (λ (l : List ℕ). walks.searched ++ lines job.style.ending l) none ∙ append-nil walks.searched in
     let (told, tells) = walks_tells p job context walks.searched (walk_of a) (walk_of b) walks.tells.bytes walks.tells.walks in
     let each : EachLine (IsPassedOver p job.fit job.invert) walks.searched = tells_each p job walks.searched a.place a.selected told b.selected tells zero in
     let plainly : EachLine (IsPassedOver p AnyPart false) walks.searched =
     subst (λ (b : Bool). EachLine (IsPassedOver p AnyPart b) walks.searched) invert (subst (λ (fit : Fit). EachLine (IsPassedOver p fit job.invert) walks.searched) part each) in
-    none_by_lines p plain text some (subst (EachLine (HasNone p)) (sym all) plainly)
+    none_by_lines job.style.ending p plain text some (subst (EachLine (HasNone p)) (sym all) plainly)

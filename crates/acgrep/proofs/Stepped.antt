@@ -1,5 +1,5 @@
 -- One line of a walk: what is written of it, and where the walk then is.
-use Rattle.std.proofs.Common.{◌≡◌, inl, inr, ℕ, ◌<◌, Bool, true, false, List, [], ◌∷◌, ◌++◌, Option, Some, length, take, drop, take-append-drop, refl, sym, ◌∙◌, ap, subst, arith, append_assoc}
+use Rattle.std.proofs.Common.{◌≡◌, inl, inr, ℕ, ◌<◌, Bool, true, false, List, [], ◌∷◌, ◌++◌, Option, Some, take, drop, take-append-drop, refl, sym, ◌∙◌, ap, subst, append_assoc}
 use Rattle.std.specs.Prelude.{nat_lt, ◌&&◌}
 use Rattle.std.specs.Io.KnownBytes.{Appends}
 use Rattle.std.proofs.KnownBytes.{Appends-nil, Appends-trans}
@@ -111,17 +111,17 @@ module _ (p : Patterns) (job : Job) where
     -- the lines of a text up to those that are left are searched
     pub record WalksTo (a b : Walk) (x y : Option (List ℕ)) (text rest : List ℕ) : Type 0 where
       pub searched : List (List ℕ)
-      pub cut : lines text ≡ searched ++ lines rest
+      pub cut : lines job.style.ending text ≡ searched ++ lines job.style.ending rest
       pub tells : WalksLines p job context a b x y searched
 
     pub to_start : (a : Walk) (x : Option (List ℕ)) (text : List ℕ) → WalksTo a a x x text text
     to_start a x text = record { searched = []; cut = refl; tells = lines_none p job context a x x (Appends-nil x) }
 
-    cut_more : (text rest line left : List ℕ) (searched : List (List ℕ)) → lines text ≡ searched ++ lines rest → lines rest ≡ line ∷ lines left → lines text ≡ (searched ++ (line ∷ [])) ++ lines left
+    cut_more : (text rest line left : List ℕ) (searched : List (List ℕ)) → lines job.style.ending text ≡ searched ++ lines job.style.ending rest → lines job.style.ending rest ≡ line ∷ lines job.style.ending left → lines job.style.ending text ≡ (searched ++ (line ∷ [])) ++ lines job.style.ending left
     cut_more text rest line left searched cut more =
-        cut ∙ ap (λ (l : List (List ℕ)). searched ++ l) more ∙ sym (append_assoc searched (line ∷ []) (lines left))
+        cut ∙ ap (λ (l : List (List ℕ)). searched ++ l) more ∙ sym (append_assoc searched (line ∷ []) (lines job.style.ending left))
 
-    pub to_step : (a b c : Walk) (x y z : Option (List ℕ)) (text rest line left : List ℕ) → lines rest ≡ line ∷ lines left → WalksTo a b x y text rest
+    pub to_step : (a b c : Walk) (x y z : Option (List ℕ)) (text rest line left : List ℕ) → lines job.style.ending rest ≡ line ∷ lines job.style.ending left → WalksTo a b x y text rest
         → WalksLines p job context b c y z (line ∷ []) → WalksTo a c x z text left
     to_step a b c x y z text rest line left more to one = record {
       searched = to.searched ++ (line ∷ []);
@@ -129,32 +129,30 @@ module _ (p : Patterns) (job : Job) where
       tells = lines_join p job context a b c x y z to.searched (line ∷ []) to.tells one;
     }
 
-    pub to_begun : (a b : Walk) (x y z : Option (List ℕ)) (text rest line left : List ℕ) → lines rest ≡ line ∷ lines left → WalksTo a b x y text rest
-        → WalksBegun p job context b y z (line ∷ []) → WalksBegun p job context a x z (lines text)
+    pub to_begun : (a b : Walk) (x y z : Option (List ℕ)) (text rest line left : List ℕ) → lines job.style.ending rest ≡ line ∷ lines job.style.ending left → WalksTo a b x y text rest
+        → WalksBegun p job context b y z (line ∷ []) → WalksBegun p job context a x z (lines job.style.ending text)
     to_begun a b x y z text rest line left more to one =
         subst (WalksBegun p job context a x z) (sym (cut_more text rest line left to.searched to.cut more))
-        (begun_more p job context a x z (to.searched ++ (line ∷ [])) (lines left) (begun_behind p job context a b x y z to.searched (line ∷ []) to.tells one))
+        (begun_more p job context a x z (to.searched ++ (line ∷ [])) (lines job.style.ending left) (begun_behind p job context a b x y z to.searched (line ∷ []) to.tells one))
 
   -- lines around a selected one, one after another
-  pub record ShowsTo (first place : Place) (x y : Option (List ℕ)) (text rest : List ℕ) : Type 0 where
-    pub follow : (bytes : List ℕ) (z : Option (List ℕ)) → ShowsEach p job place (lines rest) bytes → Appends y z bytes
-        → (all : List ℕ) × ShowsEach p job first (lines text) all × Appends x z all
+  pub record ShowsTo (first place : Place) (x y : Option (List ℕ)) (ls rest : List (List ℕ)) : Type 0 where
+    pub follow : (bytes : List ℕ) (z : Option (List ℕ)) → ShowsEach p job place rest bytes → Appends y z bytes
+        → (all : List ℕ) × ShowsEach p job first ls all × Appends x z all
 
-  pub shows_start : (first : Place) (x : Option (List ℕ)) (text : List ℕ) → ShowsTo first first x x text text
-  shows_start first x text = record { follow = λ bytes z each written. (bytes, each, written) }
+  pub shows_start : (first : Place) (x : Option (List ℕ)) (ls : List (List ℕ)) → ShowsTo first first x x ls ls
+  shows_start first x ls = record { follow = λ bytes z each written. (bytes, each, written) }
 
-  pub shows_step : (first place : Place) (x y z : Option (List ℕ)) (text rest line left : List ℕ) → lines rest ≡ line ∷ lines left → ShowsTo first place x y text rest
-      → WritesLine p job place y z line → ShowsTo first (after_line place line) x z text left
-  shows_step first place x y z text rest line left more to (shown, shows, written) = record {
+  pub shows_step : (first place : Place) (x y z : Option (List ℕ)) (ls rest : List (List ℕ)) (line : List ℕ) (left : List (List ℕ)) → rest ≡ line ∷ left → ShowsTo first place x y ls rest
+      → WritesLine p job place y z line → ShowsTo first (after_line place line) x z ls left
+  shows_step first place x y z ls rest line left more to (shown, shows, written) = record {
     follow = λ bytes last each others.
-        to.follow (shown ++ bytes) last (subst (λ (ls : List (List ℕ)). ShowsEach p job place ls (shown ++ bytes)) (sym more) (shown, bytes, shows, each, refl))
+        to.follow (shown ++ bytes) last (subst (λ (rest : List (List ℕ)). ShowsEach p job place rest (shown ++ bytes)) (sym more) (shown, bytes, shows, each, refl))
         (Appends-trans y z last shown bytes written others);
   }
 
-  pub shows_end : (first place : Place) (x y : Option (List ℕ)) (text rest : List ℕ) → length rest ≡ 0 → ShowsTo first place x y text rest
-      → (all : List ℕ) × ShowsEach p job first (lines text) all × Appends x y all
-  shows_end first place x y text [] none to = to.follow [] y refl (Appends-nil y)
-  shows_end first place x y text (byte ∷ rest) none to = absurd (omega (arith, none))
+  pub shows_end : (first place : Place) (x y : Option (List ℕ)) (ls : List (List ℕ)) → ShowsTo first place x y ls [] → (all : List ℕ) × ShowsEach p job first ls all × Appends x y all
+  shows_end first place x y ls to = to.follow [] y refl (Appends-nil y)
 
 -- a selected line behind those that are held before it
 pub group_put : (p : Patterns) (job : Job) (context : Context) (w : Walk) (line : List ℕ) (asked : Bool) (x y z u : Option (List ℕ)) → asked ≡ (context.parted && (w.some && w.apart))

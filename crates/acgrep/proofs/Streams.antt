@@ -6,7 +6,7 @@ use Rattle.std.proofs.KnownBytes.{Appends-trans, Consumes-trans, Consumes-nil, K
 use Rattle.std.proofs.Math.Seq.{drop-append_seam, drop-append-add}
 use Rattle.std.proofs.lemmas.List.{get_or-append-add, length-take-le}
 use Rattle.aho_core.specs.Patterns.{Patterns}
-use Rattle.acgrep.specs.Lines.{EndsLine, IsNewline, lines}
+use Rattle.acgrep.specs.Lines.{EndsLine, IsEnding, lines}
 use Rattle.acgrep.specs.Filled.{FillsBehind, ReadsOn}
 use Rattle.acgrep.specs.Streamed.{ReadsSome, SearchesLines, SearchesStream, SearchesWhole, course}
 use Rattle.acgrep.specs.Contexts.{SearchesIn, SearchesText, around_of}
@@ -34,25 +34,26 @@ reads_both a b c (one, first) (other, second) = (one ++ other, Consumes-trans a 
 pub not_done : (done : Bool) (P : Type 0) → (P → done ≡ true) → done ≡ false → P → ⊥
 not_done done P tells not holds = let yes : done ≡ true = tells holds in absurd (cc)
 
--- what stands behind a front ends as the whole does
-pub ends_behind : (front back : List ℕ) → EndsLine (front ++ back) → EndsLine back
-ends_behind front back ends = subst EndsLine (drop-append_seam front back) (ends_drop (front ++ back) (length front) ends)
+module _ (ending : ℕ) where
+  -- what stands behind a front ends as the whole does
+  pub ends_behind : (front back : List ℕ) → EndsLine ending (front ++ back) → EndsLine ending back
+  ends_behind front back ends = subst (EndsLine ending) (drop-append_seam front back) (ends_drop ending (front ++ back) (length front) ends)
 
-pub ends_joined : (front back : List ℕ) → EndsLine front → EndsLine back → EndsLine (front ++ back)
-ends_joined front [] one other = subst EndsLine (sym (append-nil front)) one
-ends_joined front (byte ∷ back) one other = λ some.
-    let place : length front + (length (byte ∷ back) - 1) ≡ length (front ++ (byte ∷ back)) - 1 = omega (arith, length-append front (byte ∷ back)) in
-    subst (IsNewline (front ++ (byte ∷ back))) place
-    (subst (λ (b : ℕ). (b == 10) ≡ true) (sym (get_or-append-add front (byte ∷ back) (length (byte ∷ back) - 1) 0)) (other (omega arith)))
+  pub ends_joined : (front back : List ℕ) → EndsLine ending front → EndsLine ending back → EndsLine ending (front ++ back)
+  ends_joined front [] one other = subst (EndsLine ending) (sym (append-nil front)) one
+  ends_joined front (byte ∷ back) one other = λ some.
+      let place : length front + (length (byte ∷ back) - 1) ≡ length (front ++ (byte ∷ back)) - 1 = omega (arith, length-append front (byte ∷ back)) in
+      subst (IsEnding ending (front ++ (byte ∷ back))) place
+      (subst (λ (b : ℕ). (b == ending) ≡ true) (sym (get_or-append-add front (byte ∷ back) (length (byte ∷ back) - 1) 0)) (other (omega arith)))
 
 module _ (p : Patterns) (job : Job) where
-  plain_more : (a b c : State) (x y z : Option (List ℕ)) (front back : List ℕ) → EndsLine front → (IsSettled job b → ⊥)
+  plain_more : (a b c : State) (x y z : Option (List ℕ)) (front back : List ℕ) → EndsLine job.style.ending front → (IsSettled job b → ⊥)
       → SearchesPlain p job a b x y front → SearchesPlain p job b c y z back → SearchesPlain p job a c x z (front ++ back)
   plain_more a b c x y z front back whole goes one other =
       let first = one.searches in
       let second = other.searches in
       let none : one.left ≡ [] = elim one.ends [ inl none ↦ none | inr settled ↦ absurd (goes settled) ] in
-      let all : lines front ≡ first.searched = first.cut ∙ ap (λ (l : List ℕ). first.searched ++ lines l) none ∙ append-nil first.searched in
+      let all : lines job.style.ending front ≡ first.searched = first.cut ∙ ap (λ (l : List ℕ). first.searched ++ lines job.style.ending l) none ∙ append-nil first.searched in
       let there : SamePlace job b.place (after_lines a.place first.searched) = first.placed (inr whole) in
       record {
         left = other.left;
@@ -61,23 +62,23 @@ module _ (p : Patterns) (job : Job) where
           within = omega (arith, second.within, length-append front back);
           rest = second.rest ∙ sym (drop-append-add front back second.at);
           searched = first.searched ++ second.searched;
-          cut = lines_append front back whole ∙ ap (λ (l : List (List ℕ)). l ++ lines back) all ∙ ap (λ (l : List (List ℕ)). first.searched ++ l) second.cut
-              ∙ sym (append_assoc first.searched second.searched (lines other.left));
+          cut = lines_append job.style.ending front back whole ∙ ap (λ (l : List (List ℕ)). l ++ lines job.style.ending back) all ∙ ap (λ (l : List (List ℕ)). first.searched ++ l) second.cut
+              ∙ sym (append_assoc first.searched second.searched (lines job.style.ending other.left));
           tells = tells_join p job a b c x y z first.searched second.searched first.tells there second.tells;
           placed = λ h. subst (λ (place : Place). SamePlace job c.place place) (sym (after_append first.searched second.searched a.place))
               (same_trans job c.place (after_lines b.place second.searched) (after_lines (after_lines a.place first.searched) second.searched)
-              (second.placed (elim h [ inl more ↦ inl more | inr ends ↦ inr (ends_behind front back ends) ]))
+              (second.placed (elim h [ inl more ↦ inl more | inr ends ↦ inr (ends_behind job.style.ending front back ends) ]))
               (same_lines job second.searched b.place (after_lines a.place first.searched) there));
         };
         ends = other.ends;
       }
 
-  more_in : (around : Option Context) (a b c : State) (x y z : Option (List ℕ)) (front back : List ℕ) → EndsLine front → (IsSettled job b → ⊥)
+  more_in : (around : Option Context) (a b c : State) (x y z : Option (List ℕ)) (front back : List ℕ) → EndsLine job.style.ending front → (IsSettled job b → ⊥)
       → SearchesIn p job around a b x y front → SearchesIn p job around b c y z back → SearchesIn p job around a c x z (front ++ back)
   more_in None a b c x y z front back whole goes one other = plain_more a b c x y z front back whole goes one other
   more_in (Some context) a b c x y z front back whole goes one other = text_join p job context a b c x y z front back whole goes one other
 
-  pub searches_more : (a b c : State) (x y z : Option (List ℕ)) (front back : List ℕ) → EndsLine front → (IsSettled job b → ⊥)
+  pub searches_more : (a b c : State) (x y z : Option (List ℕ)) (front back : List ℕ) → EndsLine job.style.ending front → (IsSettled job b → ⊥)
       → SearchesText p job a b x y front → SearchesText p job b c y z back → SearchesText p job a c x z (front ++ back)
   searches_more a b c x y z front back whole goes one other = more_in (around_of job) a b c x y z front back whole goes one other
 
@@ -89,7 +90,7 @@ module _ (p : Patterns) (job : Job) where
       record {
         searched = so_far.searched ++ some.searched;
         consumed = subst (Consumes l n) joined (Consumes-trans l m n (so_far.searched ++ kept) some.came so_far.consumed some.consumed);
-        whole = ends_joined so_far.searched some.searched so_far.whole some.whole;
+        whole = ends_joined job.style.ending so_far.searched some.searched so_far.whole some.whole;
         searches = searches_more a b c x y z so_far.searched some.searched so_far.whole goes so_far.searches some.searches;
       }
 
@@ -210,19 +211,20 @@ module _ (p : Patterns) (job : Job) where
     ends = λ _. (fills.ended zero, refl);
   }
 
--- the front of bytes up to behind a newline is whole lines
-pub front_whole : (bytes : List ℕ) (whole : ℕ) → whole ≤ length bytes → (0 < whole → IsNewline bytes (whole - 1)) → EndsLine (take whole bytes)
-front_whole bytes whole within newline some =
-    let long : length (take whole bytes) ≡ whole = length-take-le whole bytes within in
-    subst (λ (n : ℕ). IsNewline (take whole bytes) (n - 1)) (sym long)
-    (front_newline bytes whole (whole - 1) (omega (arith, long, some)) (newline (omega (arith, long, some))))
+module _ (ending : ℕ) where
+  -- the front of bytes up to behind a newline is whole lines
+  pub front_whole : (bytes : List ℕ) (whole : ℕ) → whole ≤ length bytes → (0 < whole → IsEnding ending bytes (whole - 1)) → EndsLine ending (take whole bytes)
+  front_whole bytes whole within newline some =
+      let long : length (take whole bytes) ≡ whole = length-take-le whole bytes within in
+      subst (λ (n : ℕ). IsEnding ending (take whole bytes) (n - 1)) (sym long)
+      (front_newline ending bytes whole (whole - 1) (omega (arith, long, some)) (newline (omega (arith, long, some))))
 
 -- and what follows is kept
 pub whole_searched : (p : Patterns) (job : Job) (a b : State) (x y : Option (List ℕ)) (bytes kept : List ℕ) (whole : ℕ) → whole ≤ length bytes
-    → (0 < whole → IsNewline bytes (whole - 1)) → kept ≡ drop whole bytes → SearchesText p job a b x y (take whole bytes) → SearchesWhole p job a b x y bytes kept
+    → (0 < whole → IsEnding job.style.ending bytes (whole - 1)) → kept ≡ drop whole bytes → SearchesText p job a b x y (take whole bytes) → SearchesWhole p job a b x y bytes kept
 whole_searched p job a b x y bytes kept whole within newline rest searches = record {
   searched = take whole bytes;
   cut = sym (take-append-drop whole bytes) ∙ ap (λ (l : List ℕ). take whole bytes ++ l) (sym rest);
-  whole = front_whole bytes whole within newline;
+  whole = front_whole job.style.ending bytes whole within newline;
   searches = searches;
 }

@@ -4,7 +4,7 @@ use Rattle.std.specs.Io.KnownBytes.{Appends, Consumes, Keeps}
 use Rattle.std.proofs.KnownBytes.{Consumes-trans}
 use Rattle.aho_core.specs.Patterns.{Patterns}
 use Rattle.acgrep.specs.Filled.{FillsBehind}
-use Rattle.acgrep.specs.Lines.{EndsLine, IsNewline, lines}
+use Rattle.acgrep.specs.Lines.{EndsLine, IsEnding, lines}
 use Rattle.acgrep.specs.Streamed.{BeginsSome, BeginsStream, BeginsWhole, ReadsSome, SearchesLines, SearchesStream, course}
 use Rattle.acgrep.specs.Contexts.{BeginsAsked, BeginsSearched, SearchesIn, SearchesText, around_of, walk_of}
 use Rattle.acgrep.specs.Written.{BeginsLines, IsSettled, SamePlace, SearchesPlain, after_lines}
@@ -18,48 +18,48 @@ use Rattle.acgrep.proofs.Streams.{ends_joined, front_whole, keeps_nil, stream_st
 
 module _ (p : Patterns) (job : Job) where
   -- a text that was searched, and a beginning of what follows
-  plain_after : (a b : State) (count : ℕ) (x y z : Option (List ℕ)) (front back : List ℕ) → EndsLine front → (IsSettled job b → ⊥)
-      → SearchesPlain p job a b x y front → BeginsLines p job b count y z (lines back) → BeginsLines p job a count x z (lines (front ++ back))
+  plain_after : (a b : State) (count : ℕ) (x y z : Option (List ℕ)) (front back : List ℕ) → EndsLine job.style.ending front → (IsSettled job b → ⊥)
+      → SearchesPlain p job a b x y front → BeginsLines p job b count y z (lines job.style.ending back) → BeginsLines p job a count x z (lines job.style.ending (front ++ back))
   plain_after a b count x y z front back whole goes one other =
       let first = one.searches in
       let none : one.left ≡ [] = elim one.ends [ inl none ↦ none | inr settled ↦ absurd (goes settled) ] in
-      let all : lines front ≡ first.searched = first.cut ∙ ap (λ (l : List ℕ). first.searched ++ lines l) none ∙ append-nil first.searched in
+      let all : lines job.style.ending front ≡ first.searched = first.cut ∙ ap (λ (l : List ℕ). first.searched ++ lines job.style.ending l) none ∙ append-nil first.searched in
       let there : SamePlace job b.place (after_lines a.place first.searched) = first.placed (inr whole) in
-      subst (BeginsLines p job a count x z) (sym (lines_append front back whole ∙ ap (λ (l : List (List ℕ)). l ++ lines back) all))
-      (begins_join p job a b count x y z first.searched (lines back) first.tells there other)
+      subst (BeginsLines p job a count x z) (sym (lines_append job.style.ending front back whole ∙ ap (λ (l : List (List ℕ)). l ++ lines job.style.ending back) all))
+      (begins_join p job a b count x y z first.searched (lines job.style.ending back) first.tells there other)
 
   -- what was told of a text is a beginning too
-  plain_whole : (a b : State) (x y : Option (List ℕ)) (text : List ℕ) → SearchesPlain p job a b x y text → BeginsLines p job a b.selected x y (lines text)
+  plain_whole : (a b : State) (x y : Option (List ℕ)) (text : List ℕ) → SearchesPlain p job a b x y text → BeginsLines p job a b.selected x y (lines job.style.ending text)
   plain_whole a b x y text one =
       let to = one.searches in
       record {
         first = to.searched;
-        left = lines one.left;
+        left = lines job.style.ending one.left;
         cut = to.cut;
         told = to.tells.bytes;
         tells = to.tells.told;
         begun = [];
-        starts = starts_none p job (after_lines a.place to.searched) b.selected (lines one.left);
+        starts = starts_none p job (after_lines a.place to.searched) b.selected (lines job.style.ending one.left);
         written = subst (Appends x y) (sym (append-nil to.tells.bytes)) to.tells.written;
       }
 
-  after_in : (around : Option Context) (a b : State) (count : ℕ) (x y z : Option (List ℕ)) (front back : List ℕ) → EndsLine front → (IsSettled job b → ⊥)
-      → SearchesIn p job around a b x y front → BeginsAsked p job around b count y z (lines back) → BeginsAsked p job around a count x z (lines (front ++ back))
+  after_in : (around : Option Context) (a b : State) (count : ℕ) (x y z : Option (List ℕ)) (front back : List ℕ) → EndsLine job.style.ending front → (IsSettled job b → ⊥)
+      → SearchesIn p job around a b x y front → BeginsAsked p job around b count y z (lines job.style.ending back) → BeginsAsked p job around a count x z (lines job.style.ending (front ++ back))
   after_in None a b count x y z front back whole goes one other = plain_after a b count x y z front back whole goes one other
   after_in (Some context) a b count x y z front back whole goes one other =
-      subst (BeginsAsked p job (Some context) a count x z) (sym (lines_append front back whole ∙ ap (λ (l : List (List ℕ)). l ++ lines back) (text_lines p job context a b x y front one goes)))
-      (begun_behind p job context (walk_of a) (walk_of b) x y z one.searched (lines back) one.tells other)
+      subst (BeginsAsked p job (Some context) a count x z) (sym (lines_append job.style.ending front back whole ∙ ap (λ (l : List (List ℕ)). l ++ lines job.style.ending back) (text_lines p job context a b x y front one goes)))
+      (begun_behind p job context (walk_of a) (walk_of b) x y z one.searched (lines job.style.ending back) one.tells other)
 
-  begins_after : (a b : State) (count : ℕ) (x y z : Option (List ℕ)) (front back : List ℕ) → EndsLine front → (IsSettled job b → ⊥)
-      → SearchesText p job a b x y front → BeginsSearched p job b count y z (lines back) → BeginsSearched p job a count x z (lines (front ++ back))
+  begins_after : (a b : State) (count : ℕ) (x y z : Option (List ℕ)) (front back : List ℕ) → EndsLine job.style.ending front → (IsSettled job b → ⊥)
+      → SearchesText p job a b x y front → BeginsSearched p job b count y z (lines job.style.ending back) → BeginsSearched p job a count x z (lines job.style.ending (front ++ back))
   begins_after a b count x y z front back whole goes one other = after_in (around_of job) a b count x y z front back whole goes one other
 
-  whole_in : (around : Option Context) (a b : State) (x y : Option (List ℕ)) (text : List ℕ) → SearchesIn p job around a b x y text → BeginsAsked p job around a b.selected x y (lines text)
+  whole_in : (around : Option Context) (a b : State) (x y : Option (List ℕ)) (text : List ℕ) → SearchesIn p job around a b x y text → BeginsAsked p job around a b.selected x y (lines job.style.ending text)
   whole_in None a b x y text one = plain_whole a b x y text one
   whole_in (Some context) a b x y text one =
-      subst (BeginsAsked p job (Some context) a b.selected x y) (sym one.cut) (begun_all p job context (walk_of a) (walk_of b) x y one.searched (lines one.left) one.tells)
+      subst (BeginsAsked p job (Some context) a b.selected x y) (sym one.cut) (begun_all p job context (walk_of a) (walk_of b) x y one.searched (lines job.style.ending one.left) one.tells)
 
-  begins_whole : (a b : State) (x y : Option (List ℕ)) (text : List ℕ) → SearchesText p job a b x y text → BeginsSearched p job a b.selected x y (lines text)
+  begins_whole : (a b : State) (x y : Option (List ℕ)) (text : List ℕ) → SearchesText p job a b x y text → BeginsSearched p job a b.selected x y (lines job.style.ending text)
   begins_whole a b x y text one = whole_in (around_of job) a b x y text one
 
   nothing_in : (around : Option Context) (a : State) (x y : Option (List ℕ)) → Keeps x y → BeginsAsked p job around a a.selected x y []
@@ -73,13 +73,13 @@ module _ (p : Patterns) (job : Job) where
 
   -- the front of bytes up to behind a newline was begun
   pub whole_begins : (a : State) (count : ℕ) (b : State) (x y : Option (List ℕ)) (bytes : List ℕ) (whole : ℕ) → count ≡ b.selected → whole ≤ length bytes
-      → (0 < whole → IsNewline bytes (whole - 1)) → BeginsSearched p job a count x y (lines (take whole bytes)) → BeginsWhole p job a b x y bytes
+      → (0 < whole → IsEnding job.style.ending bytes (whole - 1)) → BeginsSearched p job a count x y (lines job.style.ending (take whole bytes)) → BeginsWhole p job a b x y bytes
   whole_begins a count b x y bytes whole same within newline begins = record {
     searched = take whole bytes;
     rest = drop whole bytes;
     cut = sym (take-append-drop whole bytes);
-    whole = front_whole bytes whole within newline;
-    begins = subst (λ (n : ℕ). BeginsSearched p job a n x y (lines (take whole bytes))) same begins;
+    whole = front_whole job.style.ending bytes whole within newline;
+    begins = subst (λ (n : ℕ). BeginsSearched p job a n x y (lines job.style.ending (take whole bytes))) same begins;
   }
 
   -- bytes came, and nothing is written
@@ -104,7 +104,7 @@ module _ (p : Patterns) (job : Job) where
     consumed = fills.read;
     cut = sym fills.behind ∙ begins.cut;
     whole = begins.whole;
-    begins = kept_in (around_of job) a b.selected x y z (lines begins.searched) keeps begins.begins;
+    begins = kept_in (around_of job) a b.selected x y z (lines job.style.ending begins.searched) keeps begins.begins;
   }
 
   -- what was read so far, and a read that is broken off
@@ -118,12 +118,12 @@ module _ (p : Patterns) (job : Job) where
         rest = some.rest;
         consumed = subst (Consumes l n) joined (Consumes-trans l m n (so_far.searched ++ kept) some.came so_far.consumed some.consumed);
         begins = begins_after a b c.selected x y z so_far.searched some.searched so_far.whole goes so_far.searches some.begins;
-        ends = inl (ends_joined so_far.searched some.searched so_far.whole some.whole);
+        ends = inl (ends_joined job.style.ending so_far.searched some.searched so_far.whole some.whole);
       }
 
   -- the read that told the end, and a search of what is kept that is broken off
   pub stream_last_begins : (a b c d : State) (x y z w l m n : Option (List ℕ)) (kept rest : List ℕ) (ended : Bool) → (IsSettled job b → ⊥) → ended ≡ true
-      → SearchesLines p job (course a b x y l m) kept → ReadsSome p job (course b c y z m n) kept rest ended → BeginsSearched p job c d.selected z w (lines rest)
+      → SearchesLines p job (course a b x y l m) kept → ReadsSome p job (course b c y z m n) kept rest ended → BeginsSearched p job c d.selected z w (lines job.style.ending rest)
       → BeginsStream p job (course a d x w l n)
   stream_last_begins a b c d x y z w l m n kept rest ended goes is so_far some last =
       let ends = some.ends is in

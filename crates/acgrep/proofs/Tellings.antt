@@ -65,10 +65,10 @@ asked_numbered Nothing asked is = is
 -- a coloured line is what is written of a line where that is asked for
 pub colored_shows : (p : Patterns) (job : Job) (place : Place) (old new : Option (List ℕ)) (line : List ℕ) → job.shown ≡ Lines → (job.style.color && not job.invert) ≡ true
     → WritesColored old new p (asks_alone job.fit) job.style place line → WritesLine p job place old new line
-colored_shows p job place old new line lines colored writes =
+colored_shows p job place old new line whole colored writes =
     let bytes = colored_line_by job.style place line writes.matches in (
       bytes,
-      subst (λ (shown : Shown). ShowsBy p shown (asks_alone job.fit) job.invert job.style place line bytes) (sym lines)
+      subst (λ (shown : Shown). ShowsBy p shown (asks_alone job.fit) job.invert job.style place line bytes) (sym whole)
           (subst (λ (b : Bool). LineOf p (asks_alone job.fit) b job.style place line bytes) (sym colored) (writes.matches, writes.found, refl)),
       writes.written,
     )
@@ -86,7 +86,7 @@ match_same job a b line m same =
     let bytes = part_of line m.start m.end in
     let heads : head_of job.style (line_number_at a) (offset_at a m.start) bytes ≡ head_of job.style (line_number_at b) (offset_at b m.start) bytes =
     same_head job a b (offset_at a m.start) bytes same ∙ ap (λ (n : ℕ). head_of job.style (line_number_at b) ((n + m.start) % 2 ^ 64) bytes) same.bytes in
-    ap (λ (head : List ℕ). if m.start == m.end then [] else head ++ (painted job.style.color (color_of (codes "01;31")) (part_of line m.start m.end) ++ codes "\n")) heads
+    ap (λ (head : List ℕ). if m.start == m.end then [] else head ++ (painted job.style.color (color_of (codes "01;31")) (part_of line m.start m.end) ++ (job.style.ending ∷ []))) heads
 
 matches_same : (job : Job) (a b : Place) (line : List ℕ) (ms : List Occurrence) → SamePlace job a b → matches_by job.style a line ms ≡ matches_by job.style b line ms
 matches_same job a b line [] same = refl
@@ -95,15 +95,15 @@ matches_same job a b line (m ∷ ms) same =
     ∙ ap (λ (l : List ℕ). match_by job.style b line m ++ l) (matches_same job a b line ms same)
 
 place_same : (a b : Place) → a.lines ≡ b.lines → a.bytes ≡ b.bytes → a ≡ b
-place_same a b lines bytes = ap (λ (n : ℕ). place_behind n a.bytes) lines ∙ ap (place_behind b.lines) bytes
+place_same a b counts bytes = ap (λ (n : ℕ). place_behind n a.bytes) counts ∙ ap (place_behind b.lines) bytes
 
 start_same : (job : Job) (a b : Place) (line : List ℕ) → SamePlace job a b → head_of job.style (line_number_at a) a.bytes line ≡ head_of job.style (line_number_at b) b.bytes line
 start_same job a b line same = same_head job a b a.bytes line same ∙ ap (λ (n : ℕ). head_of job.style (line_number_at b) n line) same.bytes
 
 line_same : (p : Patterns) (alone colored : Bool) (job : Job) (a b : Place) (line bytes : List ℕ) → SamePlace job a b
     → LineOf p alone colored job.style a line bytes → LineOf p alone colored job.style b line bytes
-line_same p alone true job a b line bytes same (ms, finds, is) = (ms, finds, is ∙ ap (λ (head : List ℕ). head ++ (colored_from line 0 ms ++ codes "\n")) (start_same job a b line same))
-line_same p alone false job a b line bytes same is = is ∙ ap (λ (head : List ℕ). head ++ (line ++ codes "\n")) (start_same job a b line same)
+line_same p alone true job a b line bytes same (ms, finds, is) = (ms, finds, is ∙ ap (λ (head : List ℕ). head ++ (colored_from line 0 ms ++ (job.style.ending ∷ []))) (start_same job a b line same))
+line_same p alone false job a b line bytes same is = is ∙ ap (λ (head : List ℕ). head ++ (line ++ (job.style.ending ∷ []))) (start_same job a b line same)
 
 pub by_same : (p : Patterns) (shown : Shown) (alone invert : Bool) (job : Job) (a b : Place) (line bytes : List ℕ)
     → (is_numbered shown job.style.number ≡ true → a.lines ≡ b.lines) → SamePlace job a b
@@ -295,11 +295,11 @@ module _ (p : Patterns) (job : Job) where
       → SearchesTo p job b c y z mid left → SearchesTo p job a c x z text left
   searches_join a b c x y z text mid left one some other = record {
     searched = one.searched ++ other.searched;
-    cut = one.cut ∙ ap (λ (l : List (List ℕ)). one.searched ++ l) other.cut ∙ sym (append_assoc one.searched other.searched (lines left));
+    cut = one.cut ∙ ap (λ (l : List (List ℕ)). one.searched ++ l) other.cut ∙ sym (append_assoc one.searched other.searched (lines job.style.ending left));
     tells = tells_join a b c x y z one.searched other.searched one.tells (one.placed (inl some)) other.tells;
     placed = λ h. subst (λ (place : Place). SamePlace job c.place place) (sym (after_append one.searched other.searched a.place))
         (same_trans job c.place (after_lines b.place other.searched) (after_lines (after_lines a.place one.searched) other.searched)
-        (other.placed (elim h [ inl more ↦ inl more | inr ends ↦ inr (subst EndsLine (sym one.rest) (ends_drop text one.at ends)) ]))
+        (other.placed (elim h [ inl more ↦ inl more | inr ends ↦ inr (subst (EndsLine job.style.ending) (sym one.rest) (ends_drop job.style.ending text one.at ends)) ]))
         (same_lines job other.searched b.place (after_lines a.place one.searched) (one.placed (inl some))));
     at = one.at + other.at;
     within =
@@ -310,29 +310,29 @@ module _ (p : Patterns) (job : Job) where
 
   -- lines with no match, and one with a match
   pub searches_line : (a b c : State) (x y z : Option (List ℕ)) (text front line left : List ℕ) (at : ℕ)
-      → lines text ≡ lines front ++ (line ∷ lines left) → left ≡ drop at text
-      → TellsLines p job a b x y (lines front) → SamePlace job b.place (after_lines a.place (lines front))
+      → lines job.style.ending text ≡ lines job.style.ending front ++ (line ∷ lines job.style.ending left) → left ≡ drop at text
+      → TellsLines p job a b x y (lines job.style.ending front) → SamePlace job b.place (after_lines a.place (lines job.style.ending front))
       → TellsLines p job b c y z (line ∷ []) → c.place ≡ after_line b.place line → SearchesTo p job a c x z text left
   searches_line a b c x y z text front line left at cut rest one same other placed =
       let (from, within, same_rest) = drop_within at text in
       record {
-        searched = lines front ++ (line ∷ []);
-        cut = cut ∙ sym (append_assoc (lines front) (line ∷ []) (lines left));
-        tells = tells_join a b c x y z (lines front) (line ∷ []) one same other;
-        placed = λ h. subst (λ (place : Place). SamePlace job c.place place) (sym (after_append (lines front) (line ∷ []) a.place))
-            (subst (λ (place : Place). SamePlace job place (after_line (after_lines a.place (lines front)) line)) (sym placed)
-            (same_line job b.place (after_lines a.place (lines front)) line same));
+        searched = lines job.style.ending front ++ (line ∷ []);
+        cut = cut ∙ sym (append_assoc (lines job.style.ending front) (line ∷ []) (lines job.style.ending left));
+        tells = tells_join a b c x y z (lines job.style.ending front) (line ∷ []) one same other;
+        placed = λ h. subst (λ (place : Place). SamePlace job c.place place) (sym (after_append (lines job.style.ending front) (line ∷ []) a.place))
+            (subst (λ (place : Place). SamePlace job place (after_line (after_lines a.place (lines job.style.ending front)) line)) (sym placed)
+            (same_line job b.place (after_lines a.place (lines job.style.ending front)) line same));
         at = from;
         within = within;
         rest = rest ∙ same_rest;
       }
 
   -- all lines
-  pub searches_all : (a b : State) (x y : Option (List ℕ)) (text left : List ℕ) → left ≡ [] → TellsLines p job a b x y (lines text)
-      → (EndsLine text → SamePlace job b.place (after_lines a.place (lines text))) → SearchesTo p job a b x y text left
+  pub searches_all : (a b : State) (x y : Option (List ℕ)) (text left : List ℕ) → left ≡ [] → TellsLines p job a b x y (lines job.style.ending text)
+      → (EndsLine job.style.ending text → SamePlace job b.place (after_lines a.place (lines job.style.ending text))) → SearchesTo p job a b x y text left
   searches_all a b x y text left none told placed = record {
-    searched = lines text;
-    cut = sym (append-nil (lines text)) ∙ ap (λ (l : List ℕ). lines text ++ lines l) (sym none);
+    searched = lines job.style.ending text;
+    cut = sym (append-nil (lines job.style.ending text)) ∙ ap (λ (l : List ℕ). lines job.style.ending text ++ lines job.style.ending l) (sym none);
     tells = told;
     placed = λ h. elim h [ inl more ↦ absurd (omega (arith, more, ap length none)) | inr ends ↦ placed ends ];
     at = length text;
@@ -343,32 +343,32 @@ module _ (p : Patterns) (job : Job) where
 -- selected lines so far
 pub record Passing (p : Patterns) (job : Job) (before after : State) (old new : Option (List ℕ)) (text rest : List ℕ) : Type 0 where
   pub searched : List (List ℕ)
-  pub cut : lines text ≡ searched ++ lines rest
+  pub cut : lines job.style.ending text ≡ searched ++ lines job.style.ending rest
   pub tells : TellsLines p job before after old new searched
   pub placed : after.place ≡ after_lines before.place searched
-  pub each : EachLine (HasNone p) (lines rest)
+  pub each : EachLine (HasNone p) (lines job.style.ending rest)
 
 -- one more
-pub passing_step : (p : Patterns) (job : Job) (a b c : State) (x y z : Option (List ℕ)) (text rest line left : List ℕ) → job.invert ≡ true → lines rest ≡ line ∷ lines left
+pub passing_step : (p : Patterns) (job : Job) (a b c : State) (x y z : Option (List ℕ)) (text rest line left : List ℕ) → job.invert ≡ true → lines job.style.ending rest ≡ line ∷ lines job.style.ending left
     → c.place ≡ after_line b.place line → c.selected ≡ next_count job.most b.selected → WritesNext p job b y z line → Passing p job a b x y text rest → Passing p job a c x z text left
 passing_step p job a b c x y z text rest line left invert first placed counted writes so_far =
-    let each : EachLine (HasNone p) (line ∷ lines left) = subst (EachLine (HasNone p)) first so_far.each in
+    let each : EachLine (HasNone p) (line ∷ lines job.style.ending left) = subst (EachLine (HasNone p)) first so_far.each in
     let selected : IsSelected p job.fit job.invert line =
     subst (λ (b : Bool). MatchBool b (DoesNotMatch p job.fit line) (DoesMatch p job.fit line)) (sym invert) (none_matches p job.fit line each.0) in
     let there : SamePlace job b.place (after_lines a.place so_far.searched) = subst (λ (place : Place). SamePlace job b.place place) so_far.placed (same_place job b.place) in
     record {
       searched = so_far.searched ++ (line ∷ []);
-      cut = so_far.cut ∙ ap (λ (l : List (List ℕ)). so_far.searched ++ l) first ∙ sym (append_assoc so_far.searched (line ∷ []) (lines left));
+      cut = so_far.cut ∙ ap (λ (l : List (List ℕ)). so_far.searched ++ l) first ∙ sym (append_assoc so_far.searched (line ∷ []) (lines job.style.ending left));
       tells = tells_join p job a b c x y z so_far.searched (line ∷ []) so_far.tells there (one_selected p job b c y z line selected counted writes);
       placed = placed ∙ ap (λ (place : Place). after_line place line) so_far.placed ∙ sym (after_append so_far.searched (line ∷ []) a.place);
       each = each.1;
     }
 
 -- none is left
-pub passing_end : (p : Patterns) (job : Job) (a b : State) (x y : Option (List ℕ)) (text rest : List ℕ) → rest ≡ [] → Passing p job a b x y text rest → TellsLines p job a b x y (lines text)
+pub passing_end : (p : Patterns) (job : Job) (a b : State) (x y : Option (List ℕ)) (text rest : List ℕ) → rest ≡ [] → Passing p job a b x y text rest → TellsLines p job a b x y (lines job.style.ending text)
 passing_end p job a b x y text rest none so_far =
-    let all : lines text ≡ so_far.searched = so_far.cut ∙ ap (λ (l : List ℕ). so_far.searched ++ lines l) none ∙ append-nil so_far.searched in
+    let all : lines job.style.ending text ≡ so_far.searched = so_far.cut ∙ ap (λ (l : List ℕ). so_far.searched ++ lines job.style.ending l) none ∙ append-nil so_far.searched in
     subst (TellsLines p job a b x y) (sym all) so_far.tells
 
-pub passing_start : (p : Patterns) (job : Job) (a : State) (x : Option (List ℕ)) (text : List ℕ) → EachLine (HasNone p) (lines text) → Passing p job a a x x text text
+pub passing_start : (p : Patterns) (job : Job) (a : State) (x : Option (List ℕ)) (text : List ℕ) → EachLine (HasNone p) (lines job.style.ending text) → Passing p job a a x x text text
 passing_start p job a x text each = record { searched = []; cut = refl; tells = tells_none p job a x; placed = refl; each = each }

@@ -21,7 +21,7 @@ use Rattle.acgrep.specs.Arguments.{Said, origin_of}
 use Rattle.acgrep.specs.Files.{is_enough, seen_after, shown_name, status_by}
 use Rattle.acgrep.specs.Folders.{Tree}
 use Rattle.acgrep.specs.Runs.{origins_of}
-use Rattle.acgrep.specs.Told.{IsMessage, IsToldCause, MayName, MaySaid, MayTell, TellsIf, TellsOutcome, TellsStatus, files_told, loop_text, output_text, names_said, shown_names, source_names}
+use Rattle.acgrep.specs.Told.{IsMessage, IsToldCause, MayName, MaySaid, MayTell, TellsIf, TellsOutcome, TellsStatus, files_told, loop_text, output_text, names_said, shown_names, source_names, zero_text}
 use Rattle.acgrep.specs.declared.arguments.Source.{Source}
 use Rattle.acgrep.specs.declared.arguments.Source.TheVariants.{File}
 use Rattle.acgrep.specs.declared.files.Seen.{Seen}
@@ -89,7 +89,14 @@ module _ {E : Type 0} (K : SinkGhosts E) (names : List (List ℕ)) where
       → TellsBytes K old new (message_by (codes "acgrep") (record { name = Some name; line = None; cause = output_text })) → TellsSome K (IsMessage names) old new
   tells-output old new name may told =
       let m : Message = record { name = Some name; line = None; cause = output_text } in
-      tells-message old new m may (inr (inr (inr (inr refl)))) told
+      tells-message old new m may (inr (inr (inr (inr (inl refl))))) told
+
+  -- one of a pattern that holds a zero byte
+  pub tells-zero : (old new : Errors E) (name : List ℕ) (line : Option ℕ) → MayName names name
+      → TellsBytes K old new (message_by (codes "acgrep") (record { name = Some name; line = line; cause = zero_text })) → TellsSome K (IsMessage names) old new
+  tells-zero old new name line may told =
+      let m : Message = record { name = Some name; line = line; cause = zero_text } in
+      tells-message old new m may (inr (inr (inr (inr (inr refl))))) told
 
   -- why the patterns are refused
   pub tells-build : (old new : Errors E) (name : List ℕ) (line : Option ℕ) (error : BuildError) → MayName names name

@@ -132,19 +132,19 @@ module _ (p : Patterns) (job : Job) (context : Context) where
     written = Appends-trans x y z [] begins.begun keeps begins.written;
   }
 
-  pub text_lines : (a b : State) (x y : Option (List ℕ)) (text : List ℕ) (one : WalksText p job context a b x y text) → (IsSettled job b → ⊥) → lines text ≡ one.searched
+  pub text_lines : (a b : State) (x y : Option (List ℕ)) (text : List ℕ) (one : WalksText p job context a b x y text) → (IsSettled job b → ⊥) → lines job.style.ending text ≡ one.searched
   text_lines a b x y text one goes =
       let none : one.left ≡ [] = elim one.ends [ inl none ↦ none | inr settled ↦ absurd (goes settled) ] in
-      one.cut ∙ ap (λ (l : List ℕ). one.searched ++ lines l) none ∙ append-nil one.searched
+      one.cut ∙ ap (λ (l : List ℕ). one.searched ++ lines job.style.ending l) none ∙ append-nil one.searched
 
   -- a text and one behind it
-  pub text_join : (a b c : State) (x y z : Option (List ℕ)) (front back : List ℕ) → EndsLine front → (IsSettled job b → ⊥)
+  pub text_join : (a b c : State) (x y z : Option (List ℕ)) (front back : List ℕ) → EndsLine job.style.ending front → (IsSettled job b → ⊥)
       → WalksText p job context a b x y front → WalksText p job context b c y z back → WalksText p job context a c x z (front ++ back)
   text_join a b c x y z front back whole goes one other = record {
     left = other.left;
     searched = one.searched ++ other.searched;
-    cut = lines_append front back whole ∙ ap (λ (l : List (List ℕ)). l ++ lines back) (text_lines a b x y front one goes)
-        ∙ ap (λ (l : List (List ℕ)). one.searched ++ l) other.cut ∙ sym (append_assoc one.searched other.searched (lines other.left));
+    cut = lines_append job.style.ending front back whole ∙ ap (λ (l : List (List ℕ)). l ++ lines job.style.ending back) (text_lines a b x y front one goes)
+        ∙ ap (λ (l : List (List ℕ)). one.searched ++ l) other.cut ∙ sym (append_assoc one.searched other.searched (lines job.style.ending other.left));
     tells = lines_join (walk_of a) (walk_of b) (walk_of c) x y z one.searched other.searched one.tells other.tells;
     ends = other.ends;
   }

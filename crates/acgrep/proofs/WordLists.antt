@@ -1,107 +1,60 @@
 -- The patterns of sources, one after another, as the lines of one text.
-use Rattle.std.proofs.Common.{◌≡◌, inl, inr, ℕ, suc, zero, ◌+◌, ◌-◌, ◌≤◌, ◌<◌, ◌==◌, Bool, true, false, List, [], ◌∷◌, ◌++◌, Option, None, Some, length, take, drop, refl, sym, ◌∙◌, ap, subst, arith, append-nil, append_assoc, length-append}
-use Rattle.std.specs.Prelude.{IfSome, codes, if◌then◌else◌, slice_index}
+use Rattle.std.proofs.Common.{◌≡◌, inl, inr, ℕ, suc, ◌+◌, ◌-◌, ◌≤◌, ◌<◌, ◌==◌, true, false, List, [], ◌∷◌, ◌++◌, Option, None, Some, length, take, drop, refl, sym, ◌∙◌, ap, subst, arith, append-nil, append_assoc, length-append}
+use Rattle.std.specs.Prelude.{IfSome, codes}
 use Rattle.std.specs.Io.{StartsWith}
 use Rattle.std.specs.Io.KnownBytes.{Consumes, IsAtEnd, Keeps}
 use Rattle.std.proofs.KnownBytes.{starts_with_rest}
 use Rattle.std.proofs.Math.ListN.{get_or}
 use Rattle.std.proofs.Math.Seq.{drop-append_seam}
-use Rattle.std.proofs.lemmas.Bool.{cases_Bool, eqb-false}
+use Rattle.std.proofs.lemmas.Bool.{cases_Bool}
 use Rattle.std.proofs.lemmas.List.{take_all}
 use Rattle.memchr.specs.Find.{Nowhere}
-use Rattle.aho_core.specs.declared.search.MatchKind.{MatchKind}
 use Rattle.acgrep.specs.Arguments.{Origin, origin_of}
 use Rattle.programs.specs.Names.{is_input}
-use Rattle.acgrep.specs.Lines.{EndsLine, IsNewline, joined_to, lines}
+use Rattle.acgrep.specs.Lines.{EndsLine, IsEnding, joined_to, lines}
 use Rattle.acgrep.specs.Loading.{AddsText, AddsWords}
-use Rattle.acgrep.specs.Runs.{AreWords, asks_none, kind_sought, origins_of, words_sought}
-use Rattle.acgrep.specs.Searchers.{patterns_asked}
-use Rattle.acgrep.specs.Selected.{HoldNoNewline}
-use Rattle.acgrep.specs.Written.{EachLine}
+use Rattle.acgrep.specs.Runs.{AreWords, origins_of}
 use Rattle.acgrep.specs.declared.arguments.Source.{Source}
-use Rattle.acgrep.specs.declared.options.Flags.{Flags}
 use Rattle.acgrep.proofs.Around.{newline_behind}
 use Rattle.acgrep.proofs.FirstLines.{lines_joined}
 use Rattle.acgrep.proofs.LineLists.{lines_append}
 
 -- a text with a newline behind it ends in one
-pub ends_newline : (text : List ℕ) → EndsLine (text ++ codes "\n")
+pub ends_newline : (text : List ℕ) → EndsLine 10 (text ++ codes "\n")
 ends_newline text some =
-    let seam : IsNewline (drop (length text) (text ++ codes "\n")) 0 = subst (λ (l : List ℕ). IsNewline l 0) (sym (drop-append_seam text (codes "\n"))) refl in
+    let seam : IsEnding 10 (drop (length text) (text ++ codes "\n")) 0 = subst (λ (l : List ℕ). IsEnding 10 l 0) (sym (drop-append_seam text (codes "\n"))) refl in
     let long : length (text ++ codes "\n") ≡ length text + 1 = length-append text (codes "\n") in
     let place : length text + 0 ≡ length (text ++ codes "\n") - 1 = omega (arith, long) in
-    subst (IsNewline (text ++ codes "\n")) place (newline_behind (text ++ codes "\n") (length text) 0 seam)
+    subst (IsEnding 10 (text ++ codes "\n")) place (newline_behind 10 (text ++ codes "\n") (length text) 0 seam)
 
 -- a newline behind a text that ends in none makes no further line
-lines_closed : (text : List ℕ) → 0 < length text → (IsNewline text (length text - 1) → ⊥) → lines (text ++ codes "\n") ≡ lines text
+lines_closed : (text : List ℕ) → 0 < length text → (IsEnding 10 text (length text - 1) → ⊥) → lines 10 (text ++ codes "\n") ≡ lines 10 text
 lines_closed [] some bare = absurd (omega (arith, some))
 lines_closed (byte ∷ []) some bare =
     elim (cases_Bool (byte == 10)) [
       | inl is ↦
           let last : 0 ≡ length (byte ∷ []) - 1 = omega arith in
-          absurd (bare (subst (IsNewline (byte ∷ [])) last is))
-      | inr other ↦ lines_joined byte (codes "\n") other ∙ sym (lines_joined byte [] other)
+          absurd (bare (subst (IsEnding 10 (byte ∷ [])) last is))
+      | inr other ↦ lines_joined 10 byte (codes "\n") other ∙ sym (lines_joined 10 byte [] other)
     ]
 lines_closed (byte ∷ next ∷ rest) some bare =
     let last : suc (length (next ∷ rest) - 1) ≡ length (byte ∷ next ∷ rest) - 1 = omega arith in
-    let IH : lines ((next ∷ rest) ++ codes "\n") ≡ lines (next ∷ rest) =
-    lines_closed (next ∷ rest) (omega arith) (λ is. bare (subst (IsNewline (byte ∷ next ∷ rest)) last is)) in
+    let IH : lines 10 ((next ∷ rest) ++ codes "\n") ≡ lines 10 (next ∷ rest) =
+    lines_closed (next ∷ rest) (omega arith) (λ is. bare (subst (IsEnding 10 (byte ∷ next ∷ rest)) last is)) in
     elim (cases_Bool (byte == 10)) [
       | inl is ↦ rw is (ap (λ (l : List (List ℕ)). [] ∷ l) IH)
-      | inr other ↦ lines_joined byte ((next ∷ rest) ++ codes "\n") other ∙ ap (joined_to byte) IH ∙ sym (lines_joined byte (next ∷ rest) other)
+      | inr other ↦ lines_joined 10 byte ((next ∷ rest) ++ codes "\n") other ∙ ap (joined_to byte) IH ∙ sym (lines_joined 10 byte (next ∷ rest) other)
     ]
 
 -- what follows the last newline is not empty: a newline behind it ends the last line
-pub lines_ended : (text : List ℕ) (start : ℕ) → start < length text → Nowhere (IsNewline text) start (length text) → lines (text ++ codes "\n") ≡ lines text
+pub lines_ended : (text : List ℕ) (start : ℕ) → start < length text → Nowhere (IsEnding 10 text) start (length text) → lines 10 (text ++ codes "\n") ≡ lines 10 text
 lines_ended text start some none = lines_closed text (omega (arith, some)) (none (length text - 1) (omega (arith, some)) (omega (arith, some)))
 
 -- it is empty: the text ends in a newline
-pub ends_there : (text : List ℕ) (start : ℕ) → start ≤ length text → length text ≤ start → (0 < start → IsNewline text (start - 1)) → EndsLine text
+pub ends_there : (text : List ℕ) (start : ℕ) → start ≤ length text → length text ≤ start → (0 < start → IsEnding 10 text (start - 1)) → EndsLine 10 text
 ends_there text start within behind newline some =
     let same : start ≡ length text = omega (arith, within, behind) in
-    subst (λ (n : ℕ). IsNewline text (n - 1)) same (newline (omega (arith, same, some)))
-
--- no byte of a word is a newline
-abbrev IsPlain : List ℕ → Type 0
-IsPlain word = (place : ℕ) → place < length word → slice_index word place ≡ 10 → ⊥
-
-plain_joined : (byte : ℕ) (words : List (List ℕ)) → (byte == 10) ≡ false → EachLine IsPlain words → EachLine IsPlain (joined_to byte words)
-plain_joined byte [] other plain = (plain_one byte [] other (λ place low. absurd (omega (arith, low))), tt)
-  where
-    plain_one : (byte : ℕ) (word : List ℕ) → (byte == 10) ≡ false → IsPlain word → IsPlain (byte ∷ word)
-    plain_one byte word other plain zero low = λ is. eqb-false byte 10 other is
-    plain_one byte word other plain (suc place) low = plain place (omega (arith, low))
-plain_joined byte (first ∷ rest) other plain = (plain_one byte first other plain.0, plain.1)
-  where
-    plain_one : (byte : ℕ) (word : List ℕ) → (byte == 10) ≡ false → IsPlain word → IsPlain (byte ∷ word)
-    plain_one byte word other plain zero low = λ is. eqb-false byte 10 other is
-    plain_one byte word other plain (suc place) low = plain place (omega (arith, low))
-
--- nor is one of a line
-plain_lines : (text : List ℕ) → EachLine IsPlain (lines text)
-plain_lines [] = tt
-plain_lines (byte ∷ rest) =
-    elim (cases_Bool (byte == 10)) [
-      | inl is ↦ rw is (λ place low. absurd (omega (arith, low)), plain_lines rest)
-      | inr other ↦ subst (EachLine IsPlain) (sym (lines_joined byte rest other)) (plain_joined byte (lines rest) other (plain_lines rest))
-    ]
-
-plain_at : (words : List (List ℕ)) (number : ℕ) → EachLine IsPlain words → number < length words → IsPlain (get_or words number [])
-plain_at [] number plain low = absurd (omega (arith, low))
-plain_at (word ∷ words) zero plain low = plain.0
-plain_at (word ∷ words) (suc number) plain low = plain_at words number plain.1 (omega (arith, low))
-
--- patterns that are lines hold no newline
-pub lines_plain : (kind : MatchKind) (ignore_case : Bool) (text : List ℕ) → HoldNoNewline (patterns_asked kind ignore_case (lines text))
-lines_plain kind ignore_case text number place low within = plain_at (lines text) number (plain_lines text) low place within
-
--- nor do those that are searched for
-sought_by : (none : Bool) (kind : MatchKind) (ignore_case : Bool) (text : List ℕ) → HoldNoNewline (patterns_asked kind ignore_case (if none then [] else lines text))
-sought_by true kind ignore_case text number place low within = absurd (omega (arith, low))
-sought_by false kind ignore_case text number place low within = lines_plain kind ignore_case text number place low within
-
-pub sought_plain : (flags : Flags) (text : List ℕ) → HoldNoNewline (patterns_asked (kind_sought flags) flags.ignore_case (words_sought flags (lines text)))
-sought_plain flags text = sought_by (asks_none flags.most) (kind_sought flags) flags.ignore_case text
+    subst (λ (n : ℕ). IsEnding 10 text (n - 1)) same (newline (omega (arith, same, some)))
 
 module _ (holds : List ℕ → Option (List ℕ)) where
   -- all that a reader has of a file that is known
@@ -131,20 +84,20 @@ module _ (holds : List ℕ → Option (List ℕ)) where
   }
 
   -- the text of a file adds its lines
-  pub file_words : (name : List ℕ) (left left' : Option (List ℕ)) (old between new : List ℕ) → EndsLine old → AddsText holds name left left' old between → lines new ≡ lines between
-      → AddsWords holds (record { is_file = true; bytes = name }) left left' (lines old) (lines new)
+  pub file_words : (name : List ℕ) (left left' : Option (List ℕ)) (old between new : List ℕ) → EndsLine 10 old → AddsText holds name left left' old between → lines 10 new ≡ lines 10 between
+      → AddsWords holds (record { is_file = true; bytes = name }) left left' (lines 10 old) (lines 10 new)
   file_words name left left' old between new ends added same = record {
-    more = lines added.text;
-    grown = same ∙ ap lines added.grown ∙ lines_append old added.text ends;
+    more = lines 10 added.text;
+    grown = same ∙ ap (lines 10) added.grown ∙ lines_append 10 old added.text ends;
     of = record { text = added.text; is = added.is; are = refl };
   }
 
   -- a text adds its lines
-  pub text_words : (text old new : List ℕ) (left : Option (List ℕ)) → EndsLine old → new ≡ old ++ (text ++ codes "\n")
-      → AddsWords holds (record { is_file = false; bytes = text }) left left (lines old) (lines new)
+  pub text_words : (text old new : List ℕ) (left : Option (List ℕ)) → EndsLine 10 old → new ≡ old ++ (text ++ codes "\n")
+      → AddsWords holds (record { is_file = false; bytes = text }) left left (lines 10 old) (lines 10 new)
   text_words text old new left ends added = record {
-    more = lines (text ++ codes "\n");
-    grown = ap lines added ∙ lines_append old (text ++ codes "\n") ends;
+    more = lines 10 (text ++ codes "\n");
+    grown = ap (lines 10) added ∙ lines_append 10 old (text ++ codes "\n") ends;
     of = (refl, refl);
   }
 

@@ -20,7 +20,7 @@ use Rattle.acgrep.specs.declared.long.Valued.TheVariants.{Regexp, PatternFile, K
 use Rattle.acgrep.specs.declared.options.Color.{Color}
 use Rattle.acgrep.specs.declared.options.Context.{Context}
 use Rattle.acgrep.specs.declared.options.Switch.{Switch}
-use Rattle.acgrep.specs.declared.options.Switch.TheVariants.{IgnoreCase, MatchCase, Invert, WholeWords, WholeLines, Counts, Numbers, OnlyMatching, Offsets, OnlyNames, OnlyLacking, Recursive, Follow, NullNames, Quiet, NoSeparator, InitialTab, Json, NoName, WithName, NoMatchOk, NoMessages, Help, Version, Same}
+use Rattle.acgrep.specs.declared.options.Switch.TheVariants.{IgnoreCase, MatchCase, Invert, WholeWords, WholeLines, Counts, Numbers, OnlyMatching, Offsets, OnlyNames, OnlyLacking, Recursive, Follow, NullNames, NullData, Quiet, NoSeparator, InitialTab, Json, NoName, WithName, NoMatchOk, NoMessages, Help, Version, Same}
 use Rattle.acgrep.specs.declared.arguments.Awaited.{Awaited}
 use Rattle.acgrep.specs.declared.arguments.Awaited.TheVariants.{Fresh, Argument, Operands}
 use Rattle.acgrep.specs.declared.arguments.Refusal.{Refusal}
@@ -82,6 +82,7 @@ switch_by letter =
     else if letter == 114 then Some Recursive
     else if letter == 82 then Some Follow
     else if letter == 90 then Some NullNames
+    else if letter == 122 then Some NullData
     else if letter == 84 then Some InitialTab
     else if letter == 113 then Some Quiet
     else if letter == 115 then Some NoMessages
@@ -107,6 +108,7 @@ switched OnlyLacking flags = record flags { names = false; lacking = true }
 switched Recursive flags = record flags { recursive = true }
 switched Follow flags = record flags { recursive = true; follow = true }
 switched NullNames flags = record flags { null = true }
+switched NullData flags = record flags { null_data = true }
 switched Quiet flags = record flags { quiet = true }
 switched NoSeparator flags = record flags { joined = true }
 switched InitialTab flags = record flags { tab = true }
@@ -352,6 +354,7 @@ no_flags = record {
   recursive = false;
   follow = false;
   null = false;
+  null_data = false;
   quiet = false;
   after = None;
   before = None;
@@ -394,6 +397,10 @@ shown_by flags =
     else if flags.json || flags.formatted then Objects
     else if flags.only_matching then Matches
     else Lines
+
+-- the byte that ends a line
+abbrev pub ending_by : Flags → ℕ
+ending_by flags = if flags.null_data then 0 else 10
 
 -- how many lines are written around selected ones, where that is asked for: of `-A` and `-C` the former goes first, and of `-B`
 -- and `-C`

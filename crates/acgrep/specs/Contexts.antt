@@ -2,7 +2,7 @@
 use Rattle.std.specs.Prelude.{◌≡◌, ◌⊎◌, ℕ, ◌+◌, ◌-◌, ◌<◌, ◌≤◌, ◌==◌, nat_le, nat_lt, Bool, MatchBool, true, false, not, ◌&&◌, List, [], ◌∷◌, ◌++◌, Option, Some, None, length, slice_index_or, if◌then◌else◌}
 use Rattle.std.specs.Io.KnownBytes.{Appends}
 use Rattle.aho_core.specs.Patterns.{Patterns}
-use Rattle.acgrep.specs.Filled.{held_bytes}
+use Rattle.acgrep.specs.Filled.{held_lines}
 use Rattle.acgrep.specs.Lines.{lines}
 use Rattle.acgrep.specs.Printed.{separator_by}
 use Rattle.acgrep.specs.Written.{BeginsLines, IsPassedOver, IsSelected, IsSettled, SearchesPlain, ShowsLine, TellsOfLines, after_line, is_full, one_more}
@@ -117,7 +117,7 @@ walk_of state = record {
   some = state.trail.some;
   apart = state.trail.apart;
   first = state.trail.first;
-  held = lines (held_bytes state.trail.held);
+  held = held_lines state.trail.held;
 }
 
 -- at the begin of a file
@@ -125,7 +125,7 @@ pub record IsTrailBegun (follows : Bool) (trail : Trail) : Type 0 where
   pub due : trail.due ≡ 0
   pub some : trail.some ≡ follows
   pub apart : trail.apart ≡ true
-  pub held : lines (held_bytes trail.held) ≡ []
+  pub held : held_lines trail.held ≡ []
 
 pub record IsBegin (job : Job) (state : State) : Type 0 where
   pub place : state.place ≡ job.first
@@ -147,7 +147,7 @@ pub record Holding : Type 0 where
   pub held : List (List ℕ)
 
 abbrev pub holding_in : Trail → Holding
-holding_in trail = record { apart = trail.apart; first = trail.first; held = lines (held_bytes trail.held) }
+holding_in trail = record { apart = trail.apart; first = trail.first; held = held_lines trail.held }
 
 abbrev pub holding_of : Walk → Holding
 holding_of w = record { apart = w.apart; first = w.first; held = w.held }
@@ -237,7 +237,7 @@ pub record WalksLines (p : Patterns) (job : Job) (context : Context) (w w' : Wal
 pub record WalksText (p : Patterns) (job : Job) (context : Context) (before after : State) (old new : Option (List ℕ)) (text : List ℕ) : Type 0 where
   pub left : List ℕ
   pub searched : List (List ℕ)
-  pub cut : lines text ≡ searched ++ lines left
+  pub cut : lines job.style.ending text ≡ searched ++ lines job.style.ending left
   pub tells : WalksLines p job context (walk_of before) (walk_of after) old new searched
   pub ends : (left ≡ []) ⊎ IsSettled job after
 

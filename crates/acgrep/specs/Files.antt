@@ -56,7 +56,7 @@ total_if Nothing style count = []
 -- what is told of each line of a text from the begin of its file on, and the count of selected lines
 abbrev pub TellsEach : Patterns → Job → List ℕ → List ℕ → Type 0
 TellsEach p job text bytes =
-    (told : List ℕ) × (count : ℕ) × TellsFile p job (lines text) told count × (bytes ≡ told ++ count_if job.shown job.style count)
+    (told : List ℕ) × (count : ℕ) × TellsFile p job (lines job.style.ending text) told count × (bytes ≡ told ++ count_if job.shown job.style count)
 
 -- what is written of a file with this text: of its lines, its name where one is selected, or where none is, or nothing
 abbrev pub TellsBy : Patterns → Job → Shown → List ℕ → Bool → List ℕ → Type 0
@@ -72,14 +72,14 @@ TellsBy p job Nothing text any bytes = bytes ≡ []
 pub record SearchesFile (p : Patterns) (job : Job) (known held held' : Option (List ℕ)) (any : Bool) : Type 0 where
   pub text : List ℕ
   pub of : IfSome known (λ bytes. text ≡ bytes)
-  pub selected : IsAny p job.fit job.invert (lines text) any
+  pub selected : IsAny p job.fit job.invert (lines job.style.ending text) any
   pub bytes : List ℕ
   pub tells : TellsBy p job job.shown text any bytes
   pub written : Appends held held' bytes
 
 -- so many lines of a text are selected as are asked for
 abbrev pub HasAllAsked : Patterns → Job → List ℕ → Type 0
-HasAllAsked p job text = (told : List ℕ) × (count : ℕ) × TellsOfLines p job job.first 0 (lines text) told count × (is_full job.most count ≡ true)
+HasAllAsked p job text = (told : List ℕ) × (count : ℕ) × TellsOfLines p job job.first 0 (lines job.style.ending text) told count × (is_full job.most count ≡ true)
 
 -- a reader was read to its end, or until a selected line told all, or so many lines of it are selected as are asked for
 pub record IsRead (p : Patterns) (job : Job) (left left' : Option (List ℕ)) (any : Bool) : Type 0 where
@@ -100,6 +100,7 @@ pub record IsNamed (job : Job) (bytes : List ℕ) (later : Bool) (named : Job) :
   pub name : named.style.name.now ≡ bytes
   pub with_name : named.style.with_name ≡ job.style.with_name
   pub null : named.style.null ≡ job.style.null
+  pub ending : named.style.ending ≡ job.style.ending
   pub number : named.style.number ≡ job.style.number
   pub offset : named.style.offset ≡ job.style.offset
   pub color : named.style.color ≡ job.style.color
@@ -151,7 +152,7 @@ AreFilesSearched p job follows holds (name ∷ names) left left' held held' any 
 
 -- a file of these bytes, where they are known, has a selected line
 abbrev pub HasSelected : Patterns → Job → Option (List ℕ) → Type 0
-HasSelected p job known = (text : List ℕ) × IfSome known (λ bytes. text ≡ bytes) × SomeLine (IsSelected p job.fit job.invert) (lines text)
+HasSelected p job known = (text : List ℕ) × IfSome known (λ bytes. text ≡ bytes) × SomeLine (IsSelected p job.fit job.invert) (lines job.style.ending text)
 
 -- only standard input is read from the input
 abbrev pub LeavesInput : List ℕ → (left left' : Option (List ℕ)) → Type 0
@@ -214,7 +215,7 @@ pub record BeginsPlain (p : Patterns) (job : Job) (known held held' : Option (Li
   pub of : IfSome known (λ bytes. text ≡ bytes)
   pub first : List (List ℕ)
   pub left : List (List ℕ)
-  pub cut : lines text ≡ first ++ left
+  pub cut : lines job.style.ending text ≡ first ++ left
   pub told : List ℕ
   pub count : ℕ
   pub tells : TellsOfLines p job job.first 0 first told count
@@ -228,7 +229,7 @@ pub record BeginsAround (p : Patterns) (job : Job) (context : Context) (known he
   pub of : IfSome known (λ bytes. text ≡ bytes)
   pub first : List (List ℕ)
   pub left : List (List ℕ)
-  pub cut : lines text ≡ first ++ left
+  pub cut : lines job.style.ending text ≡ first ++ left
   pub all : List ℕ
   pub count : ℕ
   pub tells : TellsAround p job context first all count

@@ -1,5 +1,5 @@
 -- What a read puts behind the bytes that are held.
-use Rattle.std.specs.Prelude.{◌≡◌, ℕ, List, ◌++◌, Option, drop, length, take}
+use Rattle.std.specs.Prelude.{◌≡◌, ℕ, List, [], ◌∷◌, ◌++◌, Option, drop, length, take}
 use Rattle.std.specs.Io.KnownBytes.{Consumes, IsAtEnd}
 use Rattle.acgrep.specs.declared.buffer.Buffer.{Buffer}
 use Rattle.acgrep.specs.declared.held.Held.{Held}
@@ -11,6 +11,15 @@ bytes_buffered buffer = take buffer.held buffer.room.items
 -- the bytes of held lines
 abbrev pub held_bytes : Held → List ℕ
 held_bytes held = drop held.from held.room.items
+
+-- bytes cut into lines of these sizes
+abbrev pub cut_by : List ℕ → List ℕ → List (List ℕ)
+cut_by [] bytes = []
+cut_by (size ∷ sizes) bytes = take size bytes ∷ cut_by sizes (drop size bytes)
+
+-- held lines
+abbrev pub held_lines : Held → List (List ℕ)
+held_lines held = cut_by held.sizes.items (held_bytes held)
 
 -- what comes stands behind the bytes before, and nothing comes only at the end
 pub record FillsBehind (before after : List ℕ) (left_before left_after : Option (List ℕ)) (count : ℕ) : Type 0 where

@@ -29,12 +29,12 @@ module _ {F X R : Type 0} (openers : Openers F X) (readers : Readers R) (files :
   -- the patterns of these sources are read
   abbrev pub ReadsSources : List Source → R → R → Keys → Type 0
   ReadsSources sources input input' keys =
-      AreWords (openers.holds files) (origins_of sources) (readers.remaining input) (readers.remaining input') (lines keys.text.items)
+      AreWords (openers.holds files) (origins_of sources) (readers.remaining input) (readers.remaining input') (lines 10 keys.text.items)
 
   -- those of a source are added to others
   abbrev pub AddsSource : Origin → R → R → Keys → Keys → Type 0
   AddsSource source input input' old new =
-      AddsWords (openers.holds files) source (readers.remaining input) (readers.remaining input') (lines old.text.items) (lines new.text.items)
+      AddsWords (openers.holds files) source (readers.remaining input) (readers.remaining input') (lines 10 old.text.items) (lines 10 new.text.items)
 
   -- the text of a file is added to bytes
   abbrev pub AddsFile : List ℕ → R → R → List ℕ → List ℕ → Type 0

@@ -7,7 +7,7 @@ use Rattle.acgrep.specs.declared.long.Found.TheVariants.{Unknown, Begun, Several
 use Rattle.acgrep.specs.declared.long.Long.{Long}
 use Rattle.acgrep.specs.declared.long.Long.TheVariants.{Plain, Takes, When}
 use Rattle.acgrep.specs.declared.long.Valued.TheVariants.{Regexp, PatternFile, Kind, Offset, FirstLine, MaxCount, After, Before, Around, Separator, Label, Format, Included, Excluded, ExcludedFolder}
-use Rattle.acgrep.specs.declared.options.Switch.TheVariants.{IgnoreCase, MatchCase, Invert, WholeWords, WholeLines, Counts, Numbers, OnlyMatching, Offsets, OnlyNames, OnlyLacking, NullNames, Recursive, Follow, Quiet, NoSeparator, InitialTab, Json, NoName, WithName, NoMatchOk, NoMessages, Help, Version, Same}
+use Rattle.acgrep.specs.declared.options.Switch.TheVariants.{IgnoreCase, MatchCase, Invert, WholeWords, WholeLines, Counts, Numbers, OnlyMatching, Offsets, OnlyNames, OnlyLacking, NullNames, NullData, Recursive, Follow, Quiet, NoSeparator, InitialTab, Json, NoName, WithName, NoMatchOk, NoMessages, Help, Version, Same}
 
 -- an option's long name, and what it means
 pub record Name : Type 0 where
@@ -38,6 +38,7 @@ output_options = named (codes "count") (Plain Counts)
     ∷ named (codes "files-with-matches") (Plain OnlyNames)
     ∷ named (codes "files-without-match") (Plain OnlyLacking)
     ∷ named (codes "null") (Plain NullNames)
+    ∷ named (codes "null-data") (Plain NullData)
     ∷ named (codes "quiet") (Plain Quiet)
     ∷ named (codes "silent") (Plain Quiet)
     ∷ named (codes "only-matching") (Plain OnlyMatching)

@@ -91,16 +91,16 @@ stands_for fields PatternNumber = decimal fields.pattern
 stands_for fields Found = fields.text
 
 -- a match by a format, on a line of its own: its pieces, one after another
-abbrev pub formatted_by : List Piece → FieldsTold → List ℕ
-formatted_by pieces fields = flat_map (λ piece. stands_for fields piece) pieces ++ codes "\n"
+abbrev pub formatted_by : (ending : ℕ) → List Piece → FieldsTold → List ℕ
+formatted_by ending pieces fields = flat_map (λ piece. stands_for fields piece) pieces ++ (ending ∷ [])
 
-abbrev pub object_in : Form → FieldsTold → List ℕ
-object_in Json fields = json_by fields
-object_in (Pieces pieces) fields = formatted_by pieces.now fields
+abbrev pub object_in : (ending : ℕ) → Form → FieldsTold → List ℕ
+object_in ending Json fields = json_by fields
+object_in ending (Pieces pieces) fields = formatted_by ending pieces.now fields
 
 -- a match of a line, so or so: nothing of an empty one
 abbrev pub object_by : Style → Place → List ℕ → Occurrence → List ℕ
-object_by style place line m = if m.start == m.end then [] else object_in style.form (fields_by style place line m)
+object_by style place line m = if m.start == m.end then [] else object_in style.ending style.form (fields_by style place line m)
 
 -- one match after another
 abbrev pub objects_by : Style → Place → List ℕ → List Occurrence → List ℕ

@@ -58,7 +58,7 @@ line_number_at place = (place.lines + 1) % 2 ^ 64
 
 -- a line of a file
 abbrev pub line_by : Style → Place → List ℕ → List ℕ
-line_by style place line = head_of style (line_number_at place) place.bytes line ++ (line ++ codes "\n")
+line_by style place line = head_of style (line_number_at place) place.bytes line ++ (line ++ (style.ending ∷ []))
 
 -- the number of selected lines
 abbrev pub count_by : Style → ℕ → List ℕ
@@ -81,7 +81,7 @@ abbrev pub match_by : Style → Place → List ℕ → Occurrence → List ℕ
 match_by style place line m =
     if m.start == m.end then []
     else head_of style (line_number_at place) (offset_at place m.start) (part_of line m.start m.end)
-    ++ (painted style.color (color_of (codes "01;31")) (part_of line m.start m.end) ++ codes "\n")
+    ++ (painted style.color (color_of (codes "01;31")) (part_of line m.start m.end) ++ (style.ending ∷ []))
 
 -- one match after another
 abbrev pub matches_by : Style → Place → List ℕ → List Occurrence → List ℕ
@@ -103,7 +103,7 @@ colored_from line at (m ∷ ms) = colored_by line at m ++ colored_from line (beh
 
 -- a line of a file with each of these matches in colour
 abbrev pub colored_line_by : Style → Place → List ℕ → List Occurrence → List ℕ
-colored_line_by style place line ms = head_of style (line_number_at place) place.bytes line ++ (colored_from line 0 ms ++ codes "\n")
+colored_line_by style place line ms = head_of style (line_number_at place) place.bytes line ++ (colored_from line 0 ms ++ (style.ending ∷ []))
 
 -- the matches of a line, one after another, are written and nothing else
 pub record WritesFinds (old new : Option (List ℕ)) (p : Patterns) (alone : Bool) (style : Style) (place : Place) (line : List ℕ) : Type 0 where

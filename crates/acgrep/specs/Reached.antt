@@ -9,8 +9,7 @@ use Rattle.programs.specs.Names.{name_bytes}
 use Rattle.acgrep.specs.Arguments.{Said}
 use Rattle.acgrep.specs.Folders.{known_by}
 use Rattle.acgrep.specs.Runs.{SearchesReached}
-use Rattle.acgrep.specs.Searchers.{IsSearcherOf}
-use Rattle.acgrep.specs.Selected.{ForLines}
+use Rattle.acgrep.specs.Searchers.{ForSearcher}
 use Rattle.acgrep.specs.Told.{IsMessage}
 use Rattle.acgrep.specs.declared.folders.Folders.{Ghosts as FolderGhosts}
 use Rattle.acgrep.specs.declared.open.Open.{Ghosts as Openers}
@@ -27,5 +26,5 @@ module _ {F X R W : Type 0} (openers : Openers F X) (folders : FolderGhosts F) (
   -- the files that these operands name are searched by an automaton, whatever patterns it is of
   abbrev pub SearchesOperands : F → List (Bor (List ℕ)) → Searcher → Bool → Said → R → R → W → W → ℕ → Type 0
   SearchesOperands files names searcher terminal given input input' output output' status =
-      ForLines (λ p. IsSearcherOf p searcher) (λ p. status < 2
+      ForSearcher searcher given.flags (λ p. status < 2
       → SearchesReached (known_by openers folders files) terminal given p (name_bytes names) (readers.remaining input) (readers.remaining input') (sinks.taken output) (sinks.taken output') status)

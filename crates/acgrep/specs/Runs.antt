@@ -5,7 +5,7 @@ use Rattle.std.specs.Str.{bytes_eq}
 use Rattle.aho_core.specs.Patterns.{Patterns}
 use Rattle.aho_core.specs.declared.search.MatchKind.{MatchKind}
 use Rattle.aho_core.specs.declared.search.MatchKind.TheVariants.{LeftmostLongest}
-use Rattle.acgrep.specs.Arguments.{Origin, Said, context_by, fit_by, origin_of, said_by, shown_by}
+use Rattle.acgrep.specs.Arguments.{Origin, Said, context_by, ending_by, fit_by, origin_of, said_by, shown_by}
 use Rattle.programs.specs.Names.{is_input, or_input}
 use Rattle.acgrep.specs.Files.{AreFilesBegun, AreSearchedOr}
 use Rattle.acgrep.specs.Folders.{AreBelow, AreChosen, Known, Tree}
@@ -68,12 +68,12 @@ IsTextOf holds name left left' text =
 pub record AreLinesOfFile (holds : List ℕ → Option (List ℕ)) (name : List ℕ) (left left' : Option (List ℕ)) (words : List (List ℕ)) : Type 0 where
   pub text : List ℕ
   pub is : IsTextOf holds name left left' text
-  pub are : words ≡ lines text
+  pub are : words ≡ lines 10 text
 
 -- those of a text too, of which an empty one has one
 abbrev pub AreOf : (List ℕ → Option (List ℕ)) → Origin → (left left' : Option (List ℕ)) → List (List ℕ) → Type 0
 AreOf holds source left left' words =
-    MatchBool source.is_file (AreLinesOfFile holds source.bytes left left' words) ((left' ≡ left) × (words ≡ lines (source.bytes ++ codes "\n")))
+    MatchBool source.is_file (AreLinesOfFile holds source.bytes left left' words) ((left' ≡ left) × (words ≡ lines 10 (source.bytes ++ codes "\n")))
 
 -- the patterns of all sources, one after another
 abbrev pub AreWords : (List ℕ → Option (List ℕ)) → List Origin → (left left' : Option (List ℕ)) → List (List ℕ) → Type 0
@@ -166,6 +166,8 @@ pub record IsJob (given : Said) (terminal several : Bool) (job : Job) : Type 0 w
   pub with_name : job.style.with_name ≡ unwrap_or given.flags.with_name several
   pub null : job.style.null ≡ given.flags.null
   pub number : job.style.number ≡ given.flags.number
+  -- the byte that ends a line
+  pub ending : job.style.ending ≡ ending_by given.flags
   pub offset : job.style.offset ≡ given.flags.offset
   pub color : job.style.color ≡ is_colored given.flags.color terminal
   -- where the first line of each file stands

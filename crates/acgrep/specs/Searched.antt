@@ -36,20 +36,20 @@ WritesNextBy Are job before held held' line result = (p : Patterns) → Are p �
 module _ {A W : Type 0} (automata : Automata A) (sinks : SinkGhosts W) (automaton : A) (job : Job) (before after : State) (old new : W) where
   abbrev pub SearchesTextBy : {T E : Type 0} → List ℕ → Result T E → Type 0
   SearchesTextBy text result =
-      ForLines (automata.is_of automaton) (λ p. OnOk result (SearchesText p job before after (sinks.taken old) (sinks.taken new) text))
+      ForLines job.style.ending (automata.is_of automaton) (λ p. OnOk result (SearchesText p job before after (sinks.taken old) (sinks.taken new) text))
 
   abbrev pub BeginsTextBy : {T E : Type 0} → List ℕ → Result T E → Type 0
   BeginsTextBy text result =
-      ForLines (automata.is_of automaton) (λ p. OnErr result (BeginsSearched p job before after.selected (sinks.taken old) (sinks.taken new) (lines text)))
+      ForLines job.style.ending (automata.is_of automaton) (λ p. OnErr result (BeginsSearched p job before after.selected (sinks.taken old) (sinks.taken new) (lines job.style.ending text)))
 
   -- where no lines around selected ones are asked for
   abbrev pub SearchesPlainBy : {T E : Type 0} → List ℕ → Result T E → Type 0
   SearchesPlainBy text result =
-      ForLines (automata.is_of automaton) (λ p. OnOk result (SearchesPlain p job before after (sinks.taken old) (sinks.taken new) text))
+      ForLines job.style.ending (automata.is_of automaton) (λ p. OnOk result (SearchesPlain p job before after (sinks.taken old) (sinks.taken new) text))
 
   abbrev pub BeginsPlainBy : {T E : Type 0} → List ℕ → Result T E → Type 0
   BeginsPlainBy text result =
-      ForLines (automata.is_of automaton) (λ p. OnErr result (BeginsLines p job before after.selected (sinks.taken old) (sinks.taken new) (lines text)))
+      ForLines job.style.ending (automata.is_of automaton) (λ p. OnErr result (BeginsLines p job before after.selected (sinks.taken old) (sinks.taken new) (lines job.style.ending text)))
 
   -- where they are
   abbrev pub WalksTextBy : {T E : Type 0} → Context → List ℕ → Result T E → Type 0
@@ -58,7 +58,7 @@ module _ {A W : Type 0} (automata : Automata A) (sinks : SinkGhosts W) (automato
 
   abbrev pub WalksBegunBy : {T E : Type 0} → Context → List ℕ → Result T E → Type 0
   WalksBegunBy context text result =
-      (p : Patterns) → automata.is_of automaton p → OnErr result (WalksBegun p job context (walk_of before) (sinks.taken old) (sinks.taken new) (lines text))
+      (p : Patterns) → automata.is_of automaton p → OnErr result (WalksBegun p job context (walk_of before) (sinks.taken old) (sinks.taken new) (lines job.style.ending text))
 
   -- of one line
   abbrev pub WalksLineBy : {T E : Type 0} → Context → List ℕ → Result T E → Type 0
@@ -90,7 +90,7 @@ module _ {A W : Type 0} (automata : Automata A) (sinks : SinkGhosts W) (automato
   -- up to those that are answered
   abbrev pub SearchesSomeBy : {E : Type 0} → List ℕ → Result (Bor (List ℕ)) E → Type 0
   SearchesSomeBy text result =
-      ForLines (automata.is_of automaton) (λ p. IfOk result (λ left. SearchesTo p job before after (sinks.taken old) (sinks.taken new) text left.now))
+      ForLines job.style.ending (automata.is_of automaton) (λ p. IfOk result (λ left. SearchesTo p job before after (sinks.taken old) (sinks.taken new) text left.now))
 
   -- of a line of which it is known whether it matches
   abbrev pub TellsLineBy : {T E : Type 0} → Bool → List ℕ → Result T E → Type 0
@@ -117,38 +117,38 @@ module _ {A W : Type 0} (automata : Automata A) (sinks : SinkGhosts W) (automato
 
   -- of lines without a match
   abbrev pub TellsOthersBy : {T E : Type 0} → List ℕ → Result T E → Type 0
-  TellsOthersBy text result = (p : Patterns) → automata.is_of automaton p → EachLine (HasNone p) (lines text)
-      → OnOk result (TellsLines p job before after (sinks.taken old) (sinks.taken new) (lines text))
+  TellsOthersBy text result = (p : Patterns) → automata.is_of automaton p → EachLine (HasNone p) (lines job.style.ending text)
+      → OnOk result (TellsLines p job before after (sinks.taken old) (sinks.taken new) (lines job.style.ending text))
 
   abbrev pub BeginsOthersBy : {T E : Type 0} → List ℕ → Result T E → Type 0
-  BeginsOthersBy text result = (p : Patterns) → automata.is_of automaton p → EachLine (HasNone p) (lines text)
-      → OnErr result (BeginsLines p job before after.selected (sinks.taken old) (sinks.taken new) (lines text))
+  BeginsOthersBy text result = (p : Patterns) → automata.is_of automaton p → EachLine (HasNone p) (lines job.style.ending text)
+      → OnErr result (BeginsLines p job before after.selected (sinks.taken old) (sinks.taken new) (lines job.style.ending text))
 
   -- of such lines, where they are selected
   abbrev pub TellsInvertedBy : {T E : Type 0} → List ℕ → Result T E → Type 0
-  TellsInvertedBy text result = (p : Patterns) → automata.is_of automaton p → job.invert ≡ true → EachLine (HasNone p) (lines text)
-      → OnOk result (TellsLines p job before after (sinks.taken old) (sinks.taken new) (lines text))
+  TellsInvertedBy text result = (p : Patterns) → automata.is_of automaton p → job.invert ≡ true → EachLine (HasNone p) (lines job.style.ending text)
+      → OnOk result (TellsLines p job before after (sinks.taken old) (sinks.taken new) (lines job.style.ending text))
 
   abbrev pub BeginsInvertedBy : {T E : Type 0} → List ℕ → Result T E → Type 0
-  BeginsInvertedBy text result = (p : Patterns) → automata.is_of automaton p → job.invert ≡ true → EachLine (HasNone p) (lines text)
-      → OnErr result (BeginsLines p job before after.selected (sinks.taken old) (sinks.taken new) (lines text))
+  BeginsInvertedBy text result = (p : Patterns) → automata.is_of automaton p → job.invert ≡ true → EachLine (HasNone p) (lines job.style.ending text)
+      → OnErr result (BeginsLines p job before after.selected (sinks.taken old) (sinks.taken new) (lines job.style.ending text))
 
 -- a file was searched, or a beginning of what is asked of it is written
 module _ {A W : Type 0} (automata : Automata A) (sinks : SinkGhosts W) (automaton : A) (job : Job) (known : Option (List ℕ)) (old new : W) (outcome : Outcome) where
   abbrev pub SearchesFileBy : Type 0
-  SearchesFileBy = ForLines (automata.is_of automaton) (λ p. IfSearched outcome (SearchesFile p job known (sinks.taken old) (sinks.taken new)))
+  SearchesFileBy = ForLines job.style.ending (automata.is_of automaton) (λ p. IfSearched outcome (SearchesFile p job known (sinks.taken old) (sinks.taken new)))
 
   abbrev pub BeginsFileBy : Type 0
-  BeginsFileBy = ForLines (automata.is_of automaton) (λ p. IfBroken outcome (BeginsFile p job known (sinks.taken old) (sinks.taken new)))
+  BeginsFileBy = ForLines job.style.ending (automata.is_of automaton) (λ p. IfBroken outcome (BeginsFile p job known (sinks.taken old) (sinks.taken new)))
 
 -- all that a reader has left was searched
 abbrev pub SearchesReaderBy : {A R W : Type 0} → Automata A → Readers R → SinkGhosts W → A → Job → R → R → W → W → Outcome → Type 0
-SearchesReaderBy automata readers sinks automaton job reader reader' old new outcome = ForLines (automata.is_of automaton)
+SearchesReaderBy automata readers sinks automaton job reader reader' old new outcome = ForLines job.style.ending (automata.is_of automaton)
     (λ p. IfSearched outcome (SearchesReader p job (readers.remaining reader) (readers.remaining reader') (sinks.taken old) (sinks.taken new)))
 
 -- of some first ones of the files of these names all that is asked is written, or a beginning of it
 abbrev pub BeginsFilesBy : {A F X R W : Type 0} → Automata A → Openers F X → Readers R → SinkGhosts W → A → Job → F → List (Bor (List ℕ)) → R → W → W → Type 0
-BeginsFilesBy automata openers readers sinks automaton job files names input old new = ForLines (automata.is_of automaton)
+BeginsFilesBy automata openers readers sinks automaton job files names input old new = ForLines job.style.ending (automata.is_of automaton)
     (λ p. AreFilesBegun p job false (openers.holds files) (name_bytes names) (readers.remaining input) (sinks.taken old) (sinks.taken new))
 
 -- what is asked of lines around a selected one is written, from a place on

@@ -1,5 +1,6 @@
 -- Which lines of a text are selected.
 use Rattle.std.specs.Prelude.{◌≡◌, ◌≢◌, ℕ, ◌-◌, ◌<◌, ◌≤◌, false, List, Option, Some, None, length, slice_index}
+use Rattle.aho_core.specs.Bytes.{folded}
 use Rattle.aho_core.specs.Occurrence.{Occurrence}
 use Rattle.aho_core.specs.Occurs.{Occurs, OccursIn}
 use Rattle.aho_core.specs.Patterns.{Patterns, pattern_at}
@@ -7,44 +8,55 @@ use Rattle.aho_core.specs.Search.{plain_search}
 use Rattle.aho_core.specs.declared.search.Anchored.TheVariants.{No}
 use Rattle.aho_core.specs.declared.search.Span.{Span}
 use Rattle.memchr.specs.Find.{Nowhere}
-use Rattle.acgrep.specs.Lines.{IsNewline}
+use Rattle.acgrep.specs.Lines.{EndsLine, IsEnding, lines}
 use Rattle.acgrep.specs.Written.{HasNone}
 use Rattle.acgrep.specs.declared.options.Fit.TheVariants.{AnyPart}
 use Rattle.acgrep.specs.declared.select.Job.{Job}
 use Rattle.acgrep.specs.declared.select.State.{State}
 
--- no pattern holds a newline
-abbrev pub HoldNoNewline : Patterns → Type 0
-HoldNoNewline p =
-    (number place : ℕ) → number < length p.words → place < length (pattern_at p number) → slice_index (pattern_at p number) place ≢ 10
+-- no pattern holds the byte that ends a line, in either case where that makes no difference
+abbrev pub HoldNoEnding : (ending : ℕ) → Patterns → Type 0
+HoldNoEnding ending p =
+    (number place : ℕ) → number < length p.words → place < length (pattern_at p number) → folded p (slice_index (pattern_at p number) place) ≢ folded p ending
 
--- what holds of all patterns without a newline that are so
-abbrev pub ForLines : (Patterns → Type 0) → (Patterns → Type 0) → Type 0
-ForLines Are Holds = (p : Patterns) → Are p → HoldNoNewline p → Holds p
+-- what holds of all patterns without that byte that are so
+abbrev pub ForLines : (ending : ℕ) → (Patterns → Type 0) → (Patterns → Type 0) → Type 0
+ForLines ending Are Holds = (p : Patterns) → Are p → HoldNoEnding ending p → Holds p
 
--- the span is a line of the text, without its newline
-pub record IsLine (text : List ℕ) (line : Span) : Type 0 where
+-- so by what is written of each line
+abbrev pub ForJob : Job → (Patterns → Type 0) → (Patterns → Type 0) → Type 0
+ForJob job Are Holds = ForLines job.style.ending Are Holds
+
+-- the lines of a text, and whether it ends in one
+abbrev pub lines_by : Job → List ℕ → List (List ℕ)
+lines_by job text = lines job.style.ending text
+
+abbrev pub EndsBy : Job → List ℕ → Type 0
+EndsBy job text = EndsLine job.style.ending text
+
+-- the span is a line of the text, without the byte that ends it
+pub record IsLine (ending : ℕ) (text : List ℕ) (line : Span) : Type 0 where
   pub ordered : line.start ≤ line.end
   pub within : line.end ≤ length text
-  -- it begins the text, or stands behind a newline
-  pub begins : 0 < line.start → IsNewline text (line.start - 1)
-  -- it ends the text, or a newline follows
-  pub ends : line.end < length text → IsNewline text line.end
+  -- it begins the text, or stands behind the end of another
+  pub begins : 0 < line.start → IsEnding ending text (line.start - 1)
+  -- it ends the text, or the byte that ends it follows
+  pub ends : line.end < length text → IsEnding ending text line.end
   -- and it holds none
-  pub one : Nowhere (IsNewline text) line.start line.end
+  pub one : Nowhere (IsEnding ending text) line.start line.end
 
 -- the span is the first line of the text in which a pattern occurs
-pub record IsFirstWith (p : Patterns) (text : List ℕ) (line : Span) : Type 0 where
-  pub is_line : IsLine text line
+pub record IsFirstWith (p : Patterns) (ending : ℕ) (text : List ℕ) (line : Span) : Type 0 where
+  pub is_line : IsLine ending text line
   -- a pattern occurs in it
   pub some : (m : Occurrence) × Occurs p No text line.start line.end m
   -- whatever occurs in the text ends where it begins, or later
   pub first : (m : Occurrence) → OccursIn p (plain_search text) m → line.start ≤ m.end
 
 -- the first line in which a pattern occurs, or none where nothing occurs
-abbrev pub IsNextLine : Patterns → List ℕ → Option Span → Type 0
-IsNextLine p text None = (m : Occurrence) → OccursIn p (plain_search text) m → ⊥
-IsNextLine p text (Some line) = IsFirstWith p text line
+abbrev pub IsNextLine : Patterns → (ending : ℕ) → List ℕ → Option Span → Type 0
+IsNextLine p ending text None = (m : Occurrence) → OccursIn p (plain_search text) m → ⊥
+IsNextLine p ending text (Some line) = IsFirstWith p ending text line
 
 -- where none is selected none was before, and nothing occurs in the text
 abbrev pub FindsNone : Patterns → State → State → List ℕ → Type 0

@@ -41,13 +41,13 @@ pub record SearchesStream (p : Patterns) (job : Job) (c : Course) : Type 0 where
   pub rest : List ℕ
   pub consumed : Consumes c.left_before c.left_after (searched ++ rest)
   pub searches : SearchesText p job c.before c.after c.held_before c.held_after searched
-  pub ends : ((rest ≡ []) × IsAtEnd c.left_after) ⊎ (EndsLine searched × IsSettled job c.after)
+  pub ends : ((rest ≡ []) × IsAtEnd c.left_after) ⊎ (EndsLine job.style.ending searched × IsSettled job c.after)
 
 -- whole lines of what was read are searched, and these bytes are kept
 pub record SearchesLines (p : Patterns) (job : Job) (c : Course) (kept : List ℕ) : Type 0 where
   pub searched : List ℕ
   pub consumed : Consumes c.left_before c.left_after (searched ++ kept)
-  pub whole : EndsLine searched
+  pub whole : EndsLine job.style.ending searched
   pub searches : SearchesText p job c.before c.after c.held_before c.held_after searched
 
 -- bytes come behind those that are kept, and the whole lines of both are searched
@@ -56,7 +56,7 @@ pub record ReadsSome (p : Patterns) (job : Job) (c : Course) (kept_before kept_a
   pub searched : List ℕ
   pub consumed : Consumes c.left_before c.left_after came
   pub cut : kept_before ++ came ≡ searched ++ kept_after
-  pub whole : EndsLine searched
+  pub whole : EndsLine job.style.ending searched
   pub searches : SearchesText p job c.before c.after c.held_before c.held_after searched
   -- at the end nothing comes and nothing is searched
   pub ends : ended ≡ true → IsAtEnd c.left_after × (c.after ≡ c.before)
@@ -65,7 +65,7 @@ pub record ReadsSome (p : Patterns) (job : Job) (c : Course) (kept_before kept_a
 pub record SearchesWhole (p : Patterns) (job : Job) (before after : State) (old new : Option (List ℕ)) (bytes kept : List ℕ) : Type 0 where
   pub searched : List ℕ
   pub cut : bytes ≡ searched ++ kept
-  pub whole : EndsLine searched
+  pub whole : EndsLine job.style.ending searched
   pub searches : SearchesText p job before after old new searched
 
 -- the same of a search that is broken off: of the lines of these bytes a beginning of what is told was written
@@ -74,9 +74,9 @@ pub record BeginsStream (p : Patterns) (job : Job) (c : Course) : Type 0 where
   -- what was read behind them
   pub rest : List ℕ
   pub consumed : Consumes c.left_before c.left_after (searched ++ rest)
-  pub begins : BeginsSearched p job c.before c.after.selected c.held_before c.held_after (lines searched)
+  pub begins : BeginsSearched p job c.before c.after.selected c.held_before c.held_after (lines job.style.ending searched)
   -- the lines are whole ones
-  pub ends : EndsLine searched ⊎ ((rest ≡ []) × IsAtEnd c.left_after)
+  pub ends : EndsLine job.style.ending searched ⊎ ((rest ≡ []) × IsAtEnd c.left_after)
 
 -- bytes come behind those that are kept, and of the whole lines of both a beginning of what is told is written
 pub record BeginsSome (p : Patterns) (job : Job) (c : Course) (kept : List ℕ) : Type 0 where
@@ -85,13 +85,13 @@ pub record BeginsSome (p : Patterns) (job : Job) (c : Course) (kept : List ℕ) 
   pub rest : List ℕ
   pub consumed : Consumes c.left_before c.left_after came
   pub cut : kept ++ came ≡ searched ++ rest
-  pub whole : EndsLine searched
-  pub begins : BeginsSearched p job c.before c.after.selected c.held_before c.held_after (lines searched)
+  pub whole : EndsLine job.style.ending searched
+  pub begins : BeginsSearched p job c.before c.after.selected c.held_before c.held_after (lines job.style.ending searched)
 
 -- of the whole lines of bytes a beginning of what is told is written
 pub record BeginsWhole (p : Patterns) (job : Job) (before after : State) (old new : Option (List ℕ)) (bytes : List ℕ) : Type 0 where
   pub searched : List ℕ
   pub rest : List ℕ
   pub cut : bytes ≡ searched ++ rest
-  pub whole : EndsLine searched
-  pub begins : BeginsSearched p job before after.selected old new (lines searched)
+  pub whole : EndsLine job.style.ending searched
+  pub begins : BeginsSearched p job before after.selected old new (lines job.style.ending searched)

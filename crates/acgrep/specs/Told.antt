@@ -37,10 +37,16 @@ loop_text = codes "warning: recursive directory loop"
 abbrev pub output_text : List ℕ
 output_text = codes "input file is also the output"
 
--- a call of the system failed, the patterns or the search were refused, a folder stands in itself, or a file is the output
+-- what is told of a pattern that holds a zero byte where that ends a line
+abbrev pub zero_text : List ℕ
+zero_text = codes "the pattern holds a zero byte, which ends a line under -z"
+
+-- a call of the system failed, the patterns or the search were refused, a folder stands in itself, a file is the output, or a pattern
+-- holds a zero byte
 abbrev pub IsToldCause : List ℕ → Type 0
 IsToldCause cause = ((reason : Reason) × (cause ≡ reason_text reason))
-    ⊎ (((error : BuildError) × (cause ≡ build_error_text error)) ⊎ (((error : MatchErrorKind) × (cause ≡ match_error_text error)) ⊎ ((cause ≡ loop_text) ⊎ (cause ≡ output_text))))
+    ⊎ (((error : BuildError) × (cause ≡ build_error_text error)) ⊎ (((error : MatchErrorKind) × (cause ≡ match_error_text error))
+    ⊎ ((cause ≡ loop_text) ⊎ ((cause ≡ output_text) ⊎ (cause ≡ zero_text)))))
 
 -- that, or one of these files
 abbrev pub MayName : List (List ℕ) → List ℕ → Type 0

@@ -180,10 +180,10 @@ pub record SearchesTo (p : Patterns) (job : Job) (before after : State) (old new
   pub within : at ≤ length text
   pub rest : left ≡ drop at text
   pub searched : List (List ℕ)
-  pub cut : lines text ≡ searched ++ lines left
+  pub cut : lines job.style.ending text ≡ searched ++ lines job.style.ending left
   pub tells : TellsLines p job before after old new searched
   -- where a line can follow, the place is behind these lines
-  pub placed : (0 < length left) ⊎ EndsLine text → SamePlace job after.place (after_lines before.place searched)
+  pub placed : (0 < length left) ⊎ EndsLine job.style.ending text → SamePlace job after.place (after_lines before.place searched)
 
 -- one selected line tells all
 abbrev pub needs_one : Shown → Bool

@@ -9,8 +9,7 @@ ghost use Rattle.acgrep.specs.Folders.{known_by, missed_of, tree_of};
 ghost use Rattle.acgrep.specs.Listed.{listed_bytes};
 ghost use Rattle.acgrep.specs.Reached.{SearchesOperands, TellsMissed};
 ghost use Rattle.acgrep.specs.Runs.{AreReached, BeginsOrKeeps, are_several, asks_to_look, is_alone, status_reached};
-ghost use Rattle.acgrep.specs.Searchers.{IsSearcherOf};
-ghost use Rattle.acgrep.specs.Selected.{ForLines};
+ghost use Rattle.acgrep.specs.Searchers.{ForSearch, ForSearcher, IsSearcherOf};
 ghost use Rattle.acgrep.specs.Told.{TellsOfFiles, TellsOfReached};
 
 use crate::arguments::Given;
@@ -45,7 +44,7 @@ pub fn search_operands<F: Open + Folders, R: Read, W: Sink, E: Sink>(
     ensures searched { SearchesOperands F.Open F.Folders R.Read W.Sink operands.now.files.now
         operands.now.names.now searcher.now terminal (said given.now)
         input.old input.new output.old output.new result }
-    ensures begun { ForLines (λ p. IsSearcherOf p searcher.now) (λ p.
+    ensures begun { ForSearcher searcher.now given.now.flags (λ p.
         BeginsOrKeeps (known_by F.Open F.Folders operands.now.files.now) terminal (said given.now) p
         (name_bytes operands.now.names.now) (R.remaining input.old)
         (W.taken output.old) (W.taken output.new)) }
@@ -82,7 +81,7 @@ fn search_below<F: Open + Folders, R: Read, W: Sink, E: Sink>(
     ensures searched { SearchesOperands F.Open F.Folders R.Read W.Sink operands.now.files.now
         operands.now.names.now searcher.now terminal (said given.now)
         input.old input.new output.old output.new result }
-    ensures begun { ForLines (λ p. IsSearcherOf p searcher.now) (λ p.
+    ensures begun { ForSearcher searcher.now given.now.flags (λ p.
         BeginsOrKeeps (known_by F.Open F.Folders operands.now.files.now) terminal (said given.now) p
         (name_bytes operands.now.names.now) (R.remaining input.old)
         (W.taken output.old) (W.taken output.new)) }
@@ -152,11 +151,11 @@ fn search_found<F: Open, R: Read, W: Sink, E: Sink>(
 ) -> u8
     requires of { (p : Patterns) × IsSearcherOf p searcher.now }
     ensures bound { result ≤ 2 }
-    ensures searched { ForLines (λ p. IsSearcherOf p searcher.now) (λ p. result < 2
+    ensures searched { ForSearch searcher.now job.now (λ p. result < 2
         → AreSearchedOr p job.now (F.holds files.now.files.now) (name_bytes files.now.names.now)
         (R.remaining input.old) (R.remaining input.new)
         (W.taken output.old) (W.taken output.new) result) }
-    ensures begun { ForLines (λ p. IsSearcherOf p searcher.now) (λ p.
+    ensures begun { ForSearch searcher.now job.now (λ p.
         AreFilesBegun p job.now false (F.holds files.now.files.now) (name_bytes files.now.names.now)
         (R.remaining input.old) (W.taken output.old) (W.taken output.new)) }
     ensures told { TellsOfFiles E.Sink job.now.hushed job.now.label.now (name_bytes files.now.names.now)

@@ -1,16 +1,16 @@
 //! Searching where the lines around selected ones are written too.
 
-ghost use Rattle.std.specs.Prelude.{◌≡◌, ◌&&◌, ◌<◌, IfOk, length};
-ghost use Rattle.memchr.specs.Find.{Nowhere};
+ghost use Rattle.std.specs.Prelude.{◌≡◌, ◌&&◌, ◌<◌, IfOk};
 ghost use Rattle.aho_core.specs.Patterns.{Patterns};
 ghost use Rattle.acgrep.specs.Contexts.{IsChosenBy, beside, separator_if};
-ghost use Rattle.acgrep.specs.Lines.{IsNewline, lines};
+ghost use Rattle.acgrep.specs.Filled.{held_lines};
 ghost use Rattle.acgrep.specs.Printed.{Puts};
 ghost use Rattle.acgrep.specs.Searched.{BeginsLineAround, BeginsPassedBy, BeginsTakenBy, PassesLineBy, ShowsEachBy, ShowsGroupBy, TakesLineBy, WalksBegunBy, WalksLineBy, WalksTextBy};
 ghost use Rattle.acgrep.specs.Written.{IsMatched};
 
 use crate::backed::Lister;
 use crate::failure::Stop;
+use crate::held::Held;
 use crate::lines::{behind, line_end};
 use crate::options::Context;
 use crate::print::{Place, put_separator};
@@ -40,7 +40,7 @@ pub fn search_around<A: Lister, W: Sink>(
 {
     let mut rest = text;
     while job.goes_on(rest, state) {
-        let end = line_end(rest);
+        let end = line_end(rest, job.style.ending);
         pass_any(automaton, job, context, &rest[..end], state, page, output)?;
         rest = behind(rest, end);
     }
@@ -58,7 +58,6 @@ fn pass_any<A: Lister, W: Sink>(
     output: &mut W,
 ) -> Result<(), Stop>
     requires of { (p : Patterns) × A.is_of automaton.now p }
-    requires one { Nowhere (IsNewline line.now) 0 (length line.now) }
     ensures walks { WalksLineBy A.Automaton W.Sink automaton.now job.now
         state.old state.new output.old output.new context.now line.now result }
     ensures begun { BeginsLineAround A.Automaton W.Sink automaton.now job.now
@@ -140,13 +139,7 @@ fn put_group<A: Lister, W: Write>(
 {
     let trail = &state.trail;
     put_between(job, is_parted(context, trail), output)?;
-    put_each_line(
-        automaton,
-        &job.beside(),
-        trail.held.bytes(),
-        trail.first,
-        output,
-    )?;
+    put_each_line(automaton, &job.beside(), &trail.held, trail.first, output)?;
     put_shown(automaton, job, line, state.place, output)
 }
 
@@ -168,25 +161,25 @@ fn put_between<W: Write>(job: &Job<'_>, asked: bool, output: &mut W) -> io::Resu
     Ok(())
 }
 
-/// Puts together what is asked of each line of a text, the first of which stands there.
+/// Puts together what is asked of each of some held lines, the first of which stands there.
 fn put_each_line<A: Lister, W: Write>(
     automaton: &A,
     job: &Job<'_>,
-    text: &[u8],
+    held: &Held,
     first: Place,
     output: &mut W,
 ) -> Result<(), Stop>
     requires of { (p : Patterns) × A.is_of automaton.now p }
     ensures shown { ShowsEachBy A.Automaton W.Write automaton.now job.now
-        first (lines text.now) output.old output.new result }
+        first (held_lines held.now) output.old output.new result }
 {
     let mut place = first;
-    let mut rest = text;
-    while !rest.is_empty() {
-        let end = line_end(rest);
-        put_shown(automaton, job, &rest[..end], place, output)?;
-        place = behind_line(place, &rest[..end]);
-        rest = behind(rest, end);
+    let mut rest = held.bytes();
+    for index in 0..held.sizes.len() {
+        let (line, behind) = rest.split_at(held.sizes[index]);
+        put_shown(automaton, job, line, place, output)?;
+        place = behind_line(place, line);
+        rest = behind;
     }
     Ok(())
 }
@@ -202,7 +195,6 @@ fn pass_beside<A: Lister, W: Sink>(
     output: &mut W,
 ) -> Result<(), Stop>
     requires of { (p : Patterns) × A.is_of automaton.now p }
-    requires one { Nowhere (IsNewline line.now) 0 (length line.now) }
     ensures walks { PassesLineBy A.Automaton W.Sink automaton.now job.now
         state.old state.new output.old output.new context.now line.now result }
     ensures begun { BeginsPassedBy A.Automaton W.Sink automaton.now job.now

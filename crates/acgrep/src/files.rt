@@ -9,7 +9,7 @@ ghost use Rattle.acgrep.specs.Told.{IsMessage, TellsCause, TellsIf, TellsOfEnd, 
 ghost use Rattle.acgrep.specs.Files.{AreFilesBegun, AreSearchedOr, BeginsName, BeginsTotal, EndsFile, IfBroken, IfSearched, IsNamed, LeavesInput, SearchesName, SearchesNames, files_named, is_enough, nothing_seen, seen_after, shown_name, status_by, total_if};
 ghost use Rattle.acgrep.specs.Printed.{Puts};
 ghost use Rattle.acgrep.specs.Searched.{BeginsFileBy, BeginsFilesBy, SearchesFileBy, SearchesReaderBy};
-ghost use Rattle.acgrep.specs.Selected.{ForLines};
+ghost use Rattle.acgrep.specs.Selected.{ForJob};
 
 use crate::backed::Lister;
 use crate::buffer::Buffer;
@@ -133,13 +133,13 @@ pub fn search_files<A: Lister, F: Open, R: Read, W: Sink, E: Sink>(
 ) -> u8
     requires of { (p : Patterns) × A.is_of automaton.now p }
     ensures bound { result ≤ 2 }
-    ensures searched { ForLines (A.is_of automaton.now) (λ p. result < 2
+    ensures searched { ForJob job.now (A.is_of automaton.now) (λ p. result < 2
         → AreSearchedOr p job.now (F.holds files.now.files.now) (files_named files.now)
         (R.remaining input.old) (R.remaining input.new)
         (W.taken output.old) (W.taken output.new) result) }
 
     // Whatever the status, a beginning of what is asked is written.
-    ensures begun { ForLines (A.is_of automaton.now) (λ p.
+    ensures begun { ForJob job.now (A.is_of automaton.now) (λ p.
         AreFilesBegun p job.now false (F.holds files.now.files.now) (files_named files.now)
         (R.remaining input.old) (W.taken output.old) (W.taken output.new)) }
 
@@ -185,7 +185,7 @@ fn search_names<A: Lister, F: Open, R: Read, W: Sink, E: Sink>(
 ) -> u8
     requires of { (p : Patterns) × A.is_of automaton.now p }
     ensures bound { result ≤ 2 }
-    ensures searched { ForLines (A.is_of automaton.now) (λ p. result < 2
+    ensures searched { ForJob job.now (A.is_of automaton.now) (λ p. result < 2
         → AreSearchedOr p job.now (F.holds files.now) (name_bytes names.now)
         (R.remaining input.old) (R.remaining input.new)
         (W.taken output.old) (W.taken output.new) result) }
@@ -229,7 +229,7 @@ fn search_each<A: Lister, F: Open, R: Read, W: Sink, E: Sink>(
     errors: &mut Errors<'_, E>,
 ) -> Seen
     requires of { (p : Patterns) × A.is_of automaton.now p }
-    ensures searched { ForLines (A.is_of automaton.now) (λ p.
+    ensures searched { ForJob job.now (A.is_of automaton.now) (λ p.
         SearchesNames p job.now (F.holds files.now) (name_bytes names.now)
         (R.remaining input.old) (R.remaining input.new)
         (W.taken output.old) (W.taken output.new) result) }
@@ -284,11 +284,11 @@ fn search_name<A: Lister, F: Open, R: Read, W: Sink, E: Sink>(
     errors: &mut Errors<'_, E>,
 ) -> Outcome
     requires of { (p : Patterns) × A.is_of automaton.now p }
-    ensures searched { ForLines (A.is_of automaton.now) (λ p.
+    ensures searched { ForJob job.now (A.is_of automaton.now) (λ p.
         IfSearched result (SearchesName p job.now follows (F.holds files.now) name.now
         (R.remaining input.old) (R.remaining input.new)
         (W.taken output.old) (W.taken output.new))) }
-    ensures begun { ForLines (A.is_of automaton.now) (λ p.
+    ensures begun { ForJob job.now (A.is_of automaton.now) (λ p.
         IfBroken result (BeginsName p job.now follows (F.holds files.now) name.now
         (R.remaining input.old) (W.taken output.old) (W.taken output.new))) }
     ensures leaves { LeavesInput name.now (R.remaining input.old) (R.remaining input.new) }
@@ -574,6 +574,7 @@ fn job_for<'a>(job: &Job<'a>, name: &'a [u8], follows: bool) -> Job<'a>
             name,
             with_name: job.style.with_name,
             null: job.style.null,
+            ending: job.style.ending,
             number: job.style.number,
             offset: job.style.offset,
             color: job.style.color,

@@ -46,6 +46,7 @@ Output:
   -h, --no-filename     do not write it
   --label LABEL         call standard input LABEL
   -Z, --null            write a zero byte behind a file's name
+  -z, --null-data       a zero byte ends a line, and no newline does
   -T, --initial-tab     write a tab between a line and what stands before it
   -A, --after-context N write N lines behind each selected one too
   -B, --before-context N

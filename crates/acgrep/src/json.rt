@@ -100,7 +100,7 @@ pub fn put_object<W: Write>(
     let fields = fields_of(style, place, line, found);
     match style.form {
         Form::Json => put_json(output, &fields),
-        Form::Pieces(pieces) => put_formatted(output, pieces, &fields),
+        Form::Pieces(pieces) => put_formatted(output, pieces, &fields, style.ending),
     }
 }
 
@@ -145,14 +145,19 @@ fn is_text(bytes: &[u8]) -> bool
 }
 
 /// Writes a match by a format, on a line of its own.
-fn put_formatted<W: Write>(output: &mut W, pieces: &[Piece], fields: &Fields<'_>) -> io::Result<()>
+fn put_formatted<W: Write>(
+    output: &mut W,
+    pieces: &[Piece],
+    fields: &Fields<'_>,
+    ending: u8,
+) -> io::Result<()>
     ensures written { Puts W.Write output.old output.new result
-        (formatted_by pieces.now (fields_told fields.now)) }
+        (formatted_by ending pieces.now (fields_told fields.now)) }
 {
     for piece in pieces {
         put_piece(output, *piece, fields)?;
     }
-    output.write_all(b"\n")
+    output.write_all(&[ending])
 }
 
 /// Writes what a piece of a format stands for.

@@ -13,7 +13,7 @@ ghost use Rattle.acgrep.specs.Told.{MayName, TellsOfFile, TellsOfSources, source
 use crate::arguments::Source;
 use crate::open::Open;
 use crate::patterns::Keys;
-use crate::tell::{tell_build, tell_fault, tell_memory};
+use crate::tell::{tell_build, tell_fault, tell_memory, tell_zero};
 use chromesquid::{BuildError, Sink};
 use memchr::memchr_iter;
 use programs::errors::Errors;
@@ -71,10 +71,10 @@ fn read_source<F: Open, R: Read>(
     files: &F,
     input: &mut R,
 ) -> io::Result<()>
-    requires whole { EndsLine keys.old.text.items }
+    requires whole { EndsLine 10 keys.old.text.items }
     ensures added { OnOk result (AddsSource F.Open R.Read files.now
         (origin_of source.entry) input.old input.new keys.old keys.new) }
-    ensures ends { OnOk result (EndsLine keys.new.text.items) }
+    ensures ends { OnOk result (EndsLine 10 keys.new.text.items) }
 {
     match source {
         Source::Text(text) => Ok(keys.add_text(text)?),
@@ -89,10 +89,10 @@ fn read_file<F: Open, R: Read>(
     files: &F,
     input: &mut R,
 ) -> io::Result<()>
-    requires whole { EndsLine keys.old.text.items }
+    requires whole { EndsLine 10 keys.old.text.items }
     ensures added { OnOk result (AddsSource F.Open R.Read files.now
         (file_origin name.now) input.old input.new keys.old keys.new) }
-    ensures ends { OnOk result (EndsLine keys.new.text.items) }
+    ensures ends { OnOk result (EndsLine 10 keys.new.text.items) }
 {
     keys.begin()?;
     read_text(&mut keys.text, name, files, input)?;
@@ -152,6 +152,24 @@ pub fn tell_refusal<E: Sink>(
             tell_pattern(sources, place, error, errors);
         }
         _ => tell_build(b"patterns", None, error, errors),
+    }
+}
+
+/// Tells that the pattern of a number holds the byte that ends a line, by its file and line.
+pub fn tell_ending<E: Sink>(
+    keys: &Keys,
+    sources: &[Source<'_>],
+    number: usize,
+    errors: &mut Errors<'_, E>,
+)
+    ensures told { TellsOfSources E.Sink sources.now errors.old errors.new }
+{
+    match origin_of(keys, number) {
+        Some(place) => {
+            let name = source_name(sources, place.source);
+            tell_zero(name, Some(place.line as u64), errors);
+        }
+        None => tell_zero(b"patterns", None, errors),
     }
 }
 

@@ -163,6 +163,7 @@ fn or_output(found: Found, name: &[u8]) -> Found
             Long::Plain(Switch::OnlyLacking),
         )
         .or(name, b"null", Long::Plain(Switch::NullNames))
+        .or(name, b"null-data", Long::Plain(Switch::NullData))
         .or(name, b"quiet", Long::Plain(Switch::Quiet))
         .or(name, b"silent", Long::Plain(Switch::Quiet))
         .or(name, b"only-matching", Long::Plain(Switch::OnlyMatching))

@@ -89,6 +89,8 @@ pub enum Switch {
     Follow,
     /// `-Z`
     NullNames,
+    /// `-z`
+    NullData,
     /// `-q`
     Quiet,
     /// `--no-group-separator`
@@ -131,6 +133,7 @@ pub fn switch_of(letter: u8) -> Option<Switch>
         b'r' => Some(Switch::Recursive),
         b'R' => Some(Switch::Follow),
         b'Z' => Some(Switch::NullNames),
+        b'z' => Some(Switch::NullData),
         b'T' => Some(Switch::InitialTab),
         b'q' => Some(Switch::Quiet),
         b's' => Some(Switch::NoMessages),
@@ -171,6 +174,8 @@ pub struct Flags {
     pub follow: bool,
     /// `-Z`: a zero byte stands behind a file's name.
     pub null: bool,
+    /// `-z`: a zero byte ends a line.
+    pub null_data: bool,
     /// `-q`: nothing is written.
     pub quiet: bool,
     /// `-A`: how many lines are written behind each selected one.
@@ -210,7 +215,7 @@ pub struct Flags {
 }
 
 impl Flags {
-    ghost use Rattle.acgrep.specs.Arguments.{context_by, fit_by, no_flags, numbered_in, shown_by, switched};
+    ghost use Rattle.acgrep.specs.Arguments.{context_by, ending_by, fit_by, no_flags, numbered_in, shown_by, switched};
 
     /// Where no option is given.
     pub fn new() -> Flags
@@ -230,6 +235,7 @@ impl Flags {
             recursive: false,
             follow: false,
             null: false,
+            null_data: false,
             quiet: false,
             after: None,
             before: None,
@@ -286,6 +292,13 @@ impl Flags {
             after: self.after.unwrap_or(others),
             parted: !self.joined,
         })
+    }
+
+    /// The byte that ends a line.
+    pub fn ending(&self) -> u8
+        ensures ending { result ≡ ending_by self.now }
+    {
+        if self.null_data { 0 } else { b'\n' }
     }
 
     /// What a match has to be: of `-w` and `-x` the latter goes first.
@@ -355,6 +368,7 @@ impl Flags {
                 flags.follow = true;
             }
             Switch::NullNames => flags.null = true,
+            Switch::NullData => flags.null_data = true,
             Switch::Quiet => flags.quiet = true,
             Switch::NoSeparator => flags.joined = true,
             Switch::InitialTab => flags.tab = true,

@@ -48,6 +48,8 @@ pub struct Style<'a> {
     pub color: bool,
     /// Whether a hyphen stands behind each part but a zero byte, as in the lines around selected ones, and else a colon.
     pub hyphen: bool,
+    /// The byte that ends a line: a newline, or under `-z` a zero byte.
+    pub ending: u8,
     /// What stands between lines that do not follow one another.
     pub separator: &'a [u8],
     /// How a match is written that is written with its fields.
@@ -202,7 +204,7 @@ pub fn put_line<W: Write>(
         line,
     )?;
     output.write_all(line)?;
-    output.write_all(b"\n")?;
+    output.write_all(&[style.ending])?;
     Ok(())
 }
 
@@ -238,7 +240,7 @@ pub fn put_colored_line<A: Lister, W: Write>(
         line,
     )?;
     put_colored_bytes(automaton, output, alone, line)?;
-    output.write_all(b"\n")?;
+    output.write_all(&[style.ending])?;
     Ok(())
 }
 
@@ -410,7 +412,7 @@ pub fn put_match<W: Write>(
     let bytes = part(line, start, end);
     put_head(output, style, place.lines.wrapping_add(1), offset, bytes)?;
     put_painted(output, style.color, MATCH_COLOR, bytes)?;
-    output.write_all(b"\n")?;
+    output.write_all(&[style.ending])?;
     Ok(())
 }
 

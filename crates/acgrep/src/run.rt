@@ -14,18 +14,17 @@ ghost use Rattle.acgrep.specs.Mistakes.{TellsLacking, TellsMistake, TellsNoPatte
 ghost use Rattle.acgrep.specs.Files.{AreFilesBegun, AreSearchedOr, files_named};
 ghost use Rattle.acgrep.specs.Folders.{known_by, tree_of};
 ghost use Rattle.acgrep.specs.Runs.{AsksToSearch, BeginsSearch, BeginsFor, GivesNone, IfSaid, IsJob, Searches, SearchesFor, SearchesSaid, are_empty, asks_none, form_asked, form_said, inverts, is_colored, kind_sought, knows_none, lists_finds, origins_of, selects_none, status_told, takes_any, words_sought};
-ghost use Rattle.acgrep.specs.Searchers.{IsSearcherOf};
-ghost use Rattle.acgrep.specs.Selected.{ForLines};
+ghost use Rattle.acgrep.specs.Searchers.{ForSearch, IsSearcherOf};
 
 use crate::arguments::{Given, Refusal, Source, Wrong, parse};
 use crate::below::search_operands;
 use crate::files::{Files, search_files};
 use crate::folders::Folders;
 use crate::help::{HELP, VERSION};
-use crate::keys::{read_keys, tell_refusal};
+use crate::keys::{read_keys, tell_ending, tell_refusal};
 use crate::open::Open;
 use crate::options::{Color, Fit, Flags, Shown};
-use crate::patterns::lines_of;
+use crate::patterns::{first_holding, lines_of};
 use crate::print::{Form, Place, Style};
 use crate::searcher::Searcher;
 use crate::select::Job;
@@ -279,6 +278,10 @@ fn search<F: Open + Folders, R: Read, W: Sink, E: Sink>(
     if knows_none(flags, words) {
         return 1;
     }
+    if let Some(number) = first_holding(words, flags.ending()) {
+        tell_ending(&keys, sources, number, errors);
+        return 2;
+    }
     let named = Files {
         alloc,
         names,
@@ -305,11 +308,11 @@ pub fn search_by<F: Open, R: Read, W: Sink, E: Sink>(
 ) -> u8
     requires of { (p : Patterns) × IsSearcherOf p searcher.now }
     ensures bound { result ≤ 2 }
-    ensures searched { ForLines (λ p. IsSearcherOf p searcher.now) (λ p. result < 2
+    ensures searched { ForSearch searcher.now job.now (λ p. result < 2
         → AreSearchedOr p job.now (F.holds files.now.files.now) (files_named files.now)
         (R.remaining input.old) (R.remaining input.new)
         (W.taken output.old) (W.taken output.new) result) }
-    ensures begun { ForLines (λ p. IsSearcherOf p searcher.now) (λ p.
+    ensures begun { ForSearch searcher.now job.now (λ p.
         AreFilesBegun p job.now false (F.holds files.now.files.now) (files_named files.now)
         (R.remaining input.old) (W.taken output.old) (W.taken output.new)) }
     ensures told { TellsOfFiles E.Sink job.now.hushed job.now.label.now (files_named files.now)
@@ -428,6 +431,7 @@ pub fn job_of<'a>(given: &'a Given<'_>, terminal: bool, several: bool) -> Job<'a
             color: is_colored(flags.color, terminal),
             hyphen: false,
             tab: flags.tab,
+            ending: flags.ending(),
             separator: given.separator,
             form: form_of(given),
         },

@@ -6,9 +6,8 @@ ghost use Rattle.aho_core.specs.Patterns.{Patterns};
 ghost use Rattle.aho_core.specs.declared.search.MatchKind.TheVariants.{LeftmostLongest};
 ghost use Rattle.acgrep.specs.Alone.{asks_alone};
 ghost use Rattle.acgrep.specs.declared.options.Fit.TheVariants.{AnyPart, WholeLine};
-ghost use Rattle.acgrep.specs.Lines.{EndsLine, lines};
 ghost use Rattle.acgrep.specs.Searched.{BeginsInvertedBy, BeginsLineBy, BeginsMatchBy, BeginsOneBy, BeginsOthersBy, BeginsSelectedBy, BeginsPlainBy, BeginsTextBy, SearchesPlainBy, SearchesSomeBy, SearchesTextBy, TellsInvertedBy, TellsLineBy, TellsMatchBy, TellsOthersBy, WritesLineBy, WritesNextBy};
-ghost use Rattle.acgrep.specs.Selected.{FindsNone, ForLines, IsLine, IsNextLine, IsNoneSelected};
+ghost use Rattle.acgrep.specs.Selected.{EndsBy, FindsNone, ForJob, ForLines, IsLine, IsNextLine, IsNoneSelected, lines_by};
 ghost use Rattle.acgrep.specs.Written.{HasMatch, IsMatched, NumbersLines, IsSettled, SamePlace, after_line, after_lines, is_full, is_numbered, needs_one, next_count, place_behind, selects};
 
 use crate::alone::has_alone;
@@ -174,28 +173,28 @@ impl State {
     }
 }
 
-/// The first line of a text in which a pattern occurs, without its newline.
-pub fn next_line<A: Automaton>(automaton: &A, text: &[u8]) -> Result<Option<Span>, Stop>
+/// The first line of a text in which a pattern occurs, without what ends it.
+pub fn next_line<A: Automaton>(automaton: &A, text: &[u8], ending: u8) -> Result<Option<Span>, Stop>
     requires of { (p : Patterns) × A.is_of automaton.now p }
     ensures ordered { IfOk result (λ line. IfSome line (λ line. line.start ≤ line.end)) }
     ensures within { IfOk result (λ line. IfSome line (λ line. line.end ≤ length text.now)) }
-    ensures next { ForLines (A.is_of automaton.now) (λ p. IfOk result (IsNextLine p text.now)) }
+    ensures next { ForLines ending (A.is_of automaton.now) (λ p. IfOk result (IsNextLine p ending text.now)) }
 {
     match automaton.try_find(&Input::new(text))? {
-        Some(found) => Ok(Some(line_around(text, found.start()))),
+        Some(found) => Ok(Some(line_around(text, found.start(), ending))),
         None => Ok(None),
     }
 }
 
 /// The line of a text that holds a place.
-fn line_around(text: &[u8], place: usize) -> Span
+fn line_around(text: &[u8], place: usize, ending: u8) -> Span
     requires within { place ≤ length text.now }
-    ensures line { IsLine text.now result }
+    ensures line { IsLine ending text.now result }
     ensures before { result.start ≤ place }
     ensures behind { place ≤ result.end }
 {
-    let start = line_start(&text[..place]);
-    let rest = line_end(&text[place..]);
+    let start = line_start(&text[..place], ending);
+    let rest = line_end(&text[place..], ending);
     Span {
         start,
         end: place + rest,
@@ -214,7 +213,7 @@ pub fn search_text<A: Lister, W: Sink>(
     requires of { (p : Patterns) × A.is_of automaton.now p }
 
     // Where no line was selected, no pattern occurs.
-    ensures none { ForLines (A.is_of automaton.now) (λ p.
+    ensures none { ForJob job.now (A.is_of automaton.now) (λ p.
         OnOk result (IsNoneSelected p job.now text.now state.new)) }
 
     // What is told of the lines is written, in order.
@@ -241,7 +240,7 @@ fn search_plain<A: Lister, W: Sink>(
     output: &mut W,
 ) -> Result<(), Stop>
     requires of { (p : Patterns) × A.is_of automaton.now p }
-    ensures none { ForLines (A.is_of automaton.now) (λ p.
+    ensures none { ForJob job.now (A.is_of automaton.now) (λ p.
         OnOk result (IsNoneSelected p job.now text.now state.new)) }
     ensures written { SearchesPlainBy A.Automaton W.Sink automaton.now job.now
         state.old state.new output.old output.new text.now result }
@@ -267,14 +266,14 @@ fn search_some<'t, A: Lister, W: Sink>(
     requires of { (p : Patterns) × A.is_of automaton.now p }
     requires some { 0 < length text.now }
     ensures shorter { IfOk result (λ left. length left.now < length text.now) }
-    ensures none { ForLines (A.is_of automaton.now) (λ p. job.now.invert ≡ false
+    ensures none { ForJob job.now (A.is_of automaton.now) (λ p. job.now.invert ≡ false
         → job.now.fit ≡ AnyPart → OnOk result (FindsNone p state.old state.new text.now)) }
     ensures written { SearchesSomeBy A.Automaton W.Sink automaton.now job.now
         state.old state.new output.old output.new text.now result }
     ensures begun { BeginsPlainBy A.Automaton W.Sink automaton.now job.now
         state.old state.new output.old output.new text.now result }
 {
-    match next_line(automaton, text)? {
+    match next_line(automaton, text, job.style.ending)? {
         Some(line) => {
             pass_others(automaton, job, &text[..line.start], state, page, output)?;
             pass_matched(
@@ -427,8 +426,8 @@ fn pass_others<A: Lister, W: Sink>(
     requires of { (p : Patterns) × A.is_of automaton.now p }
     ensures selected { job.now.invert ≡ false
         → OnOk result (state.new.selected ≡ state.old.selected) }
-    ensures placed { EndsLine text.now → OnOk result
-        (SamePlace job.now state.new.place (after_lines state.old.place (lines text.now))) }
+    ensures placed { EndsBy job.now text.now → OnOk result
+        (SamePlace job.now state.new.place (after_lines state.old.place (lines_by job.now text.now))) }
     ensures written { TellsOthersBy A.Automaton W.Sink automaton.now job.now
         state.old state.new output.old output.new text.now result }
     ensures begun { BeginsOthersBy A.Automaton W.Sink automaton.now job.now
@@ -451,7 +450,7 @@ fn pass_each<A: Lister, W: Sink>(
     output: &mut W,
 ) -> Result<(), Stop>
     requires of { (p : Patterns) × A.is_of automaton.now p }
-    ensures placed { OnOk result (state.new.place ≡ after_lines state.old.place (lines text.now)) }
+    ensures placed { OnOk result (state.new.place ≡ after_lines state.old.place (lines_by job.now text.now)) }
     ensures written { TellsInvertedBy A.Automaton W.Sink automaton.now job.now
         state.old state.new output.old output.new text.now result }
     ensures begun { BeginsInvertedBy A.Automaton W.Sink automaton.now job.now
@@ -459,14 +458,14 @@ fn pass_each<A: Lister, W: Sink>(
 {
     let mut rest = text;
     while !rest.is_empty() {
-        let end = line_end(rest);
+        let end = line_end(rest, job.style.ending);
         pass_selected(automaton, job, &rest[..end], state, page, output)?;
         rest = behind(rest, end);
     }
     Ok(())
 }
 
-/// The place behind a line and its newline.
+/// The place behind a line and what ends it.
 pub fn behind_line(place: Place, line: &[u8]) -> Place
     ensures place { result ≡ after_line place line.now }
 {
@@ -479,8 +478,8 @@ pub fn behind_line(place: Place, line: &[u8]) -> Place
 /// Goes over lines that are not selected.
 fn skip(job: &Job<'_>, text: &[u8], state: &mut State)
     ensures selected { state.new.selected ≡ state.old.selected }
-    ensures placed { EndsLine text.now
-        → SamePlace job.now state.new.place (after_lines state.old.place (lines text.now)) }
+    ensures placed { EndsBy job.now text.now
+        → SamePlace job.now state.new.place (after_lines state.old.place (lines_by job.now text.now)) }
 {
     let place = state.place;
     state.place = behind_text(job, text, place.lines, place.bytes);
@@ -488,8 +487,8 @@ fn skip(job: &Job<'_>, text: &[u8], state: &mut State)
 
 /// The place behind a text, from how many lines and bytes stand before it.
 fn behind_text(job: &Job<'_>, text: &[u8], count: u64, offset: u64) -> Place
-    ensures placed { EndsLine text.now
-        → SamePlace job.now result (after_lines (place_behind count offset) (lines text.now)) }
+    ensures placed { EndsBy job.now text.now
+        → SamePlace job.now result (after_lines (place_behind count offset) (lines_by job.now text.now)) }
 {
     Place {
         lines: lines_behind(job, text, count),
@@ -500,19 +499,19 @@ fn behind_text(job: &Job<'_>, text: &[u8], count: u64, offset: u64) -> Place
 /// How many lines stand before what follows a text. They are counted only where lines are numbered.
 fn lines_behind(job: &Job<'_>, text: &[u8], count: u64) -> u64
     ensures counted { NumbersLines job.now
-        → result ≡ (count + length (places (is_byte 10) text.now)) % 2 ^ 64 }
+        → result ≡ (count + length (places (is_byte job.now.style.ending) text.now)) % 2 ^ 64 }
 {
     if job.numbers() {
-        return count.wrapping_add(newlines(text));
+        return count.wrapping_add(endings(text, job.style.ending));
     }
     count
 }
 
-/// How many newlines a text has.
-fn newlines(text: &[u8]) -> u64
-    ensures count { result ≡ length (places (is_byte 10) text.now) }
+/// How often a byte stands in a text.
+fn endings(text: &[u8], ending: u8) -> u64
+    ensures count { result ≡ length (places (is_byte ending) text.now) }
 {
-    memchr_iter(b'\n', text).count() as u64
+    memchr_iter(ending, text).count() as u64
 }
 
 /// Writes what is asked of a selected line. It is put together first: where the output cannot be written to the end, what is

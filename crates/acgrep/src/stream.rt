@@ -3,8 +3,8 @@
 ghost use Rattle.std.specs.Prelude.{◌≤◌, ◌-◌, ◌<◌, IfOk, OnErr, OnOk, length};
 ghost use Rattle.aho_core.specs.Patterns.{Patterns};
 ghost use Rattle.acgrep.specs.Filled.{ReadsOn, bytes_buffered};
-ghost use Rattle.acgrep.specs.Lines.{IsNewline};
-ghost use Rattle.acgrep.specs.Selected.{ForLines};
+ghost use Rattle.acgrep.specs.Lines.{IsEnding};
+ghost use Rattle.acgrep.specs.Selected.{ForJob};
 ghost use Rattle.acgrep.specs.Streamed.{BeginsSome, BeginsStream, BeginsWhole, ReadsSome, SearchesStream, SearchesWhole, course_of};
 
 use crate::backed::Lister;
@@ -27,12 +27,12 @@ pub fn search_stream<A: Lister, R: Read, W: Sink>(
     output: &mut W,
 ) -> Result<(), Stop>
     requires of { (p : Patterns) × A.is_of automaton.now p }
-    ensures written { ForLines (A.is_of automaton.now) (λ p.
+    ensures written { ForJob job.now (A.is_of automaton.now) (λ p.
         OnOk result (SearchesStream p job.now (course_of W.Sink R.Read
         state.old state.new output.old output.new input.old input.new))) }
 
     // Where it fails a beginning of that is written.
-    ensures begun { ForLines (A.is_of automaton.now) (λ p.
+    ensures begun { ForJob job.now (A.is_of automaton.now) (λ p.
         OnErr result (BeginsStream p job.now (course_of W.Sink R.Read
         state.old state.new output.old output.new input.old input.new))) }
 
@@ -62,11 +62,11 @@ fn read_some<A: Lister, R: Read, W: Sink>(
     output: &mut W,
 ) -> Result<bool, Stop>
     requires of { (p : Patterns) × A.is_of automaton.now p }
-    ensures read { ForLines (A.is_of automaton.now) (λ p.
+    ensures read { ForJob job.now (A.is_of automaton.now) (λ p.
         IfOk result (ReadsSome p job.now (course_of W.Sink R.Read
         state.old state.new output.old output.new input.old input.new)
         (bytes_buffered buffer.old) (bytes_buffered buffer.new))) }
-    ensures begun { ForLines (A.is_of automaton.now) (λ p.
+    ensures begun { ForJob job.now (A.is_of automaton.now) (λ p.
         OnErr result (BeginsSome p job.now (course_of W.Sink R.Read
         state.old state.new output.old output.new input.old input.new)
         (bytes_buffered buffer.old))) }
@@ -85,7 +85,7 @@ fn read_some<A: Lister, R: Read, W: Sink>(
     Ok(false)
 }
 
-/// Searches the whole lines, where a newline can be among the last `count` bytes alone, and keeps what follows.
+/// Searches the whole lines, where a line can end among the last `count` bytes alone, and keeps what follows.
 fn search_whole<A: Lister, W: Sink>(
     automaton: &A,
     job: &Job<'_>,
@@ -96,15 +96,15 @@ fn search_whole<A: Lister, W: Sink>(
     output: &mut W,
 ) -> Result<(), Stop>
     requires of { (p : Patterns) × A.is_of automaton.now p }
-    ensures searched { ForLines (A.is_of automaton.now) (λ p.
+    ensures searched { ForJob job.now (A.is_of automaton.now) (λ p.
         OnOk result (SearchesWhole p job.now state.old state.new
         (W.taken output.old) (W.taken output.new)
         (bytes_buffered buffer.old) (bytes_buffered buffer.new))) }
-    ensures begun { ForLines (A.is_of automaton.now) (λ p.
+    ensures begun { ForJob job.now (A.is_of automaton.now) (λ p.
         OnErr result (BeginsWhole p job.now state.old state.new
         (W.taken output.old) (W.taken output.new) (bytes_buffered buffer.old))) }
 {
-    let whole = whole_lines(buffer.bytes(), count);
+    let whole = whole_lines(buffer.bytes(), count, job.style.ending);
     search_text(
         automaton,
         job,
@@ -117,13 +117,13 @@ fn search_whole<A: Lister, W: Sink>(
     Ok(())
 }
 
-/// How many bytes whole lines have, where a newline can be among the last `count` alone.
-fn whole_lines(bytes: &[u8], count: usize) -> usize
+/// How many bytes whole lines have, where one can end among the last `count` alone.
+fn whole_lines(bytes: &[u8], count: usize, ending: u8) -> usize
     ensures within { result ≤ length bytes.now }
-    ensures newline { 0 < result → IsNewline bytes.now (result - 1) }
+    ensures ends { 0 < result → IsEnding ending bytes.now (result - 1) }
 {
     let before = bytes.len().saturating_sub(count);
-    match line_start(&bytes[before..]) {
+    match line_start(&bytes[before..], ending) {
         0 => 0,
         start => before + start,
     }

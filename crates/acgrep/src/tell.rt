@@ -19,6 +19,9 @@ const LOOP: &[u8] = b"warning: recursive directory loop";
 /// What is told of a file to which the output goes.
 const SAME: &[u8] = b"input file is also the output";
 
+/// What is told of a pattern that holds a zero byte where that ends a line.
+const ZERO: &[u8] = b"the pattern holds a zero byte, which ends a line under -z";
+
 /// The program's name.
 const PROGRAM: &[u8] = b"acgrep";
 
@@ -78,6 +81,13 @@ pub fn tell_build<E: Sink>(
     ensures told { TellsOfNamed E.Sink name.now errors.old errors.new }
 {
     errors.tell_build(PROGRAM, Some(name), line, error);
+}
+
+/// Tells that a pattern of a file, or of another name, holds the byte that ends a line, and where it stands.
+pub fn tell_zero<E: Sink>(name: &[u8], line: Option<u64>, errors: &mut Errors<'_, E>)
+    ensures told { TellsOfNamed E.Sink name.now errors.old errors.new }
+{
+    errors.tell(PROGRAM, Some(name), line, ZERO);
 }
 
 /// Tells why arguments are wrong, and how to get help.

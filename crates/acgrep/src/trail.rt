@@ -1,12 +1,9 @@
 //! What is known of the lines before the next one, for the lines around selected ones.
 
 ghost use Rattle.std.specs.Prelude.{◌≡◌, ◌<◌, ◌-◌, ◌==◌, ◌^◌, if◌then◌else◌, [], OnOk, false, length, true};
-ghost use Rattle.memchr.specs.Find.{Nowhere};
-ghost use Rattle.acgrep.specs.Filled.{held_bytes};
-ghost use Rattle.acgrep.specs.Lines.{EndsLine, IsNewline, lines};
+ghost use Rattle.acgrep.specs.Filled.{held_lines};
 
 use crate::held::Held;
-use crate::lines::line_end;
 use crate::print::Place;
 use crate::select::behind_line;
 use std::alloc::{AllocError, Global};
@@ -26,8 +23,7 @@ pub struct Trail {
     pub first: Place,
     /// The lines that were passed over last, at most as many as are written before a selected one.
     pub held: Held,
-    ghost counted: { count ≡ length (lines (held_bytes held)) },
-    ghost whole: { EndsLine (held_bytes held) },
+    ghost counted: { count ≡ length (held_lines held) },
 }
 
 impl Trail {
@@ -69,7 +65,7 @@ impl Trail {
         ensures some { self.new.some ≡ true }
         ensures apart { self.new.apart ≡ false }
         ensures first { self.new.first ≡ self.old.first }
-        ensures held { lines (held_bytes self.new.held) ≡ [] }
+        ensures held { held_lines self.new.held ≡ [] }
     {
         self.due = after;
         self.some = true;
@@ -80,7 +76,6 @@ impl Trail {
 
     /// Holds a line that was passed over, of at most so many.
     pub fn hold(&mut self, most: u64, line: &[u8], place: Place) -> Result<(), AllocError>
-        requires one { Nowhere (IsNewline line.now) 0 (length line.now) }
         ensures held { OnOk result (holding_in self.new
             ≡ holding most place (holding_in self.old) line.now) }
         ensures due { self.new.due ≡ self.old.due }
@@ -98,7 +93,6 @@ impl Trail {
 
     /// Holds a line more.
     fn push(&mut self, line: &[u8], place: Place) -> Result<(), AllocError>
-        requires one { Nowhere (IsNewline line.now) 0 (length line.now) }
         requires room { self.now.count < 2 ^ 64 - 1 }
         ensures held { OnOk result (holding_in self.new
             ≡ with_line place (holding_in self.old) line.now) }
@@ -124,11 +118,8 @@ impl Trail {
         ensures due { self.new.due ≡ self.old.due }
         ensures some { self.new.some ≡ self.old.some }
     {
-        let bytes = self.held.bytes();
-        let end = line_end(bytes);
-        let first = behind_line(self.first, &bytes[..end]);
-        self.held.drop_front(end + 1);
-        self.first = first;
+        self.first = behind_line(self.first, self.held.first());
+        self.held.drop_first();
         self.count -= 1;
         self.apart = true;
     }

@@ -10,6 +10,7 @@ use Rattle.acgrep.specs.Reached.{TellsMissed}
 use Rattle.acgrep.specs.Runs.{AreReached, IsJob, are_several, status_reached}
 use Rattle.acgrep.specs.Told.{IsMessage, MaySay, TellsStatus, files_told, names_told}
 use Rattle.acgrep.specs.declared.options.Shown.{Shown}
+use Rattle.acgrep.specs.Selected.{HoldNoEnding}
 use Rattle.acgrep.proofs.Reaching.{reached-bound, reached-low, reached-told}
 use Rattle.acgrep.proofs.Told.{status-some}
 use Rattle.acgrep.proofs.below.search_below.Goals as goal
@@ -46,6 +47,7 @@ returns-clause-bound g c =
 
 pub returns-clause-searched : goal.returns-clause-searched
 returns-clause-searched g c = λ p is plain low.
+    let free : HoldNoEnding c.job_of-job.result.style.ending p = subst (λ (n : ℕ). HoldNoEnding n p) (sym c.job_of-job.ensures.job.ending) plain in
     let tree = tree_of g.F.Folders c.args.operands.now.files.now in
     let given = said c.args.given.now in
     let flags = given.flags in
@@ -68,12 +70,13 @@ returns-clause-searched g c = λ p is plain low.
       found = found;
       searched = subst (λ (l : List (List ℕ)). AreSearchedOr p c.job_of-job.result (g.F.Open.holds c.args.operands.now.files.now) l (g.R.Read.remaining c.args.input.now) (g.R.Read.remaining c.search_found-status.new.input)
           (g.W.Sink.taken c.args.output.now) (g.W.Sink.taken c.search_found-status.new.output) found) searched
-          (c.search_found-status.ensures.searched p is plain (reached-low flags unread found (subst (λ (n : ℕ). n < 2) status low)));
+          (c.search_found-status.ensures.searched p is free (reached-low flags unread found (subst (λ (n : ℕ). n < 2) status low)));
       told = status;
     }
 
 pub returns-clause-begun : goal.returns-clause-begun
 returns-clause-begun g c = λ p is plain.
+    let free : HoldNoEnding c.job_of-job.result.style.ending p = subst (λ (n : ℕ). HoldNoEnding n p) (sym c.job_of-job.ensures.job.ending) plain in
     let tree = tree_of g.F.Folders c.args.operands.now.files.now in
     let given = said c.args.given.now in
     let flags = given.flags in
@@ -94,7 +97,7 @@ returns-clause-begun g c = λ p is plain.
       is_job = is_job;
       begun = subst (λ (l : List (List ℕ)). AreFilesBegun p c.job_of-job.result false (g.F.Open.holds c.args.operands.now.files.now) l (g.R.Read.remaining c.args.input.now)
           (g.W.Sink.taken c.args.output.now) (g.W.Sink.taken c.search_found-status.new.output)) searched
-          (c.search_found-status.ensures.begun p is plain);
+          (c.search_found-status.ensures.begun p is free);
     })
 
 pub returns-clause-told : goal.returns-clause-told

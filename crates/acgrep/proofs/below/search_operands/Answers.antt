@@ -1,14 +1,16 @@
 -- The operands themselves were searched, where folders are not entered.
-use Rattle.std.proofs.Common.{◌≡◌, ◌∙◌, [], Bool, false, refl, inr, subst, sym}
+use Rattle.std.proofs.Common.{◌≡◌, ◌∙◌, [], Bool, false, ℕ, refl, inr, subst, sym}
 use Rattle.programs.specs.Names.{name_bytes, or_input}
 use Rattle.acgrep.specs.Arguments.{said}
 use Rattle.acgrep.specs.Folders.{tree_of}
 use Rattle.acgrep.specs.Runs.{IsJob, asks_to_look}
+use Rattle.acgrep.specs.Selected.{HoldNoEnding}
 use Rattle.acgrep.proofs.Reaching.{looks-not, reached-plain, several-plain, told-plain}
 use Rattle.acgrep.proofs.below.search_operands.Goals as goal
 
 pub returns-clause-searched : goal.returns-clause-searched
 returns-clause-searched g c = λ p is plain low.
+    let free : HoldNoEnding c.job_of-job.result.style.ending p = subst (λ (n : ℕ). HoldNoEnding n p) (sym c.job_of-job.ensures.job.ending) plain in
     let given = said c.args.given.now in
     let flags = given.flags in
     let names = c.args.operands.now.names.now in
@@ -20,12 +22,13 @@ returns-clause-searched g c = λ p is plain low.
       job = c.job_of-job.result;
       is_job = subst (λ (b : Bool). IsJob given c.args.terminal b c.job_of-job.result) (several-plain flags names (or_input (name_bytes names)) (looks-not given none).0) c.job_of-job.ensures.job;
       found = c.search_by.result;
-      searched = c.search_by.ensures.searched p is plain low;
+      searched = c.search_by.ensures.searched p is free low;
       told = refl;
     }
 
 pub returns-clause-begun : goal.returns-clause-begun
 returns-clause-begun g c = λ p is plain.
+    let free : HoldNoEnding c.job_of-job.result.style.ending p = subst (λ (n : ℕ). HoldNoEnding n p) (sym c.job_of-job.ensures.job.ending) plain in
     let given = said c.args.given.now in
     let flags = given.flags in
     let names = c.args.operands.now.names.now in
@@ -36,7 +39,7 @@ returns-clause-begun g c = λ p is plain.
       reached = reached-plain (tree_of g.F.Folders c.args.operands.now.files.now) given (name_bytes names) none;
       job = c.job_of-job.result;
       is_job = subst (λ (b : Bool). IsJob given c.args.terminal b c.job_of-job.result) (several-plain flags names (or_input (name_bytes names)) (looks-not given none).0) c.job_of-job.ensures.job;
-      begun = c.search_by.ensures.begun p is plain;
+      begun = c.search_by.ensures.begun p is free;
     })
 
 pub returns-clause-told : goal.returns-clause-told

@@ -1,14 +1,14 @@
 -- The lines so far are put together.
-use Rattle.std.proofs.Common.{length}
+use Rattle.std.proofs.Common.{◌≡◌, drop, length}
+use Rattle.std.specs.List.{sum}
 use Rattle.aho_core.specs.Patterns.{Patterns}
+use Rattle.acgrep.specs.Filled.{cut_by, held_lines}
 use Rattle.acgrep.proofs.Stepped.{ShowsTo}
 use Rattle.acgrep.proofs.context.put_each_line.Given as goal
 
-abbrev pub invariant-loop-rest : goal.invariant-loop-rest
-invariant-loop-rest g l = record {
+abbrev pub invariant-loop-index : goal.invariant-loop-index
+invariant-loop-index g l = record {
+  sized : sum (drop l.index l.fn.held.sizes.items) ≡ length l.rest;
   shown : (p : Patterns) → g.A.Automaton.is_of l.fn.automaton p
-      → ShowsTo p l.fn.job l.fn.first l.place (g.W.Write.contents l.initial.output) (g.W.Write.contents l.output) l.fn.text l.rest;
+      → ShowsTo p l.fn.job l.fn.first l.place (g.W.Write.contents l.initial.output) (g.W.Write.contents l.output) (held_lines l.fn.held) (cut_by (drop l.index l.fn.held.sizes.items) l.rest);
 }
-
-abbrev pub decreases-loop-rest : goal.decreases-loop-rest
-decreases-loop-rest g l = length l.rest

@@ -4,7 +4,6 @@ use Rattle.acgrep.specs.Contexts.{walk_of}
 use Rattle.acgrep.specs.Lines.{lines}
 use Rattle.acgrep.proofs.Beginnings.{on_err}
 use Rattle.acgrep.proofs.FirstLines.{lines_first}
-use Rattle.acgrep.proofs.HeldLines.{front_none}
 use Rattle.acgrep.proofs.Stepped.{to_begun, to_start, to_step}
 use Rattle.acgrep.proofs.context.search_around.Goals as goal
 
@@ -13,20 +12,14 @@ loop-rest-init g c = record {
   walks = λ p is. to_start p c.args.job.now c.args.context.now (walk_of c.args.state.now) (g.W.Sink.taken c.args.output.now) c.args.text.now;
 }
 
-pub pass_any-requires : goal.pass_any-requires
-pass_any-requires g c = record {
-  of = c.requires.of;
-  one = front_none c.loop-rest.rest.now c.line_end-end.result c.line_end-end.ensures.within c.line_end-end.ensures.none;
-}
-
 pub loop-rest-preserved : goal.loop-rest-preserved
 loop-rest-preserved g c =
     let rest = c.loop-rest.rest.now in
     let end = c.line_end-end.result in
     let left = c.behind-rest.result.now in
-    let first = lines_first rest end (c.goes_on.ensures.some c.loop-rest-test.true) c.line_end-end.ensures.within c.line_end-end.ensures.none c.line_end-end.ensures.newline in
+    let first = lines_first c.args.job.now.style.ending rest end (c.goes_on.ensures.some c.loop-rest-test.true) c.line_end-end.ensures.within c.line_end-end.ensures.none c.line_end-end.ensures.ends in
     let follows : left ≡ drop (suc end) rest = c.behind-rest.ensures.rest ∙ ap (λ n. drop n rest) (add-one end) in
-    let more : lines rest ≡ take end rest ∷ lines left = first ∙ ap (λ (l : List ℕ). take end rest ∷ lines l) (sym follows) in
+    let more : lines c.args.job.now.style.ending rest ≡ take end rest ∷ lines c.args.job.now.style.ending left = first ∙ ap (λ (l : List ℕ). take end rest ∷ lines c.args.job.now.style.ending l) (sym follows) in
     record {
       walks = λ p is. to_step p c.args.job.now c.args.context.now (walk_of c.args.state.now) (walk_of c.loop-rest.state) (walk_of c.pass_any.new.state)
           (g.W.Sink.taken c.args.output.now) (g.W.Sink.taken c.loop-rest.output) (g.W.Sink.taken c.pass_any.new.output)
@@ -43,8 +36,8 @@ returns-in_err-pass_any-clause-begun g c = λ p is.
     let rest = c.loop-rest.rest.now in
     let end = c.line_end-end.result in
     let left = drop (suc end) rest in
-    let more : lines rest ≡ take end rest ∷ lines left =
-    lines_first rest end (c.goes_on.ensures.some c.loop-rest-test.true) c.line_end-end.ensures.within c.line_end-end.ensures.none c.line_end-end.ensures.newline in
+    let more : lines c.args.job.now.style.ending rest ≡ take end rest ∷ lines c.args.job.now.style.ending left =
+    lines_first c.args.job.now.style.ending rest end (c.goes_on.ensures.some c.loop-rest-test.true) c.line_end-end.ensures.within c.line_end-end.ensures.none c.line_end-end.ensures.ends in
     on_err c.from_residual.result (to_begun p c.args.job.now c.args.context.now (walk_of c.args.state.now) (walk_of c.loop-rest.state)
     (g.W.Sink.taken c.args.output.now) (g.W.Sink.taken c.loop-rest.output) (g.W.Sink.taken c.pass_any.new.output)
     c.args.text.now rest (take end rest) left more (c.loop-rest.invariant.walks p is) (c.in_err-pass_any.ensures.begun p is))

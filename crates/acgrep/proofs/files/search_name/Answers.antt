@@ -2,6 +2,7 @@
 use Rattle.std.proofs.Common.{◌≡◌, ℕ, Bool, List, true, false, refl, sym, subst, ◌∙◌}
 use Rattle.programs.specs.Names.{IsOneOf, is_input}
 use Rattle.acgrep.specs.Files.{SearchesFile, SearchesName, SearchesReader, shown_name}
+use Rattle.acgrep.specs.Selected.{HoldNoEnding}
 use Rattle.acgrep.specs.Told.{IsMessage, TellsOutcome}
 use Rattle.acgrep.proofs.FileTellings.{file_searched, if_searched, input_searched}
 use Rattle.acgrep.proofs.FilesBegun.{file_begun, if_broken, input_begun}
@@ -34,14 +35,14 @@ returns-then-is_input-clause-searched g c = λ p is plain.
     let held = g.W.Sink.taken c.args.output.now in
     let held' = g.W.Sink.taken c.search_input.new.output in
     if_searched c.search_input.result (SearchesReader p named left left' held held') (SearchesName p job c.args.follows holds name left left' held held')
-    (input_searched p job named c.args.follows holds name left left' held held' (sym c.is_input.ensures ∙ c.if-is_input.true) c.job_for-named.ensures.named) (c.search_input.ensures.searched p is plain)
+    (input_searched p job named c.args.follows holds name left left' held held' (sym c.is_input.ensures ∙ c.if-is_input.true) c.job_for-named.ensures.named) (c.search_input.ensures.searched p is (subst (λ (n : ℕ). HoldNoEnding n p) (sym c.job_for-named.ensures.named.ending) plain))
 
 pub returns-then-is_input-clause-begun : goal.returns-then-is_input-clause-begun
 returns-then-is_input-clause-begun g c = λ p is plain.
     if_broken c.search_input.result
     (input_begun p c.args.job.now c.job_for-named.result c.args.follows (g.F.Open.holds c.args.files.now) c.args.name.now (g.R.Read.remaining c.args.input.now)
     (g.W.Sink.taken c.args.output.now) (g.W.Sink.taken c.search_input.new.output) (sym c.is_input.ensures ∙ c.if-is_input.true) c.job_for-named.ensures.named)
-    (c.search_input.ensures.begun p is plain)
+    (c.search_input.ensures.begun p is (subst (λ (n : ℕ). HoldNoEnding n p) (sym c.job_for-named.ensures.named.ending) plain))
 
 pub returns-clause-searched : goal.returns-clause-searched
 returns-clause-searched g c = λ p is plain.
@@ -53,11 +54,11 @@ returns-clause-searched g c = λ p is plain.
     let held = g.W.Sink.taken c.args.output.now in
     let held' = g.W.Sink.taken c.search_named.new.output in
     if_searched c.search_named.result (SearchesFile p named (holds name) held held') (SearchesName p job c.args.follows holds name left left held held')
-    (file_searched p job named c.args.follows holds name left held held' (sym c.is_input.ensures ∙ c.if-is_input.false) c.job_for-named-2.ensures.named) (c.search_named.ensures.searched p is plain)
+    (file_searched p job named c.args.follows holds name left held held' (sym c.is_input.ensures ∙ c.if-is_input.false) c.job_for-named-2.ensures.named) (c.search_named.ensures.searched p is (subst (λ (n : ℕ). HoldNoEnding n p) (sym c.job_for-named-2.ensures.named.ending) plain))
 
 pub returns-clause-begun : goal.returns-clause-begun
 returns-clause-begun g c = λ p is plain.
     if_broken c.search_named.result
     (file_begun p c.args.job.now c.job_for-named-2.result c.args.follows (g.F.Open.holds c.args.files.now) c.args.name.now (g.R.Read.remaining c.args.input.now)
     (g.W.Sink.taken c.args.output.now) (g.W.Sink.taken c.search_named.new.output) (sym c.is_input.ensures ∙ c.if-is_input.false) c.job_for-named-2.ensures.named)
-    (c.search_named.ensures.begun p is plain)
+    (c.search_named.ensures.begun p is (subst (λ (n : ℕ). HoldNoEnding n p) (sym c.job_for-named-2.ensures.named.ending) plain))

@@ -9,8 +9,8 @@ use Rattle.acgrep.proofs.keys.read_keys.Given as goal
 
 abbrev pub invariant-loop-rest : goal.invariant-loop-rest
 invariant-loop-rest g l = record {
-  ends : EndsLine l.keys.text.items;
-  words : AreWordsWith (g.F.Open.holds l.fn.files) (origins_of l.fn.sources) (g.R.Read.remaining l.initial.input) (origins_of l.rest) (g.R.Read.remaining l.input) (lines l.keys.text.items);
+  ends : EndsLine 10 l.keys.text.items;
+  words : AreWordsWith (g.F.Open.holds l.fn.files) (origins_of l.fn.sources) (g.R.Read.remaining l.initial.input) (origins_of l.rest) (g.R.Read.remaining l.input) (lines 10 l.keys.text.items);
   told : l.errors ≡ l.initial.errors;
   within : AreWithin (source_names (origins_of l.rest)) (source_names (origins_of l.fn.sources));
 }

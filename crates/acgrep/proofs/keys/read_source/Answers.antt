@@ -13,5 +13,5 @@ returns-in_ok-add_text-in-Text-clause-added g c =
     let left = g.R.Read.remaining c.args.input.now in
     let old = c.args.keys.now.text.items in
     let new = c.add_text.new.self.text.items in
-    subst (λ (source : Source). AddsWords holds (origin_of source) left left (lines old) (lines new)) (sym c.in-Text.is)
+    subst (λ (source : Source). AddsWords holds (origin_of source) left left (lines 10 old) (lines 10 new)) (sym c.in-Text.is)
     (text_words holds c.in-Text.text.now old new left c.requires.whole c.in_ok-add_text-in-Text.ensures.added)

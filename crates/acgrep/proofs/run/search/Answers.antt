@@ -3,15 +3,15 @@ use Rattle.std.proofs.Common.{◌≡◌, ◌∙◌, arith, List, [], ℕ, false,
 use Rattle.std.proofs.KnownBytes.{Keeps-refl}
 use Rattle.std.proofs.lemmas.Bool.{and_parts}
 use Rattle.aho_core.specs.Replacement.{pieces_of}
-use Rattle.acgrep.specs.Lines.{lines}
+use Rattle.acgrep.specs.Lines.{AreFreeOf, lines}
 use Rattle.acgrep.specs.Runs.{inverts, kind_sought, knows_none, origins_of, words_sought}
 use Rattle.acgrep.specs.Searchers.{patterns_asked}
 use Rattle.acgrep.proofs.Unselected.{none_selected}
-use Rattle.acgrep.proofs.WordLists.{sought_plain}
+use Rattle.acgrep.proofs.PlainWords.{free_plain}
 use Rattle.programs.specs.Names.{name_bytes}
 use Rattle.programs.specs.declared.errors.Errors.{Errors}
 use Rattle.programs.proofs.Lines.{some-weaker}
-use Rattle.acgrep.specs.Arguments.{fit_by, said, shown_by}
+use Rattle.acgrep.specs.Arguments.{ending_by, fit_by, said, shown_by}
 use Rattle.acgrep.specs.Folders.{tree_of}
 use Rattle.acgrep.specs.Told.{IsMessage, MaySay, TellsStatus, names_told, source_names}
 use Rattle.acgrep.proofs.Reaching.{may-behind, may-sources}
@@ -29,28 +29,29 @@ pub returns-in-Ok-build-clause-searches : goal.returns-in-Ok-build-clause-search
 returns-in-Ok-build-clause-searches g c low =
     let flags = c.args.given.now.flags in
     let text = c.in-Some.keys.text.items in
-    let sought = words_sought flags (lines text) in
+    let sought = words_sought flags (lines 10 text) in
     let same : pieces_of c.sought-words.result.now ≡ sought =
-    c.sought-words.ensures.words ∙ ap (words_sought flags) (ap pieces_of c.as_slice-all.ensures.value ∙ c.in-Ok.ensures.lines ∙ ap lines c.as_slice.ensures.value) in
+    c.sought-words.ensures.words ∙ ap (words_sought flags) (ap pieces_of c.as_slice-all.ensures.value ∙ c.in-Ok.ensures.lines ∙ ap (lines 10) c.as_slice.ensures.value) in
+    let free : AreFreeOf (ending_by flags) sought = subst (AreFreeOf (ending_by flags)) same (subst (λ (n : ℕ). AreFreeOf n (pieces_of c.sought-words.result.now)) c.ending.ensures.ending (c.first_holding.ensures.none c.in_default-first_holding.is)) in
     let asked = patterns_asked (kind_sought flags) flags.ignore_case sought in
     let some : knows_none flags sought ≡ false = ap (knows_none flags) (sym same) ∙ sym c.knows_none.ensures ∙ c.if-knows_none.false in
     record {
-      words = lines text;
+      words = lines 10 text;
       between = g.R.Read.remaining c.read_keys.new.input;
       read = c.in-Some.ensures.words;
-      searched = rw some (c.search_operands.ensures.searched asked (c.in-Ok-build.ensures.of asked (sym c.kind_sought.ensures) (record { words_are = sym same; rule = refl })) (sought_plain flags text) low);
+      searched = rw some (c.search_operands.ensures.searched asked (c.in-Ok-build.ensures.of asked (sym c.kind_sought.ensures) (record { words_are = sym same; rule = refl })) (free_plain flags (kind_sought flags) flags.ignore_case sought free) low);
     }
 
 pub returns-then-knows_none-clause-searches : goal.returns-then-knows_none-clause-searches
 returns-then-knows_none-clause-searches g c low =
     let flags = c.args.given.now.flags in
     let text = c.in-Some.keys.text.items in
-    let sought = words_sought flags (lines text) in
+    let sought = words_sought flags (lines 10 text) in
     let same : pieces_of c.sought-words.result.now ≡ sought =
-    c.sought-words.ensures.words ∙ ap (words_sought flags) (ap pieces_of c.as_slice-all.ensures.value ∙ c.in-Ok.ensures.lines ∙ ap lines c.as_slice.ensures.value) in
+    c.sought-words.ensures.words ∙ ap (words_sought flags) (ap pieces_of c.as_slice-all.ensures.value ∙ c.in-Ok.ensures.lines ∙ ap (lines 10) c.as_slice.ensures.value) in
     let none : knows_none flags sought ≡ true = ap (knows_none flags) (sym same) ∙ sym c.knows_none.ensures ∙ c.if-knows_none.true in
     record {
-      words = lines text;
+      words = lines 10 text;
       between = g.R.Read.remaining c.read_keys.new.input;
       read = c.in-Some.ensures.words;
       searched = rw none (record {
@@ -65,13 +66,14 @@ pub returns-in-Ok-build-clause-begins : goal.returns-in-Ok-build-clause-begins
 returns-in-Ok-build-clause-begins g c =
     let flags = c.args.given.now.flags in
     let text = c.in-Some.keys.text.items in
-    let sought = words_sought flags (lines text) in
+    let sought = words_sought flags (lines 10 text) in
     let same : pieces_of c.sought-words.result.now ≡ sought =
-    c.sought-words.ensures.words ∙ ap (words_sought flags) (ap pieces_of c.as_slice-all.ensures.value ∙ c.in-Ok.ensures.lines ∙ ap lines c.as_slice.ensures.value) in
+    c.sought-words.ensures.words ∙ ap (words_sought flags) (ap pieces_of c.as_slice-all.ensures.value ∙ c.in-Ok.ensures.lines ∙ ap (lines 10) c.as_slice.ensures.value) in
+    let free : AreFreeOf (ending_by flags) sought = subst (AreFreeOf (ending_by flags)) same (subst (λ (n : ℕ). AreFreeOf n (pieces_of c.sought-words.result.now)) c.ending.ensures.ending (c.first_holding.ensures.none c.in_default-first_holding.is)) in
     let asked = patterns_asked (kind_sought flags) flags.ignore_case sought in
-    elim (c.search_operands.ensures.begun asked (c.in-Ok-build.ensures.of asked (sym c.kind_sought.ensures) (record { words_are = sym same; rule = refl })) (sought_plain flags text)) [
+    elim (c.search_operands.ensures.begun asked (c.in-Ok-build.ensures.of asked (sym c.kind_sought.ensures) (record { words_are = sym same; rule = refl })) (free_plain flags (kind_sought flags) flags.ignore_case sought free)) [
       | inl keeps ↦ inl keeps
-      | inr begun ↦ inr (record { words = lines text; between = g.R.Read.remaining c.read_keys.new.input; read = c.in-Some.ensures.words; begun = begun })
+      | inr begun ↦ inr (record { words = lines 10 text; between = g.R.Read.remaining c.read_keys.new.input; read = c.in-Some.ensures.words; begun = begun })
     ]
 
 pub returns-in_default-clause-begins : goal.returns-in_default-clause-begins
@@ -134,3 +136,17 @@ returns-clause-told g c =
     subst (λ (e : Errors g.row.E.Denot). TellsStatus g.E.Sink May flags.no_messages (shown_by flags) 2 e c.tell_refusal.new.errors) (c.in-Some.ensures.silent refl)
     (status-some g.E.Sink May flags.no_messages (shown_by flags) c.read_keys.new.errors c.tell_refusal.new.errors
     (some-weaker g.E.Sink (IsMessage sources) May c.read_keys.new.errors c.tell_refusal.new.errors may c.tell_refusal.ensures.told))
+
+pub returns-in-Some-first_holding-clause-begins : goal.returns-in-Some-first_holding-clause-begins
+returns-in-Some-first_holding-clause-begins g c = inl (Keeps-refl (g.W.Sink.taken c.args.output.now))
+
+pub returns-in-Some-first_holding-clause-told : goal.returns-in-Some-first_holding-clause-told
+returns-in-Some-first_holding-clause-told g c =
+    let given = said c.args.given.now in
+    let flags = given.flags in
+    let sources = source_names (origins_of c.args.sources.now) in
+    let May = MaySay (tree_of g.F.Folders c.args.files.now) given (origins_of c.args.sources.now) (name_bytes c.args.names.now) in
+    let may : (line : List ℕ) → IsMessage sources line → May line = may-sources (tree_of g.F.Folders c.args.files.now) given (origins_of c.args.sources.now) (name_bytes c.args.names.now) in
+    subst (λ (e : Errors g.row.E.Denot). TellsStatus g.E.Sink May flags.no_messages (shown_by flags) 2 e c.tell_ending.new.errors) (c.in-Some.ensures.silent refl)
+    (status-some g.E.Sink May flags.no_messages (shown_by flags) c.read_keys.new.errors c.tell_ending.new.errors
+    (some-weaker g.E.Sink (IsMessage sources) May c.read_keys.new.errors c.tell_ending.new.errors may c.tell_ending.ensures.told))

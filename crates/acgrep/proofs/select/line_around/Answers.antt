@@ -8,9 +8,9 @@ returns-clause-line c =
     let text = c.args.text.now in
     let place = c.args.place in
     let same : take (length text - place) (drop place text) ≡ drop place text = take_all (length text - place) (drop place text) (omega (arith, length-drop place text)) in
-    line_of_parts text (take (length text - place) (drop place text)) place c.line_start-start.result c.line_end-rest.result c.requires.within same
-    c.line_start-start.ensures.within c.line_start-start.ensures.none c.line_start-start.ensures.newline
-    c.line_end-rest.ensures.within c.line_end-rest.ensures.none c.line_end-rest.ensures.newline
+    line_of_parts c.args.ending text (take (length text - place) (drop place text)) place c.line_start-start.result c.line_end-rest.result c.requires.within same
+    c.line_start-start.ensures.within c.line_start-start.ensures.none c.line_start-start.ensures.ends
+    c.line_end-rest.ensures.within c.line_end-rest.ensures.none c.line_end-rest.ensures.ends
 
 pub returns-clause-before : goal.returns-clause-before
 returns-clause-before c = omega (arith, c.line_start-start.ensures.within, length-take-le c.args.place c.args.text.now c.requires.within)

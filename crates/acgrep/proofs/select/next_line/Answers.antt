@@ -20,4 +20,4 @@ returns-in-Some-clause-next g c = λ p is plain.
     let best : IsAnswer p (plain_search text) (Some c.in-Some.found) =
     subst (λ (s : Search). IsAnswer p s (Some c.in-Some.found)) c.new.ensures.whole (subst (λ (a : Option Occurrence). IsAnswer p c.new.result a) c.in-Some.is (c.in_ok-found.ensures.found p is)) in
     let start = c.start.ensures.start in
-    first_around p text c.in-Some.found c.line_around.result plain best c.line_around.ensures.line (omega (arith, start, c.line_around.ensures.before)) (omega (arith, start, c.line_around.ensures.behind))
+    first_around c.args.ending p text c.in-Some.found c.line_around.result plain best c.line_around.ensures.line (omega (arith, start, c.line_around.ensures.before)) (omega (arith, start, c.line_around.ensures.behind))

@@ -8,8 +8,8 @@ use Rattle.acgrep.proofs.select.pass_each.Given as goal
 
 abbrev pub invariant-loop-rest : goal.invariant-loop-rest
 invariant-loop-rest g l = record {
-  placed : after_lines l.state.place (lines l.rest) ≡ after_lines l.initial.state.place (lines l.fn.text);
-  passed : (p : Patterns) → g.A.Automaton.is_of l.fn.automaton p → l.fn.job.invert ≡ true → EachLine (HasNone p) (lines l.fn.text)
+  placed : after_lines l.state.place (lines l.fn.job.style.ending l.rest) ≡ after_lines l.initial.state.place (lines l.fn.job.style.ending l.fn.text);
+  passed : (p : Patterns) → g.A.Automaton.is_of l.fn.automaton p → l.fn.job.invert ≡ true → EachLine (HasNone p) (lines l.fn.job.style.ending l.fn.text)
       → Passing p l.fn.job l.initial.state l.state (g.W.Sink.taken l.initial.output) (g.W.Sink.taken l.output) l.fn.text l.rest;
 }
 

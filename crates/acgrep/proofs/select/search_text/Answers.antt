@@ -24,7 +24,7 @@ pub returns-in-Some-clause-begun : goal.returns-in-Some-clause-begun
 returns-in-Some-clause-begun g c = λ p is plain.
     let around : Some c.in-Some.context ≡ around_of c.args.job.now = sym c.in-Some.is ∙ c.around.ensures.around in
     subst (λ (asked : Option Context). OnErr c.search_around.result (BeginsAsked p c.args.job.now asked c.args.state.now c.search_around.new.state.selected
-    (g.W.Sink.taken c.args.output.now) (g.W.Sink.taken c.search_around.new.output) (lines c.args.text.now))) around (c.search_around.ensures.begun p is)
+    (g.W.Sink.taken c.args.output.now) (g.W.Sink.taken c.search_around.new.output) (lines c.args.job.now.style.ending c.args.text.now))) around (c.search_around.ensures.begun p is)
 
 pub returns-in-None-clause-written : goal.returns-in-None-clause-written
 returns-in-None-clause-written g c = λ p is plain.
@@ -36,4 +36,4 @@ pub returns-in-None-clause-begun : goal.returns-in-None-clause-begun
 returns-in-None-clause-begun g c = λ p is plain.
     let around : None ≡ around_of c.args.job.now = sym c.in-None.is ∙ c.around.ensures.around in
     subst (λ (asked : Option Context). OnErr c.search_plain.result (BeginsAsked p c.args.job.now asked c.args.state.now c.search_plain.new.state.selected
-    (g.W.Sink.taken c.args.output.now) (g.W.Sink.taken c.search_plain.new.output) (lines c.args.text.now))) around (c.search_plain.ensures.begun p is plain)
+    (g.W.Sink.taken c.args.output.now) (g.W.Sink.taken c.search_plain.new.output) (lines c.args.job.now.style.ending c.args.text.now))) around (c.search_plain.ensures.begun p is plain)

@@ -79,7 +79,7 @@ returns-then-branch-clause-begun g c = λ p is plain.
     (g.R.Read.remaining c.args.input.now) (g.R.Read.remaining c.loop.input) (g.R.Read.remaining c.read_some.new.input) (take c.loop.buffer.held c.loop.buffer.room.items) kept
     c.in_ok-read_some.field-0
     (not_done c.is_done.result (IsSettled c.args.job.now c.loop.state) c.is_done.ensures.settled.1 c.if-is_done.false) c.if-branch.true (c.loop.invariant.searched p is plain) some)
-    (subst (λ (l : List ℕ). OnErr c.search_text.result (BeginsSearched p c.args.job.now c.read_some.new.state c.search_text.new.state.selected (g.W.Sink.taken c.read_some.new.output) (g.W.Sink.taken c.search_text.new.output) (lines l)))
+    (subst (λ (l : List ℕ). OnErr c.search_text.result (BeginsSearched p c.args.job.now c.read_some.new.state c.search_text.new.state.selected (g.W.Sink.taken c.read_some.new.output) (g.W.Sink.taken c.search_text.new.output) (lines c.args.job.now.style.ending l)))
     c.bytes.ensures.bytes (c.search_text.ensures.begun p is plain))
 
 pub returns-clause-begun : goal.returns-clause-begun

@@ -2,13 +2,13 @@
 use Rattle.std.proofs.Common.{take}
 use Rattle.aho_core.specs.Patterns.{Patterns}
 use Rattle.acgrep.specs.Filled.{ReadsOn}
-use Rattle.acgrep.specs.Selected.{HoldNoNewline}
+use Rattle.acgrep.specs.Selected.{HoldNoEnding}
 use Rattle.acgrep.specs.Streamed.{SearchesLines, course}
 use Rattle.acgrep.proofs.stream.search_stream.Given as goal
 
 abbrev pub invariant-loop : goal.invariant-loop
 invariant-loop g l = record {
-  searched : (p : Patterns) → g.A.Automaton.is_of l.fn.automaton p → HoldNoNewline p
+  searched : (p : Patterns) → g.A.Automaton.is_of l.fn.automaton p → HoldNoEnding l.fn.job.style.ending p
       → SearchesLines p l.fn.job (course l.initial.state l.state (g.W.Sink.taken l.initial.output) (g.W.Sink.taken l.output)
       (g.R.Read.remaining l.initial.input) (g.R.Read.remaining l.input)) (take l.buffer.held l.buffer.room.items);
   reads : ReadsOn (g.R.Read.remaining l.initial.input) (g.R.Read.remaining l.input);

@@ -1,6 +1,6 @@
 -- The whole lines are searched, and dropped from the buffer.
 use Rattle.std.proofs.Common.{ℕ, ◌-◌, ◌≡◌, ◌≤◌, ◌<◌, List, length, refl, subst, take}
-use Rattle.acgrep.specs.Lines.{IsNewline, lines}
+use Rattle.acgrep.specs.Lines.{IsEnding, lines}
 use Rattle.acgrep.specs.Contexts.{BeginsSearched, SearchesText}
 use Rattle.acgrep.proofs.Beginnings.{on_err}
 use Rattle.acgrep.proofs.Streams.{whole_searched}
@@ -16,7 +16,7 @@ returns-clause-searched g c = λ p is plain.
     (g.W.Sink.taken c.args.output.now) (g.W.Sink.taken c.search_text.new.output) bytes
     (take c.drop_front.new.self.held c.drop_front.new.self.room.items) whole
     (subst (λ (l : List ℕ). whole ≤ length l) same c.whole_lines-whole.ensures.within)
-    (subst (λ (l : List ℕ). 0 < whole → IsNewline l (whole - 1)) same c.whole_lines-whole.ensures.newline)
+    (subst (λ (l : List ℕ). 0 < whole → IsEnding c.args.job.now.style.ending l (whole - 1)) same c.whole_lines-whole.ensures.ends)
     c.drop_front.ensures.rest
     (subst (λ (l : List ℕ). SearchesText p c.args.job.now c.args.state.now c.search_text.new.state (g.W.Sink.taken c.args.output.now) (g.W.Sink.taken c.search_text.new.output) (take whole l))
     c.bytes-2.ensures.bytes (c.in_ok-search_text.ensures.written p is plain))
@@ -31,6 +31,6 @@ returns-in_err-search_text-clause-begun g c = λ p is plain.
     let held' = g.W.Sink.taken c.search_text.new.output in
     on_err c.from_residual.result (whole_begins p c.args.job.now c.args.state.now state.selected state held held' bytes whole refl
     (subst (λ (l : List ℕ). whole ≤ length l) same c.whole_lines-whole.ensures.within)
-    (subst (λ (l : List ℕ). 0 < whole → IsNewline l (whole - 1)) same c.whole_lines-whole.ensures.newline)
-    (subst (λ (l : List ℕ). BeginsSearched p c.args.job.now c.args.state.now state.selected held held' (lines (take whole l)))
+    (subst (λ (l : List ℕ). 0 < whole → IsEnding c.args.job.now.style.ending l (whole - 1)) same c.whole_lines-whole.ensures.ends)
+    (subst (λ (l : List ℕ). BeginsSearched p c.args.job.now c.args.state.now state.selected held held' (lines c.args.job.now.style.ending (take whole l)))
     c.bytes-2.ensures.bytes (c.in_err-search_text.ensures.begun p is plain)))

@@ -1,0 +1,11 @@
+-- A message is told.
+use Rattle.std.proofs.Common.{inl, inr, refl}
+use Rattle.acgrep.specs.Runs.{origins_of}
+use Rattle.acgrep.specs.Told.{source_names}
+use Rattle.acgrep.proofs.keys.tell_ending.Goals as goal
+
+pub returns-in-Some : goal.returns-in-Some
+returns-in-Some g c = record { told = c.tell_zero.ensures.told (source_names (origins_of c.args.sources.now)) c.source_name-name.ensures.named }
+
+pub returns-in-None : goal.returns-in-None
+returns-in-None g c = record { told = c.tell_zero-in-None.ensures.told (source_names (origins_of c.args.sources.now)) (inl (inr (inr (inl refl)))) }

@@ -1,0 +1,11 @@
+-- What the loop keeps: no pattern before the number holds the byte.
+use Rattle.std.proofs.Common.{◌<◌, ℕ, [], length}
+use Rattle.std.specs.Prelude.{slice_index_or}
+use Rattle.aho_core.specs.Replacement.{pieces_of}
+use Rattle.memchr.specs.Find.{Nowhere}
+use Rattle.acgrep.specs.Lines.{IsEnding}
+use Rattle.acgrep.proofs.patterns.first_holding.Given as goal
+
+abbrev pub invariant-loop-number : goal.invariant-loop-number
+invariant-loop-number l = (other : ℕ) → other < l.number
+    → Nowhere (IsEnding l.byte (slice_index_or (pieces_of l.patterns) other [])) 0 (length (slice_index_or (pieces_of l.patterns) other []))
