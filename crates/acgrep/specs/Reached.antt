@@ -26,6 +26,6 @@ pub record TellsMissed {E : Type 0} (K : SinkGhosts E) (hushed : Bool) (unread :
 module _ {F X R W : Type 0} (openers : Openers F X) (folders : FolderGhosts F) (readers : Readers R) (sinks : SinkGhosts W) where
   -- the files that these operands name are searched by an automaton, whatever patterns it is of
   abbrev pub SearchesOperands : F → List (Bor (List ℕ)) → Searcher → Bool → Said → R → R → W → W → ℕ → Type 0
-  SearchesOperands files names searcher terminal given input input' output output' status =
+  SearchesOperands files names searcher screen given input input' output output' status =
       ForLines (λ p. IsSearcherOf p searcher) (λ p. status < 2
-      → SearchesReached (known_by openers folders files) terminal given p (name_bytes names) (readers.remaining input) (readers.remaining input') (sinks.taken output) (sinks.taken output') status)
+      → SearchesReached (known_by openers folders files) screen given p (name_bytes names) (readers.remaining input) (readers.remaining input') (sinks.taken output) (sinks.taken output') status)

@@ -577,6 +577,7 @@ fn job_for<'a>(job: &Job<'a>, name: &'a [u8], follows: bool) -> Job<'a>
             number: job.style.number,
             offset: job.style.offset,
             color: job.style.color,
+            colors: job.style.colors,
             hyphen: job.style.hyphen,
             tab: job.style.tab,
             separator: job.style.separator,
