@@ -3,7 +3,7 @@
 //! It is parts with colons between them: a name, or a name, an equals sign and a code of digits and semicolons. A name that is not known
 //! says nothing, and what follows a part that is wrong says nothing either.
 
-ghost use Rattle.std.specs.Prelude.{◌≡◌, ◌≤◌};
+ghost use Rattle.std.specs.Prelude.{◌≡◌};
 ghost use Rattle.std.specs.List.{position_or_len};
 ghost use Rattle.acgrep.specs.Colors.{colors_by, is_code, is_code_byte, is_colon, is_right, palette_of};
 
@@ -57,8 +57,8 @@ pub struct Colors<'a> {
 }
 
 impl<'a> Colors<'a> {
-    ghost use Rattle.std.specs.Prelude.{true};
-    ghost use Rattle.acgrep.specs.Colors.{usual_colors, with_code, with_name, with_part};
+    ghost use Rattle.std.specs.Prelude.{[], ◌∷◌};
+    ghost use Rattle.acgrep.specs.Colors.{usual_colors, with_code, with_name, with_part, with_parts};
 
     /// Those where nothing is said of them.
     fn new() -> Colors<'a>
@@ -73,6 +73,16 @@ impl<'a> Colors<'a> {
             beside: b"01;31",
             erases: true,
         }
+    }
+
+    /// These with the last part, unless it is wrong.
+    fn with_last(self, part: &'a [u8]) -> Colors<'a>
+        ensures with { palette_of result ≡ with_parts (part.now ∷ []) (palette_of self.entry) }
+    {
+        if is_right(part) {
+            return self.with_part(part);
+        }
+        self
     }
 
     /// These with a part that is not wrong.
@@ -132,18 +142,17 @@ pub fn read_colors<'a>(text: &'a [u8]) -> Colors<'a>
 {
     let mut colors = Colors::new();
     let mut rest = text;
-    loop {
-        let end = first_colon(rest);
+    let mut end = first_colon(rest);
+    while end < rest.len() {
         let part = &rest[..end];
         if !is_right(part) {
             return colors;
         }
         colors = colors.with_part(part);
-        if end == rest.len() {
-            return colors;
-        }
         rest = &rest[end + 1..];
+        end = first_colon(rest);
     }
+    colors.with_last(rest)
 }
 
 /// Where the first colon stands, or else the end.
