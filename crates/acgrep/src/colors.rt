@@ -4,10 +4,11 @@
 //! says nothing, and what follows a part that is wrong says nothing either.
 
 ghost use Rattle.std.specs.Prelude.{◌≡◌};
-ghost use Rattle.std.specs.List.{position_or_len};
-ghost use Rattle.acgrep.specs.Colors.{colors_by, is_code, is_code_byte, is_colon, is_right, palette_of};
+ghost use Rattle.std.specs.List.{position_or_len, slice_split};
+ghost use Rattle.acgrep.specs.Colors.{colors_by, is_code, is_code_byte, is_colon, is_right, palette_of, with_parts};
 
 use crate::arguments::first_equals;
+use crate::lines::behind;
 
 /// The names of matches: in selected lines and around them, in selected ones, and around them.
 const BOTH: &[u8] = b"mt";
@@ -141,18 +142,26 @@ pub fn read_colors<'a>(text: &'a [u8]) -> Colors<'a>
     ensures read { palette_of result ≡ colors_by text.now }
 {
     let mut colors = Colors::new();
+    read_parts(&mut colors, text);
+    colors
+}
+
+/// Takes over what the parts of a text say.
+fn read_parts<'a>(colors: &mut Colors<'a>, text: &'a [u8])
+    ensures read { palette_of colors.new ≡ with_parts (slice_split is_colon text.now) (palette_of colors.old) }
+{
     let mut rest = text;
     let mut end = first_colon(rest);
     while end < rest.len() {
         let part = &rest[..end];
         if !is_right(part) {
-            return colors;
+            return;
         }
-        colors = colors.with_part(part);
-        rest = &rest[end + 1..];
+        *colors = colors.with_part(part);
+        rest = behind(rest, end);
         end = first_colon(rest);
     }
-    colors.with_last(rest)
+    *colors = colors.with_last(rest);
 }
 
 /// Where the first colon stands, or else the end.

@@ -20,9 +20,7 @@ use crate::options::Shown;
 use crate::print::{Style, put_count, put_name};
 use crate::select::{Job, State};
 use crate::stream::search_stream;
-use crate::tell::{
-    tell_fault, tell_memory, tell_output, tell_search, tell_unopened, tell_write,
-};
+use crate::tell::{tell_fault, tell_memory, tell_output, tell_search, tell_unopened, tell_write};
 use chromesquid::{Sink, write_whole};
 use programs::errors::Errors;
 use programs::reason::Reason;
