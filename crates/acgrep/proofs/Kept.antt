@@ -11,6 +11,7 @@ use Rattle.acgrep.specs.Files.{AreFilesSearched, AreSearchedOr, is_enough}
 use Rattle.acgrep.specs.Folders.{Known}
 use Rattle.acgrep.specs.Runs.{BeginsFor, SelectsNoLine, SearchesFor, SearchesReached, inverts, kind_sought, knows_none, words_sought}
 use Rattle.acgrep.specs.Searchers.{patterns_asked}
+use Rattle.acgrep.specs.declared.colors.Screen.{Screen}
 use Rattle.acgrep.specs.declared.select.Job.{Job}
 use Rattle.acgrep.proofs.FilesBegun.{begun_kept}
 
@@ -39,13 +40,13 @@ module _ (held' held'' : Option (List ℕ)) (kept : Keeps held' held'') where
   or_kept p job holds names left left' held status (inr one) = inr one
 
   -- what was done of a search
-  pub searches_kept : (known : Known) (terminal : Bool) (given : Said) (sources : List Origin) (names : List (List ℕ)) (left left' held : Option (List ℕ)) (status : ℕ)
-      → SearchesFor known terminal given sources names left left' held held' status → SearchesFor known terminal given sources names left left' held held'' status
-  searches_kept known terminal given sources names left left' held status done =
+  pub searches_kept : (known : Known) (screen : Screen) (given : Said) (sources : List Origin) (names : List (List ℕ)) (left left' held : Option (List ℕ)) (status : ℕ)
+      → SearchesFor known screen given sources names left left' held held' status → SearchesFor known screen given sources names left left' held held'' status
+  searches_kept known screen given sources names left left' held status done =
       let sought = words_sought given.flags done.words in
       let p = patterns_asked (kind_sought given.flags) given.flags.ignore_case sought in
       let Passed = SelectsNoLine p (fit_by given.flags) (inverts given.flags) done.between left' held held' status in
-      let Found = SearchesReached known terminal given p names done.between left' held held' status in
+      let Found = SearchesReached known screen given p names done.between left' held held' status in
       record {
         words = done.words;
         between = done.between;
@@ -71,10 +72,10 @@ module _ (held' held'' : Option (List ℕ)) (kept : Keeps held' held'') where
       }
 
   -- what was begun
-  pub begins_held : (known : Known) (terminal : Bool) (given : Said) (sources : List Origin) (names : List (List ℕ)) (left held : Option (List ℕ))
-      → BeginsFor known terminal given sources names left held held' → BeginsFor known terminal given sources names left held held''
-  begins_held known terminal given sources names left held (inl keeps) = inl (Keeps-trans held held' held'' keeps kept)
-  begins_held known terminal given sources names left held (inr begins) = inr (record {
+  pub begins_held : (known : Known) (screen : Screen) (given : Said) (sources : List Origin) (names : List (List ℕ)) (left held : Option (List ℕ))
+      → BeginsFor known screen given sources names left held held' → BeginsFor known screen given sources names left held held''
+  begins_held known screen given sources names left held (inl keeps) = inl (Keeps-trans held held' held'' keeps kept)
+  begins_held known screen given sources names left held (inr begins) = inr (record {
     words = begins.words;
     between = begins.between;
     read = begins.read;

@@ -3,6 +3,7 @@ pub mod Around
 pub mod Beginnings
 pub mod Choosing
 pub mod Coloring
+pub mod ColorParts
 pub mod Digits
 pub mod FileTellings
 pub mod FilesBegun

@@ -11,7 +11,7 @@ use Rattle.acgrep.proofs.LineLists.{ends_drop}
 use Rattle.acgrep.specs.Alone.{asks_alone}
 use Rattle.acgrep.specs.Lines.{EndsLine, lines}
 use Rattle.acgrep.specs.Objects.{objects_by}
-use Rattle.acgrep.specs.Printed.{WritesColored, color_of, colored_from, colored_line_by, head_of, match_by, matches_by, line_number_at, offset_at, painted, part_of}
+use Rattle.acgrep.specs.Printed.{WritesColored, colored_from, colored_line_by, head_of, match_by, matches_by, line_number_at, match_code, offset_at, painted, part_of}
 use Rattle.acgrep.specs.Written.{EachLine, HasNone, IsMatched, IsPassedOver, IsSelected, IsSettled, LineOf, DoesMatch, DoesNotMatch, SamePlace, SearchesTo, ShowsBy, TellsOfLines, TellsLines, WritesLine, WritesNext, after_line, after_lines, is_full, is_numbered, next_count, one_more, place_behind, selects}
 use Rattle.acgrep.specs.declared.options.Fit.{Fit}
 use Rattle.acgrep.specs.declared.options.Fit.TheVariants.{AnyPart, WholeWord, WholeLine}
@@ -86,7 +86,7 @@ match_same job a b line m same =
     let bytes = part_of line m.start m.end in
     let heads : head_of job.style (line_number_at a) (offset_at a m.start) bytes ≡ head_of job.style (line_number_at b) (offset_at b m.start) bytes =
     same_head job a b (offset_at a m.start) bytes same ∙ ap (λ (n : ℕ). head_of job.style (line_number_at b) ((n + m.start) % 2 ^ 64) bytes) same.bytes in
-    ap (λ (head : List ℕ). if m.start == m.end then [] else head ++ (painted job.style.color (color_of (codes "01;31")) (part_of line m.start m.end) ++ (job.style.ending ∷ []))) heads
+    ap (λ (head : List ℕ). if m.start == m.end then [] else head ++ (painted job.style (match_code job.style) (part_of line m.start m.end) ++ (job.style.ending ∷ []))) heads
 
 matches_same : (job : Job) (a b : Place) (line : List ℕ) (ms : List Occurrence) → SamePlace job a b → matches_by job.style a line ms ≡ matches_by job.style b line ms
 matches_same job a b line [] same = refl
@@ -102,7 +102,7 @@ start_same job a b line same = same_head job a b a.bytes line same ∙ ap (λ (n
 
 line_same : (p : Patterns) (alone colored : Bool) (job : Job) (a b : Place) (line bytes : List ℕ) → SamePlace job a b
     → LineOf p alone colored job.style a line bytes → LineOf p alone colored job.style b line bytes
-line_same p alone true job a b line bytes same (ms, finds, is) = (ms, finds, is ∙ ap (λ (head : List ℕ). head ++ (colored_from line 0 ms ++ (job.style.ending ∷ []))) (start_same job a b line same))
+line_same p alone true job a b line bytes same (ms, finds, is) = (ms, finds, is ∙ ap (λ (head : List ℕ). head ++ (colored_from job.style line 0 ms ++ (job.style.ending ∷ []))) (start_same job a b line same))
 line_same p alone false job a b line bytes same is = is ∙ ap (λ (head : List ℕ). head ++ (line ++ (job.style.ending ∷ []))) (start_same job a b line same)
 
 pub by_same : (p : Patterns) (shown : Shown) (alone invert : Bool) (job : Job) (a b : Place) (line bytes : List ℕ)

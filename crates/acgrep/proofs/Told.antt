@@ -3,6 +3,7 @@ use Rattle.std.proofs.Common.{◌≡◌, inl, inr, ◌⊎◌, ℕ, ◌-◌, ◌<
 use Prim.Native.Nat.{zero, suc}
 use Rattle.std.specs.Prelude.{IfSome, MatchBool, map, length, nat_lt, slice_index_or, if◌then◌else◌}
 use Rattle.std.specs.Borrow.{Bor}
+use Rattle.std.specs.Str.{is_utf8}
 use Rattle.std.proofs.Math.ListN.{get_or}
 use Rattle.std.proofs.lemmas.Grind.{common_steps}
 use Rattle.std.proofs.lemmas.List.{take_all}
@@ -21,7 +22,7 @@ use Rattle.acgrep.specs.Arguments.{Said, origin_of}
 use Rattle.acgrep.specs.Files.{is_enough, seen_after, shown_name, status_by}
 use Rattle.acgrep.specs.Folders.{Tree}
 use Rattle.acgrep.specs.Runs.{origins_of}
-use Rattle.acgrep.specs.Told.{IsMessage, IsToldCause, MayName, MaySaid, MayTell, TellsIf, TellsOutcome, TellsStatus, files_told, loop_text, output_text, names_said, shown_names, source_names, zero_text}
+use Rattle.acgrep.specs.Told.{IsMessage, IsToldCause, IsUnopened, MayName, MaySaid, MayTell, TellsIf, TellsOutcome, TellsStatus, files_told, loop_text, no_text_text, output_text, names_said, shown_names, source_names, unopened_line, zero_text}
 use Rattle.acgrep.specs.declared.arguments.Source.{Source}
 use Rattle.acgrep.specs.declared.arguments.Source.TheVariants.{File}
 use Rattle.acgrep.specs.declared.files.Seen.{Seen}
@@ -60,7 +61,7 @@ message-more names all more line m = record {
 
 module _ {E : Type 0} (K : SinkGhosts E) (names : List (List ℕ)) where
   -- a message that may be told is one line
-  tells-message : (old new : Errors E) (m : Message) → IfSome m.name (MayName names) → IsToldCause m.cause → TellsBytes K old new (message_by (codes "acgrep") m) → TellsSome K (IsMessage names) old new
+  tells-message : (old new : Errors E) (m : Message) → IfSome m.name (MayName names) → (IsToldCause m.cause ⊎ IsUnopened m.name m.cause) → TellsBytes K old new (message_by (codes "acgrep") m) → TellsSome K (IsMessage names) old new
   tells-message old new m named caused told =
       some-one K (IsMessage names) old new (message_by (codes "acgrep") m) (record { message = m; name = named; cause = caused; is = refl }) told
 
@@ -69,48 +70,60 @@ module _ {E : Type 0} (K : SinkGhosts E) (names : List (List ℕ)) where
       → TellsSome K (IsMessage names) old new
   tells-memory old new reason told =
       let m : Message = record { name = None; line = None; cause = reason_text reason } in
-      tells-message old new m tt (inl (reason, refl)) told
+      tells-message old new m tt (inl (inl (reason, refl))) told
 
   pub tells-fault : (old new : Errors E) (name : List ℕ) (reason : Reason) → MayName names name
       → TellsBytes K old new (message_by (codes "acgrep") (record { name = Some name; line = None; cause = reason_text reason })) → TellsSome K (IsMessage names) old new
   tells-fault old new name reason may told =
       let m : Message = record { name = Some name; line = None; cause = reason_text reason } in
-      tells-message old new m may (inl (reason, refl)) told
+      tells-message old new m may (inl (inl (reason, refl))) told
 
   -- one of a folder that stands in itself
   pub tells-loop : (old new : Errors E) (name : List ℕ) → MayName names name
       → TellsBytes K old new (message_by (codes "acgrep") (record { name = Some name; line = None; cause = loop_text })) → TellsSome K (IsMessage names) old new
   tells-loop old new name may told =
       let m : Message = record { name = Some name; line = None; cause = loop_text } in
-      tells-message old new m may (inr (inr (inr (inl refl)))) told
+      tells-message old new m may (inl (inr (inr (inr (inl refl))))) told
 
   -- one of a file to which the output goes
   pub tells-output : (old new : Errors E) (name : List ℕ) → MayName names name
       → TellsBytes K old new (message_by (codes "acgrep") (record { name = Some name; line = None; cause = output_text })) → TellsSome K (IsMessage names) old new
   tells-output old new name may told =
       let m : Message = record { name = Some name; line = None; cause = output_text } in
-      tells-message old new m may (inr (inr (inr (inr (inl refl))))) told
+      tells-message old new m may (inl (inr (inr (inr (inr (inl refl)))))) told
 
   -- one of a pattern that holds a zero byte
   pub tells-zero : (old new : Errors E) (name : List ℕ) (line : Option ℕ) → MayName names name
       → TellsBytes K old new (message_by (codes "acgrep") (record { name = Some name; line = line; cause = zero_text })) → TellsSome K (IsMessage names) old new
   tells-zero old new name line may told =
       let m : Message = record { name = Some name; line = line; cause = zero_text } in
-      tells-message old new m may (inr (inr (inr (inr (inr refl))))) told
+      tells-message old new m may (inl (inr (inr (inr (inr (inr refl)))))) told
+
+  -- one of a file that cannot be opened: its name is why where it is not UTF-8
+  pub tells-unopened : (old new : Errors E) (name : List ℕ) (reason : Reason) → MayName names name → TellsBytes K old new (unopened_line name reason)
+      → TellsSome K (IsMessage names) old new
+  tells-unopened old new name reason may told =
+      let Line : Bool → Type 0 = λ (b : Bool). TellsBytes K old new (message_by (codes "acgrep") (record { name = Some name; line = None; cause = if b then reason_text reason else no_text_text })) in
+      elim (cases_Bool (is_utf8 name)) [
+        | inl is ↦ tells-fault old new name reason may (subst Line is told)
+        | inr other ↦
+            let m : Message = record { name = Some name; line = None; cause = no_text_text } in
+            tells-message old new m may (inr (other, refl)) (subst Line other told)
+      ]
 
   -- why the patterns are refused
   pub tells-build : (old new : Errors E) (name : List ℕ) (line : Option ℕ) (error : BuildError) → MayName names name
       → TellsBytes K old new (message_by (codes "acgrep") (record { name = Some name; line = line; cause = build_error_text error })) → TellsSome K (IsMessage names) old new
   tells-build old new name line error may told =
       let m : Message = record { name = Some name; line = line; cause = build_error_text error } in
-      tells-message old new m may (inr (inl (error, refl))) told
+      tells-message old new m may (inl (inr (inl (error, refl)))) told
 
   -- why the search is
   pub tells-search : (old new : Errors E) (error : MatchErrorKind)
       → TellsBytes K old new (message_by (codes "acgrep") (record { name = Some (codes "search"); line = None; cause = match_error_text error })) → TellsSome K (IsMessage names) old new
   tells-search old new error told =
       let m : Message = record { name = Some (codes "search"); line = None; cause = match_error_text error } in
-      tells-message old new m (inl (inr (inl refl))) (inr (inr (inl (error, refl)))) told
+      tells-message old new m (inl (inr (inl refl))) (inl (inr (inr (inl (error, refl))))) told
 
 -- an element of a list is among the names of all
 pub among-at : {X : Type 0} (f : X → List ℕ) (xs : List X) (i : ℕ) (d : X) → i < length xs → IsOneOf (f (get_or xs i d)) (map f xs)

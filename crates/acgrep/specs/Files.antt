@@ -104,6 +104,7 @@ pub record IsNamed (job : Job) (bytes : List ℕ) (later : Bool) (named : Job) :
   pub number : named.style.number ≡ job.style.number
   pub offset : named.style.offset ≡ job.style.offset
   pub color : named.style.color ≡ job.style.color
+  pub colors : named.style.colors ≡ job.style.colors
   pub first : named.first ≡ job.first
   pub most : named.most ≡ job.most
   pub hushed : named.hushed ≡ job.hushed

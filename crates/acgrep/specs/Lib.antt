@@ -2,6 +2,7 @@ pub mod Alone
 pub mod Arguments
 pub mod Backing
 pub mod Base64
+pub mod Colors
 pub mod Contexts
 pub mod Files
 pub mod Filled

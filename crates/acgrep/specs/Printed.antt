@@ -1,5 +1,5 @@
 -- What is written of a line, with what stands before it.
-use Rattle.std.specs.Prelude.{ℕ, ◌+◌, ◌%◌, ◌^◌, ◌==◌, ◌&&◌, ◌||◌, nat_le, nat_lt, Bool, true, List, [], ◌∷◌, ◌++◌, Option, Result, OnOk, codes, decimal, length, slice_range, if◌then◌else◌}
+use Rattle.std.specs.Prelude.{ℕ, ◌+◌, ◌%◌, ◌^◌, ◌==◌, ◌&&◌, ◌||◌, nat_le, nat_lt, Bool, List, [], ◌∷◌, ◌++◌, Option, Result, OnOk, codes, decimal, length, slice_range, if◌then◌else◌}
 use Rattle.std.specs.Io.KnownBytes.{Appends}
 use Rattle.std.specs.Iterator.Runs.{WholeRun}
 use Rattle.std.specs.List.{flat_map}
@@ -8,49 +8,55 @@ use Rattle.aho_core.specs.Occurrence.{Occurrence}
 use Rattle.aho_core.specs.Patterns.{Patterns}
 use Rattle.aho_automaton.specs.declared.automaton.Automaton.{Ghosts as Automata}
 use Rattle.acgrep.specs.Alone.{AreShownOf}
+use Rattle.acgrep.specs.declared.colors.Colors.{Colors}
 use Rattle.acgrep.specs.declared.print.Place.{Place}
 use Rattle.acgrep.specs.declared.print.Style.{Style}
 
--- what begins a colour of this code, and what ends each
-abbrev pub color_of : List ℕ → List ℕ
-color_of code = 27 ∷ (codes "[" ++ (code ++ (codes "m" ++ (27 ∷ codes "[K"))))
+-- what begins a colour of this code, and without one ends each; with it the rest of a line is erased where that is asked for
+abbrev pub escape_by : Colors → List ℕ → List ℕ
+escape_by colors code = 27 ∷ codes "[" ++ (code ++ (codes "m" ++ (if colors.erases then 27 ∷ codes "[K" else [])))
 
-abbrev pub no_color : List ℕ
-no_color = 27 ∷ (codes "[m" ++ (27 ∷ codes "[K"))
+-- the bytes, in a colour where colours are asked for and this one has a code
+abbrev pub painted : Style → List ℕ → List ℕ → List ℕ
+painted style code bytes =
+    if style.color && nat_lt 0 (length code) then escape_by style.colors code ++ (bytes ++ escape_by style.colors []) else bytes
 
--- the bytes, in a colour where that is asked for
-abbrev pub painted : Bool → List ℕ → List ℕ → List ℕ
-painted color start bytes = if color then start ++ (bytes ++ no_color) else bytes
+-- the code of a match: the lines around selected ones have their own
+abbrev pub match_code : Style → List ℕ
+match_code style = if style.hyphen then style.colors.beside.now else style.colors.selected.now
 
 -- a part of what stands before a line: with a colon behind it, or a hyphen
 abbrev pub part_by : Style → List ℕ → List ℕ → List ℕ
-part_by style start bytes = painted style.color start bytes ++ painted style.color (color_of (codes "36")) (if style.hyphen then codes "-" else codes ":")
+part_by style code bytes = painted style code bytes ++ painted style style.colors.separator.now (if style.hyphen then codes "-" else codes ":")
 
 -- the line between lines that do not follow one another
 abbrev pub separator_by : Style → List ℕ
-separator_by style = painted style.color (color_of (codes "36")) style.separator.now ++ codes "\n"
+separator_by style = painted style style.colors.separator.now style.separator.now ++ codes "\n"
 
-abbrev pub number_by : Style → ℕ → List ℕ
-number_by style number = part_by style (color_of (codes "32")) (decimal number)
+-- a number in the colour of this code
+abbrev pub number_by : Style → List ℕ → ℕ → List ℕ
+number_by style code number = part_by style code (decimal number)
 
 -- the file's name, and what ends it
 abbrev pub name_ended : Style → List ℕ → List ℕ
-name_ended style end = painted style.color (color_of (codes "35")) style.name.now ++ end
+name_ended style end = painted style style.colors.name.now style.name.now ++ end
 
 -- the file's name, the line's number and an offset, of which each stands there if it is asked for; a name may end in a zero byte
 abbrev pub name_part : Style → List ℕ
 name_part style =
-    if style.with_name then (if style.null then name_ended style (0 ∷ []) else part_by style (color_of (codes "35")) style.name.now) else []
+    if style.with_name then (if style.null then name_ended style (0 ∷ []) else part_by style style.colors.name.now style.name.now) else []
 
-abbrev pub number_if : Bool → Style → ℕ → List ℕ
-number_if asked style number = if asked then number_by style number else []
+abbrev pub number_if : Bool → Style → List ℕ → ℕ → List ℕ
+number_if asked style code number = if asked then number_by style code number else []
 
 -- behind these a tab where it is asked for: where one of them stands there, and what follows is not empty
 abbrev pub tab_before : Style → List ℕ → List ℕ
 tab_before style bytes = if style.tab && ((style.with_name || (style.number || style.offset)) && nat_lt 0 (length bytes)) then 9 ∷ [] else []
 
 abbrev pub head_of : Style → ℕ → ℕ → List ℕ → List ℕ
-head_of style number offset bytes = name_part style ++ (number_if style.number style number ++ (number_if style.offset style offset ++ tab_before style bytes))
+head_of style number offset bytes =
+    name_part style
+    ++ (number_if style.number style style.colors.line.now number ++ (number_if style.offset style style.colors.offset.now offset ++ tab_before style bytes))
 
 -- the number of a line; numbers wrap at 2^64
 abbrev pub line_number_at : Place → ℕ
@@ -81,29 +87,29 @@ abbrev pub match_by : Style → Place → List ℕ → Occurrence → List ℕ
 match_by style place line m =
     if m.start == m.end then []
     else head_of style (line_number_at place) (offset_at place m.start) (part_of line m.start m.end)
-    ++ (painted style.color (color_of (codes "01;31")) (part_of line m.start m.end) ++ (style.ending ∷ []))
+    ++ (painted style (match_code style) (part_of line m.start m.end) ++ (style.ending ∷ []))
 
 -- one match after another
 abbrev pub matches_by : Style → Place → List ℕ → List Occurrence → List ℕ
 matches_by style place line ms = flat_map (λ m. match_by style place line m) ms
 
 -- the line up to behind a match, from a place of it on, with the match in colour: nothing of an empty one
-abbrev pub colored_by : List ℕ → ℕ → Occurrence → List ℕ
-colored_by line at m =
-    if m.start == m.end then [] else part_of line at m.start ++ painted true (color_of (codes "01;31")) (part_of line m.start m.end)
+abbrev pub colored_by : Style → List ℕ → ℕ → Occurrence → List ℕ
+colored_by style line at m =
+    if m.start == m.end then [] else part_of line at m.start ++ painted style (match_code style) (part_of line m.start m.end)
 
 -- the place behind it
 abbrev pub behind_match : ℕ → Occurrence → ℕ
 behind_match at m = if m.start == m.end then at else m.end
 
 -- what stands in the line from a place on, with each of these matches in colour
-abbrev pub colored_from : List ℕ → ℕ → List Occurrence → List ℕ
-colored_from line at [] = part_of line at (length line)
-colored_from line at (m ∷ ms) = colored_by line at m ++ colored_from line (behind_match at m) ms
+abbrev pub colored_from : Style → List ℕ → ℕ → List Occurrence → List ℕ
+colored_from style line at [] = part_of line at (length line)
+colored_from style line at (m ∷ ms) = colored_by style line at m ++ colored_from style line (behind_match at m) ms
 
 -- a line of a file with each of these matches in colour
 abbrev pub colored_line_by : Style → Place → List ℕ → List Occurrence → List ℕ
-colored_line_by style place line ms = head_of style (line_number_at place) place.bytes line ++ (colored_from line 0 ms ++ (style.ending ∷ []))
+colored_line_by style place line ms = head_of style (line_number_at place) place.bytes line ++ (colored_from style line 0 ms ++ (style.ending ∷ []))
 
 -- the matches of a line, one after another, are written and nothing else
 pub record WritesFinds (old new : Option (List ℕ)) (p : Patterns) (alone : Bool) (style : Style) (place : Place) (line : List ℕ) : Type 0 where
@@ -112,10 +118,10 @@ pub record WritesFinds (old new : Option (List ℕ)) (p : Patterns) (alone : Boo
   pub written : Appends old new (matches_by style place line matches)
 
 -- the bytes of a line with its matches in colour are written, and nothing else
-pub record WritesColoredBytes (old new : Option (List ℕ)) (p : Patterns) (alone : Bool) (line : List ℕ) : Type 0 where
+pub record WritesColoredBytes (old new : Option (List ℕ)) (p : Patterns) (alone : Bool) (style : Style) (line : List ℕ) : Type 0 where
   pub matches : List Occurrence
   pub found : AreShownOf p alone line matches
-  pub written : Appends old new (colored_from line 0 matches)
+  pub written : Appends old new (colored_from style line 0 matches)
 
 -- a line with its matches in colour is written, and nothing else
 pub record WritesColored (old new : Option (List ℕ)) (p : Patterns) (alone : Bool) (style : Style) (place : Place) (line : List ℕ) : Type 0 where
@@ -134,9 +140,9 @@ module _ {W : Type 0} (writers : Writers W) (old new : W) where
       OnOk result (WholeRun steps matches (λ run. Appends (writers.contents old) (writers.contents new) (bytes run.items)))
 
 -- where a call does not fail the bytes of a line were written so
-abbrev pub PutsColoredBytes : {A W T E : Type 0} → Automata A → Writers W → A → Bool → List ℕ → W → W → Result T E → Type 0
-PutsColoredBytes automata writers automaton alone line old new result = (p : Patterns) → automata.is_of automaton p
-    → OnOk result (WritesColoredBytes (writers.contents old) (writers.contents new) p alone line)
+abbrev pub PutsColoredBytes : {A W T E : Type 0} → Automata A → Writers W → A → Bool → Style → List ℕ → W → W → Result T E → Type 0
+PutsColoredBytes automata writers automaton alone style line old new result = (p : Patterns) → automata.is_of automaton p
+    → OnOk result (WritesColoredBytes (writers.contents old) (writers.contents new) p alone style line)
 
 module _ {A W : Type 0} (automata : Automata A) (writers : Writers W) (automaton : A) (alone : Bool) (style : Style) (place : Place) (line : List ℕ) (old new : W) where
   -- where a call does not fail a line was written with the matches of the automaton's patterns in colour

@@ -11,6 +11,7 @@ use Rattle.acgrep.specs.Folders.{known_by}
 use Rattle.acgrep.specs.Runs.{SearchesReached}
 use Rattle.acgrep.specs.Searchers.{ForSearcher}
 use Rattle.acgrep.specs.Told.{IsMessage}
+use Rattle.acgrep.specs.declared.colors.Screen.{Screen}
 use Rattle.acgrep.specs.declared.folders.Folders.{Ghosts as FolderGhosts}
 use Rattle.acgrep.specs.declared.open.Open.{Ghosts as Openers}
 use Rattle.acgrep.specs.declared.searcher.Searcher.{Searcher}
@@ -24,7 +25,7 @@ pub record TellsMissed {E : Type 0} (K : SinkGhosts E) (hushed : Bool) (unread :
 -- files are opened and folders listed by one value, standard input is read from another, and a third is written to
 module _ {F X R W : Type 0} (openers : Openers F X) (folders : FolderGhosts F) (readers : Readers R) (sinks : SinkGhosts W) where
   -- the files that these operands name are searched by an automaton, whatever patterns it is of
-  abbrev pub SearchesOperands : F → List (Bor (List ℕ)) → Searcher → Bool → Said → R → R → W → W → ℕ → Type 0
-  SearchesOperands files names searcher terminal given input input' output output' status =
+  abbrev pub SearchesOperands : F → List (Bor (List ℕ)) → Searcher → Screen → Said → R → R → W → W → ℕ → Type 0
+  SearchesOperands files names searcher screen given input input' output output' status =
       ForSearcher searcher given.flags (λ p. status < 2
-      → SearchesReached (known_by openers folders files) terminal given p (name_bytes names) (readers.remaining input) (readers.remaining input') (sinks.taken output) (sinks.taken output') status)
+      → SearchesReached (known_by openers folders files) screen given p (name_bytes names) (readers.remaining input) (readers.remaining input') (sinks.taken output) (sinks.taken output') status)

@@ -22,6 +22,8 @@ use Rattle.acgrep.specs.declared.options.Fit.TheVariants.{AnyPart, WholeWord, Wh
 use Rattle.acgrep.specs.declared.options.Flags.{Flags}
 use Rattle.acgrep.specs.declared.options.Shown.{Shown}
 use Rattle.acgrep.specs.declared.options.Shown.TheVariants.{Lines, Matches, Objects, Count, Names, Lacking, Nothing}
+use Rattle.acgrep.specs.Colors.{colors_by, palette_of}
+use Rattle.acgrep.specs.declared.colors.Screen.{Screen}
 use Rattle.acgrep.specs.declared.format.Piece.{Piece}
 use Rattle.acgrep.specs.declared.print.Form.{Form}
 use Rattle.acgrep.specs.declared.print.Form.TheVariants.{Json, Pieces}
@@ -158,7 +160,7 @@ abbrev pub form_asked : Said → Option (List Piece)
 form_asked given = if given.flags.formatted then Some given.format else None
 
 -- what is written of each file, but for its name
-pub record IsJob (given : Said) (terminal several : Bool) (job : Job) : Type 0 where
+pub record IsJob (given : Said) (screen : Screen) (several : Bool) (job : Job) : Type 0 where
   pub shown : job.shown ≡ shown_by given.flags
   pub invert : job.invert ≡ inverts given.flags
   pub fit : job.fit ≡ fit_by given.flags
@@ -169,7 +171,9 @@ pub record IsJob (given : Said) (terminal several : Bool) (job : Job) : Type 0 w
   -- the byte that ends a line
   pub ending : job.style.ending ≡ ending_by given.flags
   pub offset : job.style.offset ≡ given.flags.offset
-  pub color : job.style.color ≡ is_colored given.flags.color terminal
+  pub color : job.style.color ≡ is_colored given.flags.color screen.colored
+  -- of which each has the code that the environment gives it
+  pub colors : palette_of job.style.colors ≡ colors_by screen.colors.now
   -- where the first line of each file stands
   pub first : job.first ≡ first_place given.flags
   -- how many lines of each are selected at most
@@ -227,28 +231,28 @@ status_reached flags [] status = status
 status_reached flags (name ∷ names) status = if flags.quiet && (status == 0) then status else 2
 
 -- these patterns were searched for in the files that these operands name, as the call says
-pub record SearchesReached (known : Known) (terminal : Bool) (given : Said) (p : Patterns) (names : List (List ℕ)) (left left' held held' : Option (List ℕ)) (status : ℕ) : Type 0 where
+pub record SearchesReached (known : Known) (screen : Screen) (given : Said) (p : Patterns) (names : List (List ℕ)) (left left' held held' : Option (List ℕ)) (status : ℕ) : Type 0 where
   pub files : List (List ℕ)
   pub unread : List (List ℕ)
   pub reached : AreReached known.tree given names files unread
   pub job : Job
-  pub is_job : IsJob given terminal (are_several given.flags names files) job
+  pub is_job : IsJob given screen (are_several given.flags names files) job
   pub found : ℕ
   pub searched : AreSearchedOr p job known.holds files left left' held held' found
   pub told : status ≡ status_reached given.flags unread found
 
 -- of some first ones of the files that these operands name that is written which is asked, or a beginning of it
-pub record BeginsReached (known : Known) (terminal : Bool) (given : Said) (p : Patterns) (names : List (List ℕ)) (left held held' : Option (List ℕ)) : Type 0 where
+pub record BeginsReached (known : Known) (screen : Screen) (given : Said) (p : Patterns) (names : List (List ℕ)) (left held held' : Option (List ℕ)) : Type 0 where
   pub files : List (List ℕ)
   pub unread : List (List ℕ)
   pub reached : AreReached known.tree given names files unread
   pub job : Job
-  pub is_job : IsJob given terminal (are_several given.flags names files) job
+  pub is_job : IsJob given screen (are_several given.flags names files) job
   pub begun : AreFilesBegun p job false known.holds files left held held'
 
 -- or nothing is
-abbrev pub BeginsOrKeeps : Known → Bool → Said → Patterns → List (List ℕ) → (left held held' : Option (List ℕ)) → Type 0
-BeginsOrKeeps known terminal given p names left held held' = Keeps held held' ⊎ BeginsReached known terminal given p names left held held'
+abbrev pub BeginsOrKeeps : Known → Screen → Said → Patterns → List (List ℕ) → (left held held' : Option (List ℕ)) → Type 0
+BeginsOrKeeps known screen given p names left held held' = Keeps held held' ⊎ BeginsReached known screen given p names left held held'
 
 -- no line is selected, whatever it holds: nothing was read and nothing written, and the status tells it
 pub record SelectsNoLine (p : Patterns) (fit : Fit) (invert : Bool) (left left' held held' : Option (List ℕ)) (status : ℕ) : Type 0 where
@@ -258,45 +262,45 @@ pub record SelectsNoLine (p : Patterns) (fit : Fit) (invert : Bool) (left left' 
   pub none : status ≡ 1
 
 -- these words were searched for so, or no line is selected by them
-abbrev pub AreSought : Known → Bool → Said → (words names : List (List ℕ)) → (left left' held held' : Option (List ℕ)) → ℕ → Type 0
-AreSought known terminal given words names left left' held held' status =
+abbrev pub AreSought : Known → Screen → Said → (words names : List (List ℕ)) → (left left' held held' : Option (List ℕ)) → ℕ → Type 0
+AreSought known screen given words names left left' held held' status =
     MatchBool (knows_none given.flags words) (SelectsNoLine (patterns_asked (kind_sought given.flags) given.flags.ignore_case words) (fit_by given.flags) (inverts given.flags) left left' held held' status)
-    (SearchesReached known terminal given (patterns_asked (kind_sought given.flags) given.flags.ignore_case words) names left left' held held' status)
+    (SearchesReached known screen given (patterns_asked (kind_sought given.flags) given.flags.ignore_case words) names left left' held held' status)
 
 -- the patterns of these sources were read, and then searched for in the files of these names
-pub record SearchesFor (known : Known) (terminal : Bool) (given : Said) (sources : List Origin) (names : List (List ℕ)) (left left' held held' : Option (List ℕ)) (status : ℕ) : Type 0 where
+pub record SearchesFor (known : Known) (screen : Screen) (given : Said) (sources : List Origin) (names : List (List ℕ)) (left left' held held' : Option (List ℕ)) (status : ℕ) : Type 0 where
   pub words : List (List ℕ)
   pub between : Option (List ℕ)
   pub read : AreWords known.holds sources left between words
-  pub searched : AreSought known terminal given (words_sought given.flags words) names between left' held held' status
+  pub searched : AreSought known screen given (words_sought given.flags words) names between left' held held' status
 
 -- what was said was searched for
-abbrev pub SearchesSaid : Known → Bool → Said → (left left' held held' : Option (List ℕ)) → ℕ → Type 0
-SearchesSaid known terminal given left left' held held' status =
-    SearchesFor known terminal given (sources_by given.sources given.operands) (names_by given.sources given.operands) left left' held held' status
+abbrev pub SearchesSaid : Known → Screen → Said → (left left' held held' : Option (List ℕ)) → ℕ → Type 0
+SearchesSaid known screen given left left' held held' status =
+    SearchesFor known screen given (sources_by given.sources given.operands) (names_by given.sources given.operands) left left' held held' status
 
 -- the status of a search, by whether finding nothing is no failure
 abbrev pub status_told : Bool → ℕ → ℕ
 status_told no_match_ok status = if no_match_ok && (status == 1) then 0 else status
 
 -- what was said was done; `left` is what the input has left, and `held` what the output holds
-abbrev pub Searches : Known → Bool → Said → (left left' held held' : Option (List ℕ)) → ℕ → Type 0
-Searches known terminal given left left' held held' status =
-    (found : ℕ) × SearchesSaid known terminal given left left' held held' found × (status ≡ status_told given.flags.no_match_ok found)
+abbrev pub Searches : Known → Screen → Said → (left left' held held' : Option (List ℕ)) → ℕ → Type 0
+Searches known screen given left left' held held' status =
+    (found : ℕ) × SearchesSaid known screen given left left' held held' found × (status ≡ status_told given.flags.no_match_ok found)
 
 -- the patterns of these sources were read, and of some first ones of the files that these operands name that is written which is
 -- asked, or a beginning of it
-pub record BeginsWords (known : Known) (terminal : Bool) (given : Said) (sources : List Origin) (names : List (List ℕ)) (left held held' : Option (List ℕ)) : Type 0 where
+pub record BeginsWords (known : Known) (screen : Screen) (given : Said) (sources : List Origin) (names : List (List ℕ)) (left held held' : Option (List ℕ)) : Type 0 where
   pub words : List (List ℕ)
   pub between : Option (List ℕ)
   pub read : AreWords known.holds sources left between words
-  pub begun : BeginsReached known terminal given (patterns_asked (kind_sought given.flags) given.flags.ignore_case (words_sought given.flags words)) names between held held'
+  pub begun : BeginsReached known screen given (patterns_asked (kind_sought given.flags) given.flags.ignore_case (words_sought given.flags words)) names between held held'
 
 -- or nothing is
-abbrev pub BeginsFor : Known → Bool → Said → List Origin → List (List ℕ) → (left held held' : Option (List ℕ)) → Type 0
-BeginsFor known terminal given sources names left held held' = Keeps held held' ⊎ BeginsWords known terminal given sources names left held held'
+abbrev pub BeginsFor : Known → Screen → Said → List Origin → List (List ℕ) → (left held held' : Option (List ℕ)) → Type 0
+BeginsFor known screen given sources names left held held' = Keeps held held' ⊎ BeginsWords known screen given sources names left held held'
 
 -- whatever comes of what was said: what is written is a beginning of what is asked
-abbrev pub BeginsSearch : Known → Bool → Said → (left held held' : Option (List ℕ)) → Type 0
-BeginsSearch known terminal given left held held' =
-    BeginsFor known terminal given (sources_by given.sources given.operands) (names_by given.sources given.operands) left held held'
+abbrev pub BeginsSearch : Known → Screen → Said → (left held held' : Option (List ℕ)) → Type 0
+BeginsSearch known screen given left held held' =
+    BeginsFor known screen given (sources_by given.sources given.operands) (names_by given.sources given.operands) left held held'

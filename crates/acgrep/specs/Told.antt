@@ -1,6 +1,7 @@
 -- What is told on standard error.
 use Rattle.std.specs.Prelude.{◌≡◌, ◌⊎◌, ℕ, ◌<◌, Bool, MatchBool, true, false, if◌then◌else◌, List, [], ◌∷◌, ◌++◌, Option, Some, None, IfSome, codes, map}
 use Rattle.std.specs.List.{concat}
+use Rattle.std.specs.Str.{is_utf8}
 use Rattle.aho_core.specs.Texts.{build_error_text, match_error_text}
 use Rattle.aho_core.specs.declared.error.BuildError.{BuildError}
 use Rattle.aho_core.specs.declared.error.MatchErrorKind.{MatchErrorKind}
@@ -41,6 +42,22 @@ output_text = codes "input file is also the output"
 abbrev pub zero_text : List ℕ
 zero_text = codes "the pattern holds a zero byte, which ends a line under -z"
 
+-- and of one whose name is not UTF-8
+abbrev pub no_text_text : List ℕ
+no_text_text = codes "its name is not UTF-8, so it cannot be opened"
+
+-- why a file of this name cannot be opened
+abbrev pub unopened_by : List ℕ → Reason → List ℕ
+unopened_by name reason = if is_utf8 name then reason_text reason else no_text_text
+
+abbrev pub unopened_line : List ℕ → Reason → List ℕ
+unopened_line name reason = message_by (codes "acgrep") (record { name = Some name; line = None; cause = unopened_by name reason })
+
+-- its name is why, and it is told only where that is so
+abbrev pub IsUnopened : Option (List ℕ) → List ℕ → Type 0
+IsUnopened None cause = ⊥
+IsUnopened (Some name) cause = (is_utf8 name ≡ false) × (cause ≡ no_text_text)
+
 -- a call of the system failed, the patterns or the search were refused, a folder stands in itself, a file is the output, or a pattern
 -- holds a zero byte
 abbrev pub IsToldCause : List ℕ → Type 0
@@ -56,7 +73,7 @@ MayName names name = IsOneOf name others_told ⊎ IsOneOf name names
 pub record IsMessage (names : List (List ℕ)) (line : List ℕ) : Type 0 where
   pub message : Message
   pub name : IfSome message.name (MayName names)
-  pub cause : IsToldCause message.cause
+  pub cause : IsToldCause message.cause ⊎ IsUnopened message.name message.cause
   pub is : line ≡ message_by (codes "acgrep") message
 
 -- why something was not done is told

@@ -208,7 +208,7 @@ fn read_long<'a>(given: &mut Given<'a>, argument: &'a [u8]) -> Result<Awaited, R
 }
 
 /// Where the first equals sign stands, or else the end.
-fn first_equals(argument: &[u8]) -> usize
+pub fn first_equals(argument: &[u8]) -> usize
     ensures place { result ≡ position_or_len is_equals argument.now }
 {
     let mut at = 0;

@@ -14,6 +14,7 @@ ghost use Rattle.acgrep.specs.Told.{TellsOfFiles, TellsOfReached};
 
 use crate::arguments::Given;
 use crate::chosen::choose;
+use crate::colors::Screen;
 use crate::failure::Stop;
 use crate::files::Files;
 use crate::folders::Folders;
@@ -33,7 +34,7 @@ use std::io::Read;
 pub fn search_operands<F: Open + Folders, R: Read, W: Sink, E: Sink>(
     searcher: &Searcher,
     given: &Given<'_>,
-    terminal: bool,
+    screen: &Screen<'_>,
     operands: &Files<'_, F>,
     input: &mut R,
     output: &mut W,
@@ -42,19 +43,19 @@ pub fn search_operands<F: Open + Folders, R: Read, W: Sink, E: Sink>(
     requires of { (p : Patterns) × IsSearcherOf p searcher.now }
     ensures bound { result ≤ 2 }
     ensures searched { SearchesOperands F.Open F.Folders R.Read W.Sink operands.now.files.now
-        operands.now.names.now searcher.now terminal (said given.now)
+        operands.now.names.now searcher.now screen.now (said given.now)
         input.old input.new output.old output.new result }
     ensures begun { ForSearcher searcher.now given.now.flags (λ p.
-        BeginsOrKeeps (known_by F.Open F.Folders operands.now.files.now) terminal (said given.now) p
+        BeginsOrKeeps (known_by F.Open F.Folders operands.now.files.now) screen.now (said given.now) p
         (name_bytes operands.now.names.now) (R.remaining input.old)
         (W.taken output.old) (W.taken output.new)) }
     ensures told { TellsOfReached E.Sink (tree_of F.Folders operands.now.files.now) (said given.now)
         (name_bytes operands.now.names.now) result errors.old errors.new }
 {
     if asks_to_look(given) {
-        return search_below(searcher, given, terminal, operands, input, output, errors);
+        return search_below(searcher, given, screen, operands, input, output, errors);
     }
-    let job = job_of(given, terminal, operands.names.len() > 1);
+    let job = job_of(given, screen, operands.names.len() > 1);
     search_by(searcher, &job, operands, input, output, errors)
 }
 
@@ -69,7 +70,7 @@ fn asks_to_look(given: &Given<'_>) -> bool
 fn search_below<F: Open + Folders, R: Read, W: Sink, E: Sink>(
     searcher: &Searcher,
     given: &Given<'_>,
-    terminal: bool,
+    screen: &Screen<'_>,
     operands: &Files<'_, F>,
     input: &mut R,
     output: &mut W,
@@ -79,10 +80,10 @@ fn search_below<F: Open + Folders, R: Read, W: Sink, E: Sink>(
     requires looks { asks_to_look (said given.now) ≡ true }
     ensures bound { result ≤ 2 }
     ensures searched { SearchesOperands F.Open F.Folders R.Read W.Sink operands.now.files.now
-        operands.now.names.now searcher.now terminal (said given.now)
+        operands.now.names.now searcher.now screen.now (said given.now)
         input.old input.new output.old output.new result }
     ensures begun { ForSearcher searcher.now given.now.flags (λ p.
-        BeginsOrKeeps (known_by F.Open F.Folders operands.now.files.now) terminal (said given.now) p
+        BeginsOrKeeps (known_by F.Open F.Folders operands.now.files.now) screen.now (said given.now) p
         (name_bytes operands.now.names.now) (R.remaining input.old)
         (W.taken output.old) (W.taken output.new)) }
     ensures told { TellsOfReached E.Sink (tree_of F.Folders operands.now.files.now) (said given.now)
@@ -97,7 +98,7 @@ fn search_below<F: Open + Folders, R: Read, W: Sink, E: Sink>(
         return 2;
     };
     let several = are_several(&given.flags, operands.names, names.as_slice());
-    let job = job_of(given, terminal, several);
+    let job = job_of(given, screen, several);
     let named = Files {
         alloc: operands.alloc,
         names: names.as_slice(),

@@ -1,9 +1,9 @@
-//! The arguments of a call, which may be any bytes.
+//! The arguments and the environment of a call, which may be any bytes.
 
 use std::alloc::{Alloc, AllocError, Global};
 use std::env::{Env, FillError};
 
-/// How long an argument may be at first.
+/// How long an argument or a value of the environment may be at first.
 const FIRST_LENGTH: usize = 4096;
 
 /// The arguments after the program's name, in order.
@@ -40,4 +40,24 @@ fn push_argument<R: Env + Alloc<A = Global>>(
         }
     }
     Ok(false)
+}
+
+/// The value of a variable of the environment: nothing where it is not set.
+pub fn variable<R: Env + Alloc<A = Global>>(rt: &R, name: &str) -> Result<Vec<u8>, AllocError> {
+    let mut buffer = Vec::new(rt.alloc());
+    buffer.resize(FIRST_LENGTH, 0)?;
+    for _ in 0..u64::MAX {
+        match rt.var(name, buffer.as_mut_slice()) {
+            Ok(length) => {
+                buffer.truncate(length);
+                return Ok(buffer);
+            }
+            Err(FillError::NotPresent) => return Ok(Vec::new(rt.alloc())),
+            Err(FillError::TooLong) => {
+                let longer = buffer.len().saturating_mul(2);
+                buffer.resize(longer, 0)?;
+            }
+        }
+    }
+    Err(AllocError)
 }

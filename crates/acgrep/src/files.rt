@@ -20,7 +20,7 @@ use crate::options::Shown;
 use crate::print::{Style, put_count, put_name};
 use crate::select::{Job, State};
 use crate::stream::search_stream;
-use crate::tell::{tell_fault, tell_memory, tell_output, tell_search, tell_write};
+use crate::tell::{tell_fault, tell_memory, tell_output, tell_search, tell_unopened, tell_write};
 use chromesquid::{Sink, write_whole};
 use programs::errors::Errors;
 use programs::reason::Reason;
@@ -338,7 +338,7 @@ fn search_named<A: Lister, F: Open, W: Sink, E: Sink>(
         ),
         Err(error) => {
             let _ = output.flush();
-            tell_unread(job, Reason::of(&error), errors);
+            tell_closed(job, Reason::of(&error), errors);
             Outcome::Unread
         }
     }
@@ -514,6 +514,17 @@ fn tell_unread<E: Sink>(job: &Job<'_>, reason: Reason, errors: &mut Errors<'_, E
     tell_fault(job.style.name, reason, errors);
 }
 
+/// Tells why a file cannot be opened, if that is asked for.
+fn tell_closed<E: Sink>(job: &Job<'_>, reason: Reason, errors: &mut Errors<'_, E>)
+    ensures told { TellsOfOutcome E.Sink job.now.hushed job.now.style.name.now (stopped_if false)
+        errors.old errors.new }
+{
+    if job.hushed {
+        return;
+    }
+    tell_unopened(job.style.name, reason, errors);
+}
+
 /// Tells that the output goes to a file, if that is asked for.
 fn tell_same<E: Sink>(job: &Job<'_>, errors: &mut Errors<'_, E>)
     ensures told { TellsOfOutcome E.Sink job.now.hushed job.now.style.name.now (stopped_if false)
@@ -578,6 +589,7 @@ fn job_for<'a>(job: &Job<'a>, name: &'a [u8], follows: bool) -> Job<'a>
             number: job.style.number,
             offset: job.style.offset,
             color: job.style.color,
+            colors: job.style.colors,
             hyphen: job.style.hyphen,
             tab: job.style.tab,
             separator: job.style.separator,

@@ -135,7 +135,7 @@ fn put_bytes<W: Write>(output: &mut W, bytes: &[u8]) -> io::Result<()>
 }
 
 /// Whether bytes are UTF-8.
-fn is_text(bytes: &[u8]) -> bool
+pub fn is_text(bytes: &[u8]) -> bool
     ensures text { result ≡ is_utf8 bytes.now }
 {
     match str::from_utf8(bytes) {

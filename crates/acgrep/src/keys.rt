@@ -13,7 +13,7 @@ ghost use Rattle.acgrep.specs.Told.{MayName, TellsOfFile, TellsOfSources, source
 use crate::arguments::Source;
 use crate::open::Open;
 use crate::patterns::Keys;
-use crate::tell::{tell_build, tell_fault, tell_memory, tell_zero};
+use crate::tell::{tell_build, tell_memory, tell_unopened, tell_zero};
 use chromesquid::{BuildError, Sink};
 use memchr::memchr_iter;
 use programs::errors::Errors;
@@ -60,7 +60,7 @@ fn tell_source<E: Sink>(source: Source<'_>, reason: Reason, errors: &mut Errors<
 {
     match source {
         Source::Text(_) => tell_memory(errors),
-        Source::File(name) => tell_fault(name, reason, errors),
+        Source::File(name) => tell_unopened(name, reason, errors),
     }
 }
 

@@ -44,13 +44,18 @@ pub fn put_listed_objects<W: Write>(
 }
 
 /// Writes the bytes of a line with these matches of it coloured.
-pub fn put_listed_colors<W: Write>(output: &mut W, line: &[u8], matches: &[Match]) -> io::Result<()>
+pub fn put_listed_colors<W: Write>(
+    output: &mut W,
+    style: &Style<'_>,
+    line: &[u8],
+    matches: &[Match],
+) -> io::Result<()>
     ensures written { Puts W.Write output.old output.new result
-        (colored_from line.now 0 matches.now) }
+        (colored_from style.now line.now 0 matches.now) }
 {
     let mut at = 0;
     for found in matches {
-        at = put_up_to(output, line, at, found)?;
+        at = put_up_to(output, style, line, at, found)?;
     }
     output.write_all(part(line, at, line.len()))?;
     Ok(())

@@ -12,6 +12,7 @@ mod below;
 mod buffer;
 mod bytes;
 mod chosen;
+mod colors;
 mod context;
 mod failure;
 mod fields;
@@ -39,8 +40,9 @@ mod tell;
 mod trail;
 mod walk;
 
-use bytes::arguments;
+use bytes::{arguments, variable};
 use chromesquid::FromWrite;
+use colors::Screen;
 use open::System;
 use programs::closed::{Noted, Quiet};
 use programs::errors::Errors;
@@ -59,7 +61,13 @@ fn main(rt: HostRuntime) -> ExitCode {
     let Ok(given) = arguments(&rt) else {
         return ExitCode::from(refuse(&mut errors));
     };
-    let terminal = rt.stdout().is_terminal() && has_colors(&rt);
+    let Ok(colors) = variable(&rt, "GREP_COLORS") else {
+        return ExitCode::from(refuse(&mut errors));
+    };
+    let screen = Screen {
+        colored: rt.stdout().is_terminal() && has_colors(&rt),
+        colors: colors.as_slice(),
+    };
     let noted = Noted::new(rt.stdout(), &reason);
     let Ok(output) = BufWriter::with_capacity(rt.alloc(), OUTPUT_CAPACITY, noted) else {
         return ExitCode::from(refuse(&mut errors));
@@ -67,7 +75,7 @@ fn main(rt: HostRuntime) -> ExitCode {
     let status = run(
         rt.alloc(),
         given.as_slice(),
-        terminal,
+        &screen,
         &System::new(&rt),
         &mut rt.stdin(),
         &mut FromWrite::new(output),

@@ -3,10 +3,11 @@
 ghost use Rattle.std.specs.Iterator.{IsFinite};
 ghost use Rattle.std.specs.Prelude.{◌≡◌, ◌≤◌, IfOk, decimal, drop, true};
 ghost use Rattle.aho_core.specs.Patterns.{Patterns};
-ghost use Rattle.acgrep.specs.Printed.{Puts, PutsColored, PutsColoredBytes, PutsEach, PutsFinds, behind_match, colored_by, colored_from, count_by, file_line, head_of, line_by, match_by, matches_by, name_ended, name_part, number_by, number_if, painted, part_by, part_of, separator_by, tab_before};
+ghost use Rattle.acgrep.specs.Printed.{Puts, PutsColored, PutsColoredBytes, PutsEach, PutsFinds, behind_match, colored_by, colored_from, count_by, escape_by, file_line, head_of, line_by, match_by, match_code, matches_by, name_ended, name_part, number_by, number_if, painted, part_by, part_of, separator_by, tab_before};
 
 use crate::alone::{behind_alone, next_alone};
 use crate::backed::Lister;
+use crate::colors::Colors;
 use crate::failure::Stop;
 use crate::format::Piece;
 use crate::listed::{put_listed, put_listed_colors};
@@ -17,17 +18,6 @@ use std::io::Write;
 
 /// The room for a number's digits.
 pub const DIGITS: usize = 20;
-
-/// What begins each colour, and what ends it.
-const NAME_COLOR: &[u8] = b"\x1b[35m\x1b[K";
-
-const NUMBER_COLOR: &[u8] = b"\x1b[32m\x1b[K";
-
-const SEPARATOR_COLOR: &[u8] = b"\x1b[36m\x1b[K";
-
-const MATCH_COLOR: &[u8] = b"\x1b[01;31m\x1b[K";
-
-const NO_COLOR: &[u8] = b"\x1b[m\x1b[K";
 
 /// What stands before a line.
 #[derive(Clone, Copy)]
@@ -46,6 +36,8 @@ pub struct Style<'a> {
     pub tab: bool,
     /// Whether all that is coloured.
     pub color: bool,
+    /// The code of each colour.
+    pub colors: Colors<'a>,
     /// Whether a hyphen stands behind each part but a zero byte, as in the lines around selected ones, and else a colon.
     pub hyphen: bool,
     /// The byte that ends a line: a newline, or under `-z` a zero byte.
@@ -74,33 +66,62 @@ pub struct Place {
     pub bytes: u64,
 }
 
-/// Writes bytes, in a colour where that is asked for.
-fn put_painted<W: Write>(output: &mut W, color: bool, start: &[u8], bytes: &[u8]) -> io::Result<()>
+/// Writes what begins a colour of this code, or, where it is empty, what ends each.
+fn put_escape<W: Write>(output: &mut W, style: &Style<'_>, code: &[u8]) -> io::Result<()>
     ensures written { Puts W.Write output.old output.new result
-        (painted color start.now bytes.now) }
+        (escape_by style.now.colors code.now) }
 {
-    if !color {
-        return output.write_all(bytes);
+    output.write_all(b"\x1b[")?;
+    output.write_all(code)?;
+    output.write_all(b"m")?;
+    if style.colors.erases {
+        return output.write_all(b"\x1b[K");
     }
-    output.write_all(start)?;
-    output.write_all(bytes)?;
-    output.write_all(NO_COLOR)?;
     Ok(())
+}
+
+/// Writes bytes, in a colour where colours are asked for and this one has a code.
+fn put_painted<W: Write>(
+    output: &mut W,
+    style: &Style<'_>,
+    code: &[u8],
+    bytes: &[u8],
+) -> io::Result<()>
+    ensures written { Puts W.Write output.old output.new result
+        (painted style.now code.now bytes.now) }
+{
+    if style.color && !code.is_empty() {
+        put_escape(output, style, code)?;
+        output.write_all(bytes)?;
+        return put_escape(output, style, b"");
+    }
+    output.write_all(bytes)
+}
+
+/// The code of a match: the lines around selected ones have their own.
+fn match_code<'a>(style: &Style<'a>) -> &'a [u8]
+    ensures code { result.now ≡ match_code style.now }
+{
+    if style.hyphen {
+        style.colors.beside
+    } else {
+        style.colors.selected
+    }
 }
 
 /// Writes a part of what stands before a line, and a colon or a hyphen.
 fn put_part<W: Write>(
     output: &mut W,
     style: &Style<'_>,
-    start: &[u8],
+    code: &[u8],
     bytes: &[u8],
 ) -> io::Result<()>
     ensures written { Puts W.Write output.old output.new result
-        (part_by style.now start.now bytes.now) }
+        (part_by style.now code.now bytes.now) }
 {
-    put_painted(output, style.color, start, bytes)?;
+    put_painted(output, style, code, bytes)?;
     let mark = if style.hyphen { b"-" } else { b":" };
-    put_painted(output, style.color, SEPARATOR_COLOR, mark)?;
+    put_painted(output, style, style.colors.separator, mark)?;
     Ok(())
 }
 
@@ -109,7 +130,7 @@ pub fn put_separator<W: Write>(output: &mut W, style: &Style<'_>) -> io::Result<
     ensures written { Puts W.Write output.old output.new result
         (separator_by style.now) }
 {
-    put_painted(output, style.color, SEPARATOR_COLOR, style.separator)?;
+    put_painted(output, style, style.colors.separator, style.separator)?;
     output.write_all(b"\n")?;
     Ok(())
 }
@@ -123,13 +144,18 @@ pub fn put_digits(number: u64, room: &mut [u8; DIGITS]) -> usize
 }
 
 /// Writes a number, and a colon or a hyphen.
-fn put_number<W: Write>(output: &mut W, style: &Style<'_>, number: u64) -> io::Result<()>
+fn put_number<W: Write>(
+    output: &mut W,
+    style: &Style<'_>,
+    code: &[u8],
+    number: u64,
+) -> io::Result<()>
     ensures written { Puts W.Write output.old output.new result
-        (number_by style.now number) }
+        (number_by style.now code.now number) }
 {
     let mut digits = [0; DIGITS];
     let start = put_digits(number, &mut digits);
-    put_part(output, style, NUMBER_COLOR, &digits[start..])
+    put_part(output, style, code, &digits[start..])
 }
 
 /// Writes what stands before a line, or before a match that begins at a place of it.
@@ -144,8 +170,8 @@ fn put_head<W: Write>(
         (head_of style.now number offset bytes.now) }
 {
     put_file(output, style)?;
-    put_if(output, style.number, style, number)?;
-    put_if(output, style.offset, style, offset)?;
+    put_if(output, style.number, style, style.colors.line, number)?;
+    put_if(output, style.offset, style, style.colors.offset, offset)?;
     put_tab(output, style, bytes)?;
     Ok(())
 }
@@ -172,16 +198,22 @@ fn put_file<W: Write>(output: &mut W, style: &Style<'_>) -> io::Result<()>
     if style.null {
         return put_ended(output, style, b"\0");
     }
-    put_part(output, style, NAME_COLOR, style.name)
+    put_part(output, style, style.colors.name, style.name)
 }
 
 /// Writes a number where it is asked for.
-fn put_if<W: Write>(output: &mut W, asked: bool, style: &Style<'_>, number: u64) -> io::Result<()>
+fn put_if<W: Write>(
+    output: &mut W,
+    asked: bool,
+    style: &Style<'_>,
+    code: &[u8],
+    number: u64,
+) -> io::Result<()>
     ensures written { Puts W.Write output.old output.new result
-        (number_if asked style.now number) }
+        (number_if asked style.now code.now number) }
 {
     if asked {
-        return put_number(output, style, number);
+        return put_number(output, style, code, number);
     }
     Ok(())
 }
@@ -239,7 +271,7 @@ pub fn put_colored_line<A: Lister, W: Write>(
         place.bytes,
         line,
     )?;
-    put_colored_bytes(automaton, output, alone, line)?;
+    put_colored_bytes(automaton, output, alone, style, line)?;
     output.write_all(&[style.ending])?;
     Ok(())
 }
@@ -249,21 +281,22 @@ fn put_colored_bytes<A: Lister, W: Write>(
     automaton: &A,
     output: &mut W,
     alone: bool,
+    style: &Style<'_>,
     line: &[u8],
 ) -> Result<(), Stop>
     requires of { (p : Patterns) × A.is_of automaton.now p }
     ensures written { PutsColoredBytes A.Automaton W.Write automaton.now
-        alone line.now output.old output.new result }
+        alone style.now line.now output.old output.new result }
 {
     if alone {
-        return put_colored_alone(automaton, output, line);
+        return put_colored_alone(automaton, output, style, line);
     }
     if let Some(found) = automaton.list_finds(line) {
-        put_listed_colors(output, line, found.as_slice())?;
+        put_listed_colors(output, style, line, found.as_slice())?;
         return Ok(());
     }
     let matches = automaton.try_find_iter(Input::new(line))?;
-    put_colored(output, line, matches)?;
+    put_colored(output, style, line, matches)?;
     Ok(())
 }
 
@@ -271,16 +304,17 @@ fn put_colored_bytes<A: Lister, W: Write>(
 fn put_colored_alone<A: Automaton, W: Write>(
     automaton: &A,
     output: &mut W,
+    style: &Style<'_>,
     line: &[u8],
 ) -> Result<(), Stop>
     requires of { (p : Patterns) × A.is_of automaton.now p }
     ensures written { PutsColoredBytes A.Automaton W.Write automaton.now
-        true line.now output.old output.new result }
+        true style.now line.now output.old output.new result }
 {
     let mut at = 0;
     let mut from = 0;
     while let Some(found) = next_alone(automaton, line, from)? {
-        at = put_up_to(output, line, at, &found)?;
+        at = put_up_to(output, style, line, at, &found)?;
         from = behind_alone(&found);
     }
     output.write_all(part(line, at, line.len()))?;
@@ -290,17 +324,18 @@ fn put_colored_alone<A: Automaton, W: Write>(
 /// Writes the bytes of a line with some matches of it coloured.
 fn put_colored<W: Write, I: Iterator<Item = Match> + Drop>(
     output: &mut W,
+    style: &Style<'_>,
     line: &[u8],
     matches: I,
 ) -> io::Result<()>
     requires ready { I.can_next matches }
     requires finite { IsFinite (I.remaining matches) }
     ensures written { PutsEach W.Write output.old output.new
-        I.next_gives matches result (colored_from line.now 0) }
+        I.next_gives matches result (colored_from style.now line.now 0) }
 {
     let mut at = 0;
     for found in matches {
-        at = put_up_to(output, line, at, &found)?;
+        at = put_up_to(output, style, line, at, &found)?;
     }
     output.write_all(part(line, at, line.len()))?;
     Ok(())
@@ -310,13 +345,14 @@ fn put_colored<W: Write, I: Iterator<Item = Match> + Drop>(
 /// changes nothing.
 pub fn put_up_to<W: Write>(
     output: &mut W,
+    style: &Style<'_>,
     line: &[u8],
     at: usize,
     found: &Match,
 ) -> io::Result<usize>
     ensures behind { IfOk result (λ behind. behind ≡ behind_match at found.now) }
     ensures written { Puts W.Write output.old output.new result
-        (colored_by line.now at found.now) }
+        (colored_by style.now line.now at found.now) }
 {
     let start = found.start();
     let end = found.end();
@@ -324,7 +360,7 @@ pub fn put_up_to<W: Write>(
         return Ok(at);
     }
     output.write_all(part(line, at, start))?;
-    put_painted(output, true, MATCH_COLOR, part(line, start, end))?;
+    put_painted(output, style, match_code(style), part(line, start, end))?;
     Ok(end)
 }
 
@@ -411,7 +447,7 @@ pub fn put_match<W: Write>(
     let offset = place.bytes.wrapping_add(start as u64);
     let bytes = part(line, start, end);
     put_head(output, style, place.lines.wrapping_add(1), offset, bytes)?;
-    put_painted(output, style.color, MATCH_COLOR, bytes)?;
+    put_painted(output, style, match_code(style), bytes)?;
     output.write_all(&[style.ending])?;
     Ok(())
 }
@@ -445,7 +481,7 @@ fn put_ended<W: Write>(output: &mut W, style: &Style<'_>, end: &[u8]) -> io::Res
     ensures written { Puts W.Write output.old output.new result
         (name_ended style.now end.now) }
 {
-    put_painted(output, style.color, NAME_COLOR, style.name)?;
+    put_painted(output, style, style.colors.name, style.name)?;
     output.write_all(end)?;
     Ok(())
 }

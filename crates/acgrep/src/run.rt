@@ -18,6 +18,7 @@ ghost use Rattle.acgrep.specs.Searchers.{ForSearch, IsSearcherOf};
 
 use crate::arguments::{Given, Refusal, Source, Wrong, parse};
 use crate::below::search_operands;
+use crate::colors::{Screen, read_colors};
 use crate::files::{Files, search_files};
 use crate::folders::Folders;
 use crate::help::{HELP, VERSION};
@@ -35,11 +36,11 @@ use std::alloc::Global;
 use std::io::Read;
 
 /// Does what the arguments after the program's name ask for, and answers the exit status: 0 where a line was selected, 1 where
-/// none was, or 0 there too under `--no-match-ok`, and 2 where an error occurred. `terminal` says whether the output is a terminal with colours.
+/// none was, or 0 there too under `--no-match-ok`, and 2 where an error occurred. `screen` says what is known of the output's colours.
 pub fn run<F: Open + Folders, R: Read, W: Sink, E: Sink>(
     alloc: Global,
     arguments: &[Vec<u8>],
-    terminal: bool,
+    screen: &Screen<'_>,
     files: &F,
     input: &mut R,
     output: &mut W,
@@ -63,14 +64,14 @@ pub fn run<F: Open + Folders, R: Read, W: Sink, E: Sink>(
 
     // Where the status tells of no error, the patterns were searched for in the files, one after another.
     ensures searches { IfSaid arguments.now (λ said. AsksToSearch said.flags → result < 2
-        → Searches (known_by F.Open F.Folders files.now) terminal said
+        → Searches (known_by F.Open F.Folders files.now) screen.now said
         (R.remaining input.old) (R.remaining input.new)
         (W.taken output.old) (W.taken output.new) result) }
 
     // Whatever the status, what is written is a beginning of what is asked: the files are told one after another, and one that
     // cannot be read, or to whose end the output cannot be written, by some first lines and a beginning of what follows.
     ensures begins { IfSaid arguments.now (λ said. AsksToSearch said.flags
-        → BeginsSearch (known_by F.Open F.Folders files.now) terminal said
+        → BeginsSearch (known_by F.Open F.Folders files.now) screen.now said
         (R.remaining input.old) (W.taken output.old) (W.taken output.new)) }
 
     // Where the status tells of no error nothing is told, but under `-q` of files that cannot be read. Where it tells of one, a line
@@ -87,7 +88,7 @@ pub fn run<F: Open + Folders, R: Read, W: Sink, E: Sink>(
 {
     match parse(alloc, arguments) {
         Ok(given) => {
-            let status = answer(alloc, &given, terminal, files, input, output, errors);
+            let status = answer(alloc, &given, screen, files, input, output, errors);
             finish(status, output, errors)
         }
         Err(refusal) => {
@@ -142,7 +143,7 @@ fn finish<W: Sink, E: Sink>(status: u8, output: &mut W, errors: &mut Errors<'_, 
 fn answer<F: Open + Folders, R: Read, W: Sink, E: Sink>(
     alloc: Global,
     given: &Given<'_>,
-    terminal: bool,
+    screen: &Screen<'_>,
     files: &F,
     input: &mut R,
     output: &mut W,
@@ -153,11 +154,11 @@ fn answer<F: Open + Folders, R: Read, W: Sink, E: Sink>(
     ensures lacking { AsksToSearch given.now.flags → GivesNone (said given.now)
         → TellsNoPattern E.Sink errors.old errors.new }
     ensures searches { AsksToSearch given.now.flags → result < 2
-        → Searches (known_by F.Open F.Folders files.now) terminal (said given.now)
+        → Searches (known_by F.Open F.Folders files.now) screen.now (said given.now)
         (R.remaining input.old) (R.remaining input.new)
         (W.taken output.old) (W.taken output.new) result }
     ensures begins { AsksToSearch given.now.flags
-        → BeginsSearch (known_by F.Open F.Folders files.now) terminal (said given.now)
+        → BeginsSearch (known_by F.Open F.Folders files.now) screen.now (said given.now)
         (R.remaining input.old) (W.taken output.old) (W.taken output.new) }
     ensures told { TellsOfCall E.Sink (tree_of F.Folders files.now) (said given.now) result errors.old errors.new }
 {
@@ -167,7 +168,7 @@ fn answer<F: Open + Folders, R: Read, W: Sink, E: Sink>(
     if given.flags.help {
         return write_text(HELP, output, errors);
     }
-    let status = search_asked(alloc, given, terminal, files, input, output, errors);
+    let status = search_asked(alloc, given, screen, files, input, output, errors);
     status_told(given.flags.no_match_ok, status)
 }
 
@@ -185,7 +186,7 @@ fn status_told(no_match_ok: bool, status: u8) -> u8
 fn search_asked<F: Open + Folders, R: Read, W: Sink, E: Sink>(
     alloc: Global,
     given: &Given<'_>,
-    terminal: bool,
+    screen: &Screen<'_>,
     files: &F,
     input: &mut R,
     output: &mut W,
@@ -195,10 +196,10 @@ fn search_asked<F: Open + Folders, R: Read, W: Sink, E: Sink>(
     ensures patternless { GivesNone (said given.now) → result ≡ 2 }
     ensures lacking { GivesNone (said given.now)
         → TellsNoPattern E.Sink errors.old errors.new }
-    ensures searches { result < 2 → SearchesSaid (known_by F.Open F.Folders files.now) terminal (said given.now)
+    ensures searches { result < 2 → SearchesSaid (known_by F.Open F.Folders files.now) screen.now (said given.now)
         (R.remaining input.old) (R.remaining input.new)
         (W.taken output.old) (W.taken output.new) result }
-    ensures begins { BeginsSearch (known_by F.Open F.Folders files.now) terminal (said given.now)
+    ensures begins { BeginsSearch (known_by F.Open F.Folders files.now) screen.now (said given.now)
         (R.remaining input.old) (W.taken output.old) (W.taken output.new) }
     ensures told { TellsOfCall E.Sink (tree_of F.Folders files.now) (said given.now) result errors.old errors.new }
 {
@@ -206,14 +207,14 @@ fn search_asked<F: Open + Folders, R: Read, W: Sink, E: Sink>(
     let operands = given.operands.as_slice();
     if !sources.is_empty() {
         return search(
-            alloc, given, terminal, sources, operands, files, input, output, errors,
+            alloc, given, screen, sources, operands, files, input, output, errors,
         );
     }
     match operands.split_first() {
         Some((pattern, names)) => {
             let first = [Source::Text(*pattern)];
             search(
-                alloc, given, terminal, &first, names, files, input, output, errors,
+                alloc, given, screen, &first, names, files, input, output, errors,
             )
         }
         None => {
@@ -246,7 +247,7 @@ fn write_text<W: Sink, E: Sink>(text: &[u8], output: &mut W, errors: &mut Errors
 fn search<F: Open + Folders, R: Read, W: Sink, E: Sink>(
     alloc: Global,
     given: &Given<'_>,
-    terminal: bool,
+    screen: &Screen<'_>,
     sources: &[Source<'_>],
     names: &[&[u8]],
     files: &F,
@@ -255,11 +256,11 @@ fn search<F: Open + Folders, R: Read, W: Sink, E: Sink>(
     errors: &mut Errors<'_, E>,
 ) -> u8
     ensures bound { result ≤ 2 }
-    ensures searches { result < 2 → SearchesFor (known_by F.Open F.Folders files.now) terminal (said given.now)
+    ensures searches { result < 2 → SearchesFor (known_by F.Open F.Folders files.now) screen.now (said given.now)
         (origins_of sources.now) (name_bytes names.now)
         (R.remaining input.old) (R.remaining input.new)
         (W.taken output.old) (W.taken output.new) result }
-    ensures begins { BeginsFor (known_by F.Open F.Folders files.now) terminal (said given.now)
+    ensures begins { BeginsFor (known_by F.Open F.Folders files.now) screen.now (said given.now)
         (origins_of sources.now) (name_bytes names.now)
         (R.remaining input.old) (W.taken output.old) (W.taken output.new) }
     ensures told { TellsOfSearch E.Sink (tree_of F.Folders files.now) (said given.now)
@@ -287,9 +288,9 @@ fn search<F: Open + Folders, R: Read, W: Sink, E: Sink>(
         names,
         files,
     };
-    let listed = lists_finds(flags, terminal);
+    let listed = lists_finds(flags, screen.colored);
     match Searcher::build(alloc, kind_sought(flags), flags.ignore_case, words, listed) {
-        Ok(searcher) => search_operands(&searcher, given, terminal, &named, input, output, errors),
+        Ok(searcher) => search_operands(&searcher, given, screen, &named, input, output, errors),
         Err(error) => {
             tell_refusal(&keys, sources, &error, errors);
             2
@@ -414,8 +415,8 @@ fn lists_finds(flags: &Flags, terminal: bool) -> bool
 }
 
 /// What is written of each file, but for its name. `several` says whether names stand before lines where nothing is said of that.
-pub fn job_of<'a>(given: &'a Given<'_>, terminal: bool, several: bool) -> Job<'a>
-    ensures job { IsJob (said given.now) terminal several result }
+pub fn job_of<'a>(given: &'a Given<'_>, screen: &Screen<'a>, several: bool) -> Job<'a>
+    ensures job { IsJob (said given.now) screen.now several result }
 {
     let flags = &given.flags;
     Job {
@@ -428,7 +429,8 @@ pub fn job_of<'a>(given: &'a Given<'_>, terminal: bool, several: bool) -> Job<'a
             null: flags.null,
             number: flags.number,
             offset: flags.offset,
-            color: is_colored(flags.color, terminal),
+            color: is_colored(flags.color, screen.colored),
+            colors: read_colors(screen.colors),
             hyphen: false,
             tab: flags.tab,
             ending: flags.ending(),

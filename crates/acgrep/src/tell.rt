@@ -1,13 +1,14 @@
 //! What is told on standard error: why something was not done.
 
 ghost use Rattle.acgrep.specs.Mistakes.{memory_line};
-ghost use Rattle.acgrep.specs.Told.{TellsCause, TellsOfFile, TellsOfNamed, TellsWrong, number_parts, unargued_parts, valued_name};
+ghost use Rattle.acgrep.specs.Told.{TellsCause, TellsOfFile, TellsOfNamed, TellsWrong, number_parts, unargued_parts, unopened_by, unopened_line, valued_name};
 ghost use Rattle.std.specs.List.{concat};
 ghost use Rattle.programs.specs.Telling.{TellsBytes};
 ghost use Rattle.std.specs.Prelude.{◌≡◌};
 
 use crate::arguments::Wrong;
 use crate::help::USAGE;
+use crate::json::is_text;
 use crate::long::Valued;
 use chromesquid::{BuildError, MatchError, Sink};
 use programs::errors::Errors;
@@ -22,6 +23,9 @@ const SAME: &[u8] = b"input file is also the output";
 /// What is told of a pattern that holds a zero byte where that ends a line.
 const ZERO: &[u8] = b"the pattern holds a zero byte, which ends a line under -z";
 
+/// What is told of a file whose name is not UTF-8.
+const NO_TEXT: &[u8] = b"its name is not UTF-8, so it cannot be opened";
+
 /// The program's name.
 const PROGRAM: &[u8] = b"acgrep";
 
@@ -33,11 +37,30 @@ pub fn tell_memory<E: Sink>(errors: &mut Errors<'_, E>)
     errors.tell(PROGRAM, None, None, Reason::OutOfMemory.text().as_bytes());
 }
 
-/// Tells why a file of this name cannot be opened or read.
+/// Tells why what is called so cannot be read.
 pub fn tell_fault<E: Sink>(name: &[u8], reason: Reason, errors: &mut Errors<'_, E>)
     ensures told { TellsOfFile E.Sink name.now errors.old errors.new }
 {
     errors.tell(PROGRAM, Some(name), None, reason.text().as_bytes());
+}
+
+/// Tells why a file of this name cannot be opened, read or looked at. A name that is not UTF-8 is a reason of its own.
+pub fn tell_unopened<E: Sink>(name: &[u8], reason: Reason, errors: &mut Errors<'_, E>)
+    ensures told { TellsOfFile E.Sink name.now errors.old errors.new }
+    ensures exact { TellsBytes E.Sink errors.old errors.new (unopened_line name.now reason) }
+{
+    errors.tell(PROGRAM, Some(name), None, cause_of(name, reason));
+}
+
+/// Why a file of this name cannot be opened.
+fn cause_of(name: &[u8], reason: Reason) -> &'static [u8]
+    ensures cause { result.now ≡ unopened_by name.now reason }
+{
+    if is_text(name) {
+        reason.text().as_bytes()
+    } else {
+        NO_TEXT
+    }
 }
 
 /// Tells why a name below a folder was passed over. No reason means that it is a folder in which it stands itself.
@@ -45,7 +68,7 @@ pub fn tell_missed<E: Sink>(name: &[u8], reason: Option<Reason>, errors: &mut Er
     ensures told { TellsOfFile E.Sink name.now errors.old errors.new }
 {
     match reason {
-        Some(reason) => tell_fault(name, reason, errors),
+        Some(reason) => tell_unopened(name, reason, errors),
         None => errors.tell(PROGRAM, Some(name), None, LOOP),
     }
 }

@@ -59,7 +59,7 @@ returns-clause-searched g c = λ p is plain low.
     let searched : name_bytes c.as_slice-3.result.now ≡ files = ap name_bytes c.as_slice-3.ensures.value ∙ listed in
     let found = c.search_found-status.result in
     let several : c.are_several-several.result ≡ are_several flags names files = c.are_several-several.ensures.several ∙ ap (are_several flags names) (ap name_bytes c.as_slice-2.ensures.value ∙ listed) in
-    let is_job : IsJob given c.args.terminal (are_several flags names files) c.job_of-job.result = subst (λ (b : Bool). IsJob given c.args.terminal b c.job_of-job.result) several c.job_of-job.ensures.job in
+    let is_job : IsJob given c.args.screen.now (are_several flags names files) c.job_of-job.result = subst (λ (b : Bool). IsJob given c.args.screen.now b c.job_of-job.result) several c.job_of-job.ensures.job in
     let status : c.status_below.result ≡ status_reached flags unread found = c.status_below.ensures.status ∙ ap (λ l. status_reached flags (missed_of l) found) c.as_slice-5.ensures.value in
     record {
       files = files;
@@ -88,7 +88,7 @@ returns-clause-begun g c = λ p is plain.
     let searched : name_bytes c.as_slice-3.result.now ≡ files = ap name_bytes c.as_slice-3.ensures.value ∙ listed in
     let found = c.search_found-status.result in
     let several : c.are_several-several.result ≡ are_several flags names files = c.are_several-several.ensures.several ∙ ap (are_several flags names) (ap name_bytes c.as_slice-2.ensures.value ∙ listed) in
-    let is_job : IsJob given c.args.terminal (are_several flags names files) c.job_of-job.result = subst (λ (b : Bool). IsJob given c.args.terminal b c.job_of-job.result) several c.job_of-job.ensures.job in
+    let is_job : IsJob given c.args.screen.now (are_several flags names files) c.job_of-job.result = subst (λ (b : Bool). IsJob given c.args.screen.now b c.job_of-job.result) several c.job_of-job.ensures.job in
     inr (record {
       files = files;
       unread = unread;

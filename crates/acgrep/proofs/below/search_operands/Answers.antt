@@ -20,7 +20,7 @@ returns-clause-searched g c = λ p is plain low.
       unread = [];
       reached = reached-plain (tree_of g.F.Folders c.args.operands.now.files.now) given (name_bytes names) none;
       job = c.job_of-job.result;
-      is_job = subst (λ (b : Bool). IsJob given c.args.terminal b c.job_of-job.result) (several-plain flags names (or_input (name_bytes names)) (looks-not given none).0) c.job_of-job.ensures.job;
+      is_job = subst (λ (b : Bool). IsJob given c.args.screen.now b c.job_of-job.result) (several-plain flags names (or_input (name_bytes names)) (looks-not given none).0) c.job_of-job.ensures.job;
       found = c.search_by.result;
       searched = c.search_by.ensures.searched p is free low;
       told = refl;
@@ -38,7 +38,7 @@ returns-clause-begun g c = λ p is plain.
       unread = [];
       reached = reached-plain (tree_of g.F.Folders c.args.operands.now.files.now) given (name_bytes names) none;
       job = c.job_of-job.result;
-      is_job = subst (λ (b : Bool). IsJob given c.args.terminal b c.job_of-job.result) (several-plain flags names (or_input (name_bytes names)) (looks-not given none).0) c.job_of-job.ensures.job;
+      is_job = subst (λ (b : Bool). IsJob given c.args.screen.now b c.job_of-job.result) (several-plain flags names (or_input (name_bytes names)) (looks-not given none).0) c.job_of-job.ensures.job;
       begun = c.search_by.ensures.begun p is free;
     })
 

@@ -13,8 +13,8 @@ loop-found-preserved g c =
     let i = c.loop-found.found-index in
     let inside : i < length ms = grind (arith, common_steps, c.loop-found-test.true) in
     let more : take (i + 1) ms ≡ take i ms ++ (c.found-item.result ∷ []) = take_more ms i _ inside ∙ ap (λ (m : Occurrence). take i ms ++ (m ∷ [])) (sym c.found-item.is) in
-    subst (λ (l : List Occurrence). Colored c.args.line.now l c.in_ok-at.at (held c.args.output.now) (held c.put_up_to.new.output)) (sym more)
-    (colored_step c.args.line.now (take i ms) c.found-item.result c.loop-found.at c.in_ok-at.at (held c.args.output.now) (held c.loop-found.output) (held c.put_up_to.new.output)
+    subst (λ (l : List Occurrence). Colored c.args.style.now c.args.line.now l c.in_ok-at.at (held c.args.output.now) (held c.put_up_to.new.output)) (sym more)
+    (colored_step c.args.style.now c.args.line.now (take i ms) c.found-item.result c.loop-found.at c.in_ok-at.at (held c.args.output.now) (held c.loop-found.output) (held c.put_up_to.new.output)
     c.in_ok-at.ensures.behind c.in_ok-at.ensures.written c.loop-found.invariant)
 
 pub returns : goal.returns
@@ -25,6 +25,6 @@ returns g c =
     let behind : length ms ≤ i = grind (arith, common_steps, c.loop-found-test.false) in
     let last = rw c.part.ensures.part at c.in_ok-write_all.ensures.bytes in
     record {
-      written = colored_end c.args.line.now ms c.loop-found.at (held c.args.output.now) (held c.loop-found.output) (held c.write_all.new.self) last
-          (subst (λ (l : List Occurrence). Colored c.args.line.now l c.loop-found.at (held c.args.output.now) (held c.loop-found.output)) (take_all i ms behind) c.loop-found.invariant);
+      written = colored_end c.args.style.now c.args.line.now ms c.loop-found.at (held c.args.output.now) (held c.loop-found.output) (held c.write_all.new.self) last
+          (subst (λ (l : List Occurrence). Colored c.args.style.now c.args.line.now l c.loop-found.at (held c.args.output.now) (held c.loop-found.output)) (take_all i ms behind) c.loop-found.invariant);
     }

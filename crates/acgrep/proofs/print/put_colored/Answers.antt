@@ -8,7 +8,7 @@ pub loop-found-init : goal.loop-found-init
 loop-found-init g c = record {
   can_next = search rules;
   is_finite = search rules;
-  colored = colored_start c.args.line.now (g.W.Write.contents c.args.output.now);
+  colored = colored_start c.args.style.now c.args.line.now (g.W.Write.contents c.args.output.now);
 }
 
 pub loop-found-preserved : goal.loop-found-preserved
@@ -17,7 +17,7 @@ loop-found-preserved g c =
     record {
       can_next = search rules;
       is_finite = search rules;
-      colored = colored_step c.args.line.now c.loop-found.yielded c.in-Some.found c.loop-found.at c.in_ok-at.at
+      colored = colored_step c.args.style.now c.args.line.now c.loop-found.yielded c.in-Some.found c.loop-found.at c.in_ok-at.at
           (held c.args.output.now) (held c.loop-found.output) (held c.put_up_to.new.output)
           c.in_ok-at.ensures.behind c.in_ok-at.ensures.written c.loop-found.invariant.colored;
     }
@@ -33,7 +33,7 @@ returns g c =
         ran.0,
         ran.1,
         ran.2,
-        rw ran.3.0 (colored_end c.args.line.now c.loop-found.yielded c.loop-found.at (held c.args.output.now) (held c.loop-found.output) (held c.write_all.new.self)
+        rw ran.3.0 (colored_end c.args.style.now c.args.line.now c.loop-found.yielded c.loop-found.at (held c.args.output.now) (held c.loop-found.output) (held c.write_all.new.self)
             last c.loop-found.invariant.colored),
       );
     }

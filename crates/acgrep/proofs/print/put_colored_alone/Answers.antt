@@ -20,7 +20,7 @@ loop-found-preserved g c =
           let next : IsNextAlone p line from (Some found) = subst (IsNextAlone p line from) c.in-Some.is (c.in_ok-found.ensures.next p is) in (
             ms ++ (found ∷ []),
             alone_step p line from c.behind_alone-from.result ms found behind next so_far,
-            colored_step line ms found c.loop-found.at c.in_ok-at.at (held c.args.output.now) (held c.loop-found.output) (held c.put_up_to.new.output)
+            colored_step c.args.style.now line ms found c.loop-found.at c.in_ok-at.at (held c.args.output.now) (held c.loop-found.output) (held c.put_up_to.new.output)
                 c.in_ok-at.ensures.behind c.in_ok-at.ensures.written written,
           );
     }
@@ -37,6 +37,6 @@ returns g c =
           record {
             matches = ms;
             found = alone_end p line from ms (subst (IsNextAlone p line from) c.in_default.is (c.in_ok-found.ensures.next p is)) so_far;
-            written = colored_end line ms c.loop-found.at (held c.args.output.now) (held c.loop-found.output) (held c.write_all.new.self) last written;
+            written = colored_end c.args.style.now line ms c.loop-found.at (held c.args.output.now) (held c.loop-found.output) (held c.write_all.new.self) last written;
           };
     }

@@ -10,7 +10,7 @@ abbrev pub invariant-loop-found : goal.invariant-loop-found
 invariant-loop-found g l = record {
   within : l.from ≤ length l.fn.line + 1;
   written : (p : Patterns) → g.A.Automaton.is_of l.fn.automaton p → (ms : List Occurrence) × AloneSoFar p l.fn.line l.from ms
-      × Colored l.fn.line ms l.at (g.W.Write.contents l.initial.output) (g.W.Write.contents l.output);
+      × Colored l.fn.style l.fn.line ms l.at (g.W.Write.contents l.initial.output) (g.W.Write.contents l.output);
 }
 
 abbrev pub decreases-loop-found : goal.decreases-loop-found

@@ -16,7 +16,7 @@ use Rattle.acgrep.proofs.run.run.Goals as goal
 pub returns-in-Ok-clause-searches : goal.returns-in-Ok-clause-searches
 returns-in-Ok-clause-searches g c given is asks low =
     let known = known_by g.F.Open g.F.Folders c.args.files.now in
-    let terminal = c.args.terminal in
+    let screen = c.args.screen.now in
     let left = g.R.Read.remaining c.args.input.now in
     let left' = g.R.Read.remaining c.answer-status.new.input in
     let held = g.W.Sink.taken c.args.output.now in
@@ -24,12 +24,12 @@ returns-in-Ok-clause-searches g c given is asks low =
     let held'' = g.W.Sink.taken c.finish.new.output in
     let same : said c.in-Ok.given ≡ given = same_said (said_by (listed_bytes c.args.arguments.now)) given (said c.in-Ok.given) is c.in-Ok.ensures.read in
     let status : c.finish.result ≡ c.answer-status.result = elim c.finish.ensures.status [ inl kept ↦ kept | inr two ↦ absurd (omega (arith, low, two)) ] in
-    let done : Searches known terminal (said c.in-Ok.given) left left' held held' c.answer-status.result =
+    let done : Searches known screen (said c.in-Ok.given) left left' held held' c.answer-status.result =
     c.answer-status.ensures.searches (subst (λ (s : Said). AsksToSearch s.flags) (sym same) asks) (subst (λ (n : ℕ). n < 2) status low) in
-    let kept : Searches known terminal (said c.in-Ok.given) left left' held held'' c.answer-status.result =
-    (done.0, searches_kept held' held'' c.finish.ensures.kept known terminal _ _ _ left left' held done.0 done.1, done.2) in
-    subst (λ (n : ℕ). Searches known terminal given left left' held held'' n) (sym status)
-    (subst (λ (s : Said). Searches known terminal s left left' held held'' c.answer-status.result) same kept)
+    let kept : Searches known screen (said c.in-Ok.given) left left' held held'' c.answer-status.result =
+    (done.0, searches_kept held' held'' c.finish.ensures.kept known screen _ _ _ left left' held done.0 done.1, done.2) in
+    subst (λ (n : ℕ). Searches known screen given left left' held held'' n) (sym status)
+    (subst (λ (s : Said). Searches known screen s left left' held held'' c.answer-status.result) same kept)
 
 pub returns-in-Err-clause-searches : goal.returns-in-Err-clause-searches
 returns-in-Err-clause-searches g c given is asks low = elim c.finish-in-Err.ensures.status [ inl two ↦ absurd (omega (arith, low, two)) | inr two ↦ absurd (omega (arith, low, two)) ]
@@ -37,15 +37,15 @@ returns-in-Err-clause-searches g c given is asks low = elim c.finish-in-Err.ensu
 pub returns-in-Ok-clause-begins : goal.returns-in-Ok-clause-begins
 returns-in-Ok-clause-begins g c given is asks =
     let known = known_by g.F.Open g.F.Folders c.args.files.now in
-    let terminal = c.args.terminal in
+    let screen = c.args.screen.now in
     let left = g.R.Read.remaining c.args.input.now in
     let held = g.W.Sink.taken c.args.output.now in
     let held' = g.W.Sink.taken c.answer-status.new.output in
     let held'' = g.W.Sink.taken c.finish.new.output in
     let same : said c.in-Ok.given ≡ given = same_said (said_by (listed_bytes c.args.arguments.now)) given (said c.in-Ok.given) is c.in-Ok.ensures.read in
-    let done : BeginsSearch known terminal (said c.in-Ok.given) left held held' = c.answer-status.ensures.begins (subst (λ (s : Said). AsksToSearch s.flags) (sym same) asks) in
-    let kept : BeginsSearch known terminal (said c.in-Ok.given) left held held'' = begins_held held' held'' c.finish.ensures.kept known terminal _ _ _ left held done in
-    subst (λ (s : Said). BeginsSearch known terminal s left held held'') same kept
+    let done : BeginsSearch known screen (said c.in-Ok.given) left held held' = c.answer-status.ensures.begins (subst (λ (s : Said). AsksToSearch s.flags) (sym same) asks) in
+    let kept : BeginsSearch known screen (said c.in-Ok.given) left held held'' = begins_held held' held'' c.finish.ensures.kept known screen _ _ _ left held done in
+    subst (λ (s : Said). BeginsSearch known screen s left held held'') same kept
 
 pub returns-in-Err-clause-begins : goal.returns-in-Err-clause-begins
 returns-in-Err-clause-begins g c given is asks = inl c.finish-in-Err.ensures.kept

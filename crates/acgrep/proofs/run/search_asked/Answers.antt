@@ -45,7 +45,7 @@ returns-then-not-is_empty-clause-begins g c =
     let held = g.W.Sink.taken c.args.output.now in
     let held' = g.W.Sink.taken c.search.new.output in
     let some : 0 < length c.as_slice-sources.result.now = grind (arith, common_steps, c.is_empty.ensures, c.if-not-is_empty.true) in
-    as-given (λ (sources : List Origin) (names : List (List ℕ)). BeginsFor known c.args.terminal (said c.args.given.now) sources names left held held')
+    as-given (λ (sources : List Origin) (names : List (List ℕ)). BeginsFor known c.args.screen.now (said c.args.given.now) sources names left held held')
     c.as_slice-sources.result.now c.args.given.now.sources.items c.as_slice-operands.result.now c.args.given.now.operands.items
     c.as_slice-sources.ensures.value c.as_slice-operands.ensures.value some c.search.ensures.begins
 
@@ -57,7 +57,7 @@ returns-then-not-is_empty-clause-searches g c = λ low.
     let held = g.W.Sink.taken c.args.output.now in
     let held' = g.W.Sink.taken c.search.new.output in
     let some : 0 < length c.as_slice-sources.result.now = grind (arith, common_steps, c.is_empty.ensures, c.if-not-is_empty.true) in
-    as-given (λ (sources : List Origin) (names : List (List ℕ)). SearchesFor known c.args.terminal (said c.args.given.now) sources names left left' held held' c.search.result)
+    as-given (λ (sources : List Origin) (names : List (List ℕ)). SearchesFor known c.args.screen.now (said c.args.given.now) sources names left left' held held' c.search.result)
     c.as_slice-sources.result.now c.args.given.now.sources.items c.as_slice-operands.result.now c.args.given.now.operands.items
     c.as_slice-sources.ensures.value c.as_slice-operands.ensures.value some (c.search.ensures.searches low)
 

@@ -1,0 +1,44 @@
+-- One part more, or the last.
+use Rattle.std.proofs.Common.{◌≡◌, ℕ, ◌+◌, ◌<◌, Bool, false, true, List, length, drop, take, ap, arith, sym, ◌∙◌}
+use Rattle.std.proofs.lemmas.Grind.{common_steps}
+use Rattle.std.specs.List.{slice_split}
+use Rattle.std.specs.Prelude.{if◌then◌else◌}
+use Rattle.acgrep.specs.Colors.{is_colon, is_right, palette_of, with_part, with_parts}
+use Rattle.acgrep.proofs.ColorParts.{parts_first, parts_last}
+use Rattle.acgrep.proofs.colors.read_parts.Goals as goal
+
+pub returns-then-not-is_right : goal.returns-then-not-is_right
+returns-then-not-is_right c =
+    let rest = c.loop-end.rest.now in
+    let end = c.loop-end.end in
+    let colors = palette_of c.loop-end.colors in
+    let inside : end < length rest = grind (arith, common_steps, c.loop-end-test.true) in
+    let wrong : is_right (take end rest) ≡ false = sym c.is_right.ensures ∙ c.if-not-is_right.true in
+    let cut = ap (λ (parts : List (List ℕ)). with_parts parts colors) (parts_first rest end c.loop-end.invariant.ends inside) in
+    record { read = sym (sym c.loop-end.invariant.says ∙ cut ∙ ap (λ (b : Bool). if b then with_parts (slice_split is_colon (drop (end + 1) rest)) (with_part (take end rest) colors) else colors) wrong) }
+
+pub loop-end-preserved : goal.loop-end-preserved
+loop-end-preserved c =
+    let rest = c.loop-end.rest.now in
+    let end = c.loop-end.end in
+    let colors = palette_of c.loop-end.colors in
+    let inside : end < length rest = grind (arith, common_steps, c.loop-end-test.true) in
+    let right : is_right (take end rest) ≡ true = sym c.is_right.ensures ∙ c.if-not-is_right.false in
+    let cut = ap (λ (parts : List (List ℕ)). with_parts parts colors) (parts_first rest end c.loop-end.invariant.ends inside) in
+    record {
+      ends = c.first_colon-end-in-loop-end.ensures.place;
+      says = ap (λ (parts : List (List ℕ)). with_parts parts (palette_of c.with_part.result)) (ap (slice_split is_colon) c.behind-rest.ensures.rest)
+          ∙ ap (with_parts (slice_split is_colon (drop (end + 1) rest))) c.with_part.ensures.with
+          ∙ sym (cut ∙ ap (λ (b : Bool). if b then with_parts (slice_split is_colon (drop (end + 1) rest)) (with_part (take end rest) colors) else colors) right)
+          ∙ c.loop-end.invariant.says;
+    }
+
+pub returns : goal.returns
+returns c =
+    let rest = c.loop-end.rest.now in
+    let outside : (c.loop-end.end < length rest → ⊥) = λ inside. grind (arith, common_steps, c.loop-end-test.false, inside) in
+    record {
+      read = c.with_last.ensures.with
+          ∙ ap (λ (parts : List (List ℕ)). with_parts parts (palette_of c.loop-end.colors)) (sym (parts_last rest c.loop-end.end c.loop-end.invariant.ends outside))
+          ∙ c.loop-end.invariant.says;
+    }
