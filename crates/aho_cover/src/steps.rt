@@ -120,7 +120,9 @@ fn write_walked<A: Automaton, W: Sink, P: Pieces>(
     requires can { CanWalk A.Automaton walk.now (P.rule pieces.old) (P.holds pieces.old) progress.old at }
     ensures sound { OnOk result (IsSoundCover progress.new at) }
     ensures others { OnOk result (progress.new ≡ record progress.old {
-      copied = progress.new.copied; hand = progress.new.hand; since = progress.new.since;
+      copied = progress.new.copied;
+      hand = progress.new.hand;
+      since = progress.new.since;
     }) }
     ensures near { OnOk result (BareFrom progress.new.copied (held_runs progress.new.hand)
         (at + 1 - progress.old.buffer.least)) }

@@ -13,7 +13,9 @@ ghost use Rattle.aho_hybrid.specs.Reading.{IsLayoutOf};
 ghost use Rattle.aho_hybrid.specs.Made.{AreMarkedIn, IsLaidOutOf};
 ghost use Rattle.aho_hybrid.specs.Filled.{AreFirstBytes, AreMarked, AreStateNumbers, AreRows, HasEntries, HasRowBefore, FitIndexes, IsDeepState, AreDepths, AreLaidOut, IsNear, IsOutOfMemory, IsPlan, IsRowsRefusal, IsShallow, IsStep, IsToldBy, first_low, flat, is_deep, leads_in, number_or_zero, number_in, plan_of, row_entries, state_words};
 
-use crate::budget::{RECORD_SIZE, Sizes, either, is_deep, row_depth, rows_count, sizes_of, source_of};
+use crate::budget::{
+    RECORD_SIZE, Sizes, either, is_deep, row_depth, rows_count, sizes_of, source_of,
+};
 use crate::lists::lists_of;
 use crate::rows::Rows;
 use aho_automaton::automaton::Automaton;

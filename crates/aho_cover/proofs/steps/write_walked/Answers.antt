@@ -31,15 +31,17 @@ passed g c p haystack written both = (
 )
 
 -- what was written of the bytes that are settled
-wrote : (g : Over) (c : After-write_settled g) → c.write_settled.new.self ≡ record c.look_back.new.progress { copied = c.write_settled.new.self.copied; hand = c.write_settled.new.self.hand }
+wrote : (g : Over) (c : After-write_settled g)
+    → ((p : Patterns) (haystack : List ℕ) (written : Output) → Feeding (g.P.Pieces.holds c.args.pieces.now) c.args.progress.now (CoversOn g.A.Automaton c.args.walk.now.automaton.now (g.P.Pieces.rule c.args.pieces.now) c.args.progress.now c.args.at) p haystack written
+    → Feeding (g.P.Pieces.holds c.args.pieces.now) c.look_back.new.progress (CoversOn g.A.Automaton c.args.walk.now.automaton.now (g.P.Pieces.rule c.args.pieces.now) c.look_back.new.progress c.args.at) p haystack written)
+    → c.write_settled.new.self ≡ record c.look_back.new.progress { copied = c.write_settled.new.self.copied; hand = c.write_settled.new.self.hand }
     → WritesOn g.W.Sink c.args.sink.now c.write_settled.new.sink c.args.counts.now c.write_settled.new.counts
     (Feeding (g.P.Pieces.holds c.args.pieces.now) c.look_back.new.progress (HasCovered (g.P.Pieces.rule c.args.pieces.now) c.look_back.new.progress c.args.at))
     (Feeding (g.P.Pieces.holds c.write_settled.new.pieces) c.write_settled.new.self (HasCovered (g.P.Pieces.rule c.args.pieces.now) c.write_settled.new.self c.args.at))
     → WritesOn g.W.Sink c.args.sink.now c.write_settled.new.sink c.args.counts.now c.write_settled.new.counts
     (Feeding (g.P.Pieces.holds c.args.pieces.now) c.args.progress.now (CoversOn g.A.Automaton c.args.walk.now.automaton.now (g.P.Pieces.rule c.args.pieces.now) c.args.progress.now c.args.at))
     (Feeding (g.P.Pieces.holds c.write_settled.new.pieces) c.write_settled.new.self (CoversOn g.A.Automaton c.args.walk.now.automaton.now (g.P.Pieces.rule c.args.pieces.now) c.write_settled.new.self c.args.at))
-wrote g c others writes =
-    let d = (goal.at.returns-clause-writes g c).After-look_back in
+wrote g c passes others writes =
     let a = g.A.Automaton in
     let automaton = c.args.walk.now.automaton.now in
     let rule = g.P.Pieces.rule c.args.pieces.now in
@@ -49,7 +51,7 @@ wrote g c others writes =
     let sid : s.sid ≡ new.sid = sym (ap (λ (s' : CoverProgress). s'.sid) others) in
     writes_still (Feeding (g.P.Pieces.holds c.args.pieces.now) c.args.progress.now (CoversOn a automaton rule c.args.progress.now at)) (Feeding (g.P.Pieces.holds c.write_settled.new.pieces) new (CoversOn a automaton rule new at))
     (λ p haystack written before.
-    let covers = passed g d p haystack written before in
+    let covers = passes p haystack written before in
     ((covers.0.covered, covers.1), (covers.0.of, covers.0.is_held)))
     (λ p haystack written h. (record { of = h.1.0; is_held = subst (λ (n : ℕ). StandsIn a automaton p haystack n at) sid h.1.1; covered = h.0.0 }, h.0.1))
     (writes_with (λ p haystack. a.is_of automaton p × StandsIn a automaton p haystack s.sid at) writes)
@@ -57,7 +59,7 @@ wrote g c others writes =
 pub returns-clause-writes : goal.returns-clause-writes
 returns-clause-writes g c =
     let d = (goal.at.returns-clause-writes g c).After-write_settled in
-    if_both c.write_settled.result _ _ _ (λ others more. wrote g d others more) c.write_settled.ensures.others c.write_settled.ensures.writes
+    if_both c.write_settled.result _ _ _ (λ others more. wrote g d (passed g (goal.at.returns-clause-writes g c).After-look_back) others more) c.write_settled.ensures.others c.write_settled.ensures.writes
 
 pub returns-clause-begins : goal.returns-clause-begins
 returns-clause-begins g c =
