@@ -11,8 +11,9 @@ ghost use Rattle.acredact.specs.Totals.{CountsBy};
 use aho_automaton::automaton::Automaton;
 use aho_core::error::StreamError;
 use aho_core::search::Match;
+use aho_cover::pieces::Pieces;
 use aho_cover::start::StreamCoverStart;
-use aho_cover::stream::cover_counted;
+use aho_cover::stream::{cover_counted, cover_made};
 use aho_devices::device::{Sink, Source};
 use aho_devices::write::write_whole;
 use aho_stream::replace::{try_stream_replace_all, try_stream_replace_all_with_mut};
@@ -43,6 +44,22 @@ pub fn cover<A: Automaton, R: Source, W: Sink>(
     ensures unbegun { IsUnbegunCover A.Automaton start.new.automaton.now start.new.progress }
 {
     cover_counted(start, source, sink, replacements, counts)
+}
+
+/// The same, where the text in the place of each run is made of its bytes.
+///
+/// # Errors
+///
+/// As `cover`.
+pub fn cover_by_pieces<A: Automaton, R: Source, W: Sink, P: Pieces>(
+    start: &mut StreamCoverStart<'_, A>,
+    pieces: &mut P,
+    counts: &mut [u64],
+    source: &mut R,
+    sink: &mut W,
+) -> Result<(), StreamError>
+{
+    cover_made(start, source, sink, pieces, counts)
 }
 
 /// Writes what the source gives to the sink, with its replacement in the place of each match.

@@ -34,11 +34,12 @@ use crate::counts::{counts_of, put_counts};
 use crate::failure::{Failure, tell_failure, tell_unclean};
 use crate::files::{Job, back_files, redact_files};
 use crate::folder::Folder;
-use crate::load::{lists_of, rules};
+use crate::load::{Lists, key_of, lists_of, rules};
 use crate::patterns::{Rule, patterns_of, replacements_of};
 use crate::rows::build;
 use crate::streams::Streams;
 use crate::summary::{Volume, put_summary};
+use crate::ways::Key;
 use aho_automaton::automaton::Automaton;
 use aho_backward::backward::Backward;
 use aho_core::error::StreamError;
@@ -56,7 +57,7 @@ const REDACTED: &[u8] = b"[redacted]";
 
 /// What `--help` writes.
 const HELP: &[u8] =
-    b"usage: acredact [-i] [--kind KIND] (-e PATTERN | -f FILE | -t TABLE).. [--with TEXT] [--output FILE] [--count] [--summary] [--check] [FILE]..
+    b"usage: acredact [-i] [--kind KIND] (-e PATTERN | -f FILE | -t TABLE).. [--with TEXT | --pseudonym KEYFILE] [--output FILE] [--count] [--summary] [--check] [FILE]..
 
 Writes each FILE with a text in the place of each run of bytes that lie in matches of the patterns. No FILE, or -, is standard input.
 
@@ -67,6 +68,8 @@ Writes each FILE with a text in the place of each run of bytes that lie in match
   --kind KIND   what is replaced: cover (if none is given) each byte of each match; longest, first and standard
                 one of several matches that overlap, and then a part of another can stay
   --with TEXT   the replacement of patterns that have none of their own: [redacted] if none is given
+  --pseudonym KEYFILE
+                write [redacted: and 12 digits ]: of the run's HMAC-SHA-256 by the key in KEYFILE, so equal runs stay equal
   --output FILE replace this FILE, if all is redacted: the output goes to a new file that takes its place at the end
   --count       write to standard error how often the text of each pattern was written
   --summary     write to standard error how many files and bytes were read, and these counts, as an object of JSON
@@ -262,7 +265,28 @@ fn load<'a, F: Folder, I: Read, W: Write, E: Sink>(
 {
     let lists = lists_of(alloc, given, folder);
     match rules(&lists, given, &mut streams.input) {
-        Ok(rules) => redact_counted(alloc, given, rules.as_slice(), folder, streams),
+        Ok(rules) => load_key(&lists, given, rules.as_slice(), streams),
+        Err(failure) => Err(failure),
+    }
+}
+
+/// Loads the key of pseudonyms, where they are asked for, redacts all files by it and these rules, and answers whether all were read.
+fn load_key<'a, F: Folder, I: Read, W: Write, E: Sink>(
+    lists: &Lists<'_, F>,
+    given: &[Item<'a>],
+    rules: &[Rule],
+    streams: &mut Streams<'_, I, W, E>,
+) -> Result<bool, Failure<'a>>
+    requires some { HaveNoEmpty (secrets_of rules.now) }
+    requires rules { rules_for lists.now ≡ rules_asked (all_given given.now) }
+    ensures outcome { KeylessOutcome W.Write E.Sink F.Folder
+        lists.now.folder.now (all_given given.now) rules.now result streams.old streams.new }
+    ensures flushed { OnOk result (streams.new.output.device.flushed ≡ true) }
+{
+    let (alloc, folder) = (lists.alloc, lists.folder);
+    match key_of(lists, given, &mut streams.input) {
+        Ok(Some(key)) => redact_counted(alloc, given, rules, Some(key.as_slice()), folder, streams),
+        Ok(None) => redact_counted(alloc, given, rules, None, folder, streams),
         Err(failure) => Err(failure),
     }
 }
@@ -272,6 +296,7 @@ fn redact_counted<'a, F: Folder, I: Read, W: Write, E: Sink>(
     alloc: Global,
     given: &[Item<'_>],
     rules: &[Rule],
+    key: Option<&[u8]>,
     folder: &F,
     streams: &mut Streams<'_, I, W, E>,
 ) -> Result<bool, Failure<'a>>
@@ -282,7 +307,7 @@ fn redact_counted<'a, F: Folder, I: Read, W: Write, E: Sink>(
 {
     let counted = counts(given);
     let mut tally = counts_of(alloc, rules, counted)?;
-    redact_telling(alloc, given, rules, folder, tally.as_mut_slice(), streams)
+    redact_telling(alloc, given, rules, key, folder, tally.as_mut_slice(), streams)
 }
 
 /// Redacts all files by these rules, tells what was added to the counts, where they are asked for, and answers whether all files were
@@ -291,6 +316,7 @@ fn redact_telling<'a, F: Folder, I: Read, W: Write, E: Sink>(
     alloc: Global,
     given: &[Item<'_>],
     rules: &[Rule],
+    key: Option<&[u8]>,
     folder: &F,
     tally: &mut [u64],
     streams: &mut Streams<'_, I, W, E>,
@@ -303,7 +329,7 @@ fn redact_telling<'a, F: Folder, I: Read, W: Write, E: Sink>(
 {
     let mut volume = Volume { files: 0, bytes: 0 };
     // Not by `?`: this error may hold names.
-    match redact_all(alloc, given, rules, folder, tally, &mut volume, streams) {
+    match redact_all(alloc, given, rules, key, folder, tally, &mut volume, streams) {
         Ok(all) => tell_counted(alloc, all, given, rules, tally, volume, &mut streams.errors),
         Err(failure) => Err(failure),
     }
@@ -401,11 +427,21 @@ fn text_of<'a>(given: &[Item<'a>]) -> &'a [u8]
     }
 }
 
+/// A key, by the case rule of the patterns.
+fn key_by(bytes: Option<&[u8]>, ignore_case: bool) -> Option<Key<'_>>
+{
+    match bytes {
+        Some(bytes) => Some(Key { bytes, ignore_case }),
+        None => None,
+    }
+}
+
 /// Redacts all files by these rules, and answers whether all were read.
 fn redact_all<'a, F: Folder, I: Read, W: Write, E: Sink>(
     alloc: Global,
     given: &[Item<'_>],
     rules: &[Rule],
+    key: Option<&[u8]>,
     folder: &F,
     counts: &mut [u64],
     volume: &mut Volume,
@@ -435,6 +471,7 @@ fn redact_all<'a, F: Folder, I: Read, W: Write, E: Sink>(
         folder,
         names: names.as_slice(),
         replacements: replacements.as_slice(),
+        key: key_by(key, ignore_case),
         covers: covers(given),
     };
     let judge = Judge {
@@ -492,7 +529,7 @@ fn redact_warned<
     ensures read { JobVolume F.Folder job.now result volume.old volume.new streams.old streams.new }
     ensures flushed { OnOk result (streams.new.output.device.flushed ≡ true) }
 {
-    let unclean = unclean_of(automaton, judge, job.covers);
+    let unclean = unclean_of(automaton, judge, job.covers, job.key.is_some());
     // Not by `?`: this error may hold names.
     match warn(&mut streams.errors, unclean, strict) {
         Ok(()) => Ok(redact_by(automaton, rows, back, job, counts, volume, streams)?),
