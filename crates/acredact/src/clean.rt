@@ -9,8 +9,9 @@ ghost use Rattle.aho_core.specs.Replacement.{pieces_of};
 ghost use Rattle.aho_core.specs.Search.{plain_search};
 ghost use Rattle.aho_core.specs.declared.search.Anchored.TheVariants.{No};
 ghost use Rattle.aho_laws.specs.CoverLaws.{IsCleanPiece};
-ghost use Rattle.acredact.specs.Pieces.{HoldNone, HoldsByte, IsFirstOrNone, IsFlawOrNone, IsHolder, IsJudgeOf, IsJudged, IsMarked, StayMarked, WordsAreMarked, pieces_by, redactor_judged};
+ghost use Rattle.acredact.specs.Pieces.{HoldNone, IsFirstOrNone, IsFlawOrNone, IsHolder, IsJudgeOf, IsJudgedBy, IsMarked, StayMarked, WordsAreMarked, pieces_by};
 ghost use Rattle.acredact.specs.Secrets.{IfOf, NoneOccurs};
+ghost use Rattle.acredact.specs.Spelling.{HoldsByte};
 ghost use Rattle.acredact.specs.Tables.{piece_by, secret_of};
 
 use crate::patterns::Rule;

@@ -1,12 +1,14 @@
 //! The redaction of one stream.
 
-ghost use Rattle.std.specs.Prelude.{◌≡◌, ◌∷◌, [], false, slice_index_or, true};
+ghost use Rattle.std.specs.Prelude.{◌≡◌, ◌∷◌, [], OnOk, false, slice_index_or, true};
+ghost use Rattle.aho_core.specs.Patterns.{Patterns};
 ghost use Rattle.aho_core.specs.Replacement.{pieces_of};
 ghost use Rattle.aho_cover.specs.Counting.{CountsThese};
 ghost use Rattle.aho_cover.specs.Covers.{IsUnbegunCover};
 ghost use Rattle.acredact.specs.Secrets.{CanRedact};
-ghost use Rattle.acredact.specs.Streams.{ComesOf, WritesPiece};
-ghost use Rattle.acredact.specs.Totals.{CountsBy};
+ghost use Rattle.acredact.specs.Streams.{ComesOf, StreamOutcome, WritesPiece};
+ghost use Rattle.acredact.specs.Totals.{CountsBy, CountsOfStream};
+ghost use Rattle.acredact.specs.Ways.{IfCoverer};
 
 use aho_automaton::automaton::Automaton;
 use aho_core::error::StreamError;
@@ -58,6 +60,15 @@ pub fn cover_by_pieces<A: Automaton, R: Source, W: Sink, P: Pieces>(
     source: &mut R,
     sink: &mut W,
 ) -> Result<(), StreamError>
+    requires of { (p : Patterns) × A.is_of start.old.automaton.now p }
+    requires unbegun { IsUnbegunCover A.Automaton start.old.automaton.now start.old.progress }
+    ensures outcome { IfCoverer A.Automaton start.old.automaton.now (P.rule pieces.old)
+        (λ r. StreamOutcome R.Source W.Sink r result source.old source.new sink.old sink.new) }
+    ensures counted { IfCoverer A.Automaton start.old.automaton.now (P.rule pieces.old)
+        (λ r. OnOk result (CountsOfStream R.Source r source.old source.new counts.old counts.new)) }
+    ensures same { start.new.automaton.now ≡ start.old.automaton.now }
+    ensures unbegun { IsUnbegunCover A.Automaton start.new.automaton.now start.new.progress }
+    ensures rule { P.rule pieces.new ≡ P.rule pieces.old }
 {
     cover_made(start, source, sink, pieces, counts)
 }

@@ -1,6 +1,6 @@
 //! A call of the program over its arguments, files and streams.
 
-ghost use Rattle.std.specs.Prelude.{◌≡◌, ◌++◌, ◌⊎◌, ◌<◌, ◌≤◌, ℕ, List, IfErr, IfOk, IfSome, Ok, OnErr, OnOk, Some, false, length, true};
+ghost use Rattle.std.specs.Prelude.{◌≡◌, ◌++◌, ◌⊎◌, ◌<◌, ◌≤◌, ℕ, List, IfErr, IfOk, IfSome, Ok, OnErr, OnOk, Some, false, length, option_map, true};
 ghost use Rattle.aho_core.specs.Replacement.{pieces_of};
 ghost use Rattle.programs.specs.Arguments.{texts};
 ghost use Rattle.programs.specs.Names.{name_bytes};
@@ -8,11 +8,12 @@ ghost use Rattle.programs.specs.Streams.{WritesBytes, bytes_left};
 ghost use Rattle.programs.specs.Telling.{Tells, TellsBytes, TellsSome};
 ghost use Rattle.acredact.specs.Arguments.{AreMistaken, AsksToRedact, GivesNoPattern, IfAsked, IfChecking, IfNoCheck, IsCheck, RefusesUnclean, all_given, checks_asked, counts_asked, counts_given, has};
 ghost use Rattle.acredact.specs.Back.{AreBoth, FilesJob, IfBackIs, RowsCounts, RowsOutcome};
-ghost use Rattle.acredact.specs.Calls.{AskedOutcome, BeginsAsked, CountsAsked, IsCountsFailure, IsCountsLine, IsPrintFailure, IsRefusedLine, IsWrongLine, LeavesNoneAsked, LoadedOutcome, OutputFails, ReadsAsked, RedactsAsked, TellsAsked, TellsAnyCounts, WarnedJob, WarnedOutcome, WarnsAsked, call_of, gives_pattern, names_asked, text_asked, work_by};
+ghost use Rattle.acredact.specs.Calls.{AskedOutcome, BeginsAsked, CountsAsked, IsCountsFailure, IsCountsLine, IsPrintFailure, IsRefusedLine, IsWrongLine, KeylessOutcome, LeavesNoneAsked, LoadedOutcome, OutputFails, ReadsAsked, RedactsAsked, TellsAsked, TellsAnyCounts, WarnedJob, WarnedOutcome, WarnsAsked, call_of, gives_pattern, keyed_as, names_asked, text_asked, work_by};
 ghost use Rattle.acredact.specs.Checks.{MatchedAsked, SaysOfCheck, TellsUncheckedAsked, UnmatchedAsked};
 ghost use Rattle.acredact.specs.Counts.{PutsText, lines_of_rules, zeros};
 ghost use Rattle.acredact.specs.Failures.{IsFailureLine};
-ghost use Rattle.acredact.specs.Files.{CanDo};
+ghost use Rattle.acredact.specs.Files.{CanDo, keyed_of};
+ghost use Rattle.acredact.specs.Loading.{key_lent, loaded_as};
 ghost use Rattle.acredact.specs.Pieces.{IfOfAll, TellsUnclean, pieces_by};
 ghost use Rattle.acredact.specs.Secrets.{IfOf};
 ghost use Rattle.acredact.specs.Statuses.{SaysOfRedaction};
@@ -34,7 +35,7 @@ use crate::counts::{counts_of, put_counts};
 use crate::failure::{Failure, tell_failure, tell_unclean};
 use crate::files::{Job, back_files, redact_files};
 use crate::folder::Folder;
-use crate::load::{Lists, key_of, lists_of, rules};
+use crate::load::{key_of, lists_of, rules};
 use crate::patterns::{Rule, patterns_of, replacements_of};
 use crate::rows::build;
 use crate::streams::Streams;
@@ -265,26 +266,26 @@ fn load<'a, F: Folder, I: Read, W: Write, E: Sink>(
 {
     let lists = lists_of(alloc, given, folder);
     match rules(&lists, given, &mut streams.input) {
-        Ok(rules) => load_key(&lists, given, rules.as_slice(), streams),
+        Ok(rules) => load_key(alloc, given, rules.as_slice(), folder, streams),
         Err(failure) => Err(failure),
     }
 }
 
 /// Loads the key of pseudonyms, where they are asked for, redacts all files by it and these rules, and answers whether all were read.
 fn load_key<'a, F: Folder, I: Read, W: Write, E: Sink>(
-    lists: &Lists<'_, F>,
+    alloc: Global,
     given: &[Item<'a>],
     rules: &[Rule],
+    folder: &F,
     streams: &mut Streams<'_, I, W, E>,
 ) -> Result<bool, Failure<'a>>
     requires some { HaveNoEmpty (secrets_of rules.now) }
-    requires rules { rules_for lists.now ≡ rules_asked (all_given given.now) }
     ensures outcome { KeylessOutcome W.Write E.Sink F.Folder
-        lists.now.folder.now (all_given given.now) rules.now result streams.old streams.new }
+        folder.now (all_given given.now) rules.now result streams.old streams.new }
     ensures flushed { OnOk result (streams.new.output.device.flushed ≡ true) }
 {
-    let (alloc, folder) = (lists.alloc, lists.folder);
-    match key_of(lists, given, &mut streams.input) {
+    let lists = lists_of(alloc, given, folder);
+    match key_of(&lists, given, &mut streams.input) {
         Ok(Some(key)) => redact_counted(alloc, given, rules, Some(key.as_slice()), folder, streams),
         Ok(None) => redact_counted(alloc, given, rules, None, folder, streams),
         Err(failure) => Err(failure),
@@ -302,7 +303,7 @@ fn redact_counted<'a, F: Folder, I: Read, W: Write, E: Sink>(
 ) -> Result<bool, Failure<'a>>
     requires some { HaveNoEmpty (secrets_of rules.now) }
     ensures outcome { LoadedOutcome W.Write E.Sink F.Folder
-        folder.now (all_given given.now) rules.now result streams.old streams.new }
+        folder.now (all_given given.now) rules.now key.entry result streams.old streams.new }
     ensures flushed { OnOk result (streams.new.output.device.flushed ≡ true) }
 {
     let counted = counts(given);
@@ -324,7 +325,7 @@ fn redact_telling<'a, F: Folder, I: Read, W: Write, E: Sink>(
     requires some { HaveNoEmpty (secrets_of rules.now) }
     requires none { tally.old ≡ zeros (counts_given given.now) rules.now }
     ensures outcome { LoadedOutcome W.Write E.Sink F.Folder
-        folder.now (all_given given.now) rules.now result streams.old streams.new }
+        folder.now (all_given given.now) rules.now key.entry result streams.old streams.new }
     ensures flushed { OnOk result (streams.new.output.device.flushed ≡ true) }
 {
     let mut volume = Volume { files: 0, bytes: 0 };
@@ -429,6 +430,7 @@ fn text_of<'a>(given: &[Item<'a>]) -> &'a [u8]
 
 /// A key, by the case rule of the patterns.
 fn key_by(bytes: Option<&[u8]>, ignore_case: bool) -> Option<Key<'_>>
+    ensures key { option_map keyed_of result ≡ option_map (keyed_as ignore_case) (key_lent bytes.entry) }
 {
     match bytes {
         Some(bytes) => Some(Key { bytes, ignore_case }),
@@ -449,9 +451,10 @@ fn redact_all<'a, F: Folder, I: Read, W: Write, E: Sink>(
 ) -> Result<bool, Failure<'a>>
     requires some { HaveNoEmpty (secrets_of rules.now) }
     ensures outcome { WarnedOutcome W.Write E.Sink (has Strict (all_given given.now))
-        (work_by (call_of F.Folder folder.now (all_given given.now)) (secrets_of rules.now))
+        (work_by (call_of F.Folder folder.now (all_given given.now)) (loaded_as rules.now (key_lent key.entry)))
         result streams.old streams.new }
-    ensures counted { CountsWork (work_by (call_of F.Folder folder.now (all_given given.now)) (secrets_of rules.now))
+    ensures counted { CountsWork
+        (work_by (call_of F.Folder folder.now (all_given given.now)) (loaded_as rules.now (key_lent key.entry)))
         result streams.old streams.new counts.old counts.new }
     ensures read { result ≡ Ok true → ReadsAsked (F.holds folder.now) (all_given given.now)
         volume.old volume.new streams.old streams.new }
