@@ -26,7 +26,7 @@ use Rattle.aho_stream.specs.Replacing.{IsMakingRefusal}
 use Rattle.aho_stream.specs.StreamRun.{CanBegin}
 use Rattle.acredact.specs.Files.{AreCut, FilesOutcome, Work, key_for}
 use Rattle.acredact.specs.Secrets.{CanRedact, Keyed, Redactor, rule_by, rule_of}
-use Rattle.acredact.specs.Ways.{IsCoverer, IsCovering, IsNaming, IsRedactor}
+use Rattle.acredact.specs.Ways.{IsCoverer, IsCovering, IsNamedCover, IsRedactor}
 use Rattle.acredact.specs.declared.streams.Streams.{Streams}
 use Rattle.acredact.specs.declared.ways.Key.{Key}
 use Rattle.pseudonyms.specs.Pseudonyms.{pseudonym_rule}
@@ -62,7 +62,7 @@ module _ {A : Type 0} (G : Ghosts A) where
 
   -- or one by pieces that a key makes
   pub naming_is : (automaton automaton' : A) (rule : PieceRule) (r : Redactor) (progress : CoverProgress) → G.is_of automaton r.patterns → r.covers ≡ true → rule_of r ≡ rule
-      → automaton' ≡ automaton → IsUnbegunCover G automaton progress → IsNaming G automaton' progress rule r
+      → automaton' ≡ automaton → IsUnbegunCover G automaton progress → IsNamedCover G automaton' progress rule r
   naming_is automaton automaton' rule r progress of covers is same unbegun = record {
     coverer = subst (λ (a : A). IsCoverer G a rule r) (sym same) (record { of = of; covers = covers; is = is });
     unbegun = subst (λ (a : A). IsUnbegunCover G a progress) (sym same) unbegun;
@@ -70,7 +70,7 @@ module _ {A : Type 0} (G : Ghosts A) where
 
   -- it is as before after a stream
   pub naming_still : (automaton automaton' : A) (progress progress' : CoverProgress) (rule rule' : PieceRule) (r : Redactor) → automaton' ≡ automaton → rule' ≡ rule
-      → IsUnbegunCover G automaton' progress' → IsNaming G automaton progress rule r → IsNaming G automaton' progress' rule' r
+      → IsUnbegunCover G automaton' progress' → IsNamedCover G automaton progress rule r → IsNamedCover G automaton' progress' rule' r
   naming_still automaton automaton' progress progress' rule rule' r same alike unbegun is = record {
     coverer = subst (λ (a : A). IsCoverer G a rule' r) (sym same) (record { of = is.coverer.of; covers = is.coverer.covers; is = is.coverer.is ∙ sym alike });
     unbegun = unbegun;

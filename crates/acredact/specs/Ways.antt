@@ -27,7 +27,7 @@ pub record IsCoverer {A : Type 0} (G : Ghosts A) (automaton : A) (rule : PieceRu
   pub is : rule_of r ≡ rule
 
 -- and the cover has not begun
-pub record IsNaming {A : Type 0} (G : Ghosts A) (automaton : A) (progress : CoverProgress) (rule : PieceRule) (r : Redactor) : Type 0 where
+pub record IsNamedCover {A : Type 0} (G : Ghosts A) (automaton : A) (progress : CoverProgress) (rule : PieceRule) (r : Redactor) : Type 0 where
   pub coverer : IsCoverer G automaton rule r
   pub unbegun : IsUnbegunCover G automaton progress
 

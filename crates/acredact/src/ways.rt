@@ -84,9 +84,9 @@ pub struct Naming<'s, A> {
 }
 
 impl<A: Automaton> Way for Naming<'_, A> {
-    ghost use Rattle.acredact.specs.Ways.{IsNaming};
+    ghost use Rattle.acredact.specs.Ways.{IsNamedCover};
 
-    ghost by = { λ way r. IsNaming A.Automaton way.start.automaton.now way.start.progress
+    ghost by = { λ way r. IsNamedCover A.Automaton way.start.automaton.now way.start.progress
         (⟦<Pseudonyms as Pieces>⟧.rule way.pieces) r };
 
     fn redact<R: Source, W: Sink>(
