@@ -23,7 +23,7 @@ mod Metering
 mod Refused
 -- which pieces are clean, and what follows
 mod Flaws
-mod Spelled
+mod NoneSpelled
 mod Free
 mod Calls
 mod Warned

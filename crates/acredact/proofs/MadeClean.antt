@@ -11,9 +11,9 @@ use Rattle.aho_core.specs.Patterns.{Patterns, pattern_at}
 use Rattle.aho_core.specs.Replacement.{replaced_by, replaced_from}
 use Rattle.aho_cover.specs.Pieces.{PieceRule, piece_in}
 use Rattle.aho_laws.specs.CoverLaws.{AreInOrder, IsCleanPiece}
-use Rattle.aho_laws.specs.CutLaws.{IsClear, NoneIsEmpty, moved}
+use Rattle.aho_laws.specs.CutLaws.{IsClear, NoneHolds, NoneIsEmpty, moved}
 use Rattle.aho_laws.proofs.ClearCuts.{Occurs-full}
-use Rattle.aho_laws.proofs.CoverClean.{clear_before}
+use Rattle.aho_laws.proofs.CoverClean.{bare_byte}
 use Rattle.aho_laws.proofs.CoverKept.{OccursHere, runs-cover}
 use Rattle.aho_laws.proofs.CoverRuns.{in_order-rest}
 use Rattle.aho_laws.proofs.JoinedPieces.{clear_joined}
@@ -31,6 +31,18 @@ first-split [] some = absurd (omega arith)
 first-split (x ∷ text) some = (x, text, refl)
 
 module _ (p : Patterns) where
+  -- none lies across the place before a byte that no pattern holds
+  clear_before : (byte : ℕ) (front rest : List ℕ) → NoneHolds p byte → IsClear p (front ++ byte ∷ rest) 0 (length (front ++ byte ∷ rest)) (length front)
+  clear_before byte front rest none m occurs =
+      elim (cases_lt (length front) m.end) [
+        | inr upto ↦ inl upto
+        | inl past ↦
+            elim (cases_lt m.start (length front)) [
+              | inr behind ↦ inr behind
+              | inl low ↦ absurd (bare_byte p byte front rest none (record { found = m; member = occurs; after_start = omega arith; before_end = past }))
+            ]
+      ]
+
   free-joined : (left right : List ℕ) → IsClear p (left ++ right) 0 (length (left ++ right)) (length left) → NoneOccurs p left → NoneOccurs p right → NoneOccurs p (left ++ right)
   free-joined left right clear free other m occurs =
       elim (clear m occurs) [
@@ -92,7 +104,7 @@ module _ (p : Patterns) where
           ]) in
           let opens : IsClear p (front ++ (piece ++ rest)) 0 (length (front ++ (piece ++ rest))) (length front) =
           subst (λ (text : List ℕ). IsClear p (front ++ (text ++ rest)) 0 (length (front ++ (text ++ rest))) (length front)) (sym head.2)
-          (clear_before p head.0 front (head.1 ++ rest) (here.first head.0 head.1 head.2)) in
+          (clear_before head.0 front (head.1 ++ rest) (here.first head.0 head.1 head.2)) in
           let closes : IsClear p (piece ++ rest) 0 (length (piece ++ rest)) (length piece) = clear_joined p end.0 piece rest (here.last end.0 end.1 end.2) (end.1, end.2) in
           free-joined front (piece ++ rest) opens before (free-joined piece rest closes here.none later)
 

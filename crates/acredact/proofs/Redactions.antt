@@ -40,7 +40,7 @@ use Rattle.acredact.specs.Streams.{RedactsStream, StartsStream, StreamOutcome}
 use Rattle.acredact.specs.Totals.{CountsOfStream}
 use Rattle.acredact.proofs.Covered.{none_left}
 use Rattle.acredact.proofs.MadeClean.{made-free}
-use Rattle.acredact.proofs.Spelled.{pseudonyms_clean}
+use Rattle.acredact.proofs.NoneSpelled.{pseudonyms_clean}
 
 -- some bytes with an end that was seen are all
 all_of : (given text : List ℕ) → MayBe given true text → text ≡ given

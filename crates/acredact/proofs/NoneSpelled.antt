@@ -93,11 +93,27 @@ all_more byte bytes is are other (inr there) = are other there
 
 hex_all : (digest : List ℕ) (at : ℕ) → get_or digest at 0 < 256 → (bytes : List ℕ) → AreOfPiece bytes → AreOfPiece (hex_at digest at ++ bytes)
 hex_all digest at below bytes are =
-    all_more _ _ (inr (inr (digit_quiet (get_or digest at 0 / 16) (omega (arith, below))))) (all_more _ _ (inr (inr (digit_quiet (get_or digest at 0 % 16) (mod-lt _ (omega arith))))) are)
+    let high = hex_digit (get_or digest at 0 / 16) in
+    let low = hex_digit (get_or digest at 0 % 16) in
+    all_more high (low ∷ bytes) (inr (inr (digit_quiet (get_or digest at 0 / 16) (omega (arith, below)))))
+    (all_more low bytes (inr (inr (digit_quiet (get_or digest at 0 % 16) (mod-lt (get_or digest at 0) (omega arith))))) are)
 
 piece_all : (digest : List ℕ) → ((at : ℕ) → get_or digest at 0 < 256) → AreOfPiece (piece_of_digest digest)
 piece_all digest below =
-    all_more 91 _ (inl refl) (all_more 114 _ (inr (inr (refl, refl))) (all_more 101 _ (inr (inr (refl, refl))) (all_more 100 _ (inr (inr (refl, refl))) (all_more 97 _ (inr (inr (refl, refl))) (all_more 99 _ (inr (inr (refl, refl))) (all_more 116 _ (inr (inr (refl, refl))) (all_more 101 _ (inr (inr (refl, refl))) (all_more 100 _ (inr (inr (refl, refl))) (all_more 58 _ (inr (inr (refl, refl))) (hex_all digest 0 (below 0) _ (hex_all digest 1 (below 1) _ (hex_all digest 2 (below 2) _ (hex_all digest 3 (below 3) _ (hex_all digest 4 (below 4) _ (hex_all digest 5 (below 5) _ (all_more 93 [] (inr (inl refl)) all_none))))))))))))))))
+    let last : AreOfPiece (93 ∷ []) = all_more 93 [] (inr (inl refl)) all_none in
+    let bytes5 = hex_at digest 5 ++ (93 ∷ []) in
+    let digits5 : AreOfPiece bytes5 = hex_all digest 5 (below 5) (93 ∷ []) last in
+    let bytes4 = hex_at digest 4 ++ bytes5 in
+    let digits4 : AreOfPiece bytes4 = hex_all digest 4 (below 4) bytes5 digits5 in
+    let bytes3 = hex_at digest 3 ++ bytes4 in
+    let digits3 : AreOfPiece bytes3 = hex_all digest 3 (below 3) bytes4 digits4 in
+    let bytes2 = hex_at digest 2 ++ bytes3 in
+    let digits2 : AreOfPiece bytes2 = hex_all digest 2 (below 2) bytes3 digits3 in
+    let bytes1 = hex_at digest 1 ++ bytes2 in
+    let digits1 : AreOfPiece bytes1 = hex_all digest 1 (below 1) bytes2 digits2 in
+    let bytes0 = hex_at digest 0 ++ bytes1 in
+    let digits0 : AreOfPiece bytes0 = hex_all digest 0 (below 0) bytes1 digits1 in
+    all_more 91 (114 ∷ 101 ∷ 100 ∷ 97 ∷ 99 ∷ 116 ∷ 101 ∷ 100 ∷ 58 ∷ bytes0) (inl refl) (all_more 114 (101 ∷ 100 ∷ 97 ∷ 99 ∷ 116 ∷ 101 ∷ 100 ∷ 58 ∷ bytes0) (inr (inr (refl, refl))) (all_more 101 (100 ∷ 97 ∷ 99 ∷ 116 ∷ 101 ∷ 100 ∷ 58 ∷ bytes0) (inr (inr (refl, refl))) (all_more 100 (97 ∷ 99 ∷ 116 ∷ 101 ∷ 100 ∷ 58 ∷ bytes0) (inr (inr (refl, refl))) (all_more 97 (99 ∷ 116 ∷ 101 ∷ 100 ∷ 58 ∷ bytes0) (inr (inr (refl, refl))) (all_more 99 (116 ∷ 101 ∷ 100 ∷ 58 ∷ bytes0) (inr (inr (refl, refl))) (all_more 116 (101 ∷ 100 ∷ 58 ∷ bytes0) (inr (inr (refl, refl))) (all_more 101 (100 ∷ 58 ∷ bytes0) (inr (inr (refl, refl))) (all_more 100 (58 ∷ bytes0) (inr (inr (refl, refl))) (all_more 58 (bytes0) (inr (inr (refl, refl))) (digits0))))))))))
 
 -- what stands in a part stands in the whole
 member_drop : (n : ℕ) (xs : List ℕ) (x : ℕ) → IsMember (drop n xs) x → IsMember xs x
