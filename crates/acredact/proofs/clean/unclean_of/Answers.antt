@@ -12,5 +12,5 @@ returns-then-named g c =
     record {
       judged = λ p of are.
           subst (λ (b : Bool). IsJudgedBy p b c.args.named (pieces_by c.args.judge.now) c.first_spelled.result) (sym covers)
-          (subst (λ (b : Bool). IsJudgedBy p true b (pieces_by c.args.judge.now) c.first_spelled.result) (sym named) (spelled_judged p _ _ _ _ are c.first_spelled.ensures.first));
+          (subst (λ (b : Bool). IsJudgedBy p true b (pieces_by c.args.judge.now) c.first_spelled.result) (sym named) (spelled_judged p _ _ (pieces_by c.args.judge.now) _ are c.first_spelled.ensures.first));
     }
