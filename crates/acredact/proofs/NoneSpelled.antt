@@ -1,7 +1,7 @@
 -- What a pseudonym can spell, and that nothing occurs in a cover where no pattern is like one.
-use Rattle.std.proofs.Common.{◌≡◌, inl, inr, ℕ, zero, suc, ◌+◌, ◌-◌, ◌<◌, ◌≤◌, ◌/◌, ◌%◌, List, [], ◌∷◌, ◌++◌, Option, true, false, length, take, drop, get_or, refl, sym, ap, subst, ◌∙◌, arith}
+use Rattle.std.proofs.Common.{◌≡◌, inl, inr, ℕ, zero, suc, ◌-◌, ◌<◌, ◌/◌, ◌%◌, List, [], ◌∷◌, ◌++◌, Option, true, false, length, take, drop, get_or, refl, sym, ap, subst, ◌∙◌, arith}
 use Rattle.std.specs.Prelude.{Bool, None, Some, ◌⊎◌, slice_range}
-use Rattle.std.specs.Int.{bytes_high_first, byte_at, w32}
+use Rattle.std.specs.Int.{bytes_high_first, byte_at}
 use Rattle.std.specs.List.{All}
 use Rattle.std.proofs.Math.Nat.{mod-lt}
 use Rattle.std.proofs.lemmas.Bool.{cases_lt}
@@ -19,7 +19,7 @@ use Rattle.pseudonyms.specs.Pseudonyms.{as_compared, hex_at, hex_digit, piece_of
 use Rattle.sha2.specs.Sha256.{digest_bytes, sha256}
 use Rattle.acredact.specs.Pieces.{IsJudgedBy}
 use Rattle.acredact.specs.Secrets.{NoneOccurs}
-use Rattle.acredact.specs.Spelling.{HoldsByte, IsFirstSpelled, IsSpelled, IsUnlike, NoneAreSpelled, is_inside}
+use Rattle.acredact.specs.Spelling.{IsFirstSpelled, IsSpelled, NoneAreSpelled, is_inside}
 use Rattle.acredact.specs.declared.clean.Unclean.{Unclean}
 use Rattle.acredact.proofs.Flaws.{first_is, last_is}
 

@@ -2,7 +2,6 @@
 use Rattle.std.specs.Prelude.{◌≡◌, ◌⊎◌, ℕ, ◌+◌, ◌<◌, ◌&&◌, ◌||◌, Bool, true, false, List, [], Option, Some, None, length, nat_eq, nat_le, slice_index_or}
 use Rattle.aho_core.specs.Bytes.{folded_by}
 use Rattle.aho_core.specs.Listing.{IsMember}
-use Rattle.aho_core.specs.Patterns.{Patterns}
 use Rattle.acredact.specs.declared.clean.Flaw.TheVariants.{Pseudonym}
 use Rattle.acredact.specs.declared.clean.Unclean.{Unclean}
 

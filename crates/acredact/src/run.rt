@@ -308,7 +308,15 @@ fn redact_counted<'a, F: Folder, I: Read, W: Write, E: Sink>(
 {
     let counted = counts(given);
     let mut tally = counts_of(alloc, rules, counted)?;
-    redact_telling(alloc, given, rules, key, folder, tally.as_mut_slice(), streams)
+    redact_telling(
+        alloc,
+        given,
+        rules,
+        key,
+        folder,
+        tally.as_mut_slice(),
+        streams,
+    )
 }
 
 /// Redacts all files by these rules, tells what was added to the counts, where they are asked for, and answers whether all files were
@@ -330,7 +338,16 @@ fn redact_telling<'a, F: Folder, I: Read, W: Write, E: Sink>(
 {
     let mut volume = Volume { files: 0, bytes: 0 };
     // Not by `?`: this error may hold names.
-    match redact_all(alloc, given, rules, key, folder, tally, &mut volume, streams) {
+    match redact_all(
+        alloc,
+        given,
+        rules,
+        key,
+        folder,
+        tally,
+        &mut volume,
+        streams,
+    ) {
         Ok(all) => tell_counted(alloc, all, given, rules, tally, volume, &mut streams.errors),
         Err(failure) => Err(failure),
     }

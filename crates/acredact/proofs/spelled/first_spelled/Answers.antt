@@ -1,6 +1,5 @@
 -- The word at the place of the loop, or none of all.
-use Rattle.std.proofs.Common.{List, ℕ, ◌<◌, below_more, arith, length, refl, subst, sym}
-use Rattle.aho_core.specs.Replacement.{pieces_of}
+use Rattle.std.proofs.Common.{List, ℕ, below_more, arith, refl, subst, sym}
 use Rattle.acredact.specs.Spelling.{IsUnlike, MayBeSpelled}
 use Rattle.acredact.proofs.Flaws.{piece_is, pieces_count}
 use Rattle.acredact.proofs.spelled.first_spelled.Goals as goal

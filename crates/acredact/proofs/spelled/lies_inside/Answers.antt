@@ -1,5 +1,5 @@
 -- The byte at the place of the loop, or all.
-use Rattle.std.proofs.Common.{◌≡◌, ◌∙◌, ℕ, true, ap, arith, get_or, sym}
+use Rattle.std.proofs.Common.{◌∙◌, ℕ, ap, arith, get_or, sym}
 use Rattle.aho_core.specs.Bytes.{folded_by}
 use Rattle.acredact.specs.Spelling.{is_inside}
 use Rattle.acredact.proofs.Flaws.{member_at, place_of}
