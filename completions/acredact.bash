@@ -10,7 +10,7 @@ _acredact() {
     case $option in
     --kind) words='cover first longest standard' ;;
     -e | --pattern | --with) return ;;
-    *) [[ $word != -* ]] || words='-e -f -t -i --kind --with --output --in-place --count --summary --check --crlf --allow-empty --strict -- --help --version' ;;
+    *) [[ $word != -* ]] || words='-e -f -t -i --kind --with --pseudonym --output --in-place --count --summary --check --crlf --allow-empty --strict -- --help --version' ;;
     esac
     mapfile -t COMPREPLY < <(compgen -W "$words" -- "$word")
 }

@@ -1,9 +1,10 @@
 -- What a replacement by a walk backward writes is a redaction, and what it begins is begun.
 use Rattle.std.proofs.Common.{◌≡◌, inl, inr, ℕ, ◌<◌, ◌≤◌, List, [], ◌∷◌, false, length, map, arith}
-use Rattle.std.specs.Prelude.{◌⊎◌, Bool, IfErr, Ok, Err, Result, slice_index_or, suc}
+use Rattle.std.specs.Prelude.{◌⊎◌, Bool, IfErr, None, Ok, Option, Err, Result, slice_index_or, suc}
 use Rattle.std.specs.Borrow.{Bor}
 use Rattle.aho_core.specs.Laws.{shortest}
 use Rattle.aho_core.specs.Patterns.{Patterns}
+use Rattle.aho_core.specs.Replacement.{pieces_of}
 use Rattle.aho_core.specs.declared.error.stream.StreamError.{StreamError}
 use Rattle.aho_core.specs.declared.error.stream.StreamError.TheVariants.{Match as Refused, Read, Write, WriteZero, Memory, PositionLimit}
 use Rattle.aho_automaton.specs.declared.automaton.Automaton.{Ghosts}
@@ -17,7 +18,7 @@ use Rattle.aho_stream.specs.After.{greatest_position}
 use Rattle.aho_stream.specs.Replacing.{IsStreamFault}
 use Rattle.acredact.specs.Back.{IsBacking}
 use Rattle.acredact.specs.Faults.{IsStreamEnd}
-use Rattle.acredact.specs.Secrets.{CanRedact, Redactor, redactor_by}
+use Rattle.acredact.specs.Secrets.{CanRedact, Keyed, Redactor}
 use Rattle.acredact.specs.Streams.{StreamOutcome}
 use Rattle.acredact.proofs.Redactions.{begun_by, starts_whole, whole_by}
 use Rattle.acredact.proofs.Suited.{redactor_is}
@@ -41,7 +42,7 @@ back_ends WriteZero is = tt
 back_ends Memory is = tt
 back_ends PositionLimit is = tt
 
-module _ {A R W : Type 0} (G : Ghosts A) (S : SourceGhosts R) (K : SinkGhosts W) (searcher : Backward A) (r : Redactor) (plain : r.covers ≡ false) (is : IsBackwardOf G searcher r.patterns)
+module _ {A R W : Type 0} (G : Ghosts A) (S : SourceGhosts R) (K : SinkGhosts W) (searcher : Backward A) (r : Redactor) (plain : r.covers ≡ false) (unkeyed : r.key ≡ None) (is : IsBackwardOf G searcher r.patterns)
     (source source' : R) (sink sink' : W) where
   -- what comes of a stream that it replaces
   pub outcome_back : (result : Result (Unit {0}) StreamError) → LeavesByBlocks S K (IsBackwardOf G searcher) r.pieces source source' sink sink' greatest_position result
@@ -49,7 +50,7 @@ module _ {A R W : Type 0} (G : Ghosts A) (S : SourceGhosts R) (K : SinkGhosts W)
       → IfErr result (λ error. (error ≡ Memory) ⊎ IsStreamFault error)
       → StreamOutcome S K r result source source' sink sink'
   outcome_back (Ok x) leaves errors only =
-      let whole = whole_by S K r plain (IsBackwardOf G searcher) is (some_back G searcher r.patterns is) source source' sink sink' leaves.replaced_all in
+      let whole = whole_by S K r plain unkeyed (IsBackwardOf G searcher) is (some_back G searcher r.patterns is) source source' sink sink' leaves.replaced_all in
       record {
         redacted = whole;
         begun = starts_whole whole;
@@ -61,7 +62,7 @@ module _ {A R W : Type 0} (G : Ghosts A) (S : SourceGhosts R) (K : SinkGhosts W)
       }
   outcome_back (Err error) leaves errors only = record {
     redacted = tt;
-    begun = begun_by S K r plain (IsBackwardOf G searcher) is (some_back G searcher r.patterns is) source source' sink sink' leaves.begun;
+    begun = begun_by S K r plain unkeyed (IsBackwardOf G searcher) is (some_back G searcher r.patterns is) source source' sink sink' leaves.begun;
     read_failed = errors.read_failed;
     write_failed = errors.write_failed;
     took_nothing = errors.took_nothing;
@@ -70,6 +71,6 @@ module _ {A R W : Type 0} (G : Ghosts A) (S : SourceGhosts R) (K : SinkGhosts W)
   }
 
 -- a searcher and an automaton that suits redact by the patterns of both
-pub backing_is : {A B : Type 0} (G : Ghosts A) (H : Ghosts B) (searcher : Backward B) (automaton : A) (p : Patterns) (covers : Bool) (replacements : List (Bor (List ℕ))) → G.is_of automaton p → IsBackwardOf H searcher p → covers ≡ false
-    → CanRedact G automaton covers replacements → IsBacking G H searcher automaton replacements (redactor_by p covers replacements)
-backing_is G H searcher automaton p covers replacements of back is ready = record { backward = back; forward = redactor_is G automaton p covers false replacements of is ready }
+pub backing_is : {A B : Type 0} (G : Ghosts A) (H : Ghosts B) (searcher : Backward B) (automaton : A) (p : Patterns) (covers : Bool) (replacements : List (Bor (List ℕ))) (key : Option Keyed) → G.is_of automaton p → IsBackwardOf H searcher p → covers ≡ false → key ≡ None
+    → CanRedact G automaton covers replacements → IsBacking G H searcher automaton replacements (record { patterns = p; covers = covers; pieces = pieces_of replacements; key = key })
+backing_is G H searcher automaton p covers replacements key of back is none ready = record { backward = back; forward = redactor_is G automaton p covers false replacements key of is none ready }

@@ -22,7 +22,8 @@ use Rattle.acredact.specs.Calls.{BeginsCall, Call, CallOutcome, IsCountsFailure,
 use Rattle.acredact.specs.Counts.{zeros}
 use Rattle.acredact.specs.Files.{AreCut, FilesOutcome, IsDone, Work, are_none, unread_line}
 use Rattle.acredact.specs.Messages.{output_line}
-use Rattle.acredact.specs.Tables.{Secret, secrets_of}
+use Rattle.acredact.specs.Loading.{Loaded, loaded_as}
+use Rattle.acredact.specs.Secrets.{Keyed}
 use Rattle.acredact.specs.Summaries.{no_volume, totals_text}
 use Rattle.acredact.specs.Totals.{CountsOfNames}
 use Rattle.acredact.specs.Volumes.{ReadsVolume}
@@ -132,12 +133,12 @@ may_fail call fails failure is = inr (inr (inr (inr (inr is))))
 
 -- the files of a call whose patterns were loaded
 module _ {R : Type 0} {Reads : Readers R} {W E : Type 0} (Writes : Writers W) (K : SinkGhosts E) (call : Call) where
-  module _ (secrets : List Secret) (old mid : Streams R W E Reads) where
-    lines_cut : (fails : Type 0) (lines : List (List ℕ)) (left' held held' : Option (List ℕ)) → AreCut (work_by call secrets) (work_by call secrets).names lines (bytes_left old.input) left' held held' → All (IsLineOf call fails) lines
-    lines_cut fails lines left' held held' cut = All-weaker (IsUnreadLine (names_asked call.given)) (IsLineOf call fails) (λ line is. inl is) lines (unread_of (work_by call secrets) (work_by call secrets).names lines (bytes_left old.input) left' held held' cut)
+  module _ (load : Loaded) (old mid : Streams R W E Reads) where
+    lines_cut : (fails : Type 0) (lines : List (List ℕ)) (left' held held' : Option (List ℕ)) → AreCut (work_by call load) (work_by call load).names lines (bytes_left old.input) left' held held' → All (IsLineOf call fails) lines
+    lines_cut fails lines left' held held' cut = All-weaker (IsUnreadLine (names_asked call.given)) (IsLineOf call fails) (λ line is. inl is) lines (unread_of (work_by call load) (work_by call load).names lines (bytes_left old.input) left' held held' cut)
 
     -- the files' redaction fails
-    pub rest_cut : (failure : Failure) → RunOutcome Writes K (work_by call secrets) (Err failure) old mid → RestOutcome Writes K call secrets (Err failure) old mid
+    pub rest_cut : (failure : Failure) → RunOutcome Writes K (work_by call load) (Err failure) old mid → RestOutcome Writes K call load (Err failure) old mid
     rest_cut failure run = record {
       redacts = λ (is : Err failure ≡ Ok true). absurd (cc);
       begins = elim run.cut [
@@ -174,23 +175,23 @@ module _ {R : Type 0} {Reads : Readers R} {W E : Type 0} (Writes : Writers W) (K
         record { first = line; is_line = All-head (IsLineOf call fails) line (lines ++ more) all.are_lines; more = lines ++ more; are_lines = All-tail (IsLineOf call fails) line (lines ++ more) all.are_lines; written = all.written }
 
   -- those whose patterns were loaded as these rules, where all was done
-  module _ (rules : List Rule) (counts : List ℕ) (volume : Volume) (old mid : Streams R W E Reads) where
+  module _ (rules : List Rule) (key : Option (List ℕ)) (counts : List ℕ) (volume : Volume) (old mid : Streams R W E Reads) where
     abbrev Counted : Bool → Bool → Type 0
-    Counted counted all = all ≡ true → CountsOfNames (bytes_left old.input) (bytes_left mid.input) (zeros counted rules) counts (work_by call (secrets_of rules)) (names_asked call.given)
+    Counted counted all = all ≡ true → CountsOfNames (bytes_left old.input) (bytes_left mid.input) (zeros counted rules) counts (work_by call (loaded_as rules key)) (names_asked call.given)
         × ReadsVolume call.holds (names_asked call.given) no_volume volume (bytes_left old.input) (bytes_left mid.input)
 
     -- the counts are told
-    rest_done : (all : Bool) (errors : Errors E) → RunOutcome Writes K (work_by call (secrets_of rules)) (Ok all) old mid → Counted (counts_asked call.given) all
+    rest_done : (all : Bool) (errors : Errors E) → RunOutcome Writes K (work_by call (loaded_as rules key)) (Ok all) old mid → Counted (counts_asked call.given) all
         → MatchBool (counts_asked call.given) (TellsCounts K call.given rules counts volume mid.errors errors) (errors ≡ mid.errors) → Tells K (IsCountsLine call.given) mid.errors errors
-        → RestOutcome Writes K call (secrets_of rules) (Ok all) old (record mid { errors = errors })
+        → RestOutcome Writes K call (loaded_as rules key) (Ok all) old (record mid { errors = errors })
     rest_done all errors run grown are_told told =
         let (lines, is_all, (done, first)) = run.done in
-        let cut = cut_of (work_by call (secrets_of rules)) _ lines _ _ _ _ done in
-        let are = λ (fails : Type 0). lines_cut (secrets_of rules) old mid fails lines _ _ _ cut in
+        let cut = cut_of (work_by call (loaded_as rules key)) _ lines _ _ _ _ done in
+        let are = λ (fails : Type 0). lines_cut (loaded_as rules key) old mid fails lines _ _ _ cut in
         record {
           redacts = λ (is : Ok all ≡ Ok true).
               let so : all ≡ true = cc in
-              redacted_of (work_by call (secrets_of rules)) _ lines _ _ _ _ (none_are lines (sym is_all ∙ so)) done;
+              redacted_of (work_by call (loaded_as rules key)) _ lines _ _ _ _ (none_are lines (sym is_all ∙ so)) done;
           begins = inr (lines, cut);
           quiet = λ none (is : Ok all ≡ Ok true). subst (λ (b : Bool). MatchBool b (TellsCounts K call.given rules counts volume mid.errors errors) (errors ≡ mid.errors)) none are_told ∙ run.quiet is;
           counts = λ some (is : Ok all ≡ Ok true).
@@ -206,19 +207,19 @@ module _ {R : Type 0} {Reads : Readers R} {W E : Type 0} (Writes : Writers W) (K
               );
           partly = λ (is : Ok all ≡ Ok false).
               let so : all ≡ false = cc in
-              some_both (secrets_of rules) old mid _ lines told.told errors (sym so ∙ is_all) (are _) told.are_lines first told.written;
+              some_both (loaded_as rules key) old mid _ lines told.told errors (sym so ∙ is_all) (are _) told.are_lines first told.written;
           fails = tt;
           told = tt;
           other = tt;
         }
 
     -- or they are not
-    rest_untold : (all : Bool) (errors : Errors E) (failure : Failure) → RunOutcome Writes K (work_by call (secrets_of rules)) (Ok all) old mid
+    rest_untold : (all : Bool) (errors : Errors E) (failure : Failure) → RunOutcome Writes K (work_by call (loaded_as rules key)) (Ok all) old mid
         → IsCountsFailure (counts_asked call.given) failure → Tells K (IsCountsLine call.given) mid.errors errors
-        → RestOutcome Writes K call (secrets_of rules) (Err failure) old (record mid { errors = errors })
+        → RestOutcome Writes K call (loaded_as rules key) (Err failure) old (record mid { errors = errors })
     rest_untold all errors failure run fails told =
         let (lines, is_all, (done, first)) = run.done in
-        let cut = cut_of (work_by call (secrets_of rules)) _ lines _ _ _ _ done in
+        let cut = cut_of (work_by call (loaded_as rules key)) _ lines _ _ _ _ done in
         record {
           redacts = λ (is : Err failure ≡ Ok true). absurd (cc);
           begins = inr (lines, cut);
@@ -230,34 +231,35 @@ module _ {R : Type 0} {Reads : Readers R} {W E : Type 0} (Writes : Writers W) (K
             | inr memory ↦ may_fail call _ failure (inl memory)
           ];
           other = λ unclean is. counts_other (counts_asked call.given) failure unclean fails is;
-          told = lines_both (secrets_of rules) old mid _ lines told.told errors (lines_cut (secrets_of rules) old mid _ lines _ _ _ cut) told.are_lines first told.written;
+          told = lines_both (loaded_as rules key) old mid _ lines told.told errors (lines_cut (loaded_as rules key) old mid _ lines _ _ _ cut) told.are_lines first told.written;
         }
 
     -- by what is answered of that
-    pub rest_told : (all counted : Bool) (result : Result Bool Failure) (errors : Errors E) → counted ≡ counts_asked call.given → RunOutcome Writes K (work_by call (secrets_of rules)) (Ok all) old mid
+    pub rest_told : (all counted : Bool) (result : Result Bool Failure) (errors : Errors E) → counted ≡ counts_asked call.given → RunOutcome Writes K (work_by call (loaded_as rules key)) (Ok all) old mid
         → Counted counted all → IfOk result (λ done. done ≡ all) → OnOk result (MatchBool counted (TellsCounts K call.given rules counts volume mid.errors errors) (errors ≡ mid.errors))
-        → IfErr result (IsCountsFailure counted) → Tells K (IsCountsLine call.given) mid.errors errors → RestOutcome Writes K call (secrets_of rules) result old (record mid { errors = errors })
+        → IfErr result (IsCountsFailure counted) → Tells K (IsCountsLine call.given) mid.errors errors → RestOutcome Writes K call (loaded_as rules key) result old (record mid { errors = errors })
     rest_told all counted (Ok done) errors is run grown same are_told fails told =
-        subst (λ (b : Bool). RestOutcome Writes K call (secrets_of rules) (Ok b) old (record mid { errors = errors })) (sym same)
+        subst (λ (b : Bool). RestOutcome Writes K call (loaded_as rules key) (Ok b) old (record mid { errors = errors })) (sym same)
         (rest_done all errors run (subst (λ (b : Bool). Counted b all) is grown) (subst (λ (b : Bool). MatchBool b (TellsCounts K call.given rules counts volume mid.errors errors) (errors ≡ mid.errors)) is are_told)
         told)
     rest_told all counted (Err failure) errors is run grown same are_told fails told =
         rest_untold all errors failure run (subst (λ (b : Bool). IsCountsFailure b failure) is fails) told
 
--- what holds of some work holds of the same with the same names, pieces and way
-pub work_as : (holds : List ℕ → Option (List ℕ)) (refuses : List ℕ → Reason → Type 0) (meets : List ℕ → Bool → Type 0) (p : Patterns) (names names' pieces pieces' : List (List ℕ)) (covers covers' : Bool) → names ≡ names' → covers ≡ covers' → pieces ≡ pieces'
-    → (P : Work → Type 0) → P (record { holds = holds; refuses = refuses; meets = meets; names = names; redactor = record { patterns = p; covers = covers; pieces = pieces } })
-    → P (record { holds = holds; refuses = refuses; meets = meets; names = names'; redactor = record { patterns = p; covers = covers'; pieces = pieces' } })
-work_as holds refuses meets p names names' pieces pieces' covers covers' same by alike P is =
-    subst (λ (l : List (List ℕ)). P (record { holds = holds; refuses = refuses; meets = meets; names = names'; redactor = record { patterns = p; covers = covers'; pieces = l } })) alike
-    (subst (λ (b : Bool). P (record { holds = holds; refuses = refuses; meets = meets; names = names'; redactor = record { patterns = p; covers = b; pieces = pieces } })) by
-    (subst (λ (l : List (List ℕ)). P (record { holds = holds; refuses = refuses; meets = meets; names = l; redactor = record { patterns = p; covers = covers; pieces = pieces } })) same is))
+-- what holds of some work holds of the same with the same names, pieces, key and way
+pub work_as : (holds : List ℕ → Option (List ℕ)) (refuses : List ℕ → Reason → Type 0) (meets : List ℕ → Bool → Type 0) (p : Patterns) (names names' pieces pieces' : List (List ℕ)) (covers covers' : Bool) (key key' : Option Keyed) → names ≡ names' → covers ≡ covers' → pieces ≡ pieces' → key ≡ key'
+    → (P : Work → Type 0) → P (record { holds = holds; refuses = refuses; meets = meets; names = names; redactor = record { patterns = p; covers = covers; pieces = pieces; key = key } })
+    → P (record { holds = holds; refuses = refuses; meets = meets; names = names'; redactor = record { patterns = p; covers = covers'; pieces = pieces'; key = key' } })
+work_as holds refuses meets p names names' pieces pieces' covers covers' key key' same by alike keyed P is =
+    subst (λ (k : Option Keyed). P (record { holds = holds; refuses = refuses; meets = meets; names = names'; redactor = record { patterns = p; covers = covers'; pieces = pieces'; key = k } })) keyed
+    (subst (λ (l : List (List ℕ)). P (record { holds = holds; refuses = refuses; meets = meets; names = names'; redactor = record { patterns = p; covers = covers'; pieces = l; key = key } })) alike
+    (subst (λ (b : Bool). P (record { holds = holds; refuses = refuses; meets = meets; names = names'; redactor = record { patterns = p; covers = b; pieces = pieces; key = key } })) by
+    (subst (λ (l : List (List ℕ)). P (record { holds = holds; refuses = refuses; meets = meets; names = l; redactor = record { patterns = p; covers = covers; pieces = pieces; key = key } })) same is)))
 
 -- a call as it is from a state whose input was read further
 module _ {R : Type 0} {Reads : Readers R} {W E : Type 0} (Writes : Writers W) (K : SinkGhosts E) (call : Call) (left : Option (List ℕ)) where
   begins_from : (old new : Streams R W E Reads) (input : FromRead R Reads) → BeginsCall Writes call left (record old { input = input }) new → BeginsCall Writes call left old new
   begins_from old new input (inl same) = inl same
-  begins_from old new input (inr begun) = inr (record { secrets = begun.secrets; between = begun.between; loaded = begun.loaded; lines = begun.lines; cut = begun.cut })
+  begins_from old new input (inr begun) = inr (record { load = begun.load; between = begun.between; loaded = begun.loaded; lines = begun.lines; cut = begun.cut })
 
   refused_from : (old new : Streams R W E Reads) (input : FromRead R Reads) (result : Result Bool Failure) → IfErr result (λ failure. (unclean : Unclean) → failure ≡ UncleanPiece unclean → IsUntouched Writes K (record old { input = input }) new)
       → IfErr result (λ failure. (unclean : Unclean) → failure ≡ UncleanPiece unclean → IsUntouched Writes K old new)
@@ -266,13 +268,13 @@ module _ {R : Type 0} {Reads : Readers R} {W E : Type 0} (Writes : Writers W) (K
 
   pub call_from : (old new : Streams R W E Reads) (input : FromRead R Reads) (result : Result Bool Failure) → CallOutcome Writes K call left result (record old { input = input }) new → CallOutcome Writes K call left result old new
   call_from old new input result of = record {
-    redacts = λ is. let done = of.redacts is in record { secrets = done.secrets; between = done.between; loaded = done.loaded; redacted = done.redacted };
-    strict = λ asked is. let done = of.strict asked is in record { secrets = done.secrets; between = done.between; loaded = done.loaded; free = done.free };
+    redacts = λ is. let done = of.redacts is in record { load = done.load; between = done.between; loaded = done.loaded; redacted = done.redacted };
+    strict = λ asked is. let done = of.strict asked is in record { load = done.load; between = done.between; loaded = done.loaded; free = done.free };
     refused = refused_from old new input result of.refused;
     begins = begins_from old new input of.begins;
     quiet = of.quiet;
     counts = λ some is. let done = of.counts some is in record {
-      secrets = done.secrets;
+      load = done.load;
       between = done.between;
       loaded = done.loaded;
       redacted = done.redacted;
@@ -292,7 +294,7 @@ module _ {R : Type 0} {Reads : Readers R} {W E : Type 0} (Writes : Writers W) (K
   -- and to one in which more was told
   pub begins_told : (old new : Streams R W E Reads) (errors : Errors E) → BeginsCall Writes call left old new → BeginsCall Writes call left old (record new { errors = errors })
   begins_told old new errors (inl same) = inl same
-  begins_told old new errors (inr begun) = inr (record { secrets = begun.secrets; between = begun.between; loaded = begun.loaded; lines = begun.lines; cut = begun.cut })
+  begins_told old new errors (inr begun) = inr (record { load = begun.load; between = begun.between; loaded = begun.loaded; lines = begun.lines; cut = begun.cut })
 
 -- a line more
 pub tells_last : {E : Type 0} (K : SinkGhosts E) (IsLine : List ℕ → Type 0) (old mid new : Errors E) (line : List ℕ) → Tells K IsLine old mid → IsLine line → TellsBytes K mid new line → TellsSome K IsLine old new

@@ -32,7 +32,7 @@ use Rattle.acredact.specs.Faults.{IsStreamEnd}
 use Rattle.acredact.specs.Secrets.{BeginsRedaction, Redactor}
 use Rattle.acredact.specs.Streams.{RedactsStream, StreamOutcome, WritesPiece}
 use Rattle.acredact.specs.Totals.{CountsOfStream}
-use Rattle.acredact.proofs.Redactions.{begins_by, begins_nothing, of_finds, redaction_by, some_by, starts_whole, to_finds}
+use Rattle.acredact.proofs.Redactions.{begins_by, begins_nothing, of_finds, redacted, redacted_alike, redaction_by, some_by, starts_whole, to_finds}
 
 -- an error of a run: of the reading where it stopped, or of a write
 abbrev IsRunError : Bool → StreamError → Type 0
@@ -212,7 +212,7 @@ begins_known bytes rest count within is =
 same_beginning : (old new : List ℕ) (bytes rest : List ℕ) (count : ℕ) → new ≡ old ++ bytes → count ≤ length rest → new ≡ old ++ take count rest → StartsWith rest bytes
 same_beginning old new bytes rest count first within second = begins_known bytes rest count within (append_cancel_left old bytes (take count rest) (sym first ∙ second))
 
-module _ (r : Redactor) (plain : r.covers ≡ false) (some : 1 ≤ shortest (map length r.patterns.words)) (given : List ℕ) (ended : Bool) where
+module _ (r : Redactor) (plain : r.covers ≡ false) (unkeyed : r.key ≡ None) (some : 1 ≤ shortest (map length r.patterns.words)) (given : List ℕ) (ended : Bool) where
   -- a beginning of each replacement that may come was written
   abbrev BeginsEach : (old new : Option (List ℕ)) → Type 0
   BeginsEach old new = (bytes : List ℕ) (ms : List Occurrence) → MayBe given ended bytes → AreFinds r.patterns (plain_search bytes) None ms → AppendsBeginning old new (replaced bytes ms r.pieces)
@@ -228,11 +228,12 @@ module _ (r : Redactor) (plain : r.covers ≡ false) (some : 1 ≤ shortest (map
       let one = each given finds.0 (no_more given ended) finds.1 in
       let part = take one.0 (replaced given finds.0 r.pieces) in (
         part,
-        begins_by r some given ended part (λ bytes ms may found. let other = each bytes ms may (to_finds r plain bytes ms found) in same_beginning old new part (replaced bytes ms r.pieces) other.0 one.2 other.1 other.2),
+        begins_by r some given ended part (λ bytes ms may found. let other = each bytes ms may (to_finds r plain bytes ms found) in
+            subst (λ (all : List ℕ). StartsWith all part) (sym (redacted_alike r unkeyed bytes ms)) (same_beginning old new part (replaced bytes ms r.pieces) other.0 one.2 other.1 other.2)),
         one.2,
       )
 
-module _ {A R W F : Type 0} (G : Ghosts A) (S : SourceGhosts R) (K : SinkGhosts W) (automaton : A) (r : Redactor) (plain : r.covers ≡ false) (of : G.is_of automaton r.patterns)
+module _ {A R W F : Type 0} (G : Ghosts A) (S : SourceGhosts R) (K : SinkGhosts W) (automaton : A) (r : Redactor) (plain : r.covers ≡ false) (unkeyed : r.key ≡ None) (of : G.is_of automaton r.patterns)
     (are : G.lengths automaton ≡ map length r.patterns.words) (can : CanBegin G automaton)
     (calls : Mut F (Bor Occurrence × (Bor (List ℕ) × (MutBor W × Unit {0}))) (Result (Unit {0}) StreamError × (MutBor W × Unit {0})))
     (source source' : R) (closure : F) (sink sink' : W) (Fits : F → Type 0) (fits : Fits closure)
@@ -241,7 +242,7 @@ module _ {A R W F : Type 0} (G : Ghosts A) (S : SourceGhosts R) (K : SinkGhosts 
     (fails : (f : F) (m : Occurrence) (matched : List ℕ) (old : W) (reason : StreamError) (next : F) (new : W) → Fits f → CalledOn calls f m matched old (Err reason) next new
     → WritesPiece K (Err reason) old new (slice_index_or r.pieces m.pattern [])) where
   some_one : 1 ≤ shortest (map length r.patterns.words)
-  some_one = some_by G S K automaton r plain of are can source source' sink sink'
+  some_one = some_by G S K automaton r plain unkeyed of are can source source' sink sink'
 
   -- what a run took, by the finds of any text that may come
   over_takes : (result : Result (Unit {0}) StreamError) (over : RunsOver S K (G.is_of automaton) calls source source' closure sink result sink') (bytes : List ℕ) (ms : List Occurrence)
@@ -266,9 +267,9 @@ module _ {A R W F : Type 0} (G : Ghosts A) (S : SourceGhosts R) (K : SinkGhosts 
       let whole : RedactsStream S K r source source' sink sink' = record {
         text = over.given;
         gives = subst (SourceGave S source source' over.given) over.whole over.gives;
-        redaction = replaced over.given taken.0 r.pieces;
+        redaction = redacted r over.given taken.0;
         redacts = redaction_by r some_one over.given taken.0 (of_finds r plain over.given taken.0 taken.1);
-        written = taken.2.whole;
+        written = subst (Appends (K.taken sink) (K.taken sink')) (sym (redacted_alike r unkeyed over.given taken.0)) taken.2.whole;
       } in
       record {
         redacted = whole;
@@ -283,7 +284,7 @@ module _ {A R W F : Type 0} (G : Ghosts A) (S : SourceGhosts R) (K : SinkGhosts 
   ran_begun : (error : StreamError) → RunsOver S K (G.is_of automaton) calls source source' closure sink (Err error) sink' → StreamOutcome S K r (Err error) source source' sink sink'
   ran_begun error over =
       let taken = given_takes (Err error) over in
-      let begun = begins_each r plain some_one over.given over.ended (K.taken sink) (K.taken sink') (λ bytes ms may found. (over_takes (Err error) over bytes ms may found).beginning) in
+      let begun = begins_each r plain unkeyed some_one over.given over.ended (K.taken sink) (K.taken sink') (λ bytes ms may found. (over_takes (Err error) over bytes ms may found).beginning) in
       record {
         redacted = tt;
         begun = record { given = over.given; ended = over.ended; gives = over.gives; part = begun.0; begins = begun.1; written = begun.2 };

@@ -16,12 +16,13 @@ use Rattle.aho_core.specs.Search.{plain_search}
 use Rattle.aho_laws.specs.CoverLaws.{AreClean, IsCleanPiece}
 use Rattle.aho_laws.specs.CutLaws.{NoneHolds}
 use Rattle.programs.specs.Asked.{ArePatterns}
-use Rattle.acredact.specs.Pieces.{WordsAreMarked, HoldNone, HoldsByte, IsFlaw, IsHolder, IsMarked, IsUnclean}
+use Rattle.acredact.specs.Pieces.{WordsAreMarked, HoldNone, IsFlaw, IsHolder, IsMarked, IsUnclean}
 use Rattle.acredact.specs.Secrets.{NoneOccurs}
+use Rattle.acredact.specs.Spelling.{HoldsByte}
 use Rattle.acredact.specs.Tables.{piece_by, secret_of, secrets_of}
 use Rattle.acredact.specs.declared.patterns.Rule.{Rule}
 use Rattle.acredact.specs.declared.clean.Flaw.{Flaw}
-use Rattle.acredact.specs.declared.clean.Flaw.TheVariants.{Empty, Spells}
+use Rattle.acredact.specs.declared.clean.Flaw.TheVariants.{Empty, Pseudonym, Spells}
 
 -- what stands at a place is a member, and each member stands at one
 pub member_at : (xs : List ℕ) (place : ℕ) → place < length xs → IsMember xs (get_or xs place 0)
@@ -64,10 +65,10 @@ unmarked ignore_case words marks byte place marked is not number numbered (other
     let clash : true ≡ false = sym (marked number numbered other member) ∙ ap (λ (n : ℕ). get_or marks n false) (same ∙ sym is) ∙ not in cc
 
 -- the first and the last byte of a piece
-first_is : (piece rest : List ℕ) (byte : ℕ) → piece ≡ byte ∷ rest → get_or piece 0 0 ≡ byte
+pub first_is : (piece rest : List ℕ) (byte : ℕ) → piece ≡ byte ∷ rest → get_or piece 0 0 ≡ byte
 first_is piece rest byte is = ap (λ (l : List ℕ). get_or l 0 0) is
 
-last_is : (piece front : List ℕ) (byte : ℕ) → piece ≡ front ++ byte ∷ [] → get_or piece (length piece - 1) 0 ≡ byte
+pub last_is : (piece front : List ℕ) (byte : ℕ) → piece ≡ front ++ byte ∷ [] → get_or piece (length piece - 1) 0 ≡ byte
 last_is piece front byte is =
     let count : length piece - 1 ≡ length front = omega (arith, ap length is ∙ length-append front (byte ∷ [])) in
     ap (λ (n : ℕ). get_or piece n 0) count ∙ ap (λ (l : List ℕ). get_or l (length front) 0) is ∙ get_or-append_seam front byte [] 0
@@ -129,6 +130,7 @@ spells_within p piece m occurs = (m.pattern, refl, occurs.numbered, inr (inr (m,
 -- what has a flaw is not clean
 pub flawed : (p : Patterns) (piece : List ℕ) (flaw : Flaw) → IsFlaw p piece flaw → IsCleanPiece p piece → ⊥
 flawed p piece Empty is clean = absurd (omega (arith, clean.some, ap length is))
+flawed p piece Pseudonym is clean = absurd is
 flawed p piece (Spells told) (number, is, numbered, inl (byte, rest, split, (other, member, same))) clean = clean.first byte rest split number other numbered member same
 flawed p piece (Spells told) (number, is, numbered, inr (inl (byte, front, split, (other, member, same)))) clean = clean.last byte front split number other numbered member same
 flawed p piece (Spells told) (number, is, numbered, inr (inr (m, occurs, named))) clean = clean.none m occurs

@@ -1,11 +1,10 @@
 -- Where the pieces are clean no pattern occurs in what was written of a file.
 use Rattle.std.proofs.Common.{◌≡◌, ℕ, List, [], ◌∷◌, Option, true, false}
-use Rattle.std.specs.Prelude.{Bool, MatchBool}
+use Rattle.std.specs.Prelude.{Bool, MatchBool, is_some}
 use Rattle.programs.specs.Names.{is_input}
-use Rattle.aho_laws.specs.CoverLaws.{AreClean}
 use Rattle.acredact.specs.Files.{AreFree, AreRedacted, IsFree, RedactsText, Work, WritesText}
 use Rattle.acredact.specs.Reads.{OfName}
-use Rattle.acredact.specs.Secrets.{Redactor}
+use Rattle.acredact.specs.Secrets.{AreCleanBy, Redactor}
 
 -- what is so of a text is so of that of a name
 named_as : (holds : List ℕ → Option (List ℕ)) (name : List ℕ) (One Other : Option (List ℕ) → Option (List ℕ) → Type 0) → ((l l' : Option (List ℕ)) → One l l' → Other l l')
@@ -16,10 +15,10 @@ named_as holds name One Other to left left' is = by (is_input name) is
     by true here = to left left' here
     by false (same, rest, there) = (same, rest, to (holds name) rest there)
 
-text_free : (r : Redactor) → r.covers ≡ true → AreClean r.patterns r.pieces → (left left' held held' : Option (List ℕ)) → RedactsText r left left' held held' → WritesText (IsFree r) left left' held held'
+text_free : (r : Redactor) → r.covers ≡ true → AreCleanBy (is_some r.key) r.patterns r.pieces → (left left' held held' : Option (List ℕ)) → RedactsText r left left' held held' → WritesText (IsFree r) left left' held held'
 text_free r covers clean left left' held held' of = record { text = of.text; reads = of.reads; redaction = of.redaction; redacts = (of.redacts, of.redacts.clean covers clean); written = of.written }
 
-pub free_of : (work : Work) → work.redactor.covers ≡ true → AreClean work.redactor.patterns work.redactor.pieces → (names : List (List ℕ)) (left left' held held' : Option (List ℕ)) → AreRedacted work names left left' held held' → AreFree work names left left' held held'
+pub free_of : (work : Work) → work.redactor.covers ≡ true → AreCleanBy (is_some work.redactor.key) work.redactor.patterns work.redactor.pieces → (names : List (List ℕ)) (left left' held held' : Option (List ℕ)) → AreRedacted work names left left' held held' → AreFree work names left left' held held'
 free_of work covers clean [] left left' held held' are = are
 free_of work covers clean (name ∷ names) left left' held held' (between, meanwhile, apart, is, others) = (
   between,

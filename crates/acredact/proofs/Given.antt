@@ -1,7 +1,7 @@
 -- Right arguments have nothing wrong.
-use Rattle.std.proofs.Common.{◌≡◌, inl, inr, ℕ, List, [], ◌∷◌, Option, refl, sym, ap, ◌∙◌, Bool, true, false}
-use Rattle.std.specs.Prelude.{◌&&◌, ◌||◌, Some, None, if◌then◌else◌, is_some, not, option_and_then, option_map}
-use Rattle.acredact.specs.Arguments.{Given, ItemsSoFar, all_asked, by_argument, covers_asked, fitting_by, given_by, given_from, has, last_value, mixture_of, output_asked}
+use Rattle.std.proofs.Common.{◌≡◌, inl, inr, ℕ, List, [], ◌∷◌, Option, refl, sym, ap, ◌∙◌}
+use Rattle.std.specs.Prelude.{Some, None, option_and_then}
+use Rattle.acredact.specs.Arguments.{Given, ItemsSoFar, all_asked, by_argument, fitting_by, given_by, given_from, mixture_of}
 use Rattle.acredact.specs.Mistakes.{IsMistakeOfCall, line_of_argument, first_mistake_line, line_from, line_or}
 use Rattle.acredact.specs.declared.arguments.Expects.{Expects}
 use Rattle.acredact.specs.declared.arguments.Expects.TheVariants.{Any, Value, Name}

@@ -4,6 +4,7 @@ mod Covered
 mod Lines
 -- what is written is a redaction, or begins one
 mod Redactions
+mod MadeClean
 -- what a replacement by a closure writes
 mod Counted
 -- what comes of files
@@ -22,6 +23,7 @@ mod Metering
 mod Refused
 -- which pieces are clean, and what follows
 mod Flaws
+mod NoneSpelled
 mod Free
 mod Calls
 mod Warned

@@ -1,10 +1,10 @@
 -- How an argument is read: by what it begins with.
-use Rattle.std.proofs.Common.{◌≡◌, ◌⊎◌, inl, inr, ◌==◌, ◌≤◌, ℕ, false, true, List, [], ◌∷◌, ◌++◌, Option, take, drop, codes, length, refl, sym, ap, ◌∙◌, arith, take-append-drop}
+use Rattle.std.proofs.Common.{◌≡◌, ◌⊎◌, inl, inr, ◌==◌, ◌≤◌, ℕ, false, List, [], ◌∷◌, ◌++◌, take, drop, codes, length, refl, sym, ap, ◌∙◌, arith, take-append-drop}
 use Rattle.std.specs.Prelude.{◌≢◌, None, Some}
 use Rattle.std.proofs.lemmas.Bool.{cases_Bool, eqb-true}
 use Rattle.std.proofs.lemmas.Slice.Eq.{bytes_eq-Decides}
 use Rattle.std.specs.Str.{bytes_eq}
-use Rattle.acredact.specs.Arguments.{Given, ItemsSoFar, by_any, by_argument, given_from, by_letter, by_letters, by_plain, with_item}
+use Rattle.acredact.specs.Arguments.{Given, by_any, by_argument, by_letter, by_letters, by_plain, with_item}
 use Rattle.acredact.specs.Mistakes.{IsMistake, mistake_line, line_of_any, line_of_argument, first_mistake_line, line_from, line_of_letter, line_of_letters, line_or, line_of_plain}
 use Rattle.acredact.specs.declared.arguments.Expects.{Expects}
 use Rattle.acredact.specs.declared.arguments.Expects.TheVariants.{Any}

@@ -21,7 +21,7 @@ use Rattle.acredact.specs.Looks.{CanLook}
 use Rattle.acredact.specs.Secrets.{CanRedact}
 use Rattle.acredact.specs.Tables.{HaveNoEmpty, HoldsBy, Secret, patterns_in}
 use Rattle.acredact.specs.declared.arguments.Word.{Word}
-use Rattle.acredact.specs.declared.arguments.Word.TheVariants.{IgnoreCase, Kind, Pattern, Patterns as PatternFile, Table, With, Output, InPlace, Count, Summary, Crlf, AllowEmpty, Strict, Check, Help, Version, File}
+use Rattle.acredact.specs.declared.arguments.Word.TheVariants.{IgnoreCase, Kind, Pattern, Patterns as PatternFile, Table, With, Pseudonym, Output, InPlace, Count, Summary, Crlf, AllowEmpty, Strict, Check, Help, Version, File}
 use Rattle.acredact.specs.declared.folder.Folder.{Ghosts as Folders}
 use Rattle.acredact.specs.declared.load.Lists.{Lists}
 use Rattle.acredact.specs.declared.patterns.Form.{Form}
@@ -50,6 +50,7 @@ option_some reading Table value secrets left left' gives = lines_some _ _ secret
 option_some reading IgnoreCase value secrets left left' gives = none_some secrets gives.0
 option_some reading Kind value secrets left left' gives = none_some secrets gives.0
 option_some reading With value secrets left left' gives = none_some secrets gives.0
+option_some reading Pseudonym value secrets left left' gives = none_some secrets gives.0
 option_some reading Output value secrets left left' gives = none_some secrets gives.0
 option_some reading Count value secrets left left' gives = none_some secrets gives.0
 option_some reading Summary value secrets left left' gives = none_some secrets gives.0

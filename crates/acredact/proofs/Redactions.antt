@@ -1,20 +1,20 @@
 -- What a cover or a replacement of a stream writes is a redaction, and what it begins is begun.
 use Rattle.std.proofs.Common.{◌≡◌, ◌≢◌, ℕ, ◌<◌, ◌≤◌, ◌++◌, List, [], true, false, length, map, refl, sym, ap, subst, ◌∙◌, append-nil, arith, le_refl}
-use Rattle.std.specs.Prelude.{Bool, MatchBool, None, Result, Ok, Err, IfErr, OnErr, OnOk}
+use Rattle.std.specs.Prelude.{Bool, MatchBool, Option, None, Some, Result, Ok, Err, IfErr, OnErr, OnOk, is_some}
 use Rattle.std.specs.Io.{StartsWith}
+use Rattle.std.specs.Io.KnownBytes.{Appends}
 use Rattle.std.proofs.Math.Seq.{take-length}
-use Rattle.aho_core.specs.Cover.{AreRuns, IsCover}
+use Rattle.aho_core.specs.Cover.{AreRuns}
 use Rattle.aho_core.specs.Iteration.{AreFinds}
 use Rattle.aho_core.specs.Laws.{shortest}
 use Rattle.aho_core.specs.Occurrence.{Occurrence}
 use Rattle.aho_core.specs.Patterns.{Patterns}
-use Rattle.aho_core.specs.Replacement.{replaced}
+use Rattle.aho_core.specs.Replacement.{replaced, replaced_by}
 use Rattle.aho_core.specs.Search.{plain_search}
 use Rattle.aho_core.specs.declared.error.MatchErrorKind.{MatchErrorKind}
 use Rattle.aho_core.specs.declared.error.stream.StreamError.{StreamError}
 use Rattle.aho_core.specs.declared.error.stream.StreamError.TheVariants.{Match as Refused, Read, Write, WriteZero, Memory, PositionLimit}
 use Rattle.aho_core.specs.declared.search.Anchored.TheVariants.{No}
-use Rattle.aho_core.specs.declared.search.MatchKind.TheVariants.{Standard}
 use Rattle.aho_devices.specs.Counts.{counted}
 use Rattle.aho_devices.specs.Errors.{CountsErrors}
 use Rattle.aho_devices.specs.Refusals.{is_read_fault, is_write_fault, is_write_of_nothing}
@@ -31,11 +31,16 @@ use Rattle.aho_stream.specs.Refills.{is_limit}
 use Rattle.aho_stream.specs.Replacing.{BeginsReplacing, GaveAsMany, IsStreamFault, MayBe, ReplacesStream}
 use Rattle.aho_stream.specs.StreamRun.{CanBegin}
 use Rattle.acredact.specs.Faults.{IsStreamEnd}
-use Rattle.aho_cover.specs.Covers.{BeginsCovering, CountsRuns, CoversStream, LeavesCovered}
-use Rattle.acredact.specs.Secrets.{AreReplaced, BeginsRedaction, IsRedaction, NoByteIsKept, NoneIsWhole, Redactor}
+use Rattle.aho_cover.specs.Covers.{BeginsCoveringBy, CountsRuns, CoversStreamBy, IsUnbegunCover, LeavesCoveredBy}
+use Rattle.aho_cover.specs.declared.progress.CoverProgress.{CoverProgress}
+use Rattle.aho_cover.specs.Pieces.{IsCoverBy, piece_in}
+use Rattle.pseudonyms.specs.Pseudonyms.{pseudonym_rule}
+use Rattle.acredact.specs.Secrets.{AreCleanBy, AreReplaced, BeginsRedaction, IsRedaction, Keyed, NoByteIsKept, NoneIsWhole, NoneOccurs, Redactor, rule_by, rule_of}
 use Rattle.acredact.specs.Streams.{RedactsStream, StartsStream, StreamOutcome}
 use Rattle.acredact.specs.Totals.{CountsOfStream}
 use Rattle.acredact.proofs.Covered.{none_left}
+use Rattle.acredact.proofs.MadeClean.{made-free}
+use Rattle.acredact.proofs.NoneSpelled.{pseudonyms_clean}
 
 -- some bytes with an end that was seen are all
 all_of : (given text : List ℕ) → MayBe given true text → text ≡ given
@@ -69,24 +74,39 @@ of_runs r covers text ms found = subst (λ (b : Bool). MatchBool b (AreRuns r.pa
 to_runs : (r : Redactor) → r.covers ≡ true → (text : List ℕ) (ms : List Occurrence) → AreReplaced r text ms → AreRuns r.patterns text ms
 to_runs r covers text ms found = subst (λ (b : Bool). MatchBool b (AreRuns r.patterns text ms) (AreFinds r.patterns (plain_search text) None ms)) covers found
 
+-- a text with ranges replaced
+abbrev pub redacted : Redactor → List ℕ → List Occurrence → List ℕ
+redacted r text ranges = replaced_by text ranges (piece_in (rule_of r) text)
+
+-- without a key each pattern has its text
+pub redacted_alike : (r : Redactor) → r.key ≡ None → (text : List ℕ) (ranges : List Occurrence) → redacted r text ranges ≡ replaced text ranges r.pieces
+redacted_alike r unkeyed text ranges = ap (λ (key : Option Keyed). replaced_by text ranges (piece_in (rule_by key r.pieces) text)) unkeyed
+
+-- no pattern occurs in a cover whose pieces are clean
+clean_by : (key : Option Keyed) (p : Patterns) (pieces : List (List ℕ)) → AreCleanBy (is_some key) p pieces → (text : List ℕ) (runs : List Occurrence) → AreRuns p text runs
+    → NoneOccurs p (replaced_by text runs (piece_in (rule_by key pieces) text))
+clean_by None p pieces clean text runs are m occurs = cover-free p pieces clean text (replaced text runs pieces) (runs, are, refl) m occurs
+clean_by (Some key) p pieces clean text runs are m occurs =
+    made-free p (pseudonym_rule key.ignore_case key.bytes) (pseudonyms_clean p clean key.ignore_case key.bytes) text runs are m occurs
+
 module _ (r : Redactor) (some : 1 ≤ shortest (map length r.patterns.words)) where
   -- a text with its ranges replaced is its redaction
-  pub redaction_by : (text : List ℕ) (ranges : List Occurrence) → AreReplaced r text ranges → IsRedaction r text (replaced text ranges r.pieces)
+  pub redaction_by : (text : List ℕ) (ranges : List Occurrence) → AreReplaced r text ranges → IsRedaction r text (redacted r text ranges)
   redaction_by text ranges found = record {
     ranges = ranges;
     found = found;
     safe = safe_by r.patterns text r.covers ranges some found;
     is = refl;
-    clean = λ covers are m. cover-free r.patterns r.pieces are text (replaced text ranges r.pieces) (ranges, to_runs r covers text ranges found, refl) m;
+    clean = λ covers are m. clean_by r.key r.patterns r.pieces are text ranges (to_runs r covers text ranges found) m;
   }
 
   -- what begins the replacement of each text that may come begins its redaction
   pub begins_by : (given : List ℕ) (ended : Bool) (part : List ℕ)
-      → ((text : List ℕ) (ranges : List Occurrence) → MayBe given ended text → AreReplaced r text ranges → StartsWith (replaced text ranges r.pieces) part)
+      → ((text : List ℕ) (ranges : List Occurrence) → MayBe given ended text → AreReplaced r text ranges → StartsWith (redacted r text ranges) part)
       → BeginsRedaction r given ended part
   begins_by given ended part beginning text may =
       let ranges = ranges_exist r.patterns text r.covers in
-      (replaced text ranges.0 r.pieces, redaction_by text ranges.0 ranges.1, beginning text ranges.0 may ranges.1)
+      (redacted r text ranges.0, redaction_by text ranges.0 ranges.1, beginning text ranges.0 may ranges.1)
 
   -- nothing begins each
   pub begins_nothing : (given : List ℕ) (ended : Bool) → BeginsRedaction r given ended []
@@ -109,7 +129,7 @@ module _ {R W : Type 0} {S : SourceGhosts R} {K : SinkGhosts W} {r : Redactor} {
   }
 
 -- what replaces the finds of the patterns that are searched for redacts by these
-module _ {R W : Type 0} (S : SourceGhosts R) (K : SinkGhosts W) (r : Redactor) (plain : r.covers ≡ false) (AreSearched : Patterns → Type 0) (of : AreSearched r.patterns)
+module _ {R W : Type 0} (S : SourceGhosts R) (K : SinkGhosts W) (r : Redactor) (plain : r.covers ≡ false) (unkeyed : r.key ≡ None) (AreSearched : Patterns → Type 0) (of : AreSearched r.patterns)
     (some : 1 ≤ shortest (map length r.patterns.words)) (source source' : R) (sink sink' : W) where
   pub whole_by : ReplacesStream S K AreSearched r.pieces source source' sink sink' → RedactsStream S K r source source' sink sink'
   whole_by whole =
@@ -117,9 +137,9 @@ module _ {R W : Type 0} (S : SourceGhosts R) (K : SinkGhosts W) (r : Redactor) (
       record {
         text = whole.given;
         gives = whole.gives;
-        redaction = replaced whole.given finds.0 r.pieces;
+        redaction = redacted r whole.given finds.0;
         redacts = redaction_by r some whole.given finds.0 (of_finds r plain whole.given finds.0 finds.1);
-        written = whole.writes r.patterns finds.0 of finds.1;
+        written = subst (Appends (K.taken sink) (K.taken sink')) (sym (redacted_alike r unkeyed whole.given finds.0)) (whole.writes r.patterns finds.0 of finds.1);
       }
 
   pub begun_by : BeginsReplacing S K AreSearched r.pieces source source' sink sink' → StartsStream S K r source source' sink sink'
@@ -128,7 +148,8 @@ module _ {R W : Type 0} (S : SourceGhosts R) (K : SinkGhosts W) (r : Redactor) (
     ended = begun.ended;
     gives = begun.gives;
     part = begun.written;
-    begins = begins_by r some begun.given begun.ended begun.written (λ text ms may found. begun.beginning r.patterns text ms of may (to_finds r plain text ms found));
+    begins = begins_by r some begun.given begun.ended begun.written (λ text ms may found.
+        subst (λ (bytes : List ℕ). StartsWith bytes begun.written) (sym (redacted_alike r unkeyed text ms)) (begun.beginning r.patterns text ms of may (to_finds r plain text ms found)));
     written = begun.writes;
   }
 
@@ -136,7 +157,7 @@ module _ {R W : Type 0} (S : SourceGhosts R) (K : SinkGhosts W) (r : Redactor) (
 pub some_of : {A : Type 0} (G : Ghosts A) (automaton : A) (p : Patterns) → G.lengths automaton ≡ map length p.words → CanBegin G automaton → 1 ≤ shortest (map length p.words)
 some_of G automaton p are can = subst (λ (ns : List ℕ). 1 ≤ shortest ns) are can.1
 
-module _ {A R W : Type 0} (G : Ghosts A) (S : SourceGhosts R) (K : SinkGhosts W) (automaton : A) (r : Redactor) (plain : r.covers ≡ false) (of : G.is_of automaton r.patterns)
+module _ {A R W : Type 0} (G : Ghosts A) (S : SourceGhosts R) (K : SinkGhosts W) (automaton : A) (r : Redactor) (plain : r.covers ≡ false) (unkeyed : r.key ≡ None) (of : G.is_of automaton r.patterns)
     (are : G.lengths automaton ≡ map length r.patterns.words) (can : CanBegin G automaton) (source source' : R) (sink sink' : W) where
   pub some_by : 1 ≤ shortest (map length r.patterns.words)
   some_by = some_of G automaton r.patterns are can
@@ -160,8 +181,8 @@ module _ {A R W : Type 0} (G : Ghosts A) (S : SourceGhosts R) (K : SinkGhosts W)
       → ((sid : ℕ) (reason : MatchErrorKind) → 1 ≤ shortest (G.lengths automaton) → G.start automaton No ≡ Ok sid → result ≢ Err (Refused reason))
       → StreamOutcome S K r result source source' sink sink'
   outcome_of (Ok x) whole begun read_failed write_failed took_nothing limit suits = record {
-    redacted = whole_by S K r plain (G.is_of automaton) of some_by source source' sink sink' whole;
-    begun = starts_whole (whole_by S K r plain (G.is_of automaton) of some_by source source' sink sink' whole);
+    redacted = whole_by S K r plain unkeyed (G.is_of automaton) of some_by source source' sink sink' whole;
+    begun = starts_whole (whole_by S K r plain unkeyed (G.is_of automaton) of some_by source source' sink sink' whole);
     read_failed = read_failed;
     write_failed = write_failed;
     took_nothing = took_nothing;
@@ -170,7 +191,7 @@ module _ {A R W : Type 0} (G : Ghosts A) (S : SourceGhosts R) (K : SinkGhosts W)
   }
   outcome_of (Err error) whole begun read_failed write_failed took_nothing limit suits = record {
     redacted = tt;
-    begun = begun_by S K r plain (G.is_of automaton) of some_by source source' sink sink' begun;
+    begun = begun_by S K r plain unkeyed (G.is_of automaton) of some_by source source' sink sink' begun;
     read_failed = read_failed;
     write_failed = write_failed;
     took_nothing = took_nothing;
@@ -187,35 +208,37 @@ fault_ends WriteZero is = tt
 fault_ends Memory is = tt
 fault_ends PositionLimit is = tt
 
--- the same of a cover
-module _ {A R W : Type 0} (G : Ghosts A) (S : SourceGhosts R) (K : SinkGhosts W) (automaton : A) (r : Redactor) (covers : r.covers ≡ true) (of : G.is_of automaton r.patterns)
-    (are : G.lengths automaton ≡ map length r.patterns.words) (can : CanBegin G automaton) (standard : G.kind automaton ≡ Standard) (source source' : R) (sink sink' : W) where
-  some_cover : 1 ≤ shortest (map length r.patterns.words)
-  some_cover = some_of G automaton r.patterns are can
+-- no pattern is empty where a cover can begin
+pub some_cover : {A : Type 0} (G : Ghosts A) (automaton : A) {progress : CoverProgress} (p : Patterns) → G.lengths automaton ≡ map length p.words → IsUnbegunCover G automaton progress
+    → 1 ≤ shortest (map length p.words)
+some_cover G automaton p are can = subst (λ (ns : List ℕ). 1 ≤ shortest ns) are can.no_empty
 
-  covered_of : CoversStream S K (G.is_of automaton) r.pieces source source' sink sink' → RedactsStream S K r source source' sink sink'
+-- the same of a cover
+module _ {R W : Type 0} (S : SourceGhosts R) (K : SinkGhosts W) (r : Redactor) (covers : r.covers ≡ true) (AreSearched : Patterns → Type 0) (of : AreSearched r.patterns)
+    (some : 1 ≤ shortest (map length r.patterns.words)) (source source' : R) (sink sink' : W) where
+  covered_of : CoversStreamBy S K AreSearched (rule_of r) source source' sink sink' → RedactsStream S K r source source' sink sink'
   covered_of whole =
-      let cover : IsCover r.patterns whole.given r.pieces whole.output = whole.covers r.patterns of in
+      let cover : IsCoverBy r.patterns whole.given (rule_of r) whole.output = whole.covers r.patterns of in
       record {
         text = whole.given;
         gives = whole.gives;
         redaction = whole.output;
-        redacts = subst (IsRedaction r whole.given) (sym cover.2) (redaction_by r some_cover whole.given cover.0 (of_runs r covers whole.given cover.0 cover.1));
+        redacts = subst (IsRedaction r whole.given) (sym cover.2) (redaction_by r some whole.given cover.0 (of_runs r covers whole.given cover.0 cover.1));
         written = whole.writes;
       }
 
-  covering_of : BeginsCovering S K (G.is_of automaton) r.pieces source source' sink sink' → StartsStream S K r source source' sink sink'
+  covering_of : BeginsCoveringBy S K AreSearched (rule_of r) source source' sink sink' → StartsStream S K r source source' sink sink'
   covering_of begun = record {
     given = begun.given;
     ended = begun.ended;
     gives = begun.gives;
     part = begun.written;
-    begins = begins_by r some_cover begun.given begun.ended begun.written
-        (λ text runs may found. begun.beginning r.patterns text (replaced text runs r.pieces) of may (runs, to_runs r covers text runs found, refl));
+    begins = begins_by r some begun.given begun.ended begun.written
+        (λ text runs may found. begun.beginning r.patterns text (redacted r text runs) of may (runs, to_runs r covers text runs found, refl));
     written = begun.writes;
   }
 
-  pub outcome_of_cover : (result : Result (Unit {0}) StreamError) → LeavesCovered S K (G.is_of automaton) r.pieces source source' sink sink' result
+  pub outcome_of_cover : (result : Result (Unit {0}) StreamError) → LeavesCoveredBy S K AreSearched (rule_of r) source source' sink sink' result
       → CountsErrors S K source source' sink sink' result
       → IfErr result IsStreamFault
       → StreamOutcome S K r result source source' sink sink'

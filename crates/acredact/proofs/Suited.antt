@@ -1,5 +1,5 @@
 -- How an automaton redacts streams.
-use Rattle.std.proofs.Common.{◌≡◌, inl, ℕ, ◌≤◌, List, [], ◌∷◌, Option, true, length, map, refl, sym, ap, subst, ◌∙◌, arith}
+use Rattle.std.proofs.Common.{◌≡◌, inl, ℕ, ◌≤◌, List, [], ◌∷◌, Option, true, false, length, map, refl, sym, ap, subst, ◌∙◌, arith}
 use Rattle.std.specs.Prelude.{Bool, None, Some, Result, Ok, Err, if◌then◌else◌}
 use Rattle.std.specs.Borrow.{Bor}
 use Rattle.std.proofs.KnownBytes.{Keeps-refl}
@@ -8,6 +8,7 @@ use Rattle.std.specs.declared.io.traits.Write.{Ghosts as Writers}
 use Rattle.std.proofs.lemmas.Bool.{ne_eqb}
 use Rattle.aho_core.specs.Laws.{shortest}
 use Rattle.aho_core.specs.Patterns.{Patterns}
+use Rattle.aho_core.specs.Replacement.{pieces_of}
 use Rattle.aho_core.specs.declared.error.MatchErrorKind.{MatchErrorKind}
 use Rattle.aho_core.specs.declared.error.MatchErrorKind.TheVariants.{UnsupportedEmpty}
 use Rattle.aho_core.specs.declared.error.stream.StreamError.{StreamError}
@@ -18,14 +19,17 @@ use Rattle.aho_core.specs.declared.search.MatchKind.TheVariants.{Standard}
 use Rattle.aho_automaton.specs.Covering.{cover_refusal}
 use Rattle.aho_automaton.specs.declared.automaton.Automaton.{Ghosts}
 use Rattle.aho_cover.specs.Covers.{IsUnbegunCover, RefusesStreamCover}
+use Rattle.aho_cover.specs.Pieces.{PieceRule}
 use Rattle.aho_cover.specs.declared.progress.CoverProgress.{CoverProgress}
 use Rattle.aho_devices.specs.declared.device.Sink.{Ghosts as SinkGhosts}
 use Rattle.aho_stream.specs.Replacing.{IsMakingRefusal}
 use Rattle.aho_stream.specs.StreamRun.{CanBegin}
-use Rattle.acredact.specs.Files.{AreCut, FilesOutcome, Work}
-use Rattle.acredact.specs.Secrets.{CanRedact, Redactor, redactor_by}
-use Rattle.acredact.specs.Ways.{IsCovering, IsRedactor}
+use Rattle.acredact.specs.Files.{AreCut, FilesOutcome, Work, key_for}
+use Rattle.acredact.specs.Secrets.{CanRedact, Keyed, Redactor, rule_by, rule_of}
+use Rattle.acredact.specs.Ways.{IsCoverer, IsCovering, IsNamedCover, IsRedactor}
 use Rattle.acredact.specs.declared.streams.Streams.{Streams}
+use Rattle.acredact.specs.declared.ways.Key.{Key}
+use Rattle.pseudonyms.specs.Pseudonyms.{pseudonym_rule}
 use Rattle.acredact.proofs.Done.{tells_none}
 use Rattle.acredact.proofs.OneFile.{named_none}
 
@@ -37,20 +41,39 @@ module _ {A : Type 0} (G : Ghosts A) where
       record { redactor = subst (λ (a : A). IsRedactor G a true replacements r) (sym same) is.redactor; unbegun = unbegun }
 
   -- an automaton that suits redacts by its patterns
-  pub redactor_is : (automaton : A) (p : Patterns) (covers wanted : Bool) (replacements : List (Bor (List ℕ))) → G.is_of automaton p → covers ≡ wanted
-      → CanRedact G automaton covers replacements → IsRedactor G automaton wanted replacements (redactor_by p covers replacements)
-  redactor_is automaton p covers wanted replacements of is ready = record {
+  pub redactor_is : (automaton : A) (p : Patterns) (covers wanted : Bool) (replacements : List (Bor (List ℕ))) (key : Option Keyed) → G.is_of automaton p → covers ≡ wanted → key ≡ None
+      → CanRedact G automaton covers replacements → IsRedactor G automaton wanted replacements (record { patterns = p; covers = covers; pieces = pieces_of replacements; key = key })
+  redactor_is automaton p covers wanted replacements key of is none ready = record {
     of = of;
-    is = ap (λ (b : Bool). redactor_by p b replacements) is;
+    is = ap (λ (b : Bool). record { patterns = p; covers = b; pieces = pieces_of replacements; key = key }) is
+        ∙ ap (λ (k : Option Keyed). record { patterns = p; covers = wanted; pieces = pieces_of replacements; key = k }) none;
     ready = subst (λ (b : Bool). CanRedact G automaton b replacements) is ready;
   }
 
   -- and by a cover that has not begun
-  pub covering_is : (automaton automaton' : A) (p : Patterns) (covers : Bool) (replacements : List (Bor (List ℕ))) (progress : CoverProgress) → G.is_of automaton p → covers ≡ true
-      → CanRedact G automaton covers replacements → automaton' ≡ automaton → IsUnbegunCover G automaton progress → IsCovering G automaton' progress replacements (redactor_by p covers replacements)
-  covering_is automaton automaton' p covers replacements progress of is ready same unbegun = record {
-    redactor = subst (λ (a : A). IsRedactor G a true replacements (redactor_by p covers replacements)) (sym same) (redactor_is automaton p covers true replacements of is ready);
+  pub covering_is : (automaton automaton' : A) (p : Patterns) (covers : Bool) (replacements : List (Bor (List ℕ))) (key : Option Keyed) (progress : CoverProgress) → G.is_of automaton p → covers ≡ true → key ≡ None
+      → CanRedact G automaton covers replacements → automaton' ≡ automaton → IsUnbegunCover G automaton progress
+      → IsCovering G automaton' progress replacements (record { patterns = p; covers = covers; pieces = pieces_of replacements; key = key })
+  covering_is automaton automaton' p covers replacements key progress of is none ready same unbegun = record {
+    redactor = subst (λ (a : A). IsRedactor G a true replacements (record { patterns = p; covers = covers; pieces = pieces_of replacements; key = key })) (sym same)
+        (redactor_is automaton p covers true replacements key of is none ready);
     unbegun = subst (λ (a : A). IsUnbegunCover G a progress) (sym same) unbegun;
+  }
+
+  -- or one by pieces that a key makes
+  pub naming_is : (automaton automaton' : A) (rule : PieceRule) (r : Redactor) (progress : CoverProgress) → G.is_of automaton r.patterns → r.covers ≡ true → rule_of r ≡ rule
+      → automaton' ≡ automaton → IsUnbegunCover G automaton progress → IsNamedCover G automaton' progress rule r
+  naming_is automaton automaton' rule r progress of covers is same unbegun = record {
+    coverer = subst (λ (a : A). IsCoverer G a rule r) (sym same) (record { of = of; covers = covers; is = is });
+    unbegun = subst (λ (a : A). IsUnbegunCover G a progress) (sym same) unbegun;
+  }
+
+  -- it is as before after a stream
+  pub naming_still : (automaton automaton' : A) (progress progress' : CoverProgress) (rule rule' : PieceRule) (r : Redactor) → automaton' ≡ automaton → rule' ≡ rule
+      → IsUnbegunCover G automaton' progress' → IsNamedCover G automaton progress rule r → IsNamedCover G automaton' progress' rule' r
+  naming_still automaton automaton' progress progress' rule rule' r same alike unbegun is = record {
+    coverer = subst (λ (a : A). IsCoverer G a rule' r) (sym same) (record { of = is.coverer.of; covers = is.coverer.covers; is = is.coverer.is ∙ sym alike });
+    unbegun = unbegun;
   }
 
   -- by a standard automaton without empty patterns no cover is refused
@@ -85,3 +108,16 @@ module _ {R W E : Type 0} {Reads : Readers R} (Writes : Writers W) (K : SinkGhos
     quiet = λ (is : Err Memory ≡ Ok true). absurd (cc);
     fails = record { write_failed = refl; took_nothing = refl; only = tt };
   }
+
+-- without a cover there is no key
+pub key_of_plain : (covers : Bool) (key : Option Key) → covers ≡ false → key_for covers key ≡ None
+key_of_plain covers key is = ap (λ (b : Bool). key_for b key) is
+
+pub key_of_none : (covers : Bool) (key : Option Key) → covers ≡ true → key ≡ None → key_for covers key ≡ None
+key_of_none covers key is none = ap (λ (b : Bool). key_for b key) is ∙ ap (λ (k : Option Key). key_for true k) none
+
+-- by a key of a cover pieces are pseudonyms
+pub key_of_some : (covers : Bool) (key : Option Key) (one : Key) (pieces : List (List ℕ)) → covers ≡ true → key ≡ Some one
+    → rule_by (key_for covers key) pieces ≡ pseudonym_rule one.ignore_case one.bytes.now
+key_of_some covers key one pieces is some =
+    ap (λ (b : Bool). rule_by (key_for b key) pieces) is ∙ ap (λ (k : Option Key). rule_by (key_for true k) pieces) some

@@ -1,6 +1,6 @@
 -- What comes of a call whose pieces were looked at.
 use Rattle.std.proofs.Common.{◌≡◌, inl, inr, ℕ, List, [], ◌∷◌, ◌++◌, Option, true, false, refl, sym, ap, subst, ◌∙◌, append-nil}
-use Rattle.std.specs.Prelude.{Bool, MatchBool, None, Some, Result, Ok, Err, IfErr, IfOk, OnErr, OnOk}
+use Rattle.std.specs.Prelude.{Bool, MatchBool, None, Some, Result, Ok, Err, IfErr, IfOk, OnErr, OnOk, is_some, option_map}
 use Rattle.std.specs.List.{All, concat}
 use Rattle.std.specs.declared.io.traits.Read.{Ghosts as Readers}
 use Rattle.std.specs.declared.io.traits.Write.{Ghosts as Writers}
@@ -15,12 +15,11 @@ use Rattle.programs.proofs.Tellings.{tells-later}
 use Rattle.acredact.specs.Arguments.{counts_asked, has}
 use Rattle.acredact.specs.Calls.{Call, CallOutcome, IsBuildRefusal, IsCountsFailure, IsCountsLine, IsLineOf, IsRunFailure, IsUntouched, OutputFails, RestOutcome, RunOutcome, TellsCounts, WarnedOutcome, names_asked, reading_by, redactor_by_given, work_by}
 use Rattle.acredact.specs.Counts.{zeros}
-use Rattle.acredact.specs.Files.{Work}
-use Rattle.acredact.specs.Loading.{AreGiven}
+use Rattle.acredact.specs.Files.{Work, key_for, keyed_of}
+use Rattle.acredact.specs.Loading.{AreLoaded, Loaded, loaded_as}
 use Rattle.acredact.specs.Messages.{unclean_line}
-use Rattle.acredact.specs.Pieces.{HasCleanPieces, IsJudged, TellsOfPieces, TellsUnclean, redactor_with}
-use Rattle.acredact.specs.Secrets.{Redactor}
-use Rattle.acredact.specs.Tables.{Secret, secrets_of}
+use Rattle.acredact.specs.Pieces.{IsJudged, IsJudgedBy, TellsOfPieces, TellsUnclean}
+use Rattle.acredact.specs.Secrets.{AreCleanBy, Redactor}
 use Rattle.acredact.specs.Summaries.{no_volume}
 use Rattle.acredact.specs.Totals.{CountsOfNames}
 use Rattle.acredact.specs.Volumes.{ReadsVolume}
@@ -29,6 +28,7 @@ use Rattle.acredact.specs.declared.clean.Unclean.{Unclean}
 use Rattle.acredact.specs.declared.failure.Failure.{Failure}
 use Rattle.acredact.specs.declared.failure.Failure.TheVariants.{Other, Unclean as UncleanPiece}
 use Rattle.acredact.specs.declared.patterns.Rule.{Rule}
+use Rattle.acredact.specs.declared.ways.Key.{Key}
 use Rattle.acredact.specs.declared.streams.Streams.{Streams}
 use Rattle.acredact.specs.declared.summary.Volume.{Volume}
 use Rattle.acredact.proofs.Calls.{call_refused, may_fail, rest_cut, rest_told, tells_same}
@@ -36,13 +36,23 @@ use Rattle.acredact.proofs.Done.{concat_both}
 use Rattle.acredact.proofs.Free.{free_of}
 
 -- where they are to be refused, nothing is told and they are clean
-clean_of : {E : Type 0} (K : SinkGhosts E) (strict : Bool) (r : Redactor) (old new : Errors E) → strict ≡ true → TellsOfPieces K strict r old new → HasCleanPieces r
+clean_of : {E : Type 0} (K : SinkGhosts E) (strict : Bool) (r : Redactor) (old new : Errors E) → strict ≡ true → TellsOfPieces K strict r old new → r.covers ≡ true → AreCleanBy (is_some r.key) r.patterns r.pieces
 clean_of K strict r old new is (None, judged, same) = judged
 clean_of K strict r old new is (Some unclean, judged, (lax, told)) = let clash : true ≡ false = sym is ∙ lax in absurd (cc)
 
--- the same of equal pieces
-pub judged_as : (p : Patterns) (covers : Bool) (pieces pieces' : List (List ℕ)) (answer : Option Unclean) → pieces ≡ pieces' → IsJudged (redactor_with p covers pieces') answer → IsJudged (redactor_with p covers pieces) answer
-judged_as p covers pieces pieces' answer same judged = subst (λ (l : List (List ℕ)). IsJudged (redactor_with p covers l) answer) (sym same) judged
+-- whether there is a key
+named_by : (key : Option Key) → is_some key ≡ is_some (option_map keyed_of key)
+named_by None = refl
+named_by (Some key) = refl
+
+-- what is answered of pieces is so of a job with these
+pub judged_as : (p : Patterns) (covers named : Bool) (key : Option Key) (pieces pieces' : List (List ℕ)) (answer : Option Unclean) → named ≡ is_some key → pieces ≡ pieces'
+    → IsJudgedBy p covers named pieces' answer → IsJudgedBy p covers (is_some (key_for covers key)) pieces answer
+judged_as p true named key pieces pieces' answer is same judged =
+    subst (λ (l : List (List ℕ)). IsJudgedBy p true (is_some (key_for true key)) l answer) (sym same)
+    (subst (λ (b : Bool). IsJudgedBy p true b pieces' answer) (is ∙ named_by key) judged)
+judged_as p false named key pieces pieces' None is same judged = λ (clash : false ≡ true). absurd (cc)
+judged_as p false named key pieces pieces' (Some unclean) is same (clash, judged) = absurd (cc)
 
 -- lines behind lines
 module _ {E : Type 0} (K : SinkGhosts E) (IsLine : List ℕ → Type 0) (old mid new : Errors E) (first : Tells K IsLine old mid) where
@@ -67,9 +77,9 @@ module _ {E : Type 0} (K : SinkGhosts E) (IsLine : List ℕ → Type 0) (old mid
       }
 
 -- what is told of pieces may be told
-piece_tells : {E : Type 0} (K : SinkGhosts E) (call : Call) (fails : Type 0) (secrets : List Secret) (old new : Errors E) → TellsOfPieces K (has Strict call.given) (redactor_by_given call.given secrets) old new → Tells K (IsLineOf call fails) old new
-piece_tells K call fails secrets old new (None, judged, same) = tells_same K (IsLineOf call fails) old new same
-piece_tells K call fails secrets old new (Some unclean, judged, (lax, told)) = record {
+piece_tells : {E : Type 0} (K : SinkGhosts E) (call : Call) (fails : Type 0) (load : Loaded) (old new : Errors E) → TellsOfPieces K (has Strict call.given) (redactor_by_given call.given load) old new → Tells K (IsLineOf call fails) old new
+piece_tells K call fails load old new (None, judged, same) = tells_same K (IsLineOf call fails) old new same
+piece_tells K call fails load old new (Some unclean, judged, (lax, told)) = record {
   told = unclean_line unclean ∷ [];
   are_lines = All-cons (IsLineOf call fails) (unclean_line unclean) [] (inr (inr (inr (lax, judged.0, (unclean, refl))))) (All-nil (IsLineOf call fails));
   written = subst (TellsBytes K old new) (sym (append-nil (unclean_line unclean))) told;
@@ -111,33 +121,33 @@ module _ {R : Type 0} {Reads : Readers R} {W E : Type 0} (Writes : Writers W) (K
   refused_other old new (Ok all) other = tt
   refused_other old new (Err failure) other = λ unclean is. absurd (other unclean is)
 
-  module _ (secrets : List Secret) (old mid : Streams R W E Reads) (loaded : AreGiven (reading_by call) call.given secrets left (bytes_left old.input)) where
+  module _ (load : Loaded) (old mid : Streams R W E Reads) (loaded : AreLoaded (reading_by call) call.given load left (bytes_left old.input)) where
     -- what comes of the files comes behind what is told of the pieces
-    call_warned : (new : Streams R W E Reads) (errors : Errors E) (result : Result Bool Failure) → TellsOfPieces K (has Strict call.given) (redactor_by_given call.given secrets) old.errors errors
-        → RestOutcome Writes K call secrets result (record old { errors = errors }) new → CallOutcome Writes K call left result old new
+    call_warned : (new : Streams R W E Reads) (errors : Errors E) (result : Result Bool Failure) → TellsOfPieces K (has Strict call.given) (redactor_by_given call.given load) old.errors errors
+        → RestOutcome Writes K call load result (record old { errors = errors }) new → CallOutcome Writes K call left result old new
     call_warned new errors result told rest =
-        let first = λ (fails : Type 0). piece_tells K call fails secrets old.errors errors told in
+        let first = λ (fails : Type 0). piece_tells K call fails load old.errors errors told in
         record {
-          redacts = λ is. record { secrets = secrets; between = bytes_left old.input; loaded = loaded; redacted = rest.redacts is };
+          redacts = λ is. record { load = load; between = bytes_left old.input; loaded = loaded; redacted = rest.redacts is };
           strict = λ asked is. record {
-            secrets = secrets;
+            load = load;
             between = bytes_left old.input;
             loaded = loaded;
-            free = free_of (work_by call secrets) asked.covers (clean_of K (has Strict call.given) (redactor_by_given call.given secrets) old.errors errors asked.strict told asked.covers) (names_asked call.given) _ _ _ _ (rest.redacts is);
+            free = free_of (work_by call load) asked.covers (clean_of K (has Strict call.given) (redactor_by_given call.given load) old.errors errors asked.strict told asked.covers) (names_asked call.given) _ _ _ _ (rest.redacts is);
           };
           refused = refused_other old new result rest.other;
           begins = elim rest.begins [
             | inl same ↦ inl same
-            | inr cut ↦ inr (record { secrets = secrets; between = bytes_left old.input; loaded = loaded; lines = cut.0; cut = cut.1 })
+            | inr cut ↦ inr (record { load = load; between = bytes_left old.input; loaded = loaded; lines = cut.0; cut = cut.1 })
           ];
           quiet = λ none is. record {
-            secrets = secrets;
+            load = load;
             between = bytes_left old.input;
             loaded = loaded;
-            told = subst (λ (e : Errors E). TellsOfPieces K (has Strict call.given) (redactor_by_given call.given secrets) old.errors e) (sym (rest.quiet none is)) told;
+            told = subst (λ (e : Errors E). TellsOfPieces K (has Strict call.given) (redactor_by_given call.given load) old.errors e) (sym (rest.quiet none is)) told;
           };
           counts = λ some is. let (ranges, found, volume, read, counted) = rest.counts some is in record {
-            secrets = secrets;
+            load = load;
             between = bytes_left old.input;
             loaded = loaded;
             redacted = rest.redacts is;
@@ -155,27 +165,27 @@ module _ {R : Type 0} {Reads : Readers R} {W E : Type 0} (Writes : Writers W) (K
         }
 
     -- the files' redaction fails, or is refused
-    pub call_cut : (failure : Failure) → WarnedOutcome Writes K (has Strict call.given) (work_by call secrets) (Err failure) old mid → CallOutcome Writes K call left (Err failure) old mid
+    pub call_cut : (failure : Failure) → WarnedOutcome Writes K (has Strict call.given) (work_by call load) (Err failure) old mid → CallOutcome Writes K call left (Err failure) old mid
     call_cut failure (inl (why, is, same, of)) =
         let alike : why ≡ failure = cc in
         subst (λ (s : Streams R W E Reads). CallOutcome Writes K call left (Err failure) old s) (sym same)
         (subst (λ (f : Failure). CallOutcome Writes K call left (Err f) old old) alike
         (call_refused Writes K call left old.input old why (elim of [
-          | inl strict ↦ inr (inr (inr (inl (secrets, left, bytes_left old.input, loaded, strict))))
-          | inr (inl refused) ↦ inr (inr (inr (inr (inl (secrets, left, bytes_left old.input, loaded, refused)))))
+          | inl strict ↦ inr (inr (inr (inl (load, left, bytes_left old.input, loaded, strict))))
+          | inr (inl refused) ↦ inr (inr (inr (inr (inl (load.secrets, left, loaded.between, loaded.secrets, refused)))))
           | inr (inr run) ↦ may_fail call _ why run
         ])))
     call_cut failure (inr (errors, told, run)) =
-        call_warned mid errors (Err failure) told (rest_cut Writes K call secrets (record old { errors = errors }) mid failure run)
+        call_warned mid errors (Err failure) told (rest_cut Writes K call load (record old { errors = errors }) mid failure run)
 
   -- all was done but the counts
-  pub call_told : (rules : List Rule) (numbers : List ℕ) (volume : Volume) (old mid : Streams R W E Reads) → AreGiven (reading_by call) call.given (secrets_of rules) left (bytes_left old.input)
-      → (all counted : Bool) (result : Result Bool Failure) (errors : Errors E) → counted ≡ counts_asked call.given → WarnedOutcome Writes K (has Strict call.given) (work_by call (secrets_of rules)) (Ok all) old mid
-      → (all ≡ true → CountsOfNames (bytes_left old.input) (bytes_left mid.input) (zeros counted rules) numbers (work_by call (secrets_of rules)) (names_asked call.given)
+  pub call_told : (rules : List Rule) (key : Option (List ℕ)) (numbers : List ℕ) (volume : Volume) (old mid : Streams R W E Reads) → AreLoaded (reading_by call) call.given (loaded_as rules key) left (bytes_left old.input)
+      → (all counted : Bool) (result : Result Bool Failure) (errors : Errors E) → counted ≡ counts_asked call.given → WarnedOutcome Writes K (has Strict call.given) (work_by call (loaded_as rules key)) (Ok all) old mid
+      → (all ≡ true → CountsOfNames (bytes_left old.input) (bytes_left mid.input) (zeros counted rules) numbers (work_by call (loaded_as rules key)) (names_asked call.given)
       × ReadsVolume call.holds (names_asked call.given) no_volume volume (bytes_left old.input) (bytes_left mid.input))
       → IfOk result (λ done. done ≡ all) → OnOk result (MatchBool counted (TellsCounts K call.given rules numbers volume mid.errors errors) (errors ≡ mid.errors))
       → IfErr result (IsCountsFailure counted) → Tells K (IsCountsLine call.given) mid.errors errors → CallOutcome Writes K call left result old (record mid { errors = errors })
-  call_told rules numbers volume old mid loaded all counted result errors is (inl (why, fails, same, of)) grown done counts untold told = let clash : Ok all ≡ Err why = fails in absurd (cc)
-  call_told rules numbers volume old mid loaded all counted result errors is (inr (warned, pieces, run)) grown done counts untold told =
-      call_warned (secrets_of rules) old mid loaded (record mid { errors = errors }) warned result pieces
-      (rest_told Writes K call rules numbers volume (record old { errors = warned }) mid all counted result errors is run grown done counts untold told)
+  call_told rules key numbers volume old mid loaded all counted result errors is (inl (why, fails, same, of)) grown done counts untold told = let clash : Ok all ≡ Err why = fails in absurd (cc)
+  call_told rules key numbers volume old mid loaded all counted result errors is (inr (warned, pieces, run)) grown done counts untold told =
+      call_warned (loaded_as rules key) old mid loaded (record mid { errors = errors }) warned result pieces
+      (rest_told Writes K call rules key numbers volume (record old { errors = warned }) mid all counted result errors is run grown done counts untold told)

@@ -1,5 +1,5 @@
 -- What the arguments, those after the program's name, ask for.
-use Rattle.std.specs.Prelude.{◌≡◌, ℕ, ◌==◌, ◌++◌, ◌||◌, ◌&&◌, not, Bool, true, false, List, [], ◌∷◌, Option, Some, None, Result, IfErr, IfOk, codes, drop, is_some, length, map, nat_lt, option_and_then, unwrap_or, take, String, Vec, if◌then◌else◌}
+use Rattle.std.specs.Prelude.{◌≡◌, ℕ, ◌==◌, ◌++◌, ◌||◌, ◌&&◌, not, Bool, true, false, List, [], ◌∷◌, Option, Some, None, Result, IfOk, codes, drop, is_some, length, map, nat_lt, option_and_then, unwrap_or, take, String, Vec, if◌then◌else◌}
 use Rattle.std.specs.List.{after_first, before_first, position_or_len}
 use Rattle.std.specs.Str.{bytes_eq}
 use Rattle.aho_core.specs.declared.search.MatchKind.{MatchKind}
@@ -7,12 +7,12 @@ use Rattle.aho_core.specs.declared.search.MatchKind.TheVariants.{Standard}
 use Rattle.programs.specs.Arguments.{kind_by, texts}
 use Rattle.acredact.specs.Long.{word_by_name}
 use Rattle.acredact.specs.declared.arguments.Word.{Word}
-use Rattle.acredact.specs.declared.arguments.Word.TheVariants.{IgnoreCase, Kind, Pattern, Patterns, Table, With, Output, InPlace, Count, Summary, Crlf, AllowEmpty, Strict, Check, Help, Version, File}
+use Rattle.acredact.specs.declared.arguments.Word.TheVariants.{IgnoreCase, Kind, Pattern, Patterns, Table, With, Pseudonym, Output, InPlace, Count, Summary, Crlf, AllowEmpty, Strict, Check, Help, Version, File}
 use Rattle.acredact.specs.declared.arguments.Expects.{Expects}
 use Rattle.acredact.specs.declared.arguments.Expects.TheVariants.{Any, Value, Name}
 use Rattle.acredact.specs.declared.arguments.Item.{Item}
 use Rattle.acredact.specs.declared.arguments.Mixture.{Mixture}
-use Rattle.acredact.specs.declared.arguments.Mixture.TheVariants.{StrictKind, CountCheck, SummaryCheck, OutputCheck, InPlaceCheck, InPlaceOutput}
+use Rattle.acredact.specs.declared.arguments.Mixture.TheVariants.{StrictKind, PseudonymKind, PseudonymWith, PseudonymTable, CountCheck, SummaryCheck, OutputCheck, InPlaceCheck, InPlaceOutput}
 
 -- an option with its value, or a file with its name
 pub record Given : Type 0 where
@@ -35,6 +35,7 @@ takes_value Pattern = true
 takes_value Patterns = true
 takes_value Table = true
 takes_value With = true
+takes_value Pseudonym = true
 takes_value Output = true
 takes_value IgnoreCase = false
 takes_value InPlace = false
@@ -60,6 +61,7 @@ is_value_of Pattern value = true
 is_value_of Patterns value = true
 is_value_of Table value = true
 is_value_of With value = true
+is_value_of Pseudonym value = true
 is_value_of Output value = true
 is_value_of InPlace value = true
 is_value_of Count value = true
@@ -183,6 +185,7 @@ is_same Pattern Pattern = true
 is_same Patterns Patterns = true
 is_same Table Table = true
 is_same With With = true
+is_same Pseudonym Pseudonym = true
 is_same Output Output = true
 is_same InPlace InPlace = true
 is_same Count Count = true
@@ -221,6 +224,7 @@ option_name Pattern = codes "-e"
 option_name Patterns = codes "-f"
 option_name Table = codes "-t"
 option_name With = codes "--with"
+option_name Pseudonym = codes "--pseudonym"
 option_name Output = codes "--output"
 option_name IgnoreCase = codes "-e"
 option_name InPlace = codes "-e"
@@ -260,10 +264,14 @@ in_place_mixture_of given =
     else if has InPlace given && has Output given then Some InPlaceOutput
     else None
 
--- the options that do not go together, where some do not: pieces are refused of covers alone, and a check counts nothing
+-- the options that do not go together, where some do not: pieces are refused of covers alone, pseudonyms are of covers and leave no
+-- choice of what is written, and a check counts nothing
 abbrev pub mixture_of : List Given → Option Mixture
 mixture_of given =
     if has Strict given && not (covers_asked given) then Some StrictKind
+    else if has Pseudonym given && not (covers_asked given) then Some PseudonymKind
+    else if has Pseudonym given && has With given then Some PseudonymWith
+    else if has Pseudonym given && has Table given then Some PseudonymTable
     else if has Count given && has Check given then Some CountCheck
     else if has Summary given && has Check given then Some SummaryCheck
     else if has Output given && has Check given then Some OutputCheck

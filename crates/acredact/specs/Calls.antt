@@ -1,5 +1,6 @@
 -- What a call does, by what its arguments ask for, and what it tells.
-use Rattle.std.specs.Prelude.{◌≡◌, ◌⊎◌, ℕ, ◌||◌, Bool, MatchBool, true, false, List, [], ◌∷◌, Option, Result, Ok, Err, IfErr, IfOk, OnErr, codes, length, map, unwrap_or, if◌then◌else◌}
+use Rattle.std.specs.Prelude.{◌≡◌, ◌⊎◌, ℕ, ◌||◌, Bool, MatchBool, true, false, List, [], ◌∷◌, Option, Result, Ok, Err, IfErr, IfOk, OnErr, codes, is_some, length, map, option_map, unwrap_or, if◌then◌else◌}
+use Rattle.std.specs.Borrow.{Bor}
 use Rattle.std.specs.declared.io.traits.Read.{Ghosts as Readers}
 use Rattle.std.specs.declared.io.traits.Write.{Ghosts as Writers}
 use Rattle.aho_core.specs.Occurrence.{Occurrence}
@@ -20,17 +21,17 @@ use Rattle.acredact.specs.Builds.{RefusesPatterns, patterns_by_given}
 use Rattle.acredact.specs.Counts.{lines_of_rules}
 use Rattle.acredact.specs.Failures.{IsFailureLine}
 use Rattle.acredact.specs.Files.{AreCut, AreDone, AreFree, AreRedacted, Does, Work, are_none, redactor_of, unread_line, work_of}
-use Rattle.acredact.specs.Loading.{AreGiven, CannotLoadOne, Reading, Rules}
+use Rattle.acredact.specs.Loading.{AreGiven, AreLoaded, CannotLoadKey, CannotLoadOne, Loaded, Reading, Rules, key_lent, loaded_as}
 use Rattle.acredact.specs.Messages.{output_line, unclean_line}
 use Rattle.acredact.specs.Mistakes.{IsMistakeOfCall}
-use Rattle.acredact.specs.Pieces.{IsUnclean, TellsOfPieces}
-use Rattle.acredact.specs.Secrets.{Redactor}
+use Rattle.acredact.specs.Pieces.{IsUncleanBy, TellsOfPieces}
+use Rattle.acredact.specs.Secrets.{Keyed, Redactor, key_of_cover}
 use Rattle.acredact.specs.Tables.{Secret, patterns_in, piece_by, secrets_of}
 use Rattle.acredact.specs.Summaries.{no_volume, totals_text}
 use Rattle.acredact.specs.Totals.{AreTotals, NamesHaveRanges}
 use Rattle.acredact.specs.Volumes.{ReadsVolume}
 use Rattle.acredact.specs.declared.arguments.Mistake.TheVariants.{NoPattern, OutOfMemory as NoRoom}
-use Rattle.acredact.specs.declared.arguments.Word.TheVariants.{Crlf, AllowEmpty, Strict, File, Pattern as PatternOption, Patterns as PatternFile, Table, With}
+use Rattle.acredact.specs.declared.arguments.Word.TheVariants.{Crlf, AllowEmpty, IgnoreCase, Strict, File, Pattern as PatternOption, Patterns as PatternFile, Table, With}
 use Rattle.acredact.specs.declared.clean.Unclean.{Unclean}
 use Rattle.acredact.specs.declared.failure.Failure.{Failure}
 use Rattle.acredact.specs.declared.failure.Failure.TheVariants.{NotText, Arguments, Unclean as UncleanPiece, Counts, Other}
@@ -82,16 +83,28 @@ text_asked given = unwrap_or (last_value With given) (codes "[redacted]")
 abbrev pub pieces_asked : List Given → List Secret → List (List ℕ)
 pieces_asked given secrets = map (piece_by (text_asked given)) secrets
 
-abbrev pub redactor_by_given : List Given → List Secret → Redactor
-redactor_by_given given secrets = record { patterns = patterns_by_given given (patterns_in secrets); covers = covers_asked given; pieces = pieces_asked given secrets }
+-- the key of pseudonyms, by the case rule of the patterns
+abbrev pub keyed_as : (ignore_case : Bool) → List ℕ → Keyed
+keyed_as ignore_case bytes = record { bytes = bytes; ignore_case = ignore_case }
 
-abbrev pub work_by : Call → List Secret → Work
-work_by call secrets = record {
+abbrev pub key_asked : List Given → Option (List ℕ) → Option Keyed
+key_asked given key = key_of_cover (covers_asked given) (option_map (keyed_as (has IgnoreCase given)) key)
+
+abbrev pub redactor_by_given : List Given → Loaded → Redactor
+redactor_by_given given loaded = record {
+  patterns = patterns_by_given given (patterns_in loaded.secrets);
+  covers = covers_asked given;
+  pieces = pieces_asked given loaded.secrets;
+  key = key_asked given loaded.key;
+}
+
+abbrev pub work_by : Call → Loaded → Work
+work_by call loaded = record {
   holds = call.holds;
   refuses = call.refuses;
   meets = call.meets;
   names = names_asked call.given;
-  redactor = redactor_by_given call.given secrets;
+  redactor = redactor_by_given call.given loaded;
 }
 
 -- the output failed, or took nothing
@@ -114,13 +127,14 @@ IsBuildRefusal p failure = (error : BuildError) × (failure ≡ Other (Build err
 -- why pieces are refused: one of a cover is not clean
 abbrev pub IsStrictFailure : (strict : Bool) → Redactor → Failure → Type 0
 IsStrictFailure strict r failure =
-    (unclean : Unclean) × (failure ≡ UncleanPiece unclean) × (strict ≡ true) × (r.covers ≡ true) × IsUnclean r.patterns r.pieces unclean
+    (unclean : Unclean) × (failure ≡ UncleanPiece unclean) × (strict ≡ true) × (r.covers ≡ true)
+    × IsUncleanBy (is_some r.key) r.patterns r.pieces unclean
 
 -- those of the patterns that were loaded
 abbrev pub IsUncleanFailure : Call → Failure → Type 0
-IsUncleanFailure call failure = (secrets : List Secret) × (left : Option (List ℕ)) × (between : Option (List ℕ))
-    × AreGiven (reading_by call) call.given secrets left between
-    × IsStrictFailure (has Strict call.given) (redactor_by_given call.given secrets) failure
+IsUncleanFailure call failure = (load : Loaded) × (left : Option (List ℕ)) × (between : Option (List ℕ))
+    × AreLoaded (reading_by call) call.given load left between
+    × IsStrictFailure (has Strict call.given) (redactor_by_given call.given load) failure
 
 -- those that were loaded are refused
 abbrev pub IsRefusedCall : Call → Failure → Type 0
@@ -128,12 +142,12 @@ IsRefusedCall call failure = (secrets : List Secret) × (left : Option (List ℕ
     × AreGiven (reading_by call) call.given secrets left between
     × IsBuildRefusal (patterns_by_given call.given (patterns_in secrets)) failure
 
--- why a call ends early: there is no pattern, one of the options cannot be loaded, the counts cannot be written, a piece is not clean,
+-- why a call ends early: there is no pattern, one of the options or the key cannot be loaded, the counts cannot be written, a piece is not clean,
 -- the patterns are refused, or the files are not redacted
 abbrev pub MayFail : Call → (fails : Type 0) → Failure → Type 0
 MayFail call fails failure =
     ((failure ≡ Arguments NoRoom) ⊎ ((failure ≡ Arguments NoPattern) × GivesNoPattern call.given))
-    ⊎ (CannotLoadOne (reading_by call) call.given failure
+    ⊎ ((CannotLoadOne (reading_by call) call.given failure ⊎ CannotLoadKey (reading_by call) call.given failure)
     ⊎ (((failure ≡ Counts) × (counts_asked call.given ≡ true))
     ⊎ (IsUncleanFailure call failure
     ⊎ (IsRefusedCall call failure
@@ -200,36 +214,36 @@ pub record TellsTotals {E : Type 0} (K : SinkGhosts E) (given : List Given) (sec
 
 -- of all patterns that were loaded the pieces are told, where they are not clean
 pub record WarnsCall {E : Type 0} (K : SinkGhosts E) (call : Call) (left : Option (List ℕ)) (errors errors' : Errors E) : Type 0 where
-  pub secrets : List Secret
+  pub load : Loaded
   pub between : Option (List ℕ)
-  pub loaded : AreGiven (reading_by call) call.given secrets left between
-  pub told : TellsOfPieces K (has Strict call.given) (redactor_by_given call.given secrets) errors errors'
+  pub loaded : AreLoaded (reading_by call) call.given load left between
+  pub told : TellsOfPieces K (has Strict call.given) (redactor_by_given call.given load) errors errors'
 
 module _ {R : Type 0} {Reads : Readers R} {W : Type 0} (Writes : Writers W) where
   module _ {E : Type 0} (call : Call) (left : Option (List ℕ)) (streams streams' : Streams R W E Reads) where
     -- all patterns were loaded, of the input with so many bytes left, and all files were redacted
     pub record RedactsCall : Type 0 where
-      pub secrets : List Secret
+      pub load : Loaded
       pub between : Option (List ℕ)
-      pub loaded : AreGiven (reading_by call) call.given secrets left between
-      pub redacted : AreRedacted (work_by call secrets) (names_asked call.given) between (bytes_left streams'.input)
+      pub loaded : AreLoaded (reading_by call) call.given load left between
+      pub redacted : AreRedacted (work_by call load) (names_asked call.given) between (bytes_left streams'.input)
           (output_bytes Writes streams.output) (output_bytes Writes streams'.output)
 
     -- the same, and no pattern occurs in what was written of a file
     pub record LeavesNone : Type 0 where
-      pub secrets : List Secret
+      pub load : Loaded
       pub between : Option (List ℕ)
-      pub loaded : AreGiven (reading_by call) call.given secrets left between
-      pub free : AreFree (work_by call secrets) (names_asked call.given) between (bytes_left streams'.input)
+      pub loaded : AreLoaded (reading_by call) call.given load left between
+      pub free : AreFree (work_by call load) (names_asked call.given) between (bytes_left streams'.input)
           (output_bytes Writes streams.output) (output_bytes Writes streams'.output)
 
     -- all patterns were loaded, and of some first files the redaction or a beginning of it was written
     pub record BeginsFiles : Type 0 where
-      pub secrets : List Secret
+      pub load : Loaded
       pub between : Option (List ℕ)
-      pub loaded : AreGiven (reading_by call) call.given secrets left between
+      pub loaded : AreLoaded (reading_by call) call.given load left between
       pub lines : List (List ℕ)
-      pub cut : AreCut (work_by call secrets) (names_asked call.given) lines between (bytes_left streams'.input)
+      pub cut : AreCut (work_by call load) (names_asked call.given) lines between (bytes_left streams'.input)
           (output_bytes Writes streams.output) (output_bytes Writes streams'.output)
 
     -- or nothing was written
@@ -240,18 +254,18 @@ module _ {R : Type 0} {Reads : Readers R} {W : Type 0} (Writes : Writers W) wher
     -- all patterns were loaded, and all files were redacted. What pieces are not clean is told, and then how often the text of each
     -- pattern was written: of how many ranges of the texts of all files it took the place
     pub record CountsCall (call : Call) (left : Option (List ℕ)) (streams streams' : Streams R W E Reads) : Type 0 where
-      pub secrets : List Secret
+      pub load : Loaded
       pub between : Option (List ℕ)
-      pub loaded : AreGiven (reading_by call) call.given secrets left between
-      pub redacted : AreRedacted (work_by call secrets) (names_asked call.given) between (bytes_left streams'.input)
+      pub loaded : AreLoaded (reading_by call) call.given load left between
+      pub redacted : AreRedacted (work_by call load) (names_asked call.given) between (bytes_left streams'.input)
           (output_bytes Writes streams.output) (output_bytes Writes streams'.output)
       pub ranges : List Occurrence
-      pub found : NamesHaveRanges (work_by call secrets) (names_asked call.given) ranges between (bytes_left streams'.input)
+      pub found : NamesHaveRanges (work_by call load) (names_asked call.given) ranges between (bytes_left streams'.input)
       pub meanwhile : Errors E
-      pub warned : TellsOfPieces K (has Strict call.given) (redactor_by_given call.given secrets) streams.errors meanwhile
+      pub warned : TellsOfPieces K (has Strict call.given) (redactor_by_given call.given load) streams.errors meanwhile
       pub volume : Volume
       pub read : ReadsVolume call.holds (names_asked call.given) no_volume volume between (bytes_left streams'.input)
-      pub counted : TellsTotals K call.given secrets ranges volume meanwhile streams'.errors
+      pub counted : TellsTotals K call.given load.secrets ranges volume meanwhile streams'.errors
 
     -- nothing was written or told
     pub record IsUntouched (streams streams' : Streams R W E Reads) : Type 0 where
@@ -272,20 +286,20 @@ module _ {R : Type 0} {Reads : Readers R} {W : Type 0} (Writes : Writers W) wher
       pub told : OnErr result (Tells K (IsLineOf call (OutputFails streams.output streams'.output)) streams.errors streams'.errors)
 
     -- of the files of a call it is told how often the text of each pattern was written
-    abbrev pub CountsRest : Call → List Secret → (streams streams' : Streams R W E Reads) → Type 0
-    CountsRest call secrets streams streams' = (ranges : List Occurrence)
-        × NamesHaveRanges (work_by call secrets) (names_asked call.given) ranges (bytes_left streams.input) (bytes_left streams'.input)
+    abbrev pub CountsRest : Call → Loaded → (streams streams' : Streams R W E Reads) → Type 0
+    CountsRest call load streams streams' = (ranges : List Occurrence)
+        × NamesHaveRanges (work_by call load) (names_asked call.given) ranges (bytes_left streams.input) (bytes_left streams'.input)
         × (volume : Volume) × ReadsVolume call.holds (names_asked call.given) no_volume volume (bytes_left streams.input) (bytes_left streams'.input)
-        × TellsTotals K call.given secrets ranges volume streams.errors streams'.errors
+        × TellsTotals K call.given load.secrets ranges volume streams.errors streams'.errors
 
     -- what comes of the files of a call whose patterns were loaded and whose pieces were looked at
-    pub record RestOutcome (call : Call) (secrets : List Secret) (result : Result Bool Failure) (streams streams' : Streams R W E Reads) : Type 0 where
-      pub redacts : result ≡ Ok true → AreRedacted (work_by call secrets) (names_asked call.given) (bytes_left streams.input) (bytes_left streams'.input)
+    pub record RestOutcome (call : Call) (load : Loaded) (result : Result Bool Failure) (streams streams' : Streams R W E Reads) : Type 0 where
+      pub redacts : result ≡ Ok true → AreRedacted (work_by call load) (names_asked call.given) (bytes_left streams.input) (bytes_left streams'.input)
           (output_bytes Writes streams.output) (output_bytes Writes streams'.output)
-      pub begins : (streams'.output ≡ streams.output) ⊎ ((lines : List (List ℕ)) × AreCut (work_by call secrets) (names_asked call.given) lines (bytes_left streams.input) (bytes_left streams'.input)
+      pub begins : (streams'.output ≡ streams.output) ⊎ ((lines : List (List ℕ)) × AreCut (work_by call load) (names_asked call.given) lines (bytes_left streams.input) (bytes_left streams'.input)
           (output_bytes Writes streams.output) (output_bytes Writes streams'.output))
       pub quiet : counts_asked call.given ≡ false → result ≡ Ok true → streams'.errors ≡ streams.errors
-      pub counts : counts_asked call.given ≡ true → result ≡ Ok true → CountsRest call secrets streams streams'
+      pub counts : counts_asked call.given ≡ true → result ≡ Ok true → CountsRest call load streams streams'
       pub partly : result ≡ Ok false
           → TellsSome K (IsLineOf call (OutputFails streams.output streams'.output)) streams.errors streams'.errors
       pub fails : IfErr result (MayFail call (OutputFails streams.output streams'.output))
@@ -311,9 +325,15 @@ module _ {R : Type 0} {Reads : Readers R} {W : Type 0} (Writes : Writers W) wher
     abbrev pub WarnedJob : {F X : Type 0} → Folders F X → (strict : Bool) → Job F → Patterns → Result Bool Failure → (streams streams' : Streams R W E Reads) → Type 0
     WarnedJob D strict job p result streams streams' = WarnedOutcome strict (work_of D job (redactor_of job p)) result streams streams'
 
-    -- the same of a call whose patterns were loaded as these rules, with the bytes that the input has left since
-    abbrev pub LoadedOutcome : {F X : Type 0} → Folders F X → F → List Given → List Rule → Result Bool Failure → (streams streams' : Streams R W E Reads) → Type 0
-    LoadedOutcome D folder given rules result streams streams' = (left : Option (List ℕ))
+    -- the same of a call whose patterns were loaded as these rules, and whose key is this, with the bytes that the input has left since
+    abbrev pub LoadedOutcome : {F X : Type 0} → Folders F X → F → List Given → List Rule → Option (Bor (List ℕ)) → Result Bool Failure → (streams streams' : Streams R W E Reads) → Type 0
+    LoadedOutcome D folder given rules key result streams streams' = (left : Option (List ℕ))
+        → AreLoaded (reading_by (call_of D folder given)) given (loaded_as rules (key_lent key)) left (bytes_left streams.input)
+        → CallOutcome (call_of D folder given) left result streams streams'
+
+    -- and of one whose key is to be loaded
+    abbrev pub KeylessOutcome : {F X : Type 0} → Folders F X → F → List Given → List Rule → Result Bool Failure → (streams streams' : Streams R W E Reads) → Type 0
+    KeylessOutcome D folder given rules result streams streams' = (left : Option (List ℕ))
         → AreGiven (reading_by (call_of D folder given)) given (secrets_of rules) left (bytes_left streams.input)
         → CallOutcome (call_of D folder given) left result streams streams'
 

@@ -1,10 +1,11 @@
 -- What is written of files, one after another, and what is told of those that cannot be read.
-use Rattle.std.specs.Prelude.{◌≡◌, ◌⊎◌, ℕ, Bool, true, false, List, [], ◌∷◌, ◌++◌, Option, None, Result, Ok, IfErr, IfOk, IfSome, OnErr}
+use Rattle.std.specs.Prelude.{◌≡◌, ◌⊎◌, ℕ, Bool, true, false, List, [], ◌∷◌, ◌++◌, Option, None, Result, Ok, IfErr, IfOk, IfSome, OnErr, option_map}
 use Rattle.std.specs.Io.KnownBytes.{Appends, Consumes, IsAtEnd, Keeps}
 use Rattle.std.specs.List.{concat}
 use Rattle.std.specs.declared.io.traits.Read.{Ghosts as Readers}
 use Rattle.std.specs.declared.io.traits.Write.{Ghosts as Writers}
 use Rattle.aho_core.specs.Patterns.{Patterns}
+use Rattle.aho_core.specs.Replacement.{pieces_of}
 use Rattle.aho_core.specs.declared.error.stream.StreamError.{StreamError}
 use Rattle.aho_automaton.specs.declared.automaton.Automaton.{Ghosts}
 use Rattle.aho_devices.specs.Counts.{counted}
@@ -20,9 +21,10 @@ use Rattle.programs.specs.declared.reason.Reason.{Reason}
 use Rattle.acredact.specs.Faults.{IsOutputEnd, IsReadReason}
 use Rattle.acredact.specs.Messages.{line_about, output_line}
 use Rattle.acredact.specs.Reads.{OfName, ReadsText}
-use Rattle.acredact.specs.Secrets.{BeginsRedaction, IfOf, IsRedaction, CanRedact, NoneOccurs, Redactor, redactor_by}
+use Rattle.acredact.specs.Secrets.{BeginsRedaction, IfOf, IsRedaction, CanRedact, Keyed, NoneOccurs, Redactor, key_of_cover}
 use Rattle.acredact.specs.declared.files.Job.{Job}
 use Rattle.acredact.specs.declared.folder.Folder.{Ghosts as Folders}
+use Rattle.acredact.specs.declared.ways.Key.{Key}
 use Rattle.acredact.specs.declared.streams.Streams.{Streams}
 
 -- what is done to which files: what the folder holds under a name, where it tells that, why it may not open what has the name, and
@@ -34,8 +36,19 @@ pub record Work : Type 1 where
   pub names : List (List ℕ)
   pub redactor : Redactor
 
+abbrev pub keyed_of : Key → Keyed
+keyed_of key = record { bytes = key.bytes.now; ignore_case = key.ignore_case }
+
+abbrev pub key_for : Bool → Option Key → Option Keyed
+key_for covers key = key_of_cover covers (option_map keyed_of key)
+
 abbrev pub redactor_of : {F : Type 0} → Job F → Patterns → Redactor
-redactor_of job p = redactor_by p job.covers job.replacements.now
+redactor_of job p = record {
+  patterns = p;
+  covers = job.covers;
+  pieces = pieces_of job.replacements.now;
+  key = key_for job.covers job.key;
+}
 
 -- an automaton suits it
 abbrev pub CanDo : {A F : Type 0} → Ghosts A → A → Job F → Type 0

@@ -1,5 +1,6 @@
 -- What becomes of files that are replaced in place: of each a new one is filled, and takes its place where all was done.
 use Rattle.std.specs.Prelude.{◌≡◌, ◌⊎◌, ℕ, Bool, true, false, List, [], ◌∷◌, Option, Result, Ok}
+use Rattle.std.specs.Borrow.{Bor}
 use Rattle.std.specs.declared.io.traits.Read.{Ghosts as Readers}
 use Rattle.std.specs.declared.io.traits.Write.{Ghosts as Writers}
 use Rattle.aho_core.specs.Patterns.{Patterns}
@@ -11,8 +12,8 @@ use Rattle.acredact.specs.Arguments.{Given}
 use Rattle.acredact.specs.Calls.{call_of, names_asked, reading_by, work_by}
 use Rattle.acredact.specs.Files.{AreRedacted, Work, redactor_of, work_of}
 use Rattle.acredact.specs.Into.{LeavesOld}
-use Rattle.acredact.specs.Loading.{AreGiven}
-use Rattle.acredact.specs.Tables.{Secret, secrets_of}
+use Rattle.acredact.specs.Loading.{AreGiven, AreLoaded, Loaded, key_lent, loaded_as}
+use Rattle.acredact.specs.Tables.{secrets_of}
 use Rattle.acredact.specs.declared.files.Job.{Job}
 use Rattle.acredact.specs.declared.folder.Folder.{Ghosts as Folders}
 use Rattle.acredact.specs.declared.outputs.Outputs.{Ghosts as Places}
@@ -65,30 +66,40 @@ module _ {F X O Z : Type 0} (Writes : Writers Z) (D : Folders F X) (U : Places O
   abbrev pub PlacesJob : {Y : Type 0} → Job F → Patterns → Result Bool Y → (outputs outputs' : O) → Type 0
   PlacesJob job p result outputs outputs' = PlacesOutcome Writes U (work_of D job (redactor_of job p)) result outputs outputs'
 
-  -- and of a call whose patterns were loaded as these rules
-  abbrev pub LoadedPlaces : {Y : Type 0} → F → List Given → List Rule → Result Bool Y → (outputs outputs' : O) → Type 0
-  LoadedPlaces folder given rules result outputs outputs' = PlacesOutcome Writes U (work_by (call_of D folder given) (secrets_of rules)) result outputs outputs'
+  -- and of a call whose patterns were loaded as these rules, and whose key is this
+  abbrev pub LoadedPlaces : {Y : Type 0} → F → List Given → List Rule → Option (Bor (List ℕ)) → Result Bool Y → (outputs outputs' : O) → Type 0
+  LoadedPlaces folder given rules key result outputs outputs' =
+      PlacesOutcome Writes U (work_by (call_of D folder given) (loaded_as rules (key_lent key))) result outputs outputs'
 
   module _ (folder : F) (left : Option (List ℕ)) (outputs outputs' : O) (given : List Given) where
-    -- all patterns were loaded, of the input with so many bytes left, and each file was replaced
+    -- the patterns and the key were loaded, of the input with so many bytes left, and each file was replaced
     pub record ReplacesAsked : Type 0 where
-      pub secrets : List Secret
+      pub load : Loaded
       pub between : Option (List ℕ)
-      pub loaded : AreGiven (reading_by (call_of D folder given)) given secrets left between
-      pub replaced : AreReplacedAll Writes U (work_by (call_of D folder given) secrets) (names_asked given) outputs outputs'
+      pub loaded : AreLoaded (reading_by (call_of D folder given)) given load left between
+      pub replaced : AreReplacedAll Writes U (work_by (call_of D folder given) load) (names_asked given) outputs outputs'
 
     -- they were, and each file was replaced or spared
     pub record SparesAsked : Type 0 where
-      pub secrets : List Secret
+      pub load : Loaded
       pub between : Option (List ℕ)
-      pub loaded : AreGiven (reading_by (call_of D folder given)) given secrets left between
-      pub whole : AreWhole Writes U (work_by (call_of D folder given) secrets) (names_asked given) outputs outputs'
+      pub loaded : AreLoaded (reading_by (call_of D folder given)) given load left between
+      pub whole : AreWhole Writes U (work_by (call_of D folder given) load) (names_asked given) outputs outputs'
 
     -- or no file was made
     abbrev pub KeepsEach : Type 0
     KeepsEach = (outputs' ≡ outputs) ⊎ SparesAsked
 
-  -- what comes of a call
-  pub record AskedPlaces {Y R : Type 0} {Reads : Readers R} (folder : F) (given : List Given) (result : Result Bool Y) (input : FromRead R Reads) (outputs outputs' : O) : Type 0 where
-    pub replaces : result ≡ Ok true → ReplacesAsked folder (bytes_left input) outputs outputs' given
-    pub keeps : KeepsEach folder (bytes_left input) outputs outputs' given
+  -- what comes of a call whose input had so many bytes left
+  pub record CalledPlaces {Y : Type 0} (folder : F) (left : Option (List ℕ)) (given : List Given) (result : Result Bool Y) (outputs outputs' : O) : Type 0 where
+    pub replaces : result ≡ Ok true → ReplacesAsked folder left outputs outputs' given
+    pub keeps : KeepsEach folder left outputs outputs' given
+
+  abbrev pub AskedPlaces : {Y R : Type 0} {Reads : Readers R} → F → List Given → Result Bool Y → FromRead R Reads → (outputs outputs' : O) → Type 0
+  AskedPlaces folder given result input outputs outputs' = CalledPlaces folder (bytes_left input) given result outputs outputs'
+
+  -- and of one whose key is to be loaded, once its patterns were loaded as these rules
+  abbrev pub KeylessPlaces : {Y R : Type 0} {Reads : Readers R} → F → List Given → List Rule → Result Bool Y → FromRead R Reads → (outputs outputs' : O) → Type 0
+  KeylessPlaces folder given rules result input outputs outputs' = (left : Option (List ℕ))
+      → AreGiven (reading_by (call_of D folder given)) given (secrets_of rules) left (bytes_left input)
+      → CalledPlaces folder left given result outputs outputs'

@@ -6,6 +6,8 @@ pub mod Mistakes
 -- what the lines of files of patterns and of tables hold
 pub mod Tables
 pub mod LineFaults
+-- which patterns a pseudonym can spell
+pub mod Spelling
 -- what a redaction is, and that no secret is passed on
 pub mod Secrets
 pub mod Faults

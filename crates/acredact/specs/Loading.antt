@@ -1,5 +1,6 @@
 -- What the options give, one after another, and why they do not.
-use Rattle.std.specs.Prelude.{◌≡◌, ◌⊎◌, ℕ, Bool, true, false, List, [], ◌∷◌, ◌++◌, Option, IfSome, Result, Ok, Err, Vec}
+use Rattle.std.specs.Prelude.{◌≡◌, ◌⊎◌, ℕ, ◌≤◌, Bool, true, false, List, [], ◌∷◌, ◌++◌, Option, Some, None, IfSome, Result, Ok, Err, length, option_map, Vec}
+use Rattle.std.specs.Borrow.{Bor}
 use Rattle.std.specs.List.{AllZip}
 use Rattle.std.specs.declared.io.traits.Read.{Ghosts as Readers}
 use Rattle.aho_devices.specs.declared.adapters.FromRead.{FromRead}
@@ -7,14 +8,14 @@ use Rattle.programs.specs.Names.{is_input}
 use Rattle.programs.specs.Streams.{bytes_left}
 use Rattle.programs.specs.declared.reason.Reason.{Reason}
 use Rattle.programs.specs.declared.reason.Reason.TheVariants.{NotFound, Denied, Directory, NoDirectory, Links, LongName, Invalid, Full, TooLarge, Quota, Interrupted, Unavailable, Closed, OutOfMemory, PositionLimit, ReadFault, Fault}
-use Rattle.acredact.specs.Arguments.{Given}
+use Rattle.acredact.specs.Arguments.{Given, last_value}
 use Rattle.acredact.specs.LineFaults.{IsLineFault, IsListFault}
 use Rattle.acredact.specs.Reads.{OfName, ReadsText}
 use Rattle.acredact.specs.Tables.{Holds, HoldsBy, Secret, lines_in, secrets_of}
 use Rattle.acredact.specs.declared.arguments.Word.{Word}
-use Rattle.acredact.specs.declared.arguments.Word.TheVariants.{IgnoreCase, Kind, Pattern, Patterns, Table, With, Output, InPlace, Count, Summary, Crlf, AllowEmpty, Strict, Check, Help, Version, File}
+use Rattle.acredact.specs.declared.arguments.Word.TheVariants.{IgnoreCase, Kind, Pattern, Patterns, Table, With, Pseudonym, Output, InPlace, Count, Summary, Crlf, AllowEmpty, Strict, Check, Help, Version, File}
 use Rattle.acredact.specs.declared.failure.Failure.{Failure}
-use Rattle.acredact.specs.declared.failure.Failure.TheVariants.{NotText, Arguments, Pattern as BadPattern, Unread, Empty, Line, Unclean, Counts, Other}
+use Rattle.acredact.specs.declared.failure.Failure.TheVariants.{NotText, Arguments, Pattern as BadPattern, Unread, Empty, EmptyKey, Line, Unclean, Counts, Other}
 use Rattle.acredact.specs.declared.folder.Folder.{Ghosts as Folders}
 use Rattle.acredact.specs.declared.load.Lists.{Lists}
 use Rattle.acredact.specs.declared.patterns.Form.{Form}
@@ -63,6 +64,7 @@ OptionGives reading Table value secrets left left' = GivesSecrets reading true v
 OptionGives reading IgnoreCase value secrets left left' = (secrets ≡ []) × (left' ≡ left)
 OptionGives reading Kind value secrets left left' = (secrets ≡ []) × (left' ≡ left)
 OptionGives reading With value secrets left left' = (secrets ≡ []) × (left' ≡ left)
+OptionGives reading Pseudonym value secrets left left' = (secrets ≡ []) × (left' ≡ left)
 OptionGives reading Output value secrets left left' = (secrets ≡ []) × (left' ≡ left)
 OptionGives reading Count value secrets left left' = (secrets ≡ []) × (left' ≡ left)
 OptionGives reading Summary value secrets left left' = (secrets ≡ []) × (left' ≡ left)
@@ -80,6 +82,39 @@ abbrev pub AreGiven : Reading → List Given → List Secret → (left left' : O
 AreGiven reading [] secrets left left' = (secrets ≡ []) × (left' ≡ left)
 AreGiven reading (item ∷ items) secrets left left' = (first : List Secret) × (rest : List Secret) × (secrets ≡ first ++ rest)
     × (between : Option (List ℕ)) × OptionGives reading item.word item.value first left between × AreGiven reading items rest between left'
+
+-- the key in the file of a name was read: all bytes of that, and there is one
+pub record GivesKey (reading : Reading) (name : List ℕ) (key : Option (List ℕ)) (left left' : Option (List ℕ)) : Type 0 where
+  pub bytes : List ℕ
+  pub some : 1 ≤ length bytes
+  pub is : key ≡ Some bytes
+  pub reads : OfName reading.holds name (ReadsText bytes) left left'
+
+-- or there is none, where no file is named
+abbrev pub IsKeyGiven : Reading → Option (List ℕ) → Option (List ℕ) → (left left' : Option (List ℕ)) → Type 0
+IsKeyGiven reading None key left left' = (key ≡ None) × (left' ≡ left)
+IsKeyGiven reading (Some name) key left left' = GivesKey reading name key left left'
+
+-- what is read before any file is redacted: the secrets, and then the key of pseudonyms
+pub record Loaded : Type 0 where
+  pub secrets : List Secret
+  pub key : Option (List ℕ)
+
+pub record AreLoaded (reading : Reading) (given : List Given) (loaded : Loaded) (left left' : Option (List ℕ)) : Type 0 where
+  pub between : Option (List ℕ)
+  pub secrets : AreGiven reading given loaded.secrets left between
+  pub key : IsKeyGiven reading (last_value Pseudonym given) loaded.key between left'
+
+-- the key of some memory, and of some bytes
+abbrev pub key_in : {Z : Type 0} → Option (Vec ℕ Z) → Option (List ℕ)
+key_in key = option_map (λ bytes. bytes.items) key
+
+abbrev pub key_lent : Option (Bor (List ℕ)) → Option (List ℕ)
+key_lent key = option_map (λ bytes. bytes.now) key
+
+-- these rules and this key
+abbrev pub loaded_as : List Rule → Option (List ℕ) → Loaded
+loaded_as rules key = record { secrets = secrets_of rules; key = key }
 
 -- what a list holds is added
 pub record IsAddedText (rules : Rules) (table : Bool) (text : List ℕ) (old new : List Secret) : Type 0 where
@@ -114,6 +149,14 @@ module _ {F X R Z : Type 0} {Reads : Readers R} (D : Folders F X) (lists : Lists
   -- the rules hold what all options give
   abbrev pub GivesRules : List Given → (rules : Vec Rule Z) → (input input' : FromRead R Reads) → Type 0
   GivesRules given rules input input' = AreGiven (reading_of_lists D lists) given (secrets_of rules.items) (bytes_left input) (bytes_left input')
+
+  -- the key of this name was read, or that of the option
+  abbrev pub ReadsKey : List ℕ → (key : Option (Vec ℕ Z)) → (input input' : FromRead R Reads) → Type 0
+  ReadsKey name key input input' = GivesKey (reading_of_lists D lists) name (key_in key) (bytes_left input) (bytes_left input')
+
+  abbrev pub LoadsKey : List Given → (key : Option (Vec ℕ Z)) → (input input' : FromRead R Reads) → Type 0
+  LoadsKey given key input input' =
+      IsKeyGiven (reading_of_lists D lists) (last_value Pseudonym given) (key_in key) (bytes_left input) (bytes_left input')
 
   -- the list of this name was read to its end
   abbrev pub ReadsList : List ℕ → (text : Vec ℕ Z) → (input input' : FromRead R Reads) → Type 0
@@ -155,6 +198,7 @@ IsPatternFailure value (Arguments mistake) = ⊥
 IsPatternFailure value (BadPattern fault) = IsLineFault false value fault
 IsPatternFailure value (Unread name reason) = ⊥
 IsPatternFailure value (Empty name) = ⊥
+IsPatternFailure value (EmptyKey name) = ⊥
 IsPatternFailure value (Line name bad) = ⊥
 IsPatternFailure value (Unclean unclean) = ⊥
 IsPatternFailure value Counts = ⊥
@@ -167,6 +211,7 @@ IsTextFailure rules table file text (Arguments mistake) = ⊥
 IsTextFailure rules table file text (BadPattern fault) = ⊥
 IsTextFailure rules table file text (Unread name reason) = ⊥
 IsTextFailure rules table file text (Empty name) = (name.now ≡ file) × (text ≡ []) × (rules.allow_empty ≡ false)
+IsTextFailure rules table file text (EmptyKey name) = ⊥
 IsTextFailure rules table file text (Line name bad) = (name.now ≡ file) × IsListFault (form_by rules table) (lines_in text) bad
 IsTextFailure rules table file text (Unclean unclean) = ⊥
 IsTextFailure rules table file text Counts = ⊥
@@ -181,6 +226,16 @@ abbrev pub IsFileFailure : Reading → Bool → List ℕ → Failure → Type 0
 IsFileFailure reading table file failure =
     ((name : _) × (reason : Reason) × (failure ≡ Unread name reason) × (name.now ≡ file) × CannotRead reading file reason)
     ⊎ ((text : List ℕ) × IsListText reading file text × IsTextFailure reading.rules table file text failure)
+
+-- the file of a name gives no key: it cannot be read, or is empty
+abbrev pub IsKeyFailure : Reading → List ℕ → Failure → Type 0
+IsKeyFailure reading file failure =
+    ((name : _) × (reason : Reason) × (failure ≡ Unread name reason) × (name.now ≡ file) × CannotRead reading file reason)
+    ⊎ ((name : _) × (failure ≡ EmptyKey name) × (name.now ≡ file) × IsListText reading file [])
+
+-- nor does that of the option
+abbrev pub CannotLoadKey : Reading → List Given → Failure → Type 0
+CannotLoadKey reading given failure = IfSome (last_value Pseudonym given) (λ file. IsKeyFailure reading file failure)
 
 -- an option does not give its secrets
 abbrev pub CannotLoad : Reading → Given → Failure → Type 0

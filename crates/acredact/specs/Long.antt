@@ -3,7 +3,7 @@ use Rattle.std.specs.Prelude.{ℕ, nat_eq, List, [], ◌∷◌, Option, Some, No
 use Rattle.std.specs.List.{starts_with}
 use Rattle.std.specs.Str.{bytes_eq}
 use Rattle.acredact.specs.declared.arguments.Word.{Word}
-use Rattle.acredact.specs.declared.arguments.Word.TheVariants.{IgnoreCase, Kind, Pattern, Patterns, Table, With, Output, InPlace, Count, Summary, Crlf, AllowEmpty, Strict, Check, Help, Version}
+use Rattle.acredact.specs.declared.arguments.Word.TheVariants.{IgnoreCase, Kind, Pattern, Patterns, Table, With, Pseudonym, Output, InPlace, Count, Summary, Crlf, AllowEmpty, Strict, Check, Help, Version}
 use Rattle.acredact.specs.declared.long.Found.{Found}
 use Rattle.acredact.specs.declared.long.Found.TheVariants.{Unknown, Begun, Several, Whole}
 
@@ -23,6 +23,7 @@ options_of_patterns = long_name (codes "ignore-case") IgnoreCase
     ∷ long_name (codes "file") Patterns
     ∷ long_name (codes "table") Table
     ∷ long_name (codes "with") With
+    ∷ long_name (codes "pseudonym") Pseudonym
     ∷ long_name (codes "crlf") Crlf
     ∷ long_name (codes "allow-empty") AllowEmpty
     ∷ []

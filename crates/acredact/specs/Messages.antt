@@ -2,7 +2,7 @@
 use Rattle.std.specs.Prelude.{ℕ, List, ◌++◌, None, Some, codes, decimal}
 use Rattle.programs.specs.Messages.{Message, message_by}
 use Rattle.acredact.specs.declared.clean.Flaw.{Flaw}
-use Rattle.acredact.specs.declared.clean.Flaw.TheVariants.{Empty, Spells}
+use Rattle.acredact.specs.declared.clean.Flaw.TheVariants.{Empty, Pseudonym, Spells}
 use Rattle.acredact.specs.declared.clean.Unclean.{Unclean}
 
 -- the line of a message
@@ -35,6 +35,7 @@ piece_line number why = codes "acredact" ++ (codes ": the replacement of pattern
 abbrev pub flaw_text : Flaw → List ℕ
 flaw_text Empty = codes " is empty: what stands beside it can spell a pattern\n"
 flaw_text (Spells pattern) = codes " can spell pattern " ++ (decimal pattern ++ codes " with what stands beside it\n")
+flaw_text Pseudonym = codes " is a pseudonym: it can spell this pattern with what stands beside it\n"
 
 abbrev pub unclean_line : Unclean → List ℕ
 unclean_line unclean = piece_line (decimal unclean.number) (flaw_text unclean.flaw)

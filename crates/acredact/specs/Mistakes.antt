@@ -11,7 +11,7 @@ use Rattle.acredact.specs.declared.arguments.Item.{Item}
 use Rattle.acredact.specs.declared.arguments.Mistake.{Mistake}
 use Rattle.acredact.specs.declared.arguments.Mistake.TheVariants.{UnknownLetter, UnknownName, Ambiguous, NoValue, TakesNone, UnknownKind, NoPattern, Mixed, OutOfMemory}
 use Rattle.acredact.specs.declared.arguments.Mixture.{Mixture}
-use Rattle.acredact.specs.declared.arguments.Mixture.TheVariants.{StrictKind, CountCheck, SummaryCheck, OutputCheck, InPlaceCheck, InPlaceOutput}
+use Rattle.acredact.specs.declared.arguments.Mixture.TheVariants.{StrictKind, PseudonymKind, PseudonymWith, PseudonymTable, CountCheck, SummaryCheck, OutputCheck, InPlaceCheck, InPlaceOutput}
 use Rattle.acredact.specs.declared.arguments.Word.{Word}
 use Rattle.acredact.specs.declared.long.Found.{Found}
 use Rattle.acredact.specs.declared.long.Found.TheVariants.{Unknown, Begun, Several, Whole}
@@ -19,6 +19,9 @@ use Rattle.acredact.specs.declared.long.Found.TheVariants.{Unknown, Begun, Sever
 -- what is told of options that do not go together
 abbrev pub mixture_text : Mixture → List ℕ
 mixture_text StrictKind = codes "--strict needs --kind cover: it promises nothing by another kind"
+mixture_text PseudonymKind = codes "--pseudonym needs --kind cover: other kinds have no runs"
+mixture_text PseudonymWith = codes "--pseudonym and --with do not go together: each says what is written"
+mixture_text PseudonymTable = codes "--pseudonym and -t do not go together: a table says what is written"
 mixture_text SummaryCheck = codes "--summary and --check do not go together: a check counts nothing"
 mixture_text OutputCheck = codes "--output and --check do not go together: a check writes nothing"
 mixture_text InPlaceCheck = codes "--in-place and --check do not go together: a check writes nothing"

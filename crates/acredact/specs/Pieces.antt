@@ -1,5 +1,5 @@
 -- Which of the texts that are written in the place of patterns are clean, so that with what stands beside them they spell no pattern.
-use Rattle.std.specs.Prelude.{◌≡◌, ◌⊎◌, ℕ, ◌+◌, ◌<◌, Bool, true, false, List, [], ◌∷◌, ◌++◌, Option, Some, None, IfSome, length, map, slice_index_or}
+use Rattle.std.specs.Prelude.{◌≡◌, ◌⊎◌, ℕ, ◌+◌, ◌<◌, Bool, true, false, List, [], ◌∷◌, ◌++◌, Option, Some, None, IfSome, is_some, length, map, slice_index_or}
 use Rattle.std.specs.Borrow.{Bor}
 use Rattle.aho_core.specs.Bytes.{folded_by}
 use Rattle.aho_core.specs.Listing.{IsMember}
@@ -15,10 +15,11 @@ use Rattle.programs.specs.Asked.{ArePatterns}
 use Rattle.programs.specs.Telling.{TellsBytes}
 use Rattle.programs.specs.declared.errors.Errors.{Errors}
 use Rattle.acredact.specs.Messages.{unclean_line}
-use Rattle.acredact.specs.Secrets.{IfOf, Redactor}
+use Rattle.acredact.specs.Secrets.{AreCleanBy, IfOf, Redactor}
+use Rattle.acredact.specs.Spelling.{HoldsByte, IsSpelled}
 use Rattle.acredact.specs.Tables.{piece_by, secrets_of}
 use Rattle.acredact.specs.declared.clean.Flaw.{Flaw}
-use Rattle.acredact.specs.declared.clean.Flaw.TheVariants.{Empty, Spells}
+use Rattle.acredact.specs.declared.clean.Flaw.TheVariants.{Empty, Pseudonym, Spells}
 use Rattle.acredact.specs.declared.clean.Judge.{Judge}
 use Rattle.acredact.specs.declared.clean.Unclean.{Unclean}
 
@@ -30,20 +31,9 @@ IsJudgeOf judge p = ArePatterns p judge.ignore_case (pieces_of judge.words.now)
 abbrev pub pieces_by : Judge → List (List ℕ)
 pieces_by judge = map (piece_by judge.usual.now) (secrets_of judge.rules.now)
 
--- what is redacted with these pieces
-abbrev pub redactor_with : Patterns → Bool → List (List ℕ) → Redactor
-redactor_with p covers pieces = record { patterns = p; covers = covers; pieces = pieces }
-
-abbrev pub redactor_judged : Patterns → Bool → Judge → Redactor
-redactor_judged p covers judge = redactor_with p covers (pieces_by judge)
-
 -- what holds of the patterns of an automaton, of one with rows, where there is one, and of a judge
 abbrev pub IfOfAll : {A B : Type 0} → Ghosts A → Ghosts B → A → Option (Bor B) → Judge → (Patterns → Type 0) → Type 0
 IfOfAll G H automaton rows judge Holds = IfOf G automaton (λ p. IsJudgeOf judge p → IfSome rows (λ rows. H.is_of rows.now p) → Holds p)
-
--- a word holds a byte, by the case rule
-abbrev pub HoldsByte : Bool → List ℕ → ℕ → Type 0
-HoldsByte ignore_case word byte = (other : ℕ) × IsMember word other × (folded_by ignore_case other ≡ folded_by ignore_case byte)
 
 -- no word does
 abbrev pub HoldNone : Bool → List (List ℕ) → ℕ → Type 0
@@ -76,6 +66,7 @@ Spoils p piece number =
 -- this is why a piece is not clean; patterns are told by their numbers from 1 on
 abbrev pub IsFlaw : Patterns → List ℕ → Flaw → Type 0
 IsFlaw p piece Empty = piece ≡ []
+IsFlaw p piece Pseudonym = ⊥
 IsFlaw p piece (Spells told) = (number : ℕ) × (told ≡ number + 1) × (number < length p.words) × Spoils p piece number
 
 -- what is answered of a piece: why it is not clean, and nothing where it is
@@ -97,14 +88,18 @@ abbrev pub IsFirstOrNone : Patterns → List (List ℕ) → Option Unclean → T
 IsFirstOrNone p pieces None = AreClean p pieces
 IsFirstOrNone p pieces (Some unclean) = IsUnclean p pieces unclean
 
--- the pieces of a cover are clean; by the other kinds they need not be
-abbrev pub HasCleanPieces : Redactor → Type 0
-HasCleanPieces r = r.covers ≡ true → AreClean r.patterns r.pieces
+-- the first pattern whose piece is not clean, or that a pseudonym can spell
+abbrev pub IsUncleanBy : (named : Bool) → Patterns → List (List ℕ) → Unclean → Type 0
+IsUncleanBy false p pieces unclean = IsUnclean p pieces unclean
+IsUncleanBy true p pieces unclean = IsSpelled p.ignore_case p.words unclean
 
--- what is answered of its pieces: one that is not clean, and nothing where there is none
+-- what is answered of a cover: that, and nothing where there is none; by the other kinds nothing is judged
+abbrev pub IsJudgedBy : Patterns → (covers named : Bool) → List (List ℕ) → Option Unclean → Type 0
+IsJudgedBy p covers named pieces None = covers ≡ true → AreCleanBy named p pieces
+IsJudgedBy p covers named pieces (Some unclean) = (covers ≡ true) × IsUncleanBy named p pieces unclean
+
 abbrev pub IsJudged : Redactor → Option Unclean → Type 0
-IsJudged r None = HasCleanPieces r
-IsJudged r (Some unclean) = (r.covers ≡ true) × IsUnclean r.patterns r.pieces unclean
+IsJudged r answer = IsJudgedBy r.patterns r.covers (is_some r.key) r.pieces answer
 
 module _ {E : Type 0} (K : SinkGhosts E) (strict : Bool) where
   -- that is told as a line, but where it is to be refused

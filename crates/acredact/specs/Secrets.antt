@@ -1,5 +1,5 @@
 -- What a redaction is, and what it means that no secret is passed on.
-use Rattle.std.specs.Prelude.{◌≡◌, ℕ, ◌<◌, Bool, MatchBool, List, None, length, true}
+use Rattle.std.specs.Prelude.{◌≡◌, ℕ, ◌<◌, Bool, MatchBool, List, Option, Some, None, false, is_some, length, true}
 use Rattle.std.specs.Borrow.{Bor}
 use Rattle.std.specs.Io.{StartsWith}
 use Rattle.aho_core.specs.Cover.{AreRuns, IsCovered}
@@ -8,12 +8,15 @@ use Rattle.aho_core.specs.Listing.{IsMember}
 use Rattle.aho_core.specs.Occurrence.{Occurrence}
 use Rattle.aho_core.specs.Occurs.{Occurs, OccursIn}
 use Rattle.aho_core.specs.Patterns.{Patterns}
-use Rattle.aho_core.specs.Replacement.{pieces_of, replaced}
+use Rattle.aho_core.specs.Replacement.{pieces_of, replaced_by}
 use Rattle.aho_core.specs.Search.{plain_search}
 use Rattle.aho_core.specs.declared.search.Anchored.TheVariants.{No}
 use Rattle.aho_core.specs.declared.search.MatchKind.TheVariants.{Standard}
 use Rattle.aho_laws.specs.CoverLaws.{AreClean, kept, uncovered}
+use Rattle.aho_cover.specs.Pieces.{PieceRule, fixed_rule, piece_in}
 use Rattle.aho_automaton.specs.declared.automaton.Automaton.{Ghosts}
+use Rattle.pseudonyms.specs.Pseudonyms.{pseudonym_rule}
+use Rattle.acredact.specs.Spelling.{NoneAreSpelled}
 use Rattle.aho_stream.specs.Replacing.{MayBe}
 use Rattle.aho_stream.specs.StreamRun.{CanBegin}
 
@@ -39,14 +42,39 @@ pub record NoByteIsKept (p : Patterns) (bytes : List ℕ) (ranges : List Occurre
 abbrev pub NoneOccurs : Patterns → List ℕ → Type 0
 NoneOccurs p bytes = (m : Occurrence) → OccursIn p (plain_search bytes) m → ⊥
 
--- what is redacted: some patterns, whether by a cover, and the text that is written in the place of each
+-- the key of pseudonyms, and whether runs that differ only in the case of letters have the same
+pub record Keyed : Type 0 where
+  pub bytes : List ℕ
+  pub ignore_case : Bool
+
+-- what is redacted: some patterns, whether by a cover, and the text that is written in the place of each; or, of a cover, by a key a
+-- pseudonym in the place of each run
 pub record Redactor : Type 0 where
   pub patterns : Patterns
   pub covers : Bool
   pub pieces : List (List ℕ)
+  pub key : Option Keyed
 
 abbrev pub redactor_by : Patterns → Bool → List (Bor (List ℕ)) → Redactor
-redactor_by p covers replacements = record { patterns = p; covers = covers; pieces = pieces_of replacements }
+redactor_by p covers replacements = record { patterns = p; covers = covers; pieces = pieces_of replacements; key = None }
+
+-- a key is that of covers alone
+abbrev pub key_of_cover : Bool → Option Keyed → Option Keyed
+key_of_cover false key = None
+key_of_cover true key = key
+
+-- what is written in the place of a range: the text of its pattern, or the pseudonym of its bytes
+abbrev pub rule_by : Option Keyed → List (List ℕ) → PieceRule
+rule_by None pieces = fixed_rule pieces
+rule_by (Some key) pieces = pseudonym_rule key.ignore_case key.bytes
+
+abbrev pub rule_of : Redactor → PieceRule
+rule_of r = rule_by r.key r.pieces
+
+-- what is written spells no pattern with what stands beside it: each text is clean, or no pseudonym can spell one
+abbrev pub AreCleanBy : (named : Bool) → Patterns → List (List ℕ) → Type 0
+AreCleanBy false p pieces = AreClean p pieces
+AreCleanBy true p pieces = NoneAreSpelled p.ignore_case p.words
 
 -- what holds of the patterns of an automaton
 abbrev pub IfOf : {A : Type 0} → Ghosts A → A → (Patterns → Type 0) → Type 0
@@ -60,13 +88,13 @@ AreReplaced r text ranges = MatchBool r.covers (AreRuns r.patterns text ranges) 
 abbrev pub NoSecretLeft : Redactor → List ℕ → List Occurrence → Type 0
 NoSecretLeft r text ranges = MatchBool r.covers (NoByteIsKept r.patterns text ranges) (NoneIsWhole r.patterns text ranges)
 
--- a text with its ranges replaced, and no secret left. Where the texts in their places are clean, a cover's output has none either
+-- a text with its ranges replaced, and no secret left. Where what is written in their places is clean, a cover's output has none either
 pub record IsRedaction (r : Redactor) (text redaction : List ℕ) : Type 0 where
   pub ranges : List Occurrence
   pub found : AreReplaced r text ranges
   pub safe : NoSecretLeft r text ranges
-  pub is : redaction ≡ replaced text ranges r.pieces
-  pub clean : r.covers ≡ true → AreClean r.patterns r.pieces → NoneOccurs r.patterns redaction
+  pub is : redaction ≡ replaced_by text ranges (piece_in (rule_of r) text)
+  pub clean : r.covers ≡ true → AreCleanBy (is_some r.key) r.patterns r.pieces → NoneOccurs r.patterns redaction
 
 -- a beginning of the redaction of a text of which these bytes were read, whatever bytes follow: none once its end was seen
 abbrev pub BeginsRedaction : Redactor → List ℕ → Bool → List ℕ → Type 0

@@ -25,6 +25,8 @@ pub enum Word {
     Table,
     /// `--with`: the replacement of each pattern that has none of its own.
     With,
+    /// `--pseudonym`: the file of the key by which the text in the place of each run is made of its bytes.
+    Pseudonym,
     /// `--output`: the file that is written, in the place of standard output.
     Output,
     /// `--in-place`: each file is replaced, and nothing goes to standard output.
@@ -74,6 +76,12 @@ pub enum Expects {
 pub enum Mixture {
     /// `--strict` with another kind than cover: it promises something of covers alone.
     StrictKind,
+    /// `--pseudonym` with another kind than cover: only a cover has runs.
+    PseudonymKind,
+    /// `--pseudonym` with `--with`: each says what is written.
+    PseudonymWith,
+    /// `--pseudonym` with a table, whose lines say what is written.
+    PseudonymTable,
     /// `--count` with `--check`, which counts nothing.
     CountCheck,
     /// `--summary` with `--check`.
@@ -128,6 +136,7 @@ pub fn name_of(word: Word) -> &'static str
         Word::Patterns => "-f",
         Word::Table => "-t",
         Word::With => "--with",
+        Word::Pseudonym => "--pseudonym",
         Word::Output => "--output",
         _ => "-e",
     }
@@ -139,7 +148,13 @@ pub fn takes_value(word: Word) -> bool
 {
     matches!(
         word,
-        Word::Kind | Word::Pattern | Word::Patterns | Word::Table | Word::With | Word::Output
+        Word::Kind
+            | Word::Pattern
+            | Word::Patterns
+            | Word::Table
+            | Word::With
+            | Word::Pseudonym
+            | Word::Output
     )
 }
 
@@ -174,6 +189,15 @@ fn mixture_of(items: &[Item<'_>]) -> Option<Mixture>
 {
     if has(items, Word::Strict) && !covers(items) {
         return Some(Mixture::StrictKind);
+    }
+    if has(items, Word::Pseudonym) && !covers(items) {
+        return Some(Mixture::PseudonymKind);
+    }
+    if has(items, Word::Pseudonym) && has(items, Word::With) {
+        return Some(Mixture::PseudonymWith);
+    }
+    if has(items, Word::Pseudonym) && has(items, Word::Table) {
+        return Some(Mixture::PseudonymTable);
     }
     if has(items, Word::Count) && has(items, Word::Check) {
         return Some(Mixture::CountCheck);

@@ -9,11 +9,13 @@ ghost use Rattle.aho_core.specs.Replacement.{pieces_of};
 ghost use Rattle.aho_core.specs.Search.{plain_search};
 ghost use Rattle.aho_core.specs.declared.search.Anchored.TheVariants.{No};
 ghost use Rattle.aho_laws.specs.CoverLaws.{IsCleanPiece};
-ghost use Rattle.acredact.specs.Pieces.{HoldNone, HoldsByte, IsFirstOrNone, IsFlawOrNone, IsHolder, IsJudgeOf, IsJudged, IsMarked, StayMarked, WordsAreMarked, pieces_by, redactor_judged};
+ghost use Rattle.acredact.specs.Pieces.{HoldNone, IsFirstOrNone, IsFlawOrNone, IsHolder, IsJudgeOf, IsJudgedBy, IsMarked, StayMarked, WordsAreMarked, pieces_by};
 ghost use Rattle.acredact.specs.Secrets.{IfOf, NoneOccurs};
+ghost use Rattle.acredact.specs.Spelling.{HoldsByte};
 ghost use Rattle.acredact.specs.Tables.{piece_by, secret_of};
 
 use crate::patterns::Rule;
+use crate::spelled::first_spelled;
 use aho_automaton::automaton::Automaton;
 use aho_core::search::{Input, Match};
 
@@ -37,6 +39,8 @@ pub enum Flaw {
     Empty,
     /// The pattern of this number, from 1 on, holds its first or its last byte, or occurs in it.
     Spells(usize),
+    /// It is made of each run's bytes, and can hold all bytes of the pattern, or its first or its last byte is one of the pattern's.
+    Pseudonym,
 }
 
 /// A pattern whose piece is not clean.
@@ -48,22 +52,27 @@ pub struct Unclean {
     pub flaw: Flaw,
 }
 
-/// The first pattern whose piece is not clean, where a cover is asked for and there is one. It takes no memory, and looks at each byte
+/// The first pattern whose piece is not clean, where a cover is asked for and there is one; or that a pseudonym can spell, where those
+/// are written. It takes no memory, and looks at each byte
 /// of the patterns, of their own pieces and of the usual one a few times.
 pub fn unclean_of<A: Automaton>(
     automaton: &A,
     judge: &Judge<'_, '_>,
     covers: bool,
+    named: bool,
 ) -> Option<Unclean>
     requires of { (p : Patterns) × A.is_of automaton.now p }
     requires starts { IsOk (A.start automaton.now No) }
     requires one_each { length judge.now.rules.now ≡ length judge.now.words.now }
     ensures judged { IfOf A.Automaton automaton.now (λ p.
         IsJudgeOf judge.now p →
-        IsJudged (redactor_judged p covers judge.now) result) }
+        IsJudgedBy p covers named (pieces_by judge.now) result) }
 {
     if !covers {
         return None;
+    }
+    if named {
+        return first_spelled(judge.words, judge.ignore_case);
     }
     let marks = marks_of(judge.words, judge.ignore_case);
     first_unclean(automaton, judge, &marks)
@@ -213,7 +222,7 @@ fn holder_of(judge: &Judge<'_, '_>, marks: &[bool], byte: u8) -> Option<usize>
 }
 
 /// Whether a word holds a byte.
-fn holds(word: &[u8], ignore_case: bool, byte: u8) -> bool
+pub fn holds(word: &[u8], ignore_case: bool, byte: u8) -> bool
     ensures holds { MatchBool result (HoldsByte ignore_case word.now byte)
         (HoldsByte ignore_case word.now byte → ⊥) }
 {
@@ -249,7 +258,7 @@ fn mark(marks: &mut [bool; 256], word: &[u8], ignore_case: bool)
 }
 
 /// A byte as it is compared.
-fn folded(byte: u8, ignore_case: bool) -> u8
+pub fn folded(byte: u8, ignore_case: bool) -> u8
     ensures folded { result ≡ folded_by ignore_case byte }
 {
     if ignore_case && 65 <= byte && byte <= 90 {

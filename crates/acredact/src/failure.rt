@@ -7,7 +7,7 @@ ghost use Rattle.acredact.specs.Failures.{IsFailureLine, IsOtherLine, bad_line, 
 ghost use Rattle.acredact.specs.LineFaults.{line_fault_text};
 ghost use Rattle.acredact.specs.Messages.{alone, flaw_text, line_about, no_file_line, output_line, piece_line, told_line, unclean_line};
 ghost use Rattle.acredact.specs.Mistakes.{mistake_line, mixture_text, named_line};
-ghost use Rattle.acredact.specs.declared.clean.Flaw.TheVariants.{Empty, Spells};
+ghost use Rattle.acredact.specs.declared.clean.Flaw.TheVariants.{Empty, Pseudonym, Spells};
 
 use crate::arguments::{Mistake, Mixture, name_of};
 use crate::clean::{Flaw, Unclean};
@@ -39,6 +39,8 @@ pub enum Failure<'a> {
     Unread(&'a str, Reason),
     /// A file of patterns or a table is empty.
     Empty(&'a str),
+    /// The file of a key is empty.
+    EmptyKey(&'a str),
     /// A line of a file of patterns or of a table is wrong.
     Line(&'a str, BadLine),
     /// The piece of a pattern is not clean.
@@ -142,6 +144,7 @@ pub fn tell_failure<E: Sink>(errors: &mut Errors<'_, E>, failure: &Failure<'_>)
             name,
             "no pattern: give --allow-empty to allow it",
         ),
+        Failure::EmptyKey(name) => tell_about(errors, name, "empty key"),
         Failure::Line(name, line) => tell_line(errors, name, *line),
         Failure::Unclean(unclean) => tell_unclean(errors, *unclean),
         Failure::Counts => tell_alone(errors, "the counts cannot be written"),
@@ -156,6 +159,7 @@ pub fn tell_unclean<E: Sink>(errors: &mut Errors<'_, E>, unclean: Unclean)
     match unclean.flaw {
         Flaw::Empty => tell_empty(errors, unclean.number),
         Flaw::Spells(pattern) => tell_spelled(errors, unclean.number, pattern),
+        Flaw::Pseudonym => tell_pseudonym(errors, unclean.number),
     }
 }
 
@@ -190,6 +194,21 @@ fn tell_spelled<E: Sink>(errors: &mut Errors<'_, E>, number: usize, pattern: usi
         b" can spell pattern ",
         other_digits,
         b" with what stands beside it\n",
+    ]);
+}
+
+/// Tells that pseudonyms can spell a pattern.
+fn tell_pseudonym<E: Sink>(errors: &mut Errors<'_, E>, number: usize)
+    ensures told { TellsBytes E.Sink errors.old errors.new
+        (piece_line (decimal number) (flaw_text Pseudonym)) }
+{
+    let mut room = [0; MAX_DIGITS];
+    let digits = digits_of(number, &mut room);
+    errors.write(&[
+        PROGRAM,
+        b": the replacement of pattern ",
+        digits,
+        b" is a pseudonym: it can spell this pattern with what stands beside it\n",
     ]);
 }
 
@@ -248,6 +267,13 @@ fn mixture_text(mixture: Mixture) -> &'static str
 {
     match mixture {
         Mixture::StrictKind => "--strict needs --kind cover: it promises nothing by another kind",
+        Mixture::PseudonymKind => "--pseudonym needs --kind cover: other kinds have no runs",
+        Mixture::PseudonymWith => {
+            "--pseudonym and --with do not go together: each says what is written"
+        }
+        Mixture::PseudonymTable => {
+            "--pseudonym and -t do not go together: a table says what is written"
+        }
         Mixture::SummaryCheck => {
             "--summary and --check do not go together: a check counts nothing"
         }

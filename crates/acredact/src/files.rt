@@ -1,6 +1,6 @@
 //! The redaction of files, one after another.
 
-ghost use Rattle.std.specs.Prelude.{◌≡◌, ◌&&◌, ℕ, List, None, Ok, Option, OnOk, false, true};
+ghost use Rattle.std.specs.Prelude.{◌≡◌, ◌&&◌, ℕ, List, None, Ok, Option, OnOk, Some, false, true};
 ghost use Rattle.aho_core.specs.Patterns.{Patterns};
 ghost use Rattle.aho_backward.specs.Searcher.{IsBackwardOf};
 ghost use Rattle.aho_devices.specs.Counts.{counted};
@@ -21,7 +21,7 @@ use crate::folder::Folder;
 use crate::meter::{Known, Lent, Metered};
 use crate::streams::Streams;
 use crate::summary::Volume;
-use crate::ways::{Covering, Replacing, Way};
+use crate::ways::{Covering, Key, Naming, Replacing, Way};
 use aho_automaton::automaton::Automaton;
 use aho_backward::backward::Backward;
 use aho_core::error::StreamError;
@@ -29,6 +29,7 @@ use aho_cover::start::StreamCoverStart;
 use aho_devices::adapters::{FromRead, FromWrite};
 use aho_devices::device::{Sink, Source};
 use programs::reason::Reason;
+use pseudonyms::pseudonym::Pseudonyms;
 use std::alloc::Global;
 use std::io::{Read, Write};
 use std::marker::{Brand, PhantomData};
@@ -44,6 +45,8 @@ pub struct Job<'s, 't, F> {
     pub names: &'s [&'t str],
     /// What is written in the place of each pattern.
     pub replacements: &'s [&'t [u8]],
+    /// The key by which a cover makes the text of each run of its bytes, where it does.
+    pub key: Option<Key<'s>>,
     /// Whether all bytes of all matches are replaced, and not only matches that share no byte.
     pub covers: bool,
 }
@@ -75,7 +78,7 @@ pub fn redact_files<A: Automaton, F: Folder, I: Read, W: Write, E: Sink>(
     replace_files(automaton, job, counts, volume, streams)
 }
 
-/// Redacts all files by covers. The memory of all is taken before the first is opened.
+/// Redacts all files by covers.
 fn cover_files<A: Automaton, F: Folder, I: Read, W: Write, E: Sink>(
     automaton: &A,
     job: &Job<'_, '_, F>,
@@ -92,11 +95,60 @@ fn cover_files<A: Automaton, F: Folder, I: Read, W: Write, E: Sink>(
     ensures read { JobVolume F.Folder job.now result volume.old volume.new streams.old streams.new }
     ensures flushed { OnOk result (streams.new.output.device.flushed ≡ true) }
 {
+    match job.key {
+        Some(key) => name_files(automaton, key, job, counts, volume, streams),
+        None => cover_alike(automaton, job, counts, volume, streams),
+    }
+}
+
+/// Redacts all files by covers, with one text for each pattern. The memory of all is taken before the first is opened.
+fn cover_alike<A: Automaton, F: Folder, I: Read, W: Write, E: Sink>(
+    automaton: &A,
+    job: &Job<'_, '_, F>,
+    counts: &mut [u64],
+    volume: &mut Volume,
+    streams: &mut Streams<'_, I, W, E>,
+) -> Result<bool, StreamError>
+    requires ready { CanDo A.Automaton automaton.now job.now }
+    requires covers { job.now.covers ≡ true }
+    requires unnamed { job.now.key ≡ None }
+    ensures outcome { JobOutcome W.Write E.Sink A.Automaton F.Folder
+        automaton.now job.now result streams.old streams.new }
+    ensures counted { IfOf A.Automaton automaton.now (JobCounts F.Folder job.now
+        result streams.old streams.new counts.old counts.new) }
+    ensures read { JobVolume F.Folder job.now result volume.old volume.new streams.old streams.new }
+    ensures flushed { OnOk result (streams.new.output.device.flushed ≡ true) }
+{
     let start = StreamCoverStart::new(job.alloc, automaton)?;
     let mut way = Covering {
         start,
         replacements: job.replacements,
     };
+    redact_flushed(&mut way, job, counts, volume, streams)
+}
+
+/// Redacts all files by covers, with a pseudonym in the place of each run.
+fn name_files<A: Automaton, F: Folder, I: Read, W: Write, E: Sink>(
+    automaton: &A,
+    key: Key<'_>,
+    job: &Job<'_, '_, F>,
+    counts: &mut [u64],
+    volume: &mut Volume,
+    streams: &mut Streams<'_, I, W, E>,
+) -> Result<bool, StreamError>
+    requires ready { CanDo A.Automaton automaton.now job.now }
+    requires covers { job.now.covers ≡ true }
+    requires named { job.now.key ≡ Some key }
+    ensures outcome { JobOutcome W.Write E.Sink A.Automaton F.Folder
+        automaton.now job.now result streams.old streams.new }
+    ensures counted { IfOf A.Automaton automaton.now (JobCounts F.Folder job.now
+        result streams.old streams.new counts.old counts.new) }
+    ensures read { JobVolume F.Folder job.now result volume.old volume.new streams.old streams.new }
+    ensures flushed { OnOk result (streams.new.output.device.flushed ≡ true) }
+{
+    let start = StreamCoverStart::new(job.alloc, automaton)?;
+    let pieces = Pseudonyms::new(key.bytes, key.ignore_case);
+    let mut way = Naming { start, pieces };
     redact_flushed(&mut way, job, counts, volume, streams)
 }
 

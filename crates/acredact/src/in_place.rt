@@ -7,7 +7,7 @@ ghost use Rattle.acredact.specs.Arguments.{AreMistaken, AsksInPlace, IfAsked, al
 ghost use Rattle.acredact.specs.Back.{AreBoth, IfBackIs};
 ghost use Rattle.acredact.specs.Calls.{IsWrongFailure};
 ghost use Rattle.acredact.specs.Files.{CanDo};
-ghost use Rattle.acredact.specs.InPlace.{AskedPlaces, KeepsEach, LoadedPlaces, PlaceJob, PlacesJob, ReplacesAsked};
+ghost use Rattle.acredact.specs.InPlace.{AskedPlaces, KeepsEach, KeylessPlaces, LoadedPlaces, PlaceJob, PlacesJob, ReplacesAsked};
 ghost use Rattle.acredact.specs.Into.{IsKept};
 ghost use Rattle.acredact.specs.Secrets.{IfOf};
 ghost use Rattle.acredact.specs.Tables.{HaveNoEmpty, secrets_of};
@@ -19,11 +19,11 @@ use crate::counts::counts_of;
 use crate::failure::{Failure, tell_no_file, tell_unread};
 use crate::files::{Job, both, is_input};
 use crate::folder::Folder;
-use crate::load::{lists_of, rules};
+use crate::load::{key_of, lists_of, rules};
 use crate::outputs::Outputs;
 use crate::patterns::{Rule, patterns_of, replacements_of};
 use crate::rows::build;
-use crate::run::{FAILED, gives_pattern, names, redact_by, report, tell_counted, text_of, warn};
+use crate::run::{FAILED, gives_pattern, key_by, names, redact_by, report, tell_counted, text_of, warn};
 use crate::streams::Streams;
 use crate::summary::Volume;
 use aho_automaton::automaton::Automaton;
@@ -123,7 +123,32 @@ fn load_places<'a, F: Folder, O: Outputs, I: Read, E: Sink>(
     }
     let lists = lists_of(alloc, given, folder);
     match rules(&lists, given, &mut streams.input) {
-        Ok(rules) => place_counted(alloc, given, rules.as_slice(), folder, outputs, streams),
+        Ok(rules) => load_key(alloc, given, rules.as_slice(), folder, outputs, streams),
+        Err(failure) => Err(failure),
+    }
+}
+
+/// Loads the key of pseudonyms, where they are asked for, replaces each file by it and these rules, and answers whether all were
+/// replaced.
+fn load_key<'a, F: Folder, O: Outputs, I: Read, E: Sink>(
+    alloc: Global,
+    given: &[Item<'a>],
+    rules: &[Rule],
+    folder: &F,
+    outputs: &mut O,
+    streams: &mut Streams<'_, I, O::File, E>,
+) -> Result<bool, Failure<'a>>
+    requires some { HaveNoEmpty (secrets_of rules.now) }
+    ensures outcome { KeylessPlaces O.File.Write F.Folder O.Outputs folder.now (all_given given.now) rules.now
+        result streams.old.input outputs.old outputs.new }
+{
+    let lists = lists_of(alloc, given, folder);
+    match key_of(&lists, given, &mut streams.input) {
+        Ok(Some(key)) => {
+            let key = Some(key.as_slice());
+            place_counted(alloc, given, rules, key, folder, outputs, streams)
+        }
+        Ok(None) => place_counted(alloc, given, rules, None, folder, outputs, streams),
         Err(failure) => Err(failure),
     }
 }
@@ -133,13 +158,14 @@ fn place_counted<'a, F: Folder, O: Outputs, I: Read, E: Sink>(
     alloc: Global,
     given: &[Item<'_>],
     rules: &[Rule],
+    key: Option<&[u8]>,
     folder: &F,
     outputs: &mut O,
     streams: &mut Streams<'_, I, O::File, E>,
 ) -> Result<bool, Failure<'a>>
     requires some { HaveNoEmpty (secrets_of rules.now) }
     ensures outcome { LoadedPlaces O.File.Write F.Folder O.Outputs
-        folder.now (all_given given.now) rules.now result outputs.old outputs.new }
+        folder.now (all_given given.now) rules.now key.entry result outputs.old outputs.new }
 {
     let counted = counts(given);
     let mut tally = counts_of(alloc, rules, counted)?;
@@ -150,6 +176,7 @@ fn place_counted<'a, F: Folder, O: Outputs, I: Read, E: Sink>(
         alloc,
         given,
         rules,
+        key,
         folder,
         tally,
         &mut volume,
@@ -166,6 +193,7 @@ fn place_all<'a, F: Folder, O: Outputs, I: Read, E: Sink>(
     alloc: Global,
     given: &[Item<'_>],
     rules: &[Rule],
+    key: Option<&[u8]>,
     folder: &F,
     counts: &mut [u64],
     volume: &mut Volume,
@@ -174,7 +202,7 @@ fn place_all<'a, F: Folder, O: Outputs, I: Read, E: Sink>(
 ) -> Result<bool, Failure<'a>>
     requires some { HaveNoEmpty (secrets_of rules.now) }
     ensures outcome { LoadedPlaces O.File.Write F.Folder O.Outputs
-        folder.now (all_given given.now) rules.now result outputs.old outputs.new }
+        folder.now (all_given given.now) rules.now key.entry result outputs.old outputs.new }
 {
     let patterns = patterns_of(alloc, rules)?;
     let text = text_of(given);
@@ -190,6 +218,7 @@ fn place_all<'a, F: Folder, O: Outputs, I: Read, E: Sink>(
         folder,
         names: names.as_slice(),
         replacements: replacements.as_slice(),
+        key: key_by(key, ignore_case),
         covers: covers(given),
     };
     let judge = Judge {
@@ -243,7 +272,7 @@ fn place_warned<
         → IfBackIs C.Automaton back.entry p
         (PlacesJob O.File.Write F.Folder O.Outputs job.now p result outputs.old outputs.new)) }
 {
-    let unclean = unclean_of(automaton, judge, job.covers);
+    let unclean = unclean_of(automaton, judge, job.covers, job.key.is_some());
     // Not by `?`: this error may hold names.
     match warn(&mut streams.errors, unclean, strict) {
         Ok(()) => Ok(place_each(automaton, rows, back, job, counts, volume, outputs, streams)?),

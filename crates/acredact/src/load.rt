@@ -5,11 +5,11 @@ ghost use Rattle.aho_devices.specs.Counts.{counted};
 ghost use Rattle.programs.specs.Streams.{bytes_left};
 ghost use Rattle.acredact.specs.Arguments.{all_given, given_of};
 ghost use Rattle.acredact.specs.Calls.{rules_asked};
-ghost use Rattle.acredact.specs.Loading.{AddsFile, AddsItem, AddsList, CannotLoad, CannotLoadOne, CannotRead, GivesRules, IsFileFailure, IsPatternFailure, IsTextFailure, IsTextReason, ReadsList, is_failed_text, reading_of_lists, rules_for};
+ghost use Rattle.acredact.specs.Loading.{AddsFile, AddsItem, AddsList, CannotLoad, CannotLoadKey, CannotLoadOne, CannotRead, GivesRules, IsFileFailure, IsKeyFailure, IsPatternFailure, IsTextFailure, IsTextReason, LoadsKey, ReadsKey, ReadsList, is_failed_text, reading_of_lists, rules_for};
 ghost use Rattle.acredact.specs.Reads.{ReadsText};
 ghost use Rattle.acredact.specs.Tables.{AddsLine};
 
-use crate::arguments::{Item, Word, has};
+use crate::arguments::{Item, Word, has, last_value};
 use crate::failure::Failure;
 use crate::files::is_input;
 use crate::folder::Folder;
@@ -74,6 +74,47 @@ pub fn rules<'a, F: Folder, I: Read>(
         rest = &rest[1..];
     }
     Ok(rules)
+}
+
+/// The key of pseudonyms, where these are asked for: all bytes of its file.
+///
+/// # Errors
+///
+/// Its file cannot be read, or is empty.
+pub fn key_of<'a, F: Folder, I: Read>(
+    lists: &Lists<'_, F>,
+    items: &[Item<'a>],
+    input: &mut FromRead<I>,
+) -> Result<Option<Vec<u8>>, Failure<'a>>
+    ensures key { IfOk result (λ key.
+        LoadsKey F.Folder lists.now (all_given items.now) key input.old input.new) }
+    ensures fails { IfErr result (CannotLoadKey (reading_of_lists F.Folder lists.now) (all_given items.now)) }
+{
+    match last_value(items, Word::Pseudonym) {
+        Some(name) => read_key(lists, name, input),
+        None => Ok(None),
+    }
+}
+
+/// The key in the file of a name.
+fn read_key<'a, F: Folder, I: Read>(
+    lists: &Lists<'_, F>,
+    name: &'a str,
+    input: &mut FromRead<I>,
+) -> Result<Option<Vec<u8>>, Failure<'a>>
+    ensures key { IfOk result (λ key.
+        ReadsKey F.Folder lists.now name.now key input.old input.new) }
+    ensures fails { IfErr result (IsKeyFailure (reading_of_lists F.Folder lists.now) name.now) }
+{
+    match read_list(lists, name, input) {
+        Ok(key) => {
+            if key.is_empty() {
+                return Err(Failure::EmptyKey(name));
+            }
+            Ok(Some(key))
+        }
+        Err(reason) => Err(Failure::Unread(name, reason)),
+    }
 }
 
 /// Adds the rules of an item, if it has any.

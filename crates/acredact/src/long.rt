@@ -79,6 +79,7 @@ fn or_patterns(found: Found, name: &[u8]) -> Found
         .or(name, b"file", Word::Patterns)
         .or(name, b"table", Word::Table)
         .or(name, b"with", Word::With)
+        .or(name, b"pseudonym", Word::Pseudonym)
         .or(name, b"crlf", Word::Crlf)
         .or(name, b"allow-empty", Word::AllowEmpty)
 }

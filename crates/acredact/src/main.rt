@@ -1,5 +1,6 @@
-//! `acredact [-i] [--kind KIND] (-e PATTERN | -f FILE | -t TABLE).. [--with TEXT] [--output FILE | --in-place] [--count] [--summary] [--check] [FILE]..` writes each FILE with a
-//! text in the place of each match of some patterns: `[redacted]`, TEXT, or the pattern's own of a TABLE. No FILE, or `-`, is standard
+//! `acredact [-i] [--kind KIND] (-e PATTERN | -f FILE | -t TABLE).. [--with TEXT | --pseudonym KEYFILE] [--output FILE | --in-place] [--count] [--summary] [--check] [FILE]..` writes each FILE with a
+//! text in the place of each match of some patterns: `[redacted]`, TEXT, the pattern's own of a TABLE, or a pseudonym by the key of
+//! KEYFILE. No FILE, or `-`, is standard
 //! input.
 //!
 //! The status is 0 where all was redacted, or, by a check, where nothing would be; and 1 where a check finds something. It is 2 where
@@ -26,6 +27,7 @@ mod patterns;
 mod redact;
 mod rows;
 mod run;
+mod spelled;
 mod streams;
 mod summary;
 mod ways;

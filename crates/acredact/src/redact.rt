@@ -1,18 +1,21 @@
 //! The redaction of one stream.
 
-ghost use Rattle.std.specs.Prelude.{◌≡◌, ◌∷◌, [], false, slice_index_or, true};
+ghost use Rattle.std.specs.Prelude.{◌≡◌, ◌∷◌, [], OnOk, false, slice_index_or, true};
+ghost use Rattle.aho_core.specs.Patterns.{Patterns};
 ghost use Rattle.aho_core.specs.Replacement.{pieces_of};
 ghost use Rattle.aho_cover.specs.Counting.{CountsThese};
 ghost use Rattle.aho_cover.specs.Covers.{IsUnbegunCover};
 ghost use Rattle.acredact.specs.Secrets.{CanRedact};
-ghost use Rattle.acredact.specs.Streams.{ComesOf, WritesPiece};
-ghost use Rattle.acredact.specs.Totals.{CountsBy};
+ghost use Rattle.acredact.specs.Streams.{ComesOf, StreamOutcome, WritesPiece};
+ghost use Rattle.acredact.specs.Totals.{CountsBy, CountsOfStream};
+ghost use Rattle.acredact.specs.Ways.{IfCoverer};
 
 use aho_automaton::automaton::Automaton;
 use aho_core::error::StreamError;
 use aho_core::search::Match;
+use aho_cover::pieces::Pieces;
 use aho_cover::start::StreamCoverStart;
-use aho_cover::stream::cover_counted;
+use aho_cover::stream::{cover_counted, cover_made};
 use aho_devices::device::{Sink, Source};
 use aho_devices::write::write_whole;
 use aho_stream::replace::{try_stream_replace_all, try_stream_replace_all_with_mut};
@@ -43,6 +46,31 @@ pub fn cover<A: Automaton, R: Source, W: Sink>(
     ensures unbegun { IsUnbegunCover A.Automaton start.new.automaton.now start.new.progress }
 {
     cover_counted(start, source, sink, replacements, counts)
+}
+
+/// The same, where the text in the place of each run is made of its bytes.
+///
+/// # Errors
+///
+/// As `cover`.
+pub fn cover_by_pieces<A: Automaton, R: Source, W: Sink, P: Pieces>(
+    start: &mut StreamCoverStart<'_, A>,
+    pieces: &mut P,
+    counts: &mut [u64],
+    source: &mut R,
+    sink: &mut W,
+) -> Result<(), StreamError>
+    requires of { (p : Patterns) × A.is_of start.old.automaton.now p }
+    requires unbegun { IsUnbegunCover A.Automaton start.old.automaton.now start.old.progress }
+    ensures outcome { IfCoverer A.Automaton start.old.automaton.now (P.rule pieces.old)
+        (λ r. StreamOutcome R.Source W.Sink r result source.old source.new sink.old sink.new) }
+    ensures counted { IfCoverer A.Automaton start.old.automaton.now (P.rule pieces.old)
+        (λ r. OnOk result (CountsOfStream R.Source r source.old source.new counts.old counts.new)) }
+    ensures same { start.new.automaton.now ≡ start.old.automaton.now }
+    ensures unbegun { IsUnbegunCover A.Automaton start.new.automaton.now start.new.progress }
+    ensures rule { P.rule pieces.new ≡ P.rule pieces.old }
+{
+    cover_made(start, source, sink, pieces, counts)
 }
 
 /// Writes what the source gives to the sink, with its replacement in the place of each match.

@@ -1,6 +1,6 @@
 //! A call of the program over its arguments, files and streams.
 
-ghost use Rattle.std.specs.Prelude.{◌≡◌, ◌++◌, ◌⊎◌, ◌<◌, ◌≤◌, ℕ, List, IfErr, IfOk, IfSome, Ok, OnErr, OnOk, Some, false, length, true};
+ghost use Rattle.std.specs.Prelude.{◌≡◌, ◌++◌, ◌⊎◌, ◌<◌, ◌≤◌, ℕ, List, IfErr, IfOk, IfSome, Ok, OnErr, OnOk, Some, false, length, option_map, true};
 ghost use Rattle.aho_core.specs.Replacement.{pieces_of};
 ghost use Rattle.programs.specs.Arguments.{texts};
 ghost use Rattle.programs.specs.Names.{name_bytes};
@@ -8,11 +8,12 @@ ghost use Rattle.programs.specs.Streams.{WritesBytes, bytes_left};
 ghost use Rattle.programs.specs.Telling.{Tells, TellsBytes, TellsSome};
 ghost use Rattle.acredact.specs.Arguments.{AreMistaken, AsksToRedact, GivesNoPattern, IfAsked, IfChecking, IfNoCheck, IsCheck, RefusesUnclean, all_given, checks_asked, counts_asked, counts_given, has};
 ghost use Rattle.acredact.specs.Back.{AreBoth, FilesJob, IfBackIs, RowsCounts, RowsOutcome};
-ghost use Rattle.acredact.specs.Calls.{AskedOutcome, BeginsAsked, CountsAsked, IsCountsFailure, IsCountsLine, IsPrintFailure, IsRefusedLine, IsWrongLine, LeavesNoneAsked, LoadedOutcome, OutputFails, ReadsAsked, RedactsAsked, TellsAsked, TellsAnyCounts, WarnedJob, WarnedOutcome, WarnsAsked, call_of, gives_pattern, names_asked, text_asked, work_by};
+ghost use Rattle.acredact.specs.Calls.{AskedOutcome, BeginsAsked, CountsAsked, IsCountsFailure, IsCountsLine, IsPrintFailure, IsRefusedLine, IsWrongLine, KeylessOutcome, LeavesNoneAsked, LoadedOutcome, OutputFails, ReadsAsked, RedactsAsked, TellsAsked, TellsAnyCounts, WarnedJob, WarnedOutcome, WarnsAsked, call_of, gives_pattern, keyed_as, names_asked, text_asked, work_by};
 ghost use Rattle.acredact.specs.Checks.{MatchedAsked, SaysOfCheck, TellsUncheckedAsked, UnmatchedAsked};
 ghost use Rattle.acredact.specs.Counts.{PutsText, lines_of_rules, zeros};
 ghost use Rattle.acredact.specs.Failures.{IsFailureLine};
-ghost use Rattle.acredact.specs.Files.{CanDo};
+ghost use Rattle.acredact.specs.Files.{CanDo, keyed_of};
+ghost use Rattle.acredact.specs.Loading.{key_lent, loaded_as};
 ghost use Rattle.acredact.specs.Pieces.{IfOfAll, TellsUnclean, pieces_by};
 ghost use Rattle.acredact.specs.Secrets.{IfOf};
 ghost use Rattle.acredact.specs.Statuses.{SaysOfRedaction};
@@ -34,11 +35,12 @@ use crate::counts::{counts_of, put_counts};
 use crate::failure::{Failure, tell_failure, tell_unclean};
 use crate::files::{Job, back_files, redact_files};
 use crate::folder::Folder;
-use crate::load::{lists_of, rules};
+use crate::load::{key_of, lists_of, rules};
 use crate::patterns::{Rule, patterns_of, replacements_of};
 use crate::rows::build;
 use crate::streams::Streams;
 use crate::summary::{Volume, put_summary};
+use crate::ways::Key;
 use aho_automaton::automaton::Automaton;
 use aho_backward::backward::Backward;
 use aho_core::error::StreamError;
@@ -56,7 +58,7 @@ const REDACTED: &[u8] = b"[redacted]";
 
 /// What `--help` writes.
 const HELP: &[u8] =
-    b"usage: acredact [-i] [--kind KIND] (-e PATTERN | -f FILE | -t TABLE).. [--with TEXT] [--output FILE | --in-place] [--count] [--summary] [--check] [FILE]..
+    b"usage: acredact [-i] [--kind KIND] (-e PATTERN | -f FILE | -t TABLE).. [--with TEXT | --pseudonym KEYFILE] [--output FILE | --in-place] [--count] [--summary] [--check] [FILE]..
 
 Writes each FILE with a text in the place of each run of bytes that lie in matches of the patterns. No FILE, or -, is standard input.
 
@@ -67,6 +69,8 @@ Writes each FILE with a text in the place of each run of bytes that lie in match
   --kind KIND   what is replaced: cover (if none is given) each byte of each match; longest, first and standard
                 one of several matches that overlap, and then a part of another can stay
   --with TEXT   the replacement of patterns that have none of their own: [redacted] if none is given
+  --pseudonym KEYFILE
+                write [redacted: and 12 digits ]: of the run's HMAC-SHA-256 by the key in KEYFILE, so equal runs stay equal
   --output FILE replace this FILE, if all is redacted: the output goes to a new file that takes its place at the end
   --in-place    do the same for each FILE: it is replaced, if all of it is redacted
   --count       write to standard error how often the text of each pattern was written
@@ -263,7 +267,28 @@ fn load<'a, F: Folder, I: Read, W: Write, E: Sink>(
 {
     let lists = lists_of(alloc, given, folder);
     match rules(&lists, given, &mut streams.input) {
-        Ok(rules) => redact_counted(alloc, given, rules.as_slice(), folder, streams),
+        Ok(rules) => load_key(alloc, given, rules.as_slice(), folder, streams),
+        Err(failure) => Err(failure),
+    }
+}
+
+/// Loads the key of pseudonyms, where they are asked for, redacts all files by it and these rules, and answers whether all were read.
+fn load_key<'a, F: Folder, I: Read, W: Write, E: Sink>(
+    alloc: Global,
+    given: &[Item<'a>],
+    rules: &[Rule],
+    folder: &F,
+    streams: &mut Streams<'_, I, W, E>,
+) -> Result<bool, Failure<'a>>
+    requires some { HaveNoEmpty (secrets_of rules.now) }
+    ensures outcome { KeylessOutcome W.Write E.Sink F.Folder
+        folder.now (all_given given.now) rules.now result streams.old streams.new }
+    ensures flushed { OnOk result (streams.new.output.device.flushed ≡ true) }
+{
+    let lists = lists_of(alloc, given, folder);
+    match key_of(&lists, given, &mut streams.input) {
+        Ok(Some(key)) => redact_counted(alloc, given, rules, Some(key.as_slice()), folder, streams),
+        Ok(None) => redact_counted(alloc, given, rules, None, folder, streams),
         Err(failure) => Err(failure),
     }
 }
@@ -273,17 +298,26 @@ fn redact_counted<'a, F: Folder, I: Read, W: Write, E: Sink>(
     alloc: Global,
     given: &[Item<'_>],
     rules: &[Rule],
+    key: Option<&[u8]>,
     folder: &F,
     streams: &mut Streams<'_, I, W, E>,
 ) -> Result<bool, Failure<'a>>
     requires some { HaveNoEmpty (secrets_of rules.now) }
     ensures outcome { LoadedOutcome W.Write E.Sink F.Folder
-        folder.now (all_given given.now) rules.now result streams.old streams.new }
+        folder.now (all_given given.now) rules.now key.entry result streams.old streams.new }
     ensures flushed { OnOk result (streams.new.output.device.flushed ≡ true) }
 {
     let counted = counts(given);
     let mut tally = counts_of(alloc, rules, counted)?;
-    redact_telling(alloc, given, rules, folder, tally.as_mut_slice(), streams)
+    redact_telling(
+        alloc,
+        given,
+        rules,
+        key,
+        folder,
+        tally.as_mut_slice(),
+        streams,
+    )
 }
 
 /// Redacts all files by these rules, tells what was added to the counts, where they are asked for, and answers whether all files were
@@ -292,6 +326,7 @@ fn redact_telling<'a, F: Folder, I: Read, W: Write, E: Sink>(
     alloc: Global,
     given: &[Item<'_>],
     rules: &[Rule],
+    key: Option<&[u8]>,
     folder: &F,
     tally: &mut [u64],
     streams: &mut Streams<'_, I, W, E>,
@@ -299,12 +334,21 @@ fn redact_telling<'a, F: Folder, I: Read, W: Write, E: Sink>(
     requires some { HaveNoEmpty (secrets_of rules.now) }
     requires none { tally.old ≡ zeros (counts_given given.now) rules.now }
     ensures outcome { LoadedOutcome W.Write E.Sink F.Folder
-        folder.now (all_given given.now) rules.now result streams.old streams.new }
+        folder.now (all_given given.now) rules.now key.entry result streams.old streams.new }
     ensures flushed { OnOk result (streams.new.output.device.flushed ≡ true) }
 {
     let mut volume = Volume { files: 0, bytes: 0 };
     // Not by `?`: this error may hold names.
-    match redact_all(alloc, given, rules, folder, tally, &mut volume, streams) {
+    match redact_all(
+        alloc,
+        given,
+        rules,
+        key,
+        folder,
+        tally,
+        &mut volume,
+        streams,
+    ) {
         Ok(all) => tell_counted(alloc, all, given, rules, tally, volume, &mut streams.errors),
         Err(failure) => Err(failure),
     }
@@ -402,11 +446,22 @@ pub fn text_of<'a>(given: &[Item<'a>]) -> &'a [u8]
     }
 }
 
+/// A key, by the case rule of the patterns.
+pub fn key_by(bytes: Option<&[u8]>, ignore_case: bool) -> Option<Key<'_>>
+    ensures key { option_map keyed_of result ≡ option_map (keyed_as ignore_case) (key_lent bytes.entry) }
+{
+    match bytes {
+        Some(bytes) => Some(Key { bytes, ignore_case }),
+        None => None,
+    }
+}
+
 /// Redacts all files by these rules, and answers whether all were read.
 fn redact_all<'a, F: Folder, I: Read, W: Write, E: Sink>(
     alloc: Global,
     given: &[Item<'_>],
     rules: &[Rule],
+    key: Option<&[u8]>,
     folder: &F,
     counts: &mut [u64],
     volume: &mut Volume,
@@ -414,9 +469,10 @@ fn redact_all<'a, F: Folder, I: Read, W: Write, E: Sink>(
 ) -> Result<bool, Failure<'a>>
     requires some { HaveNoEmpty (secrets_of rules.now) }
     ensures outcome { WarnedOutcome W.Write E.Sink (has Strict (all_given given.now))
-        (work_by (call_of F.Folder folder.now (all_given given.now)) (secrets_of rules.now))
+        (work_by (call_of F.Folder folder.now (all_given given.now)) (loaded_as rules.now (key_lent key.entry)))
         result streams.old streams.new }
-    ensures counted { CountsWork (work_by (call_of F.Folder folder.now (all_given given.now)) (secrets_of rules.now))
+    ensures counted { CountsWork
+        (work_by (call_of F.Folder folder.now (all_given given.now)) (loaded_as rules.now (key_lent key.entry)))
         result streams.old streams.new counts.old counts.new }
     ensures read { result ≡ Ok true → ReadsAsked (F.holds folder.now) (all_given given.now)
         volume.old volume.new streams.old streams.new }
@@ -436,6 +492,7 @@ fn redact_all<'a, F: Folder, I: Read, W: Write, E: Sink>(
         folder,
         names: names.as_slice(),
         replacements: replacements.as_slice(),
+        key: key_by(key, ignore_case),
         covers: covers(given),
     };
     let judge = Judge {
@@ -493,7 +550,7 @@ fn redact_warned<
     ensures read { JobVolume F.Folder job.now result volume.old volume.new streams.old streams.new }
     ensures flushed { OnOk result (streams.new.output.device.flushed ≡ true) }
 {
-    let unclean = unclean_of(automaton, judge, job.covers);
+    let unclean = unclean_of(automaton, judge, job.covers, job.key.is_some());
     // Not by `?`: this error may hold names.
     match warn(&mut streams.errors, unclean, strict) {
         Ok(()) => Ok(redact_by(automaton, rows, back, job, counts, volume, streams)?),

@@ -5,11 +5,13 @@ ghost use Rattle.acredact.specs.Secrets.{Redactor};
 ghost use Rattle.acredact.specs.Streams.{StreamOutcome};
 ghost use Rattle.acredact.specs.Totals.{CountsOfStream};
 
-use crate::redact::{cover, redact, redact_counting};
+use crate::redact::{cover, cover_by_pieces, redact, redact_counting};
 use aho_automaton::automaton::Automaton;
 use aho_core::error::StreamError;
+use aho_cover::pieces::Pieces;
 use aho_cover::start::StreamCoverStart;
 use aho_devices::device::{Sink, Source};
+use pseudonyms::pseudonym::Pseudonyms;
 use std::alloc::Global;
 
 /// What redacts streams, one after another.
@@ -60,6 +62,40 @@ impl<A: Automaton> Way for Covering<'_, '_, A> {
         sink: &mut W,
     ) -> Result<(), StreamError> {
         cover(&mut self.start, self.replacements, counts, source, sink)
+    }
+}
+
+/// The key of pseudonyms.
+#[derive(Clone, Copy)]
+pub struct Key<'s> {
+    /// Its bytes.
+    pub bytes: &'s [u8],
+    /// Whether runs that differ only in the case of ASCII letters have the same pseudonym.
+    pub ignore_case: bool,
+}
+
+/// A cover by pseudonyms, with the memory that each stream uses again.
+#[derive(Drop)]
+pub struct Naming<'s, A> {
+    /// How the cover of a stream begins.
+    pub start: StreamCoverStart<'s, A>,
+    /// What makes the pseudonym of each run.
+    pub pieces: Pseudonyms,
+}
+
+impl<A: Automaton> Way for Naming<'_, A> {
+    ghost use Rattle.acredact.specs.Ways.{IsNamedCover};
+
+    ghost by = { λ way r. IsNamedCover A.Automaton way.start.automaton.now way.start.progress
+        (⟦<Pseudonyms as Pieces>⟧.rule way.pieces) r };
+
+    fn redact<R: Source, W: Sink>(
+        &mut self,
+        counts: &mut [u64],
+        source: &mut R,
+        sink: &mut W,
+    ) -> Result<(), StreamError> {
+        cover_by_pieces(&mut self.start, &mut self.pieces, counts, source, sink)
     }
 }
 

@@ -1,5 +1,5 @@
 -- What is left is the letter of an option with a value.
-use Rattle.std.proofs.Common.{◌≡◌, ◌⊎◌, ℕ, List, Option, ap, sym, subst, ◌∙◌, lit<}
+use Rattle.std.proofs.Common.{◌≡◌, ◌⊎◌, ℕ, List, Option, sym, subst, ◌∙◌, lit<}
 use Rattle.std.specs.Prelude.{None, IfErr}
 use Rattle.std.proofs.lemmas.Str.Pattern.{strip_prefix_char}
 use Rattle.acredact.specs.Arguments.{ItemsSoFar, all_given}

@@ -1,6 +1,6 @@
 -- One word more does not hold the byte.
 use Rattle.std.proofs.Common.{List, ℕ, below_more, arith, subst}
-use Rattle.acredact.specs.Pieces.{HoldsByte}
+use Rattle.acredact.specs.Spelling.{HoldsByte}
 use Rattle.acredact.proofs.Flaws.{piece_is, pieces_count}
 use Rattle.acredact.proofs.clean.holder_of.Goals as goal
 

@@ -2,7 +2,7 @@
 use Rattle.std.proofs.Common.{ℕ, ◌-◌, ◌<◌, ◌≤◌, get_or, length}
 use Rattle.std.specs.Prelude.{[]}
 use Rattle.aho_core.specs.Replacement.{pieces_of}
-use Rattle.acredact.specs.Pieces.{HoldsByte}
+use Rattle.acredact.specs.Spelling.{HoldsByte}
 use Rattle.acredact.proofs.clean.holder_of.Given as goal
 
 abbrev pub invariant-loop-at : goal.invariant-loop-at

@@ -15,3 +15,8 @@ pub returns-in-Spells : goal.returns-in-Spells
 returns-in-Spells g c = record {
   told = subst (λ (flaw : Flaw). TellsBytes g.E.Sink c.args.errors.now c.tell_spelled.new.errors (piece_line (decimal c.args.unclean.number) (flaw_text flaw))) (sym c.in-Spells.is) c.tell_spelled.ensures.told;
 }
+
+pub returns-in-Pseudonym : goal.returns-in-Pseudonym
+returns-in-Pseudonym g c = record {
+  told = subst (λ (flaw : Flaw). TellsBytes g.E.Sink c.args.errors.now c.tell_pseudonym.new.errors (piece_line (decimal c.args.unclean.number) (flaw_text flaw))) (sym c.in-Pseudonym.is) c.tell_pseudonym.ensures.told;
+}

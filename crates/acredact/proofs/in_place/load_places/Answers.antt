@@ -11,8 +11,8 @@ use Rattle.acredact.specs.declared.failure.Failure.TheVariants.{Arguments}
 use Rattle.acredact.proofs.Ready.{given_some, reading_from}
 use Rattle.acredact.proofs.in_place.load_places.Goals as goal
 
-pub place_counted-requires : goal.place_counted-requires
-place_counted-requires g c = record {
+pub load_key-requires : goal.load_key-requires
+load_key-requires g c = record {
   some = subst (λ (l : List _). HaveNoEmpty (secrets_of l)) (sym c.as_slice.ensures.value) (given_some _ _ _ _ _ c.in-Ok.ensures.given);
 }
 
@@ -22,11 +22,8 @@ returns-in-Ok g c = record {
       let call = call_of g.F.Folder c.args.folder.now (all_given c.args.given.now) in
       let given = reading_from g.F.Folder c.lists_of-lists.result c.args.folder.now (rules_asked (all_given c.args.given.now)) c.lists_of-lists.ensures.folder c.lists_of-lists.ensures.rules
       (λ r. AreGiven r (all_given c.args.given.now) (secrets_of c.in-Ok.rules.items) (bytes_left c.args.streams.now.input) (bytes_left c.rules.new.input)) c.in-Ok.ensures.given in
-      let loaded = subst (λ (l : List Secret). AreGiven (reading_by call) (all_given c.args.given.now) l (bytes_left c.args.streams.now.input) (bytes_left c.rules.new.input)) (sym (ap secrets_of c.as_slice.ensures.value)) given in
-      record {
-        replaces = λ is. record { secrets = _; between = _; loaded = loaded; replaced = c.place_counted.ensures.outcome.all is };
-        keeps = inr (record { secrets = _; between = _; loaded = loaded; whole = c.place_counted.ensures.outcome.whole });
-      };
+      c.load_key.ensures.outcome (bytes_left c.args.streams.now.input)
+      (subst (λ (l : List Secret). AreGiven (reading_by call) (all_given c.args.given.now) l (bytes_left c.args.streams.now.input) (bytes_left c.rules.new.input)) (sym (ap secrets_of c.as_slice.ensures.value)) given);
 }
 
 pub returns-then-not-gives_pattern : goal.returns-then-not-gives_pattern

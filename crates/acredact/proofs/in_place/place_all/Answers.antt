@@ -21,9 +21,11 @@ use Rattle.programs.specs.Names.{name_bytes}
 use Rattle.acredact.specs.Arguments.{Given, all_given, covers_asked, has}
 use Rattle.acredact.specs.Back.{AreBoth, IsBackAsked}
 use Rattle.acredact.specs.Builds.{patterns_by_given}
-use Rattle.acredact.specs.Calls.{call_of, names_asked, pieces_asked, work_by}
+use Rattle.acredact.specs.Calls.{call_of, key_asked, keyed_as, names_asked, pieces_asked, work_by}
+use Rattle.acredact.specs.Files.{key_for}
 use Rattle.acredact.specs.InPlace.{PlacesOutcome}
-use Rattle.acredact.specs.Secrets.{CanRedact}
+use Rattle.acredact.specs.Loading.{key_lent, loaded_as}
+use Rattle.acredact.specs.Secrets.{CanRedact, key_of_cover}
 use Rattle.acredact.specs.Tables.{patterns_in, piece_by, secret_of, secrets_of}
 use Rattle.acredact.specs.declared.failure.Failure.{Failure}
 use Rattle.acredact.specs.declared.failure.Failure.TheVariants.{Other}
@@ -47,6 +49,11 @@ names_are g c = ap name_bytes c.as_slice.ensures.value ∙ c.in_ok-names.ensures
 
 covers_are : (g : Over) (c : After-as_ref g) → c.covers.result ≡ covers_asked (all_given c.args.given.now)
 covers_are g c = c.covers.ensures.covers
+
+key_is : (g : Over) (c : After-as_ref g) → key_for c.covers.result c.key_by.result ≡ key_asked (all_given c.args.given.now) (key_lent c.args.key)
+key_is g c =
+    ap (λ (b : Bool). key_for b c.key_by.result) (covers_are g c)
+    ∙ ap (key_of_cover (covers_asked (all_given c.args.given.now))) (c.key_by.ensures.key ∙ ap (λ (b : Bool). option_map (keyed_as b) (key_lent c.args.key)) c.has-ignore_case.ensures.has)
 
 nfa_is : (g : Over) (c : After-as_ref g) → NFAGhosts.is_of c.in_ok-nfa.nfa (patterns_by_given (all_given c.args.given.now) (patterns_in (secrets_of c.args.rules.now)))
 nfa_is g c = subst (λ (words : List (List ℕ)). NFAGhosts.is_of c.in_ok-nfa.nfa (patterns_by_given (all_given c.args.given.now) words)) (words_are g c) c.in_ok-nfa.ensures.of
@@ -95,37 +102,37 @@ place_warned-requires g c =
 
 pub returns-in_err-patterns : goal.returns-in_err-patterns
 returns-in_err-patterns g c =
-    let work = work_by (call_of g.F.Folder c.args.folder.now (all_given c.args.given.now)) (secrets_of c.args.rules.now) in
+    let work = work_by (call_of g.F.Folder c.args.folder.now (all_given c.args.given.now)) (loaded_as c.args.rules.now (key_lent c.args.key)) in
     let is : c.from_residual.result ≡ Err (Other OutOfMemory) = search rules in
     record { outcome = subst (λ (r : Result Bool Failure). PlacesOutcome g.O.File.Write g.O.Outputs work r c.args.outputs.now c.args.outputs.now) (sym is) (places_none g.O.File.Write g.O.Outputs work _ _) }
 
 pub returns-in_err-replacements : goal.returns-in_err-replacements
 returns-in_err-replacements g c =
-    let work = work_by (call_of g.F.Folder c.args.folder.now (all_given c.args.given.now)) (secrets_of c.args.rules.now) in
+    let work = work_by (call_of g.F.Folder c.args.folder.now (all_given c.args.given.now)) (loaded_as c.args.rules.now (key_lent c.args.key)) in
     let is : c.from_residual-in_err-replacements.result ≡ Err (Other OutOfMemory) = search rules in
     record { outcome = subst (λ (r : Result Bool Failure). PlacesOutcome g.O.File.Write g.O.Outputs work r c.args.outputs.now c.args.outputs.now) (sym is) (places_none g.O.File.Write g.O.Outputs work _ _) }
 
 pub returns-in_err-names : goal.returns-in_err-names
 returns-in_err-names g c =
-    let work = work_by (call_of g.F.Folder c.args.folder.now (all_given c.args.given.now)) (secrets_of c.args.rules.now) in
+    let work = work_by (call_of g.F.Folder c.args.folder.now (all_given c.args.given.now)) (loaded_as c.args.rules.now (key_lent c.args.key)) in
     let is : c.from_residual-in_err-names.result ≡ Err (Other OutOfMemory) = search rules in
     record { outcome = subst (λ (r : Result Bool Failure). PlacesOutcome g.O.File.Write g.O.Outputs work r c.args.outputs.now c.args.outputs.now) (sym is) (places_none g.O.File.Write g.O.Outputs work _ _) }
 
 pub returns-in_err-nfa : goal.returns-in_err-nfa
 returns-in_err-nfa g c =
-    let work = work_by (call_of g.F.Folder c.args.folder.now (all_given c.args.given.now)) (secrets_of c.args.rules.now) in
+    let work = work_by (call_of g.F.Folder c.args.folder.now (all_given c.args.given.now)) (loaded_as c.args.rules.now (key_lent c.args.key)) in
     let is : c.from_residual-in_err-nfa.result ≡ Err (Other (Build c.in_err-nfa.field-0.0)) = search rules in
     record { outcome = subst (λ (r : Result Bool Failure). PlacesOutcome g.O.File.Write g.O.Outputs work r c.args.outputs.now c.args.outputs.now) (sym is) (places_none g.O.File.Write g.O.Outputs work _ _) }
 
 pub returns-in_err-rows : goal.returns-in_err-rows
 returns-in_err-rows g c =
-    let work = work_by (call_of g.F.Folder c.args.folder.now (all_given c.args.given.now)) (secrets_of c.args.rules.now) in
+    let work = work_by (call_of g.F.Folder c.args.folder.now (all_given c.args.given.now)) (loaded_as c.args.rules.now (key_lent c.args.key)) in
     let is : c.from_residual-in_err-rows.result ≡ Err (Other OutOfMemory) = search rules in
     record { outcome = subst (λ (r : Result Bool Failure). PlacesOutcome g.O.File.Write g.O.Outputs work r c.args.outputs.now c.args.outputs.now) (sym is) (places_none g.O.File.Write g.O.Outputs work _ _) }
 
 pub returns-in_err-back : goal.returns-in_err-back
 returns-in_err-back g c =
-    let work = work_by (call_of g.F.Folder c.args.folder.now (all_given c.args.given.now)) (secrets_of c.args.rules.now) in
+    let work = work_by (call_of g.F.Folder c.args.folder.now (all_given c.args.given.now)) (loaded_as c.args.rules.now (key_lent c.args.key)) in
     let is : c.from_residual-in_err-back.result ≡ Err (Other OutOfMemory) = search rules in
     record { outcome = subst (λ (r : Result Bool Failure). PlacesOutcome g.O.File.Write g.O.Outputs work r c.args.outputs.now c.args.outputs.now) (sym is) (places_none g.O.File.Write g.O.Outputs work _ _) }
 
@@ -135,7 +142,7 @@ returns g c =
     let after = (goal.at.returns g c).After-as_ref in
     record {
       outcome =
-          work_as (g.F.Folder.holds c.args.folder.now) (g.F.Folder.refuses c.args.folder.now) (g.F.Folder.meets c.args.folder.now) p _ _ _ _ _ _ (names_are g after) (covers_are g after) (pieces_are g after)
+          work_as (g.F.Folder.holds c.args.folder.now) (g.F.Folder.refuses c.args.folder.now) (g.F.Folder.meets c.args.folder.now) p _ _ _ _ _ _ _ _ (names_are g after) (covers_are g after) (pieces_are g after) (key_is g after)
           (λ w. PlacesOutcome g.O.File.Write g.O.Outputs w c.place_warned.result c.args.outputs.now c.place_warned.new.outputs) (c.place_warned.ensures.outcome p (nfa_is g after) (rows_are g after)
           (back_is (all_given c.args.given.now) _ _ c.in_ok-back.back c.as_ref-2.result (words_are g after) c.as_ref-2.ensures.value c.in_ok-back.ensures.of));
     }

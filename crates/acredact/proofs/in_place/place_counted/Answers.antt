@@ -5,7 +5,7 @@ use Rattle.programs.specs.declared.failure.Failure.TheVariants.{OutOfMemory}
 use Rattle.acredact.specs.Arguments.{all_given}
 use Rattle.acredact.specs.Calls.{call_of, work_by}
 use Rattle.acredact.specs.InPlace.{PlacesOutcome}
-use Rattle.acredact.specs.Tables.{secrets_of}
+use Rattle.acredact.specs.Loading.{key_lent, loaded_as}
 use Rattle.acredact.specs.declared.failure.Failure.{Failure}
 use Rattle.acredact.specs.declared.failure.Failure.TheVariants.{Other}
 use Rattle.acredact.proofs.Placed.{places_fail, places_none, places_told}
@@ -13,7 +13,7 @@ use Rattle.acredact.proofs.in_place.place_counted.Goals as goal
 
 pub returns-in_err-tally : goal.returns-in_err-tally
 returns-in_err-tally g c =
-    let work = work_by (call_of g.F.Folder c.args.folder.now (all_given c.args.given.now)) (secrets_of c.args.rules.now) in
+    let work = work_by (call_of g.F.Folder c.args.folder.now (all_given c.args.given.now)) (loaded_as c.args.rules.now (key_lent c.args.key)) in
     let is : c.from_residual.result ≡ Err (Other OutOfMemory) = search rules in
     record { outcome = subst (λ (r : Result Bool Failure). PlacesOutcome g.O.File.Write g.O.Outputs work r c.args.outputs.now c.args.outputs.now) (sym is) (places_none g.O.File.Write g.O.Outputs work _ _) }
 

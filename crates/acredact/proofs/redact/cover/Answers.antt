@@ -2,14 +2,14 @@
 use Rattle.std.proofs.Common.{true, refl}
 use Rattle.std.proofs.lemmas.Result.{on_ok_weaker}
 use Rattle.acredact.specs.Secrets.{redactor_by}
-use Rattle.acredact.proofs.Redactions.{counts_of_cover, outcome_of_cover}
+use Rattle.acredact.proofs.Redactions.{counts_of_cover, outcome_of_cover, some_of}
 use Rattle.acredact.proofs.redact.cover.Goals as goal
 
 pub returns-clause-outcome : goal.returns-clause-outcome
 returns-clause-outcome g c = λ p of.
     let call = c.cover_counted in
-    outcome_of_cover g.A.Automaton g.R.Source g.W.Sink c.args.start.now.automaton.now (redactor_by p true c.args.replacements.now) refl of (g.met.A.Automaton.laws _ _ of).lengths_are c.requires.ready.begins
-    (c.requires.ready.standard refl) _ _ _ _ call.result call.ensures.leaves call.ensures.errors call.ensures.only
+    outcome_of_cover g.R.Source g.W.Sink (redactor_by p true c.args.replacements.now) refl (g.A.Automaton.is_of c.args.start.now.automaton.now) of
+    (some_of g.A.Automaton _ p (g.met.A.Automaton.laws _ _ of).lengths_are c.requires.ready.begins) _ _ _ _ call.result call.ensures.leaves call.ensures.errors call.ensures.only
 
 pub returns-clause-counted : goal.returns-clause-counted
 returns-clause-counted g c = λ p of.

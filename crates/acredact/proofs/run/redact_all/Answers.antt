@@ -23,8 +23,10 @@ use Rattle.programs.specs.Streams.{bytes_left}
 use Rattle.acredact.specs.Arguments.{Given, all_given, covers_asked, has}
 use Rattle.acredact.specs.Back.{AreBoth, IsBackAsked}
 use Rattle.acredact.specs.Builds.{RefusesPatterns, patterns_by_given}
-use Rattle.acredact.specs.Calls.{WarnedOutcome, call_of, names_asked, pieces_asked, work_by}
-use Rattle.acredact.specs.Secrets.{CanRedact}
+use Rattle.acredact.specs.Calls.{WarnedOutcome, call_of, key_asked, keyed_as, names_asked, pieces_asked, work_by}
+use Rattle.acredact.specs.Files.{key_for}
+use Rattle.acredact.specs.Loading.{key_lent, loaded_as}
+use Rattle.acredact.specs.Secrets.{CanRedact, key_of_cover}
 use Rattle.acredact.specs.Tables.{patterns_in, piece_by, secret_of, secrets_of}
 use Rattle.acredact.specs.Totals.{CountsWork}
 use Rattle.acredact.specs.Volumes.{ReadsVolume}
@@ -51,6 +53,11 @@ names_are g c = ap name_bytes c.as_slice.ensures.value ∙ c.in_ok-names.ensures
 
 covers_are : (g : Over) (c : After-as_ref g) → c.covers.result ≡ covers_asked (all_given c.args.given.now)
 covers_are g c = c.covers.ensures.covers
+
+key_is : (g : Over) (c : After-as_ref g) → key_for c.covers.result c.key_by.result ≡ key_asked (all_given c.args.given.now) (key_lent c.args.key)
+key_is g c =
+    ap (λ (b : Bool). key_for b c.key_by.result) (covers_are g c)
+    ∙ ap (key_of_cover (covers_asked (all_given c.args.given.now))) (c.key_by.ensures.key ∙ ap (λ (b : Bool). option_map (keyed_as b) (key_lent c.args.key)) c.has-ignore_case.ensures.has)
 
 nfa_is : (g : Over) (c : After-as_ref g) → NFAGhosts.is_of c.in_ok-nfa.nfa (patterns_by_given (all_given c.args.given.now) (patterns_in (secrets_of c.args.rules.now)))
 nfa_is g c = subst (λ (words : List (List ℕ)). NFAGhosts.is_of c.in_ok-nfa.nfa (patterns_by_given (all_given c.args.given.now) words)) (words_are g c) c.in_ok-nfa.ensures.of
@@ -103,7 +110,7 @@ redact_warned-requires g c =
 
 pub returns-in_err-nfa-clause-outcome : goal.returns-in_err-nfa-clause-outcome
 returns-in_err-nfa-clause-outcome g c =
-    let work = work_by (call_of g.F.Folder c.args.folder.now (all_given c.args.given.now)) (secrets_of c.args.rules.now) in
+    let work = work_by (call_of g.F.Folder c.args.folder.now (all_given c.args.given.now)) (loaded_as c.args.rules.now (key_lent c.args.key)) in
     let is : c.from_residual-in_err-nfa.result ≡ Err (Other (Build c.in_err-nfa.field-0.0)) = search rules in
     let words = ap pieces_of c.as_slice-words.ensures.value ∙ c.in_ok-patterns.ensures.patterns in
     subst (λ (r : Result Bool Failure). WarnedOutcome g.W.Write g.E.Sink (has Strict (all_given c.args.given.now)) work r c.args.streams.now c.args.streams.now) (sym is)
@@ -112,14 +119,14 @@ returns-in_err-nfa-clause-outcome g c =
 
 pub returns-in_err-rows-clause-outcome : goal.returns-in_err-rows-clause-outcome
 returns-in_err-rows-clause-outcome g c =
-    let work = work_by (call_of g.F.Folder c.args.folder.now (all_given c.args.given.now)) (secrets_of c.args.rules.now) in
+    let work = work_by (call_of g.F.Folder c.args.folder.now (all_given c.args.given.now)) (loaded_as c.args.rules.now (key_lent c.args.key)) in
     let is : c.from_residual-in_err-rows.result ≡ Err (Other OutOfMemory) = search rules in
     subst (λ (r : Result Bool Failure). WarnedOutcome g.W.Write g.E.Sink (has Strict (all_given c.args.given.now)) work r c.args.streams.now c.args.streams.now) (sym is)
     (warned_memory g.W.Write g.E.Sink (has Strict (all_given c.args.given.now)) work c.args.streams.now)
 
 pub returns-in_err-back-clause-outcome : goal.returns-in_err-back-clause-outcome
 returns-in_err-back-clause-outcome g c =
-    let work = work_by (call_of g.F.Folder c.args.folder.now (all_given c.args.given.now)) (secrets_of c.args.rules.now) in
+    let work = work_by (call_of g.F.Folder c.args.folder.now (all_given c.args.given.now)) (loaded_as c.args.rules.now (key_lent c.args.key)) in
     let is : c.from_residual-in_err-back.result ≡ Err (Other OutOfMemory) = search rules in
     subst (λ (r : Result Bool Failure). WarnedOutcome g.W.Write g.E.Sink (has Strict (all_given c.args.given.now)) work r c.args.streams.now c.args.streams.now) (sym is)
     (warned_memory g.W.Write g.E.Sink (has Strict (all_given c.args.given.now)) work c.args.streams.now)
@@ -128,7 +135,7 @@ pub returns-clause-counted : goal.returns-clause-counted
 returns-clause-counted g c =
     let p = patterns_by_given (all_given c.args.given.now) (patterns_in (secrets_of c.args.rules.now)) in
     let after = (goal.at.returns-clause-counted g c).After-as_ref in
-    work_as (g.F.Folder.holds c.args.folder.now) (g.F.Folder.refuses c.args.folder.now) (g.F.Folder.meets c.args.folder.now) p _ _ _ _ _ _ (names_are g after) (covers_are g after) (pieces_are g after)
+    work_as (g.F.Folder.holds c.args.folder.now) (g.F.Folder.refuses c.args.folder.now) (g.F.Folder.meets c.args.folder.now) p _ _ _ _ _ _ _ _ (names_are g after) (covers_are g after) (pieces_are g after) (key_is g after)
     (λ w. CountsWork w c.redact_warned.result c.args.streams.now c.redact_warned.new.streams c.args.counts.now c.redact_warned.new.counts) (c.redact_warned.ensures.counted p (nfa_is g after) (patterns_are g after) (rows_are g after)
     (back_is (all_given c.args.given.now) _ _ c.in_ok-back.back c.as_ref-2.result (words_are g after) c.as_ref-2.ensures.value c.in_ok-back.ensures.of))
 
@@ -136,9 +143,9 @@ pub returns-clause-outcome : goal.returns-clause-outcome
 returns-clause-outcome g c =
     let p = patterns_by_given (all_given c.args.given.now) (patterns_in (secrets_of c.args.rules.now)) in
     let after = (goal.at.returns-clause-outcome g c).After-as_ref in
-    let work = work_by (call_of g.F.Folder c.args.folder.now (all_given c.args.given.now)) (secrets_of c.args.rules.now) in
+    let work = work_by (call_of g.F.Folder c.args.folder.now (all_given c.args.given.now)) (loaded_as c.args.rules.now (key_lent c.args.key)) in
     subst (λ (b : Bool). WarnedOutcome g.W.Write g.E.Sink b work c.redact_warned.result c.args.streams.now c.redact_warned.new.streams) c.has-strict.ensures.has
-    (work_as (g.F.Folder.holds c.args.folder.now) (g.F.Folder.refuses c.args.folder.now) (g.F.Folder.meets c.args.folder.now) p _ _ _ _ _ _ (names_are g after) (covers_are g after) (pieces_are g after)
+    (work_as (g.F.Folder.holds c.args.folder.now) (g.F.Folder.refuses c.args.folder.now) (g.F.Folder.meets c.args.folder.now) p _ _ _ _ _ _ _ _ (names_are g after) (covers_are g after) (pieces_are g after) (key_is g after)
     (λ w. WarnedOutcome g.W.Write g.E.Sink c.has-strict.result w c.redact_warned.result c.args.streams.now c.redact_warned.new.streams) (c.redact_warned.ensures.outcome p (nfa_is g after) (patterns_are g after) (rows_are g after)
     (back_is (all_given c.args.given.now) _ _ c.in_ok-back.back c.as_ref-2.result (words_are g after) c.as_ref-2.ensures.value c.in_ok-back.ensures.of)))
 

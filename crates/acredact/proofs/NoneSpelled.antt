@@ -1,0 +1,171 @@
+-- What a pseudonym can spell, and that nothing occurs in a cover where no pattern is like one.
+use Rattle.std.proofs.Common.{◌≡◌, inl, inr, ℕ, zero, suc, ◌-◌, ◌<◌, ◌/◌, ◌%◌, List, [], ◌∷◌, ◌++◌, Option, true, false, length, take, drop, get_or, refl, sym, ap, subst, ◌∙◌, arith}
+use Rattle.std.specs.Prelude.{Bool, None, Some, ◌⊎◌, slice_range}
+use Rattle.std.specs.Int.{bytes_high_first, byte_at}
+use Rattle.std.specs.List.{All}
+use Rattle.std.proofs.Math.Nat.{mod-lt}
+use Rattle.std.proofs.lemmas.Bool.{cases_lt}
+use Rattle.std.proofs.lemmas.List.{get_or_past}
+use Rattle.std.proofs.lemmas.List.Elements.{All-append, All-cons, All-get_or, All-nil}
+use Rattle.aho_core.specs.Bytes.{folded, folded_by, folded_word}
+use Rattle.aho_core.specs.Listing.{IsMember}
+use Rattle.aho_core.specs.Patterns.{Patterns, pattern_at}
+use Rattle.aho_laws.specs.CoverLaws.{IsCleanPiece}
+use Rattle.aho_laws.specs.CutLaws.{NoneHolds}
+use Rattle.aho_laws.proofs.Members.{member-map, member-of_map}
+use Rattle.programs.specs.Asked.{ArePatterns}
+use Rattle.pseudonyms.specs.Hmac.{hmac_sha256}
+use Rattle.pseudonyms.specs.Pseudonyms.{as_compared, hex_at, hex_digit, piece_of_digest, pseudonym_rule}
+use Rattle.sha2.specs.Sha256.{digest_bytes, sha256}
+use Rattle.acredact.specs.Pieces.{IsJudgedBy}
+use Rattle.acredact.specs.Secrets.{NoneOccurs}
+use Rattle.acredact.specs.Spelling.{IsFirstSpelled, IsSpelled, NoneAreSpelled, is_inside}
+use Rattle.acredact.specs.declared.clean.Unclean.{Unclean}
+use Rattle.acredact.proofs.Flaws.{first_is, last_is}
+
+-- a digest is of bytes
+abbrev IsByte : ℕ → Type 0
+IsByte byte = byte < 256
+
+byte_below : (at n : ℕ) → IsByte (byte_at at n)
+byte_below zero n = mod-lt n (omega arith)
+byte_below (suc at) n = mod-lt _ (omega arith)
+
+bytes_below : (count n : ℕ) → All IsByte (bytes_high_first count n)
+bytes_below zero n = All-nil IsByte
+bytes_below (suc count) n = All-cons IsByte (byte_at count n) (bytes_high_first count n) (byte_below count n) (bytes_below count n)
+
+digest_below : (h : List ℕ) (n : ℕ) → All IsByte (digest_bytes h n)
+unfolding digest_bytes
+digest_below h zero = All-nil IsByte
+digest_below h (suc n) = All-append IsByte (digest_bytes h n) _ (digest_below h n) (bytes_below 4 _)
+
+sha_below : (message : List ℕ) → All IsByte (sha256 message)
+unfolding sha256
+sha_below message = digest_below _ 8
+
+place_below : (bytes : List ℕ) (at : ℕ) → All IsByte bytes → get_or bytes at 0 < 256
+place_below bytes at are = elim (cases_lt at (length bytes)) [
+  | inl within ↦ All-get_or IsByte bytes at 0 within are
+  | inr past ↦ subst IsByte (sym (get_or_past bytes at 0 past)) (omega arith)
+]
+
+-- a byte stands inside, and so does its fold
+abbrev IsQuiet : ℕ → Type 0
+IsQuiet byte = (is_inside byte ≡ true) × (is_inside (folded_by true byte) ≡ true)
+
+quiet_by : (ignore_case : Bool) (byte : ℕ) → IsQuiet byte → is_inside (folded_by ignore_case byte) ≡ true
+quiet_by true byte is = is.1
+quiet_by false byte is = is.0
+
+digit_quiet : (value : ℕ) → value < 16 → IsQuiet (hex_digit value)
+digit_quiet zero below = (refl, refl)
+digit_quiet (suc zero) below = (refl, refl)
+digit_quiet (suc (suc zero)) below = (refl, refl)
+digit_quiet (suc (suc (suc zero))) below = (refl, refl)
+digit_quiet (suc (suc (suc (suc zero)))) below = (refl, refl)
+digit_quiet (suc (suc (suc (suc (suc zero))))) below = (refl, refl)
+digit_quiet (suc (suc (suc (suc (suc (suc zero)))))) below = (refl, refl)
+digit_quiet (suc (suc (suc (suc (suc (suc (suc zero))))))) below = (refl, refl)
+digit_quiet (suc (suc (suc (suc (suc (suc (suc (suc zero)))))))) below = (refl, refl)
+digit_quiet (suc (suc (suc (suc (suc (suc (suc (suc (suc zero))))))))) below = (refl, refl)
+digit_quiet (suc (suc (suc (suc (suc (suc (suc (suc (suc (suc zero)))))))))) below = (refl, refl)
+digit_quiet (suc (suc (suc (suc (suc (suc (suc (suc (suc (suc (suc zero))))))))))) below = (refl, refl)
+digit_quiet (suc (suc (suc (suc (suc (suc (suc (suc (suc (suc (suc (suc zero)))))))))))) below = (refl, refl)
+digit_quiet (suc (suc (suc (suc (suc (suc (suc (suc (suc (suc (suc (suc (suc zero))))))))))))) below = (refl, refl)
+digit_quiet (suc (suc (suc (suc (suc (suc (suc (suc (suc (suc (suc (suc (suc (suc zero)))))))))))))) below = (refl, refl)
+digit_quiet (suc (suc (suc (suc (suc (suc (suc (suc (suc (suc (suc (suc (suc (suc (suc zero))))))))))))))) below = (refl, refl)
+digit_quiet (suc (suc (suc (suc (suc (suc (suc (suc (suc (suc (suc (suc (suc (suc (suc (suc n)))))))))))))))) below = absurd (omega arith)
+
+-- each byte of a pseudonym is its first, its last or one inside
+abbrev IsOfPiece : ℕ → Type 0
+IsOfPiece byte = (byte ≡ 91) ⊎ ((byte ≡ 93) ⊎ IsQuiet byte)
+
+abbrev AreOfPiece : List ℕ → Type 0
+AreOfPiece bytes = (byte : ℕ) → IsMember bytes byte → IsOfPiece byte
+
+all_none : AreOfPiece []
+all_none byte member = absurd member
+
+all_more : (byte : ℕ) (bytes : List ℕ) → IsOfPiece byte → AreOfPiece bytes → AreOfPiece (byte ∷ bytes)
+all_more byte bytes is are other (inl same) = subst IsOfPiece (sym same) is
+all_more byte bytes is are other (inr there) = are other there
+
+hex_all : (digest : List ℕ) (at : ℕ) → get_or digest at 0 < 256 → (bytes : List ℕ) → AreOfPiece bytes → AreOfPiece (hex_at digest at ++ bytes)
+hex_all digest at below bytes are =
+    let high = hex_digit (get_or digest at 0 / 16) in
+    let low = hex_digit (get_or digest at 0 % 16) in
+    all_more high (low ∷ bytes) (inr (inr (digit_quiet (get_or digest at 0 / 16) (omega (arith, below)))))
+    (all_more low bytes (inr (inr (digit_quiet (get_or digest at 0 % 16) (mod-lt (get_or digest at 0) (omega arith))))) are)
+
+piece_all : (digest : List ℕ) → ((at : ℕ) → get_or digest at 0 < 256) → AreOfPiece (piece_of_digest digest)
+piece_all digest below =
+    let last : AreOfPiece (93 ∷ []) = all_more 93 [] (inr (inl refl)) all_none in
+    let bytes5 = hex_at digest 5 ++ (93 ∷ []) in
+    let digits5 : AreOfPiece bytes5 = hex_all digest 5 (below 5) (93 ∷ []) last in
+    let bytes4 = hex_at digest 4 ++ bytes5 in
+    let digits4 : AreOfPiece bytes4 = hex_all digest 4 (below 4) bytes5 digits5 in
+    let bytes3 = hex_at digest 3 ++ bytes4 in
+    let digits3 : AreOfPiece bytes3 = hex_all digest 3 (below 3) bytes4 digits4 in
+    let bytes2 = hex_at digest 2 ++ bytes3 in
+    let digits2 : AreOfPiece bytes2 = hex_all digest 2 (below 2) bytes3 digits3 in
+    let bytes1 = hex_at digest 1 ++ bytes2 in
+    let digits1 : AreOfPiece bytes1 = hex_all digest 1 (below 1) bytes2 digits2 in
+    let bytes0 = hex_at digest 0 ++ bytes1 in
+    let digits0 : AreOfPiece bytes0 = hex_all digest 0 (below 0) bytes1 digits1 in
+    all_more 91 (114 ∷ 101 ∷ 100 ∷ 97 ∷ 99 ∷ 116 ∷ 101 ∷ 100 ∷ 58 ∷ bytes0) (inl refl) (all_more 114 (101 ∷ 100 ∷ 97 ∷ 99 ∷ 116 ∷ 101 ∷ 100 ∷ 58 ∷ bytes0) (inr (inr (refl, refl))) (all_more 101 (100 ∷ 97 ∷ 99 ∷ 116 ∷ 101 ∷ 100 ∷ 58 ∷ bytes0) (inr (inr (refl, refl))) (all_more 100 (97 ∷ 99 ∷ 116 ∷ 101 ∷ 100 ∷ 58 ∷ bytes0) (inr (inr (refl, refl))) (all_more 97 (99 ∷ 116 ∷ 101 ∷ 100 ∷ 58 ∷ bytes0) (inr (inr (refl, refl))) (all_more 99 (116 ∷ 101 ∷ 100 ∷ 58 ∷ bytes0) (inr (inr (refl, refl))) (all_more 116 (101 ∷ 100 ∷ 58 ∷ bytes0) (inr (inr (refl, refl))) (all_more 101 (100 ∷ 58 ∷ bytes0) (inr (inr (refl, refl))) (all_more 100 (58 ∷ bytes0) (inr (inr (refl, refl))) (all_more 58 (bytes0) (inr (inr (refl, refl))) (digits0))))))))))
+
+-- what stands in a part stands in the whole
+member_drop : (n : ℕ) (xs : List ℕ) (x : ℕ) → IsMember (drop n xs) x → IsMember xs x
+member_drop zero xs x member = member
+member_drop (suc n) [] x member = member
+member_drop (suc n) (y ∷ ys) x member = inr (member_drop n ys x member)
+
+member_take : (n : ℕ) (xs : List ℕ) (x : ℕ) → IsMember (take n xs) x → IsMember xs x
+member_take zero xs x member = absurd member
+member_take (suc n) [] x member = member
+member_take (suc n) (y ∷ ys) x (inl same) = inl same
+member_take (suc n) (y ∷ ys) x (inr there) = inr (member_take n ys x there)
+
+module _ (p : Patterns) (unlike : NoneAreSpelled p.ignore_case p.words) where
+  -- nothing occurs in a pseudonym
+  none_within : (piece : List ℕ) → AreOfPiece piece → NoneOccurs p piece
+  none_within piece are m occurs =
+      let word = pattern_at p m.pattern in
+      let one = unlike m.pattern occurs.numbered in
+      let (byte, member, outside) = one.outside in
+      let there : IsMember (folded_word p (slice_range piece m.start m.end)) (folded p byte) =
+      subst (λ (bytes : List ℕ). IsMember bytes (folded p byte)) occurs.same (member-map (folded p) word byte member) in
+      let (other, in_part, same) = member-of_map (folded p) (slice_range piece m.start m.end) (folded p byte) there in
+      elim (are other (member_drop m.start piece other (member_take (m.end - m.start) (drop m.start piece) other in_part))) [
+        | inl first ↦ one.no_first (byte, member, same ∙ ap (folded p) first)
+        | inr (inl last) ↦ one.no_last (byte, member, same ∙ ap (folded p) last)
+        | inr (inr quiet) ↦ (let clash : false ≡ true = sym outside ∙ ap is_inside same ∙ quiet_by p.ignore_case other quiet in cc)
+      ]
+
+  none_first : NoneHolds p 91
+  none_first number other numbered member same = (unlike number numbered).no_first (other, member, same)
+
+  none_last : NoneHolds p 93
+  none_last number other numbered member same = (unlike number numbered).no_last (other, member, same)
+
+  piece_clean : (digest : List ℕ) → All IsByte digest → IsCleanPiece p (piece_of_digest digest)
+  piece_clean digest are = record {
+    some = omega arith;
+    first = λ byte rest is. subst (NoneHolds p) (first_is (piece_of_digest digest) rest byte is) none_first;
+    last = λ byte front is. subst (NoneHolds p) (last_is (piece_of_digest digest) front byte is) none_last;
+    none = none_within (piece_of_digest digest) (piece_all digest (λ at. place_below digest at are));
+  }
+
+  -- each pseudonym is clean
+  pub pseudonyms_clean : (ignore_case : Bool) (key : List ℕ) (number : ℕ) (bytes : List ℕ) → number < length p.words → IsCleanPiece p (pseudonym_rule ignore_case key number bytes)
+  pseudonyms_clean ignore_case key number bytes numbered = piece_clean (hmac_sha256 key (as_compared ignore_case bytes)) (sha_below _)
+
+-- what is answered of words is so of a cover of these patterns
+pub spelled_judged : (p : Patterns) (ignore_case : Bool) (words pieces : List (List ℕ)) (answer : Option Unclean) → ArePatterns p ignore_case words → IsFirstSpelled ignore_case words answer → IsJudgedBy p true true pieces answer
+spelled_judged p ignore_case words pieces None are none = λ _.
+    subst (λ (b : Bool). NoneAreSpelled b p.words) (sym are.rule) (subst (λ (l : List (List ℕ)). NoneAreSpelled ignore_case l) (sym are.words_are) none)
+spelled_judged p ignore_case words pieces (Some unclean) are one = (
+  refl,
+  subst (λ (b : Bool). IsSpelled b p.words unclean) (sym are.rule) (subst (λ (l : List (List ℕ)). IsSpelled ignore_case l unclean) (sym are.words_are) one),
+)

@@ -1,0 +1,19 @@
+-- What is written is the redaction by these pieces, and why it ends early is told.
+use Rattle.std.proofs.Common.{sym, subst}
+use Rattle.std.proofs.lemmas.Result.{on_ok_weaker}
+use Rattle.aho_cover.specs.Covers.{LeavesCoveredBy}
+use Rattle.aho_cover.specs.Pieces.{PieceRule}
+use Rattle.acredact.proofs.Redactions.{counts_of_cover, outcome_of_cover, some_cover}
+use Rattle.acredact.proofs.redact.cover_by_pieces.Goals as goal
+
+pub returns-clause-outcome : goal.returns-clause-outcome
+returns-clause-outcome g c = λ r is.
+    let call = c.cover_made in
+    outcome_of_cover g.R.Source g.W.Sink r is.covers (g.A.Automaton.is_of c.args.start.now.automaton.now) is.of
+    (some_cover g.A.Automaton _ r.patterns (g.met.A.Automaton.laws _ _ is.of).lengths_are c.requires.unbegun) _ _ _ _ call.result
+    (subst (λ (rule : PieceRule). LeavesCoveredBy g.R.Source g.W.Sink (g.A.Automaton.is_of c.args.start.now.automaton.now) rule c.args.source.now call.new.source c.args.sink.now call.new.sink call.result)
+    (sym is.is) call.ensures.leaves) call.ensures.errors call.ensures.only
+
+pub returns-clause-counted : goal.returns-clause-counted
+returns-clause-counted g c = λ r is.
+    on_ok_weaker c.cover_made.result (λ whole. counts_of_cover g.R.Source r is.covers (g.A.Automaton.is_of c.args.start.now.automaton.now) is.of _ _ _ _ whole) c.cover_made.ensures.counted.counted
