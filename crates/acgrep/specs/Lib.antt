@@ -3,6 +3,7 @@ pub mod Arguments
 pub mod Backing
 pub mod Base64
 pub mod Contexts
+pub mod Counted
 pub mod Files
 pub mod Filled
 pub mod Folders
@@ -23,5 +24,6 @@ pub mod Searched
 pub mod Searchers
 pub mod Selected
 pub mod Streamed
+pub mod Tallies
 pub mod Told
 pub mod Written

@@ -553,7 +553,7 @@ fn tell_stop<E: Sink>(job: &Job<'_>, stop: &Stop, errors: &mut Errors<'_, E>) ->
 }
 
 /// Tells why what is asked of a file as a whole was not written: memory ran out, or the output cannot be written.
-fn tell_total<E: Sink>(stop: &Stop, errors: &mut Errors<'_, E>)
+pub fn tell_total<E: Sink>(stop: &Stop, errors: &mut Errors<'_, E>)
     ensures told { TellsCause E.Sink errors.old errors.new }
 {
     match stop {
