@@ -28,6 +28,7 @@ pub mod Statuses
 pub mod Stepped
 pub mod Streams
 pub mod StreamsBegun
+pub mod Tallied
 pub mod Tellings
 pub mod Unselected
 pub mod Walked

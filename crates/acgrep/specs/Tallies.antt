@@ -1,8 +1,7 @@
 -- How often each pattern was found, by the numbers of the patterns that were, and how that is told.
-use Rattle.std.specs.Prelude.{◌≡◌, ℕ, ◌+◌, ◌-◌, ◌^◌, ◌==◌, min, Bool, false, List, [], ◌∷◌, ◌++◌, Option, Some, None, Vec, codes, decimal, map, if◌then◌else◌}
+use Rattle.std.specs.Prelude.{◌≡◌, ℕ, ◌+◌, ◌-◌, ◌<◌, ◌^◌, ◌==◌, max, min, Bool, false, List, [], ◌∷◌, ◌++◌, Option, Some, None, Vec, codes, decimal, filter, length, map, slice_index}
 use Rattle.acgrep.specs.Arguments.{number_by}
 use Rattle.acgrep.specs.Lines.{lines}
-use Rattle.acgrep.specs.Written.{one_more}
 
 -- these bytes were put at the end of a text
 abbrev pub PutsBytes : {Z : Type 0} → (text text' : Vec ℕ Z) → List ℕ → Type 0
@@ -16,10 +15,9 @@ is_that number (Some other) = other == number
 abbrev pub writes : ℕ → List ℕ → Bool
 writes number line = is_that number (number_by line)
 
--- how many lines do
+-- how many of these lines do
 abbrev pub count_of : ℕ → List (List ℕ) → ℕ
-count_of number [] = 0
-count_of number (line ∷ rest) = (if writes number line then 1 else 0) + count_of number rest
+count_of number found = length (filter (λ (line : List ℕ). writes number line) found)
 
 -- what is told of a pattern: its number, how often it was found, and its bytes, with TABs between them
 abbrev pub row_of : (number count : ℕ) → List ℕ → List ℕ
@@ -36,15 +34,18 @@ rows_from number (pattern ∷ patterns) found =
 abbrev pub counts_table : List (List ℕ) → List ℕ → List ℕ
 counts_table patterns numbers = rows_from 0 patterns (lines numbers)
 
--- a count behind some lines, of which those are counted that write this number
-abbrev pub count_behind : ℕ → List (List ℕ) → ℕ → ℕ
-count_behind number [] count = count
-count_behind number (line ∷ rest) count = count_behind number rest (if writes number line then one_more count else count)
+-- a count with more; it stays at the greatest number
+abbrev pub count_with : ℕ → ℕ → ℕ
+count_with count more = max count (min (count + more) (2 ^ 64 - 1))
 
--- the counts of the numbers from this one on
-abbrev pub tallied : ℕ → List (List ℕ) → (counts : List ℕ) → List ℕ
-tallied number found [] = []
-tallied number found (count ∷ counts) = count_behind number found count ∷ tallied (number + 1) found counts
+-- the count of each number has grown by the lines that write it
+pub record CountsLines (found : List (List ℕ)) (counts counts' : List ℕ) : Type 0 where
+  pub as_many : length counts' ≡ length counts
+  pub grown : (number : ℕ) → number < length counts → slice_index counts' number ≡ count_with (slice_index counts number) (count_of number found)
+
+-- by one line, whichever it is, that writes this number
+abbrev pub CountsNumber : ℕ → (counts counts' : List ℕ) → Type 0
+CountsNumber number counts counts' = (line : List ℕ) → number_by line ≡ Some number → CountsLines (line ∷ []) counts counts'
 
 -- before any was found
 abbrev pub zeros_of : List (List ℕ) → List ℕ

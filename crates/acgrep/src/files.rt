@@ -377,7 +377,7 @@ fn search_input<A: Lister, F: Open, R: Read, W: Sink, E: Sink>(
 fn writes_into<F: Open>(job: &Job<'_>, files: &F, name: &[u8]) -> bool {
     match job.most {
         Some(most) if most < 2 => false,
-        _ => writes_lines(job.shown) && is_output(files, name),
+        _ => !job.late && writes_lines(job.shown) && is_output(files, name),
     }
 }
 
@@ -588,5 +588,6 @@ fn job_for<'a>(job: &Job<'a>, name: &'a [u8], follows: bool) -> Job<'a>
         hushed: job.hushed,
         context: job.context,
         follows,
+        late: job.late,
     }
 }

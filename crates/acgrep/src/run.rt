@@ -468,6 +468,7 @@ pub fn job_of<'a>(given: &'a Given<'_>, terminal: bool, several: bool) -> Job<'a
         hushed: flags.no_messages,
         context: flags.context(),
         follows: false,
+        late: flags.asks_counts(),
     }
 }
 

@@ -3,7 +3,7 @@
 ghost use Rattle.std.specs.Prelude.{◌≡◌, ◌∷◌, [], IfOk, OnOk, decimal};
 ghost use Rattle.aho_core.specs.Replacement.{pieces_of};
 ghost use Rattle.acgrep.specs.Lines.{lines};
-ghost use Rattle.acgrep.specs.Tallies.{PutsBytes, row_of, rows_counted, tallied, zeros_of};
+ghost use Rattle.acgrep.specs.Tallies.{CountsLines, CountsNumber, PutsBytes, row_of, rows_counted, zeros_of};
 
 use crate::arguments::number_in;
 use crate::lines::{behind, line_end};
@@ -25,7 +25,7 @@ pub fn zeros(alloc: Global, patterns: &[&[u8]]) -> Result<Vec<u64>, AllocError>
 
 /// Counts the lines that write a pattern's number, for each pattern. A count stays at the greatest number.
 pub fn tally(numbers: &[u8], counts: &mut [u64])
-    ensures counted { counts.new ≡ tallied 0 (lines numbers.now) counts.old }
+    ensures counted { CountsLines (lines numbers.now) counts.old counts.new }
 {
     let mut rest = numbers;
     while !rest.is_empty() {
@@ -37,13 +37,20 @@ pub fn tally(numbers: &[u8], counts: &mut [u64])
 
 /// Counts a line that writes a pattern's number.
 fn tally_line(line: &[u8], counts: &mut [u64])
-    ensures counted { counts.new ≡ tallied 0 (line.now ∷ []) counts.old }
+    ensures counted { CountsLines (line.now ∷ []) counts.old counts.new }
 {
     if let Some(number) = number_in(line) {
-        if number < counts.len() as u64 {
-            let at = number as usize;
-            counts[at] = counts[at].saturating_add(1);
-        }
+        count_number(counts, number);
+    }
+}
+
+/// Counts a number, where there is a count for it.
+fn count_number(counts: &mut [u64], number: u64)
+    ensures counted { CountsNumber number counts.old counts.new }
+{
+    if number < counts.len() as u64 {
+        let at = number as usize;
+        counts[at] = counts[at].saturating_add(1);
     }
 }
 
