@@ -22,6 +22,7 @@ pub mod NoneAround
 pub mod NoneInLines
 pub mod Numbers
 pub mod Objected
+pub mod OrCounted
 pub mod PlacesBehind
 pub mod Reaching
 pub mod Statuses

@@ -1,0 +1,28 @@
+-- What was put down of the search is counted.
+use Rattle.std.proofs.Common.{◌≡◌, ◌<◌, ◌≤◌, ◌∙◌, inl, inr, ℕ, List, [], Option, Some, ap, sym, subst, arith}
+use Rattle.aho_core.specs.Replacement.{pieces_of}
+use Rattle.aho_devices.specs.Counts.{AppendsBeginning}
+use Rattle.programs.specs.Names.{name_bytes}
+use Rattle.acgrep.specs.Arguments.{said, shown_by}
+use Rattle.acgrep.specs.Folders.{known_by, tree_of}
+use Rattle.acgrep.specs.Runs.{BeginsOrKeeps, SearchesReached}
+use Rattle.acgrep.specs.Tallies.{counts_table}
+use Rattle.acgrep.specs.Told.{MaySay, names_told}
+use Rattle.acgrep.proofs.Told.{finished}
+use Rattle.acgrep.proofs.counted.count_operands.Goals as goal
+
+pub returns-clause-bound : goal.returns-clause-bound
+returns-clause-bound g c = elim c.end_counts.ensures.status [ inl same ↦ omega (arith, same, c.search_operands-status.ensures.bound) | inr two ↦ omega (arith, two) ]
+
+pub returns-clause-told : goal.returns-clause-told
+returns-clause-told g c =
+    let given = said c.args.given.now in
+    let flags = given.flags in
+    let tree = tree_of g.F.Folders c.args.operands.now.files.now in
+    let names = name_bytes c.args.operands.now.names.now in
+    let all = names_told flags.no_messages given.label [] names in
+    let status = c.search_operands-status.result in
+    let bound : c.end_counts.result ≤ 2 = elim c.end_counts.ensures.status [ inl same ↦ omega (arith, same, c.search_operands-status.ensures.bound) | inr two ↦ omega (arith, two) ] in
+    finished g.E.Sink all (MaySay tree given [] names) (λ line is. inl (inl is)) flags.no_messages (shown_by flags) status c.end_counts.result
+    c.args.errors.now c.search_operands-status.new.errors c.end_counts.new.errors c.search_operands-status.ensures.bound bound c.end_counts.ensures.status c.search_operands-status.ensures.told
+    c.end_counts.ensures.silent c.end_counts.ensures.told_before (λ low two. c.end_counts.ensures.told low two all)
