@@ -78,23 +78,23 @@ number-past own counts past line writes_own = record {
 pub record Counted (numbers left : List ℕ) (counts counts' : List ℕ) : Type 0 where
   pub before : List (List ℕ)
   pub cut : before ++ lines left ≡ lines numbers
-  pub counts : CountsLines before counts counts'
+  pub are : CountsLines before counts counts'
 
 pub counted-start : (numbers counts : List ℕ) → Counted numbers numbers counts counts
-counted-start numbers counts = record { before = []; cut = refl; counts = lines-none counts }
+counted-start numbers counts = record { before = []; cut = refl; are = lines-none counts }
 
 pub counted-step : (numbers left rest line : List ℕ) (one two three : List ℕ) → lines left ≡ line ∷ lines rest → Counted numbers left one two → CountsLines (line ∷ []) two three
     → Counted numbers rest one three
 counted-step numbers left rest line one two three first so_far more = record {
   before = so_far.before ++ (line ∷ []);
   cut = append_assoc so_far.before (line ∷ []) (lines rest) ∙ ap (λ (l : List (List ℕ)). so_far.before ++ l) (sym first) ∙ so_far.cut;
-  counts = lines-then so_far.before (line ∷ []) one two three so_far.counts more;
+  are = lines-then so_far.before (line ∷ []) one two three so_far.are more;
 }
 
 pub counted-end : (numbers left one two : List ℕ) → left ≡ [] → Counted numbers left one two → CountsLines (lines numbers) one two
 counted-end numbers left one two none so_far =
     let all : so_far.before ≡ lines numbers = sym (append-nil so_far.before) ∙ ap (λ (l : List ℕ). so_far.before ++ lines l) (sym none) ∙ so_far.cut in
-    subst (λ (l : List (List ℕ)). CountsLines l one two) all so_far.counts
+    subst (λ (l : List (List ℕ)). CountsLines l one two) all so_far.are
 
 -- what is told of counts
 rows-same : (number : ℕ) (patterns found : List (List ℕ)) (counts : List ℕ) → length counts ≡ length patterns
@@ -120,3 +120,9 @@ table-told patterns numbers counts are =
     let zeros : length (zeros_of patterns) ≡ length patterns = length-map patterns (λ pattern. 0) in
     rows-same 0 patterns (lines numbers) counts (are.as_many ∙ zeros)
     (λ i low. omega (arith, are.grown i (omega (arith, are.as_many, low)), zero-at patterns i))
+
+-- of no count nothing is
+pub rows-end : (number : ℕ) (patterns : List (List ℕ)) (counts : List ℕ) → length counts ≡ 0 → rows_counted number patterns counts ≡ []
+rows-end number [] counts none = refl
+rows-end number (pattern ∷ patterns) [] none = refl
+rows-end number (pattern ∷ patterns) (count ∷ counts) none = absurd (omega (arith, none))

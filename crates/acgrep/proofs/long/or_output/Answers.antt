@@ -20,4 +20,5 @@ returns c =
     let e13 = then_option asked _ _ _ _ _ e12 c.or-13.ensures.found in
     let e14 = then_option asked _ _ _ _ _ e13 c.or-14.ensures.found in
     let e15 = then_option asked _ _ _ _ _ e14 c.or-15.ensures.found in
-    record { found = then_option asked _ _ _ _ _ e15 c.or-16.ensures.found }
+    let e16 = then_option asked _ _ _ _ _ e15 c.or-16.ensures.found in
+    record { found = then_option asked _ _ _ _ _ e16 c.or-17.ensures.found }

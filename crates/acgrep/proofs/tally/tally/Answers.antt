@@ -21,8 +21,8 @@ loop-rest-preserved c =
     let cut : lines rest ≡ take end rest ∷ lines c.behind-rest.result.now = first ∙ ap (λ l. take end rest ∷ lines l) (sym left) in
     counted-step c.args.numbers.now rest c.behind-rest.result.now (take end rest) c.args.counts.now c.loop-rest.counts c.tally_line.new.counts cut c.loop-rest.invariant c.tally_line.ensures.counted
 
-pub returns-clause-counted : goal.returns-clause-counted
-returns-clause-counted c =
+pub returns : goal.returns
+returns c =
     let rest = c.loop-rest.rest.now in
     let none : length rest ≡ 0 = grind (arith, common_steps, c.is_empty.ensures, c.loop-rest-test.false) in
-    counted-end c.args.numbers.now rest c.args.counts.now c.loop-rest.counts (all-gone rest none) c.loop-rest.invariant
+    record { counted = counted-end c.args.numbers.now rest c.args.counts.now c.loop-rest.counts (all-gone rest none) c.loop-rest.invariant }
