@@ -11,6 +11,7 @@ use Rattle.programs.specs.Telling.{TellsSome}
 use Rattle.programs.specs.declared.errors.Errors.{Errors}
 use Rattle.acgrep.specs.Arguments.{asks_counts}
 use Rattle.acgrep.specs.Runs.{BeginsCounts, BeginsNoMatch, Counts, OrBeginsCounts, OrCounts, WritesNoMatch}
+use Rattle.acgrep.specs.Tallies.{counts_table}
 use Rattle.acgrep.specs.Told.{TellsStatus}
 use Rattle.acgrep.specs.declared.options.Flags.{Flags}
 use Rattle.acgrep.specs.declared.options.Shown.{Shown}
@@ -64,16 +65,16 @@ module _ (flags : Flags) (patterns : List (List ℕ)) (P : (old new : Option (Li
   pub no-match : (held held' : Option (List ℕ)) → ((old new : Option (List ℕ)) → Keeps old new → P old new) → WritesNoMatch flags patterns held held' → OrCounts flags patterns P held held'
   no-match held held' follows are = elim (cases_Bool (asks_counts flags)) [
     | inl asked ↦
-        by-counts held held' asked ([], follows (Some []) (Some []) (Keeps-refl (Some [])), subst (λ (b : Bool). MatchBool b (Appends held held' _) (Keeps held held')) asked are)
-    | inr not ↦ by-plain held held' not (follows held held' (subst (λ (b : Bool). MatchBool b (Appends held held' _) (Keeps held held')) not are))
+        by-counts held held' asked ([], follows (Some []) (Some []) (Keeps-refl (Some [])), subst (λ (b : Bool). MatchBool b (Appends held held' (counts_table patterns [])) (Keeps held held')) asked are)
+    | inr not ↦ by-plain held held' not (follows held held' (subst (λ (b : Bool). MatchBool b (Appends held held' (counts_table patterns [])) (Keeps held held')) not are))
   ]
 
   pub no-match-begins : (held held' : Option (List ℕ)) → ((old new : Option (List ℕ)) → Keeps old new → P old new) → BeginsNoMatch flags patterns held held'
       → OrBeginsCounts flags patterns P held held'
   no-match-begins held held' follows are = elim (cases_Bool (asks_counts flags)) [
     | inl asked ↦
-        by-begins-counts held held' asked ([], follows (Some []) (Some []) (Keeps-refl (Some [])), subst (λ (b : Bool). MatchBool b (AppendsBeginning held held' _) (Keeps held held')) asked are)
-    | inr not ↦ by-begins-plain held held' not (follows held held' (subst (λ (b : Bool). MatchBool b (AppendsBeginning held held' _) (Keeps held held')) not are))
+        by-begins-counts held held' asked ([], follows (Some []) (Some []) (Keeps-refl (Some [])), subst (λ (b : Bool). MatchBool b (AppendsBeginning held held' (counts_table patterns [])) (Keeps held held')) asked are)
+    | inr not ↦ by-begins-plain held held' not (follows held held' (subst (λ (b : Bool). MatchBool b (AppendsBeginning held held' (counts_table patterns [])) (Keeps held held')) not are))
   ]
 
 -- nothing is a beginning
