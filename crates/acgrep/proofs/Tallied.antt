@@ -120,9 +120,9 @@ table-told patterns numbers counts are =
     let zeros : length (zeros_of patterns) ≡ length patterns = length-map patterns (λ pattern. 0) in
     rows-same 0 patterns (lines numbers) counts (are.as_many ∙ zeros)
     (λ i low.
-        let here : i ≡ 0 + i = omega arith in
-        let is : slice_index counts i ≡ min (count_of i (lines numbers)) (2 ^ 64 - 1) = omega (arith, are.grown i (omega (arith, are.as_many, low)), zero-at patterns i) in
-        subst (λ (n : ℕ). slice_index counts i ≡ min (count_of n (lines numbers)) (2 ^ 64 - 1)) here is)
+    let here : i ≡ 0 + i = omega arith in
+    let is : slice_index counts i ≡ min (count_of i (lines numbers)) (2 ^ 64 - 1) = omega (arith, are.grown i (omega (arith, are.as_many, low)), zero-at patterns i) in
+    subst (λ (n : ℕ). slice_index counts i ≡ min (count_of n (lines numbers)) (2 ^ 64 - 1)) here is)
 
 -- of no count nothing is
 pub rows-end : (number : ℕ) (patterns : List (List ℕ)) (counts : List ℕ) → length counts ≡ 0 → rows_counted number patterns counts ≡ []

@@ -10,7 +10,7 @@ ghost use Rattle.acgrep.specs.Arguments.{said};
 ghost use Rattle.acgrep.specs.Counted.{BeginsCountOf, BeginsSearchOrCount, CountsOperands, SearchesOrCounts};
 ghost use Rattle.acgrep.specs.Folders.{tree_of};
 ghost use Rattle.acgrep.specs.Searchers.{IsSearcherOf};
-ghost use Rattle.acgrep.specs.Tallies.{PutsBytes, counts_table};
+ghost use Rattle.acgrep.specs.Tallies.{PutsBytes, counts_table, zeros_of};
 ghost use Rattle.acgrep.specs.Told.{TellsCause, TellsOfReached};
 
 use crate::arguments::Given;
@@ -152,6 +152,20 @@ fn put_counts(
         (PutsBytes text.old text.new (counts_table (pieces_of patterns.now) numbers.now)) }
 {
     let mut counts = zeros(alloc, patterns)?;
-    tally(numbers, counts.as_mut_slice());
-    put_rows(text, patterns, counts.as_slice())
+    put_tallied(patterns, numbers, counts.as_mut_slice(), text)
+}
+
+/// Counts these numbers of patterns, and puts a row for each pattern.
+fn put_tallied(
+    patterns: &[&[u8]],
+    numbers: &[u8],
+    counts: &mut [u64],
+    text: &mut Vec<u8>,
+) -> Result<(), AllocError>
+    requires none { counts.old ≡ zeros_of (pieces_of patterns.now) }
+    ensures put { OnOk result
+        (PutsBytes text.old text.new (counts_table (pieces_of patterns.now) numbers.now)) }
+{
+    tally(numbers, counts);
+    put_rows(text, patterns, counts)
 }

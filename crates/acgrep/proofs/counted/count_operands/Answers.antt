@@ -28,7 +28,7 @@ returns-clause-searched g c = λ p is plain low.
       c.as_slice.result.now,
       subst (λ (n : ℕ). SearchesReached known c.args.terminal given p names left left' (Some []) (Some c.as_slice.result.now) n) (sym same)
           (subst (λ (new : Option (List ℕ)). SearchesReached known c.args.terminal given p names left left' (Some []) new c.search_operands-status.result) after
-              (subst (λ (old : Option (List ℕ)). SearchesReached known c.args.terminal given p names left left' old _ c.search_operands-status.result) before found)),
+          (subst (λ (old : Option (List ℕ)). SearchesReached known c.args.terminal given p names left left' old (Some c.search_operands-status.new.output.device.writer.items) c.search_operands-status.result) before found)),
       c.end_counts.ensures.written low,
     )
 
