@@ -1,5 +1,5 @@
 -- A search that is written, or whose matches are counted.
-use Rattle.std.proofs.Common.{◌≡◌, ◌<◌, ◌⊎◌, ◌≤◌, ◌∙◌, ◌++◌, inl, inr, ℕ, Bool, true, false, List, [], Option, Some, ap, sym, subst, arith}
+use Rattle.std.proofs.Common.{◌≡◌, ◌<◌, ◌⊎◌, ◌∙◌, ◌++◌, inl, inr, ℕ, Bool, true, false, List, [], Option, Some, ap, sym, subst, arith}
 use Rattle.std.specs.Prelude.{MatchBool}
 use Rattle.std.specs.Io.KnownBytes.{Appends, Keeps}
 use Rattle.std.proofs.KnownBytes.{Appends-kept, Appends-nil, Keeps-refl}

@@ -1,12 +1,9 @@
 -- What was put down of the search is counted.
 use Rattle.std.proofs.Common.{◌≡◌, ◌<◌, ◌≤◌, ◌∙◌, inl, inr, ℕ, List, [], Option, Some, ap, sym, subst, arith}
-use Rattle.aho_core.specs.Replacement.{pieces_of}
-use Rattle.aho_devices.specs.Counts.{AppendsBeginning}
 use Rattle.programs.specs.Names.{name_bytes}
 use Rattle.acgrep.specs.Arguments.{said, shown_by}
 use Rattle.acgrep.specs.Folders.{known_by, tree_of}
-use Rattle.acgrep.specs.Runs.{BeginsOrKeeps, SearchesReached}
-use Rattle.acgrep.specs.Tallies.{counts_table}
+use Rattle.acgrep.specs.Runs.{SearchesReached}
 use Rattle.acgrep.specs.Told.{MaySay, names_told}
 use Rattle.acgrep.proofs.Told.{finished}
 use Rattle.acgrep.proofs.counted.count_operands.Goals as goal

@@ -1,7 +1,6 @@
 -- What was put together is written, or a beginning of it.
-use Rattle.std.proofs.Common.{◌≡◌, ◌≤◌, ◌∙◌, ℕ, List, [], ap, sym, subst, arith}
+use Rattle.std.proofs.Common.{subst}
 use Rattle.std.specs.Io.KnownBytes.{Appends}
-use Rattle.std.proofs.KnownBytes.{Appends-nil}
 use Rattle.aho_devices.specs.Counts.{AppendsBeginning}
 use Rattle.aho_core.specs.Replacement.{pieces_of}
 use Rattle.acgrep.specs.Tallies.{counts_table}

@@ -1,8 +1,7 @@
 -- A line more is counted.
-use Rattle.std.proofs.Common.{◌≡◌, suc, ◌<◌, ◌∷◌, length, take, drop, sym, ◌∙◌, ap, subst, add-one, arith}
+use Rattle.std.proofs.Common.{◌≡◌, suc, ◌<◌, ◌∷◌, length, take, drop, sym, ◌∙◌, ap, add-one, arith}
 use Rattle.std.proofs.lemmas.Grind.{common_steps}
 use Rattle.acgrep.specs.Lines.{lines}
-use Rattle.acgrep.specs.Tallies.{CountsLines}
 use Rattle.acgrep.proofs.FirstLines.{lines_first}
 use Rattle.acgrep.proofs.Tallied.{counted-end, counted-start, counted-step}
 use Rattle.acgrep.proofs.Walking.{all-gone}
