@@ -80,9 +80,7 @@ fn count_operands<F: Open + Folders, R: Read, W: Sink, E: Sink>(
         (name_bytes operands.now.names.now) result errors.old errors.new }
 {
     let mut found = FromWrite::new(Vec::new(operands.alloc));
-    let status = search_operands(
-        searcher, given, screen, operands, input, &mut found, errors,
-    );
+    let status = search_operands(searcher, given, screen, operands, input, &mut found, errors);
     let numbers = found.into_inner();
     end_counts(
         operands.alloc,
