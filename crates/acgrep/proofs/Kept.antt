@@ -9,11 +9,12 @@ use Rattle.std.specs.Prelude.{◌||◌}
 use Rattle.acgrep.specs.Arguments.{Origin, Said, fit_by}
 use Rattle.acgrep.specs.Files.{AreFilesSearched, AreSearchedOr, is_enough}
 use Rattle.acgrep.specs.Folders.{Known}
-use Rattle.acgrep.specs.Runs.{BeginsFor, SelectsNoLine, SearchesFor, SearchesReached, inverts, kind_sought, knows_none, words_sought}
+use Rattle.acgrep.specs.Runs.{AreSought, BeginsFor, BeginsOrKeeps, SelectsNoLine, SearchesFor, SearchesReached, inverts, kind_sought, knows_none, words_sought}
 use Rattle.acgrep.specs.Searchers.{patterns_asked}
 use Rattle.acgrep.specs.declared.colors.Screen.{Screen}
 use Rattle.acgrep.specs.declared.select.Job.{Job}
 use Rattle.acgrep.proofs.FilesBegun.{begun_kept}
+use Rattle.acgrep.proofs.OrCounted.{begins-counts-kept, counts-kept}
 
 module _ (held' held'' : Option (List ℕ)) (kept : Keeps held' held'') where
   searched_kept : (p : Patterns) (job : Job) (holds : List ℕ → Option (List ℕ)) (names : List (List ℕ)) (follows : Bool) (left left' held : Option (List ℕ)) (any : Bool)
@@ -39,37 +40,56 @@ module _ (held' held'' : Option (List ℕ)) (kept : Keeps held' held'') where
   or_kept p job holds names left left' held status (inl (any, are, is)) = inl (any, searched_kept p job holds names false left left' held any are, is)
   or_kept p job holds names left left' held status (inr one) = inr one
 
+  -- what was searched for
+  sought_kept : (known : Known) (screen : Screen) (given : Said) (sought names : List (List ℕ)) (left left' held : Option (List ℕ)) (status : ℕ)
+      → AreSought known screen given sought names left left' held held' status → AreSought known screen given sought names left left' held held'' status
+  sought_kept known screen given sought names left left' held status done =
+      let p = patterns_asked (kind_sought given.flags) given.flags.ignore_case sought in
+      let Passed = SelectsNoLine p (fit_by given.flags) (inverts given.flags) left left' held held' status in
+      let Found = SearchesReached known screen given p names left left' held held' status in
+      elim (cases_Bool (knows_none given.flags sought)) [
+        | inl none ↦
+            let found : Passed = subst (λ (b : Bool). MatchBool b Passed Found) none done in
+            rw none (record { passed = found.passed; unread = found.unread; unwritten = Keeps-trans held held' held'' found.unwritten kept; none = found.none })
+        | inr some ↦
+            let found : Found = subst (λ (b : Bool). MatchBool b Passed Found) some done in
+            rw some (record {
+              files = found.files;
+              unread = found.unread;
+              reached = found.reached;
+              job = found.job;
+              is_job = found.is_job;
+              found = found.found;
+              searched = or_kept p found.job known.holds found.files left left' held found.found found.searched;
+              told = found.told;
+            })
+      ]
+
   -- what was done of a search
   pub searches_kept : (known : Known) (screen : Screen) (given : Said) (sources : List Origin) (names : List (List ℕ)) (left left' held : Option (List ℕ)) (status : ℕ)
       → SearchesFor known screen given sources names left left' held held' status → SearchesFor known screen given sources names left left' held held'' status
   searches_kept known screen given sources names left left' held status done =
       let sought = words_sought given.flags done.words in
-      let p = patterns_asked (kind_sought given.flags) given.flags.ignore_case sought in
-      let Passed = SelectsNoLine p (fit_by given.flags) (inverts given.flags) done.between left' held held' status in
-      let Found = SearchesReached known screen given p names done.between left' held held' status in
       record {
         words = done.words;
         between = done.between;
         read = done.read;
-        searched =
-            elim (cases_Bool (knows_none given.flags sought)) [
-              | inl none ↦
-                  let found : Passed = subst (λ (b : Bool). MatchBool b Passed Found) none done.searched in
-                  rw none (record { passed = found.passed; unread = found.unread; unwritten = Keeps-trans held held' held'' found.unwritten kept; none = found.none })
-              | inr some ↦
-                  let found : Found = subst (λ (b : Bool). MatchBool b Passed Found) some done.searched in
-                  rw some (record {
-                    files = found.files;
-                    unread = found.unread;
-                    reached = found.reached;
-                    job = found.job;
-                    is_job = found.is_job;
-                    found = found.found;
-                    searched = or_kept p found.job known.holds found.files done.between left' held found.found found.searched;
-                    told = found.told;
-                  })
-            ];
+        searched = counts-kept given.flags done.words (λ old new. AreSought known screen given sought names done.between left' old new status) held held' held'' kept
+            (sought_kept known screen given sought names done.between left' held status) done.searched;
       }
+
+  -- what was begun of the files
+  begun_held : (known : Known) (screen : Screen) (given : Said) (p : Patterns) (names : List (List ℕ)) (left held : Option (List ℕ))
+      → BeginsOrKeeps known screen given p names left held held' → BeginsOrKeeps known screen given p names left held held''
+  begun_held known screen given p names left held (inl keeps) = inl (Keeps-trans held held' held'' keeps kept)
+  begun_held known screen given p names left held (inr begun) = inr (record {
+    files = begun.files;
+    unread = begun.unread;
+    reached = begun.reached;
+    job = begun.job;
+    is_job = begun.is_job;
+    begun = begun_kept p begun.job known.holds held' held'' kept begun.files false left held begun.begun;
+  })
 
   -- what was begun
   pub begins_held : (known : Known) (screen : Screen) (given : Said) (sources : List Origin) (names : List (List ℕ)) (left held : Option (List ℕ))
@@ -79,14 +99,10 @@ module _ (held' held'' : Option (List ℕ)) (kept : Keeps held' held'') where
     words = begins.words;
     between = begins.between;
     read = begins.read;
-    begun = record {
-      files = begins.begun.files;
-      unread = begins.begun.unread;
-      reached = begins.begun.reached;
-      job = begins.begun.job;
-      is_job = begins.begun.is_job;
-      begun = begun_kept (patterns_asked (kind_sought given.flags) given.flags.ignore_case (words_sought given.flags begins.words)) begins.begun.job known.holds held' held'' kept begins.begun.files false begins.between held begins.begun.begun;
-    };
+    begun =
+        let p = patterns_asked (kind_sought given.flags) given.flags.ignore_case (words_sought given.flags begins.words) in
+        begins-counts-kept given.flags begins.words (λ old new. BeginsOrKeeps known screen given p names begins.between old new) held held' held'' kept
+        (begun_held known screen given p names begins.between held) begins.begun;
   })
 
 -- what was said is one thing alone

@@ -23,6 +23,7 @@ pub mod NoneAround
 pub mod NoneInLines
 pub mod Numbers
 pub mod Objected
+pub mod OrCounted
 pub mod PlacesBehind
 pub mod PlainWords
 pub mod Reaching
@@ -30,6 +31,7 @@ pub mod Statuses
 pub mod Stepped
 pub mod Streams
 pub mod StreamsBegun
+pub mod Tallied
 pub mod Tellings
 pub mod Unselected
 pub mod Walked

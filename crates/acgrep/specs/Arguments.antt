@@ -20,7 +20,7 @@ use Rattle.acgrep.specs.declared.long.Valued.TheVariants.{Regexp, PatternFile, K
 use Rattle.acgrep.specs.declared.options.Color.{Color}
 use Rattle.acgrep.specs.declared.options.Context.{Context}
 use Rattle.acgrep.specs.declared.options.Switch.{Switch}
-use Rattle.acgrep.specs.declared.options.Switch.TheVariants.{IgnoreCase, MatchCase, Invert, WholeWords, WholeLines, Counts, Numbers, OnlyMatching, Offsets, OnlyNames, OnlyLacking, Recursive, Follow, NullNames, NullData, Quiet, NoSeparator, InitialTab, Json, NoName, WithName, NoMatchOk, NoMessages, Help, Version, Same}
+use Rattle.acgrep.specs.declared.options.Switch.TheVariants.{IgnoreCase, MatchCase, Invert, WholeWords, WholeLines, Counts, Tallies, Numbers, OnlyMatching, Offsets, OnlyNames, OnlyLacking, Recursive, Follow, NullNames, NullData, Quiet, NoSeparator, InitialTab, Json, NoName, WithName, NoMatchOk, NoMessages, Help, Version, Same}
 use Rattle.acgrep.specs.declared.arguments.Awaited.{Awaited}
 use Rattle.acgrep.specs.declared.arguments.Awaited.TheVariants.{Fresh, Argument, Operands}
 use Rattle.acgrep.specs.declared.arguments.Refusal.{Refusal}
@@ -100,6 +100,7 @@ switched Invert flags = record flags { invert = true }
 switched WholeWords flags = record flags { word = true }
 switched WholeLines flags = record flags { whole = true }
 switched Counts flags = record flags { count = true }
+switched Tallies flags = record flags { tallied = true }
 switched Numbers flags = record flags { number = true }
 switched OnlyMatching flags = record flags { only_matching = true }
 switched Offsets flags = record flags { offset = true }
@@ -346,6 +347,7 @@ no_flags = record {
   word = false;
   whole = false;
   count = false;
+  tallied = false;
   number = false;
   only_matching = false;
   offset = false;
@@ -387,20 +389,24 @@ abbrev pub AreRefused : {A : Type 0} → Option A → Refusal → Type 0
 AreRefused outcome (Wrong wrong) = outcome ≡ None
 AreRefused outcome OutOfMemory = Unit {0}
 
--- what is written of a file: of several options `-q` goes first, then `-l` or `-L`, `-c`, `--format` and `--json`, and `-o`
+-- what is written of a file: of several options `-q` goes first, then `-l` or `-L`, `-c`, `--counts`, `--format` and `--json`, and `-o`
 abbrev pub shown_by : Flags → Shown
 shown_by flags =
     if flags.quiet then Nothing
     else if flags.names then Names
     else if flags.lacking then Lacking
     else if flags.count then Count
-    else if flags.json || flags.formatted then Objects
+    else if flags.tallied || (flags.json || flags.formatted) then Objects
     else if flags.only_matching then Matches
     else Lines
 
 -- the byte that ends a line
 abbrev pub ending_by : Flags → ℕ
 ending_by flags = if flags.null_data then 0 else 10
+
+-- whether the matches of each pattern are counted
+abbrev pub asks_counts : Flags → Bool
+asks_counts flags = flags.tallied && not (flags.quiet || (flags.names || (flags.lacking || flags.count)))
 
 -- how many lines are written around selected ones, where that is asked for: of `-A` and `-C` the former goes first, and of `-B`
 -- and `-C`

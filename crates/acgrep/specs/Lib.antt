@@ -4,6 +4,7 @@ pub mod Backing
 pub mod Base64
 pub mod Colors
 pub mod Contexts
+pub mod Counted
 pub mod Files
 pub mod Filled
 pub mod Folders
@@ -24,5 +25,6 @@ pub mod Searched
 pub mod Searchers
 pub mod Selected
 pub mod Streamed
+pub mod Tallies
 pub mod Told
 pub mod Written

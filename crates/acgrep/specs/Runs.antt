@@ -1,11 +1,12 @@
 -- What a call searches for and in which files, by what its arguments say.
 use Rattle.std.specs.Prelude.{◌≡◌, ◌⊎◌, ℕ, ◌+◌, ◌-◌, ◌%◌, ◌^◌, ◌==◌, ◌&&◌, ◌||◌, nat_lt, Bool, MatchBool, true, false, not, List, [], ◌∷◌, ◌++◌, Option, None, Some, IfSome, Vec, codes, length, map, unwrap_or, if◌then◌else◌}
-use Rattle.std.specs.Io.KnownBytes.{Consumes, IsAtEnd, Keeps}
+use Rattle.std.specs.Io.KnownBytes.{Appends, Consumes, IsAtEnd, Keeps}
 use Rattle.std.specs.Str.{bytes_eq}
 use Rattle.aho_core.specs.Patterns.{Patterns}
+use Rattle.aho_devices.specs.Counts.{AppendsBeginning}
 use Rattle.aho_core.specs.declared.search.MatchKind.{MatchKind}
 use Rattle.aho_core.specs.declared.search.MatchKind.TheVariants.{LeftmostLongest}
-use Rattle.acgrep.specs.Arguments.{Origin, Said, context_by, ending_by, fit_by, origin_of, said_by, shown_by}
+use Rattle.acgrep.specs.Arguments.{Origin, Said, asks_counts, context_by, ending_by, fit_by, origin_of, said_by, shown_by}
 use Rattle.programs.specs.Names.{is_input, or_input}
 use Rattle.acgrep.specs.Files.{AreFilesBegun, AreSearchedOr}
 use Rattle.acgrep.specs.Folders.{AreBelow, AreChosen, Known, Tree}
@@ -13,6 +14,7 @@ use Rattle.acgrep.specs.Lines.{lines}
 use Rattle.acgrep.specs.Listed.{listed_bytes}
 use Rattle.acgrep.specs.Rules.{RuleSaid}
 use Rattle.acgrep.specs.Searchers.{patterns_asked}
+use Rattle.acgrep.specs.Tallies.{counts_table}
 use Rattle.acgrep.specs.Written.{IsPassedOver}
 use Rattle.acgrep.specs.declared.arguments.Source.{Source}
 use Rattle.acgrep.specs.declared.options.Color.{Color}
@@ -25,6 +27,7 @@ use Rattle.acgrep.specs.declared.options.Shown.TheVariants.{Lines, Matches, Obje
 use Rattle.acgrep.specs.Colors.{colors_by, palette_of}
 use Rattle.acgrep.specs.declared.colors.Screen.{Screen}
 use Rattle.acgrep.specs.declared.format.Piece.{Piece}
+use Rattle.acgrep.specs.declared.format.Piece.TheVariants.{PatternNumber}
 use Rattle.acgrep.specs.declared.print.Form.{Form}
 use Rattle.acgrep.specs.declared.print.Form.TheVariants.{Json, Pieces}
 use Rattle.acgrep.specs.declared.print.Place.{Place}
@@ -156,8 +159,9 @@ abbrev pub form_said : Form → Option (List Piece)
 form_said Json = None
 form_said (Pieces pieces) = Some pieces.now
 
+-- under `--counts` by the number of its pattern, which is counted then
 abbrev pub form_asked : Said → Option (List Piece)
-form_asked given = if given.flags.formatted then Some given.format else None
+form_asked given = if given.flags.tallied then Some (PatternNumber ∷ []) else (if given.flags.formatted then Some given.format else None)
 
 -- what is written of each file, but for its name
 pub record IsJob (given : Said) (screen : Screen) (several : Bool) (job : Job) : Type 0 where
@@ -254,6 +258,47 @@ pub record BeginsReached (known : Known) (screen : Screen) (given : Said) (p : P
 abbrev pub BeginsOrKeeps : Known → Screen → Said → Patterns → List (List ℕ) → (left held held' : Option (List ℕ)) → Type 0
 BeginsOrKeeps known screen given p names left held held' = Keeps held held' ⊎ BeginsReached known screen given p names left held held'
 
+-- the matches of each pattern are counted: what is put down of a search in place of each of them is the number of its pattern, on a
+-- line of its own, and the counts of these numbers are written
+abbrev pub Counts : (ending : ℕ) → List (List ℕ) → ((held held' : Option (List ℕ)) → Type 0) → (held held' : Option (List ℕ)) → Type 0
+Counts ending patterns Found held held' = (numbers : List ℕ) × Found (Some []) (Some numbers) × Appends held held' (counts_table ending patterns numbers)
+
+-- or a beginning of them
+abbrev pub BeginsCounts : (ending : ℕ) → List (List ℕ) → ((held held' : Option (List ℕ)) → Type 0) → (held held' : Option (List ℕ)) → Type 0
+BeginsCounts ending patterns Begun held held' = (numbers : List ℕ) × Begun (Some []) (Some numbers) × AppendsBeginning held held' (counts_table ending patterns numbers)
+
+-- where that is asked for, and else what a search finds is written
+abbrev pub OrCounts : Flags → List (List ℕ) → ((held held' : Option (List ℕ)) → Type 0) → (held held' : Option (List ℕ)) → Type 0
+OrCounts flags patterns Found held held' = MatchBool (asks_counts flags) (Counts (ending_by flags) patterns Found held held') (Found held held')
+
+abbrev pub OrBeginsCounts : Flags → List (List ℕ) → ((held held' : Option (List ℕ)) → Type 0) → (held held' : Option (List ℕ)) → Type 0
+OrBeginsCounts flags patterns Begun held held' = MatchBool (asks_counts flags) (BeginsCounts (ending_by flags) patterns Begun held held') (Begun held held')
+
+-- these patterns of a call were searched for in the files that these operands name
+abbrev pub CountsReached : Known → Screen → Said → Patterns → (patterns names : List (List ℕ)) → (left left' held held' : Option (List ℕ)) → ℕ → Type 0
+CountsReached known screen given p patterns names left left' held held' status =
+    Counts (ending_by given.flags) patterns (λ old new. SearchesReached known screen given p names left left' old new status) held held'
+
+abbrev pub ReachesOrCounts : Known → Screen → Said → Patterns → (patterns names : List (List ℕ)) → (left left' held held' : Option (List ℕ)) → ℕ → Type 0
+ReachesOrCounts known screen given p patterns names left left' held held' status =
+    OrCounts given.flags patterns (λ old new. SearchesReached known screen given p names left left' old new status) held held'
+
+-- or their search was begun
+abbrev pub BeginsCounted : Known → Screen → Said → Patterns → (patterns names : List (List ℕ)) → (left held held' : Option (List ℕ)) → Type 0
+BeginsCounted known screen given p patterns names left held held' =
+    BeginsCounts (ending_by given.flags) patterns (λ old new. BeginsOrKeeps known screen given p names left old new) held held'
+
+abbrev pub BeginsOrCounts : Known → Screen → Said → Patterns → (patterns names : List (List ℕ)) → (left held held' : Option (List ℕ)) → Type 0
+BeginsOrCounts known screen given p patterns names left held held' =
+    OrBeginsCounts given.flags patterns (λ old new. BeginsOrKeeps known screen given p names left old new) held held'
+
+-- no line is selected, whatever it holds, and no file is read: each count is 0
+abbrev pub WritesNoMatch : Flags → List (List ℕ) → (held held' : Option (List ℕ)) → Type 0
+WritesNoMatch flags patterns held held' = MatchBool (asks_counts flags) (Appends held held' (counts_table (ending_by flags) patterns [])) (Keeps held held')
+
+abbrev pub BeginsNoMatch : Flags → List (List ℕ) → (held held' : Option (List ℕ)) → Type 0
+BeginsNoMatch flags patterns held held' = MatchBool (asks_counts flags) (AppendsBeginning held held' (counts_table (ending_by flags) patterns [])) (Keeps held held')
+
 -- no line is selected, whatever it holds: nothing was read and nothing written, and the status tells it
 pub record SelectsNoLine (p : Patterns) (fit : Fit) (invert : Bool) (left left' held held' : Option (List ℕ)) (status : ℕ) : Type 0 where
   pub passed : (line : List ℕ) → IsPassedOver p fit invert line
@@ -272,7 +317,7 @@ pub record SearchesFor (known : Known) (screen : Screen) (given : Said) (sources
   pub words : List (List ℕ)
   pub between : Option (List ℕ)
   pub read : AreWords known.holds sources left between words
-  pub searched : AreSought known screen given (words_sought given.flags words) names between left' held held' status
+  pub searched : OrCounts given.flags words (λ old new. AreSought known screen given (words_sought given.flags words) names between left' old new status) held held'
 
 -- what was said was searched for
 abbrev pub SearchesSaid : Known → Screen → Said → (left left' held held' : Option (List ℕ)) → ℕ → Type 0
@@ -294,7 +339,7 @@ pub record BeginsWords (known : Known) (screen : Screen) (given : Said) (sources
   pub words : List (List ℕ)
   pub between : Option (List ℕ)
   pub read : AreWords known.holds sources left between words
-  pub begun : BeginsReached known screen given (patterns_asked (kind_sought given.flags) given.flags.ignore_case (words_sought given.flags words)) names between held held'
+  pub begun : BeginsOrCounts known screen given (patterns_asked (kind_sought given.flags) given.flags.ignore_case (words_sought given.flags words)) words names between held held'
 
 -- or nothing is
 abbrev pub BeginsFor : Known → Screen → Said → List Origin → List (List ℕ) → (left held held' : Option (List ℕ)) → Type 0

@@ -378,7 +378,7 @@ fn read_number(valued: Valued, argument: &[u8]) -> Result<u64, Refusal<'_>>
 }
 
 /// The number that bytes write, if they are digits.
-fn number_in(bytes: &[u8]) -> Option<u64>
+pub fn number_in(bytes: &[u8]) -> Option<u64>
     ensures number { result ≡ number_by bytes.now }
 {
     match str::from_utf8(bytes) {

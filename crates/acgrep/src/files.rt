@@ -377,7 +377,7 @@ fn search_input<A: Lister, F: Open, R: Read, W: Sink, E: Sink>(
 fn writes_into<F: Open>(job: &Job<'_>, files: &F, name: &[u8]) -> bool {
     match job.most {
         Some(most) if most < 2 => false,
-        _ => writes_lines(job.shown) && is_output(files, name),
+        _ => !job.late && writes_lines(job.shown) && is_output(files, name),
     }
 }
 
@@ -564,7 +564,7 @@ fn tell_stop<E: Sink>(job: &Job<'_>, stop: &Stop, errors: &mut Errors<'_, E>) ->
 }
 
 /// Tells why what is asked of a file as a whole was not written: memory ran out, or the output cannot be written.
-fn tell_total<E: Sink>(stop: &Stop, errors: &mut Errors<'_, E>)
+pub fn tell_total<E: Sink>(stop: &Stop, errors: &mut Errors<'_, E>)
     ensures told { TellsCause E.Sink errors.old errors.new }
 {
     match stop {
@@ -601,5 +601,6 @@ fn job_for<'a>(job: &Job<'a>, name: &'a [u8], follows: bool) -> Job<'a>
         hushed: job.hushed,
         context: job.context,
         follows,
+        late: job.late,
     }
 }

@@ -38,6 +38,8 @@ Output:
   --format FORMAT       write each such match on a line of its own, by FORMAT:
                         {path}, {line}, {start}, {end}, {pattern} and {text}
                         stand for what they name, {{ and }} for braces
+  --counts              write for each pattern its number, how often it was
+                        found, and its bytes, once for all files
   -n, --line-number     write a line's number before it
   -b, --byte-offset     write where it starts in its file, in bytes
   --offset N            the first byte of each file stands at N, not at 0

@@ -156,6 +156,7 @@ fn or_output(found: Found, name: &[u8]) -> Found
 {
     found
         .or(name, b"count", Long::Plain(Switch::Counts))
+        .or(name, b"counts", Long::Plain(Switch::Tallies))
         .or(name, b"files-with-matches", Long::Plain(Switch::OnlyNames))
         .or(
             name,

@@ -73,6 +73,8 @@ pub enum Switch {
     WholeLines,
     /// `-c`
     Counts,
+    /// `--counts`
+    Tallies,
     /// `-n`
     Numbers,
     /// `-o`
@@ -158,6 +160,8 @@ pub struct Flags {
     pub whole: bool,
     /// `-c`: lines are counted.
     pub count: bool,
+    /// `--counts`: the matches of each pattern are counted.
+    pub tallied: bool,
     /// `-n`: the number of a line stands before it.
     pub number: bool,
     /// `-o`: the matches of a line are written in its place.
@@ -215,7 +219,7 @@ pub struct Flags {
 }
 
 impl Flags {
-    ghost use Rattle.acgrep.specs.Arguments.{context_by, ending_by, fit_by, no_flags, numbered_in, shown_by, switched};
+    ghost use Rattle.acgrep.specs.Arguments.{asks_counts, context_by, ending_by, fit_by, no_flags, numbered_in, shown_by, switched};
 
     /// Where no option is given.
     pub fn new() -> Flags
@@ -227,6 +231,7 @@ impl Flags {
             word: false,
             whole: false,
             count: false,
+            tallied: false,
             number: false,
             only_matching: false,
             offset: false,
@@ -257,7 +262,8 @@ impl Flags {
         }
     }
 
-    /// What is written of a file: of several options `-q` goes first, then `-l` or `-L`, `-c`, `--format` and `--json`, and `-o`.
+    /// What is written of a file: of several options `-q` goes first, then `-l` or `-L`, `-c`, `--counts`,
+    /// `--format` and `--json`, and `-o`.
     pub fn shown(&self) -> Shown
         ensures shown { result ≡ shown_by self.now }
     {
@@ -269,13 +275,20 @@ impl Flags {
             Shown::Lacking
         } else if self.count {
             Shown::Count
-        } else if self.json || self.formatted {
+        } else if self.tallied || self.json || self.formatted {
             Shown::Objects
         } else if self.only_matching {
             Shown::Matches
         } else {
             Shown::Lines
         }
+    }
+
+    /// Whether the matches of each pattern are counted: by numbers of patterns that are put together in place of matches.
+    pub fn asks_counts(&self) -> bool
+        ensures asks { result ≡ asks_counts self.now }
+    {
+        self.tallied && !(self.quiet || self.names || self.lacking || self.count)
     }
 
     /// How many lines are written around selected ones, if that is asked for: of `-A` and `-C` the former goes first, and of `-B`
@@ -351,6 +364,7 @@ impl Flags {
             Switch::WholeWords => flags.word = true,
             Switch::WholeLines => flags.whole = true,
             Switch::Counts => flags.count = true,
+            Switch::Tallies => flags.tallied = true,
             Switch::Numbers => flags.number = true,
             Switch::OnlyMatching => flags.only_matching = true,
             Switch::Offsets => flags.offset = true,

@@ -13,14 +13,15 @@ ghost use Rattle.acgrep.specs.Told.{MaySaid, MayTell, TellsCause, TellsOfCall, T
 ghost use Rattle.acgrep.specs.Mistakes.{TellsLacking, TellsMistake, TellsNoPattern, TellsRefused};
 ghost use Rattle.acgrep.specs.Files.{AreFilesBegun, AreSearchedOr, files_named};
 ghost use Rattle.acgrep.specs.Folders.{known_by, tree_of};
-ghost use Rattle.acgrep.specs.Runs.{AsksToSearch, BeginsSearch, BeginsFor, GivesNone, IfSaid, IsJob, Searches, SearchesFor, SearchesSaid, are_empty, asks_none, form_asked, form_said, inverts, is_colored, kind_sought, knows_none, lists_finds, origins_of, selects_none, status_told, takes_any, words_sought};
+ghost use Rattle.acgrep.specs.Runs.{AsksToSearch, BeginsNoMatch, BeginsSearch, BeginsFor, GivesNone, IfSaid, IsJob, Searches, SearchesFor, SearchesSaid, WritesNoMatch, are_empty, asks_none, form_asked, form_said, inverts, is_colored, kind_sought, knows_none, lists_finds, origins_of, selects_none, status_told, takes_any, words_sought};
 ghost use Rattle.acgrep.specs.Searchers.{ForSearch, IsSearcherOf};
 
 use crate::arguments::{Given, Refusal, Source, Wrong, parse};
-use crate::below::search_operands;
 use crate::colors::{Screen, read_colors};
+use crate::counted::{end_counts, search_or_count};
 use crate::files::{Files, search_files};
 use crate::folders::Folders;
+use crate::format::Piece;
 use crate::help::{HELP, VERSION};
 use crate::keys::{read_keys, tell_ending, tell_refusal};
 use crate::open::Open;
@@ -34,6 +35,9 @@ use chromesquid::{MatchKind, Sink, write_whole};
 use programs::errors::Errors;
 use std::alloc::Global;
 use std::io::Read;
+
+/// What stands for a match that is counted: the number of its pattern.
+const NUMBER: &[Piece] = &[Piece::PatternNumber];
 
 /// Does what the arguments after the program's name ask for, and answers the exit status: 0 where a line was selected, 1 where
 /// none was, or 0 there too under `--no-match-ok`, and 2 where an error occurred. `screen` says what is known of the output's colours.
@@ -277,7 +281,7 @@ fn search<F: Open + Folders, R: Read, W: Sink, E: Sink>(
     let all = patterns.as_slice();
     let words = sought(flags, all);
     if knows_none(flags, words) {
-        return 1;
+        return end_unsearched(alloc, flags, all, output, errors);
     }
     if let Some(number) = first_holding(words, flags.ending()) {
         tell_ending(&keys, sources, number, errors);
@@ -290,12 +294,36 @@ fn search<F: Open + Folders, R: Read, W: Sink, E: Sink>(
     };
     let listed = lists_finds(flags, screen.colored);
     match Searcher::build(alloc, kind_sought(flags), flags.ignore_case, words, listed) {
-        Ok(searcher) => search_operands(&searcher, given, screen, &named, input, output, errors),
+        Ok(searcher) => search_or_count(
+            &searcher, given, screen, all, &named, input, output, errors,
+        ),
         Err(error) => {
             tell_refusal(&keys, sources, &error, errors);
             2
         }
     }
+}
+
+/// Ends a call of which it is known that no line is selected, and answers the status.
+fn end_unsearched<W: Sink, E: Sink>(
+    alloc: Global,
+    flags: &Flags,
+    patterns: &[&[u8]],
+    output: &mut W,
+    errors: &mut Errors<'_, E>,
+) -> u8
+    ensures status { (result ≡ 1) ⊎ (result ≡ 2) }
+    ensures written { result < 2 → WritesNoMatch flags.now (pieces_of patterns.now)
+        (W.taken output.old) (W.taken output.new) }
+    ensures begun { BeginsNoMatch flags.now (pieces_of patterns.now)
+        (W.taken output.old) (W.taken output.new) }
+    ensures silent { result < 2 → errors.new ≡ errors.old }
+    ensures told { result ≡ 2 → TellsCause E.Sink errors.old errors.new }
+{
+    if flags.asks_counts() {
+        return end_counts(alloc, patterns, b"", flags.ending(), 1, output, errors);
+    }
+    1
 }
 
 /// Searches these files by an automaton.
@@ -446,14 +474,17 @@ pub fn job_of<'a>(given: &'a Given<'_>, screen: &Screen<'a>, several: bool) -> J
         hushed: flags.no_messages,
         context: flags.context(),
         follows: false,
+        late: flags.asks_counts(),
     }
 }
 
-/// How a match is written with its fields: `--format` goes before `--json`.
+/// How a match is written with its fields: `--counts` goes before `--format`, and that before `--json`.
 fn form_of<'a>(given: &'a Given<'_>) -> Form<'a>
     ensures form { form_said result ≡ form_asked (said given.now) }
 {
-    if given.flags.formatted {
+    if given.flags.tallied {
+        Form::Pieces(NUMBER)
+    } else if given.flags.formatted {
         Form::Pieces(given.format.as_slice())
     } else {
         Form::Json

@@ -47,6 +47,8 @@ pub struct Job<'a> {
     pub context: Option<Context>,
     /// Whether lines of a file before were written.
     pub follows: bool,
+    /// Whether the output is written behind the last file.
+    pub late: bool,
 }
 
 impl<'a> Job<'a> {

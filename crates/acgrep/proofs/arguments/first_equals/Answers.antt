@@ -1,5 +1,5 @@
 -- The first equals sign, or none, was met.
-use Rattle.std.proofs.Common.{◌≡◌, ◌<◌, ap, arith, length, sym}
+use Rattle.std.proofs.Common.{ap, arith, sym}
 use Rattle.std.proofs.lemmas.List.Sums.{position_or_len_is}
 use Rattle.acgrep.specs.Arguments.{is_equals}
 use Rattle.acgrep.proofs.arguments.first_equals.Goals as goal

@@ -1,5 +1,5 @@
 -- The operands were chosen, or what is below them was found.
-use Rattle.std.proofs.Common.{◌≡◌, ◌∙◌, List, subst}
+use Rattle.std.proofs.Common.{List, subst}
 use Rattle.programs.specs.Names.{name_bytes, or_input}
 use Rattle.acgrep.specs.Arguments.{said}
 use Rattle.acgrep.specs.Folders.{AreChosen, missed_of, tree_of}

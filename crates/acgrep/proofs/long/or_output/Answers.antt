@@ -21,4 +21,5 @@ returns c =
     let e14 = then_option asked _ _ _ _ _ e13 c.or-14.ensures.found in
     let e15 = then_option asked _ _ _ _ _ e14 c.or-15.ensures.found in
     let e16 = then_option asked _ _ _ _ _ e15 c.or-16.ensures.found in
-    record { found = then_option asked _ _ _ _ _ e16 c.or-17.ensures.found }
+    let e17 = then_option asked _ _ _ _ _ e16 c.or-17.ensures.found in
+    record { found = then_option asked _ _ _ _ _ e17 c.or-18.ensures.found }

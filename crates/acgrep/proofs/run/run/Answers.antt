@@ -78,7 +78,7 @@ returns-in-Ok-clause-silent g c given is loud low =
     c.answer-status.ensures.bound bound c.finish.ensures.status c.answer-status.ensures.told c.finish.ensures.silent c.finish.ensures.told_before (λ low two. c.finish.ensures.told low two names) in
     let same : said c.in-Ok.given ≡ given = same_said (said_by (listed_bytes c.args.arguments.now)) given (said c.in-Ok.given) is c.in-Ok.ensures.read in
     let flags = c.in-Ok.given.flags in
-    told.silent low (λ quiet. not-quiet flags.quiet flags.names flags.lacking flags.count (flags.json || flags.formatted) flags.only_matching quiet (ap (λ (s : Said). s.flags.quiet) same ∙ loud))
+    told.silent low (λ quiet. not-quiet flags.quiet flags.names flags.lacking flags.count (flags.tallied || (flags.json || flags.formatted)) flags.only_matching quiet (ap (λ (s : Said). s.flags.quiet) same ∙ loud))
 
 pub returns-in-Err-clause-tells : goal.returns-in-Err-clause-tells
 returns-in-Err-clause-tells g c =

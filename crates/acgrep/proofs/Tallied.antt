@@ -1,0 +1,131 @@
+-- Lines that are counted, some after others, and what is told of their counts.
+use Rattle.std.proofs.Common.{◌≡◌, ℕ, suc, zero, ◌+◌, ◌-◌, ◌<◌, ◌^◌, min, Bool, true, false, inl, inr, List, [], ◌∷◌, ◌++◌, Some, None, length, refl, sym, ◌∙◌, ap, subst, arith, append-nil, append_assoc, length-set}
+use Rattle.std.specs.Prelude.{filter, if◌then◌else◌, slice_index, slice_set}
+use Rattle.std.proofs.lemmas.Bool.{cases_eq, eq-eqb, ne_eqb}
+use Rattle.std.proofs.lemmas.List.{get_or-set_same, get_or-set_other, length-map}
+use Rattle.acgrep.specs.Arguments.{number_by}
+use Rattle.acgrep.specs.Lines.{lines}
+use Rattle.acgrep.specs.Tallies.{CountsLines, CountsNumber, count_of, count_with, counts_table, is_that, rows_counted, rows_from, writes, zeros_of}
+
+-- the lines of two lists, one after the other
+count-both : (number : ℕ) (some more : List (List ℕ)) → count_of number (some ++ more) ≡ count_of number some + count_of number more
+count-both number [] more = let none : count_of number [] ≡ 0 = refl in omega (arith, none)
+count-both number (x ∷ some) more = by_test (writes number x) (count-both number some more)
+  where
+    by_test : (b : Bool) → length (filter (λ (line : List ℕ). writes number line) (some ++ more)) ≡ length (filter (λ (line : List ℕ). writes number line) some) + count_of number more
+        → length (if b then x ∷ filter (λ (line : List ℕ). writes number line) (some ++ more) else filter (λ (line : List ℕ). writes number line) (some ++ more))
+        ≡ length (if b then x ∷ filter (λ (line : List ℕ). writes number line) some else filter (λ (line : List ℕ). writes number line) some) + count_of number more
+    by_test true same = omega (arith, same)
+    by_test false same = same
+
+-- none is counted
+pub lines-none : (counts : List ℕ) → CountsLines [] counts counts
+lines-none counts = record { as_many = refl; grown = λ number within. omega arith }
+
+-- some, and then more
+pub lines-then : (some more : List (List ℕ)) (one two three : List ℕ) → CountsLines some one two → CountsLines more two three → CountsLines (some ++ more) one three
+lines-then some more one two three first second = record {
+  as_many = second.as_many ∙ first.as_many;
+  grown = λ number within.
+      omega (arith, count-both number some more, first.grown number within, second.grown number (omega (arith, first.as_many, within)));
+}
+
+-- whether a line is counted
+count-one : (number : ℕ) (line : List ℕ) (b : Bool) → writes number line ≡ b → count_of number (line ∷ []) ≡ (if b then 1 else 0)
+count-one number line b is = ap (λ (b : Bool). length (if b then line ∷ [] else [])) is ∙ by_test b
+  where
+    by_test : (b : Bool) → length (if b then line ∷ [] else []) ≡ (if b then 1 else 0)
+    by_test true = refl
+    by_test false = refl
+
+-- a line that writes no number is not
+pub line-none : (line : List ℕ) (counts : List ℕ) → number_by line ≡ None → CountsLines (line ∷ []) counts counts
+line-none line counts none = record {
+  as_many = refl;
+  grown = λ number within. omega (arith, count-one number line false (ap (is_that number) none));
+}
+
+-- one that writes another number is not
+other-number : (number other : ℕ) (line : List ℕ) → number_by line ≡ Some other → (number ≡ other → ⊥) → count_of number (line ∷ []) ≡ 0
+other-number number other line is not = count-one number line false (ap (is_that number) is ∙ ne_eqb other number (λ e. not (sym e)))
+
+-- its count is set anew
+pub number-set : (number : ℕ) (counts : List ℕ) (count : ℕ) → number < length counts → count ≡ count_with (slice_index counts number) 1 → CountsNumber number counts (slice_set counts number count)
+number-set own counts count within is line writes_own = record {
+  as_many = length-set counts own count;
+  grown = λ number below. elim (cases_eq number own) [
+    | inl same ↦
+        let one : count_of own (line ∷ []) ≡ 1 = count-one own line true (ap (is_that own) writes_own ∙ eq-eqb own own refl) in
+        ap (slice_index (slice_set counts own count)) same
+        ∙ get_or-set_same counts own count 0 within
+        ∙ is
+        ∙ ap (count_with (slice_index counts own)) (sym one)
+        ∙ ap (λ (n : ℕ). count_with (slice_index counts n) (count_of n (line ∷ []))) (sym same)
+    | inr other ↦
+        omega (arith, get_or-set_other counts own number count 0 other, other-number number own line writes_own other)
+  ];
+}
+
+-- or there is none
+pub number-past : (number : ℕ) (counts : List ℕ) → (number < length counts → ⊥) → CountsNumber number counts counts
+number-past own counts past line writes_own = record {
+  as_many = refl;
+  grown = λ number below.
+      omega (arith, other-number number own line writes_own (λ same. past (subst (λ (n : ℕ). n < length counts) same below)));
+}
+
+-- the lines of a text up to what is left of it were counted
+pub record Counted (ending : ℕ) (numbers left : List ℕ) (counts counts' : List ℕ) : Type 0 where
+  pub before : List (List ℕ)
+  pub cut : before ++ lines ending left ≡ lines ending numbers
+  pub are : CountsLines before counts counts'
+
+pub counted-start : (ending : ℕ) (numbers counts : List ℕ) → Counted ending numbers numbers counts counts
+counted-start ending numbers counts = record { before = []; cut = refl; are = lines-none counts }
+
+pub counted-step : (ending : ℕ) (numbers left rest line : List ℕ) (one two three : List ℕ) → lines ending left ≡ line ∷ lines ending rest → Counted ending numbers left one two → CountsLines (line ∷ []) two three
+    → Counted ending numbers rest one three
+counted-step ending numbers left rest line one two three first so_far more = record {
+  before = so_far.before ++ (line ∷ []);
+  cut = append_assoc so_far.before (line ∷ []) (lines ending rest) ∙ ap (λ (l : List (List ℕ)). so_far.before ++ l) (sym first) ∙ so_far.cut;
+  are = lines-then so_far.before (line ∷ []) one two three so_far.are more;
+}
+
+pub counted-end : (ending : ℕ) (numbers left one two : List ℕ) → left ≡ [] → Counted ending numbers left one two → CountsLines (lines ending numbers) one two
+counted-end ending numbers left one two none so_far =
+    let all : so_far.before ≡ lines ending numbers = sym (append-nil so_far.before) ∙ ap (λ (l : List ℕ). so_far.before ++ lines ending l) (sym none) ∙ so_far.cut in
+    subst (λ (l : List (List ℕ)). CountsLines l one two) all so_far.are
+
+-- what is told of counts
+rows-same : (number : ℕ) (patterns found : List (List ℕ)) (counts : List ℕ) → length counts ≡ length patterns
+    → ((i : ℕ) → i < length counts → slice_index counts i ≡ min (count_of (number + i) found) (2 ^ 64 - 1)) → rows_counted number patterns counts ≡ rows_from number patterns found
+rows-same number [] found counts as_many are = refl
+rows-same number (pattern ∷ patterns) found [] as_many are = absurd (omega (arith, as_many))
+rows-same number (pattern ∷ patterns) found (count ∷ counts) as_many are =
+    let here : number + 0 ≡ number = omega arith in
+    let first : count ≡ min (count_of number found) (2 ^ 64 - 1) = subst (λ (n : ℕ). count ≡ min (count_of n found) (2 ^ 64 - 1)) here (are 0 (omega arith)) in
+    let behind : (i : ℕ) → i < length counts → slice_index counts i ≡ min (count_of ((number + 1) + i) found) (2 ^ 64 - 1) =
+    λ i low. subst (λ (n : ℕ). slice_index counts i ≡ min (count_of n found) (2 ^ 64 - 1)) (omega arith) (are (suc i) (omega (arith, low))) in
+    let more : rows_counted (number + 1) patterns counts ≡ rows_from (number + 1) patterns found = rows-same (number + 1) patterns found counts (omega (arith, as_many)) behind in
+    rw first (rw more refl)
+
+zero-at : (patterns : List (List ℕ)) (i : ℕ) → slice_index (zeros_of patterns) i ≡ 0
+zero-at [] i = refl
+zero-at (pattern ∷ patterns) zero = refl
+zero-at (pattern ∷ patterns) (suc i) = zero-at patterns i
+
+-- where the lines of a text were counted from 0 on
+pub table-told : (ending : ℕ) (patterns : List (List ℕ)) (numbers counts : List ℕ) → CountsLines (lines ending numbers) (zeros_of patterns) counts → rows_counted 0 patterns counts ≡ counts_table ending patterns numbers
+table-told ending patterns numbers counts are =
+    let zeros : length (zeros_of patterns) ≡ length patterns = length-map patterns (λ pattern. 0) in
+    rows-same 0 patterns (lines ending numbers) counts (are.as_many ∙ zeros)
+    (λ i low.
+    let here : i ≡ 0 + i = omega arith in
+    let is : slice_index counts i ≡ min (count_of i (lines ending numbers)) (2 ^ 64 - 1) = omega (arith, are.grown i (omega (arith, are.as_many, low)), zero-at patterns i) in
+    subst (λ (n : ℕ). slice_index counts i ≡ min (count_of n (lines ending numbers)) (2 ^ 64 - 1)) here is)
+
+-- of no count nothing is
+pub rows-end : (number : ℕ) (patterns : List (List ℕ)) (counts : List ℕ) → length counts ≡ 0 → rows_counted number patterns counts ≡ []
+rows-end number [] counts none = refl
+rows-end number (pattern ∷ patterns) [] none = refl
+rows-end number (pattern ∷ patterns) (count ∷ counts) none = absurd (omega (arith, none))

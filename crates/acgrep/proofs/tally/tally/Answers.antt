@@ -1,0 +1,27 @@
+-- A line more is counted.
+use Rattle.std.proofs.Common.{◌≡◌, suc, ◌<◌, ◌∷◌, length, take, drop, sym, ◌∙◌, ap, add-one, arith}
+use Rattle.std.proofs.lemmas.Grind.{common_steps}
+use Rattle.acgrep.specs.Lines.{lines}
+use Rattle.acgrep.proofs.FirstLines.{lines_first}
+use Rattle.acgrep.proofs.Tallied.{counted-end, counted-start, counted-step}
+use Rattle.acgrep.proofs.Walking.{all-gone}
+use Rattle.acgrep.proofs.tally.tally.Goals as goal
+
+pub loop-rest-init : goal.loop-rest-init
+loop-rest-init c = counted-start c.args.ending c.args.numbers.now c.args.counts.now
+
+pub loop-rest-preserved : goal.loop-rest-preserved
+loop-rest-preserved c =
+    let rest = c.loop-rest.rest.now in
+    let end = c.line_end-end.result in
+    let full : 0 < length rest = grind (arith, common_steps, c.is_empty.ensures, c.loop-rest-test.true) in
+    let first = lines_first c.args.ending rest end full c.line_end-end.ensures.within c.line_end-end.ensures.none c.line_end-end.ensures.ends in
+    let left : c.behind-rest.result.now ≡ drop (suc end) rest = c.behind-rest.ensures.rest ∙ ap (λ n. drop n rest) (add-one end) in
+    let cut : lines c.args.ending rest ≡ take end rest ∷ lines c.args.ending c.behind-rest.result.now = first ∙ ap (λ l. take end rest ∷ lines c.args.ending l) (sym left) in
+    counted-step c.args.ending c.args.numbers.now rest c.behind-rest.result.now (take end rest) c.args.counts.now c.loop-rest.counts c.tally_line.new.counts cut c.loop-rest.invariant c.tally_line.ensures.counted
+
+pub returns : goal.returns
+returns c =
+    let rest = c.loop-rest.rest.now in
+    let none : length rest ≡ 0 = grind (arith, common_steps, c.is_empty.ensures, c.loop-rest-test.false) in
+    record { counted = counted-end c.args.ending c.args.numbers.now rest c.args.counts.now c.loop-rest.counts (all-gone rest none) c.loop-rest.invariant }
