@@ -600,5 +600,6 @@ fn job_for<'a>(job: &Job<'a>, name: &'a [u8], follows: bool) -> Job<'a>
         hushed: job.hushed,
         context: job.context,
         follows,
+        guards: job.guards,
     }
 }

@@ -66,6 +66,7 @@ fn main(rt: HostRuntime) -> ExitCode {
     };
     let screen = Screen {
         colored: rt.stdout().is_terminal() && has_colors(&rt),
+        terminal: rt.stdout().is_terminal(),
         colors: colors.as_slice(),
     };
     let noted = Noted::new(rt.stdout(), &reason);

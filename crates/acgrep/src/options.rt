@@ -109,7 +109,9 @@ pub enum Switch {
     Help,
     /// `-V`
     Version,
-    /// `-F`, `-a`, `-U` and `--line-buffered`: what is done without them too.
+    /// `-a`
+    Text,
+    /// `-F`, `-U` and `--line-buffered`: what is done without them too.
     Same,
 }
 
@@ -137,7 +139,8 @@ pub fn switch_of(letter: u8) -> Option<Switch>
         b'h' => Some(Switch::NoName),
         b'H' => Some(Switch::WithName),
         b'V' => Some(Switch::Version),
-        b'F' | b'a' | b'U' => Some(Switch::Same),
+        b'a' => Some(Switch::Text),
+        b'F' | b'U' => Some(Switch::Same),
         _ => None,
     }
 }
@@ -203,6 +206,8 @@ pub struct Flags {
     pub no_messages: bool,
     /// The last `-m`: how many lines of each file are selected at most.
     pub most: Option<u64>,
+    /// `-a`: on a terminal too all lines are written.
+    pub text: bool,
     /// `--help`.
     pub help: bool,
     /// `--version`.
@@ -246,6 +251,7 @@ impl Flags {
             no_match_ok: false,
             no_messages: false,
             most: None,
+            text: false,
             help: false,
             version: false,
         }
@@ -365,6 +371,7 @@ impl Flags {
             Switch::NoMessages => flags.no_messages = true,
             Switch::Help => flags.help = true,
             Switch::Version => flags.version = true,
+            Switch::Text => flags.text = true,
             Switch::Same => {}
         }
         flags

@@ -463,6 +463,14 @@ pub fn put_count<W: Write>(output: &mut W, style: &Style<'_>, count: u64) -> io:
     Ok(())
 }
 
+/// Writes that a file with a zero byte has a selected line.
+pub fn put_binary<W: Write>(output: &mut W, style: &Style<'_>) -> io::Result<()> {
+    output.write_all(b"acgrep: ")?;
+    output.write_all(style.name)?;
+    output.write_all(b": binary file matches\n")?;
+    Ok(())
+}
+
 /// Writes the name of a file on a line of its own, or with a zero byte behind it.
 pub fn put_name<W: Write>(output: &mut W, style: &Style<'_>) -> io::Result<()>
     ensures written { Puts W.Write output.old output.new result

@@ -442,6 +442,7 @@ pub fn job_of<'a>(given: &'a Given<'_>, screen: &Screen<'a>, several: bool) -> J
         hushed: flags.no_messages,
         context: flags.context(),
         follows: false,
+        guards: screen.terminal && !flags.text && writes_text(flags.shown()),
     }
 }
 
@@ -454,6 +455,11 @@ fn form_of<'a>(given: &'a Given<'_>) -> Form<'a>
     } else {
         Form::Json
     }
+}
+
+/// Whether lines or matches are written.
+fn writes_text(shown: Shown) -> bool {
+    matches!(shown, Shown::Lines | Shown::Matches)
 }
 
 /// Whether matches are coloured.

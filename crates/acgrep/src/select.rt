@@ -48,6 +48,8 @@ pub struct Job<'a> {
     pub context: Option<Context>,
     /// Whether lines of a file before were written.
     pub follows: bool,
+    /// Whether lines from the first on that holds a zero byte are not written.
+    pub guards: bool,
 }
 
 impl<'a> Job<'a> {
@@ -109,6 +111,15 @@ impl<'a> Job<'a> {
             Some(most) => count > 0 && most <= count,
             None => false,
         }
+    }
+
+    /// What is sought in the lines from the first on that holds a zero byte: one that is selected.
+    pub fn seeking(&self) -> Job<'a> {
+        let mut job = *self;
+        job.shown = Shown::Nothing;
+        job.most = None;
+        job.guards = false;
+        job
     }
 
     /// What is written of the lines around selected ones: under `-v` their matches are shown, and else not.
