@@ -59,5 +59,5 @@ pub fn variable<R: Env + Alloc<A = Global>>(rt: &R, name: &str) -> Result<Vec<u8
             }
         }
     }
-    Err(AllocError)
+    Ok(buffer)
 }

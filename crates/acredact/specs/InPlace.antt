@@ -8,12 +8,13 @@ use Rattle.aho_devices.specs.declared.adapters.FromRead.{FromRead}
 use Rattle.aho_devices.specs.declared.adapters.FromWrite.{FromWrite}
 use Rattle.programs.specs.Names.{is_input}
 use Rattle.programs.specs.Streams.{bytes_left, output_bytes}
-use Rattle.acredact.specs.Arguments.{Given}
+use Rattle.acredact.specs.Arguments.{Given, all_given}
 use Rattle.acredact.specs.Calls.{call_of, names_asked, reading_by, work_by}
 use Rattle.acredact.specs.Files.{AreRedacted, Work, redactor_of, work_of}
 use Rattle.acredact.specs.Into.{LeavesOld}
 use Rattle.acredact.specs.Loading.{AreGiven, AreLoaded, Loaded, key_lent, loaded_as}
 use Rattle.acredact.specs.Tables.{secrets_of}
+use Rattle.acredact.specs.declared.arguments.Item.{Item}
 use Rattle.acredact.specs.declared.files.Job.{Job}
 use Rattle.acredact.specs.declared.folder.Folder.{Ghosts as Folders}
 use Rattle.acredact.specs.declared.outputs.Outputs.{Ghosts as Places}
@@ -67,9 +68,9 @@ module _ {F X O Z : Type 0} (Writes : Writers Z) (D : Folders F X) (U : Places O
   PlacesJob job p result outputs outputs' = PlacesOutcome Writes U (work_of D job (redactor_of job p)) result outputs outputs'
 
   -- and of a call whose patterns were loaded as these rules, and whose key is this
-  abbrev pub LoadedPlaces : {Y : Type 0} → F → List Given → List Rule → Option (Bor (List ℕ)) → Result Bool Y → (outputs outputs' : O) → Type 0
-  LoadedPlaces folder given rules key result outputs outputs' =
-      PlacesOutcome Writes U (work_by (call_of D folder given) (loaded_as rules (key_lent key))) result outputs outputs'
+  abbrev pub LoadedPlaces : {Y : Type 0} → F → List Item → List Rule → Option (Bor (List ℕ)) → Result Bool Y → (outputs outputs' : O) → Type 0
+  LoadedPlaces folder items rules key result outputs outputs' =
+      PlacesOutcome Writes U (work_by (call_of D folder (all_given items)) (loaded_as rules (key_lent key))) result outputs outputs'
 
   module _ (folder : F) (left : Option (List ℕ)) (outputs outputs' : O) (given : List Given) where
     -- the patterns and the key were loaded, of the input with so many bytes left, and each file was replaced
@@ -95,11 +96,11 @@ module _ {F X O Z : Type 0} (Writes : Writers Z) (D : Folders F X) (U : Places O
     pub replaces : result ≡ Ok true → ReplacesAsked folder left outputs outputs' given
     pub keeps : KeepsEach folder left outputs outputs' given
 
-  abbrev pub AskedPlaces : {Y R : Type 0} {Reads : Readers R} → F → List Given → Result Bool Y → FromRead R Reads → (outputs outputs' : O) → Type 0
-  AskedPlaces folder given result input outputs outputs' = CalledPlaces folder (bytes_left input) given result outputs outputs'
+  abbrev pub AskedPlaces : {Y R : Type 0} {Reads : Readers R} → F → List Item → Result Bool Y → FromRead R Reads → (outputs outputs' : O) → Type 0
+  AskedPlaces folder items result input outputs outputs' = CalledPlaces folder (bytes_left input) (all_given items) result outputs outputs'
 
   -- and of one whose key is to be loaded, once its patterns were loaded as these rules
-  abbrev pub KeylessPlaces : {Y R : Type 0} {Reads : Readers R} → F → List Given → List Rule → Result Bool Y → FromRead R Reads → (outputs outputs' : O) → Type 0
-  KeylessPlaces folder given rules result input outputs outputs' = (left : Option (List ℕ))
-      → AreGiven (reading_by (call_of D folder given)) given (secrets_of rules) left (bytes_left input)
-      → CalledPlaces folder left given result outputs outputs'
+  abbrev pub KeylessPlaces : {Y R : Type 0} {Reads : Readers R} → F → List Item → List Rule → Result Bool Y → FromRead R Reads → (outputs outputs' : O) → Type 0
+  KeylessPlaces folder items rules result input outputs outputs' = (left : Option (List ℕ))
+      → AreGiven (reading_by (call_of D folder (all_given items))) (all_given items) (secrets_of rules) left (bytes_left input)
+      → CalledPlaces folder left (all_given items) result outputs outputs'

@@ -23,7 +23,9 @@ use crate::load::{key_of, lists_of, rules};
 use crate::outputs::Outputs;
 use crate::patterns::{Rule, patterns_of, replacements_of};
 use crate::rows::build;
-use crate::run::{FAILED, gives_pattern, key_by, names, redact_by, report, tell_counted, text_of, warn};
+use crate::run::{
+    FAILED, gives_pattern, key_by, names, redact_by, report, tell_counted, text_of, warn,
+};
 use crate::streams::Streams;
 use crate::summary::Volume;
 use aho_automaton::automaton::Automaton;
@@ -115,7 +117,7 @@ fn load_places<'a, F: Folder, O: Outputs, I: Read, E: Sink>(
     outputs: &mut O,
     streams: &mut Streams<'_, I, O::File, E>,
 ) -> Result<bool, Failure<'a>>
-    ensures outcome { AskedPlaces O.File.Write F.Folder O.Outputs folder.now (all_given given.now) result
+    ensures outcome { AskedPlaces O.File.Write F.Folder O.Outputs folder.now given.now result
         streams.old.input outputs.old outputs.new }
 {
     if !gives_pattern(given) {
@@ -139,7 +141,7 @@ fn load_key<'a, F: Folder, O: Outputs, I: Read, E: Sink>(
     streams: &mut Streams<'_, I, O::File, E>,
 ) -> Result<bool, Failure<'a>>
     requires some { HaveNoEmpty (secrets_of rules.now) }
-    ensures outcome { KeylessPlaces O.File.Write F.Folder O.Outputs folder.now (all_given given.now) rules.now
+    ensures outcome { KeylessPlaces O.File.Write F.Folder O.Outputs folder.now given.now rules.now
         result streams.old.input outputs.old outputs.new }
 {
     let lists = lists_of(alloc, given, folder);
@@ -165,7 +167,7 @@ fn place_counted<'a, F: Folder, O: Outputs, I: Read, E: Sink>(
 ) -> Result<bool, Failure<'a>>
     requires some { HaveNoEmpty (secrets_of rules.now) }
     ensures outcome { LoadedPlaces O.File.Write F.Folder O.Outputs
-        folder.now (all_given given.now) rules.now key.entry result outputs.old outputs.new }
+        folder.now given.now rules.now key.entry result outputs.old outputs.new }
 {
     let counted = counts(given);
     let mut tally = counts_of(alloc, rules, counted)?;
@@ -202,7 +204,7 @@ fn place_all<'a, F: Folder, O: Outputs, I: Read, E: Sink>(
 ) -> Result<bool, Failure<'a>>
     requires some { HaveNoEmpty (secrets_of rules.now) }
     ensures outcome { LoadedPlaces O.File.Write F.Folder O.Outputs
-        folder.now (all_given given.now) rules.now key.entry result outputs.old outputs.new }
+        folder.now given.now rules.now key.entry result outputs.old outputs.new }
 {
     let patterns = patterns_of(alloc, rules)?;
     let text = text_of(given);

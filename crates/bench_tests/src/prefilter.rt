@@ -185,37 +185,76 @@ fn a_packed_search_comes_before_the_first_bytes_of_words(rt: HostRuntime) -> Res
     Ok(())
 }
 
-/// The quickest prefilter of so many patterns of six bytes.
+/// The quickest prefilter of so many patterns of so many bytes, six at most.
 fn quickest_of(
     alloc: Global,
     count: u8,
+    len: usize,
     ignore_case: bool,
-) -> Result<Option<Prefilter>, AllocError> {
+) -> Result<Option<Prefilter>, AllocError>
+    requires short { len ≤ 6 }
+{
     let mut words = Vec::new(alloc);
     for number in 0..count {
         words.push([number, b'a', b'b', b'c', b'd', b'e'])?;
     }
     let mut patterns: Vec<&[u8]> = Vec::new(alloc);
     for word in &words {
-        patterns.push(word.as_slice())?;
+        patterns.push(&word[..len])?;
     }
     Prefilter::quickest(alloc, ignore_case, patterns.as_slice())
 }
 
+/// By what such a prefilter searches. A packed search stops where three bytes are those of a pattern, one with heads does not.
+fn searches_by(held: Option<Prefilter>) -> &'static str {
+    let Some(prefilter) = held else {
+        return "none";
+    };
+    if prefilter.memory_usage() > 0 {
+        return "strided";
+    }
+    let begun = prefilter.find_in(b"\x00ab...", Span { start: 0, end: 6 });
+    if begun.into_option().is_some() {
+        "packed"
+    } else {
+        "packed with heads"
+    }
+}
+
+#[test]
+fn the_quickest_is_held_by_number_and_length(rt: HostRuntime) -> Result<(), Fail> {
+    let rows: [(u8, usize, &str); 9] = [
+        (7, 6, "packed"),
+        (8, 6, "packed with heads"),
+        (32, 6, "packed with heads"),
+        (33, 5, "packed with heads"),
+        (33, 6, "strided"),
+        (100, 2, "packed"),
+        (100, 5, "packed with heads"),
+        (101, 4, "none"),
+        (101, 5, "strided"),
+    ];
+    for (count, len, wanted) in &rows {
+        let held = quickest_of(rt.alloc(), *count, *len, false)?;
+        assert_same(&rt, searches_by(held), *wanted);
+    }
+    Ok(())
+}
+
 #[test]
 fn a_strided_search_is_held_for_more_than_thirty_two(rt: HostRuntime) -> Result<(), Fail> {
-    let few = quickest_of(rt.alloc(), 32, false)?.expect(&rt, "a prefilter");
+    let few = quickest_of(rt.alloc(), 32, 6, false)?.expect(&rt, "a prefilter");
     assert_same(&rt, few.memory_usage(), 0);
-    let both_cases = quickest_of(rt.alloc(), 33, true)?.expect(&rt, "a prefilter");
+    let both_cases = quickest_of(rt.alloc(), 33, 6, true)?.expect(&rt, "a prefilter");
     assert_same(&rt, both_cases.memory_usage(), 8 * (99 + 64));
-    let many = quickest_of(rt.alloc(), 33, false)?.expect(&rt, "a prefilter");
+    let many = quickest_of(rt.alloc(), 33, 6, false)?.expect(&rt, "a prefilter");
     assert_same(&rt, many.memory_usage(), 8 * (99 + 64));
     Ok(())
 }
 
 #[test]
 fn a_strided_search_stops_where_a_pattern_stands(rt: HostRuntime) -> Result<(), Fail> {
-    let held = quickest_of(rt.alloc(), 40, false)?.expect(&rt, "a prefilter");
+    let held = quickest_of(rt.alloc(), 40, 6, false)?.expect(&rt, "a prefilter");
     let short = held.find_in(b"..\x07abcde", Span { start: 0, end: 8 });
     assert_same(&rt, short.into_option(), Some(2));
     let cut = held.find_in(b"..\x07abcde", Span { start: 0, end: 7 });

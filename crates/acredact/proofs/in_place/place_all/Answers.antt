@@ -1,7 +1,8 @@
 -- Both automata are of the patterns that are asked for, and there is a replacement for each.
 use Rattle.std.proofs.Common.{rules, ◌≡◌, ◌≤◌, ◌∙◌, ap, sym, subst, length, map, true, List, ℕ}
 use Rattle.std.specs.Option.{option_map}
-use Rattle.std.specs.Prelude.{Bool, IfSome, IsOk, None, Option, Some, Err, Result}
+use Rattle.std.specs.Prelude.{Bool, IfSome, IsOk, None, Option, Some, Ok, Err, Result}
+use Rattle.std.specs.Result.{IsErr, IsErrAnd}
 use Rattle.std.specs.Borrow.{Bor}
 use Rattle.std.proofs.lemmas.List.{length-map}
 use Rattle.aho_core.specs.Laws.{shortest}
@@ -37,6 +38,11 @@ use Rattle.acredact.proofs.Placed.{places_none}
 use Rattle.acredact.proofs.in_place.place_all.Goals.{After-as_ref}
 use Rattle.acredact.proofs.in_place.place_all.Given.{Over}
 use Rattle.acredact.proofs.in_place.place_all.Goals as goal
+
+-- what is answered where a call before was refused
+err_is : (r : Result Bool Failure) (e : Failure) → IsErr r → IsErrAnd r (λ failure. failure ≡ e) → r ≡ Err e
+err_is (Ok all) e is and = absurd (cc)
+err_is (Err failure) e is and = ap Err and
 
 words_are : (g : Over) (c : After-as_ref g) → pieces_of c.as_slice-words.result.now ≡ patterns_in (secrets_of c.args.rules.now)
 words_are g c = ap pieces_of c.as_slice-words.ensures.value ∙ c.in_ok-patterns.ensures.patterns
@@ -127,13 +133,13 @@ returns-in_err-nfa g c =
 pub returns-in_err-rows : goal.returns-in_err-rows
 returns-in_err-rows g c =
     let work = work_by (call_of g.F.Folder c.args.folder.now (all_given c.args.given.now)) (loaded_as c.args.rules.now (key_lent c.args.key)) in
-    let is : c.from_residual-in_err-rows.result ≡ Err (Other OutOfMemory) = search rules in
+    let is = err_is c.from_residual-in_err-rows.result (Other OutOfMemory) c.from_residual-in_err-rows.ensures.0 c.from_residual-in_err-rows.ensures.1 in
     record { outcome = subst (λ (r : Result Bool Failure). PlacesOutcome g.O.File.Write g.O.Outputs work r c.args.outputs.now c.args.outputs.now) (sym is) (places_none g.O.File.Write g.O.Outputs work _ _) }
 
 pub returns-in_err-back : goal.returns-in_err-back
 returns-in_err-back g c =
     let work = work_by (call_of g.F.Folder c.args.folder.now (all_given c.args.given.now)) (loaded_as c.args.rules.now (key_lent c.args.key)) in
-    let is : c.from_residual-in_err-back.result ≡ Err (Other OutOfMemory) = search rules in
+    let is = err_is c.from_residual-in_err-back.result (Other OutOfMemory) c.from_residual-in_err-back.ensures.0 c.from_residual-in_err-back.ensures.1 in
     record { outcome = subst (λ (r : Result Bool Failure). PlacesOutcome g.O.File.Write g.O.Outputs work r c.args.outputs.now c.args.outputs.now) (sym is) (places_none g.O.File.Write g.O.Outputs work _ _) }
 
 pub returns : goal.returns
