@@ -191,16 +191,14 @@ fn quickest_of(
     count: u8,
     len: usize,
     ignore_case: bool,
-) -> Result<Option<Prefilter>, AllocError>
-    requires short { len ≤ 6 }
-{
+) -> Result<Option<Prefilter>, AllocError> {
     let mut words = Vec::new(alloc);
     for number in 0..count {
         words.push([number, b'a', b'b', b'c', b'd', b'e'])?;
     }
     let mut patterns: Vec<&[u8]> = Vec::new(alloc);
     for word in &words {
-        patterns.push(&word[..len])?;
+        patterns.push(&word[..len.min(word.len())])?;
     }
     Prefilter::quickest(alloc, ignore_case, patterns.as_slice())
 }
