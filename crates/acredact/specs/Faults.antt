@@ -3,7 +3,7 @@ use Rattle.std.specs.Prelude.{Bool, true, false, Option, Some, None, Result, Ok,
 use Rattle.aho_core.specs.declared.error.stream.StreamError.{StreamError}
 use Rattle.aho_core.specs.declared.error.stream.StreamError.TheVariants.{Match, Read, Write, WriteZero, Memory, PositionLimit}
 use Rattle.programs.specs.declared.reason.Reason.{Reason}
-use Rattle.programs.specs.declared.reason.Reason.TheVariants.{NotFound, Denied, Directory, NoDirectory, Links, LongName, Invalid, Full, TooLarge, Quota, Interrupted, Unavailable, Closed, OutOfMemory, PositionLimit as TooLong, ReadFault, Fault}
+use Rattle.programs.specs.declared.reason.Reason.TheVariants.{NotFound, Denied, Directory, Irregular, NoDirectory, Links, LongName, Invalid, Full, TooLarge, Quota, Interrupted, Unavailable, Closed, OutOfMemory, PositionLimit as TooLong, ReadFault, Fault}
 
 -- a stream's: a device fails, it is too long, or memory runs out
 abbrev pub IsStreamEnd : StreamError → Type 0
@@ -38,6 +38,7 @@ abbrev pub IsReadReason : Reason → Type 0
 IsReadReason NotFound = ⊥
 IsReadReason Denied = ⊥
 IsReadReason Directory = ⊥
+IsReadReason Irregular = ⊥
 IsReadReason NoDirectory = ⊥
 IsReadReason Links = ⊥
 IsReadReason LongName = ⊥
@@ -59,6 +60,7 @@ is_unread (Ok None) = false
 is_unread (Ok (Some NotFound)) = false
 is_unread (Ok (Some Denied)) = false
 is_unread (Ok (Some Directory)) = false
+is_unread (Ok (Some Irregular)) = false
 is_unread (Ok (Some NoDirectory)) = false
 is_unread (Ok (Some Links)) = false
 is_unread (Ok (Some LongName)) = false

@@ -7,7 +7,7 @@ use Rattle.aho_devices.specs.declared.adapters.FromRead.{FromRead}
 use Rattle.programs.specs.Names.{is_input}
 use Rattle.programs.specs.Streams.{bytes_left}
 use Rattle.programs.specs.declared.reason.Reason.{Reason}
-use Rattle.programs.specs.declared.reason.Reason.TheVariants.{NotFound, Denied, Directory, NoDirectory, Links, LongName, Invalid, Full, TooLarge, Quota, Interrupted, Unavailable, Closed, OutOfMemory, PositionLimit, ReadFault, Fault}
+use Rattle.programs.specs.declared.reason.Reason.TheVariants.{NotFound, Denied, Directory, Irregular, NoDirectory, Links, LongName, Invalid, Full, TooLarge, Quota, Interrupted, Unavailable, Closed, OutOfMemory, PositionLimit, ReadFault, Fault}
 use Rattle.acredact.specs.Arguments.{Given, last_value}
 use Rattle.acredact.specs.LineFaults.{IsLineFault, IsListFault}
 use Rattle.acredact.specs.Reads.{OfName, ReadsText}
@@ -172,6 +172,7 @@ is_failed_text (Ok text) = false
 is_failed_text (Err NotFound) = false
 is_failed_text (Err Denied) = false
 is_failed_text (Err Directory) = false
+is_failed_text (Err Irregular) = false
 is_failed_text (Err NoDirectory) = false
 is_failed_text (Err Links) = false
 is_failed_text (Err LongName) = false

@@ -167,7 +167,7 @@ fn permissions_of<R: Files>(rt: &R, name: &str) -> Result<Option<Permissions>, R
     match fs::symlink_metadata(rt, name) {
         Ok(metadata) if metadata.is_file() => Ok(Some(metadata.permissions())),
         Ok(metadata) if metadata.is_dir() => Err(Reason::Directory),
-        Ok(_) => Err(Reason::Invalid),
+        Ok(_) => Err(Reason::Irregular),
         Err(error) => {
             if error.kind() == ErrorKind::NotFound {
                 return Ok(None);

@@ -1,7 +1,7 @@
 -- A message on standard error: `PROGRAM: NAME: line N: CAUSE` and a line end.
 use Rattle.std.specs.Prelude.{ℕ, List, [], ◌++◌, Option, Some, None, codes, decimal}
 use Rattle.programs.specs.declared.reason.Reason.{Reason}
-use Rattle.programs.specs.declared.reason.Reason.TheVariants.{NotFound, Denied, Directory, NoDirectory, Links, LongName, Invalid, Full, TooLarge, Quota, Interrupted, Unavailable, Closed, OutOfMemory, PositionLimit, ReadFault, Fault}
+use Rattle.programs.specs.declared.reason.Reason.TheVariants.{NotFound, Denied, Directory, Irregular, NoDirectory, Links, LongName, Invalid, Full, TooLarge, Quota, Interrupted, Unavailable, Closed, OutOfMemory, PositionLimit, ReadFault, Fault}
 
 -- what a message tells: of what and of which line of it, where it says that, and why something was not done
 pub record Message : Type 0 where
@@ -34,6 +34,7 @@ abbrev pub reason_text : Reason → List ℕ
 reason_text NotFound = codes "No such file or directory"
 reason_text Denied = codes "Permission denied"
 reason_text Directory = codes "Is a directory"
+reason_text Irregular = codes "Not a regular file"
 reason_text NoDirectory = codes "Not a directory"
 reason_text Links = codes "Too many levels of symbolic links"
 reason_text LongName = codes "File name too long"

@@ -17,6 +17,8 @@ pub enum Reason {
     Denied,
     /// It is a directory.
     Directory,
+    /// It is no regular file.
+    Irregular,
     /// A part of its name is no directory.
     NoDirectory,
     /// Its name leads through too many links.
@@ -79,6 +81,7 @@ impl Reason {
             Reason::NotFound => "No such file or directory",
             Reason::Denied => "Permission denied",
             Reason::Directory => "Is a directory",
+            Reason::Irregular => "Not a regular file",
             Reason::NoDirectory => "Not a directory",
             Reason::Links => "Too many levels of symbolic links",
             Reason::LongName => "File name too long",
