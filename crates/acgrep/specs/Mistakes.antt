@@ -4,10 +4,13 @@ use Rattle.programs.specs.Telling.{TellsBytes}
 use Rattle.programs.specs.declared.errors.Errors.{Errors}
 use Rattle.programs.specs.declared.reason.Reason.TheVariants.{OutOfMemory as NoMemory}
 use Rattle.aho_devices.specs.declared.device.Sink.{Ghosts as SinkGhosts}
-use Rattle.std.specs.Prelude.{◌≡◌, ◌⊎◌, ℕ, ◌==◌, ◌||◌, nat_lt, List, [], ◌∷◌, ◌++◌, Option, Some, None, Result, IfErr, codes, drop, length, take, if◌then◌else◌}
+use Rattle.std.specs.Prelude.{◌≡◌, ◌⊎◌, ℕ, ◌==◌, ◌||◌, nat_lt, List, [], ◌∷◌, ◌++◌, Option, Some, None, Result, Ok, Err, IfErr, codes, drop, length, take, if◌then◌else◌}
 use Rattle.std.specs.List.{after_first, before_first, concat, position_or_len}
 use Rattle.std.specs.Char.{is_ascii_digit}
 use Rattle.std.specs.Str.{bytes_eq}
+use Rattle.call_options.specs.Names.{meant}
+use Rattle.call_options.specs.declared.found.NotFound.{NotFound}
+use Rattle.call_options.specs.declared.found.NotFound.TheVariants.{UnknownName, Ambiguous}
 use Rattle.acgrep.specs.Arguments.{ReadSoFar, Said, argument_by, is_equals, nothing_said, number_by, numbered, switch_by}
 use Rattle.acgrep.specs.Long.{found_by, option_by}
 use Rattle.acgrep.specs.Told.{TellsWrong, color_parts, format_parts, kind_parts, letter_parts, name_parts, number_parts, several_parts, taken_parts, unargued_parts, valued_name, wrong_parts}
@@ -16,8 +19,6 @@ use Rattle.acgrep.specs.declared.arguments.Awaited.TheVariants.{Fresh, Argument,
 use Rattle.acgrep.specs.declared.arguments.Refusal.{Refusal}
 use Rattle.acgrep.specs.declared.arguments.Refusal.TheVariants.{Wrong, OutOfMemory}
 use Rattle.acgrep.specs.declared.arguments.Wrong.TheVariants.{NoPattern}
-use Rattle.acgrep.specs.declared.long.Found.{Found}
-use Rattle.acgrep.specs.declared.long.Found.TheVariants.{Unknown, Begun, Several, Whole}
 use Rattle.acgrep.specs.declared.long.Long.{Long}
 use Rattle.acgrep.specs.declared.long.Long.TheVariants.{Plain, Takes, When}
 use Rattle.acgrep.specs.declared.long.Valued.{Valued}
@@ -42,14 +43,13 @@ wrong_value Excluded argument = []
 wrong_value ExcludedFolder argument = []
 
 -- of a long name that means no option
-abbrev pub wrong_found : Found → List ℕ → List (List ℕ)
-wrong_found Unknown name = name_parts name
-wrong_found (Begun long) name = []
-wrong_found Several name = several_parts name
-wrong_found (Whole long) name = []
+abbrev pub wrong_found : Result Long NotFound → List ℕ → List (List ℕ)
+wrong_found (Ok long) name = []
+wrong_found (Err UnknownName) name = name_parts name
+wrong_found (Err Ambiguous) name = several_parts name
 
 abbrev pub wrong_name : List ℕ → List (List ℕ)
-wrong_name name = wrong_found (found_by name) name
+wrong_name name = wrong_found (meant (found_by name)) name
 
 -- of a long name with an argument behind an equals sign, where its option cannot have that one
 abbrev pub wrong_joined : Option Long → (name value : List ℕ) → List (List ℕ)

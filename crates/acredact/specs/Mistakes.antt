@@ -1,7 +1,10 @@
 -- What is wrong with arguments, and how it is told.
-use Rattle.std.specs.Prelude.{◌≡◌, ◌⊎◌, ℕ, ◌==◌, ◌++◌, List, [], ◌∷◌, Option, Some, None, Result, IfErr, codes, drop, length, nat_lt, take, Vec, if◌then◌else◌}
+use Rattle.std.specs.Prelude.{◌≡◌, ◌⊎◌, ℕ, ◌==◌, ◌++◌, List, [], ◌∷◌, Option, Some, None, Result, Ok, Err, IfErr, codes, drop, length, nat_lt, take, Vec, if◌then◌else◌}
 use Rattle.std.specs.List.{after_first, before_first, position_or_len}
 use Rattle.std.specs.Str.{bytes_eq}
+use Rattle.call_options.specs.Names.{meant}
+use Rattle.call_options.specs.declared.found.NotFound.{NotFound}
+use Rattle.call_options.specs.declared.found.NotFound.TheVariants.{UnknownName as NoName, Ambiguous as SeveralNames}
 use Rattle.acredact.specs.Arguments.{Given, ItemsSoFar, all_given, by_argument, given_by, is_equals_sign, mixture_of, option_name, takes_value}
 use Rattle.acredact.specs.Long.{found_of_name, word_by_name}
 use Rattle.acredact.specs.Messages.{alone, told_line}
@@ -13,8 +16,6 @@ use Rattle.acredact.specs.declared.arguments.Mistake.TheVariants.{UnknownLetter,
 use Rattle.acredact.specs.declared.arguments.Mixture.{Mixture}
 use Rattle.acredact.specs.declared.arguments.Mixture.TheVariants.{StrictKind, PseudonymKind, PseudonymWith, PseudonymTable, CountCheck, SummaryCheck, OutputCheck, InPlaceCheck, InPlaceOutput}
 use Rattle.acredact.specs.declared.arguments.Word.{Word}
-use Rattle.acredact.specs.declared.long.Found.{Found}
-use Rattle.acredact.specs.declared.long.Found.TheVariants.{Unknown, Begun, Several, Whole}
 
 -- what is told of options that do not go together
 abbrev pub mixture_text : Mixture → List ℕ
@@ -65,14 +66,13 @@ mistake_line (Mixed mixture) = told_line (alone (mixture_text mixture))
 mistake_line OutOfMemory = told_line (alone (codes "out of memory"))
 
 -- what is told of a long name that means no option
-abbrev pub line_of_found : Found → List ℕ → List ℕ
-line_of_found Unknown name = name_line name
-line_of_found (Begun word) name = []
-line_of_found Several name = several_line name
-line_of_found (Whole word) name = []
+abbrev pub line_of_found : Result Word NotFound → List ℕ → List ℕ
+line_of_found (Ok word) name = []
+line_of_found (Err NoName) name = name_line name
+line_of_found (Err SeveralNames) name = several_line name
 
 abbrev pub line_of_name : List ℕ → List ℕ
-line_of_name name = line_of_found (found_of_name name) name
+line_of_name name = line_of_found (meant (found_of_name name)) name
 
 -- of a long name with a value behind an equals sign, where its option cannot have that one
 abbrev pub line_of_joined : Option Word → (name value : List ℕ) → List ℕ

@@ -1,5 +1,5 @@
 -- One option after another.
-use Rattle.acgrep.proofs.LongNames.{then_option}
+use Rattle.call_options.proofs.Names.{then_option}
 use Rattle.acgrep.proofs.long.or_others.Goals as goal
 
 pub returns : goal.returns
@@ -14,5 +14,4 @@ returns c =
     let e7 = then_option asked _ _ _ _ _ e6 c.or-7.ensures.found in
     let e8 = then_option asked _ _ _ _ _ e7 c.or-8.ensures.found in
     let e9 = then_option asked _ _ _ _ _ e8 c.or-9.ensures.found in
-    let e10 = then_option asked _ _ _ _ _ e9 c.or-10.ensures.found in
-    record { found = then_option asked _ _ _ _ _ e10 c.or-11.ensures.found }
+    record { found = then_option asked _ _ _ _ _ e9 c.or-10.ensures.found }
