@@ -10,10 +10,10 @@ use Rattle.std.specs.Char.{is_ascii_digit}
 use Rattle.std.specs.Str.{bytes_eq}
 use Rattle.call_options.specs.Names.{meant}
 use Rattle.call_options.specs.declared.found.NotFound.{NotFound}
-use Rattle.call_options.specs.declared.found.NotFound.TheVariants.{UnknownName, Ambiguous}
+use Rattle.call_options.specs.declared.misuse.Misuse.TheVariants.{UnknownLetter, NotFound as NoName, NoArgument, TakesNone}
 use Rattle.acgrep.specs.Arguments.{ReadSoFar, Said, argument_by, is_equals, nothing_said, number_by, numbered, switch_by}
 use Rattle.acgrep.specs.Long.{found_by, option_by}
-use Rattle.acgrep.specs.Told.{TellsWrong, color_parts, format_parts, kind_parts, letter_parts, name_parts, number_parts, several_parts, taken_parts, unargued_parts, valued_name, wrong_parts}
+use Rattle.acgrep.specs.Told.{TellsWrong, color_parts, format_parts, kind_parts, misuse_parts, number_parts, valued_name, wrong_parts}
 use Rattle.acgrep.specs.declared.arguments.Awaited.{Awaited}
 use Rattle.acgrep.specs.declared.arguments.Awaited.TheVariants.{Fresh, Argument, Operands}
 use Rattle.acgrep.specs.declared.arguments.Refusal.{Refusal}
@@ -45,8 +45,7 @@ wrong_value ExcludedFolder argument = []
 -- of a long name that means no option
 abbrev pub wrong_found : Result Long NotFound → List ℕ → List (List ℕ)
 wrong_found (Ok long) name = []
-wrong_found (Err UnknownName) name = name_parts name
-wrong_found (Err Ambiguous) name = several_parts name
+wrong_found (Err why) name = misuse_parts (NoName why) name
 
 abbrev pub wrong_name : List ℕ → List (List ℕ)
 wrong_name name = wrong_found (meant (found_by name)) name
@@ -54,7 +53,7 @@ wrong_name name = wrong_found (meant (found_by name)) name
 -- of a long name with an argument behind an equals sign, where its option cannot have that one
 abbrev pub wrong_joined : Option Long → (name value : List ℕ) → List (List ℕ)
 wrong_joined None name value = wrong_name name
-wrong_joined (Some (Plain switch)) name value = taken_parts name
+wrong_joined (Some (Plain switch)) name value = misuse_parts TakesNone name
 wrong_joined (Some (Takes valued)) name value = wrong_value valued value
 wrong_joined (Some When) name value = color_parts value
 
@@ -87,7 +86,7 @@ digits_value_of (digit ∷ digits) = number_by (digit ∷ digits)
 -- of a letter that gives no patterns, and those behind it
 abbrev pub wrong_else : Option Valued → ℕ → List ℕ → List (List ℕ) → List (List ℕ)
 wrong_else (Some valued) letter rest others = wrong_numbered valued rest
-wrong_else None letter rest others = if_none (switch_by letter) (letter_parts letter) others
+wrong_else None letter rest others = if_none (switch_by letter) (misuse_parts UnknownLetter (letter ∷ [])) others
 
 -- of a letter that is no digit, and those behind it; what stands behind that of an option with an argument is no letter
 abbrev pub wrong_letter : ℕ → List ℕ → List (List ℕ) → List (List ℕ)
@@ -121,7 +120,7 @@ mistake_at Operands argument = []
 -- an option has no argument at the end
 abbrev pub wrong_end : Awaited → Option (List (List ℕ))
 wrong_end Fresh = None
-wrong_end (Argument valued) = Some (unargued_parts (valued_name valued))
+wrong_end (Argument valued) = Some (misuse_parts NoArgument (valued_name valued))
 wrong_end Operands = None
 
 -- what is told of an argument where it is wrong, and else of those behind it

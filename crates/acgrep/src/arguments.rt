@@ -18,6 +18,7 @@ use crate::format::{Piece, read_format};
 use crate::long::{Long, Valued, option_of};
 use crate::options::{Color, Flags, switch_of};
 use crate::rules::{Rule, Sense, without_slashes};
+use call_options::found::NotFound;
 use chromesquid::MatchKind;
 use std::alloc::{AllocError, Global};
 use std::str;
@@ -55,10 +56,8 @@ pub enum Wrong<'a> {
     NoPattern,
     /// No option has this letter.
     UnknownLetter(u8),
-    /// No option has this long name.
-    UnknownName(&'a [u8]),
-    /// Several options have long names that begin so.
-    Ambiguous(&'a [u8]),
+    /// This long name means no option.
+    NotFound(NotFound, &'a [u8]),
     /// This option has no argument.
     NoArgument(Valued),
     /// The option of this long name has an argument, and takes none.

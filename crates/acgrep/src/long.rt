@@ -8,7 +8,7 @@ ghost use Rattle.call_options.specs.Names.{found_among};
 
 use crate::arguments::Wrong;
 use crate::options::Switch;
-use call_options::found::{Found, NotFound};
+use call_options::found::Found;
 
 /// An option that takes an argument.
 #[derive(Clone, Copy)]
@@ -64,8 +64,7 @@ pub fn option_of(name: &[u8]) -> Result<Long, Wrong<'_>>
 {
     match found_of(name).option() {
         Ok(long) => Ok(long),
-        Err(NotFound::Ambiguous) => Err(Wrong::Ambiguous(name)),
-        Err(NotFound::UnknownName) => Err(Wrong::UnknownName(name)),
+        Err(why) => Err(Wrong::NotFound(why, name)),
     }
 }
 

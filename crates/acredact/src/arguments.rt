@@ -8,6 +8,7 @@ ghost use Rattle.acredact.specs.Mistakes.{FailsAs, IsMistake, IsMistakeOfCall, T
 
 use crate::long::option_of;
 use aho_core::search::MatchKind;
+use call_options::found::NotFound;
 use std::alloc::{AllocError, Global};
 
 /// What an argument is, or the option that it is the value of.
@@ -99,10 +100,8 @@ pub enum Mixture {
 pub enum Mistake<'a> {
     /// No option has this letter.
     UnknownLetter(u8),
-    /// No option has this long name.
-    UnknownName(&'a [u8]),
-    /// Several options have long names that begin so.
-    Ambiguous(&'a [u8]),
+    /// This long name means no option.
+    NotFound(NotFound, &'a [u8]),
     /// The last argument is this option, which needs a value.
     NoValue(Word),
     /// The option of this long name has a value, and takes none.

@@ -6,7 +6,7 @@ ghost use Rattle.acredact.specs.Mistakes.{mistake_line, line_of_name};
 ghost use Rattle.call_options.specs.Names.{found_among};
 
 use crate::arguments::{Mistake, Word};
-use call_options::found::{Found, NotFound};
+use call_options::found::Found;
 
 /// The option of a long name, or of a beginning that no other option's name has.
 pub fn option_of(name: &[u8]) -> Result<Word, Mistake<'_>>
@@ -16,8 +16,7 @@ pub fn option_of(name: &[u8]) -> Result<Word, Mistake<'_>>
 {
     match found_of(name).option() {
         Ok(word) => Ok(word),
-        Err(NotFound::Ambiguous) => Err(Mistake::Ambiguous(name)),
-        Err(NotFound::UnknownName) => Err(Mistake::UnknownName(name)),
+        Err(why) => Err(Mistake::NotFound(why, name)),
     }
 }
 

@@ -1,4 +1,6 @@
-//! What the programs have in common that read options: the long names of options and their beginnings.
+//! What the programs have in common that read options: long names and their beginnings, and what is told of options that are misused.
 #![tactic(auto)]
 
+pub mod argument;
 pub mod found;
+pub mod misuse;
