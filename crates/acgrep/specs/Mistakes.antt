@@ -8,10 +8,11 @@ use Rattle.std.specs.Prelude.{◌≡◌, ◌⊎◌, ℕ, ◌==◌, ◌||◌, nat
 use Rattle.std.specs.List.{after_first, before_first, concat, position_or_len}
 use Rattle.std.specs.Char.{is_ascii_digit}
 use Rattle.std.specs.Str.{bytes_eq}
+use Rattle.call_options.specs.Forms.{Form, argument_form, joined_letters, long_name, long_with, no_more, no_option}
 use Rattle.call_options.specs.Names.{meant}
 use Rattle.call_options.specs.declared.found.NotFound.{NotFound}
 use Rattle.call_options.specs.declared.misuse.Misuse.TheVariants.{UnknownLetter, NotFound as NoName, NoArgument, TakesNone}
-use Rattle.acgrep.specs.Arguments.{ReadSoFar, Said, argument_by, is_equals, nothing_said, number_by, numbered, switch_by}
+use Rattle.acgrep.specs.Arguments.{ReadSoFar, Said, argument_by, nothing_said, number_by, numbered, switch_by}
 use Rattle.acgrep.specs.Long.{found_by, option_by}
 use Rattle.acgrep.specs.Told.{TellsWrong, color_parts, format_parts, kind_parts, misuse_parts, number_parts, valued_name, wrong_parts}
 use Rattle.acgrep.specs.declared.arguments.Awaited.{Awaited}
@@ -57,13 +58,6 @@ wrong_joined (Some (Plain switch)) name value = misuse_parts TakesNone name
 wrong_joined (Some (Takes valued)) name value = wrong_value valued value
 wrong_joined (Some When) name value = color_parts value
 
--- of what stands behind two hyphens
-abbrev pub wrong_long : List ℕ → List (List ℕ)
-wrong_long argument =
-    if nat_lt (position_or_len is_equals argument) (length argument)
-    then wrong_joined (option_by (before_first is_equals argument)) (before_first is_equals argument) (after_first is_equals argument)
-    else wrong_name argument
-
 -- the first where there is no value, and else the other
 abbrev pub if_none : {A : Type 0} → Option A → List (List ℕ) → List (List ℕ) → List (List ℕ)
 if_none None one other = one
@@ -103,15 +97,18 @@ wrong_from_digits digits (letter ∷ rest) =
 abbrev pub wrong_letters : List ℕ → List (List ℕ)
 wrong_letters letters = wrong_from_digits [] letters
 
--- of those behind a hyphen
-abbrev pub wrong_plain : List ℕ → List (List ℕ)
-wrong_plain [] = []
-wrong_plain (hyphen ∷ letters) = wrong_letters letters
+-- of an argument that stands where an option may, by what it is; an operand is never wrong
+abbrev pub wrong_form : Form → List (List ℕ)
+wrong_form no_more = []
+wrong_form (long_name name) = wrong_name name
+wrong_form (long_with name value) = wrong_joined (option_by name) name value
+wrong_form (joined_letters letters) = wrong_letters letters
+wrong_form no_option = []
 
 abbrev pub wrong_fresh : List ℕ → List (List ℕ)
-wrong_fresh argument = if bytes_eq (take 2 argument) (codes "--") then wrong_long (drop 2 argument) else wrong_plain argument
+wrong_fresh argument = wrong_form (argument_form argument)
 
--- of a wrong argument, by what the one before waits for; an operand is never wrong
+-- of a wrong argument, by what the one before waits for
 abbrev pub mistake_at : Awaited → List ℕ → List (List ℕ)
 mistake_at Fresh argument = wrong_fresh argument
 mistake_at (Argument valued) argument = wrong_value valued argument

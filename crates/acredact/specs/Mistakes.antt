@@ -3,11 +3,12 @@ use Rattle.std.specs.Prelude.{◌≡◌, ◌⊎◌, ℕ, ◌==◌, ◌++◌, Lis
 use Rattle.std.specs.List.{after_first, before_first, position_or_len}
 use Rattle.std.specs.Str.{bytes_eq}
 use Rattle.call_options.specs.Names.{meant}
-use Rattle.call_options.specs.declared.found.NotFound.{NotFound}
+use Rattle.call_options.specs.declared.found.NotFound.{NotFound as WhyNotFound}
+use Rattle.call_options.specs.Forms.{Form, argument_form, joined_letters, long_name, long_with, no_more, no_option}
 use Rattle.call_options.specs.Misuses.{text_before, text_behind}
 use Rattle.call_options.specs.declared.misuse.Misuse.{Misuse}
 use Rattle.call_options.specs.declared.misuse.Misuse.TheVariants.{UnknownLetter as NoLetter, NotFound as NoName, NoArgument, TakesNone as Argued}
-use Rattle.acredact.specs.Arguments.{Given, ItemsSoFar, all_given, by_argument, given_by, is_equals_sign, mixture_of, option_name, takes_value}
+use Rattle.acredact.specs.Arguments.{Given, ItemsSoFar, all_given, by_argument, given_by, mixture_of, option_name, takes_value}
 use Rattle.acredact.specs.Long.{found_of_name, word_by_name}
 use Rattle.acredact.specs.Messages.{alone, told_line}
 use Rattle.acredact.specs.declared.arguments.Expects.{Expects}
@@ -59,7 +60,7 @@ mistake_line (Mixed mixture) = told_line (alone (mixture_text mixture))
 mistake_line OutOfMemory = told_line (alone (codes "out of memory"))
 
 -- what is told of a long name that means no option
-abbrev pub line_of_found : Result Word NotFound → List ℕ → List ℕ
+abbrev pub line_of_found : Result Word WhyNotFound → List ℕ → List ℕ
 line_of_found (Ok word) name = []
 line_of_found (Err why) name = misuse_line (NoName why) name
 
@@ -71,13 +72,6 @@ abbrev pub line_of_joined : Option Word → (name value : List ℕ) → List ℕ
 line_of_joined None name value = line_of_name name
 line_of_joined (Some word) name value = if takes_value word then kind_line value else misuse_line Argued name
 
--- of what stands behind two hyphens
-abbrev pub line_of_long : List ℕ → List ℕ
-line_of_long argument =
-    if nat_lt (position_or_len is_equals_sign argument) (length argument)
-    then line_of_joined (word_by_name (before_first is_equals_sign argument)) (before_first is_equals_sign argument) (after_first is_equals_sign argument)
-    else line_of_name argument
-
 -- of the letter of no option
 abbrev pub line_of_letter : List ℕ → List ℕ
 line_of_letter [] = []
@@ -88,15 +82,18 @@ abbrev pub line_of_letters : List ℕ → List ℕ
 line_of_letters [] = []
 line_of_letters (letter ∷ rest) = if letter == 105 then line_of_letters rest else letter_line letter
 
--- of those behind a hyphen
-abbrev pub line_of_plain : List ℕ → List ℕ
-line_of_plain [] = []
-line_of_plain (hyphen ∷ letters) = line_of_letters letters
+-- of an argument that stands where an option may, by what it is; a file's name is never wrong
+abbrev pub line_of_form : Form → List ℕ
+line_of_form no_more = []
+line_of_form (long_name name) = line_of_name name
+line_of_form (long_with name value) = line_of_joined (word_by_name name) name value
+line_of_form (joined_letters letters) = line_of_letters letters
+line_of_form no_option = []
 
 abbrev pub line_of_any : List ℕ → List ℕ
-line_of_any argument = if bytes_eq (take 2 argument) (codes "--") then line_of_long (drop 2 argument) else line_of_plain argument
+line_of_any argument = line_of_form (argument_form argument)
 
--- of a wrong argument, by what is expected of it; a file's name is never wrong
+-- of a wrong argument, by what is expected of it
 abbrev pub line_of_argument : Expects → List ℕ → List ℕ
 line_of_argument Any argument = line_of_any argument
 line_of_argument (Value word) argument = kind_line argument

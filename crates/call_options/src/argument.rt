@@ -2,7 +2,7 @@
 
 ghost use Rattle.std.specs.Prelude.{◌≡◌};
 ghost use Rattle.std.specs.List.{position_or_len};
-ghost use Rattle.call_options.specs.Forms.{form_by, form_of, is_equals, long_form, short_form};
+ghost use Rattle.call_options.specs.Forms.{argument_form, form_of, is_equals, long_form, short_form};
 
 /// What stands before a long name, and alone ends the options.
 const HYPHENS: &[u8] = b"--";
@@ -23,9 +23,9 @@ pub enum Argument<T> {
 }
 
 /// What an argument of any bytes is.
-#[tactic(auto, unfolding(crate::specs::Forms::form_by))]
+#[tactic(auto, unfolding(crate::specs::Forms::argument_form))]
 pub fn argument_of(argument: &[u8]) -> Argument<&[u8]>
-    ensures form { form_of result ≡ form_by argument.now }
+    ensures form { form_of result ≡ argument_form argument.now }
 {
     if argument == HYPHENS {
         return Argument::End;
@@ -72,9 +72,9 @@ fn short_of(argument: &[u8]) -> Argument<&[u8]>
 }
 
 /// What an argument is that is text.
-#[tactic(auto, unfolding(crate::specs::Forms::form_by))]
+#[tactic(auto, unfolding(crate::specs::Forms::argument_form))]
 pub fn text_argument_of(argument: &str) -> Argument<&str>
-    ensures form { form_of result ≡ form_by argument.now }
+    ensures form { form_of result ≡ argument_form argument.now }
 {
     if argument == "--" {
         return Argument::End;

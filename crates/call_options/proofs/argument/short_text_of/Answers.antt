@@ -3,10 +3,10 @@ use Rattle.std.proofs.Common.{◌≡◌, ◌==◌, inl, inr, ℕ, List, [], ◌�
 use Rattle.std.specs.Prelude.{◌≢◌, None}
 use Rattle.std.proofs.lemmas.Bool.{cases_Bool, eqb-true}
 use Rattle.std.proofs.lemmas.Str.Pattern.{strip_prefix_char}
-use Rattle.call_options.specs.Forms.{plain, short_form}
+use Rattle.call_options.specs.Forms.{no_option, short_form}
 use Rattle.call_options.proofs.argument.short_text_of.Goals as goal
 
-no_hyphen : (text : List ℕ) → ((rest : List ℕ) → text ≢ 45 ∷ rest) → plain ≡ short_form text
+no_hyphen : (text : List ℕ) → ((rest : List ℕ) → text ≢ 45 ∷ rest) → no_option ≡ short_form text
 no_hyphen [] lacks = refl
 no_hyphen (first ∷ rest) lacks =
     elim (cases_Bool (first == 45)) [
