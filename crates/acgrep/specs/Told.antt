@@ -115,9 +115,13 @@ valued_name Included = codes "--include"
 valued_name Excluded = codes "--exclude"
 valued_name ExcludedFolder = codes "--exclude-dir"
 
+-- what is told of something that was given, between what stands before and behind it
+abbrev pub named_parts : (before name behind : List ℕ) → List (List ℕ)
+named_parts before name behind = codes "acgrep" ∷ codes ": " ∷ before ∷ name ∷ behind ∷ codes "\n" ∷ usage_text ∷ []
+
 -- an option that is called so is misused, or one of this letter or long name
 abbrev pub misuse_parts : Misuse → List ℕ → List (List ℕ)
-misuse_parts misuse name = codes "acgrep" ∷ codes ": " ∷ text_before misuse ∷ name ∷ text_behind misuse ∷ codes "\n" ∷ usage_text ∷ []
+misuse_parts misuse name = named_parts (text_before misuse) name (text_behind misuse)
 
 -- its argument is no number
 abbrev pub number_parts : (name argument : List ℕ) → List (List ℕ)

@@ -1,7 +1,7 @@
 //! What is told on standard error: why something was not done.
 
 ghost use Rattle.acgrep.specs.Mistakes.{memory_line};
-ghost use Rattle.acgrep.specs.Told.{TellsCause, TellsOfFile, TellsOfNamed, TellsWrong, misuse_parts, number_parts, unopened_by, unopened_line, valued_name};
+ghost use Rattle.acgrep.specs.Told.{TellsCause, TellsOfFile, TellsOfNamed, TellsWrong, misuse_parts, named_parts, number_parts, unopened_by, unopened_line, valued_name};
 ghost use Rattle.std.specs.List.{concat};
 ghost use Rattle.programs.specs.Telling.{TellsBytes};
 ghost use Rattle.std.specs.Prelude.{◌≡◌};
@@ -153,15 +153,15 @@ pub fn tell_wrong<E: Sink>(errors: &mut Errors<'_, E>, wrong: Wrong<'_>)
 fn tell_misuse<E: Sink>(misuse: Misuse, name: &[u8], errors: &mut Errors<'_, E>)
     ensures told { TellsBytes E.Sink errors.old errors.new (concat (misuse_parts misuse name.now)) }
 {
-    errors.write(&[
-        PROGRAM,
-        b": ",
-        misuse.before(),
-        name,
-        misuse.behind(),
-        b"\n",
-        USAGE,
-    ]);
+    tell_named(misuse.before(), name, misuse.behind(), errors);
+}
+
+/// Tells of something that was given, between what stands before and behind it, and how to get help.
+fn tell_named<E: Sink>(before: &[u8], name: &[u8], behind: &[u8], errors: &mut Errors<'_, E>)
+    ensures told { TellsBytes E.Sink errors.old errors.new
+        (concat (named_parts before.now name.now behind.now)) }
+{
+    errors.write(&[PROGRAM, b": ", before, name, behind, b"\n", USAGE]);
 }
 
 /// Tells that the argument of the option of a name is no number.
