@@ -6,6 +6,7 @@ use Rattle.std.specs.Str.{all_ascii_digits, bytes_eq}
 use Rattle.std.specs.List.{after_first, before_first, position_or_len}
 use Rattle.std.specs.Str.Parse.{digits_value}
 use Rattle.aho_core.specs.declared.search.MatchKind.TheVariants.{LeftmostLongest}
+use Rattle.call_options.specs.Forms.{Form, argument_form, joined_letters, long_name, long_with, no_more, no_option}
 use Rattle.acgrep.specs.declared.arguments.Given.{Given}
 use Rattle.acgrep.specs.Formats.{format_pieces}
 use Rattle.acgrep.specs.Long.{option_by}
@@ -295,31 +296,16 @@ valued_by When value s = color_by value s
 abbrev pub joined_by : (name value : List ℕ) → Said → Option ReadSoFar
 joined_by name value s = option_and_then (λ long. valued_by long value s) (option_by name)
 
--- what stands behind two hyphens
-abbrev pub is_equals : ℕ → Bool
-is_equals byte = byte == 61
+-- an argument that stands where an option may, by what it is
+abbrev pub form_read : Form → List ℕ → Said → Option ReadSoFar
+form_read no_more argument s = Some (record { awaits = Operands; said = s })
+form_read (long_name name) argument s = named_by name s
+form_read (long_with name value) argument s = joined_by name value s
+form_read (joined_letters letters) argument s = letters_by letters s
+form_read no_option argument s = Some (said_so (with_operand argument s))
 
-abbrev pub long_by : List ℕ → Said → Option ReadSoFar
-long_by argument s =
-    if nat_lt (position_or_len is_equals argument) (length argument) then joined_by (before_first is_equals argument) (after_first is_equals argument) s
-    else named_by argument s
-
--- what stands behind a hyphen; nothing makes the hyphen an operand
-abbrev pub behind_hyphen : List ℕ → Said → Option ReadSoFar
-behind_hyphen [] s = Some (said_so (with_operand (45 ∷ []) s))
-behind_hyphen (first ∷ rest) s = letters_by (first ∷ rest) s
-
--- an argument that is no long name
-abbrev pub plain_by : List ℕ → Said → Option ReadSoFar
-plain_by [] s = Some (said_so (with_operand [] s))
-plain_by (first ∷ rest) s = if first == 45 then behind_hyphen rest s else Some (said_so (with_operand (first ∷ rest) s))
-
--- an argument that stands where an option may
 abbrev pub fresh_by : List ℕ → Said → Option ReadSoFar
-fresh_by argument s =
-    if bytes_eq argument (codes "--") then Some (record { awaits = Operands; said = s })
-    else if bytes_eq (take 2 argument) (codes "--") then long_by (drop 2 argument) s
-    else plain_by argument s
+fresh_by argument s = form_read (argument_form argument) argument s
 
 -- an argument, by what the one before waits for
 abbrev pub argument_by : Awaited → List ℕ → Said → Option ReadSoFar

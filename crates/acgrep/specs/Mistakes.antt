@@ -4,20 +4,22 @@ use Rattle.programs.specs.Telling.{TellsBytes}
 use Rattle.programs.specs.declared.errors.Errors.{Errors}
 use Rattle.programs.specs.declared.reason.Reason.TheVariants.{OutOfMemory as NoMemory}
 use Rattle.aho_devices.specs.declared.device.Sink.{Ghosts as SinkGhosts}
-use Rattle.std.specs.Prelude.{◌≡◌, ◌⊎◌, ℕ, ◌==◌, ◌||◌, nat_lt, List, [], ◌∷◌, ◌++◌, Option, Some, None, Result, IfErr, codes, drop, length, take, if◌then◌else◌}
+use Rattle.std.specs.Prelude.{◌≡◌, ◌⊎◌, ℕ, ◌==◌, ◌||◌, nat_lt, List, [], ◌∷◌, ◌++◌, Option, Some, None, Result, Ok, Err, IfErr, codes, drop, length, take, if◌then◌else◌}
 use Rattle.std.specs.List.{after_first, before_first, concat, position_or_len}
 use Rattle.std.specs.Char.{is_ascii_digit}
 use Rattle.std.specs.Str.{bytes_eq}
-use Rattle.acgrep.specs.Arguments.{ReadSoFar, Said, argument_by, is_equals, nothing_said, number_by, numbered, switch_by}
+use Rattle.call_options.specs.Forms.{Form, argument_form, joined_letters, long_name, long_with, no_more, no_option}
+use Rattle.call_options.specs.Names.{meant}
+use Rattle.call_options.specs.declared.found.NotFound.{NotFound}
+use Rattle.call_options.specs.declared.misuse.Misuse.TheVariants.{UnknownLetter, NotFound as NoName, NoArgument, TakesNone}
+use Rattle.acgrep.specs.Arguments.{ReadSoFar, Said, argument_by, nothing_said, number_by, numbered, switch_by}
 use Rattle.acgrep.specs.Long.{found_by, option_by}
-use Rattle.acgrep.specs.Told.{TellsWrong, color_parts, format_parts, kind_parts, letter_parts, name_parts, number_parts, several_parts, taken_parts, unargued_parts, valued_name, wrong_parts}
+use Rattle.acgrep.specs.Told.{TellsWrong, color_parts, format_parts, kind_parts, misuse_parts, number_parts, valued_name, wrong_parts}
 use Rattle.acgrep.specs.declared.arguments.Awaited.{Awaited}
 use Rattle.acgrep.specs.declared.arguments.Awaited.TheVariants.{Fresh, Argument, Operands}
 use Rattle.acgrep.specs.declared.arguments.Refusal.{Refusal}
 use Rattle.acgrep.specs.declared.arguments.Refusal.TheVariants.{Wrong, OutOfMemory}
 use Rattle.acgrep.specs.declared.arguments.Wrong.TheVariants.{NoPattern}
-use Rattle.acgrep.specs.declared.long.Found.{Found}
-use Rattle.acgrep.specs.declared.long.Found.TheVariants.{Unknown, Begun, Several, Whole}
 use Rattle.acgrep.specs.declared.long.Long.{Long}
 use Rattle.acgrep.specs.declared.long.Long.TheVariants.{Plain, Takes, When}
 use Rattle.acgrep.specs.declared.long.Valued.{Valued}
@@ -42,28 +44,19 @@ wrong_value Excluded argument = []
 wrong_value ExcludedFolder argument = []
 
 -- of a long name that means no option
-abbrev pub wrong_found : Found → List ℕ → List (List ℕ)
-wrong_found Unknown name = name_parts name
-wrong_found (Begun long) name = []
-wrong_found Several name = several_parts name
-wrong_found (Whole long) name = []
+abbrev pub wrong_found : Result Long NotFound → List ℕ → List (List ℕ)
+wrong_found (Ok long) name = []
+wrong_found (Err why) name = misuse_parts (NoName why) name
 
 abbrev pub wrong_name : List ℕ → List (List ℕ)
-wrong_name name = wrong_found (found_by name) name
+wrong_name name = wrong_found (meant (found_by name)) name
 
 -- of a long name with an argument behind an equals sign, where its option cannot have that one
 abbrev pub wrong_joined : Option Long → (name value : List ℕ) → List (List ℕ)
 wrong_joined None name value = wrong_name name
-wrong_joined (Some (Plain switch)) name value = taken_parts name
+wrong_joined (Some (Plain switch)) name value = misuse_parts TakesNone name
 wrong_joined (Some (Takes valued)) name value = wrong_value valued value
 wrong_joined (Some When) name value = color_parts value
-
--- of what stands behind two hyphens
-abbrev pub wrong_long : List ℕ → List (List ℕ)
-wrong_long argument =
-    if nat_lt (position_or_len is_equals argument) (length argument)
-    then wrong_joined (option_by (before_first is_equals argument)) (before_first is_equals argument) (after_first is_equals argument)
-    else wrong_name argument
 
 -- the first where there is no value, and else the other
 abbrev pub if_none : {A : Type 0} → Option A → List (List ℕ) → List (List ℕ) → List (List ℕ)
@@ -87,7 +80,7 @@ digits_value_of (digit ∷ digits) = number_by (digit ∷ digits)
 -- of a letter that gives no patterns, and those behind it
 abbrev pub wrong_else : Option Valued → ℕ → List ℕ → List (List ℕ) → List (List ℕ)
 wrong_else (Some valued) letter rest others = wrong_numbered valued rest
-wrong_else None letter rest others = if_none (switch_by letter) (letter_parts letter) others
+wrong_else None letter rest others = if_none (switch_by letter) (misuse_parts UnknownLetter (letter ∷ [])) others
 
 -- of a letter that is no digit, and those behind it; what stands behind that of an option with an argument is no letter
 abbrev pub wrong_letter : ℕ → List ℕ → List (List ℕ) → List (List ℕ)
@@ -104,15 +97,18 @@ wrong_from_digits digits (letter ∷ rest) =
 abbrev pub wrong_letters : List ℕ → List (List ℕ)
 wrong_letters letters = wrong_from_digits [] letters
 
--- of those behind a hyphen
-abbrev pub wrong_plain : List ℕ → List (List ℕ)
-wrong_plain [] = []
-wrong_plain (hyphen ∷ letters) = wrong_letters letters
+-- of an argument that stands where an option may, by what it is; an operand is never wrong
+abbrev pub wrong_form : Form → List (List ℕ)
+wrong_form no_more = []
+wrong_form (long_name name) = wrong_name name
+wrong_form (long_with name value) = wrong_joined (option_by name) name value
+wrong_form (joined_letters letters) = wrong_letters letters
+wrong_form no_option = []
 
 abbrev pub wrong_fresh : List ℕ → List (List ℕ)
-wrong_fresh argument = if bytes_eq (take 2 argument) (codes "--") then wrong_long (drop 2 argument) else wrong_plain argument
+wrong_fresh argument = wrong_form (argument_form argument)
 
--- of a wrong argument, by what the one before waits for; an operand is never wrong
+-- of a wrong argument, by what the one before waits for
 abbrev pub mistake_at : Awaited → List ℕ → List (List ℕ)
 mistake_at Fresh argument = wrong_fresh argument
 mistake_at (Argument valued) argument = wrong_value valued argument
@@ -121,7 +117,7 @@ mistake_at Operands argument = []
 -- an option has no argument at the end
 abbrev pub wrong_end : Awaited → Option (List (List ℕ))
 wrong_end Fresh = None
-wrong_end (Argument valued) = Some (unargued_parts (valued_name valued))
+wrong_end (Argument valued) = Some (misuse_parts NoArgument (valued_name valued))
 wrong_end Operands = None
 
 -- what is told of an argument where it is wrong, and else of those behind it

@@ -11,6 +11,9 @@ use Rattle.programs.specs.Names.{IsOneOf, or_input}
 use Rattle.programs.specs.Telling.{Tells, TellsBytes, TellsSome}
 use Rattle.programs.specs.declared.errors.Errors.{Errors}
 use Rattle.programs.specs.declared.reason.Reason.{Reason}
+use Rattle.call_options.specs.Misuses.{text_before, text_behind}
+use Rattle.call_options.specs.declared.misuse.Misuse.{Misuse}
+use Rattle.call_options.specs.declared.misuse.Misuse.TheVariants.{UnknownLetter as NoLetter, NotFound as NoName, NoArgument as Unargued, TakesNone as Argued}
 use Rattle.acgrep.specs.Arguments.{Origin, Said, shown_by}
 use Rattle.acgrep.specs.Files.{shown_name}
 use Rattle.acgrep.specs.Folders.{Tree}
@@ -18,7 +21,7 @@ use Rattle.acgrep.specs.Formats.{unknown_in}
 use Rattle.acgrep.specs.Runs.{AreReached, names_by, origins_of, sources_by}
 use Rattle.acgrep.specs.declared.arguments.Source.{Source}
 use Rattle.acgrep.specs.declared.arguments.Wrong.{Wrong}
-use Rattle.acgrep.specs.declared.arguments.Wrong.TheVariants.{NoPattern, UnknownLetter, UnknownName, Ambiguous, NoArgument, TakesNone, UnknownKind, UnknownColor, UnknownField, NoNumber}
+use Rattle.acgrep.specs.declared.arguments.Wrong.TheVariants.{NoPattern, UnknownLetter, NotFound, NoArgument, TakesNone, UnknownKind, UnknownColor, UnknownField, NoNumber}
 use Rattle.acgrep.specs.declared.files.Outcome.{Outcome}
 use Rattle.acgrep.specs.declared.files.Outcome.TheVariants.{Searched, Unread, Stopped}
 use Rattle.acgrep.specs.declared.long.Valued.{Valued}
@@ -112,26 +115,18 @@ valued_name Included = codes "--include"
 valued_name Excluded = codes "--exclude"
 valued_name ExcludedFolder = codes "--exclude-dir"
 
--- an option of this name has no argument, or one that is no number
-abbrev pub unargued_parts : List ℕ → List (List ℕ)
-unargued_parts name = codes "acgrep: option '" ∷ name ∷ codes "' needs an argument\n" ∷ usage_text ∷ []
+-- what is told of something that was given, between what stands before and behind it
+abbrev pub named_parts : (before name behind : List ℕ) → List (List ℕ)
+named_parts before name behind = codes "acgrep" ∷ codes ": " ∷ before ∷ name ∷ behind ∷ codes "\n" ∷ usage_text ∷ []
 
+-- an option that is called so is misused, or one of this letter or long name
+abbrev pub misuse_parts : Misuse → List ℕ → List (List ℕ)
+misuse_parts misuse name = named_parts (text_before misuse) name (text_behind misuse)
+
+-- its argument is no number
 abbrev pub number_parts : (name argument : List ℕ) → List (List ℕ)
 number_parts name argument =
     codes "acgrep: option '" ∷ name ∷ codes "' takes a number below 2^64, not '" ∷ argument ∷ codes "'\n" ∷ usage_text ∷ []
-
--- no option has this letter or this long name, several have such a beginning, or this one takes no argument
-abbrev pub letter_parts : ℕ → List (List ℕ)
-letter_parts letter = codes "acgrep: unknown option '-" ∷ (letter ∷ []) ∷ codes "'\n" ∷ usage_text ∷ []
-
-abbrev pub name_parts : List ℕ → List (List ℕ)
-name_parts name = codes "acgrep: unknown option '--" ∷ name ∷ codes "'\n" ∷ usage_text ∷ []
-
-abbrev pub several_parts : List ℕ → List (List ℕ)
-several_parts name = codes "acgrep: several options begin with '--" ∷ name ∷ codes "'\n" ∷ usage_text ∷ []
-
-abbrev pub taken_parts : List ℕ → List (List ℕ)
-taken_parts name = codes "acgrep: option '--" ∷ name ∷ codes "' takes no argument\n" ∷ usage_text ∷ []
 
 -- there is no such match kind, or no such time for colours
 abbrev pub kind_parts : List ℕ → List (List ℕ)
@@ -150,11 +145,10 @@ format_parts format = field_parts (unknown_in format)
 -- why arguments are wrong, and how to get help
 abbrev pub wrong_parts : Wrong → List (List ℕ)
 wrong_parts NoPattern = codes "acgrep: no pattern is given\n" ∷ usage_text ∷ []
-wrong_parts (UnknownLetter letter) = letter_parts letter
-wrong_parts (UnknownName name) = name_parts name.now
-wrong_parts (Ambiguous name) = several_parts name.now
-wrong_parts (NoArgument valued) = unargued_parts (valued_name valued)
-wrong_parts (TakesNone name) = taken_parts name.now
+wrong_parts (UnknownLetter letter) = misuse_parts NoLetter (letter ∷ [])
+wrong_parts (NotFound why name) = misuse_parts (NoName why) name.now
+wrong_parts (NoArgument valued) = misuse_parts Unargued (valued_name valued)
+wrong_parts (TakesNone name) = misuse_parts Argued name.now
 wrong_parts (UnknownKind name) = kind_parts name.now
 wrong_parts (UnknownColor name) = color_parts name.now
 wrong_parts (UnknownField field) = field_parts field.now

@@ -4,26 +4,24 @@
 //! no other option's name has. Two hyphens end the options.
 
 ghost use Rattle.std.specs.Prelude.{◌≡◌, ◌≤◌, ◌<◌, Some, IfOk, IfErr, OnOk, length};
-ghost use Rattle.std.specs.List.{position_or_len};
 ghost use Rattle.programs.specs.Arguments.{kind_by};
-ghost use Rattle.acgrep.specs.Arguments.{AreDigits, FailsBy, ReadsBy, SaysMore, argument_by, color_by, color_named, fresh_by, is_equals, joined_by, letters_by, long_by, named_by, nothing_said, number_by, numbered, numbered_by, plain_by, said, said_by, source_option, so_far, taken_by, turned_by, value_by, with_format, with_operand, with_rule, with_separator, with_source};
+ghost use Rattle.acgrep.specs.Arguments.{AreDigits, FailsBy, ReadsBy, SaysMore, argument_by, color_by, color_named, fresh_by, joined_by, letters_by, named_by, nothing_said, number_by, numbered, numbered_by, said, said_by, source_option, so_far, taken_by, turned_by, value_by, with_format, with_operand, with_rule, with_separator, with_source};
 ghost use Rattle.acgrep.specs.Listed.{listed_bytes};
 ghost use Rattle.acgrep.specs.Long.{option_by};
 ghost use Rattle.acgrep.specs.Rules.{without_slashes};
 ghost use Rattle.acgrep.specs.declared.rules.Sense.TheVariants.{ExcludeFolder};
-ghost use Rattle.acgrep.specs.Mistakes.{IsFirstMistake, TellsBy, mistake_at, wrong_fresh, wrong_joined, wrong_letters, wrong_long, wrong_name, wrong_numbered, wrong_plain, wrong_value};
+ghost use Rattle.acgrep.specs.Mistakes.{IsFirstMistake, TellsBy, mistake_at, wrong_fresh, wrong_joined, wrong_letters, wrong_name, wrong_numbered, wrong_value};
 ghost use Rattle.acgrep.specs.Told.{color_parts, format_parts, kind_parts, number_parts, valued_name};
 
 use crate::format::{Piece, read_format};
 use crate::long::{Long, Valued, option_of};
 use crate::options::{Color, Flags, switch_of};
 use crate::rules::{Rule, Sense, without_slashes};
+use call_options::argument::{Argument, argument_of};
+use call_options::found::NotFound;
 use chromesquid::MatchKind;
 use std::alloc::{AllocError, Global};
 use std::str;
-
-/// What stands before a long name, and alone ends the options.
-const HYPHENS: &[u8] = b"--";
 
 /// The names of when matches are coloured.
 const AUTO: &[u8] = b"auto";
@@ -55,10 +53,8 @@ pub enum Wrong<'a> {
     NoPattern,
     /// No option has this letter.
     UnknownLetter(u8),
-    /// No option has this long name.
-    UnknownName(&'a [u8]),
-    /// Several options have long names that begin so.
-    Ambiguous(&'a [u8]),
+    /// This long name means no option.
+    NotFound(NotFound, &'a [u8]),
     /// This option has no argument.
     NoArgument(Valued),
     /// The option of this long name has an argument, and takes none.
@@ -185,40 +181,16 @@ fn read_fresh<'a>(given: &mut Given<'a>, argument: &'a [u8]) -> Result<Awaited, 
     ensures refused { FailsBy (fresh_by argument.now (said given.old)) result }
     ensures wrong { TellsBy (wrong_fresh argument.now) result }
 {
-    if argument == HYPHENS {
-        return Ok(Awaited::Operands);
-    }
-    match argument.strip_prefix(HYPHENS) {
-        Some(long) => read_long(given, long),
-        None => read_plain(given, argument),
-    }
-}
-
-/// Reads what stands behind two hyphens: a long name, which an argument may follow behind an equals sign.
-fn read_long<'a>(given: &mut Given<'a>, argument: &'a [u8]) -> Result<Awaited, Refusal<'a>>
-    ensures read { ReadsBy (long_by argument.now) given.old given.new result }
-    ensures refused { FailsBy (long_by argument.now (said given.old)) result }
-    ensures wrong { TellsBy (wrong_long argument.now) result }
-{
-    let end = first_equals(argument);
-    if end < argument.len() {
-        return read_joined(given, &argument[..end], &argument[end + 1..]);
-    }
-    read_named(given, argument)
-}
-
-/// Where the first equals sign stands, or else the end.
-pub fn first_equals(argument: &[u8]) -> usize
-    ensures place { result ≡ position_or_len is_equals argument.now }
-{
-    let mut at = 0;
-    while at < argument.len() {
-        if argument[at] == b'=' {
-            return at;
+    match argument_of(argument) {
+        Argument::End => Ok(Awaited::Operands),
+        Argument::Name(name) => read_named(given, name),
+        Argument::Joined(name, value) => read_joined(given, name, value),
+        Argument::Letters(letters) => read_letters(given, letters),
+        Argument::Plain => {
+            add_operand(given, argument)?;
+            Ok(Awaited::Fresh)
         }
-        at += 1;
     }
-    at
 }
 
 /// Reads a long name without an argument.
@@ -398,21 +370,6 @@ fn number_of(digits: &str) -> Option<u64>
     match digits.parse::<u64>() {
         Ok(number) => Some(number),
         Err(_) => None,
-    }
-}
-
-/// Reads an argument that is no long name: joined letters behind a hyphen, or an operand.
-fn read_plain<'a>(given: &mut Given<'a>, argument: &'a [u8]) -> Result<Awaited, Refusal<'a>>
-    ensures read { ReadsBy (plain_by argument.now) given.old given.new result }
-    ensures refused { FailsBy (plain_by argument.now (said given.old)) result }
-    ensures wrong { TellsBy (wrong_plain argument.now) result }
-{
-    match argument {
-        [b'-', _, ..] => read_letters(given, &argument[1..]),
-        _ => {
-            add_operand(given, argument)?;
-            Ok(Awaited::Fresh)
-        }
     }
 }
 

@@ -1,12 +1,14 @@
 //! The long names of options, and their beginnings.
 
 ghost use Rattle.std.specs.Prelude.{◌≡◌, Some, None, IfErr, IfOk};
-ghost use Rattle.acgrep.specs.Long.{begun_too, context_options, file_options, found_among, found_by, found_more, is_color, option_by, other_options, output_options, pattern_options};
+ghost use Rattle.acgrep.specs.Long.{context_options, file_options, found_by, option_by, other_options, output_options, pattern_options};
 ghost use Rattle.acgrep.specs.Mistakes.{wrong_name};
 ghost use Rattle.acgrep.specs.Told.{wrong_parts};
+ghost use Rattle.call_options.specs.Names.{found_among};
 
 use crate::arguments::Wrong;
 use crate::options::Switch;
+use call_options::found::Found;
 
 /// An option that takes an argument.
 #[derive(Clone, Copy)]
@@ -54,75 +56,20 @@ pub enum Long {
     When,
 }
 
-impl Long {
-    /// Whether it is `--color`.
-    fn is_color(self) -> bool
-        ensures color { result ≡ is_color self }
-    {
-        match self {
-            Long::When => true,
-            Long::Plain(_) | Long::Takes(_) => false,
-        }
-    }
-}
-
-/// What a name means, as far as the options were looked at.
-#[derive(Clone, Copy)]
-pub enum Found {
-    /// No option's name begins so.
-    Unknown,
-    /// This one's does.
-    Begun(Long),
-    /// Those of several do.
-    Several,
-    /// It is this one's name.
-    Whole(Long),
-}
-
-impl Found {
-    /// What it means with a further option.
-    #[tactic(auto, unfolding(crate::specs::Long::found_more))]
-    fn or(self, asked: &[u8], name: &[u8], long: Long) -> Found
-        ensures found { result ≡ found_more asked.now self name.now long }
-    {
-        if asked == name {
-            Found::Whole(long)
-        } else if name.starts_with(asked) {
-            self.begun_too(long)
-        } else {
-            self
-        }
-    }
-
-    /// What it means where the name of a further option begins so too. `--color` has two names.
-    fn begun_too(self, long: Long) -> Found
-        ensures found { result ≡ begun_too self long }
-    {
-        match self {
-            Found::Unknown => Found::Begun(long),
-            Found::Begun(first) if first.is_color() && long.is_color() => self,
-            Found::Begun(_) => Found::Several,
-            Found::Several | Found::Whole(_) => self,
-        }
-    }
-}
-
 /// The option of a long name, or of a beginning that no other option's name has.
 pub fn option_of(name: &[u8]) -> Result<Long, Wrong<'_>>
     ensures found { IfOk result (λ long. option_by name.now ≡ Some long) }
     ensures refused { IfErr result (λ wrong. option_by name.now ≡ None) }
     ensures wrong { IfErr result (λ wrong. wrong_parts wrong ≡ wrong_name name.now) }
 {
-    match found_of(name) {
-        Found::Whole(long) => Ok(long),
-        Found::Begun(long) => Ok(long),
-        Found::Several => Err(Wrong::Ambiguous(name)),
-        Found::Unknown => Err(Wrong::UnknownName(name)),
+    match found_of(name).option() {
+        Ok(long) => Ok(long),
+        Err(why) => Err(Wrong::NotFound(why, name)),
     }
 }
 
 /// What a name means.
-fn found_of(name: &[u8]) -> Found
+fn found_of(name: &[u8]) -> Found<Long>
     ensures found { result ≡ found_by name.now }
 {
     let patterns = or_patterns(Found::Unknown, name);
@@ -133,7 +80,7 @@ fn found_of(name: &[u8]) -> Found
 }
 
 /// What it means with the options that say what is searched for.
-fn or_patterns(found: Found, name: &[u8]) -> Found
+fn or_patterns(found: Found<Long>, name: &[u8]) -> Found<Long>
     ensures found { result ≡ found_among pattern_options name.now found }
 {
     found
@@ -151,7 +98,7 @@ fn or_patterns(found: Found, name: &[u8]) -> Found
 }
 
 /// What it means with the options that say what is written.
-fn or_output(found: Found, name: &[u8]) -> Found
+fn or_output(found: Found<Long>, name: &[u8]) -> Found<Long>
     ensures found { result ≡ found_among output_options name.now found }
 {
     found
@@ -180,7 +127,7 @@ fn or_output(found: Found, name: &[u8]) -> Found
 }
 
 /// What it means with those that say which lines are written around selected ones.
-fn or_context(found: Found, name: &[u8]) -> Found
+fn or_context(found: Found<Long>, name: &[u8]) -> Found<Long>
     ensures found { result ≡ found_among context_options name.now found }
 {
     found
@@ -196,7 +143,7 @@ fn or_context(found: Found, name: &[u8]) -> Found
 }
 
 /// What it means with those that say which files are searched.
-fn or_files(found: Found, name: &[u8]) -> Found
+fn or_files(found: Found<Long>, name: &[u8]) -> Found<Long>
     ensures found { result ≡ found_among file_options name.now found }
 {
     found
@@ -206,12 +153,11 @@ fn or_files(found: Found, name: &[u8]) -> Found
 }
 
 /// What it means with all other options.
-fn or_others(found: Found, name: &[u8]) -> Found
+fn or_others(found: Found<Long>, name: &[u8]) -> Found<Long>
     ensures found { result ≡ found_among other_options name.now found }
 {
     found
-        .or(name, b"color", Long::When)
-        .or(name, b"colour", Long::When)
+        .or_either(name, b"color", b"colour", Long::When)
         .or(name, b"offset", Long::Takes(Valued::Offset))
         .or(name, b"first-line", Long::Takes(Valued::FirstLine))
         .or(name, b"recursive", Long::Plain(Switch::Recursive))

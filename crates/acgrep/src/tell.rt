@@ -1,7 +1,7 @@
 //! What is told on standard error: why something was not done.
 
 ghost use Rattle.acgrep.specs.Mistakes.{memory_line};
-ghost use Rattle.acgrep.specs.Told.{TellsCause, TellsOfFile, TellsOfNamed, TellsWrong, number_parts, unargued_parts, unopened_by, unopened_line, valued_name};
+ghost use Rattle.acgrep.specs.Told.{TellsCause, TellsOfFile, TellsOfNamed, TellsWrong, misuse_parts, named_parts, number_parts, unopened_by, unopened_line, valued_name};
 ghost use Rattle.std.specs.List.{concat};
 ghost use Rattle.programs.specs.Telling.{TellsBytes};
 ghost use Rattle.std.specs.Prelude.{◌≡◌};
@@ -10,6 +10,7 @@ use crate::arguments::Wrong;
 use crate::help::USAGE;
 use crate::json::is_text;
 use crate::long::Valued;
+use call_options::misuse::Misuse;
 use chromesquid::{BuildError, MatchError, Sink};
 use programs::errors::Errors;
 use programs::reason::Reason;
@@ -119,28 +120,10 @@ pub fn tell_wrong<E: Sink>(errors: &mut Errors<'_, E>, wrong: Wrong<'_>)
 {
     match wrong {
         Wrong::NoPattern => errors.write(&[b"acgrep: no pattern is given\n", USAGE]),
-        Wrong::UnknownLetter(letter) => {
-            errors.write(&[b"acgrep: unknown option '-", &[letter], b"'\n", USAGE])
-        }
-        Wrong::UnknownName(name) => {
-            errors.write(&[b"acgrep: unknown option '--", name, b"'\n", USAGE])
-        }
-        Wrong::Ambiguous(name) => errors.write(&[
-            b"acgrep: several options begin with '--",
-            name,
-            b"'\n",
-            USAGE,
-        ]),
-        Wrong::NoArgument(valued) => {
-            let name = valued_name(valued);
-            tell_unargued(name, errors)
-        }
-        Wrong::TakesNone(name) => errors.write(&[
-            b"acgrep: option '--",
-            name,
-            b"' takes no argument\n",
-            USAGE,
-        ]),
+        Wrong::UnknownLetter(letter) => tell_misuse(Misuse::UnknownLetter, &[letter], errors),
+        Wrong::NotFound(why, name) => tell_misuse(Misuse::NotFound(why), name, errors),
+        Wrong::NoArgument(valued) => tell_misuse(Misuse::NoArgument, valued_name(valued), errors),
+        Wrong::TakesNone(name) => tell_misuse(Misuse::TakesNone, name, errors),
         Wrong::UnknownKind(name) => errors.write(&[
             b"acgrep: option '--kind' takes first, longest or standard, not '",
             name,
@@ -166,11 +149,19 @@ pub fn tell_wrong<E: Sink>(errors: &mut Errors<'_, E>, wrong: Wrong<'_>)
     }
 }
 
-/// Tells that the option of a name has no argument.
-fn tell_unargued<E: Sink>(name: &[u8], errors: &mut Errors<'_, E>)
-    ensures told { TellsBytes E.Sink errors.old errors.new (concat (unargued_parts name.now)) }
+/// Tells how an option is misused, by its letter, its long name or what it is called.
+fn tell_misuse<E: Sink>(misuse: Misuse, name: &[u8], errors: &mut Errors<'_, E>)
+    ensures told { TellsBytes E.Sink errors.old errors.new (concat (misuse_parts misuse name.now)) }
 {
-    errors.write(&[b"acgrep: option '", name, b"' needs an argument\n", USAGE]);
+    tell_named(misuse.before(), name, misuse.behind(), errors);
+}
+
+/// Tells of something that was given, between what stands before and behind it, and how to get help.
+fn tell_named<E: Sink>(before: &[u8], name: &[u8], behind: &[u8], errors: &mut Errors<'_, E>)
+    ensures told { TellsBytes E.Sink errors.old errors.new
+        (concat (named_parts before.now name.now behind.now)) }
+{
+    errors.write(&[PROGRAM, b": ", before, name, behind, b"\n", USAGE]);
 }
 
 /// Tells that the argument of the option of a name is no number.

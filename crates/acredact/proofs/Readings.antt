@@ -1,36 +1,12 @@
 -- How an argument is read: by what it begins with.
-use Rattle.std.proofs.Common.{◌≡◌, ◌⊎◌, inl, inr, ◌==◌, ◌≤◌, ℕ, false, List, [], ◌∷◌, ◌++◌, take, drop, codes, length, refl, sym, ap, ◌∙◌, arith, take-append-drop}
+use Rattle.std.proofs.Common.{◌≡◌, ◌⊎◌, inl, inr, ◌==◌, ◌≤◌, ℕ, false, List, [], ◌∷◌, length, refl, sym, ap, ◌∙◌, arith}
 use Rattle.std.specs.Prelude.{◌≢◌, None, Some}
 use Rattle.std.proofs.lemmas.Bool.{cases_Bool, eqb-true}
-use Rattle.std.proofs.lemmas.Slice.Eq.{bytes_eq-Decides}
-use Rattle.std.specs.Str.{bytes_eq}
-use Rattle.acredact.specs.Arguments.{Given, by_any, by_argument, by_letter, by_letters, by_plain, with_item}
-use Rattle.acredact.specs.Mistakes.{IsMistake, mistake_line, line_of_any, line_of_argument, first_mistake_line, line_from, line_of_letter, line_of_letters, line_or, line_of_plain}
+use Rattle.acredact.specs.Arguments.{Given, by_argument, by_letter, by_letters}
+use Rattle.acredact.specs.Mistakes.{IsMistake, mistake_line, line_of_argument, first_mistake_line, line_from, line_of_letter, line_of_letters, line_or}
 use Rattle.acredact.specs.declared.arguments.Expects.{Expects}
-use Rattle.acredact.specs.declared.arguments.Expects.TheVariants.{Any}
 use Rattle.acredact.specs.declared.arguments.Mistake.{Mistake}
 use Rattle.acredact.specs.declared.arguments.Mistake.TheVariants.{OutOfMemory}
-use Rattle.acredact.specs.declared.arguments.Word.TheVariants.{File}
-
--- what does not begin with two hyphens is no long name
-drop_none : (text : List ℕ) → drop 0 text ≡ text
-drop_none [] = refl
-drop_none (first ∷ rest) = refl
-
-pub no_front : (text : List ℕ) → ((rest : List ℕ) → drop 0 text ≢ codes "--" ++ rest) → bytes_eq (take 2 text) (codes "--") ≡ false
-no_front text lacks =
-    elim (cases_Bool (bytes_eq (take 2 text) (codes "--"))) [
-      | inl is ↦
-          (let same : take 2 text ≡ codes "--" = (bytes_eq-Decides (take 2 text) (codes "--")).0 is in
-          absurd (lacks (drop 2 text) (drop_none text ∙ sym (take-append-drop 2 text) ∙ ap (λ (l : List ℕ). l ++ drop 2 text) same)))
-      | inr not ↦ not
-    ]
-
-pub plain_any : (text : List ℕ) (items : List Given) → bytes_eq text (codes "--") ≡ false → bytes_eq (take 2 text) (codes "--") ≡ false → by_any text items ≡ by_plain text items
-plain_any text items whole front = rw whole (rw front refl)
-
-pub plain_wrong : (text : List ℕ) → bytes_eq (take 2 text) (codes "--") ≡ false → line_of_any text ≡ line_of_plain text
-plain_wrong text front = rw front refl
 
 -- one byte in front of others, or another
 first_not : (wanted first : ℕ) (rest : List ℕ) → ((others : List ℕ) → (first ∷ rest) ≢ wanted ∷ others) → (first == wanted) ≡ false
@@ -39,11 +15,6 @@ first_not wanted first rest lacks =
       | inl is ↦ absurd (lacks rest (ap (λ (n : ℕ). n ∷ rest) (eqb-true first wanted is)))
       | inr not ↦ not
     ]
-
--- what does not begin with a hyphen is a file
-pub file_plain : (text : List ℕ) (items : List Given) → ((rest : List ℕ) → text ≢ 45 ∷ rest) → by_plain text items ≡ with_item File text Any items
-file_plain [] items lacks = refl
-file_plain (first ∷ rest) items lacks = let not = first_not 45 first rest lacks in rw not refl
 
 -- letters that do not begin with that of an option without a value
 pub last_letter : (letters : List ℕ) (items : List Given) → ((rest : List ℕ) → letters ≢ 105 ∷ rest) → by_letters letters items ≡ by_letter letters items

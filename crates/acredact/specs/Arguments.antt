@@ -1,10 +1,10 @@
 -- What the arguments, those after the program's name, ask for.
-use Rattle.std.specs.Prelude.{◌≡◌, ℕ, ◌==◌, ◌++◌, ◌||◌, ◌&&◌, not, Bool, true, false, List, [], ◌∷◌, Option, Some, None, Result, IfOk, codes, drop, is_some, length, map, nat_lt, option_and_then, unwrap_or, take, String, Vec, if◌then◌else◌}
-use Rattle.std.specs.List.{after_first, before_first, position_or_len}
+use Rattle.std.specs.Prelude.{◌≡◌, ℕ, ◌==◌, ◌++◌, ◌||◌, ◌&&◌, not, Bool, true, false, List, [], ◌∷◌, Option, Some, None, Result, IfOk, codes, is_some, map, option_and_then, unwrap_or, String, Vec, if◌then◌else◌}
 use Rattle.std.specs.Str.{bytes_eq}
 use Rattle.aho_core.specs.declared.search.MatchKind.{MatchKind}
 use Rattle.aho_core.specs.declared.search.MatchKind.TheVariants.{Standard}
 use Rattle.programs.specs.Arguments.{kind_by, texts}
+use Rattle.call_options.specs.Forms.{Form, argument_form, joined_letters, long_name, long_with, no_more, no_option}
 use Rattle.acredact.specs.Long.{word_by_name}
 use Rattle.acredact.specs.declared.arguments.Word.{Word}
 use Rattle.acredact.specs.declared.arguments.Word.TheVariants.{IgnoreCase, Kind, Pattern, Patterns, Table, With, Pseudonym, Output, InPlace, Count, Summary, Crlf, AllowEmpty, Strict, Check, Help, Version, File}
@@ -105,15 +105,6 @@ by_valued word value items = if takes_value word then by_value word value items 
 abbrev pub by_joined : (name value : List ℕ) → List Given → Option ItemsSoFar
 by_joined name value items = option_and_then (λ word. by_valued word value items) (word_by_name name)
 
--- what stands behind two hyphens
-abbrev pub is_equals_sign : ℕ → Bool
-is_equals_sign byte = byte == 61
-
-abbrev pub by_long : List ℕ → List Given → Option ItemsSoFar
-by_long argument items =
-    if nat_lt (position_or_len is_equals_sign argument) (length argument) then by_joined (before_first is_equals_sign argument) (after_first is_equals_sign argument) items
-    else by_name argument items
-
 -- the value of an option stands behind its letter, or is the next argument
 abbrev pub by_taken : Word → List ℕ → List Given → Option ItemsSoFar
 by_taken word [] items = items_so_far (Value word) items
@@ -135,22 +126,16 @@ by_letters (letter ∷ rest) items =
     if letter == 105 then by_letters rest (items ++ (given IgnoreCase [] ∷ []))
     else by_letter (letter ∷ rest) items
 
--- what stands behind a hyphen; nothing makes the hyphen a file
-abbrev pub by_hyphen : List ℕ → List Given → Option ItemsSoFar
-by_hyphen [] items = with_item File (45 ∷ []) Any items
-by_hyphen (first ∷ rest) items = by_letters (first ∷ rest) items
+-- an argument that stands where an option may, by what it is; behind '--' there are files alone
+abbrev pub by_form : Form → List ℕ → List Given → Option ItemsSoFar
+by_form no_more argument items = items_so_far Name items
+by_form (long_name name) argument items = by_name name items
+by_form (long_with name value) argument items = by_joined name value items
+by_form (joined_letters letters) argument items = by_letters letters items
+by_form no_option argument items = with_item File argument Any items
 
--- an argument that is no long name
-abbrev pub by_plain : List ℕ → List Given → Option ItemsSoFar
-by_plain [] items = with_item File [] Any items
-by_plain (first ∷ rest) items = if first == 45 then by_hyphen rest items else with_item File (first ∷ rest) Any items
-
--- an argument that stands where an option may; behind '--' there are files alone
 abbrev pub by_any : List ℕ → List Given → Option ItemsSoFar
-by_any argument items =
-    if bytes_eq argument (codes "--") then items_so_far Name items
-    else if bytes_eq (take 2 argument) (codes "--") then by_long (drop 2 argument) items
-    else by_plain argument items
+by_any argument items = by_form (argument_form argument) argument items
 
 -- an argument, by what is expected of it
 abbrev pub by_argument : Expects → List ℕ → List Given → Option ItemsSoFar

@@ -326,8 +326,8 @@ module _ {R : Type 0} {Reads : Readers R} {W : Type 0} (Writes : Writers W) wher
     WarnedJob D strict job p result streams streams' = WarnedOutcome strict (work_of D job (redactor_of job p)) result streams streams'
 
     -- the same of a call whose patterns were loaded as these rules, and whose key is this, with the bytes that the input has left since
-    abbrev pub LoadedOutcome : {F X : Type 0} → Folders F X → F → List Given → List Rule → Option (Bor (List ℕ)) → Result Bool Failure → (streams streams' : Streams R W E Reads) → Type 0
-    LoadedOutcome D folder given rules key result streams streams' = (left : Option (List ℕ))
+    abbrev pub LoadOutcome : {F X : Type 0} → Folders F X → F → List Given → List Rule → Option (Bor (List ℕ)) → Result Bool Failure → (streams streams' : Streams R W E Reads) → Type 0
+    LoadOutcome D folder given rules key result streams streams' = (left : Option (List ℕ))
         → AreLoaded (reading_by (call_of D folder given)) given (loaded_as rules (key_lent key)) left (bytes_left streams.input)
         → CallOutcome (call_of D folder given) left result streams streams'
 

@@ -1,20 +1,22 @@
 -- What is wrong with arguments, and how it is told.
-use Rattle.std.specs.Prelude.{◌≡◌, ◌⊎◌, ℕ, ◌==◌, ◌++◌, List, [], ◌∷◌, Option, Some, None, Result, IfErr, codes, drop, length, nat_lt, take, Vec, if◌then◌else◌}
-use Rattle.std.specs.List.{after_first, before_first, position_or_len}
-use Rattle.std.specs.Str.{bytes_eq}
-use Rattle.acredact.specs.Arguments.{Given, ItemsSoFar, all_given, by_argument, given_by, is_equals_sign, mixture_of, option_name, takes_value}
+use Rattle.std.specs.Prelude.{◌≡◌, ◌⊎◌, ℕ, ◌==◌, ◌++◌, List, [], ◌∷◌, Option, Some, None, Result, Ok, Err, IfErr, codes, Vec, if◌then◌else◌}
+use Rattle.call_options.specs.Names.{meant}
+use Rattle.call_options.specs.declared.found.NotFound.{NotFound as WhyNotFound}
+use Rattle.call_options.specs.Forms.{Form, argument_form, joined_letters, long_name, long_with, no_more, no_option}
+use Rattle.call_options.specs.Misuses.{text_before, text_behind}
+use Rattle.call_options.specs.declared.misuse.Misuse.{Misuse}
+use Rattle.call_options.specs.declared.misuse.Misuse.TheVariants.{UnknownLetter as NoLetter, NotFound as NoName, NoArgument, TakesNone as Argued}
+use Rattle.acredact.specs.Arguments.{Given, ItemsSoFar, all_given, by_argument, given_by, mixture_of, option_name, takes_value}
 use Rattle.acredact.specs.Long.{found_of_name, word_by_name}
 use Rattle.acredact.specs.Messages.{alone, told_line}
 use Rattle.acredact.specs.declared.arguments.Expects.{Expects}
 use Rattle.acredact.specs.declared.arguments.Expects.TheVariants.{Any, Value, Name}
 use Rattle.acredact.specs.declared.arguments.Item.{Item}
 use Rattle.acredact.specs.declared.arguments.Mistake.{Mistake}
-use Rattle.acredact.specs.declared.arguments.Mistake.TheVariants.{UnknownLetter, UnknownName, Ambiguous, NoValue, TakesNone, UnknownKind, NoPattern, Mixed, OutOfMemory}
+use Rattle.acredact.specs.declared.arguments.Mistake.TheVariants.{UnknownLetter, NotFound, NoValue, TakesNone, UnknownKind, NoPattern, Mixed, OutOfMemory}
 use Rattle.acredact.specs.declared.arguments.Mixture.{Mixture}
 use Rattle.acredact.specs.declared.arguments.Mixture.TheVariants.{StrictKind, PseudonymKind, PseudonymWith, PseudonymTable, CountCheck, SummaryCheck, OutputCheck, InPlaceCheck, InPlaceOutput}
 use Rattle.acredact.specs.declared.arguments.Word.{Word}
-use Rattle.acredact.specs.declared.long.Found.{Found}
-use Rattle.acredact.specs.declared.long.Found.TheVariants.{Unknown, Begun, Several, Whole}
 
 -- what is told of options that do not go together
 abbrev pub mixture_text : Mixture → List ℕ
@@ -32,21 +34,13 @@ mixture_text CountCheck = codes "--count and --check do not go together: a check
 abbrev pub named_line : (before name behind : List ℕ) → List ℕ
 named_line before name behind = codes "acredact" ++ (codes ": " ++ (before ++ (name ++ (behind ++ codes "\n"))))
 
--- no option has this letter or this long name, several have such a beginning, this one takes no value, or it needs one
+-- an option that is called so is misused, or one of this letter or long name
+abbrev pub misuse_line : Misuse → List ℕ → List ℕ
+misuse_line misuse name = named_line (text_before misuse) name (text_behind misuse)
+
+-- no option has this letter
 abbrev pub letter_line : ℕ → List ℕ
-letter_line letter = named_line (codes "unknown option '-") (letter ∷ []) (codes "'")
-
-abbrev pub name_line : List ℕ → List ℕ
-name_line name = named_line (codes "unknown option '--") name (codes "'")
-
-abbrev pub several_line : List ℕ → List ℕ
-several_line name = named_line (codes "several options begin with '--") name (codes "'")
-
-abbrev pub taken_line : List ℕ → List ℕ
-taken_line name = named_line (codes "option '--") name (codes "' takes no argument")
-
-abbrev pub unvalued_line : Word → List ℕ
-unvalued_line word = named_line (codes "option '") (option_name word) (codes "' needs an argument")
+letter_line letter = misuse_line NoLetter (letter ∷ [])
 
 -- there is no such kind
 abbrev pub kind_line : List ℕ → List ℕ
@@ -55,36 +49,26 @@ kind_line kind = named_line (codes "option '--kind' takes cover, first, longest 
 -- the line that tells a mistake
 abbrev pub mistake_line : Mistake → List ℕ
 mistake_line (UnknownLetter letter) = letter_line letter
-mistake_line (UnknownName name) = name_line name.now
-mistake_line (Ambiguous name) = several_line name.now
-mistake_line (NoValue word) = unvalued_line word
-mistake_line (TakesNone name) = taken_line name.now
+mistake_line (NotFound why name) = misuse_line (NoName why) name.now
+mistake_line (NoValue word) = misuse_line NoArgument (option_name word)
+mistake_line (TakesNone name) = misuse_line Argued name.now
 mistake_line (UnknownKind kind) = kind_line kind.now
 mistake_line NoPattern = told_line (alone (codes "no pattern: give -e, -f or -t, or --help"))
 mistake_line (Mixed mixture) = told_line (alone (mixture_text mixture))
 mistake_line OutOfMemory = told_line (alone (codes "out of memory"))
 
 -- what is told of a long name that means no option
-abbrev pub line_of_found : Found → List ℕ → List ℕ
-line_of_found Unknown name = name_line name
-line_of_found (Begun word) name = []
-line_of_found Several name = several_line name
-line_of_found (Whole word) name = []
+abbrev pub line_of_found : Result Word WhyNotFound → List ℕ → List ℕ
+line_of_found (Ok word) name = []
+line_of_found (Err why) name = misuse_line (NoName why) name
 
 abbrev pub line_of_name : List ℕ → List ℕ
-line_of_name name = line_of_found (found_of_name name) name
+line_of_name name = line_of_found (meant (found_of_name name)) name
 
 -- of a long name with a value behind an equals sign, where its option cannot have that one
 abbrev pub line_of_joined : Option Word → (name value : List ℕ) → List ℕ
 line_of_joined None name value = line_of_name name
-line_of_joined (Some word) name value = if takes_value word then kind_line value else taken_line name
-
--- of what stands behind two hyphens
-abbrev pub line_of_long : List ℕ → List ℕ
-line_of_long argument =
-    if nat_lt (position_or_len is_equals_sign argument) (length argument)
-    then line_of_joined (word_by_name (before_first is_equals_sign argument)) (before_first is_equals_sign argument) (after_first is_equals_sign argument)
-    else line_of_name argument
+line_of_joined (Some word) name value = if takes_value word then kind_line value else misuse_line Argued name
 
 -- of the letter of no option
 abbrev pub line_of_letter : List ℕ → List ℕ
@@ -96,15 +80,18 @@ abbrev pub line_of_letters : List ℕ → List ℕ
 line_of_letters [] = []
 line_of_letters (letter ∷ rest) = if letter == 105 then line_of_letters rest else letter_line letter
 
--- of those behind a hyphen
-abbrev pub line_of_plain : List ℕ → List ℕ
-line_of_plain [] = []
-line_of_plain (hyphen ∷ letters) = line_of_letters letters
+-- of an argument that stands where an option may, by what it is; a file's name is never wrong
+abbrev pub line_of_form : Form → List ℕ
+line_of_form no_more = []
+line_of_form (long_name name) = line_of_name name
+line_of_form (long_with name value) = line_of_joined (word_by_name name) name value
+line_of_form (joined_letters letters) = line_of_letters letters
+line_of_form no_option = []
 
 abbrev pub line_of_any : List ℕ → List ℕ
-line_of_any argument = if bytes_eq (take 2 argument) (codes "--") then line_of_long (drop 2 argument) else line_of_plain argument
+line_of_any argument = line_of_form (argument_form argument)
 
--- of a wrong argument, by what is expected of it; a file's name is never wrong
+-- of a wrong argument, by what is expected of it
 abbrev pub line_of_argument : Expects → List ℕ → List ℕ
 line_of_argument Any argument = line_of_any argument
 line_of_argument (Value word) argument = kind_line argument
@@ -117,7 +104,7 @@ line_or wrong rest (Some read) = rest read
 -- an option has no value at the end
 abbrev pub line_at_end : Expects → Option (List ℕ)
 line_at_end Any = None
-line_at_end (Value word) = Some (unvalued_line word)
+line_at_end (Value word) = Some (misuse_line NoArgument (option_name word))
 line_at_end Name = None
 
 -- what is told of the first argument that is wrong, or of the value that is missing at the end

@@ -2,12 +2,14 @@
 
 ghost use Rattle.std.specs.Prelude.{◌≡◌, ◌++◌, [], ◌∷◌, Some, None, IfErr, IfOk, OnOk, option_map, string_bytes};
 ghost use Rattle.programs.specs.Arguments.{kind_by, texts};
-ghost use Rattle.acredact.specs.Arguments.{ReadsAs, all_asked, all_given, by_any, by_argument, by_hyphen, checks_asked, counts_asked, covers_asked, given, given_by, has, in_place_asked, in_place_mixture_of, is_cover, is_same, is_value_of, by_joined, kind_asked, last_value, by_letter, by_letters, by_long, mixture_of, by_name, option_name, output_asked, by_plain, by_taken, takes_value, by_value};
+ghost use Rattle.acredact.specs.Arguments.{ReadsAs, all_asked, all_given, by_any, by_argument, checks_asked, counts_asked, covers_asked, given, given_by, has, in_place_asked, in_place_mixture_of, is_cover, is_same, is_value_of, by_joined, kind_asked, last_value, by_letter, by_letters, mixture_of, by_name, option_name, output_asked, by_taken, takes_value, by_value};
 ghost use Rattle.acredact.specs.Long.{word_by_name};
-ghost use Rattle.acredact.specs.Mistakes.{FailsAs, IsMistake, IsMistakeOfCall, TellsAs, kind_line, line_of_any, line_of_argument, line_of_joined, line_of_letter, line_of_letters, line_of_long, line_of_name, line_of_plain};
+ghost use Rattle.acredact.specs.Mistakes.{FailsAs, IsMistake, IsMistakeOfCall, TellsAs, kind_line, line_of_any, line_of_argument, line_of_joined, line_of_letter, line_of_letters, line_of_name};
 
 use crate::long::option_of;
 use aho_core::search::MatchKind;
+use call_options::argument::{Argument, text_argument_of};
+use call_options::found::NotFound;
 use std::alloc::{AllocError, Global};
 
 /// What an argument is, or the option that it is the value of.
@@ -99,10 +101,8 @@ pub enum Mixture {
 pub enum Mistake<'a> {
     /// No option has this letter.
     UnknownLetter(u8),
-    /// No option has this long name.
-    UnknownName(&'a [u8]),
-    /// Several options have long names that begin so.
-    Ambiguous(&'a [u8]),
+    /// This long name means no option.
+    NotFound(NotFound, &'a [u8]),
     /// The last argument is this option, which needs a value.
     NoValue(Word),
     /// The option of this long name has a value, and takes none.
@@ -278,24 +278,15 @@ fn read_any<'a>(items: &mut Vec<Item<'a>>, argument: &'a str) -> Result<Expects,
     ensures refused { FailsAs (by_any argument.now) items.old result }
     ensures wrong { TellsAs (line_of_any argument.now) result }
 {
-    if argument == "--" {
-        return Ok(Expects::Name);
-    }
-    match argument.strip_prefix("--") {
-        Some(long) => read_long(items, long),
-        None => read_plain(items, argument),
-    }
-}
-
-/// Reads what stands behind two hyphens: a long name, which a value may follow behind an equals sign.
-fn read_long<'a>(items: &mut Vec<Item<'a>>, argument: &'a str) -> Result<Expects, Mistake<'a>>
-    ensures read { ReadsAs (by_long argument.now) items.old items.new result }
-    ensures refused { FailsAs (by_long argument.now) items.old result }
-    ensures wrong { TellsAs (line_of_long argument.now) result }
-{
-    match argument.split_once('=') {
-        Some((name, value)) => read_joined(items, name, value),
-        None => read_named(items, argument),
+    match text_argument_of(argument) {
+        Argument::End => Ok(Expects::Name),
+        Argument::Name(name) => read_named(items, name),
+        Argument::Joined(name, value) => read_joined(items, name, value),
+        Argument::Letters(letters) => read_letters(items, letters),
+        Argument::Plain => {
+            add(items, Word::File, argument)?;
+            Ok(Expects::Any)
+        }
     }
 }
 
@@ -328,34 +319,6 @@ fn read_named<'a>(items: &mut Vec<Item<'a>>, name: &'a str) -> Result<Expects, M
     }
     add(items, word, "")?;
     Ok(Expects::Any)
-}
-
-/// Reads an argument that is no long name: letters behind a hyphen, or a file.
-fn read_plain<'a>(items: &mut Vec<Item<'a>>, argument: &'a str) -> Result<Expects, Mistake<'a>>
-    ensures read { ReadsAs (by_plain argument.now) items.old items.new result }
-    ensures refused { FailsAs (by_plain argument.now) items.old result }
-    ensures wrong { TellsAs (line_of_plain argument.now) result }
-{
-    match argument.strip_prefix('-') {
-        Some(letters) => read_hyphen(items, letters),
-        None => {
-            add(items, Word::File, argument)?;
-            Ok(Expects::Any)
-        }
-    }
-}
-
-/// Reads what stands behind a hyphen: joined letters. Nothing makes the hyphen a file.
-fn read_hyphen<'a>(items: &mut Vec<Item<'a>>, letters: &'a str) -> Result<Expects, Mistake<'a>>
-    ensures read { ReadsAs (by_hyphen letters.now) items.old items.new result }
-    ensures refused { FailsAs (by_hyphen letters.now) items.old result }
-    ensures wrong { TellsAs (line_of_letters letters.now) result }
-{
-    if letters.is_empty() {
-        add(items, Word::File, "-")?;
-        return Ok(Expects::Any);
-    }
-    read_letters(items, letters)
 }
 
 /// Reads joined letters. That of an option with a value takes what stands behind it.

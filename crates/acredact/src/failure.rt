@@ -6,7 +6,7 @@ ghost use Rattle.programs.specs.Telling.{TellsBytes};
 ghost use Rattle.acredact.specs.Failures.{IsFailureLine, IsOtherLine, bad_line, is_of_output};
 ghost use Rattle.acredact.specs.LineFaults.{line_fault_text};
 ghost use Rattle.acredact.specs.Messages.{alone, flaw_text, line_about, no_file_line, output_line, piece_line, told_line, unclean_line};
-ghost use Rattle.acredact.specs.Mistakes.{mistake_line, mixture_text, named_line};
+ghost use Rattle.acredact.specs.Mistakes.{mistake_line, misuse_line, mixture_text, named_line};
 ghost use Rattle.acredact.specs.declared.clean.Flaw.TheVariants.{Empty, Pseudonym, Spells};
 
 use crate::arguments::{Mistake, Mixture, name_of};
@@ -14,6 +14,7 @@ use crate::clean::{Flaw, Unclean};
 use crate::patterns::{BadLine, LineFault};
 use aho_core::error::{BuildError, StreamError};
 use aho_devices::device::Sink;
+use call_options::misuse::Misuse;
 use itoa::write_digits;
 use programs::errors::Errors;
 use programs::failure;
@@ -225,23 +226,10 @@ fn tell_mistake<E: Sink>(errors: &mut Errors<'_, E>, mistake: Mistake<'_>)
     ensures told { TellsBytes E.Sink errors.old errors.new (mistake_line mistake.entry) }
 {
     match mistake {
-        Mistake::UnknownLetter(letter) => tell_named(errors, b"unknown option '-", &[letter], b"'"),
-        Mistake::UnknownName(name) => tell_named(errors, b"unknown option '--", name, b"'"),
-        Mistake::Ambiguous(name) => tell_named(
-            errors,
-            b"several options begin with '--",
-            name,
-            b"'",
-        ),
-        Mistake::NoValue(word) => {
-            tell_named(
-                errors,
-                b"option '",
-                name_of(word).as_bytes(),
-                b"' needs an argument",
-            )
-        }
-        Mistake::TakesNone(name) => tell_named(errors, b"option '--", name, b"' takes no argument"),
+        Mistake::UnknownLetter(letter) => tell_misuse(errors, Misuse::UnknownLetter, &[letter]),
+        Mistake::NotFound(why, name) => tell_misuse(errors, Misuse::NotFound(why), name),
+        Mistake::NoValue(word) => tell_misuse(errors, Misuse::NoArgument, name_of(word).as_bytes()),
+        Mistake::TakesNone(name) => tell_misuse(errors, Misuse::TakesNone, name),
         Mistake::UnknownKind(kind) => tell_named(
             errors,
             b"option '--kind' takes cover, first, longest or standard, not '",
@@ -252,6 +240,13 @@ fn tell_mistake<E: Sink>(errors: &mut Errors<'_, E>, mistake: Mistake<'_>)
         Mistake::Mixed(mixture) => tell_alone(errors, mixture_text(mixture)),
         Mistake::OutOfMemory => tell_alone(errors, "out of memory"),
     }
+}
+
+/// Tells as a line how an option is misused, by its letter, its long name or what it is called.
+fn tell_misuse<E: Sink>(errors: &mut Errors<'_, E>, misuse: Misuse, name: &[u8])
+    ensures told { TellsBytes E.Sink errors.old errors.new (misuse_line misuse name.now) }
+{
+    tell_named(errors, misuse.before(), name, misuse.behind());
 }
 
 /// Tells as a line what is wrong with something that was given.

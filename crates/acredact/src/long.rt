@@ -1,50 +1,12 @@
 //! The long names of options, and their beginnings.
 
 ghost use Rattle.std.specs.Prelude.{◌≡◌, Some, None, IfErr, IfOk};
-ghost use Rattle.acredact.specs.Long.{also_begun, found_in_options, found_of_name, found_with, word_by_name, options_of_output, options_of_patterns};
+ghost use Rattle.acredact.specs.Long.{found_of_name, word_by_name, options_of_output, options_of_patterns};
 ghost use Rattle.acredact.specs.Mistakes.{mistake_line, line_of_name};
+ghost use Rattle.call_options.specs.Names.{found_among};
 
 use crate::arguments::{Mistake, Word};
-
-/// What a name means, as far as the options were looked at.
-#[derive(Clone, Copy)]
-pub enum Found {
-    /// No option's name begins so.
-    Unknown,
-    /// This one's does.
-    Begun(Word),
-    /// Those of several do.
-    Several,
-    /// It is this one's name.
-    Whole(Word),
-}
-
-impl Found {
-    /// What it means with a further option.
-    #[tactic(auto, unfolding(crate::specs::Long::found_with))]
-    fn or(self, asked: &[u8], name: &[u8], word: Word) -> Found
-        ensures found { result ≡ found_with asked.now self name.now word }
-    {
-        if asked == name {
-            Found::Whole(word)
-        } else if name.starts_with(asked) {
-            self.also_begun(word)
-        } else {
-            self
-        }
-    }
-
-    /// What it means where the name of a further option begins so too.
-    fn also_begun(self, word: Word) -> Found
-        ensures found { result ≡ also_begun self word }
-    {
-        match self {
-            Found::Unknown => Found::Begun(word),
-            Found::Begun(_) => Found::Several,
-            Found::Several | Found::Whole(_) => self,
-        }
-    }
-}
+use call_options::found::Found;
 
 /// The option of a long name, or of a beginning that no other option's name has.
 pub fn option_of(name: &[u8]) -> Result<Word, Mistake<'_>>
@@ -52,16 +14,14 @@ pub fn option_of(name: &[u8]) -> Result<Word, Mistake<'_>>
     ensures refused { IfErr result (λ mistake. word_by_name name.now ≡ None) }
     ensures wrong { IfErr result (λ mistake. mistake_line mistake ≡ line_of_name name.now) }
 {
-    match found_of(name) {
-        Found::Whole(word) => Ok(word),
-        Found::Begun(word) => Ok(word),
-        Found::Several => Err(Mistake::Ambiguous(name)),
-        Found::Unknown => Err(Mistake::UnknownName(name)),
+    match found_of(name).option() {
+        Ok(word) => Ok(word),
+        Err(why) => Err(Mistake::NotFound(why, name)),
     }
 }
 
 /// What a name means.
-fn found_of(name: &[u8]) -> Found
+fn found_of(name: &[u8]) -> Found<Word>
     ensures found { result ≡ found_of_name name.now }
 {
     let patterns = or_patterns(Found::Unknown, name);
@@ -69,8 +29,8 @@ fn found_of(name: &[u8]) -> Found
 }
 
 /// What it means with the options that say what is replaced, and by what.
-fn or_patterns(found: Found, name: &[u8]) -> Found
-    ensures found { result ≡ found_in_options options_of_patterns name.now found }
+fn or_patterns(found: Found<Word>, name: &[u8]) -> Found<Word>
+    ensures found { result ≡ found_among options_of_patterns name.now found }
 {
     found
         .or(name, b"ignore-case", Word::IgnoreCase)
@@ -85,8 +45,8 @@ fn or_patterns(found: Found, name: &[u8]) -> Found
 }
 
 /// What it means with all others.
-fn or_output(found: Found, name: &[u8]) -> Found
-    ensures found { result ≡ found_in_options options_of_output name.now found }
+fn or_output(found: Found<Word>, name: &[u8]) -> Found<Word>
+    ensures found { result ≡ found_among options_of_output name.now found }
 {
     found
         .or(name, b"output", Word::Output)

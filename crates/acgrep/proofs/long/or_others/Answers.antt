@@ -1,18 +1,17 @@
 -- One option after another.
-use Rattle.acgrep.proofs.LongNames.{then_option}
+use Rattle.call_options.proofs.Names.{then_option}
 use Rattle.acgrep.proofs.long.or_others.Goals as goal
 
 pub returns : goal.returns
 returns c =
     let asked = c.args.name.now in
-    let first = c.or.ensures.found in
-    let e2 = then_option asked _ _ _ _ _ first c.or-2.ensures.found in
-    let e3 = then_option asked _ _ _ _ _ e2 c.or-3.ensures.found in
-    let e4 = then_option asked _ _ _ _ _ e3 c.or-4.ensures.found in
-    let e5 = then_option asked _ _ _ _ _ e4 c.or-5.ensures.found in
-    let e6 = then_option asked _ _ _ _ _ e5 c.or-6.ensures.found in
-    let e7 = then_option asked _ _ _ _ _ e6 c.or-7.ensures.found in
-    let e8 = then_option asked _ _ _ _ _ e7 c.or-8.ensures.found in
-    let e9 = then_option asked _ _ _ _ _ e8 c.or-9.ensures.found in
-    let e10 = then_option asked _ _ _ _ _ e9 c.or-10.ensures.found in
-    record { found = then_option asked _ _ _ _ _ e10 c.or-11.ensures.found }
+    let first = c.or_either.ensures.found in
+    let e2 = then_option asked _ _ _ _ _ first c.or.ensures.found in
+    let e3 = then_option asked _ _ _ _ _ e2 c.or-2.ensures.found in
+    let e4 = then_option asked _ _ _ _ _ e3 c.or-3.ensures.found in
+    let e5 = then_option asked _ _ _ _ _ e4 c.or-4.ensures.found in
+    let e6 = then_option asked _ _ _ _ _ e5 c.or-5.ensures.found in
+    let e7 = then_option asked _ _ _ _ _ e6 c.or-6.ensures.found in
+    let e8 = then_option asked _ _ _ _ _ e7 c.or-7.ensures.found in
+    let e9 = then_option asked _ _ _ _ _ e8 c.or-8.ensures.found in
+    record { found = then_option asked _ _ _ _ _ e9 c.or-9.ensures.found }

@@ -1,5 +1,5 @@
 -- One option after another.
-use Rattle.acgrep.proofs.LongNames.{then_option}
+use Rattle.call_options.proofs.Names.{then_option}
 use Rattle.acgrep.proofs.long.or_patterns.Goals as goal
 
 pub returns : goal.returns

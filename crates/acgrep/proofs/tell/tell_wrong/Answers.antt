@@ -2,31 +2,27 @@
 use Rattle.std.proofs.Common.{List, ℕ, sym, subst}
 use Rattle.std.specs.List.{concat}
 use Rattle.programs.specs.Telling.{TellsBytes}
-use Rattle.acgrep.specs.Told.{number_parts, unargued_parts, wrong_parts}
+use Rattle.call_options.specs.declared.misuse.Misuse.TheVariants.{NoArgument}
+use Rattle.acgrep.specs.Told.{misuse_parts, number_parts, wrong_parts}
 use Rattle.acgrep.specs.declared.arguments.Wrong.{Wrong}
 use Rattle.acgrep.proofs.tell.tell_wrong.Goals as goal
 
-pub returns-in-UnknownName : goal.returns-in-UnknownName
-returns-in-UnknownName g c = record {
-  told = subst (λ (wrong : Wrong). TellsBytes g.E.Sink c.args.errors.now c.write-in-UnknownName.new.self (concat (wrong_parts wrong))) (sym c.in-UnknownName.is) c.write-in-UnknownName.ensures.told;
-}
-
-pub returns-in-Ambiguous : goal.returns-in-Ambiguous
-returns-in-Ambiguous g c = record {
-  told = subst (λ (wrong : Wrong). TellsBytes g.E.Sink c.args.errors.now c.write-in-Ambiguous.new.self (concat (wrong_parts wrong))) (sym c.in-Ambiguous.is) c.write-in-Ambiguous.ensures.told;
+pub returns-in-NotFound : goal.returns-in-NotFound
+returns-in-NotFound g c = record {
+  told = subst (λ (wrong : Wrong). TellsBytes g.E.Sink c.args.errors.now c.tell_misuse-in-NotFound.new.errors (concat (wrong_parts wrong))) (sym c.in-NotFound.is) c.tell_misuse-in-NotFound.ensures.told;
 }
 
 pub returns-in-NoArgument : goal.returns-in-NoArgument
 returns-in-NoArgument g c =
-    let new = c.tell_unargued.new.errors in
+    let new = c.tell_misuse-in-NoArgument.new.errors in
     record {
       told = subst (λ (wrong : Wrong). TellsBytes g.E.Sink c.args.errors.now new (concat (wrong_parts wrong))) (sym c.in-NoArgument.is)
-          (subst (λ (name : List ℕ). TellsBytes g.E.Sink c.args.errors.now new (concat (unargued_parts name))) c.valued_name-name.ensures.name c.tell_unargued.ensures.told);
+          (subst (λ (name : List ℕ). TellsBytes g.E.Sink c.args.errors.now new (concat (misuse_parts NoArgument name))) c.valued_name.ensures.name c.tell_misuse-in-NoArgument.ensures.told);
     }
 
 pub returns-in-TakesNone : goal.returns-in-TakesNone
 returns-in-TakesNone g c = record {
-  told = subst (λ (wrong : Wrong). TellsBytes g.E.Sink c.args.errors.now c.write-in-TakesNone.new.self (concat (wrong_parts wrong))) (sym c.in-TakesNone.is) c.write-in-TakesNone.ensures.told;
+  told = subst (λ (wrong : Wrong). TellsBytes g.E.Sink c.args.errors.now c.tell_misuse-in-TakesNone.new.errors (concat (wrong_parts wrong))) (sym c.in-TakesNone.is) c.tell_misuse-in-TakesNone.ensures.told;
 }
 
 pub returns-in-UnknownKind : goal.returns-in-UnknownKind

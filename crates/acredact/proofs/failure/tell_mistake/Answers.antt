@@ -1,36 +1,31 @@
 -- Each mistake by its message.
 use Rattle.std.proofs.Common.{List, ℕ, sym, subst, ◌∙◌}
-use Rattle.std.specs.Prelude.{codes}
 use Rattle.programs.specs.Telling.{TellsBytes}
 use Rattle.acredact.specs.Messages.{alone, told_line}
-use Rattle.acredact.specs.Mistakes.{mistake_line, named_line}
+use Rattle.call_options.specs.declared.misuse.Misuse.TheVariants.{NoArgument}
+use Rattle.acredact.specs.Mistakes.{mistake_line, misuse_line}
 use Rattle.acredact.specs.declared.arguments.Mistake.{Mistake}
 use Rattle.acredact.proofs.failure.tell_mistake.Goals as goal
 
-pub returns-in-UnknownName : goal.returns-in-UnknownName
-returns-in-UnknownName g c = record {
-  told = subst (λ (m : Mistake). TellsBytes g.E.Sink c.args.errors.now c.tell_named-in-UnknownName.new.errors (mistake_line m)) (sym c.in-UnknownName.is) c.tell_named-in-UnknownName.ensures.told;
-}
-
-pub returns-in-Ambiguous : goal.returns-in-Ambiguous
-returns-in-Ambiguous g c = record {
-  told = subst (λ (m : Mistake). TellsBytes g.E.Sink c.args.errors.now c.tell_named-in-Ambiguous.new.errors (mistake_line m)) (sym c.in-Ambiguous.is) c.tell_named-in-Ambiguous.ensures.told;
+pub returns-in-NotFound : goal.returns-in-NotFound
+returns-in-NotFound g c = record {
+  told = subst (λ (m : Mistake). TellsBytes g.E.Sink c.args.errors.now c.tell_misuse-in-NotFound.new.errors (mistake_line m)) (sym c.in-NotFound.is) c.tell_misuse-in-NotFound.ensures.told;
 }
 
 pub returns-in-TakesNone : goal.returns-in-TakesNone
 returns-in-TakesNone g c = record {
-  told = subst (λ (m : Mistake). TellsBytes g.E.Sink c.args.errors.now c.tell_named-in-TakesNone.new.errors (mistake_line m)) (sym c.in-TakesNone.is) c.tell_named-in-TakesNone.ensures.told;
+  told = subst (λ (m : Mistake). TellsBytes g.E.Sink c.args.errors.now c.tell_misuse-in-TakesNone.new.errors (mistake_line m)) (sym c.in-TakesNone.is) c.tell_misuse-in-TakesNone.ensures.told;
 }
 
 pub returns-in-UnknownKind : goal.returns-in-UnknownKind
 returns-in-UnknownKind g c = record {
-  told = subst (λ (m : Mistake). TellsBytes g.E.Sink c.args.errors.now c.tell_named-in-UnknownKind.new.errors (mistake_line m)) (sym c.in-UnknownKind.is) c.tell_named-in-UnknownKind.ensures.told;
+  told = subst (λ (m : Mistake). TellsBytes g.E.Sink c.args.errors.now c.tell_named.new.errors (mistake_line m)) (sym c.in-UnknownKind.is) c.tell_named.ensures.told;
 }
 
 pub returns-in-NoValue : goal.returns-in-NoValue
 returns-in-NoValue g c = record {
-  told = subst (λ (m : Mistake). TellsBytes g.E.Sink c.args.errors.now c.tell_named-in-NoValue.new.errors (mistake_line m)) (sym c.in-NoValue.is)
-      (subst (λ (name : List ℕ). TellsBytes g.E.Sink c.args.errors.now c.tell_named-in-NoValue.new.errors (named_line (codes "option '") name (codes "' needs an argument"))) (c.as_bytes.ensures.value ∙ c.name_of.ensures.name) c.tell_named-in-NoValue.ensures.told);
+  told = subst (λ (m : Mistake). TellsBytes g.E.Sink c.args.errors.now c.tell_misuse-in-NoValue.new.errors (mistake_line m)) (sym c.in-NoValue.is)
+      (subst (λ (name : List ℕ). TellsBytes g.E.Sink c.args.errors.now c.tell_misuse-in-NoValue.new.errors (misuse_line NoArgument name)) (c.as_bytes.ensures.value ∙ c.name_of.ensures.name) c.tell_misuse-in-NoValue.ensures.told);
 }
 
 pub returns-in-NoPattern : goal.returns-in-NoPattern

@@ -1,5 +1,5 @@
 -- What was loaded is what is redacted.
-use Rattle.std.proofs.Common.{◌≡◌, inl, inr, List, ap, refl, sym, subst, true}
+use Rattle.std.proofs.Common.{◌≡◌, inl, List, ap, refl, sym, subst, true}
 use Rattle.std.specs.Prelude.{Err, Ok}
 use Rattle.programs.specs.Streams.{bytes_left}
 use Rattle.acredact.specs.Arguments.{all_given}

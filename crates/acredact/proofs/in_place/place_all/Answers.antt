@@ -19,7 +19,7 @@ use Rattle.aho_corasick.specs.declared.noncontiguous.NFA.{NFA}
 use Rattle.aho_backward.specs.Searcher.{IsBackwardOf}
 use Rattle.aho_backward.specs.declared.backward.Backward.{Backward}
 use Rattle.programs.specs.Names.{name_bytes}
-use Rattle.acredact.specs.Arguments.{Given, all_given, covers_asked, has}
+use Rattle.acredact.specs.Arguments.{Given, all_given, covers_asked}
 use Rattle.acredact.specs.Back.{AreBoth, IsBackAsked}
 use Rattle.acredact.specs.Builds.{patterns_by_given}
 use Rattle.acredact.specs.Calls.{call_of, key_asked, keyed_as, names_asked, pieces_asked, work_by}

@@ -1,14 +1,14 @@
 -- No equals sign so far.
 use Rattle.std.proofs.Common.{◌≡◌, ℕ, ◌-◌, ◌≤◌, ◌<◌, false, length}
 use Rattle.std.proofs.Math.ListN.{get_or}
-use Rattle.acgrep.specs.Arguments.{is_equals}
-use Rattle.acgrep.proofs.arguments.first_equals.Given as goal
+use Rattle.call_options.specs.Forms.{is_equals}
+use Rattle.call_options.proofs.argument.first_equals.Given as goal
 
 abbrev pub invariant-loop-at : goal.invariant-loop-at
 invariant-loop-at l = record {
-  within : l.at ≤ length l.fn.argument;
-  others : (k : ℕ) → k < l.at → is_equals (get_or l.fn.argument k 0) ≡ false;
+  within : l.at ≤ length l.fn.text;
+  others : (k : ℕ) → k < l.at → is_equals (get_or l.fn.text k 0) ≡ false;
 }
 
 abbrev pub decreases-loop-at : goal.decreases-loop-at
-decreases-loop-at l = length l.fn.argument - l.at
+decreases-loop-at l = length l.fn.text - l.at
