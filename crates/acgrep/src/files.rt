@@ -14,6 +14,7 @@ ghost use Rattle.acgrep.specs.Selected.{ForJob};
 use crate::backed::Lister;
 use crate::buffer::Buffer;
 use crate::failure::Stop;
+use crate::guarded::search_guarded;
 use crate::keys::{INPUT, is_input, open_named};
 use crate::open::Open;
 use crate::options::Shown;
@@ -417,6 +418,12 @@ fn search_one<A: Lister, R: Read, W: Sink, E: Sink>(
     ensures told { TellsOfOutcome E.Sink job.now.hushed job.now.style.name.now result
         errors.old errors.new }
 {
+    if job.is_guarded() {
+        return match search_guarded(automaton, job, buffer, reader, state, page, output) {
+            Ok(any) => Outcome::Searched(any),
+            Err(stop) => break_off(job, state, &stop, page, output, errors),
+        };
+    }
     state.begin(job);
     match search_stream(automaton, job, buffer, reader, state, page, output) {
         Ok(()) => end_file(job, state, page, output, errors),
@@ -602,5 +609,6 @@ fn job_for<'a>(job: &Job<'a>, name: &'a [u8], follows: bool) -> Job<'a>
         context: job.context,
         follows,
         late: job.late,
+        guards: job.guards,
     }
 }
