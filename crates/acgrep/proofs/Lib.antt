@@ -12,6 +12,7 @@ pub mod Fillings
 pub mod FirstLines
 pub mod FormatTexts
 pub mod Formatted
+pub mod Fronts
 pub mod Globbed
 pub mod Grouped
 pub mod Guarded
