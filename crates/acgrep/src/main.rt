@@ -41,6 +41,7 @@ mod stream;
 mod tally;
 mod tell;
 mod trail;
+mod unread;
 mod walk;
 
 use bytes::{arguments, variable};
