@@ -7,12 +7,13 @@ use Rattle.std.proofs.lemmas.Bool.{cases_Bool, lt-ltb, ltb-false, ltb-true}
 use Rattle.aho_core.specs.Patterns.{Patterns}
 use Rattle.programs.specs.Names.{is_input}
 use Rattle.acgrep.specs.Alone.{asks_alone}
+use Rattle.acgrep.specs.Binary.{TellsGuarded, is_guarded}
 use Rattle.acgrep.specs.Contexts.{IsBegin, SearchesIn, TellsFile, TellsIn, around_by, around_of, walk_of}
-use Rattle.acgrep.specs.Files.{EndsFile, IfSearched, IsAny, IsNamed, IsRead, SearchesFile, SearchesName, SearchesReader, SomeLine, TellsBy, count_if, known_of, shown_name, total_if}
+use Rattle.acgrep.specs.Files.{EndsFile, IfSearched, IsNamed, IsRead, SearchesFile, SearchesName, SearchesReader, TellsBy, TellsSearched, count_if, known_of, shown_name, total_if}
 use Rattle.acgrep.specs.Lines.{EndsLine, lines}
 use Rattle.acgrep.specs.Printed.{file_line}
 use Rattle.acgrep.specs.Streamed.{SearchesStream, course}
-use Rattle.acgrep.specs.Written.{EachLine, IsPassedOver, IsSelected, IsSettled, ShowsBy, TellsOfLines, is_full, needs_one, one_more}
+use Rattle.acgrep.specs.Written.{EachLine, IsAny, IsPassedOver, IsSelected, IsSettled, ShowsBy, SomeLine, TellsOfLines, is_full, needs_one, one_more}
 use Rattle.acgrep.specs.declared.files.Outcome.{Outcome}
 use Rattle.acgrep.specs.declared.files.Outcome.TheVariants.{Searched, Unread, Stopped}
 use Rattle.acgrep.specs.declared.options.Context.{Context}
@@ -28,7 +29,7 @@ use Rattle.acgrep.proofs.Tellings.{full_some, tells_full}
 use Rattle.acgrep.proofs.Walked.{walks_append, walks_full, walks_tells}
 
 -- where one selected line tells all nothing is written of it
-shows_none : (p : Patterns) (shown : Shown) (alone invert : Bool) (style : Style) (place : Place) (line bytes : List ℕ) → needs_one shown ≡ true
+pub shows_none : (p : Patterns) (shown : Shown) (alone invert : Bool) (style : Style) (place : Place) (line bytes : List ℕ) → needs_one shown ≡ true
     → ShowsBy p shown alone invert style place line bytes → bytes ≡ []
 shows_none p Lines alone invert style place line bytes one shows = absurd (cc)
 shows_none p Matches alone invert style place line bytes one shows = absurd (cc)
@@ -41,7 +42,7 @@ shows_none p Nothing alone invert style place line bytes one shows = shows
 more_positive : (count : ℕ) → 0 < one_more count
 more_positive count = omega arith
 
-some_front : (P : List ℕ → Type 0) (ls ms : List (List ℕ)) → SomeLine P ls → SomeLine P (ls ++ ms)
+pub some_front : (P : List ℕ → Type 0) (ls ms : List (List ℕ)) → SomeLine P ls → SomeLine P (ls ++ ms)
 some_front P [] ms some = absurd some
 some_front P (line ∷ ls) ms (inl here) = inl here
 some_front P (line ∷ ls) ms (inr later) = inr (some_front P ls ms later)
@@ -54,7 +55,7 @@ text_behind (Some all) None bytes read = absurd read
 text_behind (Some all) (Some rest) bytes read = (rest, sym read, λ end. end)
 
 module _ (p : Patterns) (job : Job) where
-  tells_none : (ls : List (List ℕ)) (place : Place) (count : ℕ) (bytes : List ℕ) (total : ℕ) → needs_one job.shown ≡ true → TellsOfLines p job place count ls bytes total → bytes ≡ []
+  pub tells_none : (ls : List (List ℕ)) (place : Place) (count : ℕ) (bytes : List ℕ) (total : ℕ) → needs_one job.shown ≡ true → TellsOfLines p job place count ls bytes total → bytes ≡ []
   tells_none [] place count bytes total one told = told.0
   tells_none (line ∷ rest) place count bytes total one (inl (full, none, same)) = none
   tells_none (line ∷ rest) place count bytes total one (inr (goes, inl (selected, (shown, more, shows, behind, is)))) =
@@ -88,7 +89,7 @@ module _ (p : Patterns) (job : Job) where
   tells_each (line ∷ rest) place count bytes total (inr (goes, inr (passed, behind))) zero = (passed, tells_each rest _ count bytes total behind zero)
 
   -- whether one is selected
-  tells_any : (ls : List (List ℕ)) (place : Place) (bytes : List ℕ) (total : ℕ) → TellsOfLines p job place 0 ls bytes total → IsAny p job.fit job.invert ls (nat_lt 0 total)
+  pub tells_any : (ls : List (List ℕ)) (place : Place) (bytes : List ℕ) (total : ℕ) → TellsOfLines p job place 0 ls bytes total → IsAny p job.fit job.invert ls (nat_lt 0 total)
   tells_any ls place bytes total told =
       elim (cases_Bool (nat_lt 0 total)) [
         | inl some ↦ rw some (tells_some ls place 0 bytes total told refl (ltb-true 0 total some))
@@ -127,35 +128,43 @@ module _ (p : Patterns) (job : Job) where
       ap (λ (any : Bool). if any then [] else file_line job.style) is
   by_front Nothing text count one some = refl
 
+  -- what is told where lines with a zero byte are written too
+  unguarded : is_guarded job ≡ false → (text : List ℕ) (any : Bool) (bytes : List ℕ) → IsAny p job.fit job.invert (lines job.style.ending text) any → TellsBy p job job.shown text any bytes
+      → MatchBool (is_guarded job) (TellsGuarded p job text any bytes) (TellsSearched p job text any bytes)
+  unguarded plainly text any bytes selected tells =
+      subst (λ (b : Bool). MatchBool b (TellsGuarded p job text any bytes) (TellsSearched p job text any bytes)) (sym plainly) (selected, tells)
+
   -- all of a text was searched
-  file_whole : (state : State) (known held meanwhile held' : Option (List ℕ)) (text told plain : List ℕ) → IfSome known (λ (all : List ℕ). text ≡ all)
+  file_whole : is_guarded job ≡ false → (state : State) (known held meanwhile held' : Option (List ℕ)) (text told plain : List ℕ) → IfSome known (λ (all : List ℕ). text ≡ all)
       → TellsOfLines p job job.first 0 (lines job.style.ending text) plain state.selected → TellsFile p job (lines job.style.ending text) told state.selected → Appends held meanwhile told
       → (any : Bool) → EndsFile job state.selected meanwhile held' any → SearchesFile p job known held held' any
-  file_whole state known held meanwhile held' text told plain of selects tells written any ends =
+  file_whole plainly state known held meanwhile held' text told plain of selects tells written any ends =
       let count = state.selected in
       record {
         text = text;
         of = of;
-        selected = subst (IsAny p job.fit job.invert (lines job.style.ending text)) (sym ends.is_any) (tells_any (lines job.style.ending text) job.first plain count selects);
         bytes = told ++ total_if job.shown job.style count;
-        tells = subst (λ (any : Bool). TellsBy p job job.shown text any (told ++ total_if job.shown job.style count)) (sym ends.is_any) (by_whole job.shown refl text told count tells);
+        tells = unguarded plainly text any (told ++ total_if job.shown job.style count)
+            (subst (IsAny p job.fit job.invert (lines job.style.ending text)) (sym ends.is_any) (tells_any (lines job.style.ending text) job.first plain count selects))
+            (subst (λ (any : Bool). TellsBy p job job.shown text any (told ++ total_if job.shown job.style count)) (sym ends.is_any) (by_whole job.shown refl text told count tells));
         written = Appends-trans held meanwhile held' told (total_if job.shown job.style count) written ends.written;
       }
 
   -- a line was selected that told all
-  file_front : (state : State) (known held meanwhile held' : Option (List ℕ)) (text told : List ℕ) (ls : List (List ℕ)) → IfSome known (λ (all : List ℕ). text ≡ all)
+  file_front : is_guarded job ≡ false → (state : State) (known held meanwhile held' : Option (List ℕ)) (text told : List ℕ) (ls : List (List ℕ)) → IfSome known (λ (all : List ℕ). text ≡ all)
       → TellsOfLines p job job.first 0 ls told state.selected → needs_one job.shown ≡ true → 0 < state.selected → (SomeLine (IsSelected p job.fit job.invert) ls → SomeLine (IsSelected p job.fit job.invert) (lines job.style.ending text))
       → Appends held meanwhile told → (any : Bool) → EndsFile job state.selected meanwhile held' any → SearchesFile p job known held held' any × (any ≡ true)
-  file_front state known held meanwhile held' text told ls of tells one some front written any ends =
+  file_front plainly state known held meanwhile held' text told ls of tells one some front written any ends =
       let count = state.selected in
       let is : any ≡ true = ends.is_any ∙ lt-ltb 0 count some in
       let none : told ≡ [] = tells_none ls job.first 0 told count one tells in (
         record {
           text = text;
           of = of;
-          selected = subst (IsAny p job.fit job.invert (lines job.style.ending text)) (sym is) (front (tells_some ls job.first 0 told count tells refl some));
           bytes = total_if job.shown job.style count;
-          tells = subst (λ (any : Bool). TellsBy p job job.shown text any (total_if job.shown job.style count)) (sym is) (by_front job.shown text count one some);
+          tells = unguarded plainly text any (total_if job.shown job.style count)
+              (subst (IsAny p job.fit job.invert (lines job.style.ending text)) (sym is) (front (tells_some ls job.first 0 told count tells refl some)))
+              (subst (λ (any : Bool). TellsBy p job job.shown text any (total_if job.shown job.style count)) (sym is) (by_front job.shown text count one some));
           written = subst (λ (l : List ℕ). Appends held held' (l ++ total_if job.shown job.style count)) none
               (Appends-trans held meanwhile held' told (total_if job.shown job.style count) written ends.written);
         },
@@ -180,7 +189,7 @@ module _ (p : Patterns) (job : Job) where
   from_begin before ls told count begin tells =
       subst (λ (at : Place). TellsOfLines p job at 0 ls told count) begin.place (subst (λ (n : ℕ). TellsOfLines p job before.place n ls told count) begin.selected tells)
 
-  text_told : (around : Option Context) (before state : State) (held meanwhile : Option (List ℕ)) (text : List ℕ) → IsBegin job before
+  pub text_told : (around : Option Context) (before state : State) (held meanwhile : Option (List ℕ)) (text : List ℕ) → IsBegin job before
       → SearchesIn p job around before state held meanwhile text → TextTold around state held meanwhile text
   text_told None before state held meanwhile text begin one =
       let to = one.searches in
@@ -238,9 +247,9 @@ module _ (p : Patterns) (job : Job) where
   one_around Nothing context one = refl
 
   -- what was searched of a reader, and what is asked of a file as a whole: it was read to its end
-  read_whole : (before state : State) (left left' held meanwhile held' : Option (List ℕ)) → IsBegin job before → (stream : SearchesStream p job (course before state held meanwhile left left'))
+  read_whole : is_guarded job ≡ false → (before state : State) (left left' held meanwhile held' : Option (List ℕ)) → IsBegin job before → (stream : SearchesStream p job (course before state held meanwhile left left'))
       → stream.rest ≡ [] → IsAtEnd left' → (any : Bool) → EndsFile job state.selected meanwhile held' any → SearchesReader p job left left' held held' any
-  read_whole before state left left' held meanwhile held' begin stream empty end any ends =
+  read_whole plainly before state left left' held meanwhile held' begin stream empty end any ends =
       let (more, known, none) = text_behind left left' (stream.searched ++ stream.rest) stream.consumed in
       let text = (stream.searched ++ stream.rest) ++ more in
       let told = text_told (around_of job) before state held meanwhile stream.searched begin stream.searches in
@@ -252,19 +261,19 @@ module _ (p : Patterns) (job : Job) where
         | inl whole ↦
             let first : lines job.style.ending text ≡ told.searched ++ [] = same ∙ ap (λ (l : List ℕ). told.searched ++ lines job.style.ending l) whole in
             record {
-              file = file_whole state left held meanwhile held' text told.bytes told.plain known
+              file = file_whole plainly state left held meanwhile held' text told.bytes told.plain known
                   (subst (λ (ls : List (List ℕ)). TellsOfLines p job job.first 0 ls told.plain state.selected) (sym (first ∙ append-nil told.searched)) told.tells)
                   (subst (λ (ls : List (List ℕ)). TellsFile p job ls told.bytes state.selected) (sym first) (told.file [] (inl refl))) told.written any ends;
               reads = read;
             }
         | inr (inl (one, some)) ↦ record {
-          file = (file_front state left held meanwhile held' text told.plain told.searched known told.tells one some
+          file = (file_front plainly state left held meanwhile held' text told.plain told.searched known told.tells one some
               (λ (is : SomeLine (IsSelected p job.fit job.invert) told.searched). subst (SomeLine (IsSelected p job.fit job.invert)) (sym same) (some_front (IsSelected p job.fit job.invert) told.searched (lines job.style.ending told.left) is))
               (subst (Appends held meanwhile) (told.single (one_around job.shown job.context one)) told.written) any ends).0;
           reads = read;
         }
         | inr (inr (full, past)) ↦ record {
-          file = file_whole state left held meanwhile held' text told.bytes told.plain known
+          file = file_whole plainly state left held meanwhile held' text told.bytes told.plain known
               (subst (λ (ls : List (List ℕ)). TellsOfLines p job job.first 0 ls told.plain state.selected) (sym same)
               (tells_full p job told.searched (lines job.style.ending told.left) job.first 0 state.selected told.plain full told.tells))
               (subst (λ (ls : List (List ℕ)). TellsFile p job ls told.bytes state.selected) (sym same) (told.file (lines job.style.ending told.left) (inr (full, past)))) told.written any ends;
@@ -273,9 +282,9 @@ module _ (p : Patterns) (job : Job) where
       ]
 
   -- or up to lines behind which nothing more is told
-  read_front : (before state : State) (left left' held meanwhile held' : Option (List ℕ)) → IsBegin job before → (stream : SearchesStream p job (course before state held meanwhile left left'))
+  read_front : is_guarded job ≡ false → (before state : State) (left left' held meanwhile held' : Option (List ℕ)) → IsBegin job before → (stream : SearchesStream p job (course before state held meanwhile left left'))
       → EndsLine job.style.ending stream.searched → IsSettled job state → (any : Bool) → EndsFile job state.selected meanwhile held' any → SearchesReader p job left left' held held' any
-  read_front before state left left' held meanwhile held' begin stream whole settled any ends =
+  read_front plainly before state left left' held meanwhile held' begin stream whole settled any ends =
       let (more, known, none) = text_behind left left' (stream.searched ++ stream.rest) stream.consumed in
       let text = (stream.searched ++ stream.rest) ++ more in
       let told = text_told (around_of job) before state held meanwhile stream.searched begin stream.searches in
@@ -285,7 +294,7 @@ module _ (p : Patterns) (job : Job) where
       ∙ ap (λ (l : List (List ℕ)). l ++ lines job.style.ending (stream.rest ++ more)) told.cut ∙ append_assoc told.searched (lines job.style.ending told.left) (lines job.style.ending (stream.rest ++ more)) in
       elim settled [
         | inl (one, some) ↦
-            let found = file_front state left held meanwhile held' text told.plain told.searched known told.tells one some
+            let found = file_front plainly state left held meanwhile held' text told.plain told.searched known told.tells one some
             (λ (is : SomeLine (IsSelected p job.fit job.invert) told.searched). subst (SomeLine (IsSelected p job.fit job.invert)) (sym same) (some_front (IsSelected p job.fit job.invert) told.searched later is))
             (subst (Appends held meanwhile) (told.single (one_around job.shown job.context one)) told.written) any ends in
             record {
@@ -296,30 +305,30 @@ module _ (p : Patterns) (job : Job) where
             let front : lines job.style.ending (stream.searched ++ stream.rest) ≡ told.searched ++ (lines job.style.ending told.left ++ lines job.style.ending stream.rest) =
             lines_append job.style.ending stream.searched stream.rest whole ∙ ap (λ (l : List (List ℕ)). l ++ lines job.style.ending stream.rest) told.cut ∙ append_assoc told.searched (lines job.style.ending told.left) (lines job.style.ending stream.rest) in
             record {
-              file = file_whole state left held meanwhile held' text told.bytes told.plain known
+              file = file_whole plainly state left held meanwhile held' text told.bytes told.plain known
                   (subst (λ (ls : List (List ℕ)). TellsOfLines p job job.first 0 ls told.plain state.selected) (sym same)
                   (tells_full p job told.searched later job.first 0 state.selected told.plain full told.tells))
                   (subst (λ (ls : List (List ℕ)). TellsFile p job ls told.bytes state.selected) (sym same) (told.file later (inr (full, past)))) told.written any ends;
               reads = record {
                 bytes = stream.searched ++ stream.rest;
                 read = stream.consumed;
-                ended = inr (inr (
+                ended = inr (inr (inl (
                   told.plain,
                   state.selected,
                   subst (λ (ls : List (List ℕ)). TellsOfLines p job job.first 0 ls told.plain state.selected) (sym front)
                       (tells_full p job told.searched (lines job.style.ending told.left ++ lines job.style.ending stream.rest) job.first 0 state.selected told.plain full told.tells),
                   full,
-                ));
+                )));
               };
             }
       ]
 
-  pub reader_searched : (before state : State) (left left' held meanwhile held' : Option (List ℕ)) → IsBegin job before → SearchesStream p job (course before state held meanwhile left left')
+  pub reader_searched : is_guarded job ≡ false → (before state : State) (left left' held meanwhile held' : Option (List ℕ)) → IsBegin job before → SearchesStream p job (course before state held meanwhile left left')
       → (any : Bool) → EndsFile job state.selected meanwhile held' any → SearchesReader p job left left' held held' any
-  reader_searched before state left left' held meanwhile held' begin stream any ends =
+  reader_searched plainly before state left left' held meanwhile held' begin stream any ends =
       elim stream.ends [
-        | inl (empty, end) ↦ read_whole before state left left' held meanwhile held' begin stream empty end any ends
-        | inr (whole, settled) ↦ read_front before state left left' held meanwhile held' begin stream whole settled any ends
+        | inl (empty, end) ↦ read_whole plainly before state left left' held meanwhile held' begin stream empty end any ends
+        | inr (whole, settled) ↦ read_front plainly before state left left' held meanwhile held' begin stream whole settled any ends
       ]
 
 -- what follows where a file was searched

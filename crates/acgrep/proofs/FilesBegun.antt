@@ -1,12 +1,13 @@
 -- What is written of a file that is not searched to its end.
 use Rattle.std.proofs.Common.{arith, ◌≡◌, inl, inr, ◌⊎◌, ℕ, Bool, true, false, List, [], ◌∷◌, ◌++◌, Option, None, Some, IfSome, drop, take, take-append-drop, refl, sym, ◌∙◌, ap, subst, append_assoc, append-nil}
 use Rattle.programs.specs.Names.{is_input}
-use Rattle.std.specs.Prelude.{◌||◌}
+use Rattle.std.specs.Prelude.{MatchBool, ◌||◌}
 use Rattle.std.specs.Io.KnownBytes.{Appends, Keeps}
 use Rattle.std.proofs.KnownBytes.{Appends-trans, Keeps-trans}
 use Rattle.aho_core.specs.Patterns.{Patterns}
 use Rattle.acgrep.specs.Alone.{asks_alone}
-use Rattle.acgrep.specs.Contexts.{BeginsAsked, IsBegin, WalksBegun, around_by, around_of, walk_of}
+use Rattle.acgrep.specs.Binary.{BeginsGuarded, is_guarded, text_lines}
+use Rattle.acgrep.specs.Contexts.{BeginsAsked, IsBegin, TellsIn, WalksBegun, around_by, around_of, walk_of}
 use Rattle.acgrep.specs.Files.{AreFilesBegun, BeginsAround, BeginsFile, BeginsFileIn, BeginsName, BeginsPlain, IsNamed, known_of, shown_name, BeginsTotal, IfBroken, total_if}
 use Rattle.acgrep.specs.Lines.{lines}
 use Rattle.acgrep.specs.Streamed.{BeginsStream, course}
@@ -63,7 +64,7 @@ total_begins job count x y before after bytes none same is (n, within, written) 
 pub total_bytes : (before after bytes total : List ℕ) → before ≡ [] → bytes ≡ after → Appends (Some before) (Some after) total → bytes ≡ total
 total_bytes before after bytes total none same is = same ∙ is ∙ ap (λ (l : List ℕ). l ++ total) none
 
-nil_front : (xs ys : List ℕ) → [] ≡ xs ++ ys → xs ≡ []
+pub nil_front : (xs ys : List ℕ) → [] ≡ xs ++ ys → xs ≡ []
 nil_front [] ys same = refl
 nil_front (x ∷ xs) ys same = absurd (cc)
 
@@ -165,7 +166,7 @@ module _ (p : Patterns) (job : Job) where
   }
 
   -- nothing is asked of a file as a whole where lines around selected ones are written
-  no_total : (shown : Shown) (asked : Option Context) (context : Context) (style : Style) (count : ℕ) → around_by shown asked ≡ Some context → total_if shown style count ≡ []
+  pub no_total : (shown : Shown) (asked : Option Context) (context : Context) (style : Style) (count : ℕ) → around_by shown asked ≡ Some context → total_if shown style count ≡ []
   no_total Lines asked context style count is = refl
   no_total Matches asked context style count is = refl
   no_total Objects asked context style count is = absurd (cc)
@@ -184,11 +185,12 @@ module _ (p : Patterns) (job : Job) where
       around_begins context before state known held meanwhile held' text ls others begin of cut begins (subst (Appends meanwhile held') none total.written)
 
   -- a stream that was broken off, and a beginning of what is asked of the file as a whole
-  pub file_begins : (before state : State) (left left' held meanwhile held' : Option (List ℕ)) → IsBegin job before → BeginsStream p job (course before state held meanwhile left left')
+  pub file_begins : is_guarded job ≡ false → (before state : State) (left left' held meanwhile held' : Option (List ℕ)) → IsBegin job before → BeginsStream p job (course before state held meanwhile left left')
       → BeginsTotal job state.selected meanwhile held' → BeginsFile p job left held held'
-  file_begins before state left left' held meanwhile held' begin stream total =
+  file_begins plainly before state left left' held meanwhile held' begin stream total =
       let (text, known, others, cut) = lines_read before state left left' held meanwhile stream in
-      begins_in (around_of job) refl before state left held meanwhile held' text (lines job.style.ending stream.searched) others begin known cut stream.begins total
+      subst (λ (b : Bool). MatchBool b (BeginsGuarded p job left held held') (BeginsFileIn p job (around_of job) left held held')) (sym plainly)
+      (begins_in (around_of job) refl before state left held meanwhile held' text (lines job.style.ending stream.searched) others begin known cut stream.begins total)
 
   -- nothing is written of a file
   none_plain : (known held held' : Option (List ℕ)) → Keeps held held' → BeginsPlain p job known held held'
@@ -219,6 +221,16 @@ module _ (p : Patterns) (job : Job) where
     written = keeps_nil held held' keeps;
   }
 
+  tells_nothing : (around : Option Context) → TellsIn p job around [] [] 0
+  tells_nothing None = (refl, refl)
+  tells_nothing (Some context) = record {
+    chosen = [];
+    written = [];
+    are_chosen = refl;
+    are_written = record { as_many = refl; near = λ i is. absurd (cc); all = λ i low near. absurd (omega (arith, low)) };
+    tells = refl;
+  }
+
   none_around : (context : Context) (text : List ℕ) (known held held' : Option (List ℕ)) → IfSome known (λ (all : List ℕ). text ≡ all) → Keeps held held' → BeginsAround p job context known held held'
   none_around context text known held held' of keeps = record {
     text = text;
@@ -228,13 +240,7 @@ module _ (p : Patterns) (job : Job) where
     cut = refl;
     all = [];
     count = 0;
-    tells = record {
-      chosen = [];
-      written = [];
-      are_chosen = refl;
-      are_written = record { as_many = refl; near = λ i is. absurd (cc); all = λ i low near. absurd (omega (arith, low)) };
-      tells = refl;
-    };
+    tells = tells_nothing (Some context);
     begun = [];
     missing = [];
     is = refl;
@@ -246,9 +252,30 @@ module _ (p : Patterns) (job : Job) where
   none_in (Some context) None held held' keeps = none_around context [] None held held' tt keeps
   none_in (Some context) (Some bytes) held held' keeps = none_around context bytes (Some bytes) held held' refl keeps
 
+  none_guarded : (text : List ℕ) (known held held' : Option (List ℕ)) → IfSome known (λ (all : List ℕ). text ≡ all) → Keeps held held' → BeginsGuarded p job known held held'
+  none_guarded text known held held' of keeps = record {
+    text = text;
+    of = of;
+    first = [];
+    left = text_lines (lines job.style.ending text);
+    cut = refl;
+    told = [];
+    count = 0;
+    tells = tells_nothing (around_of job);
+    begun = [];
+    missing = [];
+    is = inl refl;
+    written = keeps_nil held held' keeps;
+  }
+
+  none_both : (guarded : Bool) (known held held' : Option (List ℕ)) → Keeps held held' → MatchBool guarded (BeginsGuarded p job known held held') (BeginsFileIn p job (around_of job) known held held')
+  none_both false known held held' keeps = none_in (around_of job) known held held' keeps
+  none_both true None held held' keeps = none_guarded [] None held held' tt keeps
+  none_both true (Some bytes) held held' keeps = none_guarded bytes (Some bytes) held held' refl keeps
+
   -- nothing is written of a file
   pub file_none : (known held held' : Option (List ℕ)) → Keeps held held' → BeginsFile p job known held held'
-  file_none known held held' keeps = none_in (around_of job) known held held' keeps
+  file_none known held held' keeps = none_both (is_guarded job) known held held' keeps
 
 of_kept : (known known' : Option (List ℕ)) (text : List ℕ) → Keeps known known' → IfSome known' (λ (bytes : List ℕ). text ≡ bytes) → IfSome known (λ (bytes : List ℕ). text ≡ bytes)
 of_kept None known' text keeps of = tt
@@ -286,8 +313,27 @@ known_in (Some context) p job known known' held held' keeps begins = record {
   written = begins.written;
 }
 
+known_both : (guarded : Bool) (p : Patterns) (job : Job) (known known' held held' : Option (List ℕ)) → Keeps known known'
+    → MatchBool guarded (BeginsGuarded p job known' held held') (BeginsFileIn p job (around_of job) known' held held')
+    → MatchBool guarded (BeginsGuarded p job known held held') (BeginsFileIn p job (around_of job) known held held')
+known_both false p job known known' held held' keeps begins = known_in (around_of job) p job known known' held held' keeps begins
+known_both true p job known known' held held' keeps begins = record {
+  text = begins.text;
+  of = of_kept known known' begins.text keeps begins.of;
+  first = begins.first;
+  left = begins.left;
+  cut = begins.cut;
+  told = begins.told;
+  count = begins.count;
+  tells = begins.tells;
+  begun = begins.begun;
+  missing = begins.missing;
+  is = begins.is;
+  written = begins.written;
+}
+
 pub file_known : (p : Patterns) (job : Job) (known known' held held' : Option (List ℕ)) → Keeps known known' → BeginsFile p job known' held held' → BeginsFile p job known held held'
-file_known p job known known' held held' keeps begins = known_in (around_of job) p job known known' held held' keeps begins
+file_known p job known known' held held' keeps begins = known_both (is_guarded job) p job known known' held held' keeps begins
 
 module _ (p : Patterns) (job : Job) (holds : List ℕ → Option (List ℕ)) where
   -- nothing is written

@@ -1,6 +1,7 @@
 pub mod AloneTried
 pub mod Around
 pub mod Beginnings
+pub mod BinaryLines
 pub mod Choosing
 pub mod Coloring
 pub mod ColorParts
@@ -11,8 +12,10 @@ pub mod Fillings
 pub mod FirstLines
 pub mod FormatTexts
 pub mod Formatted
+pub mod Fronts
 pub mod Globbed
 pub mod Grouped
+pub mod Guarded
 pub mod HeldLines
 pub mod Kept
 pub mod LineLists

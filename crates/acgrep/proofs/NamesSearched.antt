@@ -8,7 +8,8 @@ use Rattle.std.proofs.lemmas.List.{take_all}
 use Rattle.aho_core.specs.Patterns.{Patterns}
 use Rattle.programs.specs.Names.{name_bytes, or_input}
 use Rattle.programs.specs.Answers.{status_of}
-use Rattle.acgrep.specs.Files.{AreFilesBegun, AreFilesSearched, AreSearchedOr, BeginsName, HasSelected, IfBroken, IfSearched, IsAny, LeavesInput, OneIsSelected, SearchesName, SearchesNames, is_enough, known_of, nothing_seen, seen_after, status_by}
+use Rattle.acgrep.specs.Binary.{is_guarded}
+use Rattle.acgrep.specs.Files.{AreFilesBegun, AreFilesSearched, AreSearchedOr, BeginsName, HasSelected, IfBroken, IfSearched, LeavesInput, OneIsSelected, SearchesName, SearchesNames, is_enough, known_of, nothing_seen, seen_after, status_by}
 use Rattle.acgrep.specs.Lines.{lines}
 use Rattle.acgrep.specs.declared.files.Outcome.{Outcome}
 use Rattle.acgrep.specs.declared.files.Outcome.TheVariants.{Searched, Unread, Stopped}
@@ -17,6 +18,7 @@ use Rattle.acgrep.specs.declared.options.Fit.{Fit}
 use Rattle.acgrep.specs.declared.options.Shown.{Shown}
 use Rattle.acgrep.specs.declared.options.Shown.TheVariants.{Lines, Matches, Objects, Count, Names, Lacking, Nothing}
 use Rattle.acgrep.specs.declared.select.Job.{Job}
+use Rattle.acgrep.proofs.Guarded.{either_some}
 
 or_true : (a : Bool) → (a || true) ≡ true
 or_true true = refl
@@ -67,7 +69,8 @@ module _ (p : Patterns) (job : Job) (holds : List ℕ → Option (List ℕ)) (na
     searched.file.of,
     subst (λ (ending : ℕ). IsAny p job.fit job.invert (lines ending searched.file.text) true) searched.is_named.ending
         (subst (λ (invert : Bool). IsAny p job.fit invert (lines searched.named.style.ending searched.file.text) true) searched.is_named.invert
-        (subst (λ (fit : Fit). IsAny p fit searched.named.invert (lines searched.named.style.ending searched.file.text) true) searched.is_named.fit searched.file.selected)),
+        (subst (λ (fit : Fit). IsAny p fit searched.named.invert (lines searched.named.style.ending searched.file.text) true) searched.is_named.fit
+        (either_some p searched.named searched.file.text searched.file.bytes (is_guarded searched.named) searched.file.tells))),
   )
 
   -- one file more

@@ -8,7 +8,7 @@ use Rattle.std.proofs.lemmas.List.{get_or-append-add, length-take-le}
 use Rattle.aho_core.specs.Patterns.{Patterns}
 use Rattle.acgrep.specs.Lines.{EndsLine, IsEnding, lines}
 use Rattle.acgrep.specs.Filled.{FillsBehind, ReadsOn}
-use Rattle.acgrep.specs.Streamed.{ReadsSome, SearchesLines, SearchesStream, SearchesWhole, course}
+use Rattle.acgrep.specs.Streamed.{Course, ReadsSome, SearchesBehind, SearchesStream, SearchesWhole, course}
 use Rattle.acgrep.specs.Contexts.{SearchesIn, SearchesText, around_of}
 use Rattle.acgrep.specs.Written.{IsSettled, SamePlace, SearchesPlain, after_lines}
 use Rattle.acgrep.specs.declared.options.Context.{Context}
@@ -82,47 +82,68 @@ module _ (p : Patterns) (job : Job) where
       → SearchesText p job a b x y front → SearchesText p job b c y z back → SearchesText p job a c x z (front ++ back)
   searches_more a b c x y z front back whole goes one other = more_in (around_of job) a b c x y z front back whole goes one other
 
-  pub stream_step : (a b c : State) (x y z l m n : Option (List ℕ)) (kept rest : List ℕ) (ended : Bool) → (IsSettled job b → ⊥)
-      → SearchesLines p job (course a b x y l m) kept → ReadsSome p job (course b c y z m n) kept rest ended → SearchesLines p job (course a c x z l n) rest
-  stream_step a b c x y z l m n kept rest ended goes so_far some =
-      let joined : (so_far.searched ++ kept) ++ some.came ≡ (so_far.searched ++ some.searched) ++ rest =
-      append_assoc so_far.searched kept some.came ∙ ap (λ (t : List ℕ). so_far.searched ++ t) some.cut ∙ sym (append_assoc so_far.searched some.searched rest) in
+  pub stream_step : (a b c : State) (x y z l m n : Option (List ℕ)) (first kept rest : List ℕ) (ended : Bool) → (IsSettled job b → ⊥)
+      → ReadsSome p job (course a b x y l m) first kept false → ReadsSome p job (course b c y z m n) kept rest ended → ReadsSome p job (course a c x z l n) first rest false
+  stream_step a b c x y z l m n first kept rest ended goes so_far some =
       record {
+        came = so_far.came ++ some.came;
         searched = so_far.searched ++ some.searched;
-        consumed = subst (Consumes l n) joined (Consumes-trans l m n (so_far.searched ++ kept) some.came so_far.consumed some.consumed);
+        consumed = Consumes-trans l m n so_far.came some.came so_far.consumed some.consumed;
+        cut = sym (append_assoc first so_far.came some.came) ∙ ap (λ (t : List ℕ). t ++ some.came) so_far.cut ∙ append_assoc so_far.searched kept some.came
+            ∙ ap (λ (t : List ℕ). so_far.searched ++ t) some.cut ∙ sym (append_assoc so_far.searched some.searched rest);
         whole = ends_joined job.style.ending so_far.searched some.searched so_far.whole some.whole;
         searches = searches_more a b c x y z so_far.searched some.searched so_far.whole goes so_far.searches some.searches;
+        ends = λ ended. absurd (cc);
       }
 
-  pub stream_end : (a b c : State) (x y z l m : Option (List ℕ)) (kept : List ℕ) → (IsSettled job b → ⊥) → IsAtEnd m
-      → SearchesLines p job (course a b x y l m) kept → SearchesText p job b c y z kept → SearchesStream p job (course a c x z l m)
-  stream_end a b c x y z l m kept goes end so_far last = record {
+  stream_end : (a b c : State) (x y z l m : Option (List ℕ)) (first kept : List ℕ) → (IsSettled job b → ⊥) → IsAtEnd m
+      → ReadsSome p job (course a b x y l m) first kept false → SearchesText p job b c y z kept → SearchesBehind p job (course a c x z l m) first
+  stream_end a b c x y z l m first kept goes end so_far last = record {
+    came = so_far.came;
     searched = so_far.searched ++ kept;
     rest = [];
-    consumed = subst (Consumes l m) (sym (append-nil (so_far.searched ++ kept))) so_far.consumed;
+    consumed = so_far.consumed;
+    cut = so_far.cut ∙ sym (append-nil (so_far.searched ++ kept));
     searches = searches_more a b c x y z so_far.searched kept so_far.whole goes so_far.searches last;
     ends = inl (refl, end);
   }
 
-  pub stream_stop : (a b : State) (x y l m : Option (List ℕ)) (kept : List ℕ) → IsSettled job b
-      → SearchesLines p job (course a b x y l m) kept → SearchesStream p job (course a b x y l m)
-  stream_stop a b x y l m kept settled so_far = record {
+  pub stream_stop : (a b : State) (x y l m : Option (List ℕ)) (first kept : List ℕ) → IsSettled job b
+      → ReadsSome p job (course a b x y l m) first kept false → SearchesBehind p job (course a b x y l m) first
+  stream_stop a b x y l m first kept settled so_far = record {
+    came = so_far.came;
     searched = so_far.searched;
     rest = kept;
     consumed = so_far.consumed;
+    cut = so_far.cut;
     searches = so_far.searches;
     ends = inr (so_far.whole, settled);
   }
 
   -- the read that told the end, and the search of what is kept
-  pub stream_last : {E : Type 0} (a b c d : State) (x y z w l m n : Option (List ℕ)) (kept rest : List ℕ) (ended : Bool) (result : Result (Unit {0}) E)
-      → (IsSettled job b → ⊥) → ended ≡ true → SearchesLines p job (course a b x y l m) kept → ReadsSome p job (course b c y z m n) kept rest ended
-      → OnOk result (SearchesText p job c d z w rest) → OnOk result (SearchesStream p job (course a d x w l n))
-  stream_last a b c d x y z w l m n kept rest ended (Err error) goes is so_far some last = tt
-  stream_last a b c d x y z w l m n kept rest ended (Ok done) goes is so_far some last =
+  pub stream_done : (a b c d : State) (x y z w l m n : Option (List ℕ)) (first kept rest : List ℕ) (ended : Bool)
+      → (IsSettled job b → ⊥) → ended ≡ true → ReadsSome p job (course a b x y l m) first kept false → ReadsSome p job (course b c y z m n) kept rest ended
+      → SearchesText p job c d z w rest → SearchesBehind p job (course a d x w l n) first
+  stream_done a b c d x y z w l m n first kept rest ended goes is so_far some last =
       let ends = some.ends is in
-      stream_end a c d x z w l n rest (λ settled. goes (subst (IsSettled job) ends.1 settled)) ends.0
-      (stream_step a b c x y z l m n kept rest ended goes so_far some) last
+      stream_end a c d x z w l n first rest (λ settled. goes (subst (IsSettled job) ends.1 settled)) ends.0
+      (stream_step a b c x y z l m n first kept rest ended goes so_far some) last
+
+  pub stream_last : {E : Type 0} (a b c d : State) (x y z w l m n : Option (List ℕ)) (first kept rest : List ℕ) (ended : Bool) (result : Result (Unit {0}) E)
+      → (IsSettled job b → ⊥) → ended ≡ true → ReadsSome p job (course a b x y l m) first kept false → ReadsSome p job (course b c y z m n) kept rest ended
+      → OnOk result (SearchesText p job c d z w rest) → OnOk result (SearchesBehind p job (course a d x w l n) first)
+  stream_last a b c d x y z w l m n first kept rest ended (Err error) goes is so_far some last = tt
+  stream_last a b c d x y z w l m n first kept rest ended (Ok done) goes is so_far some last = stream_done a b c d x y z w l m n first kept rest ended goes is so_far some last
+
+  -- where nothing was there the bytes were read
+  pub stream_of : (c : Course) → SearchesBehind p job c [] → SearchesStream p job c
+  stream_of c behind = record {
+    searched = behind.searched;
+    rest = behind.rest;
+    consumed = subst (Consumes c.left_before c.left_after) behind.cut behind.consumed;
+    searches = behind.searches;
+    ends = behind.ends;
+  }
 
   -- nothing is searched, and what the writer holds stays
   plain_none : (a : State) (x y : Option (List ℕ)) → Keeps x y → SearchesPlain p job a a x y []
@@ -148,12 +169,27 @@ module _ (p : Patterns) (job : Job) where
   searches_none a x y keeps = none_in (around_of job) a x y keeps
 
   -- at the begin nothing was searched or read
-  pub stream_start : (a : State) (x l : Option (List ℕ)) (kept : List ℕ) → kept ≡ [] → SearchesLines p job (course a a x x l l) kept
-  stream_start a x l kept none = record {
+  pub stream_start : (a : State) (x l : Option (List ℕ)) (kept : List ℕ) → ReadsSome p job (course a a x x l l) kept kept false
+  stream_start a x l kept = record {
+    came = [];
     searched = [];
-    consumed = subst (Consumes l l) (sym none) (Consumes-nil l);
+    consumed = Consumes-nil l;
+    cut = append-nil kept;
     whole = λ some. absurd (omega (arith, some));
     searches = searches_none a x x (Keeps-refl x);
+    ends = λ ended. absurd (cc);
+  }
+
+  -- or whole lines that were there
+  pub stream_whole_lines : (a b : State) (x y l : Option (List ℕ)) (first kept : List ℕ) → SearchesWhole p job a b x y first kept → ReadsSome p job (course a b x y l l) first kept false
+  stream_whole_lines a b x y l first kept searches = record {
+    came = [];
+    searched = searches.searched;
+    consumed = Consumes-nil l;
+    cut = append-nil first ∙ searches.cut;
+    whole = searches.whole;
+    searches = searches.searches;
+    ends = λ ended. absurd (cc);
   }
 
   -- what the writer held before stays

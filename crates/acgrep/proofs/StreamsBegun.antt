@@ -1,11 +1,11 @@
 -- A search of a stream that is broken off, put together from its reads.
-use Rattle.std.proofs.Common.{◌≡◌, inl, inr, ℕ, ◌-◌, ◌≤◌, ◌<◌, Bool, true, List, [], ◌++◌, Option, None, Some, length, take, drop, take-append-drop, refl, sym, ◌∙◌, ap, subst, arith, append_assoc, append-nil}
+use Rattle.std.proofs.Common.{◌≡◌, inl, inr, ℕ, ◌-◌, ◌≤◌, ◌<◌, Bool, true, false, List, [], ◌++◌, Option, None, Some, length, take, drop, take-append-drop, refl, sym, ◌∙◌, ap, subst, arith, append_assoc, append-nil}
 use Rattle.std.specs.Io.KnownBytes.{Appends, Consumes, Keeps}
-use Rattle.std.proofs.KnownBytes.{Consumes-trans}
+use Rattle.std.proofs.KnownBytes.{Consumes-nil, Consumes-trans}
 use Rattle.aho_core.specs.Patterns.{Patterns}
 use Rattle.acgrep.specs.Filled.{FillsBehind}
 use Rattle.acgrep.specs.Lines.{EndsLine, IsEnding, lines}
-use Rattle.acgrep.specs.Streamed.{BeginsSome, BeginsStream, BeginsWhole, ReadsSome, SearchesLines, SearchesStream, course}
+use Rattle.acgrep.specs.Streamed.{BeginsBehind, BeginsSome, BeginsStream, BeginsWhole, Course, ReadsSome, SearchesStream, course}
 use Rattle.acgrep.specs.Contexts.{BeginsAsked, BeginsSearched, SearchesIn, SearchesText, around_of, walk_of}
 use Rattle.acgrep.specs.Written.{BeginsLines, IsSettled, SamePlace, SearchesPlain, after_lines}
 use Rattle.acgrep.specs.declared.options.Context.{Context}
@@ -108,42 +108,69 @@ module _ (p : Patterns) (job : Job) where
   }
 
   -- what was read so far, and a read that is broken off
-  pub stream_begins : (a b c : State) (x y z l m n : Option (List ℕ)) (kept : List ℕ) → (IsSettled job b → ⊥)
-      → SearchesLines p job (course a b x y l m) kept → BeginsSome p job (course b c y z m n) kept → BeginsStream p job (course a c x z l n)
-  stream_begins a b c x y z l m n kept goes so_far some =
-      let joined : (so_far.searched ++ kept) ++ some.came ≡ (so_far.searched ++ some.searched) ++ some.rest =
-      append_assoc so_far.searched kept some.came ∙ ap (λ (t : List ℕ). so_far.searched ++ t) some.cut ∙ sym (append_assoc so_far.searched some.searched some.rest) in
+  pub stream_begins : (a b c : State) (x y z l m n : Option (List ℕ)) (first kept : List ℕ) → (IsSettled job b → ⊥)
+      → ReadsSome p job (course a b x y l m) first kept false → BeginsSome p job (course b c y z m n) kept → BeginsBehind p job (course a c x z l n) first
+  stream_begins a b c x y z l m n first kept goes so_far some =
       record {
+        came = so_far.came ++ some.came;
         searched = so_far.searched ++ some.searched;
         rest = some.rest;
-        consumed = subst (Consumes l n) joined (Consumes-trans l m n (so_far.searched ++ kept) some.came so_far.consumed some.consumed);
+        consumed = Consumes-trans l m n so_far.came some.came so_far.consumed some.consumed;
+        cut = sym (append_assoc first so_far.came some.came) ∙ ap (λ (t : List ℕ). t ++ some.came) so_far.cut ∙ append_assoc so_far.searched kept some.came
+            ∙ ap (λ (t : List ℕ). so_far.searched ++ t) some.cut ∙ sym (append_assoc so_far.searched some.searched some.rest);
         begins = begins_after a b c.selected x y z so_far.searched some.searched so_far.whole goes so_far.searches some.begins;
         ends = inl (ends_joined job.style.ending so_far.searched some.searched so_far.whole some.whole);
       }
 
   -- the read that told the end, and a search of what is kept that is broken off
-  pub stream_last_begins : (a b c d : State) (x y z w l m n : Option (List ℕ)) (kept rest : List ℕ) (ended : Bool) → (IsSettled job b → ⊥) → ended ≡ true
-      → SearchesLines p job (course a b x y l m) kept → ReadsSome p job (course b c y z m n) kept rest ended → BeginsSearched p job c d.selected z w (lines job.style.ending rest)
-      → BeginsStream p job (course a d x w l n)
-  stream_last_begins a b c d x y z w l m n kept rest ended goes is so_far some last =
+  pub stream_last_begins : (a b c d : State) (x y z w l m n : Option (List ℕ)) (first kept rest : List ℕ) (ended : Bool) → (IsSettled job b → ⊥) → ended ≡ true
+      → ReadsSome p job (course a b x y l m) first kept false → ReadsSome p job (course b c y z m n) kept rest ended → BeginsSearched p job c d.selected z w (lines job.style.ending rest)
+      → BeginsBehind p job (course a d x w l n) first
+  stream_last_begins a b c d x y z w l m n first kept rest ended goes is so_far some last =
       let ends = some.ends is in
-      let mid : SearchesLines p job (course a c x z l n) rest = stream_step p job a b c x y z l m n kept rest ended goes so_far some in
+      let mid : ReadsSome p job (course a c x z l n) first rest false = stream_step p job a b c x y z l m n first kept rest ended goes so_far some in
       record {
+        came = mid.came;
         searched = mid.searched ++ rest;
         rest = [];
-        consumed = subst (Consumes l n) (sym (append-nil (mid.searched ++ rest))) mid.consumed;
+        consumed = mid.consumed;
+        cut = mid.cut ∙ sym (append-nil (mid.searched ++ rest));
         begins = begins_after a c d.selected x z w mid.searched rest mid.whole (λ settled. goes (subst (IsSettled job) ends.1 settled)) mid.searches last;
         ends = inr (refl, ends.0);
       }
 
   -- nothing more is read
-  pub stream_begins_stop : (a b : State) (x y l m : Option (List ℕ)) (kept : List ℕ) → SearchesLines p job (course a b x y l m) kept → BeginsStream p job (course a b x y l m)
-  stream_begins_stop a b x y l m kept so_far = record {
+  pub stream_begins_stop : (a b : State) (x y l m : Option (List ℕ)) (first kept : List ℕ) → ReadsSome p job (course a b x y l m) first kept false → BeginsBehind p job (course a b x y l m) first
+  stream_begins_stop a b x y l m first kept so_far = record {
+    came = so_far.came;
     searched = so_far.searched;
     rest = kept;
     consumed = so_far.consumed;
+    cut = so_far.cut;
     begins = begins_whole a b x y so_far.searched so_far.searches;
     ends = inl so_far.whole;
+  }
+
+  -- whole lines that were there, of which the search is broken off
+  pub stream_begins_lines : (a b : State) (x y l : Option (List ℕ)) (first : List ℕ) → BeginsWhole p job a b x y first → BeginsBehind p job (course a b x y l l) first
+  stream_begins_lines a b x y l first begins = record {
+    came = [];
+    searched = begins.searched;
+    rest = begins.rest;
+    consumed = Consumes-nil l;
+    cut = append-nil first ∙ begins.cut;
+    begins = begins.begins;
+    ends = inl begins.whole;
+  }
+
+  -- where nothing was there the bytes were read
+  pub begun_of : (c : Course) → BeginsBehind p job c [] → BeginsStream p job c
+  begun_of c behind = record {
+    searched = behind.searched;
+    rest = behind.rest;
+    consumed = subst (Consumes c.left_before c.left_after) behind.cut behind.consumed;
+    begins = behind.begins;
+    ends = behind.ends;
   }
 
   -- a stream that was searched

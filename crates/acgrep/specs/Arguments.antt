@@ -21,7 +21,7 @@ use Rattle.acgrep.specs.declared.long.Valued.TheVariants.{Regexp, PatternFile, K
 use Rattle.acgrep.specs.declared.options.Color.{Color}
 use Rattle.acgrep.specs.declared.options.Context.{Context}
 use Rattle.acgrep.specs.declared.options.Switch.{Switch}
-use Rattle.acgrep.specs.declared.options.Switch.TheVariants.{IgnoreCase, MatchCase, Invert, WholeWords, WholeLines, Counts, Tallies, Numbers, OnlyMatching, Offsets, OnlyNames, OnlyLacking, Recursive, Follow, NullNames, NullData, Quiet, NoSeparator, InitialTab, Json, NoName, WithName, NoMatchOk, NoMessages, Help, Version, Same}
+use Rattle.acgrep.specs.declared.options.Switch.TheVariants.{IgnoreCase, MatchCase, Invert, WholeWords, WholeLines, Counts, Tallies, Numbers, OnlyMatching, Offsets, OnlyNames, OnlyLacking, Recursive, Follow, NullNames, NullData, Quiet, NoSeparator, InitialTab, Json, NoName, WithName, NoMatchOk, NoMessages, Help, Version, Text, Same}
 use Rattle.acgrep.specs.declared.arguments.Awaited.{Awaited}
 use Rattle.acgrep.specs.declared.arguments.Awaited.TheVariants.{Fresh, Argument, Operands}
 use Rattle.acgrep.specs.declared.arguments.Refusal.{Refusal}
@@ -90,7 +90,8 @@ switch_by letter =
     else if letter == 104 then Some NoName
     else if letter == 72 then Some WithName
     else if letter == 86 then Some Version
-    else if letter == 70 || (letter == 97 || letter == 85) then Some Same
+    else if letter == 97 then Some Text
+    else if letter == 70 || letter == 85 then Some Same
     else None
 
 -- what such an option changes; of `-h` and `-H` the last counts, of `-l` and `-L`, and of `-i` and `--no-ignore-case`
@@ -121,6 +122,7 @@ switched NoMatchOk flags = record flags { no_match_ok = true }
 switched NoMessages flags = record flags { no_messages = true }
 switched Help flags = record flags { help = true }
 switched Version flags = record flags { version = true }
+switched Text flags = record flags { text = true }
 switched Same flags = flags
 
 -- whether this is a number below 2^64 in decimal: one digit or more, and nothing else
@@ -359,6 +361,7 @@ no_flags = record {
   no_match_ok = false;
   no_messages = false;
   most = None;
+  text = false;
   help = false;
   version = false;
 }

@@ -4,17 +4,17 @@ use Rattle.programs.specs.Names.{is_input, name_bytes, or_input}
 use Rattle.std.specs.Prelude.{◌≡◌, ◌⊎◌, ℕ, ◌||◌, nat_lt, Bool, true, false, List, [], ◌∷◌, ◌++◌, Option, Some, None, IfSome, MatchBool, if◌then◌else◌}
 use Rattle.std.specs.Io.KnownBytes.{Appends, Consumes, IsAtEnd, Keeps}
 use Rattle.aho_core.specs.Patterns.{Patterns}
+use Rattle.acgrep.specs.Binary.{BeginsGuarded, TellsGuarded, is_guarded, is_text}
 use Rattle.acgrep.specs.Contexts.{TellsAround, TellsFile, around_of}
 use Rattle.acgrep.specs.Filled.{ReadsOn}
 use Rattle.acgrep.specs.Lines.{lines}
 use Rattle.acgrep.specs.Printed.{count_by, file_line}
-use Rattle.acgrep.specs.Written.{EachLine, IsPassedOver, IsSelected, StartsNext, TellsOfLines, after_lines, is_full, needs_one}
+use Rattle.acgrep.specs.Written.{IsAny, IsSelected, SomeLine, StartsNext, TellsOfLines, after_lines, is_full, needs_one}
 use Rattle.acgrep.specs.declared.files.Files.{Files}
 use Rattle.acgrep.specs.declared.files.Outcome.{Outcome}
 use Rattle.acgrep.specs.declared.files.Outcome.TheVariants.{Searched, Unread, Stopped}
 use Rattle.acgrep.specs.declared.files.Seen.{Seen}
 use Rattle.acgrep.specs.declared.options.Context.{Context}
-use Rattle.acgrep.specs.declared.options.Fit.{Fit}
 use Rattle.acgrep.specs.declared.options.Shown.{Shown}
 use Rattle.acgrep.specs.declared.options.Shown.TheVariants.{Lines, Matches, Objects, Count, Names, Lacking, Nothing}
 use Rattle.acgrep.specs.declared.print.Style.{Style}
@@ -23,15 +23,6 @@ use Rattle.acgrep.specs.declared.select.Job.{Job}
 -- the names of a call's files: that of standard input where none is given
 abbrev pub files_named : {F : Type 0} → Files F → List (List ℕ)
 files_named files = or_input (name_bytes files.names.now)
-
--- some line is so
-abbrev pub SomeLine : (List ℕ → Type 0) → List (List ℕ) → Type 0
-SomeLine P [] = ⊥
-SomeLine P (line ∷ rest) = P line ⊎ SomeLine P rest
-
--- whether one of these lines is selected
-abbrev pub IsAny : Patterns → Fit → (invert : Bool) → List (List ℕ) → Bool → Type 0
-IsAny p fit invert ls any = MatchBool any (SomeLine (IsSelected p fit invert) ls) (EachLine (IsPassedOver p fit invert) ls)
 
 -- behind the lines of a file stands their count where it is asked for
 abbrev pub count_if : Shown → Style → ℕ → List ℕ
@@ -68,24 +59,32 @@ TellsBy p job Names text any bytes = bytes ≡ (if any then file_line job.style 
 TellsBy p job Lacking text any bytes = bytes ≡ (if any then [] else file_line job.style)
 TellsBy p job Nothing text any bytes = bytes ≡ []
 
--- a file was searched whose bytes are these, where they are known: that is written, and nothing else
+-- and whether a line of it is selected
+abbrev pub TellsSearched : Patterns → Job → List ℕ → Bool → List ℕ → Type 0
+TellsSearched p job text any bytes = IsAny p job.fit job.invert (lines job.style.ending text) any × TellsBy p job job.shown text any bytes
+
+-- a file was searched whose bytes are these, where they are known: that is written, or what is told where lines with a zero byte are
+-- kept from the output, and nothing else
 pub record SearchesFile (p : Patterns) (job : Job) (known held held' : Option (List ℕ)) (any : Bool) : Type 0 where
   pub text : List ℕ
   pub of : IfSome known (λ bytes. text ≡ bytes)
-  pub selected : IsAny p job.fit job.invert (lines job.style.ending text) any
   pub bytes : List ℕ
-  pub tells : TellsBy p job job.shown text any bytes
+  pub tells : MatchBool (is_guarded job) (TellsGuarded p job text any bytes) (TellsSearched p job text any bytes)
   pub written : Appends held held' bytes
 
 -- so many lines of a text are selected as are asked for
 abbrev pub HasAllAsked : Patterns → Job → List ℕ → Type 0
 HasAllAsked p job text = (told : List ℕ) × (count : ℕ) × TellsOfLines p job job.first 0 (lines job.style.ending text) told count × (is_full job.most count ≡ true)
 
+-- a zero byte was read where lines with one are kept from the output, and a selected line told all
+abbrev pub HasTold : Job → List ℕ → Bool → Type 0
+HasTold job bytes any = (is_guarded job ≡ true) × (any ≡ true) × SomeLine (λ line. is_text line ≡ false) (lines job.style.ending bytes)
+
 -- a reader was read to its end, or until a selected line told all, or so many lines of it are selected as are asked for
 pub record IsRead (p : Patterns) (job : Job) (left left' : Option (List ℕ)) (any : Bool) : Type 0 where
   pub bytes : List ℕ
   pub read : Consumes left left' bytes
-  pub ended : IsAtEnd left' ⊎ (((needs_one job.shown ≡ true) × (any ≡ true)) ⊎ HasAllAsked p job bytes)
+  pub ended : IsAtEnd left' ⊎ (((needs_one job.shown ≡ true) × (any ≡ true)) ⊎ (HasAllAsked p job bytes ⊎ HasTold job bytes any))
 
 -- all that a reader has left was searched
 pub record SearchesReader (p : Patterns) (job : Job) (left left' held held' : Option (List ℕ)) (any : Bool) : Type 0 where
@@ -115,6 +114,7 @@ pub record IsNamed (job : Job) (bytes : List ℕ) (later : Bool) (named : Job) :
   pub label : named.label.now ≡ job.label.now
   pub context : named.context ≡ job.context
   pub follows : named.follows ≡ later
+  pub guards : named.guards ≡ job.guards
 
 -- how a file is called in what is written
 abbrev pub shown_name : (label name : List ℕ) → List ℕ
@@ -243,8 +243,9 @@ abbrev pub BeginsFileIn : Patterns → Job → Option Context → (known held he
 BeginsFileIn p job None known held held' = BeginsPlain p job known held held'
 BeginsFileIn p job (Some context) known held held' = BeginsAround p job context known held held'
 
+-- or of what is told where lines with a zero byte are kept from the output
 abbrev pub BeginsFile : Patterns → Job → (known held held' : Option (List ℕ)) → Type 0
-BeginsFile p job known held held' = BeginsFileIn p job (around_of job) known held held'
+BeginsFile p job known held held' = MatchBool (is_guarded job) (BeginsGuarded p job known held held') (BeginsFileIn p job (around_of job) known held held')
 
 -- what is so where a file was not searched
 abbrev pub IfBroken : Outcome → Type 0 → Type 0

@@ -2,6 +2,7 @@ pub mod Alone
 pub mod Arguments
 pub mod Backing
 pub mod Base64
+pub mod Binary
 pub mod Colors
 pub mod Contexts
 pub mod Counted
@@ -10,6 +11,7 @@ pub mod Filled
 pub mod Folders
 pub mod Formats
 pub mod Globs
+pub mod Guarded
 pub mod Lines
 pub mod Listed
 pub mod Loading

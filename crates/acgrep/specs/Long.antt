@@ -7,7 +7,7 @@ use Rattle.call_options.specs.declared.found.Found.TheVariants.{Unknown}
 use Rattle.acgrep.specs.declared.long.Long.{Long}
 use Rattle.acgrep.specs.declared.long.Long.TheVariants.{Plain, Takes, When}
 use Rattle.acgrep.specs.declared.long.Valued.TheVariants.{Regexp, PatternFile, Kind, Offset, FirstLine, MaxCount, After, Before, Around, Separator, Label, Format, Included, Excluded, ExcludedFolder}
-use Rattle.acgrep.specs.declared.options.Switch.TheVariants.{IgnoreCase, MatchCase, Invert, WholeWords, WholeLines, Counts, Tallies, Numbers, OnlyMatching, Offsets, OnlyNames, OnlyLacking, NullNames, NullData, Recursive, Follow, Quiet, NoSeparator, InitialTab, Json, NoName, WithName, NoMatchOk, NoMessages, Help, Version, Same}
+use Rattle.acgrep.specs.declared.options.Switch.TheVariants.{IgnoreCase, MatchCase, Invert, WholeWords, WholeLines, Counts, Tallies, Numbers, OnlyMatching, Offsets, OnlyNames, OnlyLacking, NullNames, NullData, Recursive, Follow, Quiet, NoSeparator, InitialTab, Json, NoName, WithName, NoMatchOk, NoMessages, Help, Version, Text, Same}
 
 -- the options that say what is searched for
 abbrev pub pattern_options : List (Named Long)
@@ -20,7 +20,7 @@ pattern_options = named (codes "regexp") (Takes Regexp)
     ∷ named (codes "line-regexp") (Plain WholeLines)
     ∷ named (codes "kind") (Takes Kind)
     ∷ named (codes "fixed-strings") (Plain Same)
-    ∷ named (codes "text") (Plain Same)
+    ∷ named (codes "text") (Plain Text)
     ∷ named (codes "binary") (Plain Same)
     ∷ []
 

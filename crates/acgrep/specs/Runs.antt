@@ -6,6 +6,7 @@ use Rattle.aho_core.specs.Patterns.{Patterns}
 use Rattle.aho_devices.specs.Counts.{AppendsBeginning}
 use Rattle.aho_core.specs.declared.search.MatchKind.{MatchKind}
 use Rattle.aho_core.specs.declared.search.MatchKind.TheVariants.{LeftmostLongest}
+use Rattle.acgrep.specs.Binary.{is_guarded, writes_lines}
 use Rattle.acgrep.specs.Arguments.{Origin, Said, asks_counts, context_by, ending_by, fit_by, origin_of, said_by, shown_by}
 use Rattle.programs.specs.Names.{is_input, or_input}
 use Rattle.acgrep.specs.Files.{AreFilesBegun, AreSearchedOr}
@@ -154,6 +155,10 @@ lists_finds flags terminal = shows_finds (shown_by flags) (is_colored flags.colo
 abbrev pub first_place : Flags → Place
 first_place flags = record { lines = (flags.first_line + (2 ^ 64 - 1)) % 2 ^ 64; bytes = flags.first }
 
+-- on a terminal lines with a zero byte are kept from the output, unless `-a` or `-z` is given, where lines or matches are written
+abbrev pub guards_by : Flags → Bool → Bool
+guards_by flags terminal = writes_lines (shown_by flags) && (terminal && (not flags.text && not flags.null_data))
+
 -- how a match is written with its fields: by these pieces, or as an object
 abbrev pub form_said : Form → Option (List Piece)
 form_said Json = None
@@ -197,6 +202,8 @@ pub record IsJob (given : Said) (screen : Screen) (several : Bool) (job : Job) :
   pub form : form_said job.style.form ≡ form_asked given
   -- how standard input is called
   pub label : job.label.now ≡ given.label
+  -- whether lines from the first on that holds a zero byte are kept from the output
+  pub guards : is_guarded job ≡ guards_by given.flags screen.terminal
 
 -- whether there are rules of which files are searched
 abbrev pub has_rules : List RuleSaid → Bool

@@ -43,12 +43,15 @@ pub record SearchesStream (p : Patterns) (job : Job) (c : Course) : Type 0 where
   pub searches : SearchesText p job c.before c.after c.held_before c.held_after searched
   pub ends : ((rest ≡ []) × IsAtEnd c.left_after) ⊎ (EndsLine job.style.ending searched × IsSettled job c.after)
 
--- whole lines of what was read are searched, and these bytes are kept
-pub record SearchesLines (p : Patterns) (job : Job) (c : Course) (kept : List ℕ) : Type 0 where
+-- the same of bytes that are there, and of those that were read behind them
+pub record SearchesBehind (p : Patterns) (job : Job) (c : Course) (kept : List ℕ) : Type 0 where
+  pub came : List ℕ
   pub searched : List ℕ
-  pub consumed : Consumes c.left_before c.left_after (searched ++ kept)
-  pub whole : EndsLine job.style.ending searched
+  pub rest : List ℕ
+  pub consumed : Consumes c.left_before c.left_after came
+  pub cut : kept ++ came ≡ searched ++ rest
   pub searches : SearchesText p job c.before c.after c.held_before c.held_after searched
+  pub ends : ((rest ≡ []) × IsAtEnd c.left_after) ⊎ (EndsLine job.style.ending searched × IsSettled job c.after)
 
 -- bytes come behind those that are kept, and the whole lines of both are searched
 pub record ReadsSome (p : Patterns) (job : Job) (c : Course) (kept_before kept_after : List ℕ) (ended : Bool) : Type 0 where
@@ -76,6 +79,16 @@ pub record BeginsStream (p : Patterns) (job : Job) (c : Course) : Type 0 where
   pub consumed : Consumes c.left_before c.left_after (searched ++ rest)
   pub begins : BeginsSearched p job c.before c.after.selected c.held_before c.held_after (lines job.style.ending searched)
   -- the lines are whole ones
+  pub ends : EndsLine job.style.ending searched ⊎ ((rest ≡ []) × IsAtEnd c.left_after)
+
+-- the same of bytes that are there, and of those that were read behind them
+pub record BeginsBehind (p : Patterns) (job : Job) (c : Course) (kept : List ℕ) : Type 0 where
+  pub came : List ℕ
+  pub searched : List ℕ
+  pub rest : List ℕ
+  pub consumed : Consumes c.left_before c.left_after came
+  pub cut : kept ++ came ≡ searched ++ rest
+  pub begins : BeginsSearched p job c.before c.after.selected c.held_before c.held_after (lines job.style.ending searched)
   pub ends : EndsLine job.style.ending searched ⊎ ((rest ≡ []) × IsAtEnd c.left_after)
 
 -- bytes come behind those that are kept, and of the whole lines of both a beginning of what is told is written

@@ -235,3 +235,12 @@ pub record BeginsLines (p : Patterns) (job : Job) (before : State) (count : ℕ)
   pub begun : List ℕ
   pub starts : StartsNext p job (after_lines before.place first) count left begun
   pub written : Appends old new (told ++ begun)
+
+-- some line is so
+abbrev pub SomeLine : (List ℕ → Type 0) → List (List ℕ) → Type 0
+SomeLine P [] = ⊥
+SomeLine P (line ∷ rest) = P line ⊎ SomeLine P rest
+
+-- whether one of these lines is selected
+abbrev pub IsAny : Patterns → Fit → (invert : Bool) → List (List ℕ) → Bool → Type 0
+IsAny p fit invert ls any = MatchBool any (SomeLine (IsSelected p fit invert) ls) (EachLine (IsPassedOver p fit invert) ls)

@@ -34,6 +34,8 @@ const KEEPS: &[u8] = b"ne";
 pub struct Screen<'a> {
     /// Whether the output is a terminal with colours.
     pub colored: bool,
+    /// Whether it is a terminal.
+    pub terminal: bool,
     /// What `GREP_COLORS` says.
     pub colors: &'a [u8],
 }

@@ -5,7 +5,7 @@ ghost use Rattle.std.specs.Io.KnownBytes.{Appends};
 ghost use Rattle.aho_core.specs.Patterns.{Patterns};
 ghost use Rattle.acgrep.specs.Filled.{ReadsOn};
 ghost use Rattle.programs.specs.Names.{name_bytes};
-ghost use Rattle.acgrep.specs.Told.{IsMessage, TellsCause, TellsIf, TellsOfEnd, TellsOfFiles, TellsOfOutcome, files_told, stopped_if};
+ghost use Rattle.acgrep.specs.Told.{IsMessage, TellsIf, TellsOfEnd, TellsOfFiles, TellsOfOutcome, files_told};
 ghost use Rattle.acgrep.specs.Files.{AreFilesBegun, AreSearchedOr, BeginsName, BeginsTotal, EndsFile, IfBroken, IfSearched, IsNamed, LeavesInput, SearchesName, SearchesNames, files_named, is_enough, nothing_seen, seen_after, shown_name, status_by, total_if};
 ghost use Rattle.acgrep.specs.Printed.{Puts};
 ghost use Rattle.acgrep.specs.Searched.{BeginsFileBy, BeginsFilesBy, SearchesFileBy, SearchesReaderBy};
@@ -14,13 +14,15 @@ ghost use Rattle.acgrep.specs.Selected.{ForJob};
 use crate::backed::Lister;
 use crate::buffer::Buffer;
 use crate::failure::Stop;
+use crate::guarded::search_guarded;
 use crate::keys::{INPUT, is_input, open_named};
 use crate::open::Open;
 use crate::options::Shown;
 use crate::print::{Style, put_count, put_name};
 use crate::select::{Job, State};
 use crate::stream::search_stream;
-use crate::tell::{tell_fault, tell_memory, tell_output, tell_search, tell_unopened, tell_write};
+use crate::tell::tell_memory;
+use crate::unread::{tell_closed, tell_same, tell_stop, tell_total};
 use chromesquid::{Sink, write_whole};
 use programs::errors::Errors;
 use programs::reason::Reason;
@@ -417,6 +419,12 @@ fn search_one<A: Lister, R: Read, W: Sink, E: Sink>(
     ensures told { TellsOfOutcome E.Sink job.now.hushed job.now.style.name.now result
         errors.old errors.new }
 {
+    if job.is_guarded() {
+        return match search_guarded(automaton, job, buffer, reader, state, page, output) {
+            Ok(any) => Outcome::Searched(any),
+            Err(stop) => break_off(job, state, &stop, page, output, errors),
+        };
+    }
     state.begin(job);
     match search_stream(automaton, job, buffer, reader, state, page, output) {
         Ok(()) => end_file(job, state, page, output, errors),
@@ -503,76 +511,6 @@ fn put_asked<W: Write>(job: &Job<'_>, selected: u64, output: &mut W) -> io::Resu
     }
 }
 
-/// Tells why a file cannot be read, if that is asked for.
-fn tell_unread<E: Sink>(job: &Job<'_>, reason: Reason, errors: &mut Errors<'_, E>)
-    ensures told { TellsOfOutcome E.Sink job.now.hushed job.now.style.name.now (stopped_if false)
-        errors.old errors.new }
-{
-    if job.hushed {
-        return;
-    }
-    tell_fault(job.style.name, reason, errors);
-}
-
-/// Tells why a file cannot be opened, if that is asked for.
-fn tell_closed<E: Sink>(job: &Job<'_>, reason: Reason, errors: &mut Errors<'_, E>)
-    ensures told { TellsOfOutcome E.Sink job.now.hushed job.now.style.name.now (stopped_if false)
-        errors.old errors.new }
-{
-    if job.hushed {
-        return;
-    }
-    tell_unopened(job.style.name, reason, errors);
-}
-
-/// Tells that the output goes to a file, if that is asked for.
-fn tell_same<E: Sink>(job: &Job<'_>, errors: &mut Errors<'_, E>)
-    ensures told { TellsOfOutcome E.Sink job.now.hushed job.now.style.name.now (stopped_if false)
-        errors.old errors.new }
-{
-    let hushed = job.hushed;
-    if hushed {
-        return;
-    }
-    tell_output(job.style.name, errors);
-}
-
-/// Tells why a search stopped, and answers whether that ends the call.
-fn tell_stop<E: Sink>(job: &Job<'_>, stop: &Stop, errors: &mut Errors<'_, E>) -> bool
-    ensures told { TellsOfOutcome E.Sink job.now.hushed job.now.style.name.now (stopped_if result)
-        errors.old errors.new }
-{
-    match stop {
-        Stop::Read(reason) => {
-            tell_unread(job, *reason, errors);
-            false
-        }
-        Stop::Write => {
-            tell_write(errors);
-            true
-        }
-        Stop::Search(error) => {
-            tell_search(error, errors);
-            true
-        }
-        // A line is too long: the other files are searched.
-        Stop::OutOfMemory => {
-            tell_unread(job, Reason::OutOfMemory, errors);
-            false
-        }
-    }
-}
-
-/// Tells why what is asked of a file as a whole was not written: memory ran out, or the output cannot be written.
-pub fn tell_total<E: Sink>(stop: &Stop, errors: &mut Errors<'_, E>)
-    ensures told { TellsCause E.Sink errors.old errors.new }
-{
-    match stop {
-        Stop::OutOfMemory => tell_memory(errors),
-        _ => tell_write(errors),
-    }
-}
-
 /// What is written of the file of this name.
 fn job_for<'a>(job: &Job<'a>, name: &'a [u8], follows: bool) -> Job<'a>
     ensures named { IsNamed job.now name.now follows result }
@@ -602,5 +540,6 @@ fn job_for<'a>(job: &Job<'a>, name: &'a [u8], follows: bool) -> Job<'a>
         context: job.context,
         follows,
         late: job.late,
+        guards: job.guards,
     }
 }

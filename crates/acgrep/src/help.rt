@@ -74,7 +74,8 @@ Folders:
 Others:
   -s, --no-messages     do not tell of files that cannot be read
   --no-match-ok         end with 0 where no line is selected too
-  -F, -a, -U, --fixed-strings, --text, --binary, --line-buffered
+  -a, --text            write lines that hold a zero byte to a terminal too
+  -F, -U, --fixed-strings, --binary, --line-buffered
                         what is done without them too
   --                    what follows is no option
   --help                write this text

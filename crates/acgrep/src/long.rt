@@ -93,7 +93,7 @@ fn or_patterns(found: Found<Long>, name: &[u8]) -> Found<Long>
         .or(name, b"line-regexp", Long::Plain(Switch::WholeLines))
         .or(name, b"kind", Long::Takes(Valued::Kind))
         .or(name, b"fixed-strings", Long::Plain(Switch::Same))
-        .or(name, b"text", Long::Plain(Switch::Same))
+        .or(name, b"text", Long::Plain(Switch::Text))
         .or(name, b"binary", Long::Plain(Switch::Same))
 }
 

@@ -21,6 +21,7 @@ mod files;
 mod folders;
 mod format;
 mod globs;
+mod guarded;
 mod held;
 mod help;
 mod json;
@@ -40,6 +41,7 @@ mod stream;
 mod tally;
 mod tell;
 mod trail;
+mod unread;
 mod walk;
 
 use bytes::{arguments, variable};
@@ -68,6 +70,7 @@ fn main(rt: HostRuntime) -> ExitCode {
     };
     let screen = Screen {
         colored: rt.stdout().is_terminal() && has_colors(&rt),
+        terminal: rt.stdout().is_terminal(),
         colors: colors.as_slice(),
     };
     let noted = Noted::new(rt.stdout(), &reason);

@@ -113,7 +113,9 @@ pub enum Switch {
     Help,
     /// `-V`
     Version,
-    /// `-F`, `-a`, `-U` and `--line-buffered`: what is done without them too.
+    /// `-a`
+    Text,
+    /// `-F`, `-U` and `--line-buffered`: what is done without them too.
     Same,
 }
 
@@ -142,7 +144,8 @@ pub fn switch_of(letter: u8) -> Option<Switch>
         b'h' => Some(Switch::NoName),
         b'H' => Some(Switch::WithName),
         b'V' => Some(Switch::Version),
-        b'F' | b'a' | b'U' => Some(Switch::Same),
+        b'a' => Some(Switch::Text),
+        b'F' | b'U' => Some(Switch::Same),
         _ => None,
     }
 }
@@ -212,6 +215,8 @@ pub struct Flags {
     pub no_messages: bool,
     /// The last `-m`: how many lines of each file are selected at most.
     pub most: Option<u64>,
+    /// `-a`: lines that hold a zero byte are written to a terminal too.
+    pub text: bool,
     /// `--help`.
     pub help: bool,
     /// `--version`.
@@ -257,6 +262,7 @@ impl Flags {
             no_match_ok: false,
             no_messages: false,
             most: None,
+            text: false,
             help: false,
             version: false,
         }
@@ -393,6 +399,7 @@ impl Flags {
             Switch::NoMessages => flags.no_messages = true,
             Switch::Help => flags.help = true,
             Switch::Version => flags.version = true,
+            Switch::Text => flags.text = true,
             Switch::Same => {}
         }
         flags

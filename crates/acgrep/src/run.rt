@@ -475,6 +475,7 @@ pub fn job_of<'a>(given: &'a Given<'_>, screen: &Screen<'a>, several: bool) -> J
         context: flags.context(),
         follows: false,
         late: flags.asks_counts(),
+        guards: screen.terminal && !flags.text,
     }
 }
 

@@ -49,9 +49,12 @@ pub struct Job<'a> {
     pub follows: bool,
     /// Whether the output is written behind the last file.
     pub late: bool,
+    /// Whether lines and matches are kept from the output from the first line on that holds a zero byte.
+    pub guards: bool,
 }
 
 impl<'a> Job<'a> {
+    ghost use Rattle.acgrep.specs.Binary.{is_guarded, seeking};
     ghost use Rattle.acgrep.specs.Contexts.{around_of, beside};
 
     /// How many lines are written around selected ones: where lines or matches are written, as many as are asked for.
@@ -110,6 +113,26 @@ impl<'a> Job<'a> {
             Some(most) => count > 0 && most <= count,
             None => false,
         }
+    }
+
+    /// Whether lines from the first on that holds a zero byte are kept from the output: lines or matches are written, and a newline
+    /// ends a line.
+    pub fn is_guarded(&self) -> bool
+        ensures guarded { result ≡ is_guarded self.now }
+    {
+        match self.shown {
+            Shown::Lines | Shown::Matches => self.guards && self.style.ending != 0,
+            _ => false,
+        }
+    }
+
+    /// What is sought in the lines from the first on that holds a zero byte: one that is selected, of which nothing is written.
+    pub fn seeking(&self) -> Job<'a>
+        ensures seeking { result ≡ seeking self.now }
+    {
+        let mut job = *self;
+        job.shown = Shown::Nothing;
+        job
     }
 
     /// What is written of the lines around selected ones: under `-v` their matches are shown, and else not.

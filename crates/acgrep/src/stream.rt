@@ -5,7 +5,7 @@ ghost use Rattle.aho_core.specs.Patterns.{Patterns};
 ghost use Rattle.acgrep.specs.Filled.{ReadsOn, bytes_buffered};
 ghost use Rattle.acgrep.specs.Lines.{IsEnding};
 ghost use Rattle.acgrep.specs.Selected.{ForJob};
-ghost use Rattle.acgrep.specs.Streamed.{BeginsSome, BeginsStream, BeginsWhole, ReadsSome, SearchesStream, SearchesWhole, course_of};
+ghost use Rattle.acgrep.specs.Streamed.{BeginsBehind, BeginsSome, BeginsStream, BeginsWhole, ReadsSome, SearchesBehind, SearchesStream, SearchesWhole, course_of};
 
 use crate::backed::Lister;
 use crate::buffer::Buffer;
@@ -40,6 +40,30 @@ pub fn search_stream<A: Lister, R: Read, W: Sink>(
     ensures reads { ReadsOn (R.remaining input.old) (R.remaining input.new) }
 {
     buffer.clear();
+    search_behind(automaton, job, buffer, input, state, page, output)
+}
+
+/// Searches what is there and all that a reader gives behind it.
+pub fn search_behind<A: Lister, R: Read, W: Sink>(
+    automaton: &A,
+    job: &Job<'_>,
+    buffer: &mut Buffer,
+    input: &mut R,
+    state: &mut State,
+    page: &mut Vec<u8>,
+    output: &mut W,
+) -> Result<(), Stop>
+    requires of { (p : Patterns) × A.is_of automaton.now p }
+    ensures written { ForJob job.now (A.is_of automaton.now) (λ p.
+        OnOk result (SearchesBehind p job.now (course_of W.Sink R.Read
+        state.old state.new output.old output.new input.old input.new) (bytes_buffered buffer.old))) }
+    ensures begun { ForJob job.now (A.is_of automaton.now) (λ p.
+        OnErr result (BeginsBehind p job.now (course_of W.Sink R.Read
+        state.old state.new output.old output.new input.old input.new) (bytes_buffered buffer.old))) }
+    ensures reads { ReadsOn (R.remaining input.old) (R.remaining input.new) }
+{
+    let count = buffer.bytes().len();
+    search_whole(automaton, job, buffer, count, state, page, output)?;
     for _ in 0..u64::MAX {
         if job.is_done(state) {
             return Ok(());
@@ -86,7 +110,7 @@ fn read_some<A: Lister, R: Read, W: Sink>(
 }
 
 /// Searches the whole lines, where a line can end among the last `count` bytes alone, and keeps what follows.
-fn search_whole<A: Lister, W: Sink>(
+pub fn search_whole<A: Lister, W: Sink>(
     automaton: &A,
     job: &Job<'_>,
     buffer: &mut Buffer,

@@ -3,7 +3,7 @@ use Rattle.std.proofs.Common.{Bool, refl, subst, sym}
 use Rattle.std.specs.Prelude.{◌≡◌, MatchBool}
 use Rattle.programs.specs.Telling.{TellsSome}
 use Rattle.acgrep.specs.Told.{IsMessage}
-use Rattle.acgrep.proofs.files.tell_same.Goals as goal
+use Rattle.acgrep.proofs.unread.tell_same.Goals as goal
 
 pub returns-then-hushed : goal.returns-then-hushed
 returns-then-hushed g c = record {

@@ -1,15 +1,15 @@
 -- The whole lines that were read so far are searched, and what follows them is in the buffer.
-use Rattle.std.proofs.Common.{take}
+use Rattle.std.proofs.Common.{false, take}
 use Rattle.aho_core.specs.Patterns.{Patterns}
 use Rattle.acgrep.specs.Filled.{ReadsOn}
 use Rattle.acgrep.specs.Selected.{HoldNoEnding}
-use Rattle.acgrep.specs.Streamed.{SearchesLines, course}
-use Rattle.acgrep.proofs.stream.search_stream.Given as goal
+use Rattle.acgrep.specs.Streamed.{ReadsSome, course}
+use Rattle.acgrep.proofs.stream.search_behind.Given as goal
 
 abbrev pub invariant-loop : goal.invariant-loop
 invariant-loop g l = record {
   searched : (p : Patterns) → g.A.Automaton.is_of l.fn.automaton p → HoldNoEnding l.fn.job.style.ending p
-      → SearchesLines p l.fn.job (course l.initial.state l.state (g.W.Sink.taken l.initial.output) (g.W.Sink.taken l.output)
-      (g.R.Read.remaining l.initial.input) (g.R.Read.remaining l.input)) (take l.buffer.held l.buffer.room.items);
+      → ReadsSome p l.fn.job (course l.initial.state l.state (g.W.Sink.taken l.initial.output) (g.W.Sink.taken l.output)
+      (g.R.Read.remaining l.initial.input) (g.R.Read.remaining l.input)) (take l.initial.buffer.held l.initial.buffer.room.items) (take l.buffer.held l.buffer.room.items) false;
   reads : ReadsOn (g.R.Read.remaining l.initial.input) (g.R.Read.remaining l.input);
 }

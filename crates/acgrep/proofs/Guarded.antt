@@ -1,0 +1,556 @@
+-- What is told where lines from the first on that holds a zero byte are kept from the output.
+use Rattle.std.proofs.Common.{◌≡◌, ◌⊎◌, inl, inr, ℕ, ◌<◌, ◌≤◌, ◌==◌, Bool, true, false, List, [], ◌∷◌, ◌++◌, Option, None, Some, IfSome, length, take, drop, take-append-drop, refl, sym, ◌∙◌, ap, subst, arith, append_assoc, append-nil}
+use Rattle.std.specs.Prelude.{MatchBool, if◌then◌else◌, nat_lt, not, ◌&&◌, ◌||◌}
+use Rattle.std.specs.Io.KnownBytes.{Appends, Consumes, IsAtEnd}
+use Rattle.std.proofs.KnownBytes.{Appends-trans, Consumes-trans, Keeps-refl}
+use Rattle.std.proofs.lemmas.Bool.{and_parts, cases_Bool, lt-ltb, not-true, true≢false}
+use Rattle.aho_core.specs.Patterns.{Patterns}
+use Rattle.aho_devices.specs.Counts.{AppendsBeginning}
+use Rattle.acgrep.specs.Binary.{BeginsGuarded, TellsGuarded, binary_by, binary_lines, is_guarded, is_text, seeking, text_lines, writes_lines}
+use Rattle.acgrep.specs.Contexts.{BeginsAsked, BeginsSearched, IsBegin, SearchesText, TellsFile, TellsIn, around_of, walk_of}
+use Rattle.acgrep.specs.Files.{BeginsFile, BeginsFileIn, BeginsTotal, HasAllAsked, SearchesFile, SearchesReader, TellsSearched, total_if}
+use Rattle.acgrep.specs.Guarded.{BeginsBinary, BeginsPast, Finds, IsFirstBinary, SearchesFront, SearchesPast}
+use Rattle.acgrep.specs.Lines.{EndsLine, lines}
+use Rattle.acgrep.specs.Streamed.{BeginsBehind, SearchesBehind, course}
+use Rattle.acgrep.specs.Written.{BeginsLines, IsAny, IsSelected, IsSettled, SomeLine, StartsNext, TellsOfLines, after_lines, is_full, needs_one, one_more}
+use Rattle.acgrep.specs.declared.options.Context.{Context}
+use Rattle.acgrep.specs.declared.options.Shown.{Shown}
+use Rattle.acgrep.specs.declared.options.Shown.TheVariants.{Lines, Matches, Objects, Count, Names, Lacking, Nothing}
+use Rattle.acgrep.specs.declared.print.Place.{Place}
+use Rattle.acgrep.specs.declared.print.Style.{Style}
+use Rattle.acgrep.specs.declared.select.Job.{Job}
+use Rattle.acgrep.specs.declared.select.State.{State}
+use Rattle.acgrep.proofs.BinaryLines.{binary_behind, first_binary, first_some, first_text, some_binary, some_text, text_behind}
+use Rattle.acgrep.proofs.FileTellings.{TextTold, shows_none, some_front, tells_any, tells_none, text_behind as text_read, text_told}
+use Rattle.acgrep.proofs.FilesBegun.{nil_front}
+use Rattle.acgrep.proofs.Grouped.{told_around}
+use Rattle.acgrep.proofs.LineLists.{lines_append}
+use Rattle.acgrep.proofs.Streams.{keeps_nil}
+use Rattle.acgrep.proofs.Tellings.{settled_some, tells_append, tells_full}
+
+appends_none : (x : Option (List ℕ)) → Appends x x []
+appends_none x = keeps_nil x x (Keeps-refl x)
+
+some_behind : (P : List ℕ → Type 0) (ls ms : List (List ℕ)) → SomeLine P ms → SomeLine P (ls ++ ms)
+some_behind P [] ms some = some
+some_behind P (line ∷ ls) ms some = inr (some_behind P ls ms some)
+
+-- what follows from lines or matches being written
+lines_needed : (shown : Shown) → writes_lines shown ≡ true → needs_one shown ≡ false
+lines_needed Lines is = refl
+lines_needed Matches is = refl
+lines_needed Objects is = absurd (cc)
+lines_needed Count is = absurd (cc)
+lines_needed Names is = absurd (cc)
+lines_needed Lacking is = absurd (cc)
+lines_needed Nothing is = absurd (cc)
+
+lines_total : (shown : Shown) (style : Style) (count : ℕ) → writes_lines shown ≡ true → total_if shown style count ≡ []
+lines_total Lines style count is = refl
+lines_total Matches style count is = refl
+lines_total Objects style count is = absurd (cc)
+lines_total Count style count is = absurd (cc)
+lines_total Names style count is = absurd (cc)
+lines_total Lacking style count is = absurd (cc)
+lines_total Nothing style count is = absurd (cc)
+
+-- a line of a text is selected where one of its first lines is, or one of the others
+guarded_some : (p : Patterns) (job : Job) (ls : List (List ℕ)) (some more full : Bool) → IsAny p job.fit job.invert (text_lines ls) some
+    → MatchBool full (more ≡ false) (IsAny p job.fit job.invert (binary_lines ls) more) → true ≡ (some || more) → SomeLine (IsSelected p job.fit job.invert) ls
+guarded_some p job ls true more full first others is = some_text (IsSelected p job.fit job.invert) ls first
+guarded_some p job ls false true true first others is = absurd (cc)
+guarded_some p job ls false true false first others is = some_binary (IsSelected p job.fit job.invert) ls others
+guarded_some p job ls false false full first others is = absurd (cc)
+
+pub either_some : (p : Patterns) (job : Job) (text bytes : List ℕ) (guarded : Bool) → MatchBool guarded (TellsGuarded p job text true bytes) (TellsSearched p job text true bytes)
+    → SomeLine (IsSelected p job.fit job.invert) (lines job.style.ending text)
+either_some p job text bytes true tells =
+    guarded_some p job (lines job.style.ending text) tells.some tells.more (is_full job.most tells.count) tells.selected tells.others tells.is_any
+either_some p job text bytes false tells = tells.0
+
+module _ (p : Patterns) (job : Job) where
+  -- whether a line is selected, of those that were searched and others behind which nothing is told
+  any_told : (around : Option Context) (state : State) (held meanwhile : Option (List ℕ)) (text : List ℕ) → (told : TextTold p job around state held meanwhile text) → (ls later : List (List ℕ))
+      → ls ≡ told.searched ++ later → (later ≡ []) ⊎ (0 < state.selected) → IsAny p job.fit job.invert ls (nat_lt 0 state.selected)
+  any_told around state held meanwhile text told ls later cut (inl none) =
+      subst (λ (l : List (List ℕ)). IsAny p job.fit job.invert l (nat_lt 0 state.selected)) (sym (cut ∙ ap (λ (l : List (List ℕ)). told.searched ++ l) none ∙ append-nil told.searched))
+      (tells_any p job told.searched job.first told.plain state.selected told.tells)
+  any_told around state held meanwhile text told ls later cut (inr some) =
+      let is : nat_lt 0 state.selected ≡ true = lt-ltb 0 state.selected some in
+      let first : SomeLine (IsSelected p job.fit job.invert) told.searched =
+      subst (IsAny p job.fit job.invert told.searched) is (tells_any p job told.searched job.first told.plain state.selected told.tells) in
+      subst (IsAny p job.fit job.invert ls) (sym is) (subst (SomeLine (IsSelected p job.fit job.invert)) (sym cut) (some_front (IsSelected p job.fit job.invert) told.searched later first))
+
+  -- what is found of a job that writes nothing, in what is there and what comes
+  pub finds_of : (before state : State) (left left' held held' : Option (List ℕ)) (kept : List ℕ) → job.shown ≡ Nothing → IsBegin job before
+      → SearchesBehind p job (course before state held held' left left') kept → Finds p job kept left left' held held' (nat_lt 0 state.selected)
+  finds_of before state left left' held held' kept shown begin behind =
+      let one : needs_one job.shown ≡ true = ap needs_one shown in
+      let told = text_told p job (around_of job) before state held held' behind.searched begin behind.searches in
+      let alone : around_of job ≡ None = rw shown refl in
+      let nothing : told.bytes ≡ [] = told.single alone ∙ tells_none p job told.searched job.first 0 told.plain state.selected one told.tells in
+      record {
+        came = behind.came;
+        consumed = behind.consumed;
+        found = λ more none.
+            let text = (kept ++ behind.came) ++ more in
+            elim behind.ends [
+              | inl (empty, end) ↦
+                  let all : text ≡ behind.searched = ap (λ (l : List ℕ). (kept ++ behind.came) ++ l) (none end) ∙ append-nil (kept ++ behind.came) ∙ behind.cut
+                  ∙ ap (λ (l : List ℕ). behind.searched ++ l) empty ∙ append-nil behind.searched in
+                  any_told (around_of job) state held held' behind.searched told (lines job.style.ending text) (lines job.style.ending told.left) (ap (lines job.style.ending) all ∙ told.cut)
+                  (elim told.ends [ inl whole ↦ inl (ap (lines job.style.ending) whole) | inr settled ↦ inr (settled_some job state settled) ])
+              | inr (whole, settled) ↦
+                  let others = lines job.style.ending (behind.rest ++ more) in
+                  any_told (around_of job) state held held' behind.searched told (lines job.style.ending text) (lines job.style.ending told.left ++ others)
+                  (ap (λ (l : List ℕ). lines job.style.ending (l ++ more)) behind.cut ∙ ap (lines job.style.ending) (append_assoc behind.searched behind.rest more)
+                      ∙ lines_append job.style.ending behind.searched (behind.rest ++ more) whole ∙ ap (λ (l : List (List ℕ)). l ++ others) told.cut
+                      ∙ append_assoc told.searched (lines job.style.ending told.left) others)
+                  (inr (settled_some job state settled))
+            ];
+        ends = elim behind.ends [ inl (empty, end) ↦ inl end | inr (whole, settled) ↦ inr (lt-ltb 0 state.selected (settled_some job state settled)) ];
+        unwritten = subst (Appends held held') nothing told.written;
+      }
+
+  starts_nothing : (place : Place) (count : ℕ) (left : List (List ℕ)) (begun : List ℕ) → needs_one job.shown ≡ true → StartsNext p job place count left begun → begun ≡ []
+  starts_nothing place count [] begun one none = none
+  starts_nothing place count (line ∷ rest) begun one (inl none) = none
+  starts_nothing place count (line ∷ rest) begun one (inr (goes, selected, starts)) =
+      nil_front begun starts.missing (sym (shows_none p job.shown _ job.invert job.style place line starts.shown one starts.shows) ∙ starts.cut)
+
+  nothing_in : (around : Option Context) → around ≡ None → (before : State) (count : ℕ) (held held' : Option (List ℕ)) (ls : List (List ℕ)) → needs_one job.shown ≡ true
+      → BeginsAsked p job around before count held held' ls → Appends held held' []
+  nothing_in None is before count held held' ls one begins =
+      let told : begins.told ≡ [] = tells_none p job begins.first before.place before.selected begins.told count one begins.tells in
+      let begun : begins.begun ≡ [] = starts_nothing (after_lines before.place begins.first) count begins.left begins.begun one begins.starts in
+      subst (Appends held held') (ap (λ (l : List ℕ). l ++ begins.begun) told ∙ begun) begins.written
+  nothing_in (Some context) is before count held held' ls one begins = absurd (cc)
+
+  -- and where it is broken off nothing is written either
+  pub begins_nothing : (before state : State) (left left' held held' : Option (List ℕ)) (kept : List ℕ) → job.shown ≡ Nothing
+      → BeginsBehind p job (course before state held held' left left') kept → Appends held held' []
+  begins_nothing before state left left' held held' kept shown behind =
+      let alone : around_of job ≡ None = rw shown refl in
+      nothing_in (around_of job) alone before state.selected held held' (lines job.style.ending behind.searched) (ap needs_one shown) behind.begins
+
+  -- what was told of some lines
+  record LinesTold (held meanwhile : Option (List ℕ)) (ls : List (List ℕ)) (count : ℕ) : Type 0 where
+    bytes : List ℕ
+    plain : List ℕ
+    tells : TellsFile p job ls bytes count
+    plainly : TellsOfLines p job job.first 0 ls plain count
+    written : Appends held meanwhile bytes
+
+  -- where no further line is told
+  told_full : (before state : State) (held meanwhile : Option (List ℕ)) (text : List ℕ) (others : List (List ℕ)) → IsBegin job before → SearchesText p job before state held meanwhile text
+      → (is_full job.most state.selected ≡ true) × (state.trail.due ≡ 0) → LinesTold held meanwhile (lines job.style.ending text ++ others) state.selected
+  told_full before state held meanwhile text others begin searches (full, past) =
+      let told = text_told p job (around_of job) before state held meanwhile text begin searches in
+      let later = lines job.style.ending told.left ++ others in
+      let same : lines job.style.ending text ++ others ≡ told.searched ++ later =
+      ap (λ (l : List (List ℕ)). l ++ others) told.cut ∙ append_assoc told.searched (lines job.style.ending told.left) others in
+      record {
+        bytes = told.bytes;
+        plain = told.plain;
+        tells = subst (λ (ls : List (List ℕ)). TellsFile p job ls told.bytes state.selected) (sym same) (told.file later (inr (full, past)));
+        plainly = subst (λ (ls : List (List ℕ)). TellsOfLines p job job.first 0 ls told.plain state.selected) (sym same)
+            (tells_full p job told.searched later job.first 0 state.selected told.plain full told.tells);
+        written = told.written;
+      }
+
+  -- all lines of a text
+  told_all : needs_one job.shown ≡ false → (before state : State) (held meanwhile : Option (List ℕ)) (text : List ℕ) → IsBegin job before → SearchesText p job before state held meanwhile text
+      → LinesTold held meanwhile (lines job.style.ending text) state.selected
+  told_all several before state held meanwhile text begin searches =
+      let told = text_told p job (around_of job) before state held meanwhile text begin searches in
+      elim told.ends [
+        | inl whole ↦
+            let same : lines job.style.ending text ≡ told.searched ++ [] = told.cut ∙ ap (λ (l : List ℕ). told.searched ++ lines job.style.ending l) whole in
+            record {
+              bytes = told.bytes;
+              plain = told.plain;
+              tells = subst (λ (ls : List (List ℕ)). TellsFile p job ls told.bytes state.selected) (sym same) (told.file [] (inl refl));
+              plainly = subst (λ (ls : List (List ℕ)). TellsOfLines p job job.first 0 ls told.plain state.selected) (sym (same ∙ append-nil told.searched)) told.tells;
+              written = told.written;
+            }
+        | inr (inl (one, some)) ↦ absurd (true≢false (sym one ∙ several))
+        | inr (inr full) ↦ subst (λ (ls : List (List ℕ)). LinesTold held meanwhile ls state.selected) (append-nil (lines job.style.ending text))
+            (told_full before state held meanwhile text [] begin searches full)
+      ]
+
+  -- a beginning of what is told of some first ones of these lines
+  record LinesBegun (held held' : Option (List ℕ)) (ls : List (List ℕ)) : Type 0 where
+    first : List (List ℕ)
+    left : List (List ℕ)
+    cut : ls ≡ first ++ left
+    told : List ℕ
+    count : ℕ
+    tells : TellsFile p job first told count
+    begun : List ℕ
+    missing : List ℕ
+    is : told ≡ begun ++ missing
+    written : Appends held held' begun
+
+  -- the next of them was begun
+  plain_next : around_of job ≡ None → (held held' : Option (List ℕ)) (ls first left : List (List ℕ)) (told begun : List ℕ) (count : ℕ) → ls ≡ first ++ left → TellsOfLines p job job.first 0 first told count
+      → StartsNext p job (after_lines job.first first) count left begun → Appends held held' (told ++ begun) → LinesBegun held held' ls
+  plain_next alone held held' ls first [] told begun count cut tells none written = record {
+    first = first;
+    left = [];
+    cut = cut;
+    told = told;
+    count = count;
+    tells = subst (λ (around : Option Context). TellsIn p job around first told count) (sym alone) tells;
+    begun = told ++ begun;
+    missing = [];
+    is = sym (append-nil (told ++ begun) ∙ ap (λ (l : List ℕ). told ++ l) none ∙ append-nil told);
+    written = written;
+  }
+  plain_next alone held held' ls first (line ∷ rest) told begun count cut tells (inl none) written = record {
+    first = first;
+    left = line ∷ rest;
+    cut = cut;
+    told = told;
+    count = count;
+    tells = subst (λ (around : Option Context). TellsIn p job around first told count) (sym alone) tells;
+    begun = told ++ begun;
+    missing = [];
+    is = sym (append-nil (told ++ begun) ∙ ap (λ (l : List ℕ). told ++ l) none ∙ append-nil told);
+    written = written;
+  }
+  plain_next alone held held' ls first (line ∷ rest) told begun count cut tells (inr (goes, selected, starts)) written =
+      let one : TellsOfLines p job (after_lines job.first first) count (line ∷ []) (starts.shown ++ []) (one_more count) =
+      inr (goes, inl (selected, (starts.shown, [], starts.shows, (refl, refl), refl))) in
+      record {
+        first = first ++ (line ∷ []);
+        left = rest;
+        cut = cut ∙ sym (append_assoc first (line ∷ []) rest);
+        told = told ++ (starts.shown ++ []);
+        count = one_more count;
+        tells = subst (λ (around : Option Context). TellsIn p job around (first ++ (line ∷ [])) (told ++ (starts.shown ++ [])) (one_more count)) (sym alone)
+            (tells_append p job first (line ∷ []) job.first 0 count (one_more count) told (starts.shown ++ []) tells one);
+        begun = told ++ begun;
+        missing = starts.missing;
+        is = ap (λ (l : List ℕ). told ++ l) (append-nil starts.shown ∙ starts.cut) ∙ sym (append_assoc told begun starts.missing);
+        written = written;
+      }
+
+  lines_begun : (around : Option Context) → around_of job ≡ around → (before : State) (count : ℕ) (held held' : Option (List ℕ)) (ls : List (List ℕ)) → IsBegin job before
+      → BeginsAsked p job around before count held held' ls → LinesBegun held held' ls
+  lines_begun None is before count held held' ls begin begins =
+      plain_next is held held' ls begins.first begins.left begins.told begins.begun count begins.cut
+      (subst (λ (at : Place). TellsOfLines p job at 0 begins.first begins.told count) begin.place (subst (λ (n : ℕ). TellsOfLines p job before.place n begins.first begins.told count) begin.selected begins.tells))
+      (subst (λ (at : Place). StartsNext p job at count begins.left begins.begun) (ap (λ (at : Place). after_lines at begins.first) begin.place) begins.starts) begins.written
+  lines_begun (Some context) is before count held held' ls begin begins = record {
+    first = begins.first;
+    left = begins.left;
+    cut = begins.cut;
+    told = begins.all;
+    count = begins.end.selected;
+    tells = subst (λ (around : Option Context). TellsIn p job around begins.first begins.all begins.end.selected) (sym is)
+        (told_around p job context begins.first (walk_of before) begins.end begins.all begin.place begin.selected begin.trail.due begin.trail.some begin.trail.apart begin.trail.held begins.walks);
+    begun = begins.begun;
+    missing = begins.missing;
+    is = begins.is;
+    written = begins.written;
+  }
+
+  module _ (guarded : is_guarded job ≡ true) where
+    begins_guarded : (known held held' : Option (List ℕ)) → BeginsGuarded p job known held held' → BeginsFile p job known held held'
+    begins_guarded known held held' begins =
+        subst (λ (b : Bool). MatchBool b (BeginsGuarded p job known held held') (BeginsFileIn p job (around_of job) known held held')) (sym guarded) begins
+
+    shows_lines : writes_lines job.shown ≡ true
+    shows_lines = (and_parts (writes_lines job.shown) (job.guards && not (job.style.ending == 0)) guarded).0
+
+    several : needs_one job.shown ≡ false
+    several = lines_needed job.shown shows_lines
+
+    ends_otherwise : (job.style.ending == 0) ≡ false
+    ends_otherwise = not-true (job.style.ending == 0) (and_parts job.guards (not (job.style.ending == 0)) (and_parts (writes_lines job.shown) (job.guards && not (job.style.ending == 0)) guarded).1).1
+
+    full_of : (state : State) → IsSettled job state → (is_full job.most state.selected ≡ true) × (state.trail.due ≡ 0)
+    full_of state (inl (one, some)) = absurd (true≢false (sym one ∙ several))
+    full_of state (inr full) = full
+
+    -- a file whose first lines are told, and of the others whether one is selected
+    file_told : (known held meanwhile held' : Option (List ℕ)) (text : List ℕ) (ls others : List (List ℕ)) (count : ℕ) (more any : Bool) → IfSome known (λ (all : List ℕ). text ≡ all)
+        → text_lines (lines job.style.ending text) ≡ ls → binary_lines (lines job.style.ending text) ≡ others → LinesTold held meanwhile ls count
+        → MatchBool (is_full job.most count) (more ≡ false) (IsAny p job.fit job.invert others more) → Appends meanwhile held' (if more then binary_by job.style else [])
+        → any ≡ (nat_lt 0 count || more) → SearchesFile p job known held held' any
+    file_told known held meanwhile held' text ls others count more any of first rest told found written is = record {
+      text = text;
+      of = of;
+      bytes = told.bytes ++ (if more then binary_by job.style else []);
+      tells = subst (λ (b : Bool). MatchBool b (TellsGuarded p job text any (told.bytes ++ (if more then binary_by job.style else []))) (TellsSearched p job text any (told.bytes ++ (if more then binary_by job.style else []))))
+          (sym guarded) (record {
+            told = told.bytes;
+            count = count;
+            tells = subst (λ (l : List (List ℕ)). TellsFile p job l told.bytes count) (sym first) told.tells;
+            some = nat_lt 0 count;
+            selected = subst (λ (l : List (List ℕ)). IsAny p job.fit job.invert l (nat_lt 0 count)) (sym first) (tells_any p job ls job.first told.plain count told.plainly);
+            more = more;
+            others = subst (λ (l : List (List ℕ)). MatchBool (is_full job.most count) (more ≡ false) (IsAny p job.fit job.invert l more)) (sym rest) found;
+            is_any = is;
+            all = refl;
+          });
+      written = Appends-trans held meanwhile held' told.bytes (if more then binary_by job.style else []) told.written written;
+    }
+
+    or_false : (b : Bool) → b ≡ (b || false)
+    or_false true = refl
+    or_false false = refl
+
+    match_none : (full : Bool) → MatchBool full (false ≡ false) (IsAny p job.fit job.invert [] false)
+    match_none true = refl
+    match_none false = tt
+
+    -- lines that were searched and those behind them
+    lines_cut : (came searched rest more : List ℕ) → came ≡ searched ++ rest → EndsLine job.style.ending searched
+        → lines job.style.ending (came ++ more) ≡ lines job.style.ending searched ++ lines job.style.ending (rest ++ more)
+    lines_cut came searched rest more cut whole =
+        ap (λ (l : List ℕ). lines job.style.ending (l ++ more)) cut ∙ ap (lines job.style.ending) (append_assoc searched rest more) ∙ lines_append job.style.ending searched (rest ++ more) whole
+
+    -- no line with a zero byte came, or none that is to be told of
+    pub reader_past : (before state : State) (left left' held meanwhile : Option (List ℕ)) → IsBegin job before → SearchesPast p job (course before state held meanwhile left left')
+        → SearchesReader p job left left' held meanwhile (nat_lt 0 state.selected)
+    reader_past before state left left' held meanwhile begin past =
+        let behind = past.all in
+        let searched = behind.searched in
+        let (more, known, none) = text_read left left' behind.came behind.consumed in
+        let text = behind.came ++ more in
+        elim behind.ends [
+          | inl (empty, end) ↦
+              let all : text ≡ searched = ap (λ (l : List ℕ). behind.came ++ l) (none end) ∙ append-nil behind.came ∙ behind.cut ∙ ap (λ (l : List ℕ). searched ++ l) empty ∙ append-nil searched in
+              let same : lines job.style.ending text ≡ lines job.style.ending searched ++ [] = ap (lines job.style.ending) all ∙ sym (append-nil (lines job.style.ending searched)) in
+              record {
+                file = file_told left held meanwhile meanwhile text (lines job.style.ending searched) [] state.selected false (nat_lt 0 state.selected) known
+                    (ap text_lines same ∙ text_behind job.style.ending searched [] past.text ∙ append-nil (lines job.style.ending searched))
+                    (ap binary_lines same ∙ binary_behind job.style.ending searched [] past.text)
+                    (told_all several before state held meanwhile searched begin behind.searches) (match_none (is_full job.most state.selected)) (appends_none meanwhile) (or_false (nat_lt 0 state.selected));
+                reads = record { bytes = behind.came; read = behind.consumed; ended = inl end };
+              }
+          | inr (whole, settled) ↦
+              let full = full_of state settled in
+              let others = lines job.style.ending (behind.rest ++ more) in
+              let same : lines job.style.ending text ≡ lines job.style.ending searched ++ others = lines_cut behind.came searched behind.rest more behind.cut whole in
+              let asked = told_full before state held meanwhile searched (lines job.style.ending behind.rest) begin behind.searches full in
+              let read : lines job.style.ending behind.came ≡ lines job.style.ending searched ++ lines job.style.ending behind.rest =
+              ap (lines job.style.ending) behind.cut ∙ lines_append job.style.ending searched behind.rest whole in
+              record {
+                file = file_told left held meanwhile meanwhile text (lines job.style.ending searched ++ text_lines others) (binary_lines others) state.selected false (nat_lt 0 state.selected) known
+                    (ap text_lines same ∙ text_behind job.style.ending searched others past.text)
+                    (ap binary_lines same ∙ binary_behind job.style.ending searched others past.text)
+                    (told_full before state held meanwhile searched (text_lines others) begin behind.searches full)
+                    (subst (λ (b : Bool). MatchBool b (false ≡ false) (IsAny p job.fit job.invert (binary_lines others) false)) (sym full.0) refl) (appends_none meanwhile) (or_false (nat_lt 0 state.selected));
+                reads = record {
+                  bytes = behind.came;
+                  read = behind.consumed;
+                  ended = inr (inr (inl (
+                    asked.plain,
+                    state.selected,
+                    subst (λ (ls : List (List ℕ)). TellsOfLines p job job.first 0 ls asked.plain state.selected) (sym read) asked.plainly,
+                    full.0,
+                  )));
+                };
+              }
+        ]
+
+    -- the search of the first lines is broken off
+    pub begins_past : (before state : State) (left left' held held' : Option (List ℕ)) → IsBegin job before → BeginsPast p job (course before state held held' left left') → BeginsFile p job left held held'
+    begins_past before state left left' held held' begin past =
+        let behind = past.all in
+        let searched = behind.searched in
+        let (more, known, none) = text_read left left' behind.came behind.consumed in
+        let text = behind.came ++ more in
+        let (others, cut) : (others : List (List ℕ)) × (lines job.style.ending text ≡ lines job.style.ending searched ++ others) =
+        elim behind.ends [
+          | inl whole ↦ (lines job.style.ending (behind.rest ++ more), lines_cut behind.came searched behind.rest more behind.cut whole)
+          | inr (empty, end) ↦ (
+            [],
+            ap (lines job.style.ending) (ap (λ (l : List ℕ). behind.came ++ l) (none end) ∙ append-nil behind.came ∙ behind.cut ∙ ap (λ (l : List ℕ). searched ++ l) empty ∙ append-nil searched)
+                ∙ sym (append-nil (lines job.style.ending searched)),
+          )
+        ] in
+        let told = lines_begun (around_of job) refl before state.selected held held' (lines job.style.ending searched) begin behind.begins in
+        begins_guarded left held held' (record {
+          text = text;
+          of = known;
+          first = told.first;
+          left = told.left ++ text_lines others;
+          cut = ap text_lines cut ∙ text_behind job.style.ending searched others past.text ∙ ap (λ (l : List (List ℕ)). l ++ text_lines others) told.cut ∙ append_assoc told.first told.left (text_lines others);
+          told = told.told;
+          count = told.count;
+          tells = told.tells;
+          begun = told.begun;
+          missing = told.missing;
+          is = inl told.is;
+          written = told.written;
+        })
+
+    -- of the file as a whole nothing is written
+    pub begins_grown : (known held meanwhile held' : Option (List ℕ)) (count : ℕ) → BeginsFile p job known held meanwhile → BeginsTotal job count meanwhile held' → BeginsFile p job known held held'
+    begins_grown known held meanwhile held' count begins total =
+        let begun = subst (λ (b : Bool). MatchBool b (BeginsGuarded p job known held meanwhile) (BeginsFileIn p job (around_of job) known held meanwhile)) guarded begins in
+        let none : total.begun ≡ [] = nil_front total.begun total.missing (sym (lines_total job.shown job.style count shows_lines) ∙ total.cut) in
+        begins_guarded known held held' (grown known held meanwhile held' begun (subst (Appends meanwhile held') none total.written))
+      where
+        grown : (known held meanwhile held' : Option (List ℕ)) → BeginsGuarded p job known held meanwhile → Appends meanwhile held' [] → BeginsGuarded p job known held held'
+        grown known held meanwhile held' begins written = record {
+          text = begins.text;
+          of = begins.of;
+          first = begins.first;
+          left = begins.left;
+          cut = begins.cut;
+          told = begins.told;
+          count = begins.count;
+          tells = begins.tells;
+          begun = begins.begun;
+          missing = begins.missing;
+          is = begins.is;
+          written = subst (Appends held held') (append-nil begins.begun) (Appends-trans held meanwhile held' begins.begun [] begins.written written);
+        }
+
+    module _ (before state : State) (left left' held meanwhile : Option (List ℕ)) (kept : List ℕ) (begin : IsBegin job before) (front : SearchesFront p job (course before state held meanwhile left left') kept)
+        (binary : BeginsBinary job.style.ending kept) where
+      front_told : LinesTold held meanwhile (lines job.style.ending front.some.searched) state.selected
+      front_told = told_all several before state held meanwhile front.some.searched begin front.some.searches
+
+      front_binary : (more : List ℕ) → IsFirstBinary (lines job.style.ending (kept ++ more))
+      front_binary more = binary ends_otherwise more
+
+      front_cut : (more : List ℕ) → lines job.style.ending (front.some.came ++ more) ≡ lines job.style.ending front.some.searched ++ lines job.style.ending (kept ++ more)
+      front_cut more = lines_cut front.some.came front.some.searched kept more front.some.cut front.some.whole
+
+      front_first : (more : List ℕ) → text_lines (lines job.style.ending (front.some.came ++ more)) ≡ lines job.style.ending front.some.searched
+      front_first more =
+          ap text_lines (front_cut more) ∙ text_behind job.style.ending front.some.searched (lines job.style.ending (kept ++ more)) front.text
+          ∙ ap (λ (l : List (List ℕ)). lines job.style.ending front.some.searched ++ l) (first_text (lines job.style.ending (kept ++ more)) (front_binary more)) ∙ append-nil (lines job.style.ending front.some.searched)
+
+      front_others : (more : List ℕ) → binary_lines (lines job.style.ending (front.some.came ++ more)) ≡ lines job.style.ending (kept ++ more)
+      front_others more =
+          ap binary_lines (front_cut more) ∙ binary_behind job.style.ending front.some.searched (lines job.style.ending (kept ++ more)) front.text
+          ∙ first_binary (lines job.style.ending (kept ++ more)) (front_binary more)
+
+      -- so many lines are selected before a line with a zero byte as are asked for
+      pub reader_full : is_full job.most state.selected ≡ true → SearchesReader p job left left' held meanwhile (nat_lt 0 state.selected)
+      reader_full full =
+          let came = front.some.came in
+          let (more, known, none) = text_read left left' came front.some.consumed in
+          let read : lines job.style.ending came ≡ lines job.style.ending front.some.searched ++ lines job.style.ending kept =
+          ap (lines job.style.ending) front.some.cut ∙ lines_append job.style.ending front.some.searched kept front.some.whole in
+          record {
+            file = file_told left held meanwhile meanwhile (came ++ more) (lines job.style.ending front.some.searched) (lines job.style.ending (kept ++ more)) state.selected false (nat_lt 0 state.selected) known
+                (front_first more) (front_others more) front_told
+                (subst (λ (b : Bool). MatchBool b (false ≡ false) (IsAny p job.fit job.invert (lines job.style.ending (kept ++ more)) false)) (sym full) refl) (appends_none meanwhile) (or_false (nat_lt 0 state.selected));
+            reads = record {
+              bytes = came;
+              read = front.some.consumed;
+              ended = inr (inr (inl (
+                front_told.plain,
+                state.selected,
+                subst (λ (ls : List (List ℕ)). TellsOfLines p job job.first 0 ls front_told.plain state.selected) (sym read)
+                    (tells_full p job (lines job.style.ending front.some.searched) (lines job.style.ending kept) job.first 0 state.selected front_told.plain full front_told.plainly),
+                full,
+              )));
+            };
+          }
+
+      module _ (last between : Option (List ℕ)) (unfilled : is_full job.most state.selected ≡ false) where
+        -- of a line with a zero byte and those behind it is told whether one is selected
+        pub reader_found : (held' : Option (List ℕ)) (found any : Bool) → Finds p job kept left' last meanwhile between found → Appends between held' (if found then binary_by job.style else [])
+            → any ≡ (nat_lt 0 state.selected || found) → SearchesReader p job left last held held' any
+        reader_found held' found any finds written is =
+            let came = front.some.came ++ finds.came in
+            let read : Consumes left last came = Consumes-trans left left' last front.some.came finds.came front.some.consumed finds.consumed in
+            let (more, known, none) = text_read left last came read in
+            let text = came ++ more in
+            let later = finds.came ++ more in
+            let same : text ≡ front.some.came ++ later = append_assoc front.some.came finds.came more in
+            let others : lines job.style.ending (kept ++ later) ≡ lines job.style.ending ((kept ++ finds.came) ++ more) = ap (lines job.style.ending) (sym (append_assoc kept finds.came more)) in
+            record {
+              file = file_told left held meanwhile held' text (lines job.style.ending front.some.searched) (lines job.style.ending (kept ++ later)) state.selected found any known
+                  (ap (λ (l : List ℕ). text_lines (lines job.style.ending l)) same ∙ front_first later) (ap (λ (l : List ℕ). binary_lines (lines job.style.ending l)) same ∙ front_others later) front_told
+                  (subst (λ (b : Bool). MatchBool b (found ≡ false) (IsAny p job.fit job.invert (lines job.style.ending (kept ++ later)) found)) (sym unfilled)
+                      (subst (λ (l : List (List ℕ)). IsAny p job.fit job.invert l found) (sym others) (finds.found more none)))
+                  (Appends-trans meanwhile between held' [] (if found then binary_by job.style else []) finds.unwritten written) is;
+              reads = record {
+                bytes = came;
+                read = read;
+                ended = elim finds.ends [
+                  | inl end ↦ inl end
+                  | inr yes ↦ inr (inr (inr (
+                    guarded,
+                    is ∙ or_true (nat_lt 0 state.selected) found yes,
+                    subst (SomeLine (λ (line : List ℕ). is_text line ≡ false)) (sym (front_cut finds.came))
+                        (some_behind (λ (line : List ℕ). is_text line ≡ false) (lines job.style.ending front.some.searched) (lines job.style.ending (kept ++ finds.came)) (first_some (lines job.style.ending (kept ++ finds.came)) (front_binary finds.came))),
+                  )))
+                ];
+              };
+            }
+          where
+            or_true : (b found : Bool) → found ≡ true → (b || found) ≡ true
+            or_true true found yes = refl
+            or_true false found yes = yes
+
+        -- or a beginning of that is written
+        pub begins_found : (held' : Option (List ℕ)) → Finds p job kept left' last meanwhile between true → AppendsBeginning between held' (binary_by job.style) → BeginsFile p job left held held'
+        begins_found held' finds (n, short, written) =
+            let came = front.some.came ++ finds.came in
+            let read : Consumes left last came = Consumes-trans left left' last front.some.came finds.came front.some.consumed finds.consumed in
+            let (more, known, none) = text_read left last came read in
+            let text = came ++ more in
+            let later = finds.came ++ more in
+            let same : text ≡ front.some.came ++ later = append_assoc front.some.came finds.came more in
+            let others : binary_lines (lines job.style.ending text) ≡ lines job.style.ending ((kept ++ finds.came) ++ more) =
+            ap (λ (l : List ℕ). binary_lines (lines job.style.ending l)) same ∙ front_others later ∙ ap (lines job.style.ending) (sym (append_assoc kept finds.came more)) in
+            let message = binary_by job.style in
+            begins_guarded left held held' (record {
+              text = text;
+              of = known;
+              first = lines job.style.ending front.some.searched;
+              left = [];
+              cut = ap (λ (l : List ℕ). text_lines (lines job.style.ending l)) same ∙ front_first later ∙ sym (append-nil (lines job.style.ending front.some.searched));
+              told = front_told.bytes;
+              count = state.selected;
+              tells = front_told.tells;
+              begun = front_told.bytes ++ take n message;
+              missing = drop n message;
+              is = inr (
+                (refl, unfilled, subst (SomeLine (IsSelected p job.fit job.invert)) (sym others) (finds.found more none)),
+                ap (λ (l : List ℕ). front_told.bytes ++ l) (sym (take-append-drop n message)) ∙ sym (append_assoc front_told.bytes (take n message) (drop n message)),
+              );
+              written = Appends-trans held meanwhile held' front_told.bytes (take n message) front_told.written (Appends-trans meanwhile between held' [] (take n message) finds.unwritten written);
+            })
+
+      -- what follows was not searched to its end
+      pub begins_unfound : (last held' : Option (List ℕ)) (came : List ℕ) → Consumes left' last came → Appends meanwhile held' [] → BeginsFile p job left held held'
+      begins_unfound last held' later consumed written =
+          let came = front.some.came ++ later in
+          let read : Consumes left last came = Consumes-trans left left' last front.some.came later front.some.consumed consumed in
+          let (more, known, none) = text_read left last came read in
+          begins_guarded left held held' (record {
+            text = came ++ more;
+            of = known;
+            first = lines job.style.ending front.some.searched;
+            left = [];
+            cut = ap (λ (l : List ℕ). text_lines (lines job.style.ending l)) (append_assoc front.some.came later more) ∙ front_first (later ++ more) ∙ sym (append-nil (lines job.style.ending front.some.searched));
+            told = front_told.bytes;
+            count = state.selected;
+            tells = front_told.tells;
+            begun = front_told.bytes;
+            missing = [];
+            is = inl (sym (append-nil front_told.bytes));
+            written = subst (Appends held held') (append-nil front_told.bytes) (Appends-trans held meanwhile held' front_told.bytes [] front_told.written written);
+          })
+
+-- what was sought, of what is shown of a selected line
+pub finds_seeking : (p : Patterns) (job : Job) (kept : List ℕ) (left left' held held' : Option (List ℕ)) (any : Bool) → Finds p (seeking job) kept left left' held held' any
+    → Finds p job kept left left' held held' any
+finds_seeking p job kept left left' held held' any finds = record {
+  came = finds.came;
+  consumed = finds.consumed;
+  found = finds.found;
+  ends = finds.ends;
+  unwritten = finds.unwritten;
+}

@@ -1,0 +1,82 @@
+-- Lines that hold a zero byte: from the first of them on a file's lines are kept from a terminal.
+use Rattle.std.specs.Prelude.{◌≡◌, ◌⊎◌, ℕ, ◌==◌, ◌&&◌, ◌||◌, not, Bool, MatchBool, true, false, List, [], ◌∷◌, ◌++◌, Option, IfSome, codes, if◌then◌else◌}
+use Rattle.std.specs.Io.KnownBytes.{Appends}
+use Rattle.aho_core.specs.Patterns.{Patterns}
+use Rattle.acgrep.specs.Contexts.{TellsFile}
+use Rattle.acgrep.specs.Lines.{lines}
+use Rattle.acgrep.specs.Written.{IsAny, IsSelected, SomeLine, is_full}
+use Rattle.acgrep.specs.declared.options.Shown.{Shown}
+use Rattle.acgrep.specs.declared.options.Shown.TheVariants.{Lines, Matches, Objects, Count, Names, Lacking, Nothing}
+use Rattle.acgrep.specs.declared.print.Style.{Style}
+use Rattle.acgrep.specs.declared.select.Job.{Job}
+
+-- whether bytes hold no zero byte
+abbrev pub is_text : List ℕ → Bool
+is_text [] = true
+is_text (byte ∷ rest) = not (byte == 0) && is_text rest
+
+-- the lines up to the first that holds one
+abbrev pub text_lines : List (List ℕ) → List (List ℕ)
+text_lines [] = []
+text_lines (line ∷ rest) = if is_text line then line ∷ text_lines rest else []
+
+-- that one and those behind it
+abbrev pub binary_lines : List (List ℕ) → List (List ℕ)
+binary_lines [] = []
+binary_lines (line ∷ rest) = if is_text line then binary_lines rest else line ∷ rest
+
+-- what is told of them in their place
+abbrev pub binary_by : Style → List ℕ
+binary_by style = codes "acgrep: " ++ (style.name.now ++ codes ": binary file matches\n")
+
+-- whether lines or their matches are written
+abbrev pub writes_lines : Shown → Bool
+writes_lines Lines = true
+writes_lines Matches = true
+writes_lines Objects = false
+writes_lines Count = false
+writes_lines Names = false
+writes_lines Lacking = false
+writes_lines Nothing = false
+
+-- then they are kept from the output where that is asked for, and a zero byte does not end a line
+abbrev pub is_guarded : Job → Bool
+is_guarded job = writes_lines job.shown && (job.guards && not (job.style.ending == 0))
+
+-- whether one of these lines is selected, whatever is written of it
+abbrev pub seeking : Job → Job
+seeking job = record job { shown = Nothing }
+
+-- what is told of a text: its lines up to the first that holds a zero byte, and of the others whether one is selected, unless so many
+-- are selected before them as are asked for; `any` says whether a line is selected
+pub record TellsGuarded (p : Patterns) (job : Job) (text : List ℕ) (any : Bool) (bytes : List ℕ) : Type 0 where
+  pub told : List ℕ
+  pub count : ℕ
+  pub tells : TellsFile p job (text_lines (lines job.style.ending text)) told count
+  pub some : Bool
+  pub selected : IsAny p job.fit job.invert (text_lines (lines job.style.ending text)) some
+  pub more : Bool
+  pub others : MatchBool (is_full job.most count) (more ≡ false) (IsAny p job.fit job.invert (binary_lines (lines job.style.ending text)) more)
+  pub is_any : any ≡ (some || more)
+  pub all : bytes ≡ told ++ (if more then binary_by job.style else [])
+
+-- these are all lines without a zero byte, and of the others is told that one is selected
+abbrev pub TellsBinary : Patterns → Job → List ℕ → (left : List (List ℕ)) → ℕ → Type 0
+TellsBinary p job text left count =
+    (left ≡ []) × (is_full job.most count ≡ false) × SomeLine (IsSelected p job.fit job.invert) (binary_lines (lines job.style.ending text))
+
+-- a file whose bytes are these, where they are known, was not searched to its end, or not all was written: a beginning of what is told
+-- of some first lines is, none of which holds a zero byte, or all that is told of those and a beginning of what is told of the others
+pub record BeginsGuarded (p : Patterns) (job : Job) (known held held' : Option (List ℕ)) : Type 0 where
+  pub text : List ℕ
+  pub of : IfSome known (λ bytes. text ≡ bytes)
+  pub first : List (List ℕ)
+  pub left : List (List ℕ)
+  pub cut : text_lines (lines job.style.ending text) ≡ first ++ left
+  pub told : List ℕ
+  pub count : ℕ
+  pub tells : TellsFile p job first told count
+  pub begun : List ℕ
+  pub missing : List ℕ
+  pub is : (told ≡ begun ++ missing) ⊎ (TellsBinary p job text left count × (told ++ binary_by job.style ≡ begun ++ missing))
+  pub written : Appends held held' begun

@@ -1,0 +1,75 @@
+-- How lines are searched up to the first that holds a zero byte, and then those from it on.
+use Rattle.std.specs.Prelude.{◌≡◌, ◌⊎◌, ◌==◌, ℕ, Bool, MatchBool, true, false, List, [], ◌∷◌, ◌++◌, Option, None, Some, drop, take}
+use Rattle.std.specs.Io.KnownBytes.{Appends, Consumes, IsAtEnd}
+use Rattle.aho_core.specs.Patterns.{Patterns}
+use Rattle.acgrep.specs.Binary.{is_text}
+use Rattle.acgrep.specs.Lines.{lines}
+use Rattle.acgrep.specs.Streamed.{BeginsBehind, BeginsSome, Course, ReadsSome, SearchesBehind}
+use Rattle.acgrep.specs.Written.{IsAny}
+use Rattle.acgrep.specs.declared.guarded.Came.{Came}
+use Rattle.acgrep.specs.declared.guarded.Came.TheVariants.{Text, Binary, End}
+use Rattle.acgrep.specs.declared.select.Job.{Job}
+
+-- the first of some lines holds a zero byte
+abbrev pub IsFirstBinary : List (List ℕ) → Type 0
+IsFirstBinary [] = ⊥
+IsFirstBinary (line ∷ rest) = is_text line ≡ false
+
+-- whatever follows these bytes, their first line does; but for where such a byte ends a line
+abbrev pub BeginsBinary : (ending : ℕ) → List ℕ → Type 0
+BeginsBinary ending bytes = (ending == 0) ≡ false → (more : List ℕ) → IsFirstBinary (lines ending (bytes ++ more))
+
+-- where the first such line begins, if one does
+abbrev pub IsZeroLine : (ending : ℕ) → List ℕ → Option ℕ → Type 0
+IsZeroLine ending bytes None = is_text bytes ≡ true
+IsZeroLine ending bytes (Some start) = (is_text (take start bytes) ≡ true) × BeginsBinary ending (drop start bytes)
+
+-- nothing came
+abbrev pub is_end : Came → Bool
+is_end Text = false
+is_end Binary = false
+is_end End = true
+
+-- what is kept of bytes behind those that are searched
+abbrev pub IsKept : Came → (ending : ℕ) → List ℕ → Type 0
+IsKept Text ending kept = is_text kept ≡ true
+IsKept Binary ending kept = BeginsBinary ending kept
+IsKept End ending kept = is_text kept ≡ true
+
+-- bytes come behind those that are kept, and the whole lines of both are searched, up to the first that holds a zero byte
+pub record ReadsFront (p : Patterns) (job : Job) (c : Course) (kept_before kept_after : List ℕ) (came : Came) : Type 0 where
+  pub some : ReadsSome p job c kept_before kept_after (is_end came)
+  pub text : is_text kept_before ≡ true → is_text some.searched ≡ true
+  pub left : is_text kept_before ≡ true → IsKept came job.style.ending kept_after
+
+-- or their search was begun
+pub record BeginsFront (p : Patterns) (job : Job) (c : Course) (kept : List ℕ) : Type 0 where
+  pub some : BeginsSome p job c kept
+  pub text : is_text kept ≡ true → is_text some.searched ≡ true
+
+-- whole lines of what was read are searched, none of which holds a zero byte, and these bytes are kept
+pub record SearchesFront (p : Patterns) (job : Job) (c : Course) (kept : List ℕ) : Type 0 where
+  pub some : ReadsSome p job c [] kept false
+  pub text : is_text some.searched ≡ true
+
+-- no line with a zero byte came before the end, or before lines behind which nothing more is told
+pub record SearchesPast (p : Patterns) (job : Job) (c : Course) : Type 0 where
+  pub all : SearchesBehind p job c []
+  pub text : is_text all.searched ≡ true
+
+-- the lines up to one that holds a zero byte are searched, which is kept, or there is none
+abbrev pub EndsFront : Patterns → Job → Course → (kept : List ℕ) → Bool → Type 0
+EndsFront p job c kept binary = MatchBool binary (SearchesFront p job c kept × BeginsBinary job.style.ending kept) (SearchesPast p job c)
+
+-- of lines of what was read, none of which holds a zero byte, a beginning of what is told is written
+pub record BeginsPast (p : Patterns) (job : Job) (c : Course) : Type 0 where
+  pub all : BeginsBehind p job c []
+  pub text : is_text all.searched ≡ true
+
+-- bytes came behind those that are there, and it is known whether a line of both is selected, whatever follows; nothing is written
+pub record Finds (p : Patterns) (job : Job) (kept : List ℕ) (left left' held held' : Option (List ℕ)) (any : Bool) : Type 0 where
+  pub came : List ℕ
+  pub consumed : Consumes left left' came
+  pub found : (more : List ℕ) → (IsAtEnd left' → more ≡ []) → IsAny p job.fit job.invert (lines job.style.ending ((kept ++ came) ++ more)) any
+  pub ends : IsAtEnd left' ⊎ (any ≡ true)
+  pub unwritten : Appends held held' []
