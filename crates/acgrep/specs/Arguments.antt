@@ -1,9 +1,8 @@
 -- What the arguments, those after the program's name, say.
 use Rattle.programs.specs.Arguments.{kind_by}
-use Rattle.std.specs.Prelude.{◌≡◌, ℕ, ◌==◌, ◌^◌, ◌||◌, ◌&&◌, ◌<◌, nat_lt, slice_index, Bool, true, false, List, [], ◌∷◌, ◌++◌, Option, Some, None, codes, drop, is_some, not, unwrap_or, length, map, take, Result, IfErr, IfOk, OnOk, option_and_then, option_map, if◌then◌else◌}
+use Rattle.std.specs.Prelude.{◌≡◌, ℕ, ◌==◌, ◌^◌, ◌||◌, ◌&&◌, ◌<◌, nat_lt, slice_index, Bool, true, false, List, [], ◌∷◌, ◌++◌, Option, Some, None, codes, is_some, not, unwrap_or, length, map, Result, IfErr, IfOk, OnOk, option_and_then, option_map, if◌then◌else◌}
 use Rattle.std.specs.Char.{is_ascii_digit}
 use Rattle.std.specs.Str.{all_ascii_digits, bytes_eq}
-use Rattle.std.specs.List.{after_first, before_first, position_or_len}
 use Rattle.std.specs.Str.Parse.{digits_value}
 use Rattle.aho_core.specs.declared.search.MatchKind.TheVariants.{LeftmostLongest}
 use Rattle.call_options.specs.Forms.{Form, argument_form, joined_letters, long_name, long_with, no_more, no_option}
