@@ -1,10 +1,10 @@
 -- Lines up to the first that holds a zero byte, and those from it on.
-use Rattle.std.proofs.Common.{◌≡◌, inl, inr, ℕ, suc, zero, ◌+◌, ◌-◌, ◌≤◌, ◌<◌, ◌==◌, Bool, true, false, List, [], ◌∷◌, ◌++◌, length, take, drop, take-append-drop, take-take, length-take-le, length-drop, refl, sym, ◌∙◌, ap, subst, arith}
+use Rattle.std.proofs.Common.{◌≡◌, inl, inr, ℕ, suc, zero, ◌+◌, ◌-◌, ◌≤◌, ◌<◌, ◌==◌, Bool, true, false, List, [], ◌∷◌, ◌++◌, length, take, drop, take-append-drop, take-take, length-drop, refl, sym, ◌∙◌, ap, subst, arith}
 use Rattle.std.specs.Prelude.{Some, if◌then◌else◌, not}
-use Rattle.std.proofs.lemmas.Bool.{and_from, and_parts, and_right, cases_Bool, eq-eqb, eqb-true, false_from_ne_true, not-true, not_from_false, true≢false}
+use Rattle.std.proofs.lemmas.Bool.{and_from, and_parts, and_right, cases_Bool, eq-eqb, eqb-true, false_from_ne_true, not_from_false, true≢false}
 use Rattle.memchr.specs.Find.{Nowhere}
 use Rattle.acgrep.specs.Binary.{binary_lines, is_text, text_lines}
-use Rattle.acgrep.specs.Guarded.{BeginsBinary, IsFirstBinary, IsZeroLine}
+use Rattle.acgrep.specs.Guarded.{IsFirstBinary, IsZeroLine}
 use Rattle.acgrep.specs.Lines.{IsEnding, joined_to, lines}
 use Rattle.acgrep.specs.Written.{EachLine, SomeLine}
 use Rattle.acgrep.proofs.Around.{behind_newline, front_newline, newline_behind}
@@ -80,7 +80,7 @@ module _ (ending : ℕ) where
   zero_first other [] at within here none more = absurd (omega (arith, within))
   zero_first other (byte ∷ xs) zero within here none more =
       let ends : (byte == ending) ≡ false = false_from_ne_true (byte == ending) (λ same.
-          true≢false (sym (eq-eqb ending 0 (sym (eqb-true byte ending same) ∙ eqb-true byte 0 here)) ∙ other)) in
+      true≢false (sym (eq-eqb ending 0 (sym (eqb-true byte ending same) ∙ eqb-true byte 0 here)) ∙ other)) in
       subst IsFirstBinary (sym (lines_joined ending byte (xs ++ more) ends)) (zero_joined byte (lines ending (xs ++ more)) here)
   zero_first other (byte ∷ xs) (suc at) within here none more =
       let ends : (byte == ending) ≡ false = false_from_ne_true (byte == ending) (λ same. none 0 (omega arith) (omega arith) same) in

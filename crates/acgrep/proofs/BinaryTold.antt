@@ -1,18 +1,18 @@
 -- What is told where lines from the first on that holds a zero byte are kept from the output.
-use Rattle.std.proofs.Common.{◌≡◌, ◌⊎◌, inl, inr, ℕ, ◌<◌, ◌≤◌, ◌==◌, Bool, true, false, List, [], ◌∷◌, ◌++◌, Option, None, Some, IfSome, length, take, drop, take-append-drop, refl, sym, ◌∙◌, ap, subst, arith, append_assoc, append-nil}
+use Rattle.std.proofs.Common.{◌≡◌, ◌⊎◌, inl, inr, ℕ, ◌<◌, ◌==◌, Bool, true, false, List, [], ◌∷◌, ◌++◌, Option, None, Some, IfSome, take, drop, take-append-drop, refl, sym, ◌∙◌, ap, subst, append_assoc, append-nil}
 use Rattle.std.specs.Prelude.{MatchBool, if◌then◌else◌, nat_lt, not, ◌&&◌, ◌||◌}
-use Rattle.std.specs.Io.KnownBytes.{Appends, Consumes, IsAtEnd}
+use Rattle.std.specs.Io.KnownBytes.{Appends, Consumes}
 use Rattle.std.proofs.KnownBytes.{Appends-trans, Consumes-trans, Keeps-refl}
-use Rattle.std.proofs.lemmas.Bool.{and_parts, cases_Bool, lt-ltb, not-true, true≢false}
+use Rattle.std.proofs.lemmas.Bool.{and_parts, lt-ltb, not-true, true≢false}
 use Rattle.aho_core.specs.Patterns.{Patterns}
 use Rattle.aho_devices.specs.Counts.{AppendsBeginning}
 use Rattle.acgrep.specs.Binary.{BeginsGuarded, TellsGuarded, binary_by, binary_lines, is_guarded, is_text, seeking, text_lines, writes_lines}
-use Rattle.acgrep.specs.Contexts.{BeginsAsked, BeginsSearched, IsBegin, SearchesText, TellsFile, TellsIn, around_of, walk_of}
-use Rattle.acgrep.specs.Files.{BeginsFile, BeginsFileIn, BeginsTotal, HasAllAsked, SearchesFile, SearchesReader, TellsSearched, total_if}
+use Rattle.acgrep.specs.Contexts.{BeginsAsked, IsBegin, SearchesText, TellsFile, TellsIn, around_of, walk_of}
+use Rattle.acgrep.specs.Files.{BeginsFile, BeginsFileIn, BeginsTotal, SearchesFile, SearchesReader, TellsSearched, total_if}
 use Rattle.acgrep.specs.Guarded.{BeginsBinary, BeginsPast, FindsSelected, IsFirstBinary, SearchesFront, SearchesPast}
 use Rattle.acgrep.specs.Lines.{EndsLine, lines}
 use Rattle.acgrep.specs.Streamed.{BeginsBehind, SearchesBehind, course}
-use Rattle.acgrep.specs.Written.{BeginsLines, IsAny, IsSelected, IsSettled, SomeLine, StartsNext, TellsOfLines, after_lines, is_full, needs_one, one_more}
+use Rattle.acgrep.specs.Written.{IsAny, IsSelected, IsSettled, SomeLine, StartsNext, TellsOfLines, after_lines, is_full, needs_one, one_more}
 use Rattle.acgrep.specs.declared.options.Context.{Context}
 use Rattle.acgrep.specs.declared.options.Shown.{Shown}
 use Rattle.acgrep.specs.declared.options.Shown.TheVariants.{Lines, Matches, Objects, Count, Names, Lacking, Nothing}
@@ -108,8 +108,8 @@ module _ (p : Patterns) (job : Job) where
                   let others = lines job.style.ending (behind.rest ++ more) in
                   any_told (around_of job) state held held' behind.searched told (lines job.style.ending text) (lines job.style.ending told.left ++ others)
                   (ap (λ (l : List ℕ). lines job.style.ending (l ++ more)) behind.cut ∙ ap (lines job.style.ending) (append_assoc behind.searched behind.rest more)
-                      ∙ lines_append job.style.ending behind.searched (behind.rest ++ more) whole ∙ ap (λ (l : List (List ℕ)). l ++ others) told.cut
-                      ∙ append_assoc told.searched (lines job.style.ending told.left) others)
+                  ∙ lines_append job.style.ending behind.searched (behind.rest ++ more) whole ∙ ap (λ (l : List (List ℕ)). l ++ others) told.cut
+                  ∙ append_assoc told.searched (lines job.style.ending told.left) others)
                   (inr (settled_some job state settled))
             ];
         ends = elim behind.ends [ inl (empty, end) ↦ inl end | inr (whole, settled) ↦ inr (lt-ltb 0 state.selected (settled_some job state settled)) ];
@@ -472,7 +472,7 @@ module _ (p : Patterns) (job : Job) where
               file = file_told left held meanwhile held' text (lines job.style.ending front.some.searched) (lines job.style.ending (kept ++ later)) state.selected found any known
                   (ap (λ (l : List ℕ). text_lines (lines job.style.ending l)) same ∙ front_first later) (ap (λ (l : List ℕ). binary_lines (lines job.style.ending l)) same ∙ front_others later) front_told
                   (subst (λ (b : Bool). MatchBool b (found ≡ false) (IsAny p job.fit job.invert (lines job.style.ending (kept ++ later)) found)) (sym unfilled)
-                      (subst (λ (l : List (List ℕ)). IsAny p job.fit job.invert l found) (sym others) (finds.found more none)))
+                  (subst (λ (l : List (List ℕ)). IsAny p job.fit job.invert l found) (sym others) (finds.found more none)))
                   (Appends-trans meanwhile between held' [] (if found then binary_by job.style else []) finds.unwritten written) is;
               reads = record {
                 bytes = came;

@@ -6,11 +6,11 @@ ghost use Rattle.std.specs.Io.KnownBytes.{Appends};
 ghost use Rattle.aho_core.specs.Patterns.{Patterns};
 ghost use Rattle.aho_devices.specs.Counts.{AppendsBeginning};
 ghost use Rattle.acgrep.specs.Binary.{binary_by, is_guarded, is_text};
-ghost use Rattle.acgrep.specs.Files.{BeginsFile, SearchesReader};
 ghost use Rattle.acgrep.specs.Filled.{ReadsOn, bytes_buffered};
-ghost use Rattle.acgrep.specs.Guarded.{BeginsFront, BeginsPast, EndsFront, FindsSelected, IsZeroLine, ReadsFront};
+ghost use Rattle.acgrep.specs.Guarded.{BeginsFront, BeginsPast, EndsFront, IsZeroLine, ReadsFront};
 ghost use Rattle.acgrep.specs.Lines.{IsEnding};
 ghost use Rattle.acgrep.specs.Printed.{Puts};
+ghost use Rattle.acgrep.specs.Searched.{BeginsGuardedBy, FindsBy, SearchesGuardedBy};
 ghost use Rattle.acgrep.specs.Selected.{ForJob};
 ghost use Rattle.acgrep.specs.Streamed.{course_of};
 
@@ -51,14 +51,12 @@ pub fn search_guarded<A: Lister, R: Read, W: Sink>(
 ) -> Result<bool, Stop>
     requires of { (p : Patterns) × A.is_of automaton.now p }
     requires guarded { is_guarded job.now ≡ true }
-    ensures searched { ForJob job.now (A.is_of automaton.now) (λ p.
-        IfOk result (SearchesReader p job.now (R.remaining input.old) (R.remaining input.new)
-        (W.taken output.old) (W.taken output.new))) }
+    ensures searched { SearchesGuardedBy A.Automaton R.Read W.Sink automaton.now job.now
+        input.old input.new output.old output.new result }
 
     // Where it fails a beginning of that is written.
-    ensures begun { ForJob job.now (A.is_of automaton.now) (λ p.
-        OnErr result (BeginsFile p job.now (R.remaining input.old)
-        (W.taken output.old) (W.taken output.new))) }
+    ensures begun { BeginsGuardedBy A.Automaton R.Read W.Sink automaton.now job.now
+        input.old output.old output.new result }
     ensures reads { ReadsOn (R.remaining input.old) (R.remaining input.new) }
 {
     state.begin(job);
@@ -182,9 +180,8 @@ fn finds<A: Lister, R: Read, W: Sink>(
     output: &mut W,
 ) -> Result<bool, Stop>
     requires of { (p : Patterns) × A.is_of automaton.now p }
-    ensures found { ForJob job.now (A.is_of automaton.now) (λ p.
-        IfOk result (FindsSelected p job.now (bytes_buffered buffer.old)
-        (R.remaining input.old) (R.remaining input.new) (W.taken output.old) (W.taken output.new))) }
+    ensures found { FindsBy A.Automaton R.Read W.Sink automaton.now job.now
+        buffer.old input.old input.new output.old output.new result }
     ensures unwritten { ForJob job.now (A.is_of automaton.now) (λ p.
         OnErr result (Appends (W.taken output.old) (W.taken output.new) [])) }
     ensures reads { ReadsOn (R.remaining input.old) (R.remaining input.new) }
@@ -196,11 +193,7 @@ fn finds<A: Lister, R: Read, W: Sink>(
 }
 
 /// Writes that a line with a zero byte, or one behind it, is selected. It is put together first.
-fn write_binary<W: Sink>(
-    style: &Style<'_>,
-    page: &mut Vec<u8>,
-    output: &mut W,
-) -> Result<(), Stop>
+fn write_binary<W: Sink>(style: &Style<'_>, page: &mut Vec<u8>, output: &mut W) -> Result<(), Stop>
     ensures written { OnOk result (Appends (W.taken output.old) (W.taken output.new) (binary_by style.now)) }
     ensures begun { AppendsBeginning (W.taken output.old) (W.taken output.new) (binary_by style.now) }
 {

@@ -1,9 +1,6 @@
 -- What is sought is what is selected, and of it nothing is written.
-use Rattle.std.proofs.Common.{ℕ, ap, refl, subst, sym, take}
-use Rattle.std.specs.Prelude.{nat_lt}
-use Rattle.acgrep.specs.Contexts.{IsBegin}
+use Rattle.std.proofs.Common.{subst, sym, take}
 use Rattle.acgrep.specs.Selected.{HoldNoEnding}
-use Rattle.acgrep.specs.Streamed.{BeginsBehind, SearchesBehind, course}
 use Rattle.acgrep.specs.declared.select.Job.{Job}
 use Rattle.acgrep.proofs.Beginnings.{on_err}
 use Rattle.acgrep.proofs.BinaryTold.{begins_sought, finds_sought}

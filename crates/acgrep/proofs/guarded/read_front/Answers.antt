@@ -1,5 +1,5 @@
 -- What came is behind the bytes that were kept, and they are searched up to a line that holds a zero byte.
-use Rattle.std.proofs.Common.{◌≡◌, ℕ, ◌-◌, ◌≤◌, ◌<◌, List, [], Some, drop, length, subst, take, true}
+use Rattle.std.proofs.Common.{◌≡◌, ℕ, ◌-◌, ◌≤◌, ◌<◌, List, [], Some, length, subst, take, true}
 use Rattle.std.proofs.KnownBytes.{Consumes-nil}
 use Rattle.acgrep.specs.Binary.{is_text}
 use Rattle.acgrep.specs.Contexts.{BeginsSearched, SearchesText}

@@ -1,5 +1,5 @@
 -- A read more, up to the end, a line with a zero byte, or lines behind which nothing more is told.
-use Rattle.std.proofs.Common.{◌≡◌, ℕ, List, [], ap, false, refl, subst, sym, take, true, ◌∙◌}
+use Rattle.std.proofs.Common.{◌≡◌, ℕ, List, [], ap, subst, take, ◌∙◌}
 use Rattle.std.proofs.KnownBytes.{Consumes-nil}
 use Rattle.acgrep.specs.Binary.{is_text}
 use Rattle.acgrep.specs.Contexts.{BeginsSearched, SearchesText}
@@ -7,7 +7,6 @@ use Rattle.acgrep.specs.Guarded.{ReadsFront}
 use Rattle.acgrep.specs.Lines.{lines}
 use Rattle.acgrep.specs.Streamed.{course}
 use Rattle.acgrep.specs.Written.{IsSettled}
-use Rattle.acgrep.specs.declared.guarded.Came.{Came}
 use Rattle.acgrep.specs.declared.guarded.Came.TheVariants.{Text, Binary, End}
 use Rattle.acgrep.proofs.Beginnings.{on_err}
 use Rattle.acgrep.proofs.Fronts.{front_begins, front_begins_stop, front_last, front_last_begins, front_start, front_step, front_stop}

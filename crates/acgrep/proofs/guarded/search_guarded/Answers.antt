@@ -127,4 +127,3 @@ returns-clause-searched g c = λ p is plain.
 pub returns-clause-reads : goal.returns-clause-reads
 returns-clause-reads g c =
     reads_both (g.R.Read.remaining c.args.input.now) (g.R.Read.remaining c.search_front.new.input) (g.R.Read.remaining c.finds.new.input) c.search_front.ensures.reads c.finds.ensures.reads
-

@@ -1,5 +1,5 @@
 -- A read more, up to the end or a line that tells all.
-use Rattle.std.proofs.Common.{ℕ, List, [], take, subst, ◌∙◌, ap}
+use Rattle.std.proofs.Common.{ℕ, List, [], take, subst}
 use Rattle.std.specs.Prelude.{OnErr, OnOk}
 use Rattle.std.proofs.lemmas.Result.{on_err_weaker}
 use Rattle.std.proofs.KnownBytes.{Consumes-nil}
