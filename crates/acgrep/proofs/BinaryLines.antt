@@ -1,10 +1,10 @@
 -- Lines up to the first that holds a zero byte, and those from it on.
-use Rattle.std.proofs.Common.{◌≡◌, inl, inr, ℕ, suc, zero, ◌+◌, ◌-◌, ◌≤◌, ◌<◌, ◌==◌, Bool, true, false, List, [], ◌∷◌, ◌++◌, length, take, drop, take-append-drop, take-take, length-take-le, length-drop, refl, sym, ◌∙◌, ap, subst, arith}
+use Rattle.std.proofs.Common.{◌≡◌, inl, inr, ℕ, suc, zero, ◌+◌, ◌-◌, ◌≤◌, ◌<◌, ◌==◌, Bool, true, false, List, [], ◌∷◌, ◌++◌, length, take, drop, take-append-drop, take-take, length-drop, refl, sym, ◌∙◌, ap, subst, arith}
 use Rattle.std.specs.Prelude.{Some, if◌then◌else◌, not}
-use Rattle.std.proofs.lemmas.Bool.{and_from, and_parts, and_right, cases_Bool, eq-eqb, eqb-true, false_from_ne_true, not-true, not_from_false, true≢false}
+use Rattle.std.proofs.lemmas.Bool.{and_from, and_parts, and_right, cases_Bool, eq-eqb, eqb-true, false_from_ne_true, not_from_false, true≢false}
 use Rattle.memchr.specs.Find.{Nowhere}
 use Rattle.acgrep.specs.Binary.{binary_lines, is_text, text_lines}
-use Rattle.acgrep.specs.Guarded.{BeginsBinary, IsFirstBinary, IsZeroLine}
+use Rattle.acgrep.specs.Guarded.{IsFirstBinary, IsZeroLine}
 use Rattle.acgrep.specs.Lines.{IsEnding, joined_to, lines}
 use Rattle.acgrep.specs.Written.{EachLine, SomeLine}
 use Rattle.acgrep.proofs.Around.{behind_newline, front_newline, newline_behind}
@@ -33,7 +33,7 @@ text_nowhere : (xs : List ℕ) (n : ℕ) → n ≤ length xs → Nowhere (IsEndi
 text_nowhere xs zero within none = refl
 text_nowhere [] (suc n) within none = absurd (omega (arith, within))
 text_nowhere (byte ∷ xs) (suc n) within none =
-    and_from (not (byte == 0)) (is_text (take n xs)) (not_from_false (byte == 0) (false_from_ne_true (byte == 0) (λ zero. none 0 (omega arith) (omega arith) zero)))
+    and_from (not (byte == 0)) (is_text (take n xs)) (not_from_false (byte == 0) (false_from_ne_true (byte == 0) (λ here. none 0 (omega arith) (omega arith) here)))
     (text_nowhere xs n (omega (arith, within)) (λ k low high is. none (suc k) (omega arith) (omega (arith, high)) is))
 
 module _ (ending : ℕ) where
@@ -72,15 +72,15 @@ module _ (ending : ℕ) where
   joined_binary byte (first ∷ rest) is = and_right (not (byte == 0)) (is_text first) is
 
   zero_joined : (byte : ℕ) (ls : List (List ℕ)) → (byte == 0) ≡ true → IsFirstBinary (joined_to byte ls)
-  zero_joined byte [] zero = rw zero refl
-  zero_joined byte (first ∷ rest) zero = rw zero refl
+  zero_joined byte [] none = rw none refl
+  zero_joined byte (first ∷ rest) none = rw none refl
 
   -- a zero byte in the first line
   zero_first : (ending == 0) ≡ false → (xs : List ℕ) (at : ℕ) → at < length xs → IsEnding 0 xs at → Nowhere (IsEnding ending xs) 0 at → (more : List ℕ) → IsFirstBinary (lines ending (xs ++ more))
-  zero_first other [] at within zero none more = absurd (omega (arith, within))
+  zero_first other [] at within here none more = absurd (omega (arith, within))
   zero_first other (byte ∷ xs) zero within here none more =
       let ends : (byte == ending) ≡ false = false_from_ne_true (byte == ending) (λ same.
-          true≢false (sym (eq-eqb ending 0 (sym (eqb-true byte ending same) ∙ eqb-true byte 0 here)) ∙ other)) in
+      true≢false (sym (eq-eqb ending 0 (sym (eqb-true byte ending same) ∙ eqb-true byte 0 here)) ∙ other)) in
       subst IsFirstBinary (sym (lines_joined ending byte (xs ++ more) ends)) (zero_joined byte (lines ending (xs ++ more)) here)
   zero_first other (byte ∷ xs) (suc at) within here none more =
       let ends : (byte == ending) ≡ false = false_from_ne_true (byte == ending) (λ same. none 0 (omega arith) (omega arith) same) in
@@ -101,7 +101,7 @@ module _ (ending : ℕ) where
   -- the first of them stands there, and its line begins behind the last that ends before it
   pub zero_some : (bytes : List ℕ) (before at start : ℕ) → before ≤ length bytes → at < length (drop before bytes) → is_text (take before bytes) ≡ true → IsEnding 0 (drop before bytes) at
       → Nowhere (IsEnding 0 (drop before bytes)) 0 at → start ≤ before + at → Nowhere (IsEnding ending (take (before + at) bytes)) start (before + at) → IsZeroLine ending bytes (Some start)
-  zero_some bytes before at start low within front zero none early one =
+  zero_some bytes before at start low within front here none early one =
       let long : length (drop before bytes) + before ≡ length bytes = omega (arith, length-drop before bytes, low) in
       let back : is_text (take at (drop before bytes)) ≡ true = text_nowhere (drop before bytes) at (omega (arith, within)) none in
       let all : is_text (take (before + at) bytes) ≡ true = subst (λ (l : List ℕ). is_text l ≡ true) (sym (take_more before at bytes low))
@@ -111,7 +111,7 @@ module _ (ending : ℕ) where
         subst (λ (l : List ℕ). is_text l ≡ true) short
             (text_front (take start (take (before + at) bytes)) (drop start (take (before + at) bytes)) (subst (λ (l : List ℕ). is_text l ≡ true) (sym (take-append-drop start (take (before + at) bytes))) all)),
         λ other more. zero_first other (drop start bytes) (before + at - start) (omega (arith, length-drop start bytes, within, long, early))
-            (behind_newline 0 bytes start (before + at - start) (subst (IsEnding 0 bytes) (sym place) (newline_behind 0 bytes before at zero)))
+            (behind_newline 0 bytes start (before + at - start) (subst (IsEnding 0 bytes) (sym place) (newline_behind 0 bytes before at here)))
             (λ k least most is. one (start + k) (omega arith) (omega (arith, most, early)) (front_newline ending bytes (before + at) (start + k) (omega (arith, most, early)) (newline_behind ending bytes start k is))) more,
       )
     where

@@ -1,5 +1,5 @@
 -- The lines before the first that holds a zero byte, put together from reads.
-use Rattle.std.proofs.Common.{◌≡◌, ℕ, suc, zero, ◌+◌, ◌-◌, ◌≤◌, ◌<◌, Bool, true, false, List, [], ◌∷◌, ◌++◌, Option, Some, length, take, drop, refl, sym, ◌∙◌, ap, subst, arith, length-append}
+use Rattle.std.proofs.Common.{◌≡◌, ℕ, ◌-◌, ◌≤◌, ◌<◌, true, List, [], ◌∷◌, ◌++◌, Option, Some, length, take, drop, refl, sym, ◌∙◌, ap, subst, arith, length-append}
 use Rattle.std.specs.Io.KnownBytes.{Consumes, Keeps}
 use Rattle.aho_core.specs.Patterns.{Patterns}
 use Rattle.acgrep.specs.Binary.{is_text}
@@ -14,7 +14,7 @@ use Rattle.acgrep.specs.declared.guarded.Came.TheVariants.{Text, Binary, End}
 use Rattle.acgrep.specs.declared.select.Job.{Job}
 use Rattle.acgrep.specs.declared.select.State.{State}
 use Rattle.acgrep.proofs.BinaryLines.{text_back, text_front, text_joined}
-use Rattle.acgrep.proofs.Streams.{reads_none, reads_some, stream_done, stream_start, stream_step, stream_stop, whole_searched}
+use Rattle.acgrep.proofs.Streams.{reads_none, reads_some, stream_done, stream_end, stream_start, stream_step, stream_stop, whole_searched}
 use Rattle.acgrep.proofs.StreamsBegun.{some_begins, some_none, stream_begins, stream_begins_stop, stream_last_begins, whole_begins}
 
 take_back : (xs ys : List ℕ) → take (length (xs ++ ys) - length ys) (xs ++ ys) ≡ xs
@@ -41,11 +41,13 @@ kept_front kept filled l m count fills is =
 module _ (p : Patterns) (job : Job) where
   -- at the begin
   pub front_start : (a : State) (x l : Option (List ℕ)) (kept : List ℕ) → kept ≡ [] → SearchesFront p job (course a a x x l l) kept
+  unfolding stream_start
   front_start a x l kept none = subst (SearchesFront p job (course a a x x l l)) (sym none) (record { some = stream_start p job a x l []; text = refl })
 
   -- a read more
   pub front_step : (a b c : State) (x y z l m n : Option (List ℕ)) (kept rest : List ℕ) (came : Came) → (IsSettled job b → ⊥) → is_text kept ≡ true
       → SearchesFront p job (course a b x y l m) kept → ReadsFront p job (course b c y z m n) kept rest came → SearchesFront p job (course a c x z l n) rest
+  unfolding stream_step
   front_step a b c x y z l m n kept rest came goes is so_far front = record {
     some = stream_step p job a b c x y z l m n [] kept rest _ goes so_far.some front.some;
     text = text_joined so_far.some.searched front.some.searched so_far.text (front.text is);
@@ -53,11 +55,13 @@ module _ (p : Patterns) (job : Job) where
 
   -- nothing more is told
   pub front_stop : (a b : State) (x y l m : Option (List ℕ)) (kept : List ℕ) → IsSettled job b → SearchesFront p job (course a b x y l m) kept → SearchesPast p job (course a b x y l m)
+  unfolding stream_stop
   front_stop a b x y l m kept settled so_far = record { all = stream_stop p job a b x y l m [] kept settled so_far.some; text = so_far.text }
 
   -- the read that told the end, and the search of what is kept
   pub front_last : (a b c d : State) (x y z w l m n : Option (List ℕ)) (kept rest : List ℕ) → (IsSettled job b → ⊥) → is_text kept ≡ true
       → SearchesFront p job (course a b x y l m) kept → ReadsFront p job (course b c y z m n) kept rest End → SearchesText p job c d z w rest → SearchesPast p job (course a d x w l n)
+  unfolding stream_done stream_end stream_step
   front_last a b c d x y z w l m n kept rest goes is so_far front last = record {
     all = stream_done p job a b c d x y z w l m n [] kept rest true goes refl so_far.some front.some last;
     text = text_joined (so_far.some.searched ++ front.some.searched) rest (text_joined so_far.some.searched front.some.searched so_far.text (front.text is)) (front.left is);
@@ -67,6 +71,7 @@ module _ (p : Patterns) (job : Job) where
   pub front_last_begins : (a b c d : State) (x y z w l m n : Option (List ℕ)) (kept rest : List ℕ) → (IsSettled job b → ⊥) → is_text kept ≡ true
       → SearchesFront p job (course a b x y l m) kept → ReadsFront p job (course b c y z m n) kept rest End → BeginsSearched p job c d.selected z w (lines job.style.ending rest)
       → BeginsPast p job (course a d x w l n)
+  unfolding stream_last_begins stream_step
   front_last_begins a b c d x y z w l m n kept rest goes is so_far front last = record {
     all = stream_last_begins p job a b c d x y z w l m n [] kept rest true goes refl so_far.some front.some last;
     text = text_joined (so_far.some.searched ++ front.some.searched) rest (text_joined so_far.some.searched front.some.searched so_far.text (front.text is)) (front.left is);
@@ -75,6 +80,7 @@ module _ (p : Patterns) (job : Job) where
   -- a read that is broken off
   pub front_begins : (a b c : State) (x y z l m n : Option (List ℕ)) (kept : List ℕ) → (IsSettled job b → ⊥) → is_text kept ≡ true
       → SearchesFront p job (course a b x y l m) kept → BeginsFront p job (course b c y z m n) kept → BeginsPast p job (course a c x z l n)
+  unfolding stream_begins
   front_begins a b c x y z l m n kept goes is so_far front = record {
     all = stream_begins p job a b c x y z l m n [] kept goes so_far.some front.some;
     text = text_joined so_far.some.searched front.some.searched so_far.text (front.text is);
@@ -82,20 +88,23 @@ module _ (p : Patterns) (job : Job) where
 
   -- nothing more is read
   pub front_begins_stop : (a b : State) (x y l m : Option (List ℕ)) (kept : List ℕ) → SearchesFront p job (course a b x y l m) kept → BeginsPast p job (course a b x y l m)
+  unfolding stream_begins_stop
   front_begins_stop a b x y l m kept so_far = record { all = stream_begins_stop p job a b x y l m [] kept so_far.some; text = so_far.text }
 
   -- a read that gives nothing
   pub read_end : (a : State) (x y l m : Option (List ℕ)) (kept filled : List ℕ) (count : ℕ) → Keeps x y → FillsBehind kept filled l m count → count ≡ 0
       → ReadsFront p job (course a a x y l m) kept filled End
-  read_end a x y l m kept filled count keeps fills zero = record {
-    some = reads_none p job a x y l m kept filled count keeps fills zero;
+  unfolding reads_none
+  read_end a x y l m kept filled count keeps fills none = record {
+    some = reads_none p job a x y l m kept filled count keeps fills none;
     text = λ is. refl;
-    left = λ is. subst (λ (bytes : List ℕ). is_text bytes ≡ true) (sym fills.behind) (text_joined kept fills.came is (no_bytes fills.came count fills.counted zero));
+    left = λ is. subst (λ (bytes : List ℕ). is_text bytes ≡ true) (sym fills.behind) (text_joined kept fills.came is (no_bytes fills.came count fills.counted none));
   }
 
   -- one that gives bytes without a zero byte
   pub read_text : (a b : State) (x y z l m : Option (List ℕ)) (kept filled after : List ℕ) (count : ℕ) → Keeps x y → FillsBehind kept filled l m count
       → (is_text (take (length filled - count) filled) ≡ true → is_text filled ≡ true) → SearchesWhole p job a b y z filled after → ReadsFront p job (course a b x z l m) kept after Text
+  unfolding reads_some
   read_text a b x y z l m kept filled after count keeps fills text searches = record {
     some = reads_some p job a b x y z l m kept filled after count keeps fills searches;
     text = λ is. text_front searches.searched after (all is);
@@ -109,19 +118,22 @@ module _ (p : Patterns) (job : Job) where
   pub read_binary : (a b : State) (x y z l m : Option (List ℕ)) (kept filled after : List ℕ) (count start : ℕ) → Keeps x y → FillsBehind kept filled l m count → start ≤ length filled
       → (0 < start → IsEnding job.style.ending filled (start - 1)) → (is_text (take (length filled - count) filled) ≡ true → IsZeroLine job.style.ending filled (Some start))
       → after ≡ drop start filled → SearchesText p job a b y z (take start filled) → ReadsFront p job (course a b x z l m) kept after Binary
-  read_binary a b x y z l m kept filled after count start keeps fills within ends zero rest searches = record {
+  unfolding reads_some whole_searched
+  read_binary a b x y z l m kept filled after count start keeps fills within ends cut rest searches = record {
     some = reads_some p job a b x y z l m kept filled after count keeps fills (whole_searched p job a b y z filled after start within ends rest searches);
-    text = λ is. (zero (kept_front kept filled l m count fills is)).0;
-    left = λ is other more. subst (λ (bytes : List ℕ). IsFirstBinary (lines job.style.ending (bytes ++ more))) (sym rest) ((zero (kept_front kept filled l m count fills is)).1 other more);
+    text = λ is. (cut (kept_front kept filled l m count fills is)).0;
+    left = λ is other more. subst (λ (bytes : List ℕ). IsFirstBinary (lines job.style.ending (bytes ++ more))) (sym rest) ((cut (kept_front kept filled l m count fills is)).1 other more);
   }
 
   -- nothing is written
   pub begun_none : (a : State) (x y l m : Option (List ℕ)) (kept came : List ℕ) → Keeps x y → Consumes l m came → BeginsFront p job (course a a x y l m) kept
+  unfolding some_none
   begun_none a x y l m kept came keeps read = record { some = some_none p job a x y l m kept came keeps read; text = λ is. refl }
 
   -- a beginning of what is told of lines without a zero byte
   pub begun_text : (a b : State) (x y z l m : Option (List ℕ)) (kept filled : List ℕ) (count : ℕ) → Keeps x y → FillsBehind kept filled l m count
       → (is_text (take (length filled - count) filled) ≡ true → is_text filled ≡ true) → BeginsWhole p job a b y z filled → BeginsFront p job (course a b x z l m) kept
+  unfolding some_begins
   begun_text a b x y z l m kept filled count keeps fills text begins = record {
     some = some_begins p job a b x y z l m kept filled count keeps fills begins;
     text = λ is. text_front begins.searched begins.rest (subst (λ (bytes : List ℕ). is_text bytes ≡ true) begins.cut (text (kept_front kept filled l m count fills is)));
@@ -131,7 +143,8 @@ module _ (p : Patterns) (job : Job) where
   pub begun_binary : (a b : State) (x y z l m : Option (List ℕ)) (kept filled : List ℕ) (count start : ℕ) → Keeps x y → FillsBehind kept filled l m count → start ≤ length filled
       → (0 < start → IsEnding job.style.ending filled (start - 1)) → (is_text (take (length filled - count) filled) ≡ true → IsZeroLine job.style.ending filled (Some start))
       → BeginsSearched p job a b.selected y z (lines job.style.ending (take start filled)) → BeginsFront p job (course a b x z l m) kept
-  begun_binary a b x y z l m kept filled count start keeps fills within ends zero begins = record {
+  unfolding some_begins whole_begins
+  begun_binary a b x y z l m kept filled count start keeps fills within ends cut begins = record {
     some = some_begins p job a b x y z l m kept filled count keeps fills (whole_begins p job a b.selected b y z filled start refl within ends begins);
-    text = λ is. (zero (kept_front kept filled l m count fills is)).0;
+    text = λ is. (cut (kept_front kept filled l m count fills is)).0;
   }

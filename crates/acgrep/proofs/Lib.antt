@@ -2,6 +2,7 @@ pub mod AloneTried
 pub mod Around
 pub mod Beginnings
 pub mod BinaryLines
+pub mod BinaryTold
 pub mod Choosing
 pub mod Coloring
 pub mod ColorParts
@@ -15,7 +16,6 @@ pub mod Formatted
 pub mod Fronts
 pub mod Globbed
 pub mod Grouped
-pub mod Guarded
 pub mod HeldLines
 pub mod Kept
 pub mod LineLists

@@ -11,6 +11,7 @@ use Rattle.programs.specs.Answers.{status_of}
 use Rattle.acgrep.specs.Binary.{is_guarded}
 use Rattle.acgrep.specs.Files.{AreFilesBegun, AreFilesSearched, AreSearchedOr, BeginsName, HasSelected, IfBroken, IfSearched, LeavesInput, OneIsSelected, SearchesName, SearchesNames, is_enough, known_of, nothing_seen, seen_after, status_by}
 use Rattle.acgrep.specs.Lines.{lines}
+use Rattle.acgrep.specs.Written.{IsAny}
 use Rattle.acgrep.specs.declared.files.Outcome.{Outcome}
 use Rattle.acgrep.specs.declared.files.Outcome.TheVariants.{Searched, Unread, Stopped}
 use Rattle.acgrep.specs.declared.files.Seen.{Seen}
@@ -18,7 +19,7 @@ use Rattle.acgrep.specs.declared.options.Fit.{Fit}
 use Rattle.acgrep.specs.declared.options.Shown.{Shown}
 use Rattle.acgrep.specs.declared.options.Shown.TheVariants.{Lines, Matches, Objects, Count, Names, Lacking, Nothing}
 use Rattle.acgrep.specs.declared.select.Job.{Job}
-use Rattle.acgrep.proofs.Guarded.{either_some}
+use Rattle.acgrep.proofs.BinaryTold.{either_some}
 
 or_true : (a : Bool) → (a || true) ≡ true
 or_true true = refl

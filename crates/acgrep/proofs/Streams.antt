@@ -82,7 +82,7 @@ module _ (p : Patterns) (job : Job) where
       → SearchesText p job a b x y front → SearchesText p job b c y z back → SearchesText p job a c x z (front ++ back)
   searches_more a b c x y z front back whole goes one other = more_in (around_of job) a b c x y z front back whole goes one other
 
-  pub stream_step : (a b c : State) (x y z l m n : Option (List ℕ)) (first kept rest : List ℕ) (ended : Bool) → (IsSettled job b → ⊥)
+  unfoldable pub stream_step : (a b c : State) (x y z l m n : Option (List ℕ)) (first kept rest : List ℕ) (ended : Bool) → (IsSettled job b → ⊥)
       → ReadsSome p job (course a b x y l m) first kept false → ReadsSome p job (course b c y z m n) kept rest ended → ReadsSome p job (course a c x z l n) first rest false
   stream_step a b c x y z l m n first kept rest ended goes so_far some =
       record {
@@ -96,7 +96,7 @@ module _ (p : Patterns) (job : Job) where
         ends = λ ended. absurd (cc);
       }
 
-  stream_end : (a b c : State) (x y z l m : Option (List ℕ)) (first kept : List ℕ) → (IsSettled job b → ⊥) → IsAtEnd m
+  unfoldable pub stream_end : (a b c : State) (x y z l m : Option (List ℕ)) (first kept : List ℕ) → (IsSettled job b → ⊥) → IsAtEnd m
       → ReadsSome p job (course a b x y l m) first kept false → SearchesText p job b c y z kept → SearchesBehind p job (course a c x z l m) first
   stream_end a b c x y z l m first kept goes end so_far last = record {
     came = so_far.came;
@@ -108,7 +108,7 @@ module _ (p : Patterns) (job : Job) where
     ends = inl (refl, end);
   }
 
-  pub stream_stop : (a b : State) (x y l m : Option (List ℕ)) (first kept : List ℕ) → IsSettled job b
+  unfoldable pub stream_stop : (a b : State) (x y l m : Option (List ℕ)) (first kept : List ℕ) → IsSettled job b
       → ReadsSome p job (course a b x y l m) first kept false → SearchesBehind p job (course a b x y l m) first
   stream_stop a b x y l m first kept settled so_far = record {
     came = so_far.came;
@@ -121,7 +121,7 @@ module _ (p : Patterns) (job : Job) where
   }
 
   -- the read that told the end, and the search of what is kept
-  pub stream_done : (a b c d : State) (x y z w l m n : Option (List ℕ)) (first kept rest : List ℕ) (ended : Bool)
+  unfoldable pub stream_done : (a b c d : State) (x y z w l m n : Option (List ℕ)) (first kept rest : List ℕ) (ended : Bool)
       → (IsSettled job b → ⊥) → ended ≡ true → ReadsSome p job (course a b x y l m) first kept false → ReadsSome p job (course b c y z m n) kept rest ended
       → SearchesText p job c d z w rest → SearchesBehind p job (course a d x w l n) first
   stream_done a b c d x y z w l m n first kept rest ended goes is so_far some last =
@@ -169,7 +169,7 @@ module _ (p : Patterns) (job : Job) where
   searches_none a x y keeps = none_in (around_of job) a x y keeps
 
   -- at the begin nothing was searched or read
-  pub stream_start : (a : State) (x l : Option (List ℕ)) (kept : List ℕ) → ReadsSome p job (course a a x x l l) kept kept false
+  unfoldable pub stream_start : (a : State) (x l : Option (List ℕ)) (kept : List ℕ) → ReadsSome p job (course a a x x l l) kept kept false
   stream_start a x l kept = record {
     came = [];
     searched = [];
@@ -222,7 +222,7 @@ module _ (p : Patterns) (job : Job) where
   text_kept a b x y z text keeps one = kept_in (around_of job) a b x y z text keeps one
 
   -- a read that gives bytes, and the search of their whole lines
-  pub reads_some : (a b : State) (x y z l m : Option (List ℕ)) (kept_before filled kept_after : List ℕ) (count : ℕ) → Keeps x y → FillsBehind kept_before filled l m count
+  unfoldable pub reads_some : (a b : State) (x y z l m : Option (List ℕ)) (kept_before filled kept_after : List ℕ) (count : ℕ) → Keeps x y → FillsBehind kept_before filled l m count
       → SearchesWhole p job a b y z filled kept_after → ReadsSome p job (course a b x z l m) kept_before kept_after false
   reads_some a b x y z l m kept_before filled kept_after count keeps fills searches = record {
     came = fills.came;
@@ -235,7 +235,7 @@ module _ (p : Patterns) (job : Job) where
   }
 
   -- a read that gives none
-  pub reads_none : (a : State) (x y l m : Option (List ℕ)) (kept_before kept_after : List ℕ) (count : ℕ) → Keeps x y → FillsBehind kept_before kept_after l m count → count ≡ 0
+  unfoldable pub reads_none : (a : State) (x y l m : Option (List ℕ)) (kept_before kept_after : List ℕ) (count : ℕ) → Keeps x y → FillsBehind kept_before kept_after l m count → count ≡ 0
       → ReadsSome p job (course a a x y l m) kept_before kept_after true
   reads_none a x y l m kept_before kept_after count keeps fills zero = record {
     came = fills.came;
@@ -256,7 +256,7 @@ module _ (ending : ℕ) where
       (front_newline ending bytes whole (whole - 1) (omega (arith, long, some)) (newline (omega (arith, long, some))))
 
 -- and what follows is kept
-pub whole_searched : (p : Patterns) (job : Job) (a b : State) (x y : Option (List ℕ)) (bytes kept : List ℕ) (whole : ℕ) → whole ≤ length bytes
+unfoldable pub whole_searched : (p : Patterns) (job : Job) (a b : State) (x y : Option (List ℕ)) (bytes kept : List ℕ) (whole : ℕ) → whole ≤ length bytes
     → (0 < whole → IsEnding job.style.ending bytes (whole - 1)) → kept ≡ drop whole bytes → SearchesText p job a b x y (take whole bytes) → SearchesWhole p job a b x y bytes kept
 whole_searched p job a b x y bytes kept whole within newline rest searches = record {
   searched = take whole bytes;

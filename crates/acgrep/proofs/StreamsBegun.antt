@@ -50,7 +50,7 @@ module _ (p : Patterns) (job : Job) where
       subst (BeginsAsked p job (Some context) a count x z) (sym (lines_append job.style.ending front back whole ∙ ap (λ (l : List (List ℕ)). l ++ lines job.style.ending back) (text_lines p job context a b x y front one goes)))
       (begun_behind p job context (walk_of a) (walk_of b) x y z one.searched (lines job.style.ending back) one.tells other)
 
-  begins_after : (a b : State) (count : ℕ) (x y z : Option (List ℕ)) (front back : List ℕ) → EndsLine job.style.ending front → (IsSettled job b → ⊥)
+  pub begins_after : (a b : State) (count : ℕ) (x y z : Option (List ℕ)) (front back : List ℕ) → EndsLine job.style.ending front → (IsSettled job b → ⊥)
       → SearchesText p job a b x y front → BeginsSearched p job b count y z (lines job.style.ending back) → BeginsSearched p job a count x z (lines job.style.ending (front ++ back))
   begins_after a b count x y z front back whole goes one other = after_in (around_of job) a b count x y z front back whole goes one other
 
@@ -59,20 +59,20 @@ module _ (p : Patterns) (job : Job) where
   whole_in (Some context) a b x y text one =
       subst (BeginsAsked p job (Some context) a b.selected x y) (sym one.cut) (begun_all p job context (walk_of a) (walk_of b) x y one.searched (lines job.style.ending one.left) one.tells)
 
-  begins_whole : (a b : State) (x y : Option (List ℕ)) (text : List ℕ) → SearchesText p job a b x y text → BeginsSearched p job a b.selected x y (lines job.style.ending text)
+  pub begins_whole : (a b : State) (x y : Option (List ℕ)) (text : List ℕ) → SearchesText p job a b x y text → BeginsSearched p job a b.selected x y (lines job.style.ending text)
   begins_whole a b x y text one = whole_in (around_of job) a b x y text one
 
-  nothing_in : (around : Option Context) (a : State) (x y : Option (List ℕ)) → Keeps x y → BeginsAsked p job around a a.selected x y []
+  pub nothing_in : (around : Option Context) (a : State) (x y : Option (List ℕ)) → Keeps x y → BeginsAsked p job around a a.selected x y []
   nothing_in None a x y keeps = begins_none p job a x y [] (keeps_nil x y keeps)
   nothing_in (Some context) a x y keeps = begun_nothing p job context (walk_of a) x y [] (keeps_nil x y keeps)
 
-  kept_in : (around : Option Context) (a : State) (count : ℕ) (x y z : Option (List ℕ)) (ls : List (List ℕ)) → Keeps x y → BeginsAsked p job around a count y z ls
+  pub kept_in : (around : Option Context) (a : State) (count : ℕ) (x y z : Option (List ℕ)) (ls : List (List ℕ)) → Keeps x y → BeginsAsked p job around a count y z ls
       → BeginsAsked p job around a count x z ls
   kept_in None a count x y z ls keeps begins = begins_kept p job a count x y z ls keeps begins
   kept_in (Some context) a count x y z ls keeps begins = begun_kept p job context (walk_of a) x y z ls (keeps_nil x y keeps) begins
 
   -- the front of bytes up to behind a newline was begun
-  pub whole_begins : (a : State) (count : ℕ) (b : State) (x y : Option (List ℕ)) (bytes : List ℕ) (whole : ℕ) → count ≡ b.selected → whole ≤ length bytes
+  unfoldable pub whole_begins : (a : State) (count : ℕ) (b : State) (x y : Option (List ℕ)) (bytes : List ℕ) (whole : ℕ) → count ≡ b.selected → whole ≤ length bytes
       → (0 < whole → IsEnding job.style.ending bytes (whole - 1)) → BeginsSearched p job a count x y (lines job.style.ending (take whole bytes)) → BeginsWhole p job a b x y bytes
   whole_begins a count b x y bytes whole same within newline begins = record {
     searched = take whole bytes;
@@ -83,7 +83,7 @@ module _ (p : Patterns) (job : Job) where
   }
 
   -- bytes came, and nothing is written
-  pub some_none : (a : State) (x y l m : Option (List ℕ)) (kept came : List ℕ) → Keeps x y → Consumes l m came → BeginsSome p job (course a a x y l m) kept
+  unfoldable pub some_none : (a : State) (x y l m : Option (List ℕ)) (kept came : List ℕ) → Keeps x y → Consumes l m came → BeginsSome p job (course a a x y l m) kept
   some_none a x y l m kept came keeps read = record {
     came = came;
     searched = [];
@@ -95,7 +95,7 @@ module _ (p : Patterns) (job : Job) where
   }
 
   -- bytes came, and of their whole lines a beginning is written
-  pub some_begins : (a b : State) (x y z l m : Option (List ℕ)) (kept filled : List ℕ) (count : ℕ) → Keeps x y → FillsBehind kept filled l m count
+  unfoldable pub some_begins : (a b : State) (x y z l m : Option (List ℕ)) (kept filled : List ℕ) (count : ℕ) → Keeps x y → FillsBehind kept filled l m count
       → BeginsWhole p job a b y z filled → BeginsSome p job (course a b x z l m) kept
   some_begins a b x y z l m kept filled count keeps fills begins = record {
     came = fills.came;
@@ -108,7 +108,7 @@ module _ (p : Patterns) (job : Job) where
   }
 
   -- what was read so far, and a read that is broken off
-  pub stream_begins : (a b c : State) (x y z l m n : Option (List ℕ)) (first kept : List ℕ) → (IsSettled job b → ⊥)
+  unfoldable pub stream_begins : (a b c : State) (x y z l m n : Option (List ℕ)) (first kept : List ℕ) → (IsSettled job b → ⊥)
       → ReadsSome p job (course a b x y l m) first kept false → BeginsSome p job (course b c y z m n) kept → BeginsBehind p job (course a c x z l n) first
   stream_begins a b c x y z l m n first kept goes so_far some =
       record {
@@ -123,7 +123,7 @@ module _ (p : Patterns) (job : Job) where
       }
 
   -- the read that told the end, and a search of what is kept that is broken off
-  pub stream_last_begins : (a b c d : State) (x y z w l m n : Option (List ℕ)) (first kept rest : List ℕ) (ended : Bool) → (IsSettled job b → ⊥) → ended ≡ true
+  unfoldable pub stream_last_begins : (a b c d : State) (x y z w l m n : Option (List ℕ)) (first kept rest : List ℕ) (ended : Bool) → (IsSettled job b → ⊥) → ended ≡ true
       → ReadsSome p job (course a b x y l m) first kept false → ReadsSome p job (course b c y z m n) kept rest ended → BeginsSearched p job c d.selected z w (lines job.style.ending rest)
       → BeginsBehind p job (course a d x w l n) first
   stream_last_begins a b c d x y z w l m n first kept rest ended goes is so_far some last =
@@ -140,7 +140,7 @@ module _ (p : Patterns) (job : Job) where
       }
 
   -- nothing more is read
-  pub stream_begins_stop : (a b : State) (x y l m : Option (List ℕ)) (first kept : List ℕ) → ReadsSome p job (course a b x y l m) first kept false → BeginsBehind p job (course a b x y l m) first
+  unfoldable pub stream_begins_stop : (a b : State) (x y l m : Option (List ℕ)) (first kept : List ℕ) → ReadsSome p job (course a b x y l m) first kept false → BeginsBehind p job (course a b x y l m) first
   stream_begins_stop a b x y l m first kept so_far = record {
     came = so_far.came;
     searched = so_far.searched;

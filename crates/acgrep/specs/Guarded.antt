@@ -67,7 +67,7 @@ pub record BeginsPast (p : Patterns) (job : Job) (c : Course) : Type 0 where
   pub text : is_text all.searched ≡ true
 
 -- bytes came behind those that are there, and it is known whether a line of both is selected, whatever follows; nothing is written
-pub record Finds (p : Patterns) (job : Job) (kept : List ℕ) (left left' held held' : Option (List ℕ)) (any : Bool) : Type 0 where
+pub record FindsSelected (p : Patterns) (job : Job) (kept : List ℕ) (left left' held held' : Option (List ℕ)) (any : Bool) : Type 0 where
   pub came : List ℕ
   pub consumed : Consumes left left' came
   pub found : (more : List ℕ) → (IsAtEnd left' → more ≡ []) → IsAny p job.fit job.invert (lines job.style.ending ((kept ++ came) ++ more)) any

@@ -10,9 +10,12 @@ use Rattle.aho_devices.specs.declared.device.Sink.{Ghosts as SinkGhosts}
 use Rattle.programs.specs.Names.{name_bytes}
 use Rattle.acgrep.specs.Contexts.{BeginsSearched, IsChosenBy, SearchesText, ShowsEach, ShowsGroup, WalksBegun, WalksLines, WalksText, walk_of}
 use Rattle.acgrep.specs.Files.{AreFilesBegun, BeginsFile, IfBroken, IfSearched, SearchesFile, SearchesReader}
+use Rattle.acgrep.specs.Filled.{bytes_buffered}
+use Rattle.acgrep.specs.Guarded.{FindsSelected}
 use Rattle.acgrep.specs.Lines.{lines}
 use Rattle.acgrep.specs.Selected.{ForLines}
 use Rattle.acgrep.specs.Written.{BeginsLine, BeginsLines, EachLine, HasMatch, HasNone, IsMatched, IsSelected, SearchesPlain, SearchesTo, TellsLines, WritesLine, WritesNext}
+use Rattle.acgrep.specs.declared.buffer.Buffer.{Buffer}
 use Rattle.acgrep.specs.declared.files.Outcome.{Outcome}
 use Rattle.acgrep.specs.declared.options.Context.{Context}
 use Rattle.acgrep.specs.declared.open.Open.{Ghosts as Openers}
@@ -52,17 +55,17 @@ module _ {A W : Type 0} (automata : Automata A) (sinks : SinkGhosts W) (automato
       ForLines job.style.ending (automata.is_of automaton) (λ p. OnErr result (BeginsLines p job before after.selected (sinks.taken old) (sinks.taken new) (lines job.style.ending text)))
 
   -- where they are
-  abbrev pub WalksTextBy : {T E : Type 0} → Context → List ℕ → Result T E → Type 0
-  WalksTextBy context text result =
+  abbrev pub WalksBy : {T E : Type 0} → Context → List ℕ → Result T E → Type 0
+  WalksBy context text result =
       (p : Patterns) → automata.is_of automaton p → OnOk result (WalksText p job context before after (sinks.taken old) (sinks.taken new) text)
 
-  abbrev pub WalksBegunBy : {T E : Type 0} → Context → List ℕ → Result T E → Type 0
-  WalksBegunBy context text result =
+  abbrev pub BegunBy : {T E : Type 0} → Context → List ℕ → Result T E → Type 0
+  BegunBy context text result =
       (p : Patterns) → automata.is_of automaton p → OnErr result (WalksBegun p job context (walk_of before) (sinks.taken old) (sinks.taken new) (lines job.style.ending text))
 
   -- of one line
-  abbrev pub WalksLineBy : {T E : Type 0} → Context → List ℕ → Result T E → Type 0
-  WalksLineBy context line result = (p : Patterns) → automata.is_of automaton p
+  abbrev pub StepsBy : {T E : Type 0} → Context → List ℕ → Result T E → Type 0
+  StepsBy context line result = (p : Patterns) → automata.is_of automaton p
       → OnOk result (WalksLines p job context (walk_of before) (walk_of after) (sinks.taken old) (sinks.taken new) (line ∷ []))
 
   abbrev pub BeginsLineAround : {T E : Type 0} → Context → List ℕ → Result T E → Type 0
@@ -70,8 +73,8 @@ module _ {A W : Type 0} (automata : Automata A) (sinks : SinkGhosts W) (automato
       → OnErr result (WalksBegun p job context (walk_of before) (sinks.taken old) (sinks.taken new) (line ∷ []))
 
   -- that is selected, where more are asked for
-  abbrev pub TakesLineBy : {T E : Type 0} → Context → List ℕ → Result T E → Type 0
-  TakesLineBy context line result = (p : Patterns) → automata.is_of automaton p → IsChosenBy p job before.selected line true
+  abbrev pub TakesBy : {T E : Type 0} → Context → List ℕ → Result T E → Type 0
+  TakesBy context line result = (p : Patterns) → automata.is_of automaton p → IsChosenBy p job before.selected line true
       → OnOk result (WalksLines p job context (walk_of before) (walk_of after) (sinks.taken old) (sinks.taken new) (line ∷ []))
 
   abbrev pub BeginsTakenBy : {T E : Type 0} → Context → List ℕ → Result T E → Type 0
@@ -79,8 +82,8 @@ module _ {A W : Type 0} (automata : Automata A) (sinks : SinkGhosts W) (automato
       → OnErr result (WalksBegun p job context (walk_of before) (sinks.taken old) (sinks.taken new) (line ∷ []))
 
   -- that is not
-  abbrev pub PassesLineBy : {T E : Type 0} → Context → List ℕ → Result T E → Type 0
-  PassesLineBy context line result = (p : Patterns) → automata.is_of automaton p → IsChosenBy p job before.selected line false
+  abbrev pub SkipsBy : {T E : Type 0} → Context → List ℕ → Result T E → Type 0
+  SkipsBy context line result = (p : Patterns) → automata.is_of automaton p → IsChosenBy p job before.selected line false
       → OnOk result (WalksLines p job context (walk_of before) (walk_of after) (sinks.taken old) (sinks.taken new) (line ∷ []))
 
   abbrev pub BeginsPassedBy : {T E : Type 0} → Context → List ℕ → Result T E → Type 0
@@ -145,6 +148,21 @@ module _ {A W : Type 0} (automata : Automata A) (sinks : SinkGhosts W) (automato
 abbrev pub SearchesReaderBy : {A R W : Type 0} → Automata A → Readers R → SinkGhosts W → A → Job → R → R → W → W → Outcome → Type 0
 SearchesReaderBy automata readers sinks automaton job reader reader' old new outcome = ForLines job.style.ending (automata.is_of automaton)
     (λ p. IfSearched outcome (SearchesReader p job (readers.remaining reader) (readers.remaining reader') (sinks.taken old) (sinks.taken new)))
+
+-- where lines with a zero byte are kept from the output too: where a call does not fail, and where it fails a beginning of that is written
+module _ {A R W : Type 0} (automata : Automata A) (readers : Readers R) (sinks : SinkGhosts W) (automaton : A) (job : Job) where
+  abbrev pub SearchesGuardedBy : {E : Type 0} → R → R → W → W → Result Bool E → Type 0
+  SearchesGuardedBy reader reader' old new result = ForLines job.style.ending (automata.is_of automaton)
+      (λ p. IfOk result (SearchesReader p job (readers.remaining reader) (readers.remaining reader') (sinks.taken old) (sinks.taken new)))
+
+  abbrev pub BeginsGuardedBy : {T E : Type 0} → R → W → W → Result T E → Type 0
+  BeginsGuardedBy reader old new result = ForLines job.style.ending (automata.is_of automaton)
+      (λ p. OnErr result (BeginsFile p job (readers.remaining reader) (sinks.taken old) (sinks.taken new)))
+
+  -- whether a line is selected of those that are there or come
+  abbrev pub FindsBy : {E : Type 0} → Buffer → R → R → W → W → Result Bool E → Type 0
+  FindsBy buffer reader reader' old new result = ForLines job.style.ending (automata.is_of automaton)
+      (λ p. IfOk result (FindsSelected p job (bytes_buffered buffer) (readers.remaining reader) (readers.remaining reader') (sinks.taken old) (sinks.taken new)))
 
 -- of some first ones of the files of these names all that is asked is written, or a beginning of it
 abbrev pub BeginsFilesBy : {A F X R W : Type 0} → Automata A → Openers F X → Readers R → SinkGhosts W → A → Job → F → List (Bor (List ℕ)) → R → W → W → Type 0

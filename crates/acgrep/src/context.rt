@@ -5,7 +5,7 @@ ghost use Rattle.aho_core.specs.Patterns.{Patterns};
 ghost use Rattle.acgrep.specs.Contexts.{IsChosenBy, beside, separator_if};
 ghost use Rattle.acgrep.specs.Filled.{held_lines};
 ghost use Rattle.acgrep.specs.Printed.{Puts};
-ghost use Rattle.acgrep.specs.Searched.{BeginsLineAround, BeginsPassedBy, BeginsTakenBy, PassesLineBy, ShowsEachBy, ShowsGroupBy, TakesLineBy, WalksBegunBy, WalksLineBy, WalksTextBy};
+ghost use Rattle.acgrep.specs.Searched.{BeginsLineAround, BeginsPassedBy, BeginsTakenBy, BegunBy, ShowsEachBy, ShowsGroupBy, SkipsBy, StepsBy, TakesBy, WalksBy};
 ghost use Rattle.acgrep.specs.Written.{IsMatched};
 
 use crate::backed::Lister;
@@ -31,11 +31,11 @@ pub fn search_around<A: Lister, W: Sink>(
     output: &mut W,
 ) -> Result<(), Stop>
     requires of { (p : Patterns) × A.is_of automaton.now p }
-    ensures walks { WalksTextBy A.Automaton W.Sink automaton.now job.now
+    ensures walks { WalksBy A.Automaton W.Sink automaton.now job.now
         state.old state.new output.old output.new context.now text.now result }
 
     // Where it fails a beginning of that is written.
-    ensures begun { WalksBegunBy A.Automaton W.Sink automaton.now job.now
+    ensures begun { BegunBy A.Automaton W.Sink automaton.now job.now
         state.old state.new output.old output.new context.now text.now result }
 {
     let mut rest = text;
@@ -58,7 +58,7 @@ fn pass_any<A: Lister, W: Sink>(
     output: &mut W,
 ) -> Result<(), Stop>
     requires of { (p : Patterns) × A.is_of automaton.now p }
-    ensures walks { WalksLineBy A.Automaton W.Sink automaton.now job.now
+    ensures walks { StepsBy A.Automaton W.Sink automaton.now job.now
         state.old state.new output.old output.new context.now line.now result }
     ensures begun { BeginsLineAround A.Automaton W.Sink automaton.now job.now
         state.old state.new output.old output.new context.now line.now result }
@@ -110,7 +110,7 @@ fn pass_chosen<A: Lister, W: Sink>(
     output: &mut W,
 ) -> Result<(), Stop>
     requires of { (p : Patterns) × A.is_of automaton.now p }
-    ensures walks { TakesLineBy A.Automaton W.Sink automaton.now job.now
+    ensures walks { TakesBy A.Automaton W.Sink automaton.now job.now
         state.old state.new output.old output.new context.now line.now result }
     ensures begun { BeginsTakenBy A.Automaton W.Sink automaton.now job.now
         state.old state.new output.old output.new context.now line.now result }
@@ -195,7 +195,7 @@ fn pass_beside<A: Lister, W: Sink>(
     output: &mut W,
 ) -> Result<(), Stop>
     requires of { (p : Patterns) × A.is_of automaton.now p }
-    ensures walks { PassesLineBy A.Automaton W.Sink automaton.now job.now
+    ensures walks { SkipsBy A.Automaton W.Sink automaton.now job.now
         state.old state.new output.old output.new context.now line.now result }
     ensures begun { BeginsPassedBy A.Automaton W.Sink automaton.now job.now
         state.old state.new output.old output.new context.now line.now result }
@@ -220,7 +220,7 @@ fn pass_due<A: Lister, W: Sink>(
 ) -> Result<(), Stop>
     requires of { (p : Patterns) × A.is_of automaton.now p }
     requires due { 0 < state.now.trail.due }
-    ensures walks { PassesLineBy A.Automaton W.Sink automaton.now job.now
+    ensures walks { SkipsBy A.Automaton W.Sink automaton.now job.now
         state.old state.new output.old output.new context.now line.now result }
     ensures begun { BeginsPassedBy A.Automaton W.Sink automaton.now job.now
         state.old state.new output.old output.new context.now line.now result }

@@ -1,17 +1,16 @@
 //! Searching what a reader gives where no line from the first on that holds a zero byte is to be written: such bytes would not be lines
 //! to read, and a terminal may take them for commands.
 
-ghost use Rattle.std.specs.Prelude.{◌≡◌, ◌≤◌, ◌<◌, ◌-◌, [], IfOk, IfSome, OnErr, OnOk, drop, length, take, true};
+ghost use Rattle.std.specs.Prelude.{◌≡◌, ◌≤◌, ◌<◌, ◌-◌, [], IfOk, IfSome, OnErr, OnOk, length, take, true};
 ghost use Rattle.std.specs.Io.KnownBytes.{Appends};
 ghost use Rattle.aho_core.specs.Patterns.{Patterns};
 ghost use Rattle.aho_devices.specs.Counts.{AppendsBeginning};
 ghost use Rattle.acgrep.specs.Binary.{binary_by, is_guarded, is_text};
-ghost use Rattle.acgrep.specs.Contexts.{BeginsSearched, SearchesText};
-ghost use Rattle.acgrep.specs.Files.{BeginsFile, SearchesReader};
 ghost use Rattle.acgrep.specs.Filled.{ReadsOn, bytes_buffered};
-ghost use Rattle.acgrep.specs.Guarded.{BeginsFront, BeginsPast, EndsFront, Finds, IsZeroLine, ReadsFront};
-ghost use Rattle.acgrep.specs.Lines.{IsEnding, lines};
+ghost use Rattle.acgrep.specs.Guarded.{BeginsFront, BeginsPast, EndsFront, IsZeroLine, ReadsFront};
+ghost use Rattle.acgrep.specs.Lines.{IsEnding};
 ghost use Rattle.acgrep.specs.Printed.{Puts};
+ghost use Rattle.acgrep.specs.Searched.{BeginsGuardedBy, FindsBy, SearchesGuardedBy};
 ghost use Rattle.acgrep.specs.Selected.{ForJob};
 ghost use Rattle.acgrep.specs.Streamed.{course_of};
 
@@ -52,20 +51,21 @@ pub fn search_guarded<A: Lister, R: Read, W: Sink>(
 ) -> Result<bool, Stop>
     requires of { (p : Patterns) × A.is_of automaton.now p }
     requires guarded { is_guarded job.now ≡ true }
-    ensures searched { ForJob job.now (A.is_of automaton.now) (λ p.
-        IfOk result (SearchesReader p job.now (R.remaining input.old) (R.remaining input.new)
-        (W.taken output.old) (W.taken output.new))) }
+    ensures searched { SearchesGuardedBy A.Automaton R.Read W.Sink automaton.now job.now
+        input.old input.new output.old output.new result }
 
     // Where it fails a beginning of that is written.
-    ensures begun { ForJob job.now (A.is_of automaton.now) (λ p.
-        OnErr result (BeginsFile p job.now (R.remaining input.old)
-        (W.taken output.old) (W.taken output.new))) }
+    ensures begun { BeginsGuardedBy A.Automaton R.Read W.Sink automaton.now job.now
+        input.old output.old output.new result }
     ensures reads { ReadsOn (R.remaining input.old) (R.remaining input.new) }
 {
     state.begin(job);
     let binary = search_front(automaton, job, buffer, input, state, page, output)?;
     let any = state.selected > 0;
-    if !binary || job.is_full(state.selected) {
+    if !binary {
+        return Ok(any);
+    }
+    if job.is_full(state.selected) {
         return Ok(any);
     }
     if finds(automaton, job, buffer, input, state, page, output)? {
@@ -143,7 +143,9 @@ fn read_front<A: Lister, R: Read, W: Sink>(
     }
     match zero_line(buffer.bytes(), count, job.style.ending) {
         Some(start) => {
-            search_before(automaton, job, buffer, start, state, page, output)?;
+            let text = &buffer.bytes()[..start];
+            search_text(automaton, job, text, state, page, output)?;
+            buffer.drop_front(start);
             Ok(Came::Binary)
         }
         None => {
@@ -167,31 +169,6 @@ fn zero_line(bytes: &[u8], count: usize, ending: u8) -> Option<usize>
     }
 }
 
-/// Searches the lines before a place, and keeps what follows.
-fn search_before<A: Lister, W: Sink>(
-    automaton: &A,
-    job: &Job<'_>,
-    buffer: &mut Buffer,
-    end: usize,
-    state: &mut State,
-    page: &mut Vec<u8>,
-    output: &mut W,
-) -> Result<(), Stop>
-    requires of { (p : Patterns) × A.is_of automaton.now p }
-    requires within { end ≤ buffer.now.held }
-    ensures searched { ForJob job.now (A.is_of automaton.now) (λ p.
-        OnOk result (SearchesText p job.now state.old state.new
-        (W.taken output.old) (W.taken output.new) (take end (bytes_buffered buffer.old)))) }
-    ensures rest { OnOk result (bytes_buffered buffer.new ≡ drop end (bytes_buffered buffer.old)) }
-    ensures begun { ForJob job.now (A.is_of automaton.now) (λ p.
-        OnErr result (BeginsSearched p job.now state.old state.new.selected
-        (W.taken output.old) (W.taken output.new) (lines job.now.style.ending (take end (bytes_buffered buffer.old))))) }
-{
-    search_text(automaton, job, &buffer.bytes()[..end], state, page, output)?;
-    buffer.drop_front(end);
-    Ok(())
-}
-
 /// Whether a line is selected of those that are there or come. Nothing is written.
 fn finds<A: Lister, R: Read, W: Sink>(
     automaton: &A,
@@ -203,9 +180,8 @@ fn finds<A: Lister, R: Read, W: Sink>(
     output: &mut W,
 ) -> Result<bool, Stop>
     requires of { (p : Patterns) × A.is_of automaton.now p }
-    ensures found { ForJob job.now (A.is_of automaton.now) (λ p.
-        IfOk result (Finds p job.now (bytes_buffered buffer.old)
-        (R.remaining input.old) (R.remaining input.new) (W.taken output.old) (W.taken output.new))) }
+    ensures found { FindsBy A.Automaton R.Read W.Sink automaton.now job.now
+        buffer.old input.old input.new output.old output.new result }
     ensures unwritten { ForJob job.now (A.is_of automaton.now) (λ p.
         OnErr result (Appends (W.taken output.old) (W.taken output.new) [])) }
     ensures reads { ReadsOn (R.remaining input.old) (R.remaining input.new) }
@@ -217,11 +193,7 @@ fn finds<A: Lister, R: Read, W: Sink>(
 }
 
 /// Writes that a line with a zero byte, or one behind it, is selected. It is put together first.
-fn write_binary<W: Sink>(
-    style: &Style<'_>,
-    page: &mut Vec<u8>,
-    output: &mut W,
-) -> Result<(), Stop>
+fn write_binary<W: Sink>(style: &Style<'_>, page: &mut Vec<u8>, output: &mut W) -> Result<(), Stop>
     ensures written { OnOk result (Appends (W.taken output.old) (W.taken output.new) (binary_by style.now)) }
     ensures begun { AppendsBeginning (W.taken output.old) (W.taken output.new) (binary_by style.now) }
 {

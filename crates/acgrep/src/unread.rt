@@ -1,5 +1,6 @@
 //! Telling why a file was not searched, if that is asked for.
 
+ghost use Rattle.std.specs.Prelude.{false};
 ghost use Rattle.acgrep.specs.Told.{TellsCause, TellsOfOutcome, stopped_if};
 
 use crate::failure::Stop;

@@ -83,3 +83,17 @@ returns-in-Some-clause-told g c =
     let cut : given.operands.items ≡ c.in-Some.pattern.now ∷ c.in-Some.names.now = sym c.as_slice-operands.ensures.value ∙ c.in-Some.ensures.cases.0 in
     as-first (λ (sources : List Origin) (names : List (List ℕ)). TellsOfSearch g.E.Sink (tree_of g.F.Folders c.args.files.now) (said given) sources names c.search-in-Some.result c.args.errors.now c.search-in-Some.new.errors)
     given.sources.items given.operands.items c.in-Some.pattern.now c.in-Some.names.now none cut c.search-in-Some.ensures.told
+
+pub returns-in-Some-clause-searches : goal.returns-in-Some-clause-searches
+returns-in-Some-clause-searches g c = λ low.
+    let given = c.args.given.now in
+    let known = known_by g.F.Open g.F.Folders c.args.files.now in
+    let left = g.R.Read.remaining c.args.input.now in
+    let left' = g.R.Read.remaining c.search-in-Some.new.input in
+    let held = g.W.Sink.taken c.args.output.now in
+    let held' = g.W.Sink.taken c.search-in-Some.new.output in
+    let empty : length c.as_slice-sources.result.now ≡ 0 = grind (arith, common_steps, c.is_empty.ensures, c.if-not-is_empty.false) in
+    let none : given.sources.items ≡ [] = sym c.as_slice-sources.ensures.value ∙ all-gone c.as_slice-sources.result.now empty in
+    let cut : given.operands.items ≡ c.in-Some.pattern.now ∷ c.in-Some.names.now = sym c.as_slice-operands.ensures.value ∙ c.in-Some.ensures.cases.0 in
+    as-first (λ (sources : List Origin) (names : List (List ℕ)). SearchesFor known c.args.screen.now (said given) sources names left left' held held' c.search-in-Some.result)
+    given.sources.items given.operands.items c.in-Some.pattern.now c.in-Some.names.now none cut (c.search-in-Some.ensures.searches low)

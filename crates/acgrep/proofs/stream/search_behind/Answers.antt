@@ -1,5 +1,5 @@
 -- A read more, up to the end or a line that tells all.
-use Rattle.std.proofs.Common.{ℕ, List, [], take, subst, ◌∙◌, ap}
+use Rattle.std.proofs.Common.{ℕ, List, [], take, subst}
 use Rattle.std.specs.Prelude.{OnErr, OnOk}
 use Rattle.std.proofs.lemmas.Result.{on_err_weaker}
 use Rattle.std.proofs.KnownBytes.{Consumes-nil}
@@ -66,7 +66,7 @@ loop-preserved g c = record {
 
 pub returns-in_err-read_some-clause-begun : goal.returns-in_err-read_some-clause-begun
 returns-in_err-read_some-clause-begun g c = λ p is plain.
-    on_err c.from_residual.result (stream_begins p c.args.job.now c.args.state.now c.loop.state c.read_some.new.state (g.W.Sink.taken c.args.output.now)
+    on_err c.from_residual-in_err-read_some.result (stream_begins p c.args.job.now c.args.state.now c.loop.state c.read_some.new.state (g.W.Sink.taken c.args.output.now)
     (g.W.Sink.taken c.loop.output) (g.W.Sink.taken c.read_some.new.output)
     (g.R.Read.remaining c.args.input.now) (g.R.Read.remaining c.loop.input) (g.R.Read.remaining c.read_some.new.input) (take c.args.buffer.now.held c.args.buffer.now.room.items) (take c.loop.buffer.held c.loop.buffer.room.items)
     (not_done c.is_done.result (IsSettled c.args.job.now c.loop.state) c.is_done.ensures.settled.1 c.if-is_done.false) (c.loop.invariant.searched p is plain) (c.in_err-read_some.ensures.begun p is plain))

@@ -9,7 +9,7 @@ use Rattle.acgrep.proofs.stream.search_behind.Given as goal
 abbrev pub invariant-loop : goal.invariant-loop
 invariant-loop g l = record {
   searched : (p : Patterns) → g.A.Automaton.is_of l.fn.automaton p → HoldNoEnding l.fn.job.style.ending p
-      → ReadsSome p l.fn.job (course l.initial.state l.state (g.W.Sink.taken l.initial.output) (g.W.Sink.taken l.output)
-      (g.R.Read.remaining l.initial.input) (g.R.Read.remaining l.input)) (take l.initial.buffer.held l.initial.buffer.room.items) (take l.buffer.held l.buffer.room.items) false;
-  reads : ReadsOn (g.R.Read.remaining l.initial.input) (g.R.Read.remaining l.input);
+      → ReadsSome p l.fn.job (course l.fn.state l.state (g.W.Sink.taken l.fn.output) (g.W.Sink.taken l.output)
+      (g.R.Read.remaining l.fn.input) (g.R.Read.remaining l.input)) (take l.fn.buffer.held l.fn.buffer.room.items) (take l.buffer.held l.buffer.room.items) false;
+  reads : ReadsOn (g.R.Read.remaining l.fn.input) (g.R.Read.remaining l.input);
 }

@@ -1,6 +1,5 @@
 -- Nothing is there at first.
-use Rattle.std.proofs.Common.{◌≡◌, ℕ, List, [], take, subst, ◌∙◌, ap}
-use Rattle.std.specs.Prelude.{OnErr, OnOk}
+use Rattle.std.proofs.Common.{◌≡◌, ℕ, [], take, subst, ◌∙◌, ap}
 use Rattle.std.proofs.lemmas.Result.{on_err_weaker, on_ok_weaker}
 use Rattle.acgrep.specs.Streamed.{BeginsBehind, SearchesBehind, course}
 use Rattle.acgrep.proofs.LineLists.{take_zero}
@@ -14,7 +13,7 @@ returns-clause-written g c = λ p is plain.
     (g.R.Read.remaining c.args.input.now) (g.R.Read.remaining c.search_behind.new.input) in
     let none : take c.clear.new.self.held c.clear.new.self.room.items ≡ [] = ap (λ (n : ℕ). take n c.clear.new.self.room.items) c.clear.ensures.none ∙ take_zero c.clear.new.self.room.items in
     on_ok_weaker c.search_behind.result (λ (behind : SearchesBehind p c.args.job.now course (take c.clear.new.self.held c.clear.new.self.room.items)).
-        stream_of p c.args.job.now course (subst (SearchesBehind p c.args.job.now course) none behind)) (c.search_behind.ensures.written p is plain)
+    stream_of p c.args.job.now course (subst (SearchesBehind p c.args.job.now course) none behind)) (c.search_behind.ensures.written p is plain)
 
 pub returns-clause-begun : goal.returns-clause-begun
 returns-clause-begun g c = λ p is plain.
@@ -22,4 +21,4 @@ returns-clause-begun g c = λ p is plain.
     (g.R.Read.remaining c.args.input.now) (g.R.Read.remaining c.search_behind.new.input) in
     let none : take c.clear.new.self.held c.clear.new.self.room.items ≡ [] = ap (λ (n : ℕ). take n c.clear.new.self.room.items) c.clear.ensures.none ∙ take_zero c.clear.new.self.room.items in
     on_err_weaker c.search_behind.result (λ (behind : BeginsBehind p c.args.job.now course (take c.clear.new.self.held c.clear.new.self.room.items)).
-        begun_of p c.args.job.now course (subst (BeginsBehind p c.args.job.now course) none behind)) (c.search_behind.ensures.begun p is plain)
+    begun_of p c.args.job.now course (subst (BeginsBehind p c.args.job.now course) none behind)) (c.search_behind.ensures.begun p is plain)

@@ -1,18 +1,18 @@
 -- What is told where lines from the first on that holds a zero byte are kept from the output.
-use Rattle.std.proofs.Common.{◌≡◌, ◌⊎◌, inl, inr, ℕ, ◌<◌, ◌≤◌, ◌==◌, Bool, true, false, List, [], ◌∷◌, ◌++◌, Option, None, Some, IfSome, length, take, drop, take-append-drop, refl, sym, ◌∙◌, ap, subst, arith, append_assoc, append-nil}
+use Rattle.std.proofs.Common.{◌≡◌, ◌⊎◌, inl, inr, ℕ, ◌<◌, ◌==◌, Bool, true, false, List, [], ◌∷◌, ◌++◌, Option, None, Some, IfSome, take, drop, take-append-drop, refl, sym, ◌∙◌, ap, subst, append_assoc, append-nil}
 use Rattle.std.specs.Prelude.{MatchBool, if◌then◌else◌, nat_lt, not, ◌&&◌, ◌||◌}
-use Rattle.std.specs.Io.KnownBytes.{Appends, Consumes, IsAtEnd}
+use Rattle.std.specs.Io.KnownBytes.{Appends, Consumes}
 use Rattle.std.proofs.KnownBytes.{Appends-trans, Consumes-trans, Keeps-refl}
-use Rattle.std.proofs.lemmas.Bool.{and_parts, cases_Bool, lt-ltb, not-true, true≢false}
+use Rattle.std.proofs.lemmas.Bool.{and_parts, lt-ltb, not-true, true≢false}
 use Rattle.aho_core.specs.Patterns.{Patterns}
 use Rattle.aho_devices.specs.Counts.{AppendsBeginning}
 use Rattle.acgrep.specs.Binary.{BeginsGuarded, TellsGuarded, binary_by, binary_lines, is_guarded, is_text, seeking, text_lines, writes_lines}
-use Rattle.acgrep.specs.Contexts.{BeginsAsked, BeginsSearched, IsBegin, SearchesText, TellsFile, TellsIn, around_of, walk_of}
-use Rattle.acgrep.specs.Files.{BeginsFile, BeginsFileIn, BeginsTotal, HasAllAsked, SearchesFile, SearchesReader, TellsSearched, total_if}
-use Rattle.acgrep.specs.Guarded.{BeginsBinary, BeginsPast, Finds, IsFirstBinary, SearchesFront, SearchesPast}
+use Rattle.acgrep.specs.Contexts.{BeginsAsked, IsBegin, SearchesText, TellsFile, TellsIn, around_of, walk_of}
+use Rattle.acgrep.specs.Files.{BeginsFile, BeginsFileIn, BeginsTotal, SearchesFile, SearchesReader, TellsSearched, total_if}
+use Rattle.acgrep.specs.Guarded.{BeginsBinary, BeginsPast, FindsSelected, IsFirstBinary, SearchesFront, SearchesPast}
 use Rattle.acgrep.specs.Lines.{EndsLine, lines}
 use Rattle.acgrep.specs.Streamed.{BeginsBehind, SearchesBehind, course}
-use Rattle.acgrep.specs.Written.{BeginsLines, IsAny, IsSelected, IsSettled, SomeLine, StartsNext, TellsOfLines, after_lines, is_full, needs_one, one_more}
+use Rattle.acgrep.specs.Written.{IsAny, IsSelected, IsSettled, SomeLine, StartsNext, TellsOfLines, after_lines, is_full, needs_one, one_more}
 use Rattle.acgrep.specs.declared.options.Context.{Context}
 use Rattle.acgrep.specs.declared.options.Shown.{Shown}
 use Rattle.acgrep.specs.declared.options.Shown.TheVariants.{Lines, Matches, Objects, Count, Names, Lacking, Nothing}
@@ -28,8 +28,12 @@ use Rattle.acgrep.proofs.LineLists.{lines_append}
 use Rattle.acgrep.proofs.Streams.{keeps_nil}
 use Rattle.acgrep.proofs.Tellings.{settled_some, tells_append, tells_full}
 
-appends_none : (x : Option (List ℕ)) → Appends x x []
+pub appends_none : (x : Option (List ℕ)) → Appends x x []
 appends_none x = keeps_nil x x (Keeps-refl x)
+
+pub or_false : (b : Bool) → b ≡ (b || false)
+or_false true = refl
+or_false false = refl
 
 some_behind : (P : List ℕ → Type 0) (ls ms : List (List ℕ)) → SomeLine P ms → SomeLine P (ls ++ ms)
 some_behind P [] ms some = some
@@ -82,8 +86,8 @@ module _ (p : Patterns) (job : Job) where
       subst (IsAny p job.fit job.invert ls) (sym is) (subst (SomeLine (IsSelected p job.fit job.invert)) (sym cut) (some_front (IsSelected p job.fit job.invert) told.searched later first))
 
   -- what is found of a job that writes nothing, in what is there and what comes
-  pub finds_of : (before state : State) (left left' held held' : Option (List ℕ)) (kept : List ℕ) → job.shown ≡ Nothing → IsBegin job before
-      → SearchesBehind p job (course before state held held' left left') kept → Finds p job kept left left' held held' (nat_lt 0 state.selected)
+  finds_of : (before state : State) (left left' held held' : Option (List ℕ)) (kept : List ℕ) → job.shown ≡ Nothing → IsBegin job before
+      → SearchesBehind p job (course before state held held' left left') kept → FindsSelected p job kept left left' held held' (nat_lt 0 state.selected)
   finds_of before state left left' held held' kept shown begin behind =
       let one : needs_one job.shown ≡ true = ap needs_one shown in
       let told = text_told p job (around_of job) before state held held' behind.searched begin behind.searches in
@@ -104,8 +108,8 @@ module _ (p : Patterns) (job : Job) where
                   let others = lines job.style.ending (behind.rest ++ more) in
                   any_told (around_of job) state held held' behind.searched told (lines job.style.ending text) (lines job.style.ending told.left ++ others)
                   (ap (λ (l : List ℕ). lines job.style.ending (l ++ more)) behind.cut ∙ ap (lines job.style.ending) (append_assoc behind.searched behind.rest more)
-                      ∙ lines_append job.style.ending behind.searched (behind.rest ++ more) whole ∙ ap (λ (l : List (List ℕ)). l ++ others) told.cut
-                      ∙ append_assoc told.searched (lines job.style.ending told.left) others)
+                  ∙ lines_append job.style.ending behind.searched (behind.rest ++ more) whole ∙ ap (λ (l : List (List ℕ)). l ++ others) told.cut
+                  ∙ append_assoc told.searched (lines job.style.ending told.left) others)
                   (inr (settled_some job state settled))
             ];
         ends = elim behind.ends [ inl (empty, end) ↦ inl end | inr (whole, settled) ↦ inr (lt-ltb 0 state.selected (settled_some job state settled)) ];
@@ -127,7 +131,7 @@ module _ (p : Patterns) (job : Job) where
   nothing_in (Some context) is before count held held' ls one begins = absurd (cc)
 
   -- and where it is broken off nothing is written either
-  pub begins_nothing : (before state : State) (left left' held held' : Option (List ℕ)) (kept : List ℕ) → job.shown ≡ Nothing
+  begins_nothing : (before state : State) (left left' held held' : Option (List ℕ)) (kept : List ℕ) → job.shown ≡ Nothing
       → BeginsBehind p job (course before state held held' left left') kept → Appends held held' []
   begins_nothing before state left left' held held' kept shown behind =
       let alone : around_of job ≡ None = rw shown refl in
@@ -297,10 +301,6 @@ module _ (p : Patterns) (job : Job) where
       written = Appends-trans held meanwhile held' told.bytes (if more then binary_by job.style else []) told.written written;
     }
 
-    or_false : (b : Bool) → b ≡ (b || false)
-    or_false true = refl
-    or_false false = refl
-
     match_none : (full : Bool) → MatchBool full (false ≡ false) (IsAny p job.fit job.invert [] false)
     match_none true = refl
     match_none false = tt
@@ -458,7 +458,7 @@ module _ (p : Patterns) (job : Job) where
 
       module _ (last between : Option (List ℕ)) (unfilled : is_full job.most state.selected ≡ false) where
         -- of a line with a zero byte and those behind it is told whether one is selected
-        pub reader_found : (held' : Option (List ℕ)) (found any : Bool) → Finds p job kept left' last meanwhile between found → Appends between held' (if found then binary_by job.style else [])
+        pub reader_found : (held' : Option (List ℕ)) (found any : Bool) → FindsSelected p job kept left' last meanwhile between found → Appends between held' (if found then binary_by job.style else [])
             → any ≡ (nat_lt 0 state.selected || found) → SearchesReader p job left last held held' any
         reader_found held' found any finds written is =
             let came = front.some.came ++ finds.came in
@@ -472,16 +472,16 @@ module _ (p : Patterns) (job : Job) where
               file = file_told left held meanwhile held' text (lines job.style.ending front.some.searched) (lines job.style.ending (kept ++ later)) state.selected found any known
                   (ap (λ (l : List ℕ). text_lines (lines job.style.ending l)) same ∙ front_first later) (ap (λ (l : List ℕ). binary_lines (lines job.style.ending l)) same ∙ front_others later) front_told
                   (subst (λ (b : Bool). MatchBool b (found ≡ false) (IsAny p job.fit job.invert (lines job.style.ending (kept ++ later)) found)) (sym unfilled)
-                      (subst (λ (l : List (List ℕ)). IsAny p job.fit job.invert l found) (sym others) (finds.found more none)))
+                  (subst (λ (l : List (List ℕ)). IsAny p job.fit job.invert l found) (sym others) (finds.found more none)))
                   (Appends-trans meanwhile between held' [] (if found then binary_by job.style else []) finds.unwritten written) is;
               reads = record {
                 bytes = came;
                 read = read;
                 ended = elim finds.ends [
                   | inl end ↦ inl end
-                  | inr yes ↦ inr (inr (inr (
+                  | inr seen ↦ inr (inr (inr (
                     guarded,
-                    is ∙ or_true (nat_lt 0 state.selected) found yes,
+                    is ∙ or_true (nat_lt 0 state.selected) found seen,
                     subst (SomeLine (λ (line : List ℕ). is_text line ≡ false)) (sym (front_cut finds.came))
                         (some_behind (λ (line : List ℕ). is_text line ≡ false) (lines job.style.ending front.some.searched) (lines job.style.ending (kept ++ finds.came)) (first_some (lines job.style.ending (kept ++ finds.came)) (front_binary finds.came))),
                   )))
@@ -490,11 +490,11 @@ module _ (p : Patterns) (job : Job) where
             }
           where
             or_true : (b found : Bool) → found ≡ true → (b || found) ≡ true
-            or_true true found yes = refl
-            or_true false found yes = yes
+            or_true true found holds = refl
+            or_true false found holds = holds
 
         -- or a beginning of that is written
-        pub begins_found : (held' : Option (List ℕ)) → Finds p job kept left' last meanwhile between true → AppendsBeginning between held' (binary_by job.style) → BeginsFile p job left held held'
+        pub begins_found : (held' : Option (List ℕ)) → FindsSelected p job kept left' last meanwhile between true → AppendsBeginning between held' (binary_by job.style) → BeginsFile p job left held held'
         begins_found held' finds (n, short, written) =
             let came = front.some.came ++ finds.came in
             let read : Consumes left last came = Consumes-trans left left' last front.some.came finds.came front.some.consumed finds.consumed in
@@ -544,9 +544,9 @@ module _ (p : Patterns) (job : Job) where
             written = subst (Appends held held') (append-nil front_told.bytes) (Appends-trans held meanwhile held' front_told.bytes [] front_told.written written);
           })
 
--- what was sought, of what is shown of a selected line
-pub finds_seeking : (p : Patterns) (job : Job) (kept : List ℕ) (left left' held held' : Option (List ℕ)) (any : Bool) → Finds p (seeking job) kept left left' held held' any
-    → Finds p job kept left left' held held' any
+-- what was sought of a job is what is found
+finds_seeking : (p : Patterns) (job : Job) (kept : List ℕ) (left left' held held' : Option (List ℕ)) (any : Bool) → FindsSelected p (seeking job) kept left left' held held' any
+    → FindsSelected p job kept left left' held held' any
 finds_seeking p job kept left left' held held' any finds = record {
   came = finds.came;
   consumed = finds.consumed;
@@ -554,3 +554,14 @@ finds_seeking p job kept left left' held held' any finds = record {
   ends = finds.ends;
   unwritten = finds.unwritten;
 }
+
+pub finds_sought : (p : Patterns) (job sought : Job) → sought ≡ seeking job → (before state : State) (left left' held held' : Option (List ℕ)) (kept : List ℕ) → IsBegin sought before
+    → SearchesBehind p sought (course before state held held' left left') kept → FindsSelected p job kept left left' held held' (nat_lt 0 state.selected)
+finds_sought p job sought same before state left left' held held' kept begin behind =
+    finds_seeking p job kept left left' held held' (nat_lt 0 state.selected)
+    (subst (λ (j : Job). FindsSelected p j kept left left' held held' (nat_lt 0 state.selected)) same
+    (finds_of p sought before state left left' held held' kept (ap (λ (j : Job). j.shown) same) begin behind))
+
+pub begins_sought : (p : Patterns) (job sought : Job) → sought ≡ seeking job → (before state : State) (left left' held held' : Option (List ℕ)) (kept : List ℕ)
+    → BeginsBehind p sought (course before state held held' left left') kept → Appends held held' []
+begins_sought p job sought same before state left left' held held' kept behind = begins_nothing p sought before state left left' held held' kept (ap (λ (j : Job). j.shown) same) behind

@@ -1,0 +1,130 @@
+-- A read more, up to the end, a line with a zero byte, or lines behind which nothing more is told.
+use Rattle.std.proofs.Common.{◌≡◌, ℕ, List, [], ap, subst, take, ◌∙◌}
+use Rattle.std.proofs.KnownBytes.{Consumes-nil}
+use Rattle.acgrep.specs.Binary.{is_text}
+use Rattle.acgrep.specs.Contexts.{BeginsSearched, SearchesText}
+use Rattle.acgrep.specs.Guarded.{ReadsFront}
+use Rattle.acgrep.specs.Lines.{lines}
+use Rattle.acgrep.specs.Streamed.{course}
+use Rattle.acgrep.specs.Written.{IsSettled}
+use Rattle.acgrep.specs.declared.guarded.Came.TheVariants.{Text, Binary, End}
+use Rattle.acgrep.proofs.Beginnings.{on_err}
+use Rattle.acgrep.proofs.Fronts.{front_begins, front_begins_stop, front_last, front_last_begins, front_start, front_step, front_stop}
+use Rattle.acgrep.proofs.LineLists.{take_zero}
+use Rattle.acgrep.proofs.Streams.{not_done, reads_both}
+use Rattle.acgrep.proofs.guarded.search_front.Goals as goal
+
+pub loop-init : goal.loop-init
+loop-init g c = record {
+  searched = λ p is plain.
+      let kept = take c.clear.new.self.held c.clear.new.self.room.items in
+      let none : kept ≡ [] = ap (λ (n : ℕ). take n c.clear.new.self.room.items) c.clear.ensures.none ∙ take_zero c.clear.new.self.room.items in (
+        front_start p c.args.job.now c.args.state.now (g.W.Sink.taken c.args.output.now) (g.R.Read.remaining c.args.input.now) kept none,
+        ap is_text none,
+      );
+  reads = ([], Consumes-nil (g.R.Read.remaining c.args.input.now));
+}
+
+pub returns-then-is_done-clause-front : goal.returns-then-is_done-clause-front
+returns-then-is_done-clause-front g c = λ p is plain.
+    front_stop p c.args.job.now c.args.state.now c.loop.state (g.W.Sink.taken c.args.output.now) (g.W.Sink.taken c.loop.output)
+    (g.R.Read.remaining c.args.input.now) (g.R.Read.remaining c.loop.input) (take c.loop.buffer.held c.loop.buffer.room.items)
+    (c.is_done.ensures.settled.0 c.if-is_done.true) (c.loop.invariant.searched p is plain).0
+
+pub returns-in_err-read_front-clause-begun : goal.returns-in_err-read_front-clause-begun
+returns-in_err-read_front-clause-begun g c = λ p is plain.
+    let (so_far, text) = c.loop.invariant.searched p is plain in
+    on_err c.from_residual.result (front_begins p c.args.job.now c.args.state.now c.loop.state c.read_front.new.state (g.W.Sink.taken c.args.output.now)
+    (g.W.Sink.taken c.loop.output) (g.W.Sink.taken c.read_front.new.output)
+    (g.R.Read.remaining c.args.input.now) (g.R.Read.remaining c.loop.input) (g.R.Read.remaining c.read_front.new.input) (take c.loop.buffer.held c.loop.buffer.room.items)
+    (not_done c.is_done.result (IsSettled c.args.job.now c.loop.state) c.is_done.ensures.settled.1 c.if-is_done.false) text so_far (c.in_err-read_front.ensures.begun p is plain))
+
+pub returns-in_err-read_front-clause-reads : goal.returns-in_err-read_front-clause-reads
+returns-in_err-read_front-clause-reads g c =
+    reads_both (g.R.Read.remaining c.args.input.now) (g.R.Read.remaining c.loop.input) (g.R.Read.remaining c.read_front.new.input) c.loop.invariant.reads c.read_front.ensures.reads
+
+pub returns-in-Binary-clause-front : goal.returns-in-Binary-clause-front
+returns-in-Binary-clause-front g c = λ p is plain.
+    let (so_far, text) = c.loop.invariant.searched p is plain in
+    let kept = take c.loop.buffer.held c.loop.buffer.room.items in
+    let rest = take c.read_front.new.buffer.held c.read_front.new.buffer.room.items in
+    let held = g.W.Sink.taken c.loop.output in
+    let held' = g.W.Sink.taken c.read_front.new.output in
+    let left = g.R.Read.remaining c.loop.input in
+    let left' = g.R.Read.remaining c.read_front.new.input in
+    let front : ReadsFront p c.args.job.now (course c.loop.state c.read_front.new.state held held' left left') kept rest Binary =
+    subst (ReadsFront p c.args.job.now (course c.loop.state c.read_front.new.state held held' left left') kept rest) c.in-Binary.is (c.in_ok-read_front.ensures.read p is plain) in (
+      front_step p c.args.job.now c.args.state.now c.loop.state c.read_front.new.state (g.W.Sink.taken c.args.output.now) held held' (g.R.Read.remaining c.args.input.now) left left' kept rest Binary
+          (not_done c.is_done.result (IsSettled c.args.job.now c.loop.state) c.is_done.ensures.settled.1 c.if-is_done.false) text so_far front,
+      front.left text,
+    )
+
+pub returns-in-Binary-clause-reads : goal.returns-in-Binary-clause-reads
+returns-in-Binary-clause-reads g c =
+    reads_both (g.R.Read.remaining c.args.input.now) (g.R.Read.remaining c.loop.input) (g.R.Read.remaining c.read_front.new.input) c.loop.invariant.reads c.read_front.ensures.reads
+
+pub returns-in-End-clause-front : goal.returns-in-End-clause-front
+returns-in-End-clause-front g c = λ p is plain.
+    let (so_far, text) = c.loop.invariant.searched p is plain in
+    let kept = take c.loop.buffer.held c.loop.buffer.room.items in
+    let rest = take c.read_front.new.buffer.held c.read_front.new.buffer.room.items in
+    let held = g.W.Sink.taken c.loop.output in
+    let mid = g.W.Sink.taken c.read_front.new.output in
+    let held' = g.W.Sink.taken c.search_text.new.output in
+    let left = g.R.Read.remaining c.loop.input in
+    let left' = g.R.Read.remaining c.read_front.new.input in
+    let front : ReadsFront p c.args.job.now (course c.loop.state c.read_front.new.state held mid left left') kept rest End =
+    subst (ReadsFront p c.args.job.now (course c.loop.state c.read_front.new.state held mid left left') kept rest) c.in-End.is (c.in_ok-read_front.ensures.read p is plain) in
+    front_last p c.args.job.now c.args.state.now c.loop.state c.read_front.new.state c.search_text.new.state (g.W.Sink.taken c.args.output.now) held mid held' (g.R.Read.remaining c.args.input.now) left left' kept rest
+    (not_done c.is_done.result (IsSettled c.args.job.now c.loop.state) c.is_done.ensures.settled.1 c.if-is_done.false) text so_far front
+    (subst (λ (l : List ℕ). SearchesText p c.args.job.now c.read_front.new.state c.search_text.new.state mid held' l) c.bytes.ensures.bytes (c.in_ok-search_text-in-End.ensures.written p is plain))
+
+pub returns-in-End-clause-reads : goal.returns-in-End-clause-reads
+returns-in-End-clause-reads g c =
+    reads_both (g.R.Read.remaining c.args.input.now) (g.R.Read.remaining c.loop.input) (g.R.Read.remaining c.read_front.new.input) c.loop.invariant.reads c.read_front.ensures.reads
+
+pub returns-in_err-search_text-in-End-clause-begun : goal.returns-in_err-search_text-in-End-clause-begun
+returns-in_err-search_text-in-End-clause-begun g c = λ p is plain.
+    let (so_far, text) = c.loop.invariant.searched p is plain in
+    let kept = take c.loop.buffer.held c.loop.buffer.room.items in
+    let rest = take c.read_front.new.buffer.held c.read_front.new.buffer.room.items in
+    let held = g.W.Sink.taken c.loop.output in
+    let mid = g.W.Sink.taken c.read_front.new.output in
+    let held' = g.W.Sink.taken c.search_text.new.output in
+    let left = g.R.Read.remaining c.loop.input in
+    let left' = g.R.Read.remaining c.read_front.new.input in
+    let front : ReadsFront p c.args.job.now (course c.loop.state c.read_front.new.state held mid left left') kept rest End =
+    subst (ReadsFront p c.args.job.now (course c.loop.state c.read_front.new.state held mid left left') kept rest) c.in-End.is (c.in_ok-read_front.ensures.read p is plain) in
+    on_err c.from_residual-in_err-search_text-in-End.result
+    (front_last_begins p c.args.job.now c.args.state.now c.loop.state c.read_front.new.state c.search_text.new.state (g.W.Sink.taken c.args.output.now) held mid held' (g.R.Read.remaining c.args.input.now) left left' kept rest
+    (not_done c.is_done.result (IsSettled c.args.job.now c.loop.state) c.is_done.ensures.settled.1 c.if-is_done.false) text so_far front
+    (subst (λ (l : List ℕ). BeginsSearched p c.args.job.now c.read_front.new.state c.search_text.new.state.selected mid held' (lines c.args.job.now.style.ending l)) c.bytes.ensures.bytes
+    (c.in_err-search_text-in-End.ensures.begun p is plain)))
+
+pub returns-in_err-search_text-in-End-clause-reads : goal.returns-in_err-search_text-in-End-clause-reads
+returns-in_err-search_text-in-End-clause-reads g c =
+    reads_both (g.R.Read.remaining c.args.input.now) (g.R.Read.remaining c.loop.input) (g.R.Read.remaining c.read_front.new.input) c.loop.invariant.reads c.read_front.ensures.reads
+
+pub loop-preserved : goal.loop-preserved
+loop-preserved g c = record {
+  searched = λ p is plain.
+      let (so_far, text) = c.loop.invariant.searched p is plain in
+      let kept = take c.loop.buffer.held c.loop.buffer.room.items in
+      let rest = take c.read_front.new.buffer.held c.read_front.new.buffer.room.items in
+      let held = g.W.Sink.taken c.loop.output in
+      let held' = g.W.Sink.taken c.read_front.new.output in
+      let left = g.R.Read.remaining c.loop.input in
+      let left' = g.R.Read.remaining c.read_front.new.input in
+      let front : ReadsFront p c.args.job.now (course c.loop.state c.read_front.new.state held held' left left') kept rest Text =
+      subst (ReadsFront p c.args.job.now (course c.loop.state c.read_front.new.state held held' left left') kept rest) c.in-Text.is (c.in_ok-read_front.ensures.read p is plain) in (
+        front_step p c.args.job.now c.args.state.now c.loop.state c.read_front.new.state (g.W.Sink.taken c.args.output.now) held held' (g.R.Read.remaining c.args.input.now) left left' kept rest Text
+            (not_done c.is_done.result (IsSettled c.args.job.now c.loop.state) c.is_done.ensures.settled.1 c.if-is_done.false) text so_far front,
+        front.left text,
+      );
+  reads = reads_both (g.R.Read.remaining c.args.input.now) (g.R.Read.remaining c.loop.input) (g.R.Read.remaining c.read_front.new.input) c.loop.invariant.reads c.read_front.ensures.reads;
+}
+
+pub returns-clause-begun : goal.returns-clause-begun
+returns-clause-begun g c = λ p is plain.
+    front_begins_stop p c.args.job.now c.args.state.now c.loop.state (g.W.Sink.taken c.args.output.now) (g.W.Sink.taken c.loop.output)
+    (g.R.Read.remaining c.args.input.now) (g.R.Read.remaining c.loop.input) (take c.loop.buffer.held c.loop.buffer.room.items) (c.loop.invariant.searched p is plain).0
