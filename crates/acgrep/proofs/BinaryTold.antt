@@ -21,7 +21,7 @@ use Rattle.acgrep.specs.declared.print.Style.{Style}
 use Rattle.acgrep.specs.declared.select.Job.{Job}
 use Rattle.acgrep.specs.declared.select.State.{State}
 use Rattle.acgrep.proofs.BinaryLines.{binary_behind, first_binary, first_some, first_text, some_binary, some_text, text_behind}
-use Rattle.acgrep.proofs.FileTellings.{TextTold, shows_none, some_front, tells_any, tells_none, text_behind as text_read, text_told}
+use Rattle.acgrep.proofs.FileTellings.{TextTold, shows_nothing, some_front, tells_any, tells_none, text_behind as text_read, text_told}
 use Rattle.acgrep.proofs.FilesBegun.{nil_front}
 use Rattle.acgrep.proofs.Grouped.{told_around}
 use Rattle.acgrep.proofs.LineLists.{lines_append}
@@ -120,7 +120,7 @@ module _ (p : Patterns) (job : Job) where
   starts_nothing place count [] begun one none = none
   starts_nothing place count (line ∷ rest) begun one (inl none) = none
   starts_nothing place count (line ∷ rest) begun one (inr (goes, selected, starts)) =
-      nil_front begun starts.missing (sym (shows_none p job.shown _ job.invert job.style place line starts.shown one starts.shows) ∙ starts.cut)
+      nil_front begun starts.missing (sym (shows_nothing p job place line starts.shown one starts.shows) ∙ starts.cut)
 
   nothing_in : (around : Option Context) → around ≡ None → (before : State) (count : ℕ) (held held' : Option (List ℕ)) (ls : List (List ℕ)) → needs_one job.shown ≡ true
       → BeginsAsked p job around before count held held' ls → Appends held held' []

@@ -13,7 +13,7 @@ use Rattle.acgrep.specs.Files.{EndsFile, IfSearched, IsNamed, IsRead, SearchesFi
 use Rattle.acgrep.specs.Lines.{EndsLine, lines}
 use Rattle.acgrep.specs.Printed.{file_line}
 use Rattle.acgrep.specs.Streamed.{SearchesStream, course}
-use Rattle.acgrep.specs.Written.{EachLine, IsAny, IsPassedOver, IsSelected, IsSettled, ShowsBy, SomeLine, TellsOfLines, is_full, needs_one, one_more}
+use Rattle.acgrep.specs.Written.{EachLine, IsAny, IsPassedOver, IsSelected, IsSettled, ShowsBy, ShowsLine, SomeLine, TellsOfLines, is_full, needs_one, one_more}
 use Rattle.acgrep.specs.declared.files.Outcome.{Outcome}
 use Rattle.acgrep.specs.declared.files.Outcome.TheVariants.{Searched, Unread, Stopped}
 use Rattle.acgrep.specs.declared.options.Context.{Context}
@@ -29,7 +29,7 @@ use Rattle.acgrep.proofs.Tellings.{full_some, tells_full}
 use Rattle.acgrep.proofs.Walked.{walks_append, walks_full, walks_tells}
 
 -- where one selected line tells all nothing is written of it
-pub shows_none : (p : Patterns) (shown : Shown) (alone invert : Bool) (style : Style) (place : Place) (line bytes : List ℕ) → needs_one shown ≡ true
+shows_none : (p : Patterns) (shown : Shown) (alone invert : Bool) (style : Style) (place : Place) (line bytes : List ℕ) → needs_one shown ≡ true
     → ShowsBy p shown alone invert style place line bytes → bytes ≡ []
 shows_none p Lines alone invert style place line bytes one shows = absurd (cc)
 shows_none p Matches alone invert style place line bytes one shows = absurd (cc)
@@ -127,6 +127,9 @@ module _ (p : Patterns) (job : Job) where
       let is : nat_lt 0 count ≡ true = lt-ltb 0 count some in
       ap (λ (any : Bool). if any then [] else file_line job.style) is
   by_front Nothing text count one some = refl
+
+  pub shows_nothing : (place : Place) (line bytes : List ℕ) → needs_one job.shown ≡ true → ShowsLine p job place line bytes → bytes ≡ []
+  shows_nothing place line bytes one shows = shows_none p job.shown _ job.invert job.style place line bytes one shows
 
   -- what is told where lines with a zero byte are written too
   unguarded : is_guarded job ≡ false → (text : List ℕ) (any : Bool) (bytes : List ℕ) → IsAny p job.fit job.invert (lines job.style.ending text) any → TellsBy p job job.shown text any bytes

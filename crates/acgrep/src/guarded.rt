@@ -20,7 +20,7 @@ use crate::failure::Stop;
 use crate::lines::line_start;
 use crate::print::Style;
 use crate::select::{Job, State, search_text};
-use crate::stream::{search_behind, search_whole};
+use crate::stream::{read_more, search_behind, search_whole};
 use chromesquid::{Sink, write_whole};
 use memchr::memchr;
 use programs::reason::Reason;
@@ -132,12 +132,7 @@ fn read_front<A: Lister, R: Read, W: Sink>(
         (bytes_buffered buffer.old))) }
     ensures reads { ReadsOn (R.remaining input.old) (R.remaining input.new) }
 {
-    output.flush()?;
-    buffer.make_room()?;
-    let count = match buffer.fill(input) {
-        Ok(count) => count,
-        Err(error) => return Err(Stop::Read(Reason::of(&error))),
-    };
+    let count = read_more(buffer, input, output)?;
     if count == 0 {
         return Ok(Came::End);
     }

@@ -1,8 +1,9 @@
 //! Searching what a reader gives, in memory that is bounded by its longest line and by what is written of one line.
 
 ghost use Rattle.std.specs.Prelude.{◌≤◌, ◌-◌, ◌<◌, IfOk, OnErr, OnOk, length};
+ghost use Rattle.std.specs.Io.KnownBytes.{Keeps};
 ghost use Rattle.aho_core.specs.Patterns.{Patterns};
-ghost use Rattle.acgrep.specs.Filled.{ReadsOn, bytes_buffered};
+ghost use Rattle.acgrep.specs.Filled.{FillsBehind, ReadsOn, bytes_buffered};
 ghost use Rattle.acgrep.specs.Lines.{IsEnding};
 ghost use Rattle.acgrep.specs.Selected.{ForJob};
 ghost use Rattle.acgrep.specs.Streamed.{BeginsBehind, BeginsSome, BeginsStream, BeginsWhole, ReadsSome, SearchesBehind, SearchesStream, SearchesWhole, course_of};
@@ -96,17 +97,31 @@ fn read_some<A: Lister, R: Read, W: Sink>(
         (bytes_buffered buffer.old))) }
     ensures reads { ReadsOn (R.remaining input.old) (R.remaining input.new) }
 {
-    output.flush()?;
-    buffer.make_room()?;
-    let count = match buffer.fill(input) {
-        Ok(count) => count,
-        Err(error) => return Err(Stop::Read(Reason::of(&error))),
-    };
+    let count = read_more(buffer, input, output)?;
     if count == 0 {
         return Ok(true);
     }
     search_whole(automaton, job, buffer, count, state, page, output)?;
     Ok(false)
+}
+
+/// Reads once behind what is there, and answers how many bytes came. What is settled is handed on before.
+pub fn read_more<R: Read, W: Sink>(
+    buffer: &mut Buffer,
+    input: &mut R,
+    output: &mut W,
+) -> Result<usize, Stop>
+    ensures kept { Keeps (W.taken output.old) (W.taken output.new) }
+    ensures filled { IfOk result (FillsBehind (bytes_buffered buffer.old) (bytes_buffered buffer.new)
+        (R.remaining input.old) (R.remaining input.new)) }
+    ensures reads { ReadsOn (R.remaining input.old) (R.remaining input.new) }
+{
+    output.flush()?;
+    buffer.make_room()?;
+    match buffer.fill(input) {
+        Ok(count) => Ok(count),
+        Err(error) => Err(Stop::Read(Reason::of(&error))),
+    }
 }
 
 /// Searches the whole lines, where a line can end among the last `count` bytes alone, and keeps what follows.

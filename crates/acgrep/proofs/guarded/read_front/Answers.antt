@@ -1,84 +1,70 @@
 -- What came is behind the bytes that were kept, and they are searched up to a line that holds a zero byte.
-use Rattle.std.proofs.Common.{◌≡◌, ℕ, ◌-◌, ◌≤◌, ◌<◌, List, [], Some, length, subst, take, true}
-use Rattle.std.proofs.KnownBytes.{Consumes-nil}
+use Rattle.std.proofs.Common.{◌≡◌, ℕ, ◌-◌, ◌≤◌, ◌<◌, List, Some, length, subst, take, true}
 use Rattle.acgrep.specs.Binary.{is_text}
 use Rattle.acgrep.specs.Contexts.{BeginsSearched, SearchesText}
-use Rattle.acgrep.specs.Filled.{FillsBehind}
 use Rattle.acgrep.specs.Guarded.{IsZeroLine}
 use Rattle.acgrep.specs.Lines.{IsEnding, lines}
 use Rattle.acgrep.proofs.Beginnings.{on_err}
 use Rattle.acgrep.proofs.Fronts.{begun_binary, begun_none, begun_text, read_binary, read_end, read_text}
 use Rattle.acgrep.proofs.guarded.read_front.Goals as goal
 
-pub returns-in_err-flush-clause-begun : goal.returns-in_err-flush-clause-begun
-returns-in_err-flush-clause-begun g c = λ p is plain.
-    let left = g.R.Read.remaining c.args.input.now in
-    on_err c.from_residual.result (begun_none p c.args.job.now c.args.state.now (g.W.Sink.taken c.args.output.now) (g.W.Sink.taken c.flush.new.self) left left
-    (take c.args.buffer.now.held c.args.buffer.now.room.items) [] c.in_err-flush.ensures.kept (Consumes-nil left))
-
-pub returns-in_err-make_room-clause-begun : goal.returns-in_err-make_room-clause-begun
-returns-in_err-make_room-clause-begun g c = λ p is plain.
-    let left = g.R.Read.remaining c.args.input.now in
-    on_err c.from_residual-in_err-make_room.result (begun_none p c.args.job.now c.args.state.now (g.W.Sink.taken c.args.output.now) (g.W.Sink.taken c.flush.new.self) left left
-    (take c.args.buffer.now.held c.args.buffer.now.room.items) [] c.in_ok-flush.ensures.kept (Consumes-nil left))
-
-pub returns-in-Err-clause-begun : goal.returns-in-Err-clause-begun
-returns-in-Err-clause-begun g c = λ p is plain.
-    let (came, read) = c.fill.ensures.reads in
-    begun_none p c.args.job.now c.args.state.now (g.W.Sink.taken c.args.output.now) (g.W.Sink.taken c.flush.new.self) (g.R.Read.remaining c.args.input.now) (g.R.Read.remaining c.fill.new.input)
-    (take c.args.buffer.now.held c.args.buffer.now.room.items) came c.in_ok-flush.ensures.kept read
+pub returns-in_err-count-clause-begun : goal.returns-in_err-count-clause-begun
+returns-in_err-count-clause-begun g c = λ p is plain.
+    let (came, read) = c.read_more.ensures.reads in
+    on_err c.from_residual.result (begun_none p c.args.job.now c.args.state.now (g.W.Sink.taken c.args.output.now) (g.W.Sink.taken c.read_more.new.output) (g.R.Read.remaining c.args.input.now)
+    (g.R.Read.remaining c.read_more.new.input) (take c.args.buffer.now.held c.args.buffer.now.room.items) came c.read_more.ensures.kept read)
 
 pub returns-then-count-eq0-clause-read : goal.returns-then-count-eq0-clause-read
 returns-then-count-eq0-clause-read g c = λ p is plain.
     let left = g.R.Read.remaining c.args.input.now in
-    let left' = g.R.Read.remaining c.fill.new.input in
+    let left' = g.R.Read.remaining c.read_more.new.input in
     let kept = take c.args.buffer.now.held c.args.buffer.now.room.items in
-    let filled = take c.fill.new.self.held c.fill.new.self.room.items in
-    let count = c.in-Ok.count in
-    read_end p c.args.job.now c.args.state.now (g.W.Sink.taken c.args.output.now) (g.W.Sink.taken c.flush.new.self) left left' kept filled count
-    c.in_ok-flush.ensures.kept (subst (λ (l : List ℕ). FillsBehind l filled left left' count) c.in_ok-make_room.ensures.bytes c.in-Ok.ensures.filled) c.if-count-eq0.true
+    let filled = take c.read_more.new.buffer.held c.read_more.new.buffer.room.items in
+    let count = c.in_ok-count.count in
+    read_end p c.args.job.now c.args.state.now (g.W.Sink.taken c.args.output.now) (g.W.Sink.taken c.read_more.new.output) left left' kept filled count
+    c.read_more.ensures.kept c.in_ok-count.ensures.filled c.if-count-eq0.true
 
 pub returns-in_ok-search_whole-in-None-clause-read : goal.returns-in_ok-search_whole-in-None-clause-read
 returns-in_ok-search_whole-in-None-clause-read g c = λ p is plain.
     let left = g.R.Read.remaining c.args.input.now in
-    let left' = g.R.Read.remaining c.fill.new.input in
+    let left' = g.R.Read.remaining c.read_more.new.input in
     let kept = take c.args.buffer.now.held c.args.buffer.now.room.items in
-    let filled = take c.fill.new.self.held c.fill.new.self.room.items in
-    let count = c.in-Ok.count in
-    read_text p c.args.job.now c.args.state.now c.search_whole.new.state (g.W.Sink.taken c.args.output.now) (g.W.Sink.taken c.flush.new.self) (g.W.Sink.taken c.search_whole.new.output)
+    let filled = take c.read_more.new.buffer.held c.read_more.new.buffer.room.items in
+    let count = c.in_ok-count.count in
+    read_text p c.args.job.now c.args.state.now c.search_whole.new.state (g.W.Sink.taken c.args.output.now) (g.W.Sink.taken c.read_more.new.output) (g.W.Sink.taken c.search_whole.new.output)
     left left' kept filled (take c.search_whole.new.buffer.held c.search_whole.new.buffer.room.items) count
-    c.in_ok-flush.ensures.kept (subst (λ (l : List ℕ). FillsBehind l filled left left' count) c.in_ok-make_room.ensures.bytes c.in-Ok.ensures.filled)
+    c.read_more.ensures.kept c.in_ok-count.ensures.filled
     (subst (λ (l : List ℕ). is_text (take (length l - count) l) ≡ true → is_text l ≡ true) c.bytes.ensures.bytes c.in-None.ensures.zero)
     (c.in_ok-search_whole-in-None.ensures.searched p is plain)
 
 pub returns-in_err-search_whole-in-None-clause-begun : goal.returns-in_err-search_whole-in-None-clause-begun
 returns-in_err-search_whole-in-None-clause-begun g c = λ p is plain.
     let left = g.R.Read.remaining c.args.input.now in
-    let left' = g.R.Read.remaining c.fill.new.input in
+    let left' = g.R.Read.remaining c.read_more.new.input in
     let kept = take c.args.buffer.now.held c.args.buffer.now.room.items in
-    let filled = take c.fill.new.self.held c.fill.new.self.room.items in
-    let count = c.in-Ok.count in
+    let filled = take c.read_more.new.buffer.held c.read_more.new.buffer.room.items in
+    let count = c.in_ok-count.count in
     on_err c.from_residual-in_err-search_whole-in-None.result
-    (begun_text p c.args.job.now c.args.state.now c.search_whole.new.state (g.W.Sink.taken c.args.output.now) (g.W.Sink.taken c.flush.new.self) (g.W.Sink.taken c.search_whole.new.output)
+    (begun_text p c.args.job.now c.args.state.now c.search_whole.new.state (g.W.Sink.taken c.args.output.now) (g.W.Sink.taken c.read_more.new.output) (g.W.Sink.taken c.search_whole.new.output)
     left left' kept filled count
-    c.in_ok-flush.ensures.kept (subst (λ (l : List ℕ). FillsBehind l filled left left' count) c.in_ok-make_room.ensures.bytes c.in-Ok.ensures.filled)
+    c.read_more.ensures.kept c.in_ok-count.ensures.filled
     (subst (λ (l : List ℕ). is_text (take (length l - count) l) ≡ true → is_text l ≡ true) c.bytes.ensures.bytes c.in-None.ensures.zero)
     (c.in_err-search_whole-in-None.ensures.begun p is plain))
 
 pub returns-in_ok-search_text-in-Some-clause-read : goal.returns-in_ok-search_text-in-Some-clause-read
 returns-in_ok-search_text-in-Some-clause-read g c = λ p is plain.
     let left = g.R.Read.remaining c.args.input.now in
-    let left' = g.R.Read.remaining c.fill.new.input in
+    let left' = g.R.Read.remaining c.read_more.new.input in
     let kept = take c.args.buffer.now.held c.args.buffer.now.room.items in
-    let filled = take c.fill.new.self.held c.fill.new.self.room.items in
-    let count = c.in-Ok.count in
+    let filled = take c.read_more.new.buffer.held c.read_more.new.buffer.room.items in
+    let count = c.in_ok-count.count in
     let start = c.in-Some.start in
     let ending = c.args.job.now.style.ending in
-    let mid = g.W.Sink.taken c.flush.new.self in
+    let mid = g.W.Sink.taken c.read_more.new.output in
     let held' = g.W.Sink.taken c.search_text.new.output in
     read_binary p c.args.job.now c.args.state.now c.search_text.new.state (g.W.Sink.taken c.args.output.now) mid held'
     left left' kept filled (take c.drop_front.new.self.held c.drop_front.new.self.room.items) count start
-    c.in_ok-flush.ensures.kept (subst (λ (l : List ℕ). FillsBehind l filled left left' count) c.in_ok-make_room.ensures.bytes c.in-Ok.ensures.filled)
+    c.read_more.ensures.kept c.in_ok-count.ensures.filled
     (subst (λ (l : List ℕ). start ≤ length l) c.bytes.ensures.bytes c.in-Some.ensures.within)
     (subst (λ (l : List ℕ). 0 < start → IsEnding ending l (start - 1)) c.bytes.ensures.bytes c.in-Some.ensures.ends)
     (subst (λ (l : List ℕ). is_text (take (length l - count) l) ≡ true → IsZeroLine ending l (Some start)) c.bytes.ensures.bytes c.in-Some.ensures.zero)
@@ -88,18 +74,18 @@ returns-in_ok-search_text-in-Some-clause-read g c = λ p is plain.
 pub returns-in_err-search_text-in-Some-clause-begun : goal.returns-in_err-search_text-in-Some-clause-begun
 returns-in_err-search_text-in-Some-clause-begun g c = λ p is plain.
     let left = g.R.Read.remaining c.args.input.now in
-    let left' = g.R.Read.remaining c.fill.new.input in
+    let left' = g.R.Read.remaining c.read_more.new.input in
     let kept = take c.args.buffer.now.held c.args.buffer.now.room.items in
-    let filled = take c.fill.new.self.held c.fill.new.self.room.items in
-    let count = c.in-Ok.count in
+    let filled = take c.read_more.new.buffer.held c.read_more.new.buffer.room.items in
+    let count = c.in_ok-count.count in
     let start = c.in-Some.start in
     let ending = c.args.job.now.style.ending in
     let state = c.search_text.new.state in
-    let mid = g.W.Sink.taken c.flush.new.self in
+    let mid = g.W.Sink.taken c.read_more.new.output in
     let held' = g.W.Sink.taken c.search_text.new.output in
     on_err c.from_residual-in_err-search_text-in-Some.result
     (begun_binary p c.args.job.now c.args.state.now state (g.W.Sink.taken c.args.output.now) mid held' left left' kept filled count start
-    c.in_ok-flush.ensures.kept (subst (λ (l : List ℕ). FillsBehind l filled left left' count) c.in_ok-make_room.ensures.bytes c.in-Ok.ensures.filled)
+    c.read_more.ensures.kept c.in_ok-count.ensures.filled
     (subst (λ (l : List ℕ). start ≤ length l) c.bytes.ensures.bytes c.in-Some.ensures.within)
     (subst (λ (l : List ℕ). 0 < start → IsEnding ending l (start - 1)) c.bytes.ensures.bytes c.in-Some.ensures.ends)
     (subst (λ (l : List ℕ). is_text (take (length l - count) l) ≡ true → IsZeroLine ending l (Some start)) c.bytes.ensures.bytes c.in-Some.ensures.zero)
