@@ -40,11 +40,12 @@ mod with_prefilter;
 
 pub use crate::cover::CoverIter;
 use crate::cover::cover_bytes;
-pub use crate::find::{find_in, find_in_by};
+pub use crate::find::find_in;
 pub use crate::iter::FindIter;
 use crate::overlapping::next_match;
 pub use crate::overlapping::{FindOverlappingIter, OverlappingState};
-use crate::patience::Patience;
+pub use crate::patience::Patience;
+pub use crate::patient::find_in_by;
 use crate::replace::{append_piece, append_text, replace_bytes, replace_text};
 pub use crate::walk::{Counted, Walk};
 use aho_core::error::{MatchError, ReplaceError};
@@ -266,7 +267,7 @@ pub trait Automaton {
     /// The match that the input's search finds: the best by the automaton's match kind or, where the input asks for
     /// the earliest, the best of those that end first. None is found where nothing matches.
     ///
-    /// It is one call of `find_in_by`, so it reads each byte of the span at most once, and takes no memory.
+    /// It is one call of `find_in`, so it reads each byte of the span at most once, and takes no memory.
     ///
     /// # Errors
     ///
@@ -282,14 +283,26 @@ pub trait Automaton {
             start self.now input.now.anchored ≡ Err e → result ≡ Err e }
         ensures done { input.now.end < input.now.start → result ≡ Ok None }
     {
-        find_patiently(self, input, &mut Patience::new())
+        let mut walk = Counted::new(self);
+        let mut text = Bytes::new(input.haystack());
+        let span = Span {
+            start: input.start(),
+            end: input.end(),
+        };
+        find_in(
+            &mut walk,
+            &mut text,
+            span,
+            input.get_anchored(),
+            input.get_earliest(),
+        )
     }
 
     /// The matches of the input's search, one after another: each is what the search from the end of the match before
     /// finds. An empty match is not given where the match before ended; there the search goes on from one place further.
     ///
     /// Anchored, a match has to start where its search does. The iterator takes no memory, and searches only as matches
-    /// are asked for, each time by one or two calls of `try_find`. After `None` it gives `None` again.
+    /// are asked for, each time by one or two calls of `find_in_by`. After `None` it gives `None` again.
     ///
     /// # Errors
     ///
@@ -635,37 +648,4 @@ pub trait Automaton {
         cover_bytes(runs, haystack, &mut dst, replace_with)?;
         Ok(dst)
     }
-}
-
-/// What `try_find` answers, with what the searches before have left of the patience with the prefilter.
-pub(crate) fn find_patiently<A: Automaton>(
-    automaton: &A,
-    input: &Input,
-    patience: &mut Patience,
-) -> Result<Option<Match>, MatchError>
-    requires of { (p : Patterns) × A.is_of automaton.now p }
-    ensures found { (p : Patterns) → A.is_of automaton.now p →
-        IfOk result (IsAnswer p input.now) }
-    ensures error { IfErr result (λ reason. A.start automaton.now input.now.anchored ≡ Err reason) }
-    ensures ok { (sid : ℕ) → A.start automaton.now input.now.anchored ≡ Ok sid → IsOk result }
-    ensures refused { (e : MatchErrorKind) → input.now.start ≤ input.now.end →
-        A.start automaton.now input.now.anchored ≡ Err e → result ≡ Err e }
-    ensures done { input.now.end < input.now.start → result ≡ Ok None }
-{
-    let mut walk = Counted::new(automaton);
-    let mut text = Bytes::new(input.haystack());
-    let span = Span {
-        start: input.start(),
-        end: input.end(),
-    };
-    let reach = automaton.max_pattern_len();
-    find_in_by(
-        &mut walk,
-        &mut text,
-        span,
-        input.get_anchored(),
-        input.get_earliest(),
-        reach,
-        patience,
-    )
 }

@@ -465,70 +465,41 @@ fn find_skipping<W: Walk, T: Text>(
     }
 }
 
-/// The match that the search of a span finds, by a walk that reads each byte at most once and takes no memory.
+/// What a search of a span that is not done answers, from a state in which one begins.
 ///
-/// An unanchored search skips by the automaton's prefilter, where one is held. What the prefilter reads is not counted, and
-/// no answer depends on it.
-///
-/// No match of the span is longer than `reach`, so that the search may skip further once it has walked so far for nothing.
-///
-/// A span whose start is above its end is done: nothing is found, and nothing is read.
-///
-/// # Errors
-///
-/// It is refused exactly where `start_state` refuses `anchored` and the span is not done.
-pub fn find_in_by<W: Walk, T: Text>(
+/// Its clauses are those of `find_in`.
+#[inline(always)]
+pub(crate) fn find_begun<W: Walk, T: Text>(
     walk: &mut W,
     text: &mut T,
     span: Span,
     anchored: Anchored,
     earliest: bool,
-    reach: usize,
     patience: &mut Patience,
-) -> Result<Option<Match>, MatchError>
+    sid: StateID,
+) -> Option<Match>
     requires within { span.end ≤ length (T.bytes text.old) }
-    requires ordered { span.start ≤ span.end + 1 }
+    requires ordered { span.start ≤ span.end }
     requires unread { T.next text.old ≤ span.start }
     requires room { W.lookups walk.old + 2 * (span.end - span.start) < 2 ^ 128 }
     requires of { (p : Patterns) × W.Of.is_of (W.of walk.old) p }
-    requires reach { (p : Patterns) → W.Of.is_of (W.of walk.old) p →
-        NoneLonger p (T.bytes text.old) span.start span.end reach }
-
-    // What it answers, and when it is refused.
+    requires begins { BeginsIn W.Of.Automaton (W.of walk.old) anchored sid }
     ensures found { (p : Patterns) → W.Of.is_of (W.of walk.old) p →
-        IfOk result (IsAnswer p (search_of (T.bytes text.old) span anchored earliest)) }
-    ensures error { IfErr result (λ reason. W.Of.start (W.of walk.old) anchored ≡ Err reason) }
-    ensures ok { (sid : ℕ) → W.Of.start (W.of walk.old) anchored ≡ Ok sid → IsOk result }
-    ensures refused { (e : MatchErrorKind) → span.start ≤ span.end →
-        W.Of.start (W.of walk.old) anchored ≡ Err e → result ≡ Err e }
-    ensures done { span.end < span.start → result ≡ Ok None }
-
-    // What stays, and what it costs: at most two look-ups for each byte that it reads.
+        IsAnswer p (search_of (T.bytes text.old) span anchored earliest) result }
     ensures untouched { Untouched W.Walk T.Text walk.old walk.new text.old text.new }
     ensures costs { Costs W.Walk T.Text walk.old walk.new text.old text.new span.start }
-    ensures cost_of_span { W.lookups walk.new ≤ W.lookups walk.old + 2 * (span.end - span.start) }
-
-    // How far it reads: no byte comes again, and none is read far past what it finds.
     ensures reads { ReadsNoFurther W.Of.Automaton (W.of walk.old) T.Text text.old text.new
-        (search_of (T.bytes text.old) span anchored earliest) (λ m. result ≡ Ok (Some m)) }
-
-    // A search that is refused or done reads nothing and looks nothing up.
-    ensures refused_free { IfErr result (λ _.
-        CostsNothing W.Walk T.Text walk.old walk.new text.old text.new) }
-    ensures done_free { span.end < span.start →
-        CostsNothing W.Walk T.Text walk.old walk.new text.old text.new }
+        (search_of (T.bytes text.old) span anchored earliest) (λ m. result ≡ Some m) }
 {
-    if span.start > span.end {
-        return Ok(None);
-    }
-    let sid = walk.start_state(anchored)?;
     if skips(walk, anchored) {
-        return Ok(find_skipping(walk, text, span, earliest, reach, patience, sid));
+        let reach = walk.max_pattern_len();
+        return find_skipping(walk, text, span, earliest, reach, patience, sid);
     }
-    Ok(find_to_end(walk, text, span, anchored, earliest, sid))
+    find_to_end(walk, text, span, anchored, earliest, sid)
 }
 
-/// The match that the search of a span finds: `find_in_by` where it is not known how long matches are.
+/// The match that the search of a span finds, by a walk that reads each byte at most once and takes no memory. This is the
+/// search: `try_find` is one call of it.
 ///
 /// An unanchored search skips by the automaton's prefilter, where one is held. What the prefilter reads is not counted, and
 /// no answer depends on it.
@@ -575,14 +546,10 @@ pub fn find_in<W: Walk, T: Text>(
     ensures done_free { span.end < span.start →
         CostsNothing W.Walk T.Text walk.old walk.new text.old text.new }
 {
+    if span.start > span.end {
+        return Ok(None);
+    }
+    let sid = walk.start_state(anchored)?;
     let mut patience = Patience::new();
-    find_in_by(
-        walk,
-        text,
-        span,
-        anchored,
-        earliest,
-        usize::MAX,
-        &mut patience,
-    )
+    Ok(find_begun(walk, text, span, anchored, earliest, &mut patience, sid))
 }

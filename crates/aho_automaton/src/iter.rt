@@ -9,10 +9,13 @@ ghost use Rattle.aho_core.specs.declared.error.MatchErrorKind.{MatchErrorKind};
 ghost use Rattle.aho_automaton.specs.Fused.{IsFused};
 ghost use Rattle.aho_automaton.specs.Finding.{GivesFinds, GivesFirstFinds, GivesNext, from_next_place, last_after, span_places, places_left, search_after};
 
-use crate::automaton::{Automaton, find_patiently};
+use crate::automaton::Automaton;
 use crate::patience::Patience;
+use crate::patient::find_in_by;
+use crate::walk::Counted;
 use aho_core::error::MatchError;
-use aho_core::search::{Input, Match};
+use aho_core::search::{Input, Match, Span};
+use aho_prefilter::text::Bytes;
 use std::iter::FusedIterator;
 
 /// The matches of a search, one after another: each is searched for from the end of the match before, and none is an
@@ -71,7 +74,21 @@ impl<'a, 'h, A: Automaton> FindIter<'a, 'h, A> {
             IsAnswer p self.old.input result }
         ensures moved { self.new ≡ record self.old { patience = self.new.patience } }
     {
-        find_patiently(self.automaton, &self.input, &mut self.patience).unwrap()
+        let mut walk = Counted::new(self.automaton);
+        let mut text = Bytes::new(self.input.haystack());
+        let span = Span {
+            start: self.input.start(),
+            end: self.input.end(),
+        };
+        find_in_by(
+            &mut walk,
+            &mut text,
+            span,
+            self.input.get_anchored(),
+            self.input.get_earliest(),
+            &mut self.patience,
+        )
+        .unwrap()
     }
 
     /// The match from one place on, where an empty match at the last match's end was found.

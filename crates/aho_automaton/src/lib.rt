@@ -8,5 +8,6 @@ pub mod iter;
 pub mod open_runs;
 pub mod overlapping;
 pub mod patience;
+pub mod patient;
 pub mod replace;
 pub mod walk;

@@ -4,6 +4,7 @@
 
 ghost use Rattle.std.specs.Prelude.{◌≡◌, if◌then◌else◌, ℕ, List, [], ◌∷◌, ◌++◌, Some, None, ◌+◌, ◌<◌, ◌≤◌, ◌^◌, ◌↔◌, true, IsTrue, IfOk, length, slice_get, slice_index};
 ghost use Rattle.std.specs.Option.{option_map};
+ghost use Rattle.aho_core.specs.Laws.{longest};
 ghost use Rattle.aho_core.specs.Patterns.{Patterns};
 ghost use Rattle.aho_core.specs.Steps.{GoesOn, IsPaid};
 
@@ -110,6 +111,10 @@ pub trait Walk {
     fn pattern_len(&self, pid: PatternID) -> usize
         requires within { pid < length (Self.Of.lengths (of self.now)) }
         ensures len { result ≡ slice_index (Self.Of.lengths (of self.now)) pid };
+
+    /// How many bytes the longest pattern has; 0 where there is no pattern.
+    fn max_pattern_len(&self) -> usize
+        ensures longest { result ≡ longest (Self.Of.lengths (of self.now)) };
 }
 
 /// A walk over an automaton that counts its look-ups.
@@ -196,5 +201,9 @@ impl<'a, A: Automaton> Walk for Counted<'a, A> {
 
     fn pattern_len(&self, pid: PatternID) -> usize {
         self.automaton.pattern_len(pid)
+    }
+
+    fn max_pattern_len(&self) -> usize {
+        self.automaton.max_pattern_len()
     }
 }

@@ -101,11 +101,13 @@ copy_of_trie nfa copy clone =
       same_marked = clone.same_marked;
       same_starts = clone.same_starts;
       same_depth = clone.same_depth;
+      same_reach = clone.same_reach;
       same_next = clone.same_next;
       same_lookups = clone.same_lookups;
       same_start = clone.same_start;
       same_memory = clone.same_memory;
       same_prefilter = clone.same_prefilter;
+      same_skips_streams = refl;
     }
 
 pub copy_of_rows : (hybrid copy : HybridOf) → IsCloneOf of_rows copy hybrid → IsCloneOf ghosts (Rows copy) (Rows hybrid)
@@ -122,11 +124,13 @@ copy_of_rows hybrid copy clone =
       same_marked = clone.same_marked;
       same_starts = clone.same_starts;
       same_depth = clone.same_depth;
+      same_reach = clone.same_reach;
       same_next = clone.same_next;
       same_lookups = clone.same_lookups;
       same_start = clone.same_start;
       same_memory = clone.same_memory;
       same_prefilter = clone.same_prefilter;
+      same_skips_streams = refl;
     }
 
 -- a searcher has as many patterns as it was built from

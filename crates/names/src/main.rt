@@ -15,7 +15,8 @@ pub use aho_corasick::noncontiguous::{Builder, Limits, NFA};
 pub use aho_corasick::remapper::{Remappable, Remapper};
 pub use aho_corasick::special::Special;
 pub use aho_search::automaton::{
-    Automaton, Counted, FindIter, FindOverlappingIter, OverlappingState, Walk, find_in,
+    Automaton, Counted, FindIter, FindOverlappingIter, OverlappingState, Patience, Walk, find_in,
+    find_in_by,
 };
 pub use aho_search::buffer::{Buffer, Filled};
 pub use aho_search::stream::{

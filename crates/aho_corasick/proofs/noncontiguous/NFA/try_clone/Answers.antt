@@ -40,6 +40,7 @@ returns c =
         same_marked = search rules;
         same_starts = search rules;
         same_depth = search rules;
+        same_reach = search rules;
         same_next = search rules;
         same_lookups = search rules;
         same_start = search rules;
@@ -48,6 +49,7 @@ returns c =
             ∙ ap (λ (ls : List ℕ). memory_of c.args.self.now.table ls + prefilter_bytes c.in_ok-clone_of.field-0) lens
             ∙ ap (λ (searcher : Option Searcher). memory_of c.args.self.now.table c.args.self.now.pattern_lens.items + prefilter_bytes searcher) held;
         same_prefilter = held;
+        same_skips_streams = refl;
       };
       read_out = record {
         same_states = ap (λ (t : Tables). t.states) table;

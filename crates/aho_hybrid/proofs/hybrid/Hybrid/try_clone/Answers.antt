@@ -1,12 +1,12 @@
 -- The clone has equal rows, equal lengths and an equal prefilter.
-use Rattle.std.proofs.Common.{◌≡◌, ℕ, List, Option, Bool, rules, nat_eq, sym, ap, subst, ◌∙◌}
+use Rattle.std.proofs.Common.{◌≡◌, ℕ, List, Option, Bool, rules, nat_eq, refl, sym, ap, subst, ◌∙◌}
 use Rattle.std.specs.List.{each_same}
 use Rattle.std.specs.Prelude.{IfSome}
 use Rattle.aho_core.specs.Patterns.{Patterns}
 use Rattle.aho_core.specs.declared.search.Anchored.{Anchored}
 use Rattle.aho_prefilter.specs.Prefilter.{IsPrefilterOf}
 use Rattle.aho_prefilter.specs.declared.prefilter.Searcher.{Searcher}
-use Rattle.aho_hybrid.specs.Layout.{IsHeldIn, IsStateIn, Layout, depth_below_rows, is_marked_number, is_special_number, list_in, lookups_in, memory_in, next_state_in, start_for}
+use Rattle.aho_hybrid.specs.Layout.{IsHeldIn, IsStateIn, Layout, depth_below_rows, depth_of_state, is_marked_number, is_special_number, list_in, lookups_in, memory_in, next_state_in, start_for}
 use Rattle.aho_hybrid.specs.Reading.{IsLayoutOf}
 use Rattle.aho_hybrid.proofs.hybrid.Hybrid.try_clone.Goals as goal
 
@@ -41,6 +41,7 @@ returns c =
         same_marked = ap is_marked_number rows;
         same_starts = ap starts rows;
         same_depth = ap depth_below_rows rows;
+        same_reach = ap depth_of_state rows;
         same_next = ap next rows;
         same_lookups = ap looks rows;
         same_start = ap start_for rows;
@@ -49,6 +50,7 @@ returns c =
             ∙ ap (λ (ls : List ℕ). memory_in own.rows ls c.in_ok-copy_of.field-0) lens
             ∙ ap (memory_in own.rows own.pattern_lens.items) held;
         same_prefilter = held;
+        same_skips_streams = refl;
       };
       same_rows = rows;
     }
