@@ -103,6 +103,7 @@ impl StreamProgress {
         let most = bytes.len().min((self.limit - self.read) as usize);
         make_room(&mut self.buffer);
         let count = self.buffer.push(&bytes[..most]);
+        self.buffer.facts();
         self.read += count as u64;
         self.patience = PATIENCE;
         count
