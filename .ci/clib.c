@@ -300,7 +300,8 @@ static void streams(void) {
     cs_searcher it = built(CS_LEFTMOST_FIRST, CS_UNANCHORED);
     HAS(cs_stream_new(&it, &stream) == CS_DONE);
     cs_free(&it);
-    HAS(pushed(&stream, BYTES("frodo and sam"), room) == 1 && is(room[0], 2, 0, 5));
+    HAS(pushed(&stream, BYTES("frodo"), room) == 0); /* nothing could take its place, and it waits for a byte */
+    HAS(pushed(&stream, BYTES(" and sam"), room) == 1 && is(room[0], 2, 0, 5));
     HAS(pushed(&stream, NULL, 0, room) == 0);
     HAS(pushed(&stream, BYTES("wi"), room) == 0 && pushed(&stream, BYTES("x sam"), room) == 1 && is(room[0], 1, 10, 13));
     HAS(cs_stream_end(&stream) == CS_DONE && cs_stream_push(&stream, BYTES("sam"), &taken) == CS_ENDED && taken == 5);
@@ -315,6 +316,9 @@ static void streams(void) {
     HAS(cs_stream_push(&stream, BYTES("ss"), &taken) == CS_DONE && taken == 2);
     HAS(cs_stream_push(&stream, BYTES("ss"), &taken) == CS_DONE && taken == 0);
     HAS(cs_stream_next(&stream, room) == CS_FOUND && cs_stream_next(&stream, room) == CS_FOUND && is(room[0], 3, 300003, 300004));
+    HAS(cs_stream_new(&it, &stream) == CS_DONE); /* it takes as many as fit: a full buffer, and all but the last 7 bytes of it anew */
+    HAS(cs_stream_push(&stream, long_text, 300000, &taken) == CS_DONE && taken == 65536 && cs_stream_next(&stream, room) == CS_DONE);
+    HAS(cs_stream_push(&stream, long_text + 65536, 200000, &taken) == CS_DONE && taken == 65529 && cs_stream_next(&stream, room) == CS_FOUND);
     cs_free(&it);
     HAS(cs_stream_new(&it, &stream) == CS_NO_SEARCHER && stream.full);
     it = built(CS_STANDARD, CS_ANCHORED);

@@ -19,17 +19,20 @@ from __future__ import annotations
 
 import codecs
 import ctypes
+import io
 import os
 import struct
 import threading
 import weakref
-from typing import Any, Iterable, Iterator, List, NamedTuple, Optional, Sequence, Tuple, Union
+from typing import Any, Iterable, Iterator, List, Mapping, NamedTuple, Optional, Sequence, Tuple, Union
 
-__all__ = ["AhoCorasick", "BuildError", "Match", "Replacer", "SearchError", "Stream", "version"]
+__all__ = ["AhoCorasick", "BuildError", "Match", "ReplacementError", "Replacer", "SearchError", "Stream", "version"]
 
 # bytes, bytearray, memoryview, mmap, array: whatever has a buffer.
 Haystack = Union[str, bytes, bytearray, memoryview, Any]
 Bytes = Union[bytes, bytearray, memoryview, Any]
+# One for each pattern, by the patterns' numbers, or by the patterns themselves as they were given.
+Replacements = Union[List[Haystack], Tuple[Haystack, ...], Mapping[Any, Haystack]]
 
 
 class Match(NamedTuple):
@@ -60,6 +63,10 @@ class BuildError(ValueError):
 
 class SearchError(ValueError):
     """The searcher does not answer such a search."""
+
+
+class ReplacementError(TypeError, ValueError):
+    """The replacements are no list or tuple with one for each pattern, and no mapping that has each pattern, and nothing else, as a key."""
 
 
 class _Slice(ctypes.Structure):
@@ -163,6 +170,7 @@ _AUTOMATA = {None: 0, "noncontiguous": 1, "rows": 2}
 _ENCODING = ("utf-8", "surrogatepass")
 _MATCH = struct.Struct("NNN")
 _KEPT_ROOM = 1 << 16
+_NUMBERS = tuple(order + it for order in ("", "@", "=", "<") for it in "QqLlNn")  # how a buffer names numbers of 64 bits
 _PIECE = 1 << 16
 _INSIDE = bytes(range(0x80, 0xC0))  # the bytes of a character's UTF-8 but the first
 _VERSION = 100
@@ -269,13 +277,13 @@ class AhoCorasick:
         max_pattern: Optional[int] = None,
         max_len: Optional[int] = None,
     ) -> None:
-        if isinstance(patterns, (str, bytes, bytearray)):
-            raise TypeError("the patterns are a list of str or of bytes, and not one of them")
+        given = _patterns_of(patterns)
+        if isinstance(ignore_case, str) or isinstance(prefilter, str):
+            raise TypeError("ignore_case and prefilter are True or False, and no str")
         if kind not in _KINDS:
             raise ValueError(f"there is no kind {kind!r}, but {', '.join(_KINDS)}")
         if automaton not in _AUTOMATA:
             raise ValueError(f"there is no automaton {automaton!r}, but noncontiguous and rows")
-        given = list(patterns)
         texts = sum(isinstance(it, str) for it in given)
         if texts not in (0, len(given)):
             raise TypeError("the patterns are all of type str, or all of bytes")
@@ -362,34 +370,38 @@ class AhoCorasick:
         if overlapping and self._kind != "standard":
             raise SearchError(f"overlapping matches are those of kind standard, and this searcher is of kind {self._kind}")
         given, count, view = _borrowed(haystack), ctypes.c_size_t(), memoryview(room)
-        if view.readonly or view.itemsize != 8:
-            raise TypeError("the room is a buffer of 64-bit numbers that can be written")
+        if view.readonly or view.itemsize != 8 or view.format not in _NUMBERS:
+            raise TypeError("the room is a buffer of whole numbers of 64 bits that can be written")
         fits = view.nbytes // _MATCH.size
-        found = (ctypes.c_char * view.nbytes).from_buffer(view.cast("B")) if fits else None
+        found = (ctypes.c_char * view.nbytes).from_buffer(view) if fits else None
+        if found is not None and _overlap(given, found):
+            raise ValueError("the room is no part of the haystack")
         _check((_overlapping if overlapping else _find_all)(self._reference(), given, len(given), found, fits, ctypes.byref(count)))
         return count.value
 
     def stream(self, reader: Any) -> Iterator[Match]:
-        """The matches of what a reader gives, each as soon as no byte that follows can change it. The reader has a method `read`, as
+        """The matches of what a reader gives, each as soon as it is certain. The reader has a method `read`, as
         a file and a socket's makefile() have, or is an iterable of pieces. Its pieces are str, if the patterns are, or bytes; the
         places count from the first one. It is read in pieces of 65536, and no more is kept of it than that and what the longest pattern needs.
+
+        A match of kind "standard" is certain with its last byte. One of another kind is so with the first byte behind it with which nothing
+        goes on that could take its place, or at the end: so it waits for one byte more even where nothing could.
 
             >>> import io
             >>> [match.start for match in AhoCorasick([b"sam"]).stream(io.BytesIO(b"frodo, sam"))]
             [7]
 
         Raises SearchError where a pattern is empty."""
-        stream = Stream(self)
-        return self._stream(stream, reader)
+        return self._stream(Stream(self), _pieces_of(reader))
 
-    def _stream(self, stream: "Stream", reader: Any) -> Iterator[Match]:
-        for piece in _pieces_of(reader):
+    def _stream(self, stream: "Stream", pieces: Iterator[Haystack]) -> Iterator[Match]:
+        for piece in pieces:
             yield from stream.push(piece)
         yield from stream.end()
 
-    def stream_replace_all(self, reader: Any, writer: Any, replace_with: Sequence[Haystack]) -> None:
-        """Writes what a reader gives, as `stream` reads it, with each match replaced by what stands in the place of its pattern. The
-        writer has a method `write`, which takes all that it is given. Each part is written as soon as no byte that follows can change it.
+    def stream_replace_all(self, reader: Any, writer: Any, replace_with: Replacements) -> None:
+        """Writes what a reader gives, as `stream` reads it, with each match replaced as by `replace_all`. The writer has a method
+        `write`, which takes all that it is given. Each part is written as soon as it is certain, as `stream` says.
 
             >>> import io
             >>> there = io.StringIO()
@@ -397,34 +409,39 @@ class AhoCorasick:
             >>> there.getvalue()
             'frodo, S'
 
-        Raises ValueError where there is not one replacement for each pattern, and SearchError where a pattern is empty."""
-        replacer = Replacer(self, replace_with)
-        for piece in _pieces_of(reader):
+        Raises ReplacementError where there is not one replacement for each pattern, and SearchError where a pattern is empty."""
+        replacer, pieces = Replacer(self, replace_with), _pieces_of(reader)
+        for piece in pieces:
             _write(writer, replacer.push(piece))
         _write(writer, replacer.end())
 
-    def replace_all(self, haystack: Haystack, replace_with: Sequence[Haystack]) -> Union[str, bytes]:
-        """The haystack with each match replaced by what stands in the place of its pattern: a str for a str, else bytes.
+    def replace_all(self, haystack: Haystack, replace_with: Replacements) -> Union[str, bytes]:
+        """The haystack with each match replaced by what stands in the place of its pattern: a str for a str, else bytes. The
+        replacements are a list or a tuple with one for each pattern, or a mapping from each pattern, as it was given, to its own.
 
-        Raises ValueError where there is not one replacement for each pattern."""
-        self._check_pieces(haystack, replace_with)
+            >>> table = {"frodo": "F", "sam": "S"}
+            >>> AhoCorasick(table).replace_all("frodo and sam", table)
+            'F and S'
+
+        Raises ReplacementError, which is a TypeError and a ValueError, where there is not one replacement for each pattern."""
+        pieces = self._pieces(replace_with, isinstance(haystack, str))
         if _is_wide(haystack) and "" in self._patterns:
-            return self._replaced(haystack, replace_with)
-        return self._written(_replace_all, haystack, replace_with)
+            return self._replaced(haystack, pieces)
+        return self._written(_replace_all, haystack, pieces)
 
-    def cover_all(self, haystack: Haystack, replace_with: Sequence[Haystack]) -> Union[str, bytes]:
+    def cover_all(self, haystack: Haystack, replace_with: Replacements) -> Union[str, bytes]:
         """The haystack with each run of what lies in matches replaced, so that nothing of a match is left, whichever overlap or touch: by
         what stands in the place of the longest pattern that begins where the run does, of equal ones the first.
 
             >>> AhoCorasick(["ann", "anna", "nan"]).cover_all("annan, ann", ["[1]", "[2]", "[3]"])
             '[2], [1]'
 
-        Raises ValueError where there is not one replacement for each pattern, and SearchError where the kind is not "standard" or a
-        pattern is empty."""
-        self._check_pieces(haystack, replace_with)
+        The replacements are those of `replace_all`. Raises ReplacementError where there is not one for each pattern, and SearchError where
+        the kind is not "standard" or a pattern is empty."""
+        pieces = self._pieces(replace_with, isinstance(haystack, str))
         if self._kind != "standard":
             raise SearchError(f"covers are of kind standard, and this searcher is of kind {self._kind}")
-        return self._written(_cover_all, haystack, replace_with)
+        return self._written(_cover_all, haystack, pieces)
 
     def __reduce__(self) -> Tuple[Any, ...]:
         return _rebuilt, (self._patterns, self._kind, self._ignore_case, self._prefilter, *self._rest)
@@ -432,13 +449,31 @@ class AhoCorasick:
     def __repr__(self) -> str:
         return f"<AhoCorasick of {len(self._patterns)} patterns, {self._kind}>"
 
-    def _check_pieces(self, haystack: Haystack, replace_with: Sequence[Haystack]) -> None:
-        if isinstance(replace_with, (str, bytes, bytearray)):
-            raise TypeError("the replacements are a list of str or of bytes, and not one of them")
-        if len(replace_with) != len(self._patterns):
-            raise ValueError(f"there are {len(replace_with)} replacements for {len(self._patterns)} patterns")
-        if any(isinstance(it, str) != isinstance(haystack, str) for it in replace_with):
+    def _pieces(self, replace_with: Replacements, of_text: Optional[bool]) -> List[Haystack]:
+        """The replacements by their patterns' numbers: of type str or not, as is said, or all alike. None of them is printed."""
+        pieces = self._pieces_by_pattern(replace_with) if isinstance(replace_with, Mapping) else self._pieces_in_order(replace_with)
+        texts = sum(isinstance(it, str) for it in pieces)
+        if of_text is None and texts not in (0, len(pieces)):
+            raise TypeError("the replacements are all of type str, or all of bytes")
+        if of_text is not None and texts != of_text * len(pieces):
             raise TypeError("the replacements are of the type of the haystack")
+        return pieces
+
+    def _pieces_by_pattern(self, replace_with: Mapping[Any, Haystack]) -> List[Haystack]:
+        for number, pattern in enumerate(self._patterns):
+            if pattern not in replace_with:
+                raise ReplacementError(f"the mapping has no replacement for pattern {number}")
+        if len(replace_with) != len(set(self._patterns)):
+            raise ReplacementError("the mapping has a key that is no pattern")
+        return [replace_with[it] for it in self._patterns]
+
+    def _pieces_in_order(self, replace_with: Sequence[Haystack]) -> List[Haystack]:
+        if not isinstance(replace_with, (list, tuple)):
+            kind = type(replace_with).__name__
+            raise ReplacementError(f"the replacements are a list, a tuple, or a mapping from each pattern to its own, and no {kind}")
+        if len(replace_with) != len(self._patterns):
+            raise ReplacementError(f"there are {len(replace_with)} replacements for {len(self._patterns)} patterns")
+        return list(replace_with)
 
     def _begin_process(self) -> None:
         self._lock, self._own = threading.Lock(), threading.local()
@@ -506,7 +541,7 @@ class AhoCorasick:
             at = it.end
             yield Match(it.pattern, passed - len(self._patterns[it.pattern]), passed)
 
-    def _replaced(self, text: str, replace_with: Sequence[str]) -> str:
+    def _replaced(self, text: str, replace_with: Sequence[Any]) -> str:
         parts: List[str] = []
         copied = 0
         for it in self.find_iter(text):
@@ -526,7 +561,25 @@ class AhoCorasick:
                 return written.decode(*_ENCODING) if isinstance(haystack, str) else written
 
 
+def _patterns_of(patterns: Iterable[Haystack]) -> List[Haystack]:
+    if isinstance(patterns, (str, bytes, bytearray, memoryview)):
+        raise TypeError("the patterns are a list of str or of bytes, and not one of them")
+    if isinstance(patterns, (set, frozenset)):
+        raise TypeError("the patterns are a list, whose places are their numbers, and no set, which has no order")
+    if hasattr(patterns, "read"):
+        raise TypeError("the patterns are a list, and no reader, whose lines would keep their ends")
+    return list(patterns)
+
+
 def _pieces_of(reader: Any) -> Iterator[Haystack]:
+    if isinstance(reader, (str, bytes, bytearray, memoryview)):
+        raise TypeError("a stream is a reader or an iterable of pieces, and neither the name of a file nor one piece")
+    if isinstance(reader, (Mapping, set, frozenset)):
+        raise TypeError("a stream is a reader or an iterable of pieces, and no set or mapping")
+    return _read(reader)
+
+
+def _read(reader: Any) -> Iterator[Haystack]:
     # As the reader of a buffered pipe or socket gives what is there, so that a match is told as soon as it came.
     read = getattr(reader, "read1", None) or getattr(reader, "read", None)
     for piece in iter(lambda: read(_PIECE), reader) if read else iter(reader):
@@ -538,8 +591,21 @@ def _pieces_of(reader: Any) -> Iterator[Haystack]:
 
 
 def _write(writer: Any, part: Union[str, bytes]) -> None:
-    if part:
-        writer.write(part)
+    while part:
+        taken = writer.write(part)
+        if not isinstance(writer, io.RawIOBase):
+            return
+        if taken is None:
+            raise BlockingIOError("the writer takes nothing for now")
+        part = part[taken:]
+
+
+def _overlap(given: Any, room: Any) -> bool:
+    """Whether a room that can be written lies in the bytes that a call is given."""
+    if isinstance(given, bytes):
+        return False
+    first = given._as_parameter_.value if isinstance(given, _Lent) else ctypes.addressof(given)
+    return first < ctypes.addressof(room) + len(room) and ctypes.addressof(room) < first + len(given)
 
 
 def _is_wide(haystack: Haystack) -> bool:
@@ -605,7 +671,8 @@ class Stream:
         _check(_stream_new(searcher._reference(), ctypes.byref(self._handle)))
 
     def push(self, piece: Haystack) -> List[Match]:
-        """The matches that are certain with this piece and were not told before: str or bytes, as the first piece was."""
+        """The matches that are certain with this piece, as `AhoCorasick.stream` says, and were not told before. A piece is a str, or
+        bytes, as the first one was."""
         text = isinstance(piece, str)
         if self._of_text not in (None, text):
             raise TypeError("the pieces of a stream are all of type str, or all of bytes")
@@ -667,13 +734,14 @@ class Replacer:
         >>> replacer.push("frodo, sam") + replacer.push("wise and") + replacer.end()
         'frodo, S and'
 
-    Raises ValueError where there is not one replacement for each pattern, and SearchError where a pattern is empty."""
+    The replacements are those of `AhoCorasick.replace_all`. Raises ReplacementError where there is not one for each pattern, and
+    SearchError where a pattern is empty."""
 
-    def __init__(self, searcher: AhoCorasick, replace_with: Sequence[Haystack]) -> None:
-        searcher._check_pieces(replace_with[0] if replace_with else b"", replace_with)
+    def __init__(self, searcher: AhoCorasick, replace_with: Replacements) -> None:
+        pieces = searcher._pieces(replace_with, None)
         self._stream = Stream(searcher)
-        self._pieces = _slices([_pattern_bytes(it) for it in replace_with])
-        self._of_text = isinstance(replace_with[0], str) if replace_with else None
+        self._pieces = _slices([_pattern_bytes(it) for it in pieces])
+        self._of_text = isinstance(pieces[0], str) if pieces else None
         self._decoder = codecs.getincrementaldecoder(_ENCODING[0])(_ENCODING[1])
         self._len = ctypes.c_size_t()
         self._room = ctypes.create_string_buffer(65536)

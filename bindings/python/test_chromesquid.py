@@ -1,7 +1,9 @@
 """Tests of the binding, beside a slow model that looks at every place. Run them with python3 -m unittest."""
 
 import array
+import collections
 import copy
+import ctypes
 import io
 import mmap
 import os
@@ -10,7 +12,7 @@ import random
 import threading
 import unittest
 
-from chromesquid import AhoCorasick, BuildError, Match, Replacer, SearchError, Stream, version
+from chromesquid import AhoCorasick, BuildError, Match, ReplacementError, Replacer, SearchError, Stream, version
 
 KINDS = ("standard", "leftmost-first", "leftmost-longest")
 
@@ -184,6 +186,72 @@ class Rows(unittest.TestCase):
         ):
             self.assertRaises(error, call)
 
+    def test_a_mapping_is_from_each_pattern_to_its_replacement(self):
+        table = {"hunter2": "***", "login": "user", "né": "é🦑"}
+        for kind in KINDS:
+            searcher = AhoCorasick(table, kind=kind)
+            for given in (table, dict(reversed(table.items())), collections.ChainMap({}, table), collections.UserDict(table)):
+                self.assertEqual(searcher.replace_all("né login hunter2", given), "é🦑 user ***")
+                there = io.StringIO()
+                searcher.stream_replace_all(["né log", "in hunter2"], there, given)
+                self.assertEqual(there.getvalue(), "é🦑 user ***")
+                replacer = Replacer(searcher, given)
+                self.assertEqual(replacer.push("né login hunter2") + replacer.end(), "é🦑 user ***")
+            self.assertEqual(searcher.replace_all("né login".encode(), {it: table[it].encode() for it in table}), "é🦑 user".encode())
+        self.assertEqual(AhoCorasick(table).cover_all("né login hunter2", table), "é🦑 user ***")
+        self.assertEqual(AhoCorasick([b"a", b"A", b"a"], ignore_case=True).replace_all(b"aA", {b"A": b"2", b"a": b"1"}), b"11")
+        self.assertEqual(AhoCorasick(["", "é"]).replace_all("é", {"é": "x", "": "-"}), "-é-")
+        self.assertEqual(AhoCorasick([]).replace_all("a", {}), "a")
+
+    def test_replacements_that_are_none(self):
+        table = {"login": "user", "hunter2": "***"}
+        searcher, given = AhoCorasick(table), "login hunter2"
+        calls = (searcher.replace_all, searcher.cover_all, lambda _, it: Replacer(searcher, it), lambda _, it: searcher.stream_replace_all([given], io.StringIO(), it))
+        for call in calls:
+            for wrong in (set(table), frozenset(table), {"login": "user"}, {**table, "hunter3": "x"}, {it.encode(): "x" for it in table}, {}, table.keys(),
+                          table.values(), iter(["user", "***"]), (it for it in ("user", "***")), collections.deque(["user", "***"]), "ab", b"ab",
+                          bytearray(b"ab"), array.array("B", [1, 2]), range(2), None, 2, ["user"], ("user", "***", "x"), []):
+                with self.assertRaises(ReplacementError) as raised:
+                    call(given, wrong)
+                self.assertIsInstance(raised.exception, TypeError)
+                self.assertIsInstance(raised.exception, ValueError)
+                self.assertFalse(any(it in str(raised.exception) for it in (*table, "***", "user")), raised.exception)
+            for wrong in (["user", None], ["user", 3], ["user", ["***"]], ["user", b"***"], {"login": "user", "hunter2": b"***"}):
+                self.assertRaises(TypeError, call, given, wrong)
+        with self.assertRaisesRegex(ReplacementError, "no replacement for pattern 1"):
+            searcher.replace_all(given, {"login": "user"})
+        with self.assertRaisesRegex(ReplacementError, "a list, a tuple, or a mapping from each pattern to its own, and no set"):
+            searcher.replace_all(given, set(table))
+
+    def test_what_is_no_list_of_patterns_and_no_stream(self):
+        searcher = AhoCorasick(["a"])
+        with mmap.mmap(-1, 4) as mapped:
+            for wrong in ({"a"}, frozenset("a"), {b"a"}, "a", b"a", bytearray(b"a"), memoryview(b"a"), mapped, io.StringIO("a\n"), io.BytesIO(b"a\n"), None, 3):
+                self.assertRaises(TypeError, AhoCorasick, wrong)
+        self.assertRaises(TypeError, lambda: AhoCorasick(["a"], ignore_case="no"))
+        self.assertRaises(TypeError, lambda: AhoCorasick(["a"], prefilter="off"))
+        self.assertEqual(AhoCorasick({"b": 1, "a": 2}.keys()).patterns, ("b", "a"))
+        for wrong in ("/var/log/a", b"a", bytearray(b"a"), memoryview(b"a"), {"a": 1}, {"a"}, frozenset("a")):
+            self.assertRaises(TypeError, searcher.stream, wrong)
+            self.assertRaises(TypeError, searcher.stream_replace_all, wrong, io.StringIO(), ["b"])
+
+    def test_a_room_is_of_whole_numbers_and_apart(self):
+        searcher = AhoCorasick([b"\0"])
+        given = array.array("Q", [0] * 8)
+        for room in (given, memoryview(given)[2:], memoryview(given)[:1].cast("B").cast("Q")):
+            before = given.tolist()
+            if len(room) >= 3:
+                self.assertRaises(ValueError, searcher.find_into, given, room)
+                self.assertRaises(ValueError, searcher.find_into, memoryview(given)[4:], room)
+                self.assertRaises(ValueError, searcher.find_into, memoryview(given).toreadonly(), room)
+            self.assertEqual(given.tolist(), before)
+        self.assertEqual(searcher.find_into(memoryview(given)[:4], memoryview(given)[4:]), 32)
+        self.assertEqual(given.tolist(), [0, 0, 0, 0, 0, 0, 1, 0])
+        for room in (array.array("d", [0] * 6), (ctypes.c_double * 6)(), array.array("Q", [0] * 6)[:0].tobytes(), memoryview(array.array("Q", [0] * 12))[::2]):
+            self.assertRaises(TypeError, searcher.find_into, b"a", room)
+        for room in (array.array("L", [9] * 3), array.array("q", [9] * 3), (ctypes.c_uint64 * 3)(9, 9, 9)):
+            self.assertEqual((searcher.find_into(b"a\0", room), list(room)), (1, [0, 1, 2]))
+
     def test_a_replacement_that_grows(self):
         self.assertEqual(AhoCorasick([b"a"]).replace_all(b"aba" * 1000, [b"long"]), b"longblong" * 1000)
 
@@ -222,6 +290,21 @@ class Slow:
 
     def read(self, size):
         return self.pieces.pop(0) if self.pieces else b""
+
+
+class Sparing(io.RawIOBase):
+    """A raw writer that takes some of what it is given, or nothing for now."""
+
+    def __init__(self, most=7):
+        super().__init__()
+        self.taken, self.most = bytearray(), most
+
+    def writable(self):
+        return True
+
+    def write(self, part):
+        self.taken += part[: self.most]
+        return min(self.most, len(part)) or None
 
 
 class Streams(unittest.TestCase):
@@ -292,6 +375,15 @@ class Streams(unittest.TestCase):
             there = io.BytesIO()
             searcher.stream_replace_all(reader, there, [b"S", b"-" * 70000])
             self.assertEqual(there.getvalue(), b"frodo, S" * 30000 + b"-" * 70000 + b"x" * 10000)
+        sparing = Sparing()
+        searcher.stream_replace_all([given[:1000]], sparing, [b"S", b""])
+        self.assertEqual(bytes(sparing.taken), b"frodo, S" * 100)
+        self.assertRaises(BlockingIOError, searcher.stream_replace_all, [b"a"], Sparing(0), [b"S", b""])
+
+    def test_a_leftmost_match_waits_for_one_byte(self):
+        for kind in KINDS[1:]:
+            stream = Stream(AhoCorasick([b"a"], kind=kind))
+            self.assertEqual((stream.push(b"a"), stream.push(b"-"), stream.push(b"a"), stream.end()), ([], [Match(0, 0, 1)], [], [Match(0, 2, 3)]))
 
 
 class Copies(unittest.TestCase):

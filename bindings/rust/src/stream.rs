@@ -23,7 +23,7 @@ struct Source<R> {
 
 /// What a source gives next.
 enum Next {
-    /// A match that no byte that follows can change.
+    /// A match that is certain.
     Match(Match),
     /// So many bytes of the chunk were pushed, from this place on.
     Pushed(Range<usize>),
@@ -69,7 +69,9 @@ impl<R: Read> Source<R> {
     }
 }
 
-/// The matches of a stream. The reader is read no further than it takes to be certain of the next one, but for a buffer.
+/// The matches of a stream. The reader is read no further than it takes to be certain of the next one, but for a buffer. A match of kind
+/// Standard is certain with its last byte, and else with the first byte behind it with which nothing goes on that could take its place, or
+/// at the end: it waits for one byte more even where nothing could.
 pub struct StreamFindIter<'a, R> {
     source: Source<R>,
     of: std::marker::PhantomData<&'a AhoCorasick>,

@@ -1,6 +1,6 @@
 //! The worked examples of docs/RULES.md, and what is refused.
 use chromesquid::{AhoCorasick, Anchored, Input, Match, MatchErrorKind, MatchKind, PatternID, Span, StartKind};
-use std::panic::catch_unwind;
+use std::panic::{catch_unwind, AssertUnwindSafe};
 use MatchKind::{LeftmostFirst, LeftmostLongest, Standard};
 
 fn searcher(kind: MatchKind, patterns: &[&str]) -> AhoCorasick {
@@ -129,6 +129,22 @@ fn what_is_refused() {
     assert!(catch_unwind(|| Input::new("ab").span(0..3)).is_err());
     assert!(catch_unwind(|| Input::new("ab").set_start(4)).is_err());
     assert!(unanchored.is_match("a"), "a call that panicked leaves it as it was");
+}
+
+#[test]
+fn a_count_of_replacements_that_is_not_that_of_the_patterns() {
+    let words = searcher(Standard, &["login", "hunter2"]);
+    let text = "login hunter2";
+    for wrong in [&[][..], &["user"][..], &["user", "***", "x"][..]] {
+        assert!(catch_unwind(|| words.replace_all(text, wrong)).is_err());
+        assert!(catch_unwind(|| words.try_replace_all(text, wrong)).is_err());
+        assert!(catch_unwind(|| words.replace_all_bytes(text.as_bytes(), wrong)).is_err());
+        assert!(catch_unwind(|| words.try_replace_all_bytes(text.as_bytes(), wrong)).is_err());
+        assert!(catch_unwind(|| words.try_stream_replace_all(text.as_bytes(), vec![], wrong)).is_err());
+        let mut there = vec![];
+        let streamed = catch_unwind(AssertUnwindSafe(|| words.stream_replace_all(text.as_bytes(), &mut there, wrong)));
+        assert!(streamed.is_err() && there.is_empty());
+    }
 }
 
 #[test]

@@ -1,5 +1,5 @@
 -- What the calls on a stream promise whose bytes are pushed.
-use Rattle.std.specs.Prelude.{◌≡◌, ℕ, ◌+◌, ◌≤◌, min, true, List, ◌++◌, Option, None, Some, length}
+use Rattle.std.specs.Prelude.{◌≡◌, ℕ, ◌+◌, ◌-◌, ◌≤◌, min, true, List, ◌++◌, Option, None, Some, length}
 use Rattle.aho_core.specs.Answer.{IsAnswer}
 use Rattle.aho_core.specs.Occurrence.{Occurrence}
 use Rattle.aho_core.specs.Patterns.{Patterns}
@@ -15,6 +15,10 @@ pub record IsSearched {S : Type 0} (A : Ghosts S) (automaton : S) (s : StreamPro
   pub walked : s.walked ≡ s.read
   pub unsettled : IsUnsettled A automaton s
   pub near : s.read ≤ s.reported + s.buffer.least
+
+-- how many bytes there is room for: those that may be given yet, and that the buffer holds beside the last ones, which it keeps
+abbrev pub room_left : StreamProgress → ℕ
+room_left s = min (s.limit - s.read) (s.buffer.size - min s.buffer.least (length s.buffer.bytes))
 
 -- these bytes were put behind those that are kept, and nothing else moved
 pub record Adds (s s' : StreamProgress) (bytes : List ℕ) : Type 0 where

@@ -2,9 +2,9 @@
 //! what gives the bytes: the caller pushes bytes when it has some, asks for the matches that are settled by them, and says when the
 //! stream has ended.
 
-ghost use Rattle.std.specs.Prelude.{◌≡◌, ◌-◌, ◌<◌, ◌≤◌, None, false, length, slice_range, take, true};
+ghost use Rattle.std.specs.Prelude.{◌≡◌, ◌-◌, ◌<◌, ◌≤◌, None, false, length, min, slice_range, take, true};
 ghost use Rattle.aho_stream.specs.After.{ForGiven, IsUnderWay, StaysAfter};
-ghost use Rattle.aho_stream.specs.Pushing.{Adds, FindsInGiven, HoldsTold, IsSearched, Pushes, TellsInGiven};
+ghost use Rattle.aho_stream.specs.Pushing.{Adds, FindsInGiven, HoldsTold, IsSearched, Pushes, TellsInGiven, room_left};
 
 use crate::pieces::next_piece;
 use crate::progress::{StreamPiece, StreamProgress, make_room};
@@ -68,8 +68,8 @@ fn next_told<W: Walk>(walk: &mut W, progress: &mut StreamProgress) -> Option<Str
 }
 
 impl StreamProgress {
-    /// Puts bytes behind those that were given, from the front of `bytes`, and says how many. It takes none while `next_match` may
-    /// find something, after the end, or at the limit; else at least one. How many more it takes depends on the room in the buffer.
+    /// Puts bytes behind those that were given, from the front of `bytes` as many as there is room for, and says how many. It takes
+    /// none while `next_match` may find something, after the end, or at the limit; else at least one.
     pub fn push<A: Automaton>(&mut self, automaton: &A, bytes: &[u8]) -> usize
         requires after { IsUnderWay A.Automaton automaton.now 0 self.old }
         requires open { self.old.refused ≡ false }
@@ -77,6 +77,10 @@ impl StreamProgress {
         ensures pushes { Pushes A.Automaton automaton.now self.old self.new (take result bytes.now) }
         ensures some { IsSearched A.Automaton automaton.now self.old → self.old.ended ≡ false
             → self.old.read < self.old.limit → 0 < length bytes.now → 0 < result }
+        ensures filled { IsSearched A.Automaton automaton.now self.old → self.old.ended ≡ false
+            → result ≡ min (length bytes.now) (room_left self.old) }
+        ensures unsearched { (IsSearched A.Automaton automaton.now self.old → ⊥) → result ≡ 0 }
+        ensures ended { self.old.ended ≡ true → result ≡ 0 }
     {
         if self.ended {
             return 0;
@@ -88,16 +92,18 @@ impl StreamProgress {
         self.add(bytes)
     }
 
-    /// Puts bytes behind those that are kept, and says how many.
+    /// Puts bytes behind those that are kept, as many as there is room for, and says how many.
     fn add(&mut self, bytes: &[u8]) -> usize
         requires limited { self.old.read ≤ self.old.limit }
         ensures within { result ≤ length bytes.now }
         ensures adds { Adds self.old self.new (take result bytes.now) }
         ensures some { self.old.read < self.old.limit → 0 < length bytes.now → 0 < result }
+        ensures filled { result ≡ min (length bytes.now) (room_left self.old) }
     {
         let most = bytes.len().min((self.limit - self.read) as usize);
         make_room(&mut self.buffer);
         let count = self.buffer.push(&bytes[..most]);
+        self.buffer.facts();
         self.read += count as u64;
         self.patience = PATIENCE;
         count

@@ -1,12 +1,12 @@
 -- Streams whose bytes are pushed: how far one has come, and what its calls tell.
-use Rattle.std.specs.Prelude.{◌≡◌, ℕ, zero, suc, ◌-◌, ◌<◌, ◌≤◌, List, [], ◌++◌, true, false, None, Some, length, map, max, slice_range, take}
+use Rattle.std.specs.Prelude.{◌≡◌, ℕ, zero, suc, ◌-◌, ◌<◌, ◌≤◌, List, [], ◌++◌, true, false, None, Some, length, map, max, min, slice_range, take}
 use Rattle.std.specs.Borrow.{Bor}
 use Rattle.aho_core.specs.Laws.{longest}
 use Rattle.aho_core.specs.Patterns.{Patterns}
 use Rattle.aho_core.specs.Replacement.{pieces_of}
 use Rattle.aho_stream.specs.After.{EndsWith, IsAfter, IsUnderWay, greatest_position}
 use Rattle.aho_stream.specs.Chunks.{TellsChunk}
-use Rattle.aho_stream.specs.Pushing.{FindsNow, HoldsTold, IsSearched, TellsNoneYet}
+use Rattle.aho_stream.specs.Pushing.{FindsNow, HoldsTold, IsSearched, TellsNoneYet, room_left}
 use Rattle.aho_stream.specs.Replacing.{chunk_bytes}
 use Rattle.aho_stream.specs.declared.progress.StreamPiece.{StreamPiece}
 use Rattle.aho_stream.specs.declared.progress.StreamProgress.{StreamProgress}
@@ -68,11 +68,14 @@ pub record HasBegun (owner : Searcher) (stream : PushedStream) : Type 0 where
   pub none : (p : Patterns) → IsBuiltFrom owner p → WasPushed stream p []
   pub going : stream.progress.ended ≡ false
 
--- so many of these bytes were pushed, one at least where all was searched through, and nothing was told
+-- so many of these bytes were pushed: where all was searched through as many as there is room for, and one at least, else none.
+-- Nothing was told
 pub record TakesPushed (stream stream' : PushedStream) (bytes : List ℕ) (taken : ℕ) : Type 0 where
   pub goes_on : GoesOnWith stream stream' (take taken bytes)
   pub within : taken ≤ length bytes
   pub some : IsSearched ghosts stream.searcher stream.progress → 0 < length bytes → 0 < taken
+  pub filled : IsSearched ghosts stream.searcher stream.progress → taken ≡ min (length bytes) (room_left stream.progress)
+  pub unsearched : (IsSearched ghosts stream.searcher stream.progress → ⊥) → taken ≡ 0
   pub told : told_to stream' ≡ told_to stream
   pub ended : stream'.progress.ended ≡ stream.progress.ended
 

@@ -82,7 +82,7 @@ pub extern "C" fn cs_stream_new(alloc: Global, searcher: &mut CsSearcher, out: &
 }
 
 /// Pushes bytes behind those that were pushed, from the front as many as there is room for, puts into `taken` how many, and answers
-/// 0. Where `cs_stream_next` answered 0 last it takes one at least, if there is one.
+/// 0. Where `cs_stream_next` answered 0 last there is room for one at least; else it may take none.
 ///
 /// # Errors
 ///
@@ -108,7 +108,9 @@ pub extern "C" fn cs_stream_push(stream: &mut CsStream, bytes: &[u8], taken: &mu
 }
 
 /// The next match of all bytes pushed so far, searched for from the end of the one before: 1 and the match in `found`, by its place
-/// in the stream, once no byte that follows can change it; else 0. After the end 0 says that none is left.
+/// in the stream, once it is certain, so that no byte that follows can change it; else 0. After the end 0 says that none is left. With
+/// Standard a match is certain with its last byte, and else in the dead state, or at the end: where nothing could take its place it
+/// still waits for one byte more.
 ///
 /// # Errors
 ///
@@ -129,7 +131,7 @@ pub extern "C" fn cs_stream_next(stream: &mut CsStream, found: &mut CsMatch) -> 
 }
 
 /// What is written for the next chunk of all bytes pushed so far, with the bytes for its pattern in the place of each match: 1 and the
-/// bytes in `room`, and in `len` how many they are, once no byte that follows can change them; else 0. So what is put, one call after
+/// bytes in `room`, and in `len` how many they are, once they are certain, as `cs_stream_next` says; else 0. So what is put, one call after
 /// another, is the replacement of what is pushed; after the end 0 says that all of it was put.
 ///
 /// The room holds as many bytes as were pushed and not put yet, and as the longest replacement has. Else the answer is 11, and `len` is
