@@ -12,6 +12,8 @@
 A pattern's number is its place among the patterns, from 0 on. Places count bytes in a haystack of bytes, and characters in one of
 type str.
 
+A call on a short haystack takes a few microseconds by ctypes, and less than one where the extension module _chromesquid was built.
+
 This one file needs libchromesquid.so, which bin/clib makes: in the folder that the environment names as CHROMESQUID_LIBRARY, or
 beside this file, or where the system looks for libraries. `python3 -m chromesquid` tells whether it is there and answers."""
 
@@ -25,6 +27,11 @@ import struct
 import threading
 import weakref
 from typing import Any, Iterable, Iterator, List, Mapping, NamedTuple, Optional, Sequence, Tuple, Union
+
+try:
+    import _chromesquid as _small
+except ImportError:  # it was not built: ctypes serves small calls too
+    _small = None  # type: ignore[assignment]
 
 __all__ = ["AhoCorasick", "BuildError", "Match", "ReplacementError", "Replacer", "SearchError", "Stream", "version"]
 
@@ -219,6 +226,9 @@ _stream_next = _function("cs_stream_next", ctypes.c_uint32, _STREAM, ctypes.POIN
 _stream_replace = _function("cs_stream_replace", ctypes.c_uint32, _STREAM, *_SLICES, *_ROOM, _COUNT)
 _stream_end = _function("cs_stream_end", ctypes.c_uint32, _STREAM)
 _stream_free = _function("cs_stream_free", None, _STREAM)
+# The functions of the library that the extension module calls, by their addresses.
+_SMALL_CALLS = "cs_share", "cs_free", "cs_is_match", "cs_find", "cs_find_all", "cs_overlapping", "cs_replace_all"
+_addresses = tuple(ctypes.cast(getattr(_loaded, it), ctypes.c_void_p).value for it in _SMALL_CALLS)
 if _version() != _VERSION:
     raise ImportError(f"this file is for version {_VERSION} of libchromesquid.so, and not for {_version()}")
 
@@ -301,6 +311,8 @@ class AhoCorasick:
         if status in (_TOO_MANY_STATES, _TOO_MANY_PATTERNS, _TOO_LONG):
             raise _build_error(error)
         _check(status)
+        # Small calls go by the extension module, where it is there: it answers NotImplemented to others.
+        self._small = _small.Searcher(_addresses, ctypes.addressof(self._handle), self._of_texts, Match) if _small else None
 
     @property
     def patterns(self) -> Tuple[Union[str, bytes], ...]:
@@ -320,6 +332,10 @@ class AhoCorasick:
 
     def is_match(self, haystack: Haystack) -> bool:
         """Whether a pattern occurs."""
+        if self._small is not None:
+            answer = self._small.is_match(haystack)
+            if answer is not NotImplemented:
+                return answer
         given = self._bytes_of(haystack)
         if len(given) < _SHORT and type(given) is bytes:
             status = _is_match_short(self._search()[0], given, len(given))
@@ -332,6 +348,10 @@ class AhoCorasick:
 
     def find(self, haystack: Haystack) -> Optional[Match]:
         """The first match, None where there is none."""
+        if self._small is not None:
+            answer = self._small.find(haystack)
+            if answer is not NotImplemented:
+                return answer
         given = self._bytes_of(haystack)
         handle, found, into = self._search()
         if len(given) < _SHORT and type(given) is bytes:
@@ -346,6 +366,10 @@ class AhoCorasick:
 
     def find_iter(self, haystack: Haystack) -> Iterator[Match]:
         """The matches, each searched for from the end of the one before. All are searched for at once, and take 24 bytes each."""
+        if self._small is not None:
+            answer = self._small.find_all(haystack)
+            if answer is not NotImplemented:
+                return iter(answer)
         return self._all(_find_all, haystack)
 
     def find_overlapping_iter(self, haystack: Haystack) -> Iterator[Match]:
@@ -354,6 +378,10 @@ class AhoCorasick:
         The kind has to be "standard": else SearchError is raised."""
         if self._kind != "standard":
             raise SearchError(f"overlapping matches are those of kind standard, and this searcher is of kind {self._kind}")
+        if self._small is not None:
+            answer = self._small.overlapping(haystack)
+            if answer is not NotImplemented:
+                return iter(answer)
         return self._all(_overlapping, haystack)
 
     def find_into(self, haystack: Bytes, room: Any, *, overlapping: bool = False) -> int:
@@ -424,6 +452,10 @@ class AhoCorasick:
             'F and S'
 
         Raises ReplacementError, which is a TypeError and a ValueError, where there is not one replacement for each pattern."""
+        if self._small is not None:
+            answer = self._small.replace_all(haystack, replace_with)
+            if answer is not NotImplemented:
+                return answer
         pieces = self._pieces(replace_with, isinstance(haystack, str))
         if _is_wide(haystack) and "" in self._patterns:
             return self._replaced(haystack, pieces)
