@@ -24,7 +24,7 @@ impl Error for BuildError {}
 
 /// Why a search was refused.
 #[derive(Clone, Debug, PartialEq, Eq)]
-pub struct MatchError(MatchErrorKind);
+pub struct MatchError(Box<MatchErrorKind>);
 
 /// Why a search was refused.
 #[derive(Clone, Debug, PartialEq, Eq)]
@@ -34,6 +34,11 @@ pub enum MatchErrorKind {
     InvalidInputAnchored,
     /// An unanchored search, which the searcher was not built for.
     InvalidInputUnanchored,
+    /// A stream of this kind, by a call of the Rust crate's name.
+    UnsupportedStream {
+        /// The kind that the searcher is of.
+        got: MatchKind,
+    },
     /// Overlapping matches of this kind.
     UnsupportedOverlapping {
         /// The kind that the searcher is of.
@@ -44,48 +49,52 @@ pub enum MatchErrorKind {
 }
 
 impl MatchError {
-    pub(crate) fn of(kind: MatchErrorKind) -> MatchError {
-        MatchError(kind)
+    /// The error of this kind.
+    pub fn new(kind: MatchErrorKind) -> MatchError {
+        MatchError(Box::new(kind))
     }
 
     /// Which error it is.
     pub fn kind(&self) -> &MatchErrorKind {
         &self.0
     }
+
+    /// That an anchored search is not answered.
+    pub fn invalid_input_anchored() -> MatchError {
+        MatchError::new(MatchErrorKind::InvalidInputAnchored)
+    }
+
+    /// That an unanchored search is not answered.
+    pub fn invalid_input_unanchored() -> MatchError {
+        MatchError::new(MatchErrorKind::InvalidInputUnanchored)
+    }
+
+    /// That a stream of this kind is not searched.
+    pub fn unsupported_stream(got: MatchKind) -> MatchError {
+        MatchError::new(MatchErrorKind::UnsupportedStream { got })
+    }
+
+    /// That overlapping matches of this kind are not answered.
+    pub fn unsupported_overlapping(got: MatchKind) -> MatchError {
+        MatchError::new(MatchErrorKind::UnsupportedOverlapping { got })
+    }
+
+    /// That a stream is not searched for an empty pattern.
+    pub fn unsupported_empty() -> MatchError {
+        MatchError::new(MatchErrorKind::UnsupportedEmpty)
+    }
 }
 
 impl fmt::Display for MatchError {
     fn fmt(&self, to: &mut fmt::Formatter<'_>) -> fmt::Result {
-        match &self.0 {
-            MatchErrorKind::InvalidInputAnchored => to.write_str("an anchored search, which is not answered"),
-            MatchErrorKind::InvalidInputUnanchored => to.write_str("an unanchored search, which is not answered"),
-            MatchErrorKind::UnsupportedOverlapping { got } => {
-                write!(to, "overlapping matches are those of kind Standard, and not of {got:?}")
-            }
-            MatchErrorKind::UnsupportedEmpty => to.write_str("a pattern is empty, and streams are not searched for it"),
+        match self.kind() {
+            MatchErrorKind::InvalidInputAnchored => to.write_str("anchored searches are not supported or enabled"),
+            MatchErrorKind::InvalidInputUnanchored => to.write_str("unanchored searches are not supported or enabled"),
+            MatchErrorKind::UnsupportedStream { got } => write!(to, "match kind {got:?} does not support stream searching"),
+            MatchErrorKind::UnsupportedOverlapping { got } => write!(to, "match kind {got:?} does not support overlapping searches"),
+            MatchErrorKind::UnsupportedEmpty => to.write_str("matching with an empty pattern string is not supported for this operation"),
         }
     }
 }
 
 impl Error for MatchError {}
-
-/// A number above `PatternID::MAX`.
-#[derive(Clone, Debug, PartialEq, Eq)]
-pub struct PatternIDError {
-    pub(crate) attempted: u64,
-}
-
-impl PatternIDError {
-    /// The number that was asked for.
-    pub fn attempted(&self) -> u64 {
-        self.attempted
-    }
-}
-
-impl fmt::Display for PatternIDError {
-    fn fmt(&self, to: &mut fmt::Formatter<'_>) -> fmt::Result {
-        write!(to, "{} is above the greatest number of a pattern", self.attempted)
-    }
-}
-
-impl Error for PatternIDError {}

@@ -14,8 +14,10 @@
 //! What the library answers is proved; this crate, which passes the calls on, is only tested. All calls that begin with `try_` tell as an
 //! error what the others panic at. Where answers are others than those of `aho-corasick`, docs/DIFFERENCES.md of the repository says so.
 //!
-//! Left out: the choice of an automaton (`AhoCorasickKind`, `dense_depth`, `byte_classes`, and the modules `automaton`, `nfa`, `dfa` and `packed`),
-//! `OverlappingState`, and anchored overlapping searches. Every kind streams.
+//! A kind of automaton, `dense_depth` and `byte_classes` are taken as hints. Streams of the leftmost kinds, which `aho-corasick` refuses, are
+//! those of `AhoCorasick::streams`. `packed` has that module's types over the same searcher.
+//!
+//! Left out: the trait `Automaton` with the modules `nfa` and `dfa`, and overlapping searches of a searcher that is anchored alone.
 //!
 //! The environment names the folder of `libchromesquid.a` as CHROMESQUID_LIBRARY while it is built. A call takes a share of the searcher and gives
 //! it back: there are as many as calls and iterators have run at the same time.
@@ -23,17 +25,30 @@
 #![warn(missing_docs)]
 
 mod error;
+mod kinds;
 #[allow(unsafe_code)]
 mod library;
+mod overlapping;
+pub mod packed;
+mod primitives;
 mod search;
 mod searcher;
 mod shares;
 mod stream;
 
-pub use error::{BuildError, MatchError, MatchErrorKind, PatternIDError};
-pub use search::{Anchored, Input, Match, MatchKind, PatternID, Span, StartKind};
-pub use searcher::{AhoCorasick, AhoCorasickBuilder, FindIter, FindOverlappingIter};
-pub use stream::StreamFindIter;
+pub use error::{BuildError, MatchError, MatchErrorKind};
+pub use kinds::AhoCorasickKind;
+pub use overlapping::FindOverlappingIter;
+pub use primitives::{PatternID, PatternIDError};
+pub use search::{Anchored, Input, Match, MatchKind, Span, StartKind};
+pub use searcher::{AhoCorasick, AhoCorasickBuilder, FindIter};
+pub use stream::{StreamFindIter, Streams};
+
+/// What overlapping searches and states are named by.
+pub mod automaton {
+    pub use crate::overlapping::OverlappingState;
+    pub use crate::primitives::{StateID, StateIDError};
+}
 
 /// The version of the library: 102 is 0.1.2.
 pub fn version() -> u32 {

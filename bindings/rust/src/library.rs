@@ -1,5 +1,7 @@
 //! The functions of the C library, as safe calls. This is the only file with code that is not safe.
-use crate::search::{Anchored, Input, Match, MatchKind, PatternID, StartKind};
+use crate::kinds::AhoCorasickKind;
+use crate::primitives::PatternID;
+use crate::search::{Anchored, Input, Match, MatchKind, StartKind};
 use std::{ffi::c_void, marker::PhantomData, ptr};
 
 #[repr(C)]
@@ -48,6 +50,15 @@ struct CsMatch {
     pattern: usize,
     start: usize,
     end: usize,
+}
+
+/// What a searcher is asked for.
+pub(crate) struct Wishes {
+    pub(crate) match_kind: MatchKind,
+    pub(crate) start_kind: StartKind,
+    pub(crate) ignore_case: bool,
+    pub(crate) prefilter: bool,
+    pub(crate) kind: Option<AhoCorasickKind>,
 }
 
 /// What is known of a searcher: how many patterns it has, the lengths of the shortest and of the longest, and its memory in bytes.
@@ -113,7 +124,7 @@ impl<'p> Pieces<'p> {
 }
 
 fn match_of(found: CsMatch, offset: usize) -> Match {
-    Match::new(PatternID::of(found.pattern), offset + found.start..offset + found.end)
+    Match::new(PatternID::new_unchecked(found.pattern), offset + found.start..offset + found.end)
 }
 
 /// The text of a build's error.
@@ -146,25 +157,24 @@ impl Handle {
     }
 
     /// A searcher for the patterns, or the text that says why there is none.
-    pub(crate) fn build<B: AsRef<[u8]>>(
-        patterns: &[B],
-        match_kind: MatchKind,
-        start_kind: StartKind,
-        ignore_case: bool,
-        prefilter: bool,
-    ) -> Result<Handle, String> {
+    pub(crate) fn build<B: AsRef<[u8]>>(patterns: &[B], wishes: &Wishes) -> Result<Handle, String> {
         let patterns = slices(patterns);
-        let match_kind = match match_kind {
+        let match_kind = match wishes.match_kind {
             MatchKind::Standard => 0,
             MatchKind::LeftmostFirst => 1,
             MatchKind::LeftmostLongest => 2,
         };
-        let start_kind = match start_kind {
+        let start_kind = match wishes.start_kind {
             StartKind::Unanchored => 0,
             StartKind::Anchored => 1,
             StartKind::Both => 2,
         };
-        let (automaton, limit) = (0, usize::MAX);
+        let automaton = match wishes.kind {
+            None => 0,
+            Some(AhoCorasickKind::NoncontiguousNFA) => 1,
+            Some(AhoCorasickKind::ContiguousNFA | AhoCorasickKind::DFA) => 2,
+        };
+        let (ignore_case, prefilter, limit) = (wishes.ignore_case, wishes.prefilter, usize::MAX);
         let options =
             CsOptions { match_kind, start_kind, ignore_case, prefilter, automaton, max_index: limit, max_pattern: limit, max_len: limit };
         let (mut handle, mut error) = (Handle::none(), CsError::default());

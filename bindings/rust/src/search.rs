@@ -1,70 +1,9 @@
 //! What is asked of a search, and what it answers.
-use crate::error::PatternIDError;
-use std::ops::{Bound, Range, RangeBounds};
-
-/// The number of a pattern: its place among the patterns, from 0 on.
-#[derive(Clone, Copy, Debug, Default, PartialEq, Eq, PartialOrd, Ord, Hash)]
-pub struct PatternID(u32);
-
-impl PatternID {
-    /// The number of the first pattern.
-    pub const ZERO: PatternID = PatternID(0);
-    /// The greatest number of a pattern.
-    pub const MAX: PatternID = PatternID(i32::MAX as u32 - 1);
-
-    /// The number, where it is at most `MAX`.
-    pub fn new(value: usize) -> Result<PatternID, PatternIDError> {
-        if value <= PatternID::MAX.as_usize() {
-            Ok(PatternID(value as u32))
-        } else {
-            Err(PatternIDError { attempted: value as u64 })
-        }
-    }
-
-    /// The number. Panics above `MAX`.
-    pub fn must(value: usize) -> PatternID {
-        PatternID::new(value).expect("a number of a pattern")
-    }
-
-    /// A number that the library told, which is at most `MAX`.
-    pub(crate) fn of(value: usize) -> PatternID {
-        PatternID(value as u32)
-    }
-
-    /// The number.
-    pub const fn as_usize(&self) -> usize {
-        self.0 as usize
-    }
-
-    /// The number.
-    pub const fn as_u32(&self) -> u32 {
-        self.0
-    }
-
-    /// The number.
-    pub const fn as_u64(&self) -> u64 {
-        self.0 as u64
-    }
-
-    /// The number.
-    pub const fn as_i32(&self) -> i32 {
-        self.0 as i32
-    }
-}
-
-impl From<u8> for PatternID {
-    fn from(value: u8) -> PatternID {
-        PatternID(value as u32)
-    }
-}
-
-impl TryFrom<usize> for PatternID {
-    type Error = PatternIDError;
-
-    fn try_from(value: usize) -> Result<PatternID, PatternIDError> {
-        PatternID::new(value)
-    }
-}
+use crate::primitives::PatternID;
+use std::{
+    fmt,
+    ops::{Bound, Index, IndexMut, Range, RangeBounds},
+};
 
 /// Which of several matches is found.
 #[derive(Clone, Copy, Debug, Default, PartialEq, Eq)]
@@ -108,7 +47,7 @@ impl Anchored {
 }
 
 /// A half open range of bytes.
-#[derive(Clone, Copy, Debug, PartialEq, Eq, Hash)]
+#[derive(Clone, Copy, PartialEq, Eq, Hash)]
 pub struct Span {
     /// The place of its first byte.
     pub start: usize,
@@ -161,10 +100,36 @@ impl PartialEq<Range<usize>> for Span {
     }
 }
 
-impl std::ops::Index<Span> for [u8] {
+impl PartialEq<Span> for Range<usize> {
+    fn eq(&self, span: &Span) -> bool {
+        span == self
+    }
+}
+
+impl fmt::Debug for Span {
+    fn fmt(&self, to: &mut fmt::Formatter<'_>) -> fmt::Result {
+        write!(to, "{}..{}", self.start, self.end)
+    }
+}
+
+impl Index<Span> for [u8] {
     type Output = [u8];
 
     fn index(&self, span: Span) -> &[u8] {
+        &self[span.range()]
+    }
+}
+
+impl IndexMut<Span> for [u8] {
+    fn index_mut(&mut self, span: Span) -> &mut [u8] {
+        &mut self[span.range()]
+    }
+}
+
+impl Index<Span> for str {
+    type Output = str;
+
+    fn index(&self, span: Span) -> &str {
         &self[span.range()]
     }
 }
@@ -365,8 +330,8 @@ impl<'h, H: ?Sized + AsRef<[u8]>> From<&'h H> for Input<'h> {
     }
 }
 
-impl std::fmt::Debug for Input<'_> {
-    fn fmt(&self, to: &mut std::fmt::Formatter<'_>) -> std::fmt::Result {
+impl fmt::Debug for Input<'_> {
+    fn fmt(&self, to: &mut fmt::Formatter<'_>) -> fmt::Result {
         to.debug_struct("Input")
             .field("haystack", &String::from_utf8_lossy(self.haystack))
             .field("span", &self.span)

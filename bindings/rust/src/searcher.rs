@@ -1,6 +1,7 @@
 //! The searcher, its builder and its iterators.
-use crate::error::{BuildError, MatchError, MatchErrorKind};
-use crate::library::{Facts, Handle, Stream};
+use crate::error::{BuildError, MatchError};
+use crate::kinds::AhoCorasickKind;
+use crate::library::{Facts, Handle, Stream, Wishes};
 use crate::search::{Anchored, Input, Match, MatchKind, StartKind};
 use crate::shares::{Share, Shares};
 use std::{fmt, sync::Arc};
@@ -12,6 +13,7 @@ pub struct AhoCorasick {
     facts: Facts,
     match_kind: MatchKind,
     start_kind: StartKind,
+    kind: AhoCorasickKind,
 }
 
 /// Builds searchers.
@@ -21,6 +23,7 @@ pub struct AhoCorasickBuilder {
     start_kind: StartKind,
     ascii_case_insensitive: bool,
     prefilter: bool,
+    kind: Option<AhoCorasickKind>,
 }
 
 impl Default for AhoCorasickBuilder {
@@ -33,7 +36,7 @@ impl AhoCorasickBuilder {
     /// Of kind Standard, for unanchored searches, with regard to case, and with a prefilter.
     pub fn new() -> AhoCorasickBuilder {
         let (match_kind, start_kind) = (MatchKind::Standard, StartKind::Unanchored);
-        AhoCorasickBuilder { match_kind, start_kind, ascii_case_insensitive: false, prefilter: true }
+        AhoCorasickBuilder { match_kind, start_kind, ascii_case_insensitive: false, prefilter: true, kind: None }
     }
 
     /// A searcher for the patterns, or why there is none.
@@ -43,10 +46,20 @@ impl AhoCorasickBuilder {
         P: AsRef<[u8]>,
     {
         let patterns: Vec<P> = patterns.into_iter().collect();
-        let mut handle = Handle::build(&patterns, self.match_kind, self.start_kind, self.ascii_case_insensitive, self.prefilter)
-            .map_err(BuildError::of)?;
+        let mut handle = Handle::build(&patterns, &self.wishes()).map_err(BuildError::of)?;
         let facts = handle.facts();
-        Ok(AhoCorasick { shares: Arc::new(Shares::new(handle)), facts, match_kind: self.match_kind, start_kind: self.start_kind })
+        let kind = AhoCorasickKind::told(self.kind, self.start_kind);
+        Ok(AhoCorasick { shares: Arc::new(Shares::new(handle)), facts, match_kind: self.match_kind, start_kind: self.start_kind, kind })
+    }
+
+    fn wishes(&self) -> Wishes {
+        Wishes {
+            match_kind: self.match_kind,
+            start_kind: self.start_kind,
+            ignore_case: self.ascii_case_insensitive,
+            prefilter: self.prefilter,
+            kind: self.kind,
+        }
     }
 
     /// Sets which of several matches is found.
@@ -72,10 +85,26 @@ impl AhoCorasickBuilder {
         self.prefilter = yes;
         self
     }
+
+    /// Sets which automaton is wanted: a hint, on which no answer depends. None lets the library choose.
+    pub fn kind(&mut self, kind: Option<AhoCorasickKind>) -> &mut AhoCorasickBuilder {
+        self.kind = kind;
+        self
+    }
+
+    /// Taken for the Rust crate's sake: the library chooses which states have all transitions side by side.
+    pub fn dense_depth(&mut self, _depth: usize) -> &mut AhoCorasickBuilder {
+        self
+    }
+
+    /// Taken for the Rust crate's sake: the library always tells apart only the bytes that the patterns do.
+    pub fn byte_classes(&mut self, _yes: bool) -> &mut AhoCorasickBuilder {
+        self
+    }
 }
 
 /// What a call without `try_` does with a refusal.
-fn or_panic<T>(answer: Result<T, MatchError>) -> T {
+pub(crate) fn or_panic<T>(answer: Result<T, MatchError>) -> T {
     answer.unwrap_or_else(|error| panic!("{error}; a call that begins with try_ tells this as an error"))
 }
 
@@ -113,12 +142,6 @@ impl AhoCorasick {
     /// The matches, each searched for from the end of the one before. Panics as `find` does.
     pub fn find_iter<'a, 'h, I: Into<Input<'h>>>(&'a self, input: I) -> FindIter<'a, 'h> {
         or_panic(self.try_find_iter(input))
-    }
-
-    /// All matches, those that overlap too: by end, then start, then number. They are searched for at once, and take 24 bytes each.
-    /// Panics where the kind is not Standard, where the searcher was built for anchored searches alone, and for an anchored search.
-    pub fn find_overlapping_iter<'a, 'h, I: Into<Input<'h>>>(&'a self, input: I) -> FindOverlappingIter<'a, 'h> {
-        or_panic(self.try_find_overlapping_iter(input))
     }
 
     /// The text with each match replaced by the piece of its pattern. A match that starts or ends inside a character stays.
@@ -161,23 +184,6 @@ impl AhoCorasick {
         let input = input.into();
         self.refusal(&input)?;
         Ok(FindIter { share: self.shares.share(), input, last_end: None })
-    }
-
-    /// As `find_overlapping_iter`, with an error in place of a panic.
-    pub fn try_find_overlapping_iter<'a, 'h, I: Into<Input<'h>>>(&'a self, input: I) -> Result<FindOverlappingIter<'a, 'h>, MatchError> {
-        let input = input.into();
-        if self.match_kind != MatchKind::Standard {
-            return Err(MatchError::of(MatchErrorKind::UnsupportedOverlapping { got: self.match_kind }));
-        }
-        self.refusal(&input)?;
-        if input.get_anchored() == Anchored::Yes {
-            return Err(MatchError::of(MatchErrorKind::InvalidInputAnchored));
-        }
-        let found = match input.haystack().get(input.get_range()) {
-            Some(haystack) => self.shares.share().with(|handle| handle.overlapping(haystack, input.start())),
-            None => Vec::new(),
-        };
-        Ok(FindOverlappingIter { found: found.into_iter(), of: std::marker::PhantomData })
     }
 
     /// As `replace_all`, with an error in place of a panic where the searcher was not built for such a search.
@@ -236,6 +242,11 @@ impl AhoCorasick {
         Ok(())
     }
 
+    /// Which automaton was asked for, or else is likely to be the one that searches.
+    pub fn kind(&self) -> AhoCorasickKind {
+        self.kind
+    }
+
     /// Which of several matches is found.
     pub fn match_kind(&self) -> MatchKind {
         self.match_kind
@@ -267,22 +278,23 @@ impl AhoCorasick {
     }
 
     /// Refuses what the searcher was not built for.
-    fn refusal(&self, input: &Input<'_>) -> Result<(), MatchError> {
+    pub(crate) fn refusal(&self, input: &Input<'_>) -> Result<(), MatchError> {
         match (self.start_kind, input.get_anchored()) {
-            (StartKind::Unanchored, Anchored::Yes) => Err(MatchError::of(MatchErrorKind::InvalidInputAnchored)),
-            (StartKind::Anchored, Anchored::No) => Err(MatchError::of(MatchErrorKind::InvalidInputUnanchored)),
+            (StartKind::Unanchored, Anchored::Yes) => Err(MatchError::invalid_input_anchored()),
+            (StartKind::Anchored, Anchored::No) => Err(MatchError::invalid_input_unanchored()),
             _ => Ok(()),
         }
     }
 
-    /// A stream, if streams are searched for these patterns.
-    pub(crate) fn stream(&self) -> Result<Stream, MatchError> {
-        if self.min_pattern_len() == 0 {
-            return Err(MatchError::of(MatchErrorKind::UnsupportedEmpty));
-        }
-        self.refusal(&Input::new(""))?;
+    /// All matches in a part of a haystack, those that overlap too, each moved on by where the part begins.
+    pub(crate) fn overlapping_in(&self, part: &[u8], begin: usize) -> Vec<Match> {
+        self.shares.share().with(|handle| handle.overlapping(part, begin))
+    }
+
+    /// A stream. No pattern is empty, and the searcher answers unanchored searches.
+    pub(crate) fn stream(&self) -> Stream {
         let made = self.shares.share().with(|handle| handle.stream());
-        Ok(made.unwrap_or_else(|_| std::alloc::handle_alloc_error(std::alloc::Layout::new::<[u8; 65536]>())))
+        made.unwrap_or_else(|_| std::alloc::handle_alloc_error(std::alloc::Layout::new::<[u8; 65536]>()))
     }
 
     pub(crate) fn want_one_each(&self, pieces: usize) {
@@ -335,24 +347,5 @@ impl Iterator for FindIter<'_, '_> {
 impl fmt::Debug for FindIter<'_, '_> {
     fn fmt(&self, to: &mut fmt::Formatter<'_>) -> fmt::Result {
         to.debug_struct("FindIter").field("input", &self.input).finish_non_exhaustive()
-    }
-}
-
-/// All matches, those that overlap too.
-#[derive(Debug)]
-pub struct FindOverlappingIter<'a, 'h> {
-    found: std::vec::IntoIter<Match>,
-    of: std::marker::PhantomData<(&'a AhoCorasick, &'h [u8])>,
-}
-
-impl Iterator for FindOverlappingIter<'_, '_> {
-    type Item = Match;
-
-    fn next(&mut self) -> Option<Match> {
-        self.found.next()
-    }
-
-    fn size_hint(&self) -> (usize, Option<usize>) {
-        self.found.size_hint()
     }
 }

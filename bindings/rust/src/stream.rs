@@ -1,8 +1,8 @@
 //! Streams: the matches of what a reader gives, and the same bytes with the matches replaced.
 use crate::error::MatchError;
 use crate::library::{Pieces, Stream};
-use crate::search::Match;
-use crate::searcher::AhoCorasick;
+use crate::search::{Input, Match, MatchKind};
+use crate::searcher::{or_panic, AhoCorasick};
 use std::{
     fmt,
     io::{self, ErrorKind, Read, Write},
@@ -99,15 +99,25 @@ impl<R> fmt::Debug for StreamFindIter<'_, R> {
 }
 
 impl AhoCorasick {
-    /// The matches of what a reader gives, as `find_iter` has those of all its bytes. Panics where a pattern is empty, where the searcher was
-    /// built for anchored searches alone, and where memory runs out.
+    /// Streams of every kind, also of the two leftmost ones, which the calls of the Rust crate's names refuse. It is refused where a pattern
+    /// is empty, and where the searcher was built for anchored searches alone.
+    pub fn streams(&self) -> Result<Streams<'_>, MatchError> {
+        if self.min_pattern_len() == 0 {
+            return Err(MatchError::unsupported_empty());
+        }
+        self.refusal(&Input::new(""))?;
+        Ok(Streams { searcher: self })
+    }
+
+    /// The matches of what a reader gives, as `find_iter` has those of all its bytes. Panics where the kind is not Standard, where a pattern is
+    /// empty, where the searcher was built for anchored searches alone, and where memory runs out.
     pub fn stream_find_iter<R: Read>(&self, rdr: R) -> StreamFindIter<'_, R> {
-        self.try_stream_find_iter(rdr).unwrap_or_else(|error| panic!("{error}; try_stream_find_iter tells this as an error"))
+        or_panic(self.try_stream_find_iter(rdr))
     }
 
     /// As `stream_find_iter`, with an error in place of a panic but where memory runs out.
     pub fn try_stream_find_iter<R: Read>(&self, rdr: R) -> Result<StreamFindIter<'_, R>, MatchError> {
-        Ok(StreamFindIter { source: self.source(rdr)?, of: std::marker::PhantomData })
+        Ok(self.standard_streams()?.find_iter(rdr))
     }
 
     /// Writes what a reader gives, with each match replaced by the piece of its pattern. On failure a beginning of that is written.
@@ -118,8 +128,7 @@ impl AhoCorasick {
         W: Write,
         B: AsRef<[u8]>,
     {
-        let source = self.source(rdr).unwrap_or_else(|error| panic!("{error}; try_stream_replace_all tells this as an error"));
-        self.replace_pieces(source, wtr, replace_with)
+        or_panic(self.standard_streams()).replace_all(rdr, wtr, replace_with)
     }
 
     /// As `stream_replace_all`, but what the searcher refuses is an error too.
@@ -129,8 +138,7 @@ impl AhoCorasick {
         W: Write,
         B: AsRef<[u8]>,
     {
-        let source = self.source(rdr).map_err(|error| io::Error::new(ErrorKind::Other, error))?;
-        self.replace_pieces(source, wtr, replace_with)
+        self.standard_streams().map_err(refused)?.replace_all(rdr, wtr, replace_with)
     }
 
     /// Writes what a reader gives, where for each match the closure is called, which writes what it likes. Panics as `stream_find_iter` does.
@@ -140,8 +148,7 @@ impl AhoCorasick {
         W: Write,
         F: FnMut(&Match, &[u8], &mut W) -> Result<(), io::Error>,
     {
-        let source = self.source(rdr).unwrap_or_else(|error| panic!("{error}; try_stream_replace_all_with tells this as an error"));
-        self.replace_source(source, wtr, replace_with)
+        or_panic(self.standard_streams()).replace_all_with(rdr, wtr, replace_with)
     }
 
     /// As `stream_replace_all_with`, but what the searcher refuses is an error too.
@@ -151,17 +158,62 @@ impl AhoCorasick {
         W: Write,
         F: FnMut(&Match, &[u8], &mut W) -> Result<(), io::Error>,
     {
-        let source = self.source(rdr).map_err(|error| io::Error::new(ErrorKind::Other, error))?;
-        self.replace_source(source, wtr, replace_with)
+        self.standard_streams().map_err(refused)?.replace_all_with(rdr, wtr, replace_with)
     }
 
-    fn source<R: Read>(&self, reader: R) -> Result<Source<R>, MatchError> {
-        let stream = self.stream()?;
-        Ok(Source { reader, stream, chunk: vec![0; CHUNK], left: 0..0, has_ended: false })
+    /// Streams as the Rust crate has them: of the standard kind alone.
+    fn standard_streams(&self) -> Result<Streams<'_>, MatchError> {
+        if self.match_kind() != MatchKind::Standard {
+            return Err(MatchError::unsupported_stream(self.match_kind()));
+        }
+        self.streams()
+    }
+}
+
+/// What the searcher refuses, as an error of a device.
+fn refused(error: MatchError) -> io::Error {
+    io::Error::new(ErrorKind::Other, error)
+}
+
+/// The streams of a searcher, of any kind.
+#[derive(Clone, Copy, Debug)]
+pub struct Streams<'a> {
+    searcher: &'a AhoCorasick,
+}
+
+impl<'a> Streams<'a> {
+    /// The matches of what a reader gives, as `find_iter` has those of all its bytes. Panics where memory runs out.
+    pub fn find_iter<R: Read>(&self, rdr: R) -> StreamFindIter<'a, R> {
+        StreamFindIter { source: self.source(rdr), of: std::marker::PhantomData }
+    }
+
+    /// Writes what a reader gives, with each match replaced by the piece of its pattern. On failure a beginning of that is written.
+    /// Panics where there is not one piece for each pattern, and where memory runs out.
+    pub fn replace_all<R, W, B>(&self, rdr: R, wtr: W, replace_with: &[B]) -> Result<(), io::Error>
+    where
+        R: Read,
+        W: Write,
+        B: AsRef<[u8]>,
+    {
+        self.replace_pieces(self.source(rdr), wtr, replace_with)
+    }
+
+    /// Writes what a reader gives, where for each match the closure is called, which writes what it likes. Panics where memory runs out.
+    pub fn replace_all_with<R, W, F>(&self, rdr: R, wtr: W, replace_with: F) -> Result<(), io::Error>
+    where
+        R: Read,
+        W: Write,
+        F: FnMut(&Match, &[u8], &mut W) -> Result<(), io::Error>,
+    {
+        self.replace_source(self.source(rdr), wtr, replace_with)
+    }
+
+    fn source<R: Read>(&self, reader: R) -> Source<R> {
+        Source { reader, stream: self.searcher.stream(), chunk: vec![0; CHUNK], left: 0..0, has_ended: false }
     }
 
     fn replace_pieces<R: Read, W: Write, B: AsRef<[u8]>>(&self, mut source: Source<R>, mut wtr: W, replace_with: &[B]) -> io::Result<()> {
-        self.want_one_each(replace_with.len());
+        self.searcher.want_one_each(replace_with.len());
         let (pieces, mut room) = (Pieces::of(replace_with), vec![0; CHUNK]);
         loop {
             while let Some(len) = source.stream.replace(&pieces, &mut room) {
@@ -192,7 +244,7 @@ impl AhoCorasick {
                 }
                 Next::Pushed(bytes) => {
                     // A match that is not told yet begins among the last bytes, as many as the longest pattern has.
-                    let settled = gone.max(kept.len().saturating_sub(self.max_pattern_len()));
+                    let settled = gone.max(kept.len().saturating_sub(self.searcher.max_pattern_len()));
                     wtr.write_all(&kept[gone..settled])?;
                     kept.drain(..settled);
                     kept_from += settled;

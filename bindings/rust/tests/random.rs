@@ -1,5 +1,5 @@
 //! Random calls beside a plain search, which looks at each place.
-use chromesquid::{AhoCorasick, Anchored, Input, MatchKind, StartKind};
+use chromesquid::{automaton::OverlappingState, AhoCorasick, Anchored, Input, MatchKind, StartKind};
 use MatchKind::{LeftmostFirst, LeftmostLongest, Standard};
 
 struct Dice(u64);
@@ -112,9 +112,9 @@ fn compare(dice: &mut Dice, letters: &[u8], most: usize) {
         let found: Vec<_> = searcher.find_iter(input).map(|it| (it.pattern().as_usize(), it.start(), it.end())).collect();
         assert_eq!(found, plain.finds(&haystack, start, end, anchored, earliest), "{case}");
         if plain.kind == Standard {
-            let input = Input::new(&haystack).range(start..end);
+            let input = Input::new(&haystack).range(start..end).anchored(mode);
             let listed: Vec<_> = searcher.find_overlapping_iter(input).map(|it| (it.pattern().as_usize(), it.start(), it.end())).collect();
-            assert_eq!(listed, plain.occurrences(&haystack, start, end, false), "{case}");
+            assert_eq!(listed, plain.occurrences(&haystack, start, end, anchored), "{case}");
         }
     }
     let pieces: Vec<_> = patterns.iter().map(|_| dice.bytes(letters, 5)).collect();
@@ -154,12 +154,13 @@ fn random_streams() {
             .build(&patterns)
             .unwrap();
         let wanted = plain.finds(&haystack, 0, haystack.len(), false, false);
-        let found: Vec<_> = searcher.stream_find_iter(Pieces(&haystack, &mut dice)).map(|it| it.unwrap()).collect();
+        let streams = searcher.streams().unwrap();
+        let found: Vec<_> = streams.find_iter(Pieces(&haystack, &mut dice)).map(|it| it.unwrap()).collect();
         let found: Vec<_> = found.iter().map(|it| (it.pattern().as_usize(), it.start(), it.end())).collect();
         assert_eq!(found, wanted, "{patterns:?} {haystack:?} {:?}", plain.kind);
         let pieces: Vec<_> = patterns.iter().map(|_| dice.bytes(b"xy", 5)).collect();
         let mut written = vec![];
-        searcher.stream_replace_all(Pieces(&haystack, &mut dice), &mut written, &pieces).unwrap();
+        streams.replace_all(Pieces(&haystack, &mut dice), &mut written, &pieces).unwrap();
         assert_eq!(written, replaced(&haystack, &wanted, &pieces), "{patterns:?} {haystack:?} {:?}", plain.kind);
     }
 }
@@ -170,9 +171,9 @@ fn long_streams() {
     for kind in [Standard, LeftmostFirst, LeftmostLongest] {
         let searcher = AhoCorasick::builder().match_kind(kind).build(["frodo", "sam", "and sa"]).unwrap();
         let mut written = vec![];
-        searcher.stream_replace_all(text.as_bytes(), &mut written, &["F", "S", "AS"]).unwrap();
+        searcher.streams().unwrap().replace_all(text.as_bytes(), &mut written, &["F", "S", "AS"]).unwrap();
         assert!(written == searcher.replace_all_bytes(text.as_bytes(), &["F", "S", "AS"]));
-        let found: Vec<_> = searcher.stream_find_iter(text.as_bytes()).map(|it| it.unwrap()).collect();
+        let found: Vec<_> = searcher.streams().unwrap().find_iter(text.as_bytes()).map(|it| it.unwrap()).collect();
         assert!(found.into_iter().eq(searcher.find_iter(&text)));
     }
 }
@@ -190,5 +191,28 @@ fn random_calls_on_all_kinds_of_bytes() {
     let mut dice = Dice(61621);
     for _ in 0..6_000 {
         compare(&mut dice, b"aAbB\0\xC3\xA9\xFFz", 40);
+    }
+}
+
+#[test]
+fn overlapping_matches_across_parts() {
+    let mut dice = Dice(991);
+    for _ in 0..150 {
+        let patterns: Vec<_> = (0..1 + dice.below(8)).map(|_| dice.bytes(b"ab", 40)).collect();
+        let haystack: Vec<u8> = (0..dice.below(3_000)).map(|_| b"aaab"[dice.below(4)]).collect();
+        let plain = Plain { patterns: &patterns, kind: Standard, ignore_case: false };
+        let searcher = AhoCorasick::new(&patterns).unwrap();
+        let start = dice.below(haystack.len() + 1);
+        let end = start + dice.below(haystack.len() - start + 1);
+        let input = Input::new(&haystack).range(start..end);
+        let (mut state, mut found) = (OverlappingState::start(), vec![]);
+        while let Some(it) = {
+            searcher.find_overlapping(input.clone(), &mut state);
+            state.get_match()
+        } {
+            found.push((it.pattern().as_usize(), it.start(), it.end()));
+        }
+        assert_eq!(found, plain.occurrences(&haystack, start, end, false), "{patterns:?}");
+        assert!(searcher.find_overlapping_iter(input).count() == found.len());
     }
 }

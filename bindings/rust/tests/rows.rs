@@ -1,5 +1,5 @@
 //! The worked examples of docs/RULES.md, and what is refused.
-use chromesquid::{AhoCorasick, Anchored, Input, Match, MatchErrorKind, MatchKind, PatternID, Span, StartKind};
+use chromesquid::{AhoCorasick, Anchored, Input, Match, MatchError, MatchErrorKind, MatchKind, PatternID, Span, StartKind};
 use std::panic::{catch_unwind, AssertUnwindSafe};
 use MatchKind::{LeftmostFirst, LeftmostLongest, Standard};
 
@@ -121,7 +121,7 @@ fn what_is_refused() {
     assert_eq!(anchored.try_find_overlapping_iter("a").unwrap_err().kind(), &MatchErrorKind::InvalidInputUnanchored);
     let overlapping = unanchored.try_find_overlapping_iter("a").unwrap_err();
     assert_eq!(overlapping.kind(), &MatchErrorKind::UnsupportedOverlapping { got: LeftmostFirst });
-    assert_eq!(overlapping.to_string(), "overlapping matches are those of kind Standard, and not of LeftmostFirst");
+    assert_eq!(overlapping.to_string(), "match kind LeftmostFirst does not support overlapping searches");
     assert_eq!(found(&anchored, anchored_input()), [(0, 0, 1)]);
     assert!(anchored.is_match(anchored_input()) && !anchored.is_match(Input::new("ba").anchored(Anchored::Yes)));
     assert!(catch_unwind(|| anchored.is_match("a")).is_err());
@@ -163,12 +163,16 @@ fn streams_that_fail() {
             }
         }
     }
-    let words = searcher(LeftmostFirst, &["ab"]);
+    let words = searcher(Standard, &["ab"]);
     let mut written = vec![];
     assert_eq!(words.stream_replace_all(Fails(0), &mut written, &["-"]).unwrap_err().to_string(), "gone");
     assert!(b"xx-xx".starts_with(&written[..]) && written.len() >= 3);
     let told: Vec<_> = words.stream_find_iter(Fails(0)).take(2).map(|it| it.map_err(|error| error.to_string())).collect();
     assert_eq!(told, [Ok(Match::must(0, 2..4)), Err("gone".to_string())]);
+    let leftmost = searcher(LeftmostFirst, &["ab"]);
+    assert_eq!(leftmost.try_stream_find_iter(Fails(0)).unwrap_err(), MatchError::unsupported_stream(LeftmostFirst));
+    let text = leftmost.try_stream_replace_all(Fails(0), vec![], &["-"]).unwrap_err().to_string();
+    assert_eq!(text, "match kind LeftmostFirst does not support stream searching");
     let empty = searcher(Standard, &["", "a"]);
     assert_eq!(empty.try_stream_find_iter(&b"a"[..]).unwrap_err().kind(), &MatchErrorKind::UnsupportedEmpty);
     assert!(empty.try_stream_replace_all(&b"a"[..], vec![], &["", "b"]).is_err());

@@ -1,0 +1,124 @@
+//! All matches, those that overlap too: a part of the haystack at a time.
+use crate::error::MatchError;
+use crate::search::{Anchored, Input, Match, MatchKind};
+use crate::searcher::{or_panic, AhoCorasick};
+use std::iter::FusedIterator;
+
+/// How many bytes a part has at first, and at most.
+const LEAST: usize = 256;
+const MOST: usize = 1 << 20;
+/// How many matches a part is to give: where there are more the next one is shorter.
+const WANTED: usize = 2048;
+
+/// How far an overlapping search has come. Between two calls its input stays the same.
+#[derive(Clone, Debug)]
+pub struct OverlappingState {
+    found: Option<Match>,
+    /// Matches that come next, the last one first.
+    ready: Vec<Match>,
+    /// Where the last part ended: all matches that end there or before are told or ready.
+    searched_to: Option<usize>,
+    part: usize,
+}
+
+impl OverlappingState {
+    /// The state of a search that has not begun.
+    pub fn start() -> OverlappingState {
+        OverlappingState { found: None, ready: Vec::new(), searched_to: None, part: LEAST }
+    }
+
+    /// The match that the last call found.
+    pub fn get_match(&self) -> Option<Match> {
+        self.found
+    }
+}
+
+impl AhoCorasick {
+    /// Puts the next of all matches into the state, those that overlap too, or that there is none: by end, then start, then number.
+    /// Panics where the kind is not Standard, and where the searcher was not built for such a search.
+    pub fn find_overlapping<'h, I: Into<Input<'h>>>(&self, input: I, state: &mut OverlappingState) {
+        or_panic(self.try_find_overlapping(input, state))
+    }
+
+    /// As `find_overlapping`, with an error in place of a panic; then the state is as it was.
+    pub fn try_find_overlapping<'h, I: Into<Input<'h>>>(&self, input: I, state: &mut OverlappingState) -> Result<(), MatchError> {
+        let input = input.into();
+        self.overlapping_refusal(&input)?;
+        self.next_overlapping(&input, state);
+        Ok(())
+    }
+
+    /// All matches, those that overlap too: by end, then start, then number. They are searched for a part of the haystack at a time.
+    /// Panics where the kind is not Standard, and where the searcher was not built for such a search.
+    pub fn find_overlapping_iter<'a, 'h, I: Into<Input<'h>>>(&'a self, input: I) -> FindOverlappingIter<'a, 'h> {
+        or_panic(self.try_find_overlapping_iter(input))
+    }
+
+    /// As `find_overlapping_iter`, with an error in place of a panic.
+    pub fn try_find_overlapping_iter<'a, 'h, I: Into<Input<'h>>>(&'a self, input: I) -> Result<FindOverlappingIter<'a, 'h>, MatchError> {
+        let input = input.into();
+        self.overlapping_refusal(&input)?;
+        Ok(FindOverlappingIter { searcher: self, input, state: OverlappingState::start() })
+    }
+
+    /// Refuses what is not answered: other kinds, what the searcher was not built for, and searches of one that is anchored alone.
+    fn overlapping_refusal(&self, input: &Input<'_>) -> Result<(), MatchError> {
+        if self.match_kind() != MatchKind::Standard {
+            return Err(MatchError::unsupported_overlapping(self.match_kind()));
+        }
+        self.refusal(input)?;
+        // The library lists what overlaps by unanchored searches.
+        self.refusal(&Input::new("")).map_err(|_| MatchError::invalid_input_anchored())
+    }
+
+    fn next_overlapping(&self, input: &Input<'_>, state: &mut OverlappingState) {
+        while state.ready.is_empty() && self.search_part(input, state) {}
+        state.found = state.ready.pop();
+    }
+
+    /// Gets the matches that end in the next part of the span, and answers whether there was one.
+    fn search_part(&self, input: &Input<'_>, state: &mut OverlappingState) -> bool {
+        let from = state.searched_to.unwrap_or(input.start());
+        let last = match input.get_anchored() {
+            Anchored::No => input.end(),
+            // What starts where the span does ends no later.
+            Anchored::Yes => input.end().min(input.start().saturating_add(self.max_pattern_len())),
+        };
+        if input.is_done() || state.searched_to.map_or(false, |at| at >= last) {
+            return false;
+        }
+        let part = state.part.max(self.max_pattern_len());
+        let to = last.min(from.saturating_add(part));
+        // What ends behind `from` starts no more than the longest pattern before its end.
+        let begin = input.start().max((from + 1).saturating_sub(self.max_pattern_len())).min(from);
+        let mut found = self.overlapping_in(&input.haystack()[begin..to], begin);
+        found.retain(|it| state.searched_to.map_or(true, |at| it.end() > at));
+        if input.get_anchored() == Anchored::Yes {
+            found.retain(|it| it.start() == input.start());
+        }
+        state.part = if found.len() > WANTED { (part / 2).max(LEAST) } else { (part * 2).min(MOST) };
+        found.reverse();
+        state.ready = found;
+        state.searched_to = Some(to);
+        true
+    }
+}
+
+/// All matches, those that overlap too.
+#[derive(Debug)]
+pub struct FindOverlappingIter<'a, 'h> {
+    searcher: &'a AhoCorasick,
+    input: Input<'h>,
+    state: OverlappingState,
+}
+
+impl Iterator for FindOverlappingIter<'_, '_> {
+    type Item = Match;
+
+    fn next(&mut self) -> Option<Match> {
+        self.searcher.next_overlapping(&self.input, &mut self.state);
+        self.state.get_match()
+    }
+}
+
+impl FusedIterator for FindOverlappingIter<'_, '_> {}

@@ -1,0 +1,253 @@
+//! Calls as programs for the Rust crate make them.
+use chromesquid::{
+    automaton::{OverlappingState, StateID},
+    packed, AhoCorasick, AhoCorasickBuilder, AhoCorasickKind, Anchored, Input, Match, MatchError, MatchErrorKind, MatchKind, PatternID,
+    Span, StartKind,
+};
+
+/// A set of globs keeps, for each literal, the places of the globs that it belongs to.
+struct LiteralSet {
+    searcher: AhoCorasick,
+    globs: Vec<usize>,
+    longest: usize,
+}
+
+impl LiteralSet {
+    fn new(literals: &[(&str, usize)]) -> Self {
+        let searcher = AhoCorasick::builder()
+            .start_kind(StartKind::Both)
+            .kind(Some(AhoCorasickKind::ContiguousNFA))
+            .build(literals.iter().map(|it| it.0))
+            .unwrap();
+        let longest = searcher.max_pattern_len();
+        LiteralSet { searcher, globs: literals.iter().map(|it| it.1).collect(), longest }
+    }
+
+    fn matches_into(&self, path: &[u8], matches: &mut Vec<usize>) {
+        for m in self.searcher.find_overlapping_iter(&path[..path.len().min(self.longest)]) {
+            if m.start() == 0 {
+                matches.push(self.globs[m.pattern()]);
+            }
+        }
+    }
+}
+
+#[test]
+fn slices_by_numbers_of_patterns() {
+    let set = LiteralSet::new(&[("src/", 4), ("src", 7), ("lib", 2)]);
+    let mut matches = vec![];
+    set.matches_into(b"src/lib.rs", &mut matches);
+    assert_eq!(matches, [7, 4]);
+    let mut counts = vec![0; 3];
+    let searcher = AhoCorasick::new(["a", "b", "c"]).unwrap();
+    for m in searcher.find_iter("abacab") {
+        counts[m.pattern()] += 1;
+    }
+    assert_eq!(counts, [3, 2, 1]);
+    let names: &[&str] = &["one", "two", "three"];
+    assert_eq!(searcher.find("c").map(|m| names[m.pattern()]), Some("three"));
+}
+
+/// A regex engine asks a prefilter for the next span in which a literal stands.
+trait Prefilter {
+    fn find(&self, haystack: &[u8], span: Span) -> Option<Span>;
+    fn prefix(&self, haystack: &[u8], span: Span) -> Option<Span>;
+    fn memory_usage(&self) -> usize;
+}
+
+struct ByAutomaton(AhoCorasick);
+
+impl Prefilter for ByAutomaton {
+    fn find(&self, haystack: &[u8], span: Span) -> Option<Span> {
+        let input = Input::new(haystack).span(span.start..span.end);
+        self.0.find(input).map(|m| Span { start: m.start(), end: m.end() })
+    }
+
+    fn prefix(&self, haystack: &[u8], span: Span) -> Option<Span> {
+        let input = Input::new(haystack).anchored(Anchored::Yes).span(span.start..span.end);
+        self.0.find(input).map(|m| Span { start: m.start(), end: m.end() })
+    }
+
+    fn memory_usage(&self) -> usize {
+        self.0.memory_usage()
+    }
+}
+
+struct ByPacked {
+    searcher: packed::Searcher,
+    anchored: AhoCorasick,
+    minimum_len: usize,
+}
+
+impl Prefilter for ByPacked {
+    fn find(&self, haystack: &[u8], span: Span) -> Option<Span> {
+        let ac_span = Span { start: span.start, end: span.end };
+        self.searcher.find_in(haystack, ac_span).map(|m| Span { start: m.start(), end: m.end() })
+    }
+
+    fn prefix(&self, haystack: &[u8], span: Span) -> Option<Span> {
+        let input = Input::new(haystack).anchored(Anchored::Yes).span(span.start..span.end);
+        self.anchored.find(input).map(|m| Span { start: m.start(), end: m.end() })
+    }
+
+    fn memory_usage(&self) -> usize {
+        self.searcher.memory_usage() + self.anchored.memory_usage() + self.minimum_len
+    }
+}
+
+#[test]
+fn prefilters_of_a_regex_engine() {
+    let needles = ["foobar", "foo", "quux"];
+    let automaton = AhoCorasick::builder()
+        .match_kind(MatchKind::LeftmostFirst)
+        .start_kind(StartKind::Both)
+        .kind(if needles.len() <= 500 { Some(AhoCorasickKind::DFA) } else { None })
+        .prefilter(false)
+        .build(needles)
+        .unwrap();
+    let searcher = packed::Config::new().match_kind(packed::MatchKind::LeftmostFirst).builder().extend(needles).build().unwrap();
+    let anchored = AhoCorasick::builder()
+        .match_kind(MatchKind::LeftmostFirst)
+        .start_kind(StartKind::Anchored)
+        .kind(Some(AhoCorasickKind::DFA))
+        .prefilter(false)
+        .build(needles)
+        .unwrap();
+    let minimum_len = searcher.minimum_len();
+    let both: [Box<dyn Prefilter>; 2] = [Box::new(ByAutomaton(automaton)), Box::new(ByPacked { searcher, anchored, minimum_len })];
+    for prefilter in both {
+        let text = b"a foobar, a quux, a foo";
+        assert_eq!(prefilter.find(text, Span { start: 0, end: text.len() }), Some(Span { start: 2, end: 8 }));
+        assert_eq!(prefilter.find(text, Span { start: 3, end: text.len() }), Some(Span { start: 12, end: 16 }));
+        assert_eq!(prefilter.find(text, Span { start: 17, end: 22 }), None);
+        assert_eq!(prefilter.prefix(text, Span { start: 2, end: text.len() }), Some(Span { start: 2, end: 8 }));
+        assert_eq!(prefilter.prefix(text, Span { start: 1, end: text.len() }), None);
+        assert!(prefilter.memory_usage() > 0);
+    }
+}
+
+/// A tokenizer cuts its input at special tokens, the longest first.
+#[test]
+fn a_tokenizer() {
+    let tokens = ["<s>", "</s>", "<mask>", "<mask>s"];
+    let ids = vec![10_u32, 11, 12, 13];
+    let trie = AhoCorasickBuilder::new().match_kind(MatchKind::LeftmostLongest).build(tokens.iter().map(|it| it.as_bytes())).unwrap();
+    let sentence = "<s>a <mask>s b</s>";
+    let mut splits = vec![];
+    let mut offset = 0;
+    for mat in trie.find_iter(sentence) {
+        if offset < mat.start() {
+            splits.push((None, &sentence[offset..mat.start()]));
+        }
+        splits.push((Some(ids[mat.pattern()]), &sentence[mat.span()]));
+        offset = mat.end();
+    }
+    assert_eq!(splits, [(Some(10), "<s>"), (None, "a "), (Some(13), "<mask>s"), (None, " b"), (Some(11), "</s>")]);
+}
+
+/// Editors and linters ask whether there is a keyword at all, in any case, and where.
+#[test]
+fn keywords_of_a_linter() {
+    let markers = AhoCorasick::builder().ascii_case_insensitive(true).build(["todo", "fixme", "xxx"]).unwrap();
+    assert!(markers.is_match("# ToDo: later") && !markers.is_match("# done"));
+    let ranges: Vec<std::ops::Range<usize>> = markers.find_iter("XXX fixme").map(|m| m.range()).collect();
+    assert_eq!(ranges, [0..3, 4..9]);
+    let escaped = AhoCorasick::new(["&", "<", ">"]).unwrap().replace_all("a<b & c>d", &["&amp;", "&lt;", "&gt;"]);
+    assert_eq!(escaped, "a&lt;b &amp; c&gt;d");
+    let input = Input::from("xx todo").range(..4);
+    assert_eq!(markers.try_find(input), Ok(None));
+}
+
+#[test]
+fn spans() {
+    let (span, text) = (Span::from(1..3), "abcd");
+    let mut bytes = *b"abcd";
+    bytes[span][0] = b'X';
+    assert_eq!((&bytes[span], &text[span]), (&b"Xc"[..], "bc"));
+    assert!(span == (1..3) && (1..3) == span && span != (1..2));
+    assert_eq!(format!("{span:?} {:?}", Match::must(0, span)), "1..3 Match { pattern: PatternID(0), span: 1..3 }");
+}
+
+#[test]
+fn numbers() {
+    assert_eq!((PatternID::ZERO.as_usize(), PatternID::MAX.as_u32(), PatternID::LIMIT, PatternID::SIZE), (0, 2147483646, 2147483647, 4));
+    assert_eq!(PatternID::try_from(7_u16).unwrap(), PatternID::new_unchecked(7));
+    assert_eq!(PatternID::try_from(7_u32).unwrap().one_more(), 8);
+    assert_eq!(PatternID::from(7_u8).as_i32(), 7);
+    let above = PatternID::try_from(2147483647_u64).unwrap_err();
+    assert_eq!(above.attempted(), 2147483647);
+    assert_eq!(above.to_string(), "failed to create PatternID from 2147483647, which exceeds PatternID(2147483646)");
+    assert_eq!(StateID::from_ne_bytes(StateID::must(9).to_ne_bytes()), Ok(StateID::must(9)));
+    assert!(PatternID::from_ne_bytes([255; 4]).is_err());
+    assert!(std::panic::catch_unwind(|| PatternID::must(usize::MAX)).is_err());
+}
+
+#[test]
+fn errors() {
+    for (error, kind, text) in [
+        (MatchError::invalid_input_anchored(), MatchErrorKind::InvalidInputAnchored, "anchored searches are not supported or enabled"),
+        (
+            MatchError::invalid_input_unanchored(),
+            MatchErrorKind::InvalidInputUnanchored,
+            "unanchored searches are not supported or enabled",
+        ),
+        (
+            MatchError::unsupported_stream(MatchKind::LeftmostLongest),
+            MatchErrorKind::UnsupportedStream { got: MatchKind::LeftmostLongest },
+            "match kind LeftmostLongest does not support stream searching",
+        ),
+        (
+            MatchError::unsupported_overlapping(MatchKind::LeftmostFirst),
+            MatchErrorKind::UnsupportedOverlapping { got: MatchKind::LeftmostFirst },
+            "match kind LeftmostFirst does not support overlapping searches",
+        ),
+        (
+            MatchError::unsupported_empty(),
+            MatchErrorKind::UnsupportedEmpty,
+            "matching with an empty pattern string is not supported for this operation",
+        ),
+    ] {
+        assert_eq!((error.kind(), error.to_string().as_str()), (&kind, text));
+        assert_eq!(error, MatchError::new(kind));
+    }
+}
+
+#[test]
+fn hints() {
+    for kind in [None, Some(AhoCorasickKind::NoncontiguousNFA), Some(AhoCorasickKind::ContiguousNFA), Some(AhoCorasickKind::DFA)] {
+        for start in [StartKind::Unanchored, StartKind::Both] {
+            let searcher = AhoCorasick::builder().kind(kind).start_kind(start).dense_depth(3).byte_classes(false).build(["ab"]).unwrap();
+            assert_eq!(searcher.find("xab"), Some(Match::must(0, 1..3)));
+            assert!(kind.is_none() || kind == Some(searcher.kind()));
+        }
+    }
+}
+
+#[test]
+fn a_few_patterns() {
+    assert!(packed::Searcher::new(["a", ""]).is_none() && packed::Searcher::new(Vec::<&str>::new()).is_none());
+    let many: Vec<_> = (0..129).map(|it| format!("p{it}")).collect();
+    assert!(packed::Searcher::new(&many).is_none());
+    assert!(packed::Config::new().heuristic_pattern_limits(false).builder().extend(&many).build().is_some());
+    let searcher = packed::Searcher::new(["ab", "abc"]).unwrap();
+    assert_eq!(searcher.find_in("xabc", Span { start: 2, end: 4 }), None);
+    assert_eq!((searcher.match_kind(), packed::Builder::new().add("ab").add("c").minimum_len()), (&packed::MatchKind::LeftmostFirst, 1));
+}
+
+#[test]
+fn the_state_of_an_overlapping_search() {
+    let searcher = AhoCorasick::new(["append", "appendage", "app"]).unwrap();
+    let mut state = OverlappingState::start();
+    let mut found = vec![];
+    loop {
+        searcher.find_overlapping("append the app to the appendage", &mut state);
+        match state.get_match() {
+            Some(it) => found.push(it),
+            None => break,
+        }
+    }
+    assert_eq!(found.len(), 6);
+    assert_eq!(found[5], Match::must(1, 22..31));
+    let leftmost = AhoCorasick::builder().match_kind(MatchKind::LeftmostFirst).build(["a"]).unwrap();
+    assert!(leftmost.try_find_overlapping("a", &mut OverlappingState::start()).is_err());
+}
