@@ -1,4 +1,4 @@
-# The completion of acgrep for bash: its options, the values of those that have some, and names of files.
+# The completion of acgrep for bash: its options, the values of those that have some, and names of files. bin/completions writes this.
 _acgrep() {
     local word=${COMP_WORDS[COMP_CWORD]} option=${COMP_WORDS[COMP_CWORD - 1]} words="" joined=""
     # bash takes `--kind=first` for three words.
@@ -10,9 +10,9 @@ _acgrep() {
     case $option in
     --kind) words='first longest standard' ;;
     --color) [[ ! $joined ]] || words='always auto never' ;;
-    -e | --regexp | -m | --max-count | -[ABC] | --after-context | --before-context | --context | --offset | --first-line | --group-separator | --label | --format | --include | --exclude | --exclude-dir) return ;;
+    -e | --regexp | -m | --max-count | --format | --offset | --first-line | --label | -A | --after-context | -B | --before-context | -C | --context | --group-separator | --include | --exclude | --exclude-dir) return ;;
     esac
-    [[ $words || $word != -* ]] || words='-e -f -i --no-ignore-case -v -w -x --kind -m -c -l -L -q -o --json --format --counts -n -b --offset --first-line -H -h --label -Z -z -T -A -B -C --group-separator --no-group-separator --color -r -R --include --exclude --exclude-dir -s --no-match-ok -a -F -- --help -V'
+    [[ $words || $word != -* ]] || words='-e --regexp -f --file -i -y --ignore-case --no-ignore-case -v --invert-match -w --word-regexp -x --line-regexp --kind -m --max-count -c --count -l --files-with-matches -L --files-without-match -q --quiet --silent -o --only-matching --json --format --counts -n --line-number -b --byte-offset --offset --first-line -H --with-filename -h --no-filename --label -Z --null -z --null-data -T --initial-tab -A --after-context -B --before-context -C --context --group-separator --no-group-separator --color -r --recursive -R --dereference-recursive --include --exclude --exclude-dir -s --no-messages --no-match-ok -a --text -F -U --fixed-strings --binary --line-buffered --help -V --version --'
     mapfile -t COMPREPLY < <(compgen -W "$words" -- "$word")
 }
 complete -o default -F _acgrep acgrep
