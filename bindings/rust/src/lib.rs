@@ -25,14 +25,16 @@
 mod error;
 #[allow(unsafe_code)]
 mod library;
+mod overlapping;
 mod search;
 mod searcher;
 mod shares;
 mod stream;
 
 pub use error::{BuildError, MatchError, MatchErrorKind, PatternIDError};
+pub use overlapping::FindOverlappingIter;
 pub use search::{Anchored, Input, Match, MatchKind, PatternID, Span, StartKind};
-pub use searcher::{AhoCorasick, AhoCorasickBuilder, FindIter, FindOverlappingIter};
+pub use searcher::{AhoCorasick, AhoCorasickBuilder, FindIter};
 pub use stream::StreamFindIter;
 
 /// The version of the library: 102 is 0.1.2.

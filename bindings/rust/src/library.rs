@@ -116,6 +116,43 @@ fn match_of(found: CsMatch, offset: usize) -> Match {
     Match::new(PatternID::of(found.pattern), offset + found.start..offset + found.end)
 }
 
+/// Matches that the library wrote, and the room that it may write into.
+pub(crate) struct Written {
+    room: Vec<CsMatch>,
+    len: usize,
+}
+
+impl Written {
+    /// None, and room for so many.
+    pub(crate) fn with_room(most: usize) -> Written {
+        Written { room: vec![CsMatch::default(); most], len: 0 }
+    }
+
+    /// Makes the room twice as large.
+    pub(crate) fn grow(&mut self) {
+        self.room.resize(2 * self.room.len(), CsMatch::default());
+    }
+
+    pub(crate) fn room(&self) -> usize {
+        self.room.len()
+    }
+
+    /// The ends of all that were written.
+    pub(crate) fn ends(&self) -> impl DoubleEndedIterator<Item = usize> + '_ {
+        self.room[..self.len].iter().map(|found| found.end)
+    }
+
+    /// How many of them end at this place or before.
+    pub(crate) fn up_to(&self, place: usize) -> usize {
+        self.room[..self.len].partition_point(|found| found.end <= place)
+    }
+
+    /// One of them, moved on by the offset.
+    pub(crate) fn get(&self, index: usize, offset: usize) -> Match {
+        match_of(self.room[index], offset)
+    }
+}
+
 /// The text of a build's error.
 fn text_of(error: &CsError) -> String {
     let (mut room, mut len) = ([0; 256], 0);
@@ -208,21 +245,15 @@ impl Handle {
         (status == FOUND).then(|| match_of(found, 0))
     }
 
-    /// All matches of the haystack, those that overlap too, each moved on by the offset. The searcher is of kind Standard and answers
-    /// unanchored searches.
-    pub(crate) fn overlapping(&mut self, haystack: &[u8], offset: usize) -> Vec<Match> {
-        let mut room = vec![CsMatch::default(); 64 + haystack.len() / 256];
-        loop {
-            let mut count = 0;
-            // SAFETY: the room has as many places as is said, and they are written.
-            let status =
-                unsafe { cs_overlapping(&mut self.0, haystack.as_ptr(), haystack.len(), room.as_mut_ptr(), room.len(), &mut count) };
-            assert_eq!(status, DONE, "the library answered {status} to an overlapping search");
-            if count <= room.len() {
-                return room[..count].iter().map(|&found| match_of(found, offset)).collect();
-            }
-            room = vec![CsMatch::default(); count];
-        }
+    /// Writes the first matches of the haystack, those that overlap too, as many as the room holds, and answers whether these are all. The
+    /// searcher is of kind Standard and answers unanchored searches.
+    pub(crate) fn overlapping(&mut self, haystack: &[u8], to: &mut Written) -> bool {
+        let (room, mut count) = (&mut to.room, 0);
+        // SAFETY: the room has as many places as is said, and they are written.
+        let status = unsafe { cs_overlapping(&mut self.0, haystack.as_ptr(), haystack.len(), room.as_mut_ptr(), room.len(), &mut count) };
+        assert_eq!(status, DONE, "the library answered {status} to an overlapping search");
+        to.len = count.min(room.len());
+        to.len == count
     }
 
     /// The haystack with each match replaced, or none where memory ran out. There is one piece for each pattern, and the searcher

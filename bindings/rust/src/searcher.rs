@@ -1,6 +1,7 @@
 //! The searcher, its builder and its iterators.
 use crate::error::{BuildError, MatchError, MatchErrorKind};
 use crate::library::{Facts, Handle, Stream};
+use crate::overlapping::FindOverlappingIter;
 use crate::search::{Anchored, Input, Match, MatchKind, StartKind};
 use crate::shares::{Share, Shares};
 use std::{fmt, sync::Arc};
@@ -115,8 +116,8 @@ impl AhoCorasick {
         or_panic(self.try_find_iter(input))
     }
 
-    /// All matches, those that overlap too: by end, then start, then number. They are searched for at once, and take 24 bytes each.
-    /// Panics where the kind is not Standard, where the searcher was built for anchored searches alone, and for an anchored search.
+    /// All matches, those that overlap too: by end, then start, then number. They are searched for as they are asked for, some at a time:
+    /// those that end in a few times as many bytes as the longest pattern has are held at once, 24 bytes for each. Panics where the kind is not Standard, where the searcher was built for anchored searches alone, and for an anchored search.
     pub fn find_overlapping_iter<'a, 'h, I: Into<Input<'h>>>(&'a self, input: I) -> FindOverlappingIter<'a, 'h> {
         or_panic(self.try_find_overlapping_iter(input))
     }
@@ -173,11 +174,7 @@ impl AhoCorasick {
         if input.get_anchored() == Anchored::Yes {
             return Err(MatchError::of(MatchErrorKind::InvalidInputAnchored));
         }
-        let found = match input.haystack().get(input.get_range()) {
-            Some(haystack) => self.shares.share().with(|handle| handle.overlapping(haystack, input.start())),
-            None => Vec::new(),
-        };
-        Ok(FindOverlappingIter { found: found.into_iter(), of: std::marker::PhantomData })
+        Ok(FindOverlappingIter::new(self.shares.share(), &input, self.max_pattern_len()))
     }
 
     /// As `replace_all`, with an error in place of a panic where the searcher was not built for such a search.
@@ -335,24 +332,5 @@ impl Iterator for FindIter<'_, '_> {
 impl fmt::Debug for FindIter<'_, '_> {
     fn fmt(&self, to: &mut fmt::Formatter<'_>) -> fmt::Result {
         to.debug_struct("FindIter").field("input", &self.input).finish_non_exhaustive()
-    }
-}
-
-/// All matches, those that overlap too.
-#[derive(Debug)]
-pub struct FindOverlappingIter<'a, 'h> {
-    found: std::vec::IntoIter<Match>,
-    of: std::marker::PhantomData<(&'a AhoCorasick, &'h [u8])>,
-}
-
-impl Iterator for FindOverlappingIter<'_, '_> {
-    type Item = Match;
-
-    fn next(&mut self) -> Option<Match> {
-        self.found.next()
-    }
-
-    fn size_hint(&self) -> (usize, Option<usize>) {
-        self.found.size_hint()
     }
 }
