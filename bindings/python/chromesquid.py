@@ -22,10 +22,12 @@ from __future__ import annotations
 import codecs
 import ctypes
 import io
+import itertools
 import os
 import struct
 import threading
 import weakref
+from bisect import bisect_right
 from typing import Any, Iterable, Iterator, List, Mapping, NamedTuple, Optional, Sequence, Tuple, Union
 
 try:
@@ -176,7 +178,10 @@ _KINDS = {"standard": 0, "leftmost-first": 1, "leftmost-longest": 2}
 _AUTOMATA = {None: 0, "noncontiguous": 1, "rows": 2}
 _ENCODING = ("utf-8", "surrogatepass")
 _MATCH = struct.Struct("NNN")
-_KEPT_ROOM = 1 << 16
+_EACH_A_MATCH = itertools.repeat(Match)
+_FEW = 256
+_ROOM_FIRST, _ROOM_LAST = 1 << 12, 1 << 16  # how many matches are searched for at once, where not more end at one place
+_STEP_FIRST, _STEP_LAST = 1 << 14, 1 << 20  # how many bytes are searched through at once
 _NUMBERS = tuple(order + it for order in ("", "@", "=", "<") for it in "QqLlNn")  # how a buffer names numbers of 64 bits
 _PIECE = 1 << 16
 _INSIDE = bytes(range(0x80, 0xC0))  # the bytes of a character's UTF-8 but the first
@@ -301,6 +306,7 @@ class AhoCorasick:
         self._patterns: Tuple[Union[str, bytes], ...] = tuple(given if texts else words)
         self._of_texts = texts > 0 or not given
         self._kind, self._ignore_case, self._prefilter = kind, bool(ignore_case), bool(prefilter)
+        self._longest = max(map(len, words), default=0)
         self._handle = _Handle()
         self._begin_process()
         _searchers.add(self)
@@ -365,15 +371,17 @@ class AhoCorasick:
         return next(self._characters([match], given)) if _is_wide(haystack) else match
 
     def find_iter(self, haystack: Haystack) -> Iterator[Match]:
-        """The matches, each searched for from the end of the one before. All are searched for at once, and take 24 bytes each."""
+        """The matches, each searched for from the end of the one before. They are searched for as they are asked for, some at a time, so
+        the haystack must not change before the last one; how many they are costs no memory."""
         if self._small is not None:
             answer = self._small.find_all(haystack)
             if answer is not NotImplemented:
                 return iter(answer)
-        return self._all(_find_all, haystack)
+        return self._listed(_find_all, self._finds, haystack)
 
     def find_overlapping_iter(self, haystack: Haystack) -> Iterator[Match]:
-        """All matches, those that overlap too: by end, then start, then number. All are searched for at once, and take 24 bytes each.
+        """All matches, those that overlap too: by end, then start, then number. They are searched for as those of `find_iter` are; those that
+        end in a few times as many bytes as the longest pattern has are held at once, 24 bytes for each.
 
         The kind has to be "standard": else SearchError is raised."""
         if self._kind != "standard":
@@ -382,7 +390,7 @@ class AhoCorasick:
             answer = self._small.overlapping(haystack)
             if answer is not NotImplemented:
                 return iter(answer)
-        return self._all(_overlapping, haystack)
+        return self._listed(_overlapping, self._occurrences, haystack)
 
     def find_into(self, haystack: Bytes, room: Any, *, overlapping: bool = False) -> int:
         """Writes the matches of bytes into an array.array("Q") or another buffer of unsigned 64-bit numbers, three for each match as
@@ -540,17 +548,71 @@ class AhoCorasick:
         except UnicodeEncodeError:  # it has lone surrogates
             return haystack.encode(*_ENCODING)
 
-    def _all(self, function: Any, haystack: Haystack) -> Iterator[Match]:
-        given, count = self._bytes_of(haystack), ctypes.c_size_t()
-        reference, found = self._reference(), self._room(256)
-        while True:
-            room = len(found) // _MATCH.size
-            _check(function(reference, given, len(given), found, room, ctypes.byref(count)))
-            if count.value <= room:
-                break
-            found = self._room(count.value)
-        matches = map(Match._make, _MATCH.iter_unpack(memoryview(found)[: count.value * _MATCH.size].tobytes()))
+    def _listed(self, function: Any, batches: Any, haystack: Haystack) -> Iterator[Match]:
+        given = self._bytes_of(haystack)
+        matches = self._few(function, given) if len(given) < _SHORT else None
+        if matches is None:
+            matches = itertools.chain.from_iterable(batches(given))
         return self._characters(matches, given) if _is_wide(haystack) else matches
+
+    def _few(self, function: Any, given: Any) -> Optional[Iterator[Match]]:
+        """All matches of a short haystack, None where they are many."""
+        found, count = self._room(_FEW), ctypes.c_size_t()
+        _check(function(self._reference(), given, len(given), found, _FEW, ctypes.byref(count)))
+        if count.value > _FEW:
+            return None
+        written = memoryview(found)[: count.value * _MATCH.size].tobytes()
+        return map(tuple.__new__, _EACH_A_MATCH, _MATCH.iter_unpack(written))
+
+    def _finds(self, given: Any) -> Iterator[Iterator[Match]]:
+        """The matches of iteration, some at a time. A piece of the haystack is searched as if it were the whole, and of its matches those are
+        given that no byte behind it changes: under "standard" all, else those that begin so far before its end that no longer pattern
+        can begin there or before."""
+        size, longest, leftmost = len(given), max(self._longest, 1), self._kind != "standard"
+        place, last, step = 0, -1, _STEP_FIRST  # where the search goes on, and where the last match ended
+        while True:
+            end = min(size, place + step + longest)
+            numbers, count = self._searched(_find_all, given, place, end, _ROOM_FIRST)
+            written = kept = len(numbers) // 3
+            while leftmost and end < size and kept and numbers[3 * kept - 2] + longest > end - place:
+                kept -= 1
+            # An empty match where the last one ended is none. The iteration goes on from there as the one before does.
+            first = 1 if kept and numbers[2] == 0 and last == place else 0
+            yield _matches(numbers, first, kept, place)
+            if kept:
+                last = place + numbers[3 * kept - 1]
+            if kept == written < count:
+                step, place = max(last - place, 1), last
+            elif end == size:
+                return
+            else:
+                place, step = max(last, end - longest + 1), min(8 * step, _STEP_LAST)
+
+    def _occurrences(self, given: Any) -> Iterator[Iterator[Match]]:
+        """All matches, some at a time: those that end behind a place, up to another one. The search begins before the first place by
+        as many bytes as the longest pattern may have there."""
+        size, longest = len(given), max(self._longest, 1)
+        place, step, room = -1, _STEP_FIRST, _ROOM_FIRST  # what ends there or before is given
+        while place < size:
+            begin, end = max(place + 1 - longest, 0), min(max(place, 0) + step, size)
+            numbers, count = self._searched(_overlapping, given, begin, end, room)
+            written = len(numbers) // 3
+            told = end if written == count else begin + numbers[3 * written - 1] - 1  # all that end there were written
+            first, kept = (bisect_right(numbers[2::3], at - begin) for at in (place, told))
+            if written < count and 2 * (kept - first) < written and (room < _ROOM_LAST or told <= place):
+                room *= 2
+            if told > place:
+                yield _matches(numbers, first, kept, begin)
+                step, place = min(8 * step, _STEP_LAST) if written == count else told - place, told
+            else:
+                step = max(step // 2, 1)
+
+    def _searched(self, function: Any, given: Any, begin: int, end: int, matches: int) -> Tuple[Any, int]:
+        """The first matches of a part of the haystack, as many numbers for each as it has, and how many there are."""
+        found, count = self._room(matches), ctypes.c_size_t()
+        _check(function(self._reference(), _address(given) + begin, end - begin, found, matches, ctypes.byref(count)))
+        written = memoryview(found)[: min(count.value, matches) * _MATCH.size].tobytes()
+        return memoryview(written).cast("N"), count.value
 
     def _room(self, matches: int) -> Any:
         """Room for so many matches, or for more: this thread's own, if that is enough."""
@@ -558,7 +620,7 @@ class AhoCorasick:
         if own is not None and len(own) >= matches * _MATCH.size:
             return own
         room = (ctypes.c_char * (matches * _MATCH.size))()
-        if matches <= _KEPT_ROOM:
+        if matches <= _ROOM_LAST:
             self._own.room = room
         return room
 
@@ -632,12 +694,26 @@ def _write(writer: Any, part: Union[str, bytes]) -> None:
         part = part[taken:]
 
 
+def _address(given: Any) -> int:
+    """Where the bytes stand that the library is given."""
+    if isinstance(given, bytes):
+        return ctypes.cast(given, ctypes.c_void_p).value or 0
+    return given._as_parameter_.value if isinstance(given, _Lent) else ctypes.addressof(given)
+
+
 def _overlap(given: Any, room: Any) -> bool:
     """Whether a room that can be written lies in the bytes that a call is given."""
-    if isinstance(given, bytes):
-        return False
-    first = given._as_parameter_.value if isinstance(given, _Lent) else ctypes.addressof(given)
-    return first < ctypes.addressof(room) + len(room) and ctypes.addressof(room) < first + len(given)
+    first, also_first = _address(given), ctypes.addressof(room)
+    return first < also_first + len(room) and also_first < first + len(given)
+
+
+def _matches(numbers: Any, first: int, last: int, moved: int) -> Iterator[Match]:
+    """Some of the matches that were written, with their places moved on."""
+    part = numbers[3 * first : 3 * last]
+    if not moved:
+        return map(tuple.__new__, _EACH_A_MATCH, _MATCH.iter_unpack(part))
+    starts, ends = (map(moved.__add__, part[at::3]) for at in (1, 2))
+    return map(tuple.__new__, _EACH_A_MATCH, zip(part[0::3], starts, ends))
 
 
 def _is_wide(haystack: Haystack) -> bool:

@@ -11,7 +11,9 @@ import pickle
 import random
 import threading
 import unittest
+from unittest import mock
 
+import chromesquid
 from chromesquid import AhoCorasick, BuildError, Match, ReplacementError, Replacer, SearchError, Stream, version
 
 KINDS = ("standard", "leftmost-first", "leftmost-longest")
@@ -260,6 +262,22 @@ class Rows(unittest.TestCase):
         self.assertEqual(list(searcher.find_iter(b"a" * 5000)), [Match(0, at, at + 1) for at in range(5000)])
         self.assertEqual(len(list(searcher.find_overlapping_iter(b"a" * 5000))), 9999)
 
+    def test_matches_are_searched_for_as_they_are_asked_for(self):
+        nested, before = AhoCorasick([b"a" * length for length in range(1, 101)]), mapped_pages()
+        self.assertEqual(sum(1 for _ in nested.find_overlapping_iter(b"a" * 100000)), 100 * 100000 - 4950)
+        self.assertLess(mapped_pages() - before, 12 << 10)  # and 469 MiB where all are held
+        for kind in KINDS:
+            before = mapped_pages()
+            with mmap.mmap(-1, 1 << 26, mmap.MAP_PRIVATE | mmap.MAP_ANONYMOUS, mmap.PROT_READ) as mapped:  # none of whose pages is there
+                matches = AhoCorasick([b"\0", b"\0\0"], kind=kind).find_iter(mapped)
+                self.assertEqual([next(matches).start for _ in range(3)], [0, 1, 2] if kind != KINDS[2] else [0, 2, 4])
+                del matches
+            self.assertLess(mapped_pages() - before, 4 << 10)
+        taken = bytearray(b"a" * 100000)
+        matches = AhoCorasick([b"a"]).find_iter(taken)
+        self.assertEqual(next(matches), Match(0, 0, 1))
+        self.assertRaises(BufferError, taken.clear)
+
     def test_limits_and_errors(self):
         for limits, told, text in (
             ({"max_len": 2}, (1, 3, 2), "pattern 1 with length 3 exceeds the maximum pattern length of 2"),
@@ -455,6 +473,17 @@ class BesideTheModel(unittest.TestCase):
         dice = random.Random(1)
         for _ in range(3000):
             self.compare(dice, [b"a", b"b", b"A", b"\0", b"\xff"][: dice.randrange(2, 6)], b"")
+
+    def test_some_matches_at_a_time(self):
+        dice = random.Random(4)
+        for turn in range(4000):
+            step, room = dice.randrange(1, 6), dice.randrange(2, 6)
+            sizes = {"_FEW": 0, "_STEP_FIRST": step, "_STEP_LAST": 4 * step, "_ROOM_FIRST": room, "_ROOM_LAST": 2 * room}
+            with mock.patch.multiple(chromesquid, **sizes):
+                if turn % 2:
+                    self.compare(dice, [b"a", b"b", b"A", b"\xff"][: dice.randrange(1, 5)], b"")
+                else:
+                    self.compare(dice, ["a", "é", "A", "🦑"][: dice.randrange(1, 5)], "")
 
     def test_texts(self):
         dice = random.Random(2)

@@ -178,6 +178,38 @@ fn long_streams() {
     }
 }
 
+/// How many kilobytes this process has had of memory at most.
+fn most_memory() -> usize {
+    let told = std::fs::read_to_string("/proc/self/status").unwrap();
+    let line = told.lines().find_map(|line| line.strip_prefix("VmHWM:")).unwrap();
+    line.trim().trim_end_matches(" kB").parse().unwrap()
+}
+
+#[test]
+fn overlapping_matches_are_searched_for_as_they_are_asked_for() {
+    let nested = AhoCorasick::new((1..=100).map(|length| "a".repeat(length))).unwrap();
+    let (text, before) = ("a".repeat(100_000), most_memory());
+    assert_eq!(nested.find_overlapping_iter(&text).count(), 100 * 100_000 - 4950);
+    assert!(most_memory() - before < 64 << 10, "and 469 MiB where all are held");
+}
+
+#[test]
+fn many_overlapping_matches_of_long_texts() {
+    let mut dice = Dice(4242);
+    for turn in 0..24 {
+        let most = [1, 40, 3_000][turn % 3];
+        let mut patterns: Vec<_> = (0..1 + dice.below(5)).map(|_| dice.bytes(b"aaaaaaab", most)).collect();
+        patterns.extend((0..[0, 300][turn % 2]).map(|length| vec![b'a'; length]));
+        let haystack = dice.bytes(b"aaaaaaaaaaaaaaaaaaaaaaaaab", [60_000, 400][turn % 2]);
+        let plain = Plain { patterns: &patterns, kind: Standard, ignore_case: false };
+        let searcher = AhoCorasick::new(&patterns).unwrap();
+        let start = dice.below(haystack.len() + 1);
+        let listed = searcher.find_overlapping_iter(Input::new(&haystack).range(start..));
+        let listed: Vec<_> = listed.map(|it| (it.pattern().as_usize(), it.start(), it.end())).collect();
+        assert!(listed == plain.occurrences(&haystack, start, haystack.len(), false), "{turn}");
+    }
+}
+
 #[test]
 fn random_calls_on_few_letters() {
     let mut dice = Dice(20261126);
