@@ -44,7 +44,7 @@ joined-start runs m place behind low x there =
     ]
 
 -- the first of some runs
-first_or : Occurrence → List Occurrence → Occurrence
+abbrev first_or : Occurrence → List Occurrence → Occurrence
 first_or other [] = other
 first_or other (x ∷ runs) = x
 
