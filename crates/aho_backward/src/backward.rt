@@ -1,6 +1,6 @@
 //! The searcher: an automaton of the patterns turned round, with which pattern each of its own stands for.
 
-ghost use Rattle.std.specs.Prelude.{◌≡◌, ◌⊎◌, ◌*◌, ◌≤◌, IfErr, IfOk, IsOk, None, length};
+ghost use Rattle.std.specs.Prelude.{◌≡◌, ◌⊎◌, IfErr, IfOk, IsOk};
 ghost use Rattle.aho_core.specs.Patterns.{Patterns};
 ghost use Rattle.aho_core.specs.Replacement.{pieces_of};
 ghost use Rattle.aho_core.specs.declared.search.Anchored.TheVariants.{No};
@@ -10,7 +10,7 @@ ghost use Rattle.aho_stream.specs.After.{greatest_position};
 ghost use Rattle.aho_stream.specs.Replacing.{IsMakingRefusal, IsStreamFault};
 ghost use Rattle.aho_backward.specs.Replacing.{IsReplacedBy};
 ghost use Rattle.aho_backward.specs.Searcher.{ForItsFinds, IsBackwardOf};
-ghost use Rattle.aho_backward.specs.Streams.{FourAByte, LeavesByBlocks};
+ghost use Rattle.aho_backward.specs.Streams.{LeavesByBlocks};
 
 use crate::find_all::find_all_in;
 use crate::replace::replace_finds;
@@ -35,33 +35,13 @@ pub struct Backward<A> {
 }
 
 impl<A: Automaton> Backward<A> {
-    /// All finds of a haystack: those that iteration gives one after another. With how many transitions were looked up for them.
+    /// All finds of a haystack: those that iteration gives one after another.
     ///
-    /// The look-ups are at most four for each byte of the haystack, whatever the patterns are and wherever they match.
+    /// It is one call of `find_all_in`: so the look-ups are at most four for each byte of the haystack, whatever the patterns are and
+    /// wherever they match.
     ///
     /// Beside the finds it takes memory while it searches: four bytes for each place of a block and for each byte of the longest
     /// pattern. A block has 65536 places, or as many as the longest pattern has bytes where that is more.
-    ///
-    /// # Errors
-    ///
-    /// Out of memory.
-    pub fn find_all_counted(
-        &self,
-        alloc: Global,
-        haystack: &[u8],
-    ) -> Result<(Vec<Match>, u128), AllocError>
-        requires of { (p : Patterns) × IsBackwardOf A.Automaton self.now p }
-        ensures found { ForItsFinds A.Automaton self.now haystack.now (λ all.
-            IfOk result (λ both. all both.0.items)) }
-        ensures four_look_ups_a_byte { IfOk result (λ both. both.1 ≤ 4 * length haystack.now) }
-    {
-        let mut walk = Counted::new(&self.automaton);
-        let reach = self.automaton.max_pattern_len();
-        let found = find_all_in(alloc, &mut walk, &self.given, reach, haystack)?;
-        Ok((found, walk.lookups()))
-    }
-
-    /// All finds of a haystack, as `find_all_counted` gives them.
     ///
     /// # Errors
     ///
@@ -71,8 +51,9 @@ impl<A: Automaton> Backward<A> {
         ensures found { ForItsFinds A.Automaton self.now haystack.now (λ all.
             IfOk result (λ found. all found.items)) }
     {
-        let (found, _lookups) = self.find_all_counted(alloc, haystack)?;
-        Ok(found)
+        let mut walk = Counted::new(&self.automaton);
+        let reach = self.automaton.max_pattern_len();
+        find_all_in(alloc, &mut walk, &self.given, reach, haystack)
     }
 
     /// The haystack with the bytes for its pattern in the place of each find; a pattern that has none is left out. It takes memory
@@ -96,11 +77,11 @@ impl<A: Automaton> Backward<A> {
     }
 
     /// Writes what the source gives to the sink, with the bytes for its pattern in the place of each find; a pattern that has none is
-    /// left out. With how many transitions were looked up for it.
+    /// left out.
     ///
     /// The finds are those of `find_all` of the same bytes, whatever the pieces in which they are read. It ends where the source's
-    /// end is seen, and asks for nothing behind that. The look-ups are at most four for each byte that was read, whatever the
-    /// patterns are and wherever they match.
+    /// end is seen, and asks for nothing behind that. It is one call of `stream_replace_in`: so the look-ups are at most four for
+    /// each byte that was read, whatever the patterns are and wherever they match.
     ///
     /// It takes all its memory before it reads: a buffer of 8 times as many bytes as the longest pattern has, and of 65536 at least,
     /// and four bytes for each of 65536 places, or of twice as many as the longest pattern has bytes where that is more. What is
@@ -113,44 +94,6 @@ impl<A: Automaton> Backward<A> {
     /// or a flush fails, `WriteZero` where a write of some bytes takes none, and `PositionLimit` where 2^63 - 1 bytes were given and
     /// the end was not seen. Nothing is tried again, and what was written then is a beginning of the replacement: after `Read` and
     /// `PositionLimit` all but what stands for the bytes held back.
-    pub fn try_stream_replace_all_counted<R: Source, W: Sink>(
-        &self,
-        alloc: Global,
-        source: &mut R,
-        sink: &mut W,
-        replace_with: &[&[u8]],
-    ) -> (Result<(), StreamError>, u128)
-        requires of { (p : Patterns) × IsBackwardOf A.Automaton self.now p }
-        ensures leaves { LeavesByBlocks R.Source W.Sink
-            (IsBackwardOf A.Automaton self.now) (pieces_of replace_with.now)
-            source.old source.new sink.old sink.new greatest_position result.0 }
-        ensures errors { CountsErrors R.Source W.Sink
-            source.old source.new sink.old sink.new result.0 }
-        ensures four_look_ups_a_byte { FourAByte R.Source source.old source.new 0 result.1 }
-        ensures only { IfErr result.0 (λ error. (error ≡ StreamError.Memory) ⊎ IsStreamFault error) }
-        ensures untouched { IfErr result.0 (λ error. IsMakingRefusal error →
-            (source.new ≡ source.old) × (sink.new ≡ sink.old)) }
-    {
-        let mut walk = Counted::new(&self.automaton);
-        let reach = self.automaton.max_pattern_len();
-        let answer = stream_replace_in(
-            alloc,
-            &mut walk,
-            &self.given,
-            reach,
-            source,
-            sink,
-            replace_with,
-        );
-        (answer, walk.lookups())
-    }
-
-    /// Writes what the source gives to the sink, with the bytes for its pattern in the place of each find, as
-    /// `try_stream_replace_all_counted` does.
-    ///
-    /// # Errors
-    ///
-    /// As those of `try_stream_replace_all_counted`.
     pub fn try_stream_replace_all<R: Source, W: Sink>(
         &self,
         alloc: Global,
@@ -168,13 +111,17 @@ impl<A: Automaton> Backward<A> {
         ensures untouched { IfErr result (λ error. IsMakingRefusal error →
             (source.new ≡ source.old) × (sink.new ≡ sink.old)) }
     {
-        let (answer, _lookups) = self.try_stream_replace_all_counted(
+        let mut walk = Counted::new(&self.automaton);
+        let reach = self.automaton.max_pattern_len();
+        stream_replace_in(
             alloc,
+            &mut walk,
+            &self.given,
+            reach,
             source,
             sink,
             replace_with,
-        );
-        answer
+        )
     }
 }
 
@@ -184,6 +131,14 @@ impl<A: Automaton + Drop> Backward<A> {
         ensures automaton { result.now ≡ self.now.automaton }
     {
         &self.automaton
+    }
+
+    /// Which pattern each of the automaton's own stands for, by its number. With the automaton it is what `find_all_in` and
+    /// `stream_replace_in` take.
+    pub fn given(&self) -> &[PatternID]
+        ensures given { result.now ≡ self.now.given.items }
+    {
+        self.given.as_slice()
     }
 
     /// The same searcher by another automaton, which is of all patterns that the one before is of, as a `Hybrid` that was made

@@ -3,6 +3,7 @@ use Rattle.std.proofs.lemmas.Bool.{cond-true, cond-false, le-leb, lt-leb}
 use Rattle.std.proofs.Common.{◌≡◌, inl, inr, ℕ, ◌+◌, ◌-◌, ◌<◌, ◌≤◌, List, [], ◌∷◌, ◌++◌, length, drop, take, refl, sym, ◌∙◌, ap, arith, append_assoc, append-nil, length-append}
 use Rattle.std.specs.Prelude.{slice_range, nat_le}
 use Rattle.std.specs.Io.{StartsWith}
+use Rattle.std.proofs.Math.Seq.{take-append-add}
 use Rattle.std.proofs.lemmas.List.{take-append-drop, take-append-le, take_all, drop-drop, drop_at}
 use Rattle.aho_core.specs.Listing.{IsMember}
 use Rattle.aho_core.specs.Occurrence.{Occurrence}
@@ -10,6 +11,7 @@ use Rattle.aho_core.specs.Replacement.{replaced_from}
 use Rattle.aho_automaton.proofs.Places.{length_part, no_part, part_join, part_of_part}
 use Rattle.aho_stream.specs.After.{EndsWith}
 use Rattle.aho_cover.specs.Covers.{covered_up_to}
+use Rattle.aho_cover.specs.Pieces.{covered_through}
 use Rattle.aho_cover.specs.Progress.{copied_to}
 
 -- a list begins with its first part
@@ -24,6 +26,17 @@ begins_shorter all written bytes n within starts =
     let longer : all ≡ (written ++ take n bytes) ++ (drop n bytes ++ drop (length (written ++ bytes)) all) =
     whole ∙ ap (λ (xs : List ℕ). xs ++ drop (length (written ++ bytes)) all) split ∙ append_assoc (written ++ take n bytes) (drop n bytes) (drop (length (written ++ bytes)) all) in
     ap (take (length (written ++ take n bytes))) longer ∙ begins_with (written ++ take n bytes) (drop n bytes ++ drop (length (written ++ bytes)) all)
+
+-- what begins with some bytes does so with more behind it
+pub begins_longer : (all more front : List ℕ) → StartsWith all front → StartsWith (all ++ more) front
+begins_longer all more front starts =
+    let rest = drop (length front) all in
+    let whole : all ≡ front ++ rest = sym (take-append-drop (length front) all) ∙ ap (λ (xs : List ℕ). xs ++ rest) starts in
+    ap (λ (xs : List ℕ). take (length front) (xs ++ more)) whole ∙ ap (take (length front)) (append_assoc front rest more) ∙ begins_with front (rest ++ more)
+
+-- and behind the same bytes
+begins_behind : (front all first : List ℕ) → StartsWith all first → StartsWith (front ++ all) (front ++ first)
+begins_behind front all first starts = ap (λ (n : ℕ). take n (front ++ all)) (length-append front first) ∙ take-append-add front all (length first) ∙ ap (λ (xs : List ℕ). front ++ xs) starts
 
 -- each ends at a place or before
 abbrev pub EndBy : List Occurrence → ℕ → Type 0
@@ -70,6 +83,19 @@ module _ (haystack : List ℕ) (piece : Occurrence → List ℕ) where
       ap (λ (xs : List ℕ). gap ++ (piece y ++ xs)) (copied-run y.end front x place (ends y (inl refl)) (λ z there. ends z (inr there)) le)
       ∙ ap (λ (xs : List ℕ). gap ++ xs) (sym (append_assoc (piece y) rest more))
       ∙ sym (append_assoc gap (piece y ++ rest) more)
+
+  -- the bytes up to the end of the last run come first
+  pub copied-through : (at : ℕ) (front : List Occurrence) (place : ℕ) → StartsWith (copied_to haystack at front piece place) (covered_through haystack at front piece)
+  copied-through at [] place = refl
+  copied-through at (x ∷ front) place =
+      let rest = copied_to haystack x.end front piece place in
+      let through = covered_through haystack x.end front piece in
+      begins_behind (slice_range haystack at x.start) (piece x ++ rest) (piece x ++ through) (begins_behind (piece x) rest through (copied-through x.end front place))
+
+  -- with the piece of a run they end there
+  pub through-run : (at : ℕ) (front : List Occurrence) (x : Occurrence) → covered_through haystack at (front ++ x ∷ []) piece ≡ copied_to haystack at (front ++ x ∷ []) piece x.end
+  through-run at [] x = ap (λ (xs : List ℕ). slice_range haystack at x.start ++ (piece x ++ xs)) (sym (no_part haystack x.end))
+  through-run at (y ∷ front) x = ap (λ (xs : List ℕ). slice_range haystack at y.start ++ (piece y ++ xs)) (through-run y.end front x)
 
   -- what is left of the whole
   pub copied-rest : (at : ℕ) (front rest : List Occurrence) (place : ℕ) → at ≤ place → EndBy front place → ((x : Occurrence) → IsMember rest x → place ≤ x.start)

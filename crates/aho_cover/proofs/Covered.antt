@@ -5,7 +5,7 @@ use Rattle.std.proofs.Common.{◌≡◌, inl, inr, ℕ, zero, suc, ◌+◌, ◌-
 use Rattle.std.specs.Prelude.{nat_lt, slice_range}
 use Rattle.std.specs.Io.{StartsWith}
 use Rattle.std.proofs.lemmas.Bool.{cases_lt, cond-true, cond-false, lt-ltb, le-ltb}
-use Rattle.std.proofs.lemmas.List.{drop_all}
+use Rattle.std.proofs.lemmas.List.{drop_all, take_all}
 use Rattle.aho_core.specs.declared.search.Anchored.TheVariants.{No}
 use Rattle.aho_core.specs.Listing.{IsMember}
 use Rattle.aho_core.specs.Occurrence.{Occurrence}
@@ -23,10 +23,10 @@ use Rattle.aho_cover.specs.declared.hand.Hand.{Hand}
 use Rattle.aho_cover.specs.declared.progress.CoverProgress.{CoverProgress}
 use Rattle.aho_cover.specs.Counting.{Output, put_on}
 use Rattle.aho_cover.specs.Hand.{held_runs}
-use Rattle.aho_cover.specs.Pieces.{PieceRule, cover_by, piece_in}
+use Rattle.aho_cover.specs.Pieces.{EndsAmong, PieceRule, cover_by, covered_through, piece_in}
 use Rattle.aho_cover.specs.Progress.{HasCovered, IsAll, IsBeginning, copied_to, open_place}
 use Rattle.aho_cover.specs.Walks.{NoneReaches}
-use Rattle.aho_cover.proofs.Copied.{begins_shorter, begins_with, copied-more, copied-rest, copied-run, nothing_between, covered-copied}
+use Rattle.aho_cover.proofs.Copied.{begins_longer, begins_shorter, begins_with, copied-more, copied-rest, copied-run, copied-through, nothing_between, covered-copied, through-run}
 
 -- each begins at a place or behind it
 abbrev pub BeginBehind : List Occurrence → ℕ → Type 0
@@ -42,6 +42,11 @@ joined-start runs m place behind low x there =
         | inr other ↦ omega (arith, behind other.1.0 other.1.1, other.1.3)
       ]
     ]
+
+-- the first of some runs
+abbrev first_or : Occurrence → List Occurrence → Occurrence
+first_or other [] = other
+first_or other (x ∷ runs) = x
 
 module _ (p : Patterns) (haystack : List ℕ) where
   -- each is clear
@@ -116,13 +121,55 @@ module _ (p : Patterns) (haystack : List ℕ) where
         ap (λ (runs : List Occurrence). replaced_from haystack 0 runs piece) all.1
         ∙ copied-rest haystack piece 0 written.runs all.0 s.copied (omega arith) has.before all.2
         ∙ ap (λ (xs : List ℕ). xs ++ replaced_from haystack s.copied all.0 piece) (sym has.written_is) in
-        (subst (λ (xs : List ℕ). StartsWith xs written.bytes) (sym cover) (begins_with written.bytes (replaced_from haystack s.copied all.0 piece)), (all.0, all.1))
+        let among : EndsAmong haystack piece written.runs all.0 written.bytes = record {
+          whole = subst (λ (xs : List ℕ). StartsWith xs (covered_through haystack 0 written.runs piece)) (sym has.written_is) (copied-through haystack piece 0 written.runs s.copied);
+          no_more = λ next rest is.
+              let behind_all = all.2 next (subst (λ (runs : List Occurrence). IsMember runs next) (sym is) (inl refl)) in
+              let more = slice_range haystack s.copied next.start ++ piece next in
+              let through : covered_through haystack 0 (written.runs ++ next ∷ []) piece ≡ written.bytes ++ more =
+              through-run haystack piece 0 written.runs next ∙ copied-run haystack piece 0 written.runs next s.copied (omega arith) has.before behind_all ∙ ap (λ (xs : List ℕ). xs ++ more) (sym has.written_is) in
+              subst (λ (xs : List ℕ). StartsWith xs written.bytes) (sym through) (begins_with written.bytes more);
+        } in
+        (subst (λ (xs : List ℕ). StartsWith xs written.bytes) (sym cover) (begins_with written.bytes (replaced_from haystack s.copied all.0 piece)), (all.0, all.1, among))
 
-    -- a part of what begins it, without its runs
-    pub begins_before : (written : Output) (bytes : List ℕ) (runs : List Occurrence) (n : ℕ) → n ≤ length bytes → IsBeginning rule p haystack (put_on written bytes runs) → IsBeginning rule p haystack (put_on written (take n bytes) [])
-    begins_before written bytes runs n within begins = (
-      begins_shorter (cover_by p haystack rule) written.bytes bytes n within begins.0,
-      (runs ++ begins.1.0, begins.1.1 ∙ append_assoc written.runs runs begins.1.0 ∙ ap (λ (xs : List Occurrence). xs ++ (runs ++ begins.1.0)) (sym (append-nil written.runs))),
+    -- the runs whose pieces were written are so with more behind them
+    still_whole : (written : Output) (more : List ℕ) → IsBeginning rule p haystack written → StartsWith (written.bytes ++ more) (covered_through haystack 0 (written.runs ++ []) piece)
+    still_whole written more begins =
+        subst (λ (runs : List Occurrence). StartsWith (written.bytes ++ more) (covered_through haystack 0 runs piece)) (sym (append-nil written.runs))
+        (begins_longer written.bytes more (covered_through haystack 0 written.runs piece) begins.1.2.whole)
+
+    -- a part of some bytes that hold no piece
+    pub begins_before : (written : Output) (bytes : List ℕ) (n : ℕ) → n ≤ length bytes → IsBeginning rule p haystack written → IsBeginning rule p haystack (put_on written bytes []) → IsBeginning rule p haystack (put_on written (take n bytes) [])
+    begins_before written bytes n within before after = (
+      begins_shorter (cover_by p haystack rule) written.bytes bytes n within after.0,
+      (
+        after.1.0,
+        after.1.1,
+        record {
+          whole = still_whole written (take n bytes) before;
+          no_more = λ next rest is. begins_shorter (covered_through haystack 0 ((written.runs ++ []) ++ next ∷ []) piece) written.bytes bytes n within (after.1.2.no_more next rest is);
+        },
+      ),
+    )
+
+    -- a part of the bytes in front of a run and of its piece: the run is not among those whose pieces were written
+    pub begins_within : (written : Output) (bytes : List ℕ) (x : Occurrence) (n : ℕ) → n ≤ length bytes → covered_through haystack 0 (written.runs ++ x ∷ []) piece ≡ written.bytes ++ bytes → IsBeginning rule p haystack written
+        → IsBeginning rule p haystack (put_on written bytes (x ∷ [])) → IsBeginning rule p haystack (put_on written (take n bytes) [])
+    begins_within written bytes x n within through before after = (
+      begins_shorter (cover_by p haystack rule) written.bytes bytes n within after.0,
+      (
+        x ∷ after.1.0,
+        after.1.1 ∙ append_assoc written.runs (x ∷ []) after.1.0 ∙ ap (λ (xs : List Occurrence). xs ++ (x ∷ after.1.0)) (sym (append-nil written.runs)),
+        record {
+          whole = still_whole written (take n bytes) before;
+          no_more = λ next rest is.
+              let all = subst (λ (xs : List ℕ). StartsWith xs (written.bytes ++ bytes)) (sym through) (take_all (length (written.bytes ++ bytes)) (written.bytes ++ bytes) (omega arith)) in
+              let first : covered_through haystack 0 (written.runs ++ x ∷ []) piece ≡ covered_through haystack 0 ((written.runs ++ []) ++ next ∷ []) piece =
+              ap (λ (run : Occurrence). covered_through haystack 0 (written.runs ++ run ∷ []) piece) (ap (first_or x) is)
+              ∙ ap (λ (xs : List Occurrence). covered_through haystack 0 (xs ++ next ∷ []) piece) (sym (append-nil written.runs)) in
+              subst (λ (xs : List ℕ). StartsWith xs (written.bytes ++ take n bytes)) first (begins_shorter (covered_through haystack 0 (written.runs ++ x ∷ []) piece) written.bytes bytes n within all);
+        },
+      ),
     )
 
     -- at the end, with none in hand and all copied, it is the cover

@@ -8,7 +8,7 @@ use Rattle.aho_core.specs.declared.search.MatchKind.TheVariants.{Standard}
 use Rattle.aho_core.specs.Listing.{IsMember}
 use Rattle.aho_core.specs.declared.search.Anchored.TheVariants.{No}
 use Rattle.aho_laws.proofs.Listed.{member-right}
-use Rattle.std.proofs.Common.{◌≡◌, ℕ, ◌-◌, Bool, true, false, List, [], ◌++◌, length, take, refl, sym, ◌∙◌, ap, subst, arith, append_assoc, append-nil, length-append, ◌∷◌}
+use Rattle.std.proofs.Common.{◌≡◌, ℕ, ◌-◌, ◌*◌, ◌≤◌, Bool, true, false, List, [], ◌++◌, length, take, refl, sym, ◌∙◌, ap, subst, arith, append_assoc, append-nil, length-append, ◌∷◌}
 use Rattle.std.specs.Prelude.{Result, Ok, Err, IfErr, IsErrAnd, OnErr, OnOk, slice_range}
 use Rattle.std.specs.Io.{StartsWith}
 use Rattle.std.specs.Io.KnownBytes.{Appends, Keeps}
@@ -32,9 +32,9 @@ use Rattle.aho_stream.specs.Refills.{is_limit}
 use Rattle.aho_stream.specs.Replacing.{GaveAsMany, IsMakingRefusal, SourceGave}
 use Rattle.aho_cover.specs.declared.progress.CoverProgress.{CoverProgress}
 use Rattle.aho_cover.specs.Counting.{CountsThese, Output, no_output, put_on}
-use Rattle.aho_cover.specs.Covers.{BeginsCoveringBy, CountsFirstRuns, CountsRuns, CoversStreamBy, CoversStreamUpToBy, LeavesCounted, LeavesCoveredBy, covered_up_to}
+use Rattle.aho_cover.specs.Covers.{BeginsCoveringBy, CountsRuns, CountsWritten, CoversStreamBy, CoversStreamUpToBy, LeavesCounted, LeavesCoveredBy, TwoAByte, covered_up_to}
 use Rattle.aho_cover.specs.Feeds.{Feeding}
-use Rattle.aho_cover.specs.Pieces.{IsCoverBy, PieceRule, cover_by, piece_in}
+use Rattle.aho_cover.specs.Pieces.{EndsAmong, IsCoverBy, PieceRule, cover_by, piece_in}
 use Rattle.aho_cover.specs.Progress.{EndsHere, HasCovered, IsAll, IsBeginning, IsGiven, IsSoundCover}
 use Rattle.aho_cover.specs.Refilling.{TakesIn}
 use Rattle.aho_cover.specs.Steps.{CoversOn, IsPrompt, MayRoll}
@@ -64,8 +64,12 @@ is_cover p haystack written rule all = (runs_in p haystack, runs-made p haystack
 
 -- runs that begin those of a text
 first_of : (rule : PieceRule) (p : Patterns) (bytes haystack : List ℕ) (runs : List Occurrence) (written : Output) → bytes ≡ haystack → AreRuns p bytes runs → IsBeginning rule p haystack written
-    → (later : List Occurrence) × (runs ≡ written.runs ++ later)
-first_of rule p bytes haystack runs written same are begins = (begins.1.0, runs-are p bytes runs are ∙ ap (λ (h : List ℕ). runs_in p h) same ∙ begins.1.1)
+    → (later : List Occurrence) × (runs ≡ written.runs ++ later) × EndsAmong bytes (piece_in rule bytes) written.runs later written.bytes
+first_of rule p bytes haystack runs written same are begins = (
+  begins.1.0,
+  runs-are p bytes runs are ∙ ap (λ (h : List ℕ). runs_in p h) same ∙ begins.1.1,
+  subst (λ (h : List ℕ). EndsAmong h (piece_in rule h) written.runs begins.1.0 written.bytes) (sym same) begins.1.2,
+)
 
 -- the first bytes of a text that goes on
 first_part : (given more : List ℕ) (n : ℕ) → n ≡ length given → slice_range (given ++ more) 0 n ≡ given
@@ -87,8 +91,8 @@ module _ {A R W : Type 0} (G : Automata A) (S : SourceGhosts R) (K : SinkGhosts 
   abbrev Begins : R → W → Type 0
   Begins source sink = BeginsCoveringBy S K (G.is_of a) rule first source begun sink
 
-  abbrev FirstRuns : R → List ℕ → Type 0
-  FirstRuns source counts = CountsFirstRuns S (G.is_of a) first source zeros counts
+  abbrev FirstRuns : R → W → List ℕ → Type 0
+  FirstRuns source sink counts = CountsWritten S K (G.is_of a) rule first source begun sink zeros counts
 
   -- nothing was given yet
   pub going_first : (holds : List ℕ → Type 0) (s : CoverProgress) → holds [] → s.fed ≡ 0 → s.read ≡ 0 → ((p : Patterns) (haystack : List ℕ) → G.is_of a p → CoversOn G a rule s 0 p haystack no_output) → Going holds s first begun zeros
@@ -132,16 +136,22 @@ module _ {A R W : Type 0} (G : Automata A) (S : SourceGhosts R) (K : SinkGhosts 
   }
 
   -- and its runs are the first
-  pub going_counts : {holds : List ℕ → Type 0} (s : CoverProgress) (source : R) (sink : W) (counts : List ℕ) → Going holds s source sink counts → IsSoundCover s s.read → FirstRuns source counts
+  pub going_counts : {holds : List ℕ → Type 0} (s : CoverProgress) (source : R) (sink : W) (counts : List ℕ) → Going holds s source sink counts → IsSoundCover s s.read → FirstRuns source sink counts
   going_counts s source sink counts going sound = record {
     given = going.given;
     ended = false;
     gives = going.gives;
+    written = going.written.bytes;
+    writes = going.writes;
     first = going.written.runs;
     counted = going.counted;
     beginning = λ p bytes runs of may are.
         first_of rule p bytes (going.given ++ may.0) runs going.written may.1 are (has-begun p (going.given ++ may.0) rule s s.read going.written (going.covers p may.0 of).0.covered sound.behind);
   }
+
+  -- with two look-ups for each byte of it
+  pub going_paid : {holds : List ℕ → Type 0} (s : CoverProgress) (source : R) (sink : W) (counts : List ℕ) → Going holds s source sink counts → (lookups : ℕ) → lookups ≤ 2 * s.read → TwoAByte S first source lookups
+  going_paid s source sink counts going lookups paid = record { given = going.given; ended = false; gives = going.gives; at_most = omega (arith, paid, going.count) }
 
   -- more of the first run was fed
   pub going_fed : {holds : List ℕ → Type 0} (holds' : List ℕ → Type 0) (s s' : CoverProgress) → s' ≡ record s { fed = s'.fed } → (source : R) (sink : W) (counts : List ℕ) → Going holds s source sink counts
@@ -177,6 +187,10 @@ module _ {A R W : Type 0} (G : Automata A) (S : SourceGhosts R) (K : SinkGhosts 
 
     pub count_more : s'.read ≡ length given_now
     count_more = omega (arith, takes.count, going.count, length-append going.given takes.bytes)
+
+    -- two look-ups for each byte of it
+    pub paid_more : (ended : Bool) → S.empty_reads source' ≡ counted ended (S.empty_reads source) → (lookups : ℕ) → lookups ≤ 2 * s'.read → TwoAByte S first source' lookups
+    paid_more ended counts lookups paid = record { given = given_now; ended = ended; gives = gives_more ended counts; at_most = omega (arith, paid, count_more) }
 
     -- the same was covered
     pub covers_more : (p : Patterns) (more : List ℕ) → G.is_of a p → Feeding holds s' (CoversOn G a rule s' s.read) p (given_now ++ more) going.written
@@ -225,11 +239,13 @@ module _ {A R W : Type 0} (G : Automata A) (S : SourceGhosts R) (K : SinkGhosts 
           subst (λ (xs : List ℕ). StartsWith xs going.written.bytes) (sym (cover_is p bytes output rule cover ∙ ap (λ (h : List ℕ). cover_by p h rule) whole)) starts;
     }
 
-    pub counts_more : IsSoundCover s s.read → S.empty_reads source' ≡ counted false (S.empty_reads source) → FirstRuns source' old
-    counts_more sound counts = record {
+    pub counts_more : (sink' : W) → Appends (K.taken begun) (K.taken sink') going.written.bytes → IsSoundCover s s.read → S.empty_reads source' ≡ counted false (S.empty_reads source) → FirstRuns source' sink' old
+    counts_more sink' writes sound counts = record {
       given = given_now;
       ended = false;
       gives = gives_more false counts;
+      written = going.written.bytes;
+      writes = writes;
       first = going.written.runs;
       counted = going.counted;
       beginning = λ p bytes runs of may are.
@@ -263,11 +279,13 @@ module _ {A R W : Type 0} (G : Automata A) (S : SourceGhosts R) (K : SinkGhosts 
           subst (λ (xs : List ℕ). StartsWith xs (going.written.bytes ++ writes.bytes)) (sym (cover_is p bytes output rule cover ∙ ap (λ (h : List ℕ). cover_by p h rule) may.1)) starts;
     }
 
-    pub counts_on : (sink' : W) (new : List ℕ) → WritesOn K sink sink' old new (Feeding holds s' (CoversOn G a rule s' s.read)) (IsBeginning rule) → S.empty_reads source' ≡ counted false (S.empty_reads source) → FirstRuns source' new
+    pub counts_on : (sink' : W) (new : List ℕ) → WritesOn K sink sink' old new (Feeding holds s' (CoversOn G a rule s' s.read)) (IsBeginning rule) → S.empty_reads source' ≡ counted false (S.empty_reads source) → FirstRuns source' sink' new
     counts_on sink' new writes counts = record {
       given = given_now;
       ended = false;
       gives = gives_more false counts;
+      written = going.written.bytes ++ writes.bytes;
+      writes = Appends-trans (K.taken begun) (K.taken sink) (K.taken sink') going.written.bytes writes.bytes going.writes writes.appends;
       first = going.written.runs ++ writes.runs;
       counted = counts_then going.written.runs writes.runs zeros old new going.counted writes.counted;
       beginning = λ p bytes runs of may are.
@@ -312,11 +330,13 @@ module _ {A R W : Type 0} (G : Automata A) (S : SourceGhosts R) (K : SinkGhosts 
             subst (λ (xs : List ℕ). StartsWith xs (going.written.bytes ++ writes.bytes)) (sym (cover_is p bytes output rule cover ∙ ap (λ (h : List ℕ). cover_by p h rule) whole)) starts;
       }
 
-      pub counts_end : (sink' : W) (new : List ℕ) → WritesOn K sink sink' old new (Feeding holds s' (EndsHere rule s')) (IsBeginning rule) → FirstRuns source' new
+      pub counts_end : (sink' : W) (new : List ℕ) → WritesOn K sink sink' old new (Feeding holds s' (EndsHere rule s')) (IsBeginning rule) → FirstRuns source' sink' new
       counts_end sink' new writes = record {
         given = given_now;
         ended = true;
         gives = gives_more true counts;
+        written = going.written.bytes ++ writes.bytes;
+        writes = Appends-trans (K.taken begun) (K.taken sink) (K.taken sink') going.written.bytes writes.bytes going.writes writes.appends;
         first = going.written.runs ++ writes.runs;
         counted = counts_then going.written.runs writes.runs zeros old new going.counted writes.counted;
         beginning = λ p bytes runs of may are.
@@ -422,6 +442,7 @@ module _ {R W : Type 0} (S : SourceGhosts R) (K : SinkGhosts W) (source : R) (si
       by_error PositionLimit only = absurd only
 
 -- what was counted, by how it ended
-pub leaves_counts : {R : Type 0} (S : SourceGhosts R) (AreSearched : Patterns → Type 0) (source source' : R) (counts counts' : List ℕ) (result : Result (Unit {0}) StreamError)
-    → OnOk result (CountsRuns S AreSearched source source' counts counts') → OnErr result (CountsFirstRuns S AreSearched source source' counts counts') → LeavesCounted S AreSearched source source' counts counts' result
-leaves_counts S AreSearched source source' counts counts' result all some = record { counted = all; begun = some }
+pub leaves_counts : {R W : Type 0} (S : SourceGhosts R) (K : SinkGhosts W) (AreSearched : Patterns → Type 0) (rule : PieceRule) (source source' : R) (sink sink' : W) (counts counts' : List ℕ) (result : Result (Unit {0}) StreamError)
+    → OnOk result (CountsRuns S AreSearched source source' counts counts') → OnErr result (CountsWritten S K AreSearched rule source source' sink sink' counts counts')
+    → LeavesCounted S K AreSearched rule source source' sink sink' counts counts' result
+leaves_counts S K AreSearched rule source source' sink sink' counts counts' result all some = record { counted = all; begun = some }

@@ -1,5 +1,5 @@
 -- What the cover of a stream leaves, and why one is refused.
-use Rattle.std.specs.Prelude.{◌≡◌, ℕ, ◌+◌, ◌<◌, ◌≤◌, Bool, true, List, [], ◌∷◌, ◌++◌, Option, Some, Result, Err, IfErr, OnErr, OnOk, if◌then◌else◌, length, map, nat_le, slice_range}
+use Rattle.std.specs.Prelude.{◌≡◌, ℕ, ◌+◌, ◌*◌, ◌<◌, ◌≤◌, Bool, true, List, [], ◌∷◌, ◌++◌, Option, Some, Result, Err, IfErr, OnErr, OnOk, if◌then◌else◌, length, map, nat_le, slice_range}
 use Rattle.std.specs.Io.{StartsWith}
 use Rattle.std.specs.Io.KnownBytes.{Appends}
 use Rattle.aho_core.specs.declared.error.MatchErrorKind.{MatchErrorKind}
@@ -22,7 +22,7 @@ use Rattle.aho_stream.specs.Refills.{is_limit}
 use Rattle.aho_stream.specs.Replacing.{GaveAsMany, MayBe, SourceGave}
 use Rattle.aho_cover.specs.declared.progress.CoverProgress.{CoverProgress}
 use Rattle.aho_cover.specs.Counting.{CountsThese, no_output}
-use Rattle.aho_cover.specs.Pieces.{IsCoverBy, PieceRule, fixed_rule, piece_in}
+use Rattle.aho_cover.specs.Pieces.{EndsAmong, IsCoverBy, PieceRule, fixed_rule, piece_in}
 use Rattle.aho_cover.specs.Progress.{IsSoundCover}
 use Rattle.aho_cover.specs.Steps.{CoversOn}
 
@@ -100,19 +100,31 @@ module _ {R : Type 0} (S : SourceGhosts R) (AreSearched : Patterns → Type 0) (
     pub gives : SourceGave S source source' given true
     pub counted : (p : Patterns) (runs : List Occurrence) → AreSearched p → AreRuns p given runs → CountsThese runs counts counts'
 
-  -- some first runs were counted, whatever bytes may follow
-  pub record CountsFirstRuns : Type 0 where
+-- the same with what it writes: a piece that is made of each run
+module _ {R W : Type 0} (S : SourceGhosts R) (K : SinkGhosts W) (AreSearched : Patterns → Type 0) (rule : PieceRule) (source source' : R) (sink sink' : W) (counts counts' : List ℕ) where
+  -- some first runs were counted, whatever bytes may follow: those whose pieces were written
+  pub record CountsWritten : Type 0 where
     pub given : List ℕ
     pub ended : Bool
     pub gives : SourceGave S source source' given ended
+    pub written : List ℕ
+    pub writes : Appends (K.taken sink) (K.taken sink') written
     pub first : List Occurrence
-    pub beginning : (p : Patterns) (bytes : List ℕ) (runs : List Occurrence) → AreSearched p → MayBe given ended bytes → AreRuns p bytes runs → (later : List Occurrence) × (runs ≡ first ++ later)
     pub counted : CountsThese first counts counts'
+    pub beginning : (p : Patterns) (bytes : List ℕ) (runs : List Occurrence) → AreSearched p → MayBe given ended bytes → AreRuns p bytes runs
+        → (later : List Occurrence) × (runs ≡ first ++ later) × EndsAmong bytes (piece_in rule bytes) first later written
 
   -- what a cover counts that answers so
   pub record LeavesCounted (result : Result (Unit {0}) StreamError) : Type 0 where
-    pub counted : OnOk result CountsRuns
-    pub begun : OnErr result CountsFirstRuns
+    pub counted : OnOk result (CountsRuns S AreSearched source source' counts counts')
+    pub begun : OnErr result CountsWritten
+
+-- look-ups: at most two for each byte that the source gave
+pub record TwoAByte {R : Type 0} (S : SourceGhosts R) (source source' : R) (lookups : ℕ) : Type 0 where
+  pub given : List ℕ
+  pub ended : Bool
+  pub gives : SourceGave S source source' given ended
+  pub at_most : lookups ≤ 2 * length given
 
 -- a cover of a stream is refused for this reason where there is one, and for no other
 pub record RefusesStreamCover {T : Type 0} (refusal : Option MatchErrorKind) (result : Result T StreamError) : Type 0 where

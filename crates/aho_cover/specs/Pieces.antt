@@ -1,5 +1,6 @@
 -- The piece of a run, made of the number of its pattern and of its bytes.
-use Rattle.std.specs.Prelude.{◌≡◌, ℕ, List, [], slice_index_or, slice_range}
+use Rattle.std.specs.Prelude.{◌≡◌, ℕ, List, [], ◌∷◌, ◌++◌, slice_index_or, slice_range}
+use Rattle.std.specs.Io.{StartsWith}
 use Rattle.aho_core.specs.Cover.{AreRuns}
 use Rattle.aho_core.specs.Occurrence.{Occurrence}
 use Rattle.aho_core.specs.Patterns.{Patterns}
@@ -17,6 +18,16 @@ piece_in rule haystack run = rule run.pattern (slice_range haystack run.start ru
 -- one piece for each pattern, whatever the bytes of a run are
 abbrev pub fixed_rule : List (List ℕ) → PieceRule
 fixed_rule pieces number bytes = slice_index_or pieces number []
+
+-- the bytes up to the end of the last of some runs, with a piece in the place of each
+abbrev pub covered_through : List ℕ → ℕ → List Occurrence → (Occurrence → List ℕ) → List ℕ
+covered_through haystack at [] piece = []
+covered_through haystack at (run ∷ runs) piece = slice_range haystack at run.start ++ (piece run ++ covered_through haystack run.end runs piece)
+
+-- of a cover these first runs were written with their pieces, and nothing behind the piece of the run that follows them
+pub record EndsAmong (haystack : List ℕ) (piece : Occurrence → List ℕ) (first later : List Occurrence) (written : List ℕ) : Type 0 where
+  pub whole : StartsWith written (covered_through haystack 0 first piece)
+  pub no_more : (next : Occurrence) (rest : List Occurrence) → later ≡ next ∷ rest → StartsWith (covered_through haystack 0 (first ++ next ∷ []) piece) written
 
 -- the cover of a text: each run is replaced by the piece that is made of it
 abbrev pub IsCoverBy : Patterns → List ℕ → PieceRule → List ℕ → Type 0

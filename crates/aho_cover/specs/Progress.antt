@@ -14,7 +14,7 @@ use Rattle.aho_cover.specs.declared.hand.Hand.{Hand}
 use Rattle.aho_cover.specs.declared.progress.CoverProgress.{CoverProgress}
 use Rattle.aho_cover.specs.Hand.{HasItsFirst, first_start, held_runs, room_in}
 use Rattle.aho_cover.specs.Counting.{Output}
-use Rattle.aho_cover.specs.Pieces.{PieceRule, cover_by, piece_in}
+use Rattle.aho_cover.specs.Pieces.{EndsAmong, PieceRule, cover_by, piece_in}
 use Rattle.aho_cover.specs.Walks.{NoneReaches}
 
 -- before the first byte
@@ -90,10 +90,10 @@ pub record HasCovered (rule : PieceRule) (s : CoverProgress) (at : ℕ) (p : Pat
 abbrev pub ClearlyCovered : PieceRule → CoverProgress → ℕ → ℕ → Patterns → List ℕ → Output → Type 0
 ClearlyCovered rule s at place p haystack written = HasCovered rule s at p haystack written × NoneReaches p haystack at place
 
--- what was written begins the cover of these bytes, and so do its runs
+-- what was written begins the cover of these bytes, and its runs are those whose pieces were written
 abbrev pub IsBeginning : PieceRule → Patterns → List ℕ → Output → Type 0
 IsBeginning rule p haystack written = StartsWith (cover_by p haystack rule) written.bytes
-    × ((later : List Occurrence) × (runs_in p haystack ≡ written.runs ++ later))
+    × ((later : List Occurrence) × (runs_in p haystack ≡ written.runs ++ later) × EndsAmong haystack (piece_in rule haystack) written.runs later written.bytes)
 
 -- it is the cover
 abbrev pub IsAll : PieceRule → Patterns → List ℕ → Output → Type 0

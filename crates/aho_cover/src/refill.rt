@@ -13,7 +13,7 @@ ghost use Rattle.aho_cover.specs.Steps.{MayRoll};
 use crate::progress::CoverProgress;
 use aho_core::error::StreamError;
 use aho_devices::buffer::Buffer;
-use aho_devices::device::Source;
+use aho_devices::device::{Sink, Source};
 
 /// The most bytes that a stream may give: 2^63 - 1.
 const MAX_POSITION: u64 = 9_223_372_036_854_775_807;
@@ -32,11 +32,14 @@ fn make_room(buffer: &mut Buffer)
     }
 }
 
-/// Reads once, behind the bytes that are kept. Says whether the end of the stream was seen.
-pub(crate) fn refill<R: Source>(
+/// Reads once, behind the bytes that are kept. Says whether the end of the stream was seen. The sink shows that all that was written
+/// by now was flushed.
+pub(crate) fn refill<R: Source, W: Sink>(
     progress: &mut CoverProgress,
     source: &mut R,
+    _sink: &W,
 ) -> Result<bool, StreamError>
+    requires flushed { W.flushed _sink.now ≡ true }
     requires sound { IsSoundCover progress.old progress.old.read }
     requires near { MayRoll progress.old }
     requires fed { HasFedFirst progress.old }

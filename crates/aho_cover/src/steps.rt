@@ -1,6 +1,6 @@
 //! One read of a stream: the walk over its bytes, and what is written of them.
 
-ghost use Rattle.std.specs.Prelude.{◌≡◌, ◌+◌, ◌-◌, ◌<◌, ◌≤◌, IfOk, OnErr, OnOk, Ok, IfErr, true, false};
+ghost use Rattle.std.specs.Prelude.{◌≡◌, ◌+◌, ◌-◌, ◌*◌, ◌<◌, ◌≤◌, IfOk, OnErr, OnOk, Ok, IfErr, true, false};
 ghost use Rattle.aho_cover.specs.Feeds.{Feeding, any_bytes};
 ghost use Rattle.aho_cover.specs.Hand.{held_runs};
 ghost use Rattle.aho_cover.specs.Pieces.{PieceRule};
@@ -46,6 +46,7 @@ fn walk_once<A: Automaton, W: Sink, P: Pieces>(
         (IsBeginning (P.rule pieces.old))) }
     ensures rule { P.rule pieces.new ≡ P.rule pieces.old }
     ensures room { KeepsRoom progress.old progress.new }
+    ensures cheap { walk.new.work ≤ 2 * progress.old.read }
     ensures tells { TellsWrites W.Sink sink.old sink.new result }
 {
     let bytes = progress.bytes(at, progress.read);
@@ -87,6 +88,7 @@ fn walk_further<A: Automaton, W: Sink, P: Pieces>(
         (IsBeginning (P.rule pieces.old))) }
     ensures rule { P.rule pieces.new ≡ P.rule pieces.old }
     ensures room { KeepsRoom progress.old progress.new }
+    ensures cheap { walk.new.work ≤ 2 * progress.old.read }
     ensures tells { TellsWrites W.Sink sink.old sink.new result }
 {
     let next = skip(walk, progress, patience, at);
@@ -168,6 +170,7 @@ pub(crate) fn walk_read<A: Automaton, W: Sink, P: Pieces>(
         (IsBeginning (P.rule pieces.old))) }
     ensures rule { P.rule pieces.new ≡ P.rule pieces.old }
     ensures room { KeepsRoom progress.old progress.new }
+    ensures cheap { walk.new.work ≤ 2 * progress.old.read }
     ensures tells { TellsWrites W.Sink sink.old sink.new result }
 {
     let mut at = from;

@@ -18,8 +18,9 @@ ghost use Rattle.aho_core.specs.Replacement.{pieces_of};
 ghost use Rattle.aho_automaton.specs.CoverIters.{cover_refusal_of};
 ghost use Rattle.aho_devices.specs.Errors.{CountsErrors};
 ghost use Rattle.aho_stream.specs.Replacing.{IsMakingRefusal, IsStreamFault};
+ghost use Rattle.aho_cover.specs.Pieces.{fixed_rule};
 ghost use Rattle.aho_cover.specs.Progress.{KeepsRoom};
-ghost use Rattle.aho_cover.specs.Covers.{IsUnbegunCover, LeavesCounted, LeavesCovered, LeavesCoveredBy, RefusesStreamCover};
+ghost use Rattle.aho_cover.specs.Covers.{IsUnbegunCover, LeavesCounted, LeavesCovered, LeavesCoveredBy, RefusesStreamCover, TwoAByte};
 
 use crate::pieces::{PatternPieces, Pieces};
 use crate::progress::CoverProgress;
@@ -32,7 +33,8 @@ use aho_core::error::StreamError;
 use aho_devices::device::{Sink, Source};
 use std::alloc::Global;
 
-/// Covers what a source gives, of a stream that has not begun.
+/// Covers what a source gives, of a stream that has not begun. It has the walk and no automaton: so each look-up is counted, and
+/// they are at most two for each byte that the source gave.
 fn cover_from<A: Automaton, R: Source, W: Sink, P: Pieces>(
     walk: &mut Counted<'_, A>,
     progress: &mut CoverProgress,
@@ -50,8 +52,10 @@ fn cover_from<A: Automaton, R: Source, W: Sink, P: Pieces>(
         source.old source.new sink.old sink.new result }
     ensures errors { CountsErrors R.Source W.Sink
         source.old source.new sink.old sink.new result }
-    ensures counted { LeavesCounted R.Source (A.is_of walk.old.automaton.now)
-        source.old source.new counts.old counts.new result }
+    ensures counted { LeavesCounted R.Source W.Sink
+        (A.is_of walk.old.automaton.now) (P.rule pieces.old)
+        source.old source.new sink.old sink.new counts.old counts.new result }
+    ensures two_look_ups_a_byte { TwoAByte R.Source source.old source.new walk.new.work }
     ensures room { KeepsRoom progress.old progress.new }
     ensures only { IfErr result IsStreamFault }
     ensures rule { P.rule pieces.new ≡ P.rule pieces.old }
@@ -60,7 +64,7 @@ fn cover_from<A: Automaton, R: Source, W: Sink, P: Pieces>(
         sink.flush()?;
         progress.feed_first(pieces);
         let from = progress.read;
-        if refill(progress, source)? {
+        if refill(progress, source, &*sink)? {
             return progress.finish(sink, pieces, counts);
         }
         walk_read(walk, progress, sink, pieces, counts, from)?;
@@ -110,7 +114,8 @@ pub fn cover_stream<'a, A: Automaton, R: Source, W: Sink>(
 ///
 /// # Errors
 ///
-/// As `cover_stream`. Some first runs of the cover were counted then: those whose pieces were written whole.
+/// As `cover_stream`. Some first runs of the cover were counted then: those whose pieces were written, before anything was written
+/// behind them.
 pub fn cover_counted<A: Automaton, R: Source, W: Sink>(
     start: &mut StreamCoverStart<'_, A>,
     source: &mut R,
@@ -124,8 +129,9 @@ pub fn cover_counted<A: Automaton, R: Source, W: Sink>(
     ensures leaves { LeavesCovered R.Source W.Sink
         (A.is_of start.old.automaton.now) (pieces_of replace_with.now)
         source.old source.new sink.old sink.new result }
-    ensures counted { LeavesCounted R.Source (A.is_of start.old.automaton.now)
-        source.old source.new counts.old counts.new result }
+    ensures counted { LeavesCounted R.Source W.Sink
+        (A.is_of start.old.automaton.now) (fixed_rule (pieces_of replace_with.now))
+        source.old source.new sink.old sink.new counts.old counts.new result }
     ensures same { start.new.automaton.now ≡ start.old.automaton.now }
     ensures unbegun { IsUnbegunCover A.Automaton start.new.automaton.now start.new.progress }
     ensures errors { CountsErrors R.Source W.Sink
@@ -156,8 +162,9 @@ pub fn cover_made<A: Automaton, R: Source, W: Sink, P: Pieces>(
     ensures leaves { LeavesCoveredBy R.Source W.Sink
         (A.is_of start.old.automaton.now) (P.rule pieces.old)
         source.old source.new sink.old sink.new result }
-    ensures counted { LeavesCounted R.Source (A.is_of start.old.automaton.now)
-        source.old source.new counts.old counts.new result }
+    ensures counted { LeavesCounted R.Source W.Sink
+        (A.is_of start.old.automaton.now) (P.rule pieces.old)
+        source.old source.new sink.old sink.new counts.old counts.new result }
     ensures same { start.new.automaton.now ≡ start.old.automaton.now }
     ensures unbegun { IsUnbegunCover A.Automaton start.new.automaton.now start.new.progress }
     ensures errors { CountsErrors R.Source W.Sink

@@ -207,3 +207,24 @@ returns-clause-can g c =
             (subst (λ x. Feeding (g.P.Pieces.holds c.join.new.pieces) new (CoversOn a x rule new (c.args.at + r.count)) p haystack (put_on written writes.bytes writes.runs)) back (writes.follows p haystack written (covers, fed))),
       );
     }
+
+-- two look-ups for each byte pay for it
+cheap : (g : Over) (c : After-walk_to_match-reached g) → c.walk_to_match-reached.new.walk.work ≤ 2 * c.args.progress.now.read
+cheap g c =
+    let (p, haystack, written, (covers, fed)) = c.requires.can.stands in
+    omega (arith, c.walk_to_match-reached.ensures.cost, c.requires.can.cheap, within g c p haystack written covers)
+
+pub returns-in_default-clause-cheap : goal.returns-in_default-clause-cheap
+returns-in_default-clause-cheap g c =
+    let d = (goal.at.returns-in_default-clause-cheap g c).After-walk_to_match-reached in
+    cheap g d
+
+pub returns-in_err-join-clause-cheap : goal.returns-in_err-join-clause-cheap
+returns-in_err-join-clause-cheap g c =
+    let d = (goal.at.returns-in_err-join-clause-cheap g c).After-walk_to_match-reached in
+    cheap g d
+
+pub returns-clause-cheap : goal.returns-clause-cheap
+returns-clause-cheap g c =
+    let d = (goal.at.returns-clause-cheap g c).After-walk_to_match-reached in
+    cheap g d

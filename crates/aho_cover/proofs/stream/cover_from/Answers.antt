@@ -11,7 +11,7 @@ use Rattle.aho_cover.specs.Pieces.{PieceRule}
 use Rattle.aho_cover.specs.Progress.{IsSoundCover}
 use Rattle.aho_cover.specs.Steps.{CoversOn, IsPrompt, MayRoll}
 use Rattle.aho_cover.proofs.Copied.{nothing_between}
-use Rattle.aho_cover.proofs.Going.{Going, begins_end, begins_more, begins_on, counts_all, counts_end, counts_more, counts_on, covers_all, covers_more, err_passed, going_begins, going_counts, going_fed, going_first, going_kept, going_on, leaves_counts, leaves_ended, leaves_read, leaves_written, limit_more, upto_more}
+use Rattle.aho_cover.proofs.Going.{Going, begins_end, begins_more, begins_on, counts_all, counts_end, counts_more, counts_on, covers_all, covers_more, err_passed, going_begins, going_counts, going_fed, going_first, going_kept, going_on, going_paid, paid_more, leaves_counts, leaves_ended, leaves_read, leaves_written, limit_more, upto_more}
 use Rattle.aho_cover.proofs.Written.{if_err, if_ok}
 use Rattle.aho_cover.proofs.stream.cover_from.Given.{Over}
 use Rattle.aho_cover.proofs.stream.cover_from.Goals.{After-feed_first, Else-branch}
@@ -173,13 +173,13 @@ pub returns-in_err-flush-clause-counted : goal.returns-in_err-flush-clause-count
 returns-in_err-flush-clause-counted g c =
     let inv = c.loop-progress.invariant in
     rw (err_passed c.from_residual.result c.in_err-flush.field-0.0 c.from_residual.ensures.1)
-    (leaves_counts _ _ _ _ _ _ (Err c.in_err-flush.field-0.0) tt (going_counts _ _ _ _ _ _ _ _ _ _ _ _ (going_kept _ _ _ _ _ _ _ _ _ _ _ _ _ inv.going c.in_err-flush.ensures.kept) inv.sound))
+    (leaves_counts _ _ _ _ _ _ _ _ _ _ (Err c.in_err-flush.field-0.0) tt (going_counts _ _ _ _ _ _ _ _ _ _ _ _ (going_kept _ _ _ _ _ _ _ _ _ _ _ _ _ inv.going c.in_err-flush.ensures.kept) inv.sound))
 
 pub returns-in_err-refill-clause-counted : goal.returns-in_err-refill-clause-counted
 returns-in_err-refill-clause-counted g c =
     let d = (goal.at.returns-in_err-refill-clause-counted g c).After-feed_first in
     rw (err_passed c.from_residual-in_err-refill.result c.in_err-refill.field-0.0 c.from_residual-in_err-refill.ensures.1)
-    (leaves_counts _ _ _ _ _ _ (Err c.in_err-refill.field-0.0) tt (counts_more _ _ _ _ _ _ _ _ _ _ _ _ _ _ (fed g d) c.in_err-refill.ensures.takes (sound_now g d) c.in_err-refill.ensures.ended))
+    (leaves_counts _ _ _ _ _ _ _ _ _ _ (Err c.in_err-refill.field-0.0) tt (counts_more _ _ _ _ _ _ _ _ _ _ _ _ _ _ (fed g d) c.in_err-refill.ensures.takes _ (fed g d).writes (sound_now g d) c.in_err-refill.ensures.ended))
 
 pub returns-then-branch-clause-counted : goal.returns-then-branch-clause-counted
 returns-then-branch-clause-counted g c =
@@ -190,7 +190,7 @@ returns-then-branch-clause-counted g c =
     let ended : c.in_ok-refill.field-0 ≡ true = c.if-branch.true in
     let same = refilled.none (ap Ok ended) in
     let counts = subst (λ (b : Bool). g.R.Source.empty_reads c.refill.new.source ≡ counted b (g.R.Source.empty_reads c.loop-progress.source)) ended refilled.ended in
-    leaves_counts _ _ _ _ _ _ c.finish.result
+    leaves_counts _ _ _ _ _ _ _ _ _ _ c.finish.result
     (if_ok c.finish.result _ _ (λ writes. counts_all _ _ _ _ _ _ _ _ _ _ _ _ _ _ going refilled.takes same counts _ _ writes) (rw made at c.finish.ensures.covers))
     (if_err c.finish.result _ _ (λ writes. counts_end _ _ _ _ _ _ _ _ _ _ _ _ _ _ going refilled.takes same counts _ _ writes) (rw made at c.finish.ensures.begins))
 
@@ -199,5 +199,31 @@ returns-in_err-walk_read-clause-counted g c =
     let d = (goal.at.returns-in_err-walk_read-clause-counted g c).After-feed_first in
     let e = (goal.at.returns-in_err-walk_read-clause-counted g c).Else-branch in
     rw (err_passed c.from_residual-in_err-walk_read.result c.in_err-walk_read.field-0.0 c.from_residual-in_err-walk_read.ensures.1)
-    (leaves_counts _ _ _ _ _ _ (Err c.in_err-walk_read.field-0.0) tt
+    (leaves_counts _ _ _ _ _ _ _ _ _ _ (Err c.in_err-walk_read.field-0.0) tt
     (counts_on _ _ _ _ _ _ _ _ _ _ _ _ _ _ (fed g d) c.in_ok-refill.ensures.takes _ _ (rw (c.feed_first.ensures.rule ∙ c.loop-progress.invariant.rule) at (rw c.loop-progress.invariant.same at c.in_err-walk_read.ensures.begins)) (not_ended g e)))
+
+-- the look-ups, by how it ended
+pub returns-in_err-flush-clause-two_look_ups_a_byte : goal.returns-in_err-flush-clause-two_look_ups_a_byte
+returns-in_err-flush-clause-two_look_ups_a_byte g c =
+    let inv = c.loop-progress.invariant in
+    going_paid _ _ _ _ _ _ _ _ _ _ _ _ inv.going c.loop-progress.walk.work (omega (arith, inv.can.cheap))
+
+pub returns-in_err-refill-clause-two_look_ups_a_byte : goal.returns-in_err-refill-clause-two_look_ups_a_byte
+returns-in_err-refill-clause-two_look_ups_a_byte g c =
+    let d = (goal.at.returns-in_err-refill-clause-two_look_ups_a_byte g c).After-feed_first in
+    let read = ap (λ (s : CoverProgress). s.read) c.feed_first.ensures.only in
+    paid_more _ _ _ _ _ _ _ _ _ _ _ _ _ _ (fed g d) c.in_err-refill.ensures.takes false c.in_err-refill.ensures.ended c.loop-progress.walk.work (omega (arith, c.loop-progress.invariant.can.cheap, read, c.in_err-refill.ensures.fails))
+
+pub returns-then-branch-clause-two_look_ups_a_byte : goal.returns-then-branch-clause-two_look_ups_a_byte
+returns-then-branch-clause-two_look_ups_a_byte g c =
+    let d = (goal.at.returns-then-branch-clause-two_look_ups_a_byte g c).After-feed_first in
+    let refilled = c.in_ok-refill.ensures in
+    let read = ap (λ (s : CoverProgress). s.read) c.feed_first.ensures.only in
+    let ended : c.in_ok-refill.field-0 ≡ true = c.if-branch.true in
+    paid_more _ _ _ _ _ _ _ _ _ _ _ _ _ _ (fed g d) refilled.takes c.in_ok-refill.field-0 refilled.ended c.loop-progress.walk.work (omega (arith, c.loop-progress.invariant.can.cheap, read, refilled.none (ap Ok ended)))
+
+pub returns-in_err-walk_read-clause-two_look_ups_a_byte : goal.returns-in_err-walk_read-clause-two_look_ups_a_byte
+returns-in_err-walk_read-clause-two_look_ups_a_byte g c =
+    let d = (goal.at.returns-in_err-walk_read-clause-two_look_ups_a_byte g c).After-feed_first in
+    let e = (goal.at.returns-in_err-walk_read-clause-two_look_ups_a_byte g c).Else-branch in
+    paid_more _ _ _ _ _ _ _ _ _ _ _ _ _ _ (fed g d) c.in_ok-refill.ensures.takes false (not_ended g e) c.walk_read.new.walk.work c.in_err-walk_read.ensures.cheap

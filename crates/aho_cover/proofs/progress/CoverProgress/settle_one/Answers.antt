@@ -8,9 +8,9 @@ use Rattle.aho_cover.specs.Feeds.{Feeding}
 use Rattle.aho_cover.specs.Hand.{held_runs}
 use Rattle.aho_cover.specs.Pieces.{piece_in}
 use Rattle.aho_cover.specs.Progress.{ClearlyCovered, HasCovered}
-use Rattle.aho_cover.proofs.Copied.{nothing_between}
+use Rattle.aho_cover.proofs.Copied.{nothing_between, through-run}
 use Rattle.aho_cover.proofs.Counted.{counts_none}
-use Rattle.aho_cover.proofs.Covered.{begins_before, has-begun, has-settled}
+use Rattle.aho_cover.proofs.Covered.{begins_within, has-begun, has-settled}
 use Rattle.aho_cover.proofs.Fed.{fed-rest, fed-start}
 use Rattle.aho_cover.proofs.Sound.{first-lies, first-fed, sound-settled}
 use Rattle.aho_cover.proofs.Written.{on_err, writes_nothing}
@@ -88,8 +88,11 @@ returns-in_err-write_both-clause-begins g c =
       counted = counts_none c.args.counts.now;
       follows = λ p haystack written before.
           let rule = g.P.Pieces.rule c.args.pieces.now in
-          begins_before p haystack rule written (c.gap-gap.result.now ++ c.piece.result.now) (run ∷ []) some.0 some.1
-          (has-begun p haystack rule (record s { copied = run.end; hand = c.take_before.new.self }) at _ (covered g d at p haystack written before run.end refl) after.behind);
+          let settled = covered g d at p haystack written before run.end refl in
+          begins_within p haystack rule written (c.gap-gap.result.now ++ c.piece.result.now) run some.0 some.1
+          (through-run haystack (piece_in rule haystack) 0 written.runs run ∙ sym settled.written_is)
+          (has-begun p haystack rule s at written before.0.0 sound.1.behind)
+          (has-begun p haystack rule (record s { copied = run.end; hand = c.take_before.new.self }) at _ settled after.behind);
     })
 
 pub returns-clause-sound : goal.returns-clause-sound
