@@ -98,7 +98,7 @@ impl Masks {
     pub(crate) fn groups(&self, bytes: u8x32) -> u8x32
         ensures groups { HasLanes result (λ k. groups_of self.now (slice_index bytes k)) }
     {
-        by_low_half(&self.low, bytes) & by_high_half(&self.high, bytes)
+        self.low_groups(bytes) & by_high_half(&self.high, bytes)
     }
 
     /// The groups that the low half of each of these bytes meets.

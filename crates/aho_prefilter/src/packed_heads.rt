@@ -257,13 +257,7 @@ impl PackedHeads {
 
     /// The same by these halves: a loop of its own for each.
     #[inline(always)]
-    fn next_tested(
-        &self,
-        tested: Tested,
-        bytes: &[u8],
-        from: usize,
-        blocks: usize,
-    ) -> Option<Block>
+    fn next_tested(&self, tested: Tested, bytes: &[u8], from: usize, blocks: usize) -> Option<Block>
         requires within { blocks * 32 ≤ length bytes.now - 15 }
         ensures next { IsNextBlock tested self.now bytes.now from blocks result }
     {
