@@ -20,23 +20,23 @@ module _ (p : Patterns) (search : PackedHeads) (are : AreHeadsOf p search) where
 
   module _ (haystack : List ℕ) (start end : ℕ) (ordered : start ≤ end) (within : end ≤ length haystack) where
     -- where a pattern occurs, the search may stop
-    may_start : (m : Occurrence) → Occurs p No haystack start end m → MayStartAt (packed_heads_of p.ignore_case are.size p.words) (slice_range haystack start end) (m.start - start)
+    may_start : (m : Occurrence) → Occurs p No haystack start end m → MayStartAt (packed_heads_of p.ignore_case are.tested are.size p.words) (slice_range haystack start end) (m.start - start)
     may_start m o =
         let low : start ≤ m.start = o.after_start in
         let long : m.start + length (pattern_at p m.pattern) ≡ m.end = o.sized in
         let high : m.end ≤ end = o.before_end in
-        MayStartAt-stands p.ignore_case are.size p.words (slice_range haystack start end) m.pattern (m.start - start) o.numbered (are.long m.pattern o.numbered)
+        MayStartAt-stands p.ignore_case are.tested are.size p.words (slice_range haystack start end) m.pattern (m.start - start) o.numbered (are.long m.pattern o.numbered)
         (stands p some haystack start end ordered within m o) (omega (arith, length_part haystack start end within))
 
     -- where the search finds no place nothing occurs
-    none_made : IsFirstHeaded (packed_heads_of p.ignore_case are.size p.words) (slice_range haystack start end) None → NothingOccurs p haystack start end
+    none_made : IsFirstHeaded (packed_heads_of p.ignore_case are.tested are.size p.words) (slice_range haystack start end) None → NothingOccurs p haystack start end
     none_made none m o = none (m.start - start) (omega arith) (inside p some haystack start end ordered within m o) (may_start m o)
 
     pub heads-none : IsFirstHeaded search (slice_range haystack start end) None → NothingOccurs p haystack start end
     heads-none none = none_made (subst (λ s. IsFirstHeaded s (slice_range haystack start end) None) are.made none)
 
     -- nothing starts before the place that it finds
-    start_made : (at : ℕ) → IsFirstHeaded (packed_heads_of p.ignore_case are.size p.words) (slice_range haystack start end) (Some at) → IsPossibleStart p haystack start end (start + at)
+    start_made : (at : ℕ) → IsFirstHeaded (packed_heads_of p.ignore_case are.tested are.size p.words) (slice_range haystack start end) (Some at) → IsPossibleStart p haystack start end (start + at)
     start_made at found = record {
       after_start = omega arith;
       before_end = omega (arith, found.0.high, length_part haystack start end within);

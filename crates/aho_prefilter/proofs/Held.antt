@@ -212,5 +212,5 @@ IsPrefilterOf-kind p kind (Memchr x) is = λ k below. record { some = (is k belo
 IsPrefilterOf-kind p kind (Memchr2 x y) is = λ k below. record { some = (is k below).some; first = (is k below).first }
 IsPrefilterOf-kind p kind (Memchr3 x y z) is = λ k below. record { some = (is k below).some; first = (is k below).first }
 IsPrefilterOf-kind p kind (Packed packed) is = record { some = is.some; made = is.made }
-IsPrefilterOf-kind p kind (PackedHeads search) is = record { size = is.size; some = is.some; short = is.short; long = is.long; made = is.made }
+IsPrefilterOf-kind p kind (PackedHeads search) is = record { size = is.size; some = is.some; short = is.short; long = is.long; tested = is.tested; made = is.made }
 IsPrefilterOf-kind p kind (Strided marks) is = record { rule = is.rule; sizes = is.sizes; each = is.each }

@@ -8,8 +8,9 @@ use Rattle.aho_core.specs.declared.search.MatchKind.{MatchKind}
 use Rattle.aho_core.specs.Patterns.{Patterns}
 use Rattle.aho_prefilter.specs.Prefilter.{AreHeadsOf, AreMarksOf, IsPrefilterOf, heads_or_strided, held_or_packed, packed_heads_for, quickest_for, strided_for, yields}
 use Rattle.aho_prefilter.specs.PackedHeads.{packed_heads_of}
-use Rattle.aho_prefilter.specs.Sizes.{few_heads_for, gram_for, is_few, least_head, is_crowded, is_small, shape_of, sizes_for, stride_for}
+use Rattle.aho_prefilter.specs.Sizes.{few_heads_for, gram_for, is_few, least_head, is_crowded, is_small, shape_of, sizes_for, stride_for, tested_for}
 use Rattle.aho_prefilter.specs.Strided.{AreStrideSizes, marks_of, no_marks}
+use Rattle.aho_prefilter.specs.declared.packed_heads.Tested.{Tested}
 use Rattle.aho_prefilter.specs.declared.prefilter.Searcher.{Searcher}
 use Rattle.aho_prefilter.specs.declared.prefilter.Searcher.TheVariants.{PackedHeads, Strided}
 use Rattle.aho_prefilter.specs.declared.strided.sizes.Shape.{Shape}
@@ -89,17 +90,21 @@ few_heads-sized s size held = by_test (is_few s) refl held
 packed_heads_for-of : (p : Patterns) (searcher : Searcher) → packed_heads_for p ≡ Some searcher → IsPrefilterOf searcher p
 packed_heads_for-of p searcher held = by_size (few_heads_for (shape_of p.ignore_case p.words)) refl held
   where
+    tested : Tested
+    tested = tested_for (shape_of p.ignore_case p.words)
+
     by_size : (found : Option ℕ) → few_heads_for (shape_of p.ignore_case p.words) ≡ found
-        → option_map (λ (size : ℕ). PackedHeads (packed_heads_of p.ignore_case size p.words)) found ≡ Some searcher → IsPrefilterOf searcher p
+        → option_map (λ (size : ℕ). PackedHeads (packed_heads_of p.ignore_case tested size p.words)) found ≡ Some searcher → IsPrefilterOf searcher p
     by_size Nothing are is = cc
     by_size (Some size) are is =
-        let e : searcher ≡ PackedHeads (packed_heads_of p.ignore_case size p.words) = cc in
+        let e : searcher ≡ PackedHeads (packed_heads_of p.ignore_case tested size p.words) = cc in
         let sized = few_heads-sized (shape_of p.ignore_case p.words) size are in
-        let made : AreHeadsOf p (packed_heads_of p.ignore_case size p.words) = record {
+        let made : AreHeadsOf p (packed_heads_of p.ignore_case tested size p.words) = record {
           size = size;
           some = omega (arith, sized.1);
           short = omega (arith, sized.0, least_head-few p.words);
           long = λ k below. omega (arith, sized.0, least_head-each p.words k below);
+          tested = tested;
           made = refl;
         } in
         rw e made

@@ -14,6 +14,8 @@ pub mod Skips
 pub mod Literally
 -- vectors, lane by lane
 mod Lanes
+-- what is looked up at bytes that were loaded
+mod Loaded
 -- words that were added to a packed search meet its masks where they stand
 pub mod PackedSound
 -- what the packed search for the patterns finds

@@ -28,7 +28,7 @@ HasBit-or_right x y i is = omega (arith, is, bit_at_or x y i, bit_at-lt x i)
 pub HasBit-and : (x y i : ℕ) → HasBit x i → HasBit y i → HasBit (bit_and x y) i
 HasBit-and x y i is also = omega (arith, is, also, bit_at_and x y i)
 
-HasBit-of_and : (x y i : ℕ) → HasBit (bit_and x y) i → HasBit x i × HasBit y i
+pub HasBit-of_and : (x y i : ℕ) → HasBit (bit_and x y) i → HasBit x i × HasBit y i
 HasBit-of_and x y i is = (omega (arith, is, bit_at_and x y i, bit_at-lt x i, bit_at-lt y i), omega (arith, is, bit_at_and x y i, bit_at-lt x i, bit_at-lt y i))
 
 pub HasBit-some : (x i : ℕ) → HasBit x i → x ≢ 0

@@ -15,7 +15,7 @@ use Rattle.aho_prefilter.specs.PackedHeads.{TellsHeadAt}
 -- bits that are left tell those from it on
 pub record AreLeft (heads : HeadMarks) (bytes : List ℕ) (at met left place turn : ℕ) : Type 0 where
   pub turns : at + turn ≤ place
-  pub within : place ≤ at + 16
+  pub within : place ≤ at + 32
   pub small : left < 2 ^ 64
   pub bits : (k : ℕ) → bit_at left k ≡ bit_at met (place - at + k)
   pub none : Nowhere (TellsHeadAt heads bytes at met) at place
@@ -47,7 +47,7 @@ module _ (heads : HeadMarks) (bytes : List ℕ) (at met : ℕ) where
         are.bits (k - place) ∙ ap (λ n. bit_at met n) (omega arith) ∙ told.told
 
     -- where no bit is left there is none
-    pub Nowhere-left : left ≡ 0 → Nowhere (TellsHeadAt heads bytes at met) at (at + 16)
+    pub Nowhere-left : left ≡ 0 → Nowhere (TellsHeadAt heads bytes at met) at (at + 32)
     Nowhere-left nothing k low high told =
         elim (cases_lt k place) [
           | inl before ↦ are.none k low before told
@@ -58,10 +58,10 @@ module _ (heads : HeadMarks) (bytes : List ℕ) (at met : ℕ) where
         ]
 
     -- nor behind as many turns as there are places
-    pub Nowhere-turns : 16 ≤ turn → Nowhere (TellsHeadAt heads bytes at met) at (at + 16)
+    pub Nowhere-turns : 32 ≤ turn → Nowhere (TellsHeadAt heads bytes at met) at (at + 32)
     Nowhere-turns all k low high told = are.none k low (omega (arith, are.turns)) told
 
-    module _ (few : (k : ℕ) → bit_at met k ≡ 1 → k < 16) (some : left ≢ 0) where
+    module _ (few : (k : ℕ) → bit_at met k ≡ 1 → k < 32) (some : left ≢ 0) where
       lowest : bit_at left (count_trailing_zeros 64 left) ≡ 1
       lowest = (bit_at-trailing_zeros w64 left (omega (arith, some)) are.small).1
 
@@ -71,7 +71,7 @@ module _ (heads : HeadMarks) (bytes : List ℕ) (at met : ℕ) where
           let turns : at + turn ≤ place = are.turns in
           ap (λ n. bit_at met n) (omega arith) ∙ sym (are.bits (count_trailing_zeros 64 left)) ∙ lowest
 
-      pub next_within : place + count_trailing_zeros 64 left < at + 16
+      pub next_within : place + count_trailing_zeros 64 left < at + 32
       next_within = omega (arith, few _ next_told, are.turns)
 
       -- before it none is told
@@ -87,7 +87,7 @@ module _ (heads : HeadMarks) (bytes : List ℕ) (at met : ℕ) where
 
       -- it is the first one, if it has its head
       pub IsFirst-next : StandsHead heads bytes (place + count_trailing_zeros 64 left)
-          → IsFirst (TellsHeadAt heads bytes at met) at (at + 16) (Some (place + count_trailing_zeros 64 left))
+          → IsFirst (TellsHeadAt heads bytes at met) at (at + 32) (Some (place + count_trailing_zeros 64 left))
       IsFirst-next head = (
         record { low = omega (arith, are.turns); high = next_within; before = none-between },
         record { told = next_told; head = head },

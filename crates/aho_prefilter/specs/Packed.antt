@@ -6,14 +6,18 @@ use Rattle.aho_core.specs.Bytes.{opposite}
 use Rattle.aho_prefilter.specs.declared.packed.Masks.{Masks}
 use Rattle.aho_prefilter.specs.declared.packed.Packed.{Packed}
 
--- v has 16 lanes, and lane k holds f k
+-- v has 32 lanes, and lane k holds f k
 pub record HasLanes (v : List ℕ) (f : ℕ → ℕ) : Type 0 where
-  pub long : length v ≡ 16
-  pub each : (k : ℕ) → k < 16 → slice_index v k ≡ f k
+  pub long : length v ≡ 32
+  pub each : (k : ℕ) → k < 32 → slice_index v k ≡ f k
 
 -- the groups that a byte meets, a bit for each: those of both of its halves
 abbrev pub groups_of : Masks → ℕ → ℕ
 groups_of masks byte = bit_and (slice_index masks.low (byte % 16)) (slice_index masks.high (byte / 16 % 16))
+
+-- the groups that a byte meets by its low half alone
+abbrev pub low_groups_of : Masks → ℕ → ℕ
+low_groups_of masks byte = slice_index masks.low (byte % 16)
 
 -- the groups that a place and the two behind it meet; past the end of the bytes zeros stand
 abbrev pub groups_at : Packed → List ℕ → ℕ → ℕ
@@ -21,6 +25,13 @@ groups_at packed bytes at =
     bit_and
     (bit_and (groups_of packed.first (slice_index bytes at)) (groups_of packed.second (slice_index bytes (at + 1))))
     (groups_of packed.third (slice_index bytes (at + 2)))
+
+-- the groups that they meet by their low halves alone
+abbrev pub low_groups_at : Packed → List ℕ → ℕ → ℕ
+low_groups_at packed bytes at =
+    bit_and
+    (bit_and (low_groups_of packed.first (slice_index bytes at)) (low_groups_of packed.second (slice_index bytes (at + 1))))
+    (low_groups_of packed.third (slice_index bytes (at + 2)))
 
 -- the place meets some group
 abbrev pub MeetsAt : Packed → List ℕ → ℕ → Type 0

@@ -11,10 +11,11 @@ use Rattle.aho_prefilter.specs.declared.prefilter.Searcher.{Searcher}
 use Rattle.aho_prefilter.specs.declared.prefilter.Searcher.TheVariants.{Memmem, Memchr, Memchr2, Memchr3, Packed, PackedHeads, Strided}
 use Rattle.aho_prefilter.specs.Packed.{packed_of}
 use Rattle.aho_prefilter.specs.PackedHeads.{HaveSize, packed_heads_of}
-use Rattle.aho_prefilter.specs.Sizes.{few_heads_for, shape_of, sizes_for}
+use Rattle.aho_prefilter.specs.Sizes.{few_heads_for, shape_of, sizes_for, tested_for}
 use Rattle.aho_prefilter.specs.Strided.{HasMarksOf, AreStrideSizes, Marks, marks_of}
 use Rattle.aho_prefilter.specs.declared.packed.Packed.{Packed as Fingerprints}
 use Rattle.aho_prefilter.specs.declared.packed_heads.PackedHeads.{PackedHeads as FingerprintsAndHeads}
+use Rattle.aho_prefilter.specs.declared.packed_heads.Tested.{Tested}
 
 -- the needle is the only pattern, which is not empty, and its bytes are compared as they are
 pub record IsOnlyPattern (p : Patterns) (needle : List ℕ) : Type 0 where
@@ -42,7 +43,8 @@ pub record AreHeadsOf (p : Patterns) (search : FingerprintsAndHeads) : Type 0 wh
   pub some : 0 < size
   pub short : size ≤ 16
   pub long : HaveSize size p.words
-  pub made : search ≡ packed_heads_of p.ignore_case size p.words
+  pub tested : Tested
+  pub made : search ≡ packed_heads_of p.ignore_case tested size p.words
 
 -- the case rule is that of the patterns, and the bits of each pattern are set
 pub record AreMarksOf (p : Patterns) (marks : Marks) : Type 0 where
@@ -157,7 +159,8 @@ strided_for p = option_map (λ sizes. Strided (marks_of sizes p.words)) (sizes_f
 -- the packed search with heads, if there is one for patterns of their shape
 abbrev pub packed_heads_for : Patterns → Option Searcher
 packed_heads_for p =
-    option_map (λ size. PackedHeads (packed_heads_of p.ignore_case size p.words)) (few_heads_for (shape_of p.ignore_case p.words))
+    let shape = shape_of p.ignore_case p.words in
+    option_map (λ size. PackedHeads (packed_heads_of p.ignore_case (tested_for shape) size p.words)) (few_heads_for shape)
 
 -- for a few patterns it is held, and else the strided search
 abbrev pub heads_or_strided : Patterns → Option Searcher

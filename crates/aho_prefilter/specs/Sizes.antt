@@ -2,6 +2,8 @@
 use Rattle.std.specs.Prelude.{ℕ, zero, suc, ◌+◌, ◌-◌, ◌*◌, ◌/◌, ◌^◌, min, max, Bool, ◌&&◌, ◌||◌, List, length, nat_le, nat_lt, if◌then◌else◌, Option, Some, None}
 use Rattle.std.specs.List.{fold, list_any}
 use Rattle.aho_prefilter.specs.FirstBytes.{has_byte}
+use Rattle.aho_prefilter.specs.declared.packed_heads.Tested.{Tested}
+use Rattle.aho_prefilter.specs.declared.packed_heads.Tested.TheVariants.{Four, LowFour, LowFive, LowSix}
 use Rattle.aho_prefilter.specs.declared.strided.sizes.Shape.{Shape}
 use Rattle.aho_prefilter.specs.declared.strided.sizes.Sizes.{Sizes}
 
@@ -27,11 +29,25 @@ shape_of ignore_case words = record {
   ignore_case = ignore_case;
 }
 
--- whether there are a few patterns, but enough that three bytes of them stand at many places of a text, and long enough
+-- whether more than thirty-two patterns have heads for which a packed search is better than a strided one: short ones, or
+-- those of words
+abbrev pub has_heads : Shape → Bool
+has_heads s = nat_le 3 s.head && (nat_le s.head 5 || (nat_le s.head 7 && (nat_lt 8 s.letters && nat_le s.letters 32)))
+
+-- whether there are a few patterns, and they are long enough, or so many that three bytes of them stand at many places of a
+-- text
 abbrev pub is_few : Shape → Bool
 is_few s =
-    nat_le 8 s.count
-    && (nat_le 2 s.head && (nat_le s.count 32 || (nat_le s.count 100 && (nat_le 3 s.head && nat_le s.head 5))))
+    nat_le 1 s.count
+    && (nat_le 2 s.head && ((nat_le s.count 32 && (nat_le 4 s.head || nat_le 8 s.count)) || (nat_le s.count 100 && has_heads s)))
+
+-- which halves of how many bytes a packed search with heads looks up: the more patterns, the more bytes
+abbrev pub tested_for : Shape → Tested
+tested_for s =
+    if nat_lt s.head 4 || ((nat_lt 20 s.count && nat_lt s.head 5) || (nat_lt 32 s.count && nat_lt s.head 6)) then Four
+    else if nat_lt s.head 5 || nat_le s.count 8 then LowFour
+    else if nat_lt s.head 6 || nat_le s.count 20 then LowFive
+    else LowSix
 
 -- how many bytes a head has, if a packed search with heads is held for patterns of this shape
 abbrev pub few_heads_for : Shape → Option ℕ

@@ -10,8 +10,9 @@
 //! # The search
 //!
 //! A place may start a pattern only if it and the two places behind it meet one group. A byte shuffle looks up the halves of
-//! sixteen bytes at once, so sixteen places are tested by six of them. The last places, which are too few for a vector, are
-//! copied in front of zeros, so nothing is read past the end.
+//! thirty-two bytes at once, so thirty-two places are tested by six of them; where a processor's vectors have sixteen bytes, it
+//! takes each shuffle twice. The last places, which are too few for a block, are copied in front of zeros, so nothing is read
+//! past the end.
 //!
 //! A place that is found may start no pattern: the halves of a byte, and the bytes of a fingerprint, may come from different
 //! patterns of the group.
@@ -19,13 +20,13 @@
 ghost use Rattle.std.specs.Prelude.{◌≡◌, ◌≢◌, ◌↔◌, ℕ, ◌+◌, ◌-◌, ◌*◌, ◌/◌, ◌%◌, ◌<◌, ◌≤◌, length, slice_index, bit_and};
 ghost use Rattle.std.specs.Int.{bit_at};
 ghost use Rattle.memchr.specs.Find.{IsFirst};
-ghost use Rattle.aho_prefilter.specs.Packed.{HasLanes, IsFirstMet, MeetsAt, groups_at, groups_of, masks_with, masks_with_all, masks_with_cases, masks_with_place, no_masks, packed_with, packed_with_groups};
+ghost use Rattle.aho_prefilter.specs.Packed.{HasLanes, IsFirstMet, MeetsAt, groups_at, groups_of, low_groups_at, low_groups_of, masks_with, masks_with_all, masks_with_cases, masks_with_place, no_masks, packed_with, packed_with_groups};
 
 use aho_core::letters::opposite_ascii_case;
 use std::simd::prelude::*;
 
 /// How many places are looked at at once.
-pub(crate) const LANES: usize = 16;
+pub(crate) const LANES: usize = 32;
 
 /// The masks of one byte of the fingerprints: for each half of a byte the groups that it meets, a bit for each.
 #[derive(Clone, Copy)]
@@ -94,44 +95,63 @@ impl Masks {
 
     /// The groups that each of these bytes meets.
     #[inline(always)]
-    pub(crate) fn groups(&self, bytes: u8x16) -> u8x16
+    pub(crate) fn groups(&self, bytes: u8x32) -> u8x32
         ensures groups { HasLanes result (λ k. groups_of self.now (slice_index bytes k)) }
     {
-        by_low_half(&self.low, bytes) & by_high_half(&self.high, bytes)
+        self.low_groups(bytes) & by_high_half(&self.high, bytes)
     }
+
+    /// The groups that the low half of each of these bytes meets.
+    #[inline(always)]
+    pub(crate) fn low_groups(&self, bytes: u8x32) -> u8x32
+        ensures groups { HasLanes result (λ k. low_groups_of self.now (slice_index bytes k)) }
+    {
+        by_low_half(&self.low, bytes)
+    }
+}
+
+/// A table twice, one behind the other: a vector of thirty-two bytes looks up each half of itself in a table of its own.
+#[inline(always)]
+fn twice(table: &[u8; 16]) -> u8x32
+    ensures held { HasLanes result (λ k. slice_index table.now (k % 16)) }
+{
+    u8x16::from_slice(table).swizzle([
+        0, 1, 2, 3, 4, 5, 6, 7, 8, 9, 10, 11, 12, 13, 14, 15, 0, 1, 2, 3, 4, 5, 6, 7, 8, 9, 10, 11,
+        12, 13, 14, 15,
+    ])
 }
 
 /// What a table holds at the low half of each byte.
 #[inline(always)]
-fn by_low_half(table: &[u8; 16], bytes: u8x16) -> u8x16
+fn by_low_half(table: &[u8; 16], bytes: u8x32) -> u8x32
     ensures held { HasLanes result (λ k. slice_index table.now (slice_index bytes k % 16)) }
 {
-    u8x16::from_slice(table).swizzle_dyn(bytes & u8x16::splat(15))
+    twice(table).swizzle_dyn_within::<16>(bytes & u8x32::splat(15))
 }
 
 /// What a table holds at the high half of each byte.
 #[inline(always)]
-fn by_high_half(table: &[u8; 16], bytes: u8x16) -> u8x16
+fn by_high_half(table: &[u8; 16], bytes: u8x32) -> u8x32
     ensures held { HasLanes result (λ k. slice_index table.now (slice_index bytes k / 16 % 16)) }
 {
-    u8x16::from_slice(table).swizzle_dyn(bytes >> u8x16::splat(4))
+    twice(table).swizzle_dyn_within::<16>(bytes >> u8x32::splat(4))
 }
 
 /// The bytes from a place on.
 #[inline(always)]
-pub(crate) fn load(bytes: &[u8], at: usize) -> u8x16
-    requires within { at + 16 ≤ length bytes.now }
+pub(crate) fn load(bytes: &[u8], at: usize) -> u8x32
+    requires within { at + 32 ≤ length bytes.now }
     ensures loaded { HasLanes result (λ k. slice_index bytes.now (at + k)) }
 {
-    u8x16::from_slice(&bytes[at..])
+    u8x32::from_slice(&bytes[at..])
 }
 
 /// The lanes that meet some group, a bit for each.
 #[inline(always)]
-pub(crate) fn lanes_met(groups: u8x16) -> u64
+pub(crate) fn lanes_met(groups: u8x32) -> u64
     ensures met { (k : ℕ) → (bit_at result k ≡ 1) ↔ (slice_index groups k ≢ 0) }
 {
-    groups.simd_ne(u8x16::splat(0)).to_bitmask()
+    groups.simd_ne(u8x32::splat(0)).to_bitmask()
 }
 
 impl Packed {
@@ -163,10 +183,10 @@ impl Packed {
         self.third.add_place(ignore_case, groups, pattern, 2);
     }
 
-    /// The groups that each of sixteen places meets.
+    /// The groups that each of thirty-two places meets.
     #[inline(always)]
-    pub(crate) fn groups(&self, bytes: &[u8], at: usize) -> u8x16
-        requires within { at + 18 ≤ length bytes.now }
+    pub(crate) fn groups(&self, bytes: &[u8], at: usize) -> u8x32
+        requires within { at + 34 ≤ length bytes.now }
         ensures groups { HasLanes result (λ k. groups_at self.now bytes.now (at + k)) }
     {
         let first = self.first.groups(load(bytes, at));
@@ -175,11 +195,23 @@ impl Packed {
         first & second & third
     }
 
-    /// The first of sixteen places that meets some group.
+    /// The groups that each of thirty-two places meets by the low halves of its bytes.
+    #[inline(always)]
+    pub(crate) fn low_groups(&self, bytes: &[u8], at: usize) -> u8x32
+        requires within { at + 34 ≤ length bytes.now }
+        ensures groups { HasLanes result (λ k. low_groups_at self.now bytes.now (at + k)) }
+    {
+        let first = self.first.low_groups(load(bytes, at));
+        let second = self.second.low_groups(load(bytes, at + 1));
+        let third = self.third.low_groups(load(bytes, at + 2));
+        first & second & third
+    }
+
+    /// The first of thirty-two places that meets some group.
     #[inline(always)]
     fn find_in_block(&self, bytes: &[u8], at: usize) -> Option<usize>
-        requires within { at + 18 ≤ length bytes.now }
-        ensures first { IsFirst (MeetsAt self.now bytes.now) at (at + 16) result }
+        requires within { at + 34 ≤ length bytes.now }
+        ensures first { IsFirst (MeetsAt self.now bytes.now) at (at + 32) result }
     {
         let met = lanes_met(self.groups(bytes, at));
         if met == 0 {
@@ -191,8 +223,8 @@ impl Packed {
     /// The first place of so many blocks that meets some group.
     #[inline(always)]
     fn find_in_blocks(&self, bytes: &[u8], blocks: usize) -> Option<usize>
-        requires within { blocks * 16 ≤ length bytes.now - 2 }
-        ensures first { IsFirst (MeetsAt self.now bytes.now) 0 (blocks * 16) result }
+        requires within { blocks * 32 ≤ length bytes.now - 2 }
+        ensures first { IsFirst (MeetsAt self.now bytes.now) 0 (blocks * 32) result }
     {
         for block in 0..blocks {
             if let Some(at) = self.find_in_block(bytes, block * LANES) {
@@ -218,25 +250,26 @@ impl Packed {
     #[inline(never)]
     fn find_in_rest(&self, bytes: &[u8], from: usize) -> Option<usize>
         requires within { from ≤ length bytes.now }
-        requires few { length bytes.now < from + 18 }
+        requires few { length bytes.now < from + 34 }
         ensures first { IsFirst (MeetsAt self.now bytes.now) from (length bytes.now) result }
     {
         let rest = padded(bytes, from);
-        match self.find_in_blocks(&rest, 2) {
-            Some(at) if at < bytes.len() - from => Some(from + at),
+        let left = bytes.len() - from;
+        match self.find_in_blocks(&rest, left.div_ceil(LANES)) {
+            Some(at) if at < left => Some(from + at),
             _ => None,
         }
     }
 }
 
 /// The bytes from a place on, with zeros behind them.
-pub(crate) fn padded(bytes: &[u8], from: usize) -> [u8; 48]
+pub(crate) fn padded(bytes: &[u8], from: usize) -> [u8; 80]
     requires within { from ≤ length bytes.now }
-    requires few { length bytes.now ≤ from + 48 }
+    requires few { length bytes.now ≤ from + 80 }
     ensures same { (k : ℕ) → slice_index result k ≡ slice_index bytes.now (from + k) }
 {
     let rest = &bytes[from..];
-    let mut padded = [0; 48];
+    let mut padded = [0; 80];
     padded[..rest.len()].copy_from_slice(rest);
     padded
 }

@@ -1,24 +1,26 @@
-//! The packed search with heads: for places whose first four bytes meet the fingerprints of some group of patterns, and whose
-//! head is the one of some pattern.
+//! The packed search with heads: for places whose first bytes meet the fingerprints of some group of patterns, and whose head
+//! is the one of some pattern.
 //!
 //! # The masks
 //!
-//! They are those of a packed search, for one byte more. The groups are eight runs of the patterns in the order of their first
-//! four bytes. So eight patterns have a group each, and what else is in a group begins alike.
+//! They are those of a packed search, for up to three bytes more. The groups are eight runs of the patterns in the order of
+//! their first four bytes. So eight patterns have a group each, and what else is in a group begins alike.
 //!
 //! # The search
 //!
-//! Four bytes are looked up for each of sixteen places at once. Where some of these places meet a group, each of them is looked
-//! at once more, by its head: the first bytes of a pattern, as many as the shortest one has, and sixteen at most. A hash of them
-//! has its bit set for each pattern. A place that is found may still start no pattern, since different bytes may have the same
-//! bit. The last places, behind which too few bytes stand, are copied in front of zeros, so nothing is read past the end.
+//! Four to six bytes are looked up for each of thirty-two places at once, by their low halves alone: that takes one shuffle for
+//! each byte, and both cases of a letter have the same low half. Where patterns are short, or many, that would meet too many
+//! places, and both halves of four bytes are looked up. Where some of these places meet a group, each of them is looked at once
+//! more, by its head: the first bytes of a pattern, as many as the shortest one has, and sixteen at most. A hash of them has its
+//! bit set for each pattern. A place that is found may still start no pattern, since different bytes may have the same bit. The
+//! last places, behind which too few bytes stand, are copied in front of zeros, so nothing is read past the end.
 
 ghost use Rattle.std.specs.Prelude.{◌≡◌, ℕ, ◌+◌, ◌-◌, ◌*◌, ◌<◌, ◌≤◌, length, slice_index};
 ghost use Rattle.std.specs.Int.{bit_at};
 ghost use Rattle.memchr.specs.Find.{IsFirst};
 ghost use Rattle.aho_core.specs.Replacement.{pieces_of};
 ghost use Rattle.aho_prefilter.specs.Packed.{HasLanes};
-ghost use Rattle.aho_prefilter.specs.PackedHeads.{AreBitsOf, HaveSize, IsFirstHeaded, IsNextBlock, MayStartAt, MeetsHeadAt, TellsHeadAt, count_before, four_groups_at, group_among, order_of, packed_heads_of, packed_heads_with};
+ghost use Rattle.aho_prefilter.specs.PackedHeads.{AreBitsOf, HaveSize, IsFirstHeaded, IsNextBlock, MayStartAt, MeetsHeadAt, TellsHeadAt, count_before, four_groups_at, group_among, low_five_at, low_four_at, low_six_at, order_of, packed_heads_of, packed_heads_with, tested_groups_at};
 ghost use Rattle.aho_prefilter.specs.Strided.{caseless};
 
 use crate::heads::Heads;
@@ -26,12 +28,28 @@ use crate::packed::{LANES, Masks, Packed, lanes_met, load, padded};
 use crate::strided::BEHIND;
 use std::simd::prelude::*;
 
-/// A search for places that meet the fingerprints of four bytes and the heads of patterns.
+/// Which halves of how many bytes are looked up.
+#[derive(Clone, Copy)]
+pub(crate) enum Tested {
+    /// Both halves of four bytes.
+    Four,
+    /// The low halves of four bytes.
+    LowFour,
+    /// Those of five.
+    LowFive,
+    /// Those of six.
+    LowSix,
+}
+
+/// A search for places that meet the fingerprints of four to six bytes and the heads of patterns.
 #[derive(Clone, Copy)]
 pub(crate) struct PackedHeads {
+    tested: Tested,
     /// The masks of the first three bytes.
     packed: Packed,
     fourth: Masks,
+    fifth: Masks,
+    sixth: Masks,
     heads: Heads,
 }
 
@@ -89,7 +107,7 @@ fn group_among(ignore_case: bool, patterns: &[&[u8]], pattern: &[u8]) -> u8
     1 << (before * 8 / patterns.len()).min(7) as u32
 }
 
-/// A block of sixteen places, some of which meet a group.
+/// A block of thirty-two places, some of which meet a group.
 #[derive(Clone, Copy)]
 struct Block {
     number: usize,
@@ -99,16 +117,24 @@ struct Block {
 
 impl PackedHeads {
     /// The search for these patterns, whose heads have so many bytes.
-    pub(crate) fn new(ignore_case: bool, size: usize, patterns: &[&[u8]]) -> PackedHeads
+    pub(crate) fn new(
+        ignore_case: bool,
+        tested: Tested,
+        size: usize,
+        patterns: &[&[u8]],
+    ) -> PackedHeads
         requires some { 0 < size }
         requires short { size ≤ 16 }
         requires few { length patterns.now ≤ 100 }
         requires long { HaveSize size (pieces_of patterns.now) }
-        ensures made { result ≡ packed_heads_of ignore_case size (pieces_of patterns.now) }
+        ensures made { result ≡ packed_heads_of ignore_case tested size (pieces_of patterns.now) }
     {
         let mut made = PackedHeads {
+            tested,
             packed: Packed::new(),
             fourth: Masks::new(),
+            fifth: Masks::new(),
+            sixth: Masks::new(),
             heads: Heads::new(size, ignore_case),
         };
         for pattern in patterns {
@@ -125,16 +151,60 @@ impl PackedHeads {
     {
         self.packed.add_to(ignore_case, group, pattern);
         self.fourth.add_place(ignore_case, group, pattern, 3);
+        self.fifth.add_place(ignore_case, group, pattern, 4);
+        self.sixth.add_place(ignore_case, group, pattern, 5);
         self.heads.add(pattern);
     }
 
-    /// The groups that each of sixteen places meets.
+    /// The groups that each of thirty-two places meets by both halves of four bytes.
     #[inline(always)]
-    fn groups(&self, bytes: &[u8], at: usize) -> u8x16
-        requires within { at + 19 ≤ length bytes.now }
+    fn four(&self, bytes: &[u8], at: usize) -> u8x32
+        requires within { at + 35 ≤ length bytes.now }
         ensures groups { HasLanes result (λ k. four_groups_at self.now bytes.now (at + k)) }
     {
         self.packed.groups(bytes, at) & self.fourth.groups(load(bytes, at + 3))
+    }
+
+    /// The same by the low halves of four bytes.
+    #[inline(always)]
+    fn low_four(&self, bytes: &[u8], at: usize) -> u8x32
+        requires within { at + 35 ≤ length bytes.now }
+        ensures groups { HasLanes result (λ k. low_four_at self.now bytes.now (at + k)) }
+    {
+        self.packed.low_groups(bytes, at) & self.fourth.low_groups(load(bytes, at + 3))
+    }
+
+    /// The same by those of five.
+    #[inline(always)]
+    fn low_five(&self, bytes: &[u8], at: usize) -> u8x32
+        requires within { at + 36 ≤ length bytes.now }
+        ensures groups { HasLanes result (λ k. low_five_at self.now bytes.now (at + k)) }
+    {
+        self.low_four(bytes, at) & self.fifth.low_groups(load(bytes, at + 4))
+    }
+
+    /// The same by those of six.
+    #[inline(always)]
+    fn low_six(&self, bytes: &[u8], at: usize) -> u8x32
+        requires within { at + 37 ≤ length bytes.now }
+        ensures groups { HasLanes result (λ k. low_six_at self.now bytes.now (at + k)) }
+    {
+        self.low_five(bytes, at) & self.sixth.low_groups(load(bytes, at + 5))
+    }
+
+    /// The groups that each of thirty-two places meets.
+    #[inline(always)]
+    fn groups(&self, tested: Tested, bytes: &[u8], at: usize) -> u8x32
+        requires within { at + 37 ≤ length bytes.now }
+        ensures groups { HasLanes result
+            (λ k. tested_groups_at tested self.now bytes.now (at + k)) }
+    {
+        match tested {
+            Tested::Four => self.four(bytes, at),
+            Tested::LowFour => self.low_four(bytes, at),
+            Tested::LowFive => self.low_five(bytes, at),
+            Tested::LowSix => self.low_six(bytes, at),
+        }
     }
 
     /// The first place of these bytes where a pattern may start. It takes no memory.
@@ -150,11 +220,11 @@ impl PackedHeads {
         }
     }
 
-    /// The same of so many blocks of sixteen places.
+    /// The same of so many blocks of thirty-two places.
     #[inline(always)]
     fn find_in_blocks(&self, bytes: &[u8], blocks: usize) -> Option<usize>
-        requires within { blocks * 16 ≤ length bytes.now - 15 }
-        ensures first { IsFirst (MeetsHeadAt self.now bytes.now) 0 (blocks * 16) result }
+        requires within { blocks * 32 ≤ length bytes.now - 15 }
+        ensures first { IsFirst (MeetsHeadAt self.now bytes.now) 0 (blocks * 32) result }
     {
         let mut from = 0;
         for _ in 0..blocks {
@@ -174,11 +244,25 @@ impl PackedHeads {
     /// in registers while it looks.
     #[inline(never)]
     fn next_block(&self, bytes: &[u8], from: usize, blocks: usize) -> Option<Block>
-        requires within { blocks * 16 ≤ length bytes.now - 15 }
-        ensures next { IsNextBlock self.now bytes.now from blocks result }
+        requires within { blocks * 32 ≤ length bytes.now - 15 }
+        ensures next { IsNextBlock self.now.tested self.now bytes.now from blocks result }
+    {
+        match self.tested {
+            Tested::Four => self.next_tested(Tested::Four, bytes, from, blocks),
+            Tested::LowFour => self.next_tested(Tested::LowFour, bytes, from, blocks),
+            Tested::LowFive => self.next_tested(Tested::LowFive, bytes, from, blocks),
+            Tested::LowSix => self.next_tested(Tested::LowSix, bytes, from, blocks),
+        }
+    }
+
+    /// The same by these halves: a loop of its own for each.
+    #[inline(always)]
+    fn next_tested(&self, tested: Tested, bytes: &[u8], from: usize, blocks: usize) -> Option<Block>
+        requires within { blocks * 32 ≤ length bytes.now - 15 }
+        ensures next { IsNextBlock tested self.now bytes.now from blocks result }
     {
         for number in from..blocks {
-            let met = self.places_met(bytes, number * LANES);
+            let met = self.places_met(tested, bytes, number * LANES);
             if met != 0 {
                 return Some(Block { number, met });
             }
@@ -186,40 +270,44 @@ impl PackedHeads {
         None
     }
 
-    /// Which of sixteen places meet some group, a bit for each.
+    /// Which of thirty-two places meet some group, a bit for each.
     #[inline(always)]
-    fn places_met(&self, bytes: &[u8], at: usize) -> u64
-        requires within { at + 19 ≤ length bytes.now }
-        ensures met { AreBitsOf self.now bytes.now at result }
+    fn places_met(&self, tested: Tested, bytes: &[u8], at: usize) -> u64
+        requires within { at + 37 ≤ length bytes.now }
+        ensures met { AreBitsOf tested self.now bytes.now at result }
     {
-        lanes_met(self.groups(bytes, at))
+        lanes_met(self.groups(tested, bytes, at))
     }
 
     /// The same of the last places.
     #[inline(never)]
     fn find_in_rest(&self, bytes: &[u8], from: usize, size: usize) -> Option<usize>
         requires within { from ≤ length bytes.now }
-        requires few { length bytes.now < from + 31 }
+        requires few { length bytes.now < from + 47 }
         requires size { size ≡ self.now.heads.size }
         requires some { 0 < size }
         requires short { size ≤ 16 }
         ensures first { IsFirst (MayStartAt self.now bytes.now) from (length bytes.now) result }
     {
-        let rest = padded(bytes, from);
         let left = bytes.len() - from;
-        match self.find_in_blocks(&rest, 2) {
+        if left < size {
+            return None;
+        }
+        let rest = padded(bytes, from);
+        let blocks = (left - size) / LANES + 1;
+        match self.find_in_blocks(&rest, blocks) {
             Some(place) if place + size <= left => Some(from + place),
             _ => None,
         }
     }
 }
 
-/// The first of sixteen places where the bit of its head is set, of those that these bits tell.
+/// The first of thirty-two places where the bit of its head is set, of those that these bits tell.
 #[inline(never)]
 fn find_head(heads: &Heads, bytes: &[u8], at: usize, met: u64) -> Option<usize>
-    requires within { at + 31 ≤ length bytes.now }
-    requires few { (k : ℕ) → bit_at met k ≡ 1 → k < 16 }
-    ensures first { IsFirst (TellsHeadAt heads.now bytes.now at met) at (at + 16) result }
+    requires within { at + 47 ≤ length bytes.now }
+    requires few { (k : ℕ) → bit_at met k ≡ 1 → k < 32 }
+    ensures first { IsFirst (TellsHeadAt heads.now bytes.now at met) at (at + 32) result }
 {
     let mut left = met;
     let mut place = at;

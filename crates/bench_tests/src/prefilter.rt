@@ -222,8 +222,8 @@ fn searches_by(held: Option<Prefilter>) -> &'static str {
 #[test]
 fn the_quickest_is_held_by_number_and_length(rt: HostRuntime) -> Result<(), Fail> {
     let rows: [(u8, usize, &str); 9] = [
-        (7, 6, "packed"),
-        (8, 6, "packed with heads"),
+        (7, 3, "packed"),
+        (7, 4, "packed with heads"),
         (32, 6, "packed with heads"),
         (33, 5, "packed with heads"),
         (33, 6, "strided"),

@@ -17,10 +17,11 @@ impl Prefilter {
     /// The prefilter for these patterns where it may be of each kind, or none. `ignore_case` makes an ASCII letter the same in
     /// both cases.
     ///
-    /// It is a packed search with heads for eight to thirty-two patterns of two bytes or more each, and for up to a hundred where
-    /// the shortest has three to five. It is a strided search, if there are more patterns, and each has five bytes or more (six,
-    /// for up to a hundred and for more than 8,192 patterns). But it is the one of a `PackedBuilder` where that one searches for
-    /// first bytes of which words are not made, and for fewer patterns, or where too many grams of a few letters would be marked.
+    /// It is a packed search with heads for up to thirty-two patterns of four bytes or more each (two, for eight and more), and for
+    /// up to a hundred where the shortest has three to five, or six or seven and they are made of nine to thirty-two different
+    /// bytes. It is a strided search, if there are more patterns, and each has five bytes or more (six, for up to a hundred and for
+    /// more than 8,192 patterns). But it is the one of a `PackedBuilder` where that one searches for first bytes of which words are
+    /// not made, and for fewer patterns, or where too many grams of a few letters would be marked.
     ///
     /// # Errors
     ///
@@ -61,7 +62,12 @@ fn packed_heads_for(shape: Shape, ignore_case: bool, patterns: &[&[u8]]) -> Opti
         → result ≡ packed_heads_for (patterns_from kind ignore_case (pieces_of patterns.now)) }
 {
     match shape.few_heads() {
-        Some(size) => Some(Searcher::PackedHeads(PackedHeads::new(ignore_case, size, patterns))),
+        Some(size) => Some(Searcher::PackedHeads(PackedHeads::new(
+            ignore_case,
+            shape.tested(),
+            size,
+            patterns,
+        ))),
         None => None,
     }
 }

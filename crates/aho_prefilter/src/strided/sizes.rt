@@ -3,7 +3,9 @@
 ghost use Rattle.std.specs.Prelude.{◌≡◌, ℕ, ◌<◌, ◌≤◌, false, slice_index, if◌then◌else◌};
 ghost use Rattle.aho_core.specs.Replacement.{pieces_of};
 ghost use Rattle.aho_prefilter.specs.FirstBytes.{has_byte};
-ghost use Rattle.aho_prefilter.specs.Sizes.{gram_for, least_head, is_crowded, is_small, shape_of, few_heads_for, is_few, sizes_for, stride_for, used_below, wanted_gram};
+ghost use Rattle.aho_prefilter.specs.Sizes.{few_heads_for, gram_for, has_heads, is_crowded, is_few, is_small, least_head, shape_of, sizes_for, stride_for, tested_for, used_below, wanted_gram};
+
+use crate::packed_heads::Tested;
 
 /// The sizes of a strided search.
 #[derive(Clone, Copy)]
@@ -51,13 +53,40 @@ impl Shape {
         if self.is_few() { Some(self.head) } else { None }
     }
 
-    /// Whether there are a few patterns, but enough that three bytes of them stand at many places of a text, and long enough.
+    /// Whether there are a few patterns, and they are long enough, or so many that three bytes of them stand at many places of a
+    /// text.
     fn is_few(self) -> bool
         ensures few { result ≡ is_few self }
     {
-        self.count >= 8
+        self.count >= 1
             && self.head >= 2
-            && (self.count <= 32 || self.count <= 100 && self.head >= 3 && self.head <= 5)
+            && (self.count <= 32 && (self.head >= 4 || self.count >= 8)
+                || self.count <= 100 && self.has_heads())
+    }
+
+    /// Whether more than thirty-two patterns have heads for which a packed search is better than a strided one: short ones, or
+    /// those of words.
+    fn has_heads(self) -> bool
+        ensures heads { result ≡ has_heads self }
+    {
+        self.head >= 3
+            && (self.head <= 5 || self.head <= 7 && self.letters > 8 && self.letters <= 32)
+    }
+
+    /// Which halves of how many bytes a packed search with heads looks up: the more patterns, the more bytes. Where the shortest
+    /// pattern has too few for that, both halves of four.
+    pub(crate) fn tested(self) -> Tested
+        ensures tested { result ≡ tested_for self }
+    {
+        if self.head < 4 || self.count > 20 && self.head < 5 || self.count > 32 && self.head < 6 {
+            Tested::Four
+        } else if self.head < 5 || self.count <= 8 {
+            Tested::LowFour
+        } else if self.head < 6 || self.count <= 20 {
+            Tested::LowFive
+        } else {
+            Tested::LowSix
+        }
     }
 
     /// The sizes for patterns of this shape, if a strided search is held for them.

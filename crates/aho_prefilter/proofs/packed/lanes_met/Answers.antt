@@ -8,5 +8,5 @@ pub returns : goal.returns
 returns c = record {
   met = λ k.
       let groups = c.args.groups in
-      subst (λ (m : ℕ). (bit_at m k ≡ 1) ↔ (get_or groups k 0 ≢ 0)) (sym (bitmask_splat w8 (λ a b. not (eqb a b)) groups 16 0 c.fits-groups.0 (omega arith))) (bit_at-met groups k);
+      subst (λ (m : ℕ). (bit_at m k ≡ 1) ↔ (get_or groups k 0 ≢ 0)) (sym (bitmask_splat w8 (λ a b. not (eqb a b)) groups 32 0 c.fits-groups.0 (omega arith))) (bit_at-met groups k);
 }

@@ -10,7 +10,7 @@ zeros (suc n) (suc i) = zeros n i
 
 -- the bytes from a place on, and zeros behind them
 with_zeros : (bytes copied : List ℕ) (from k : ℕ) → from ≤ length bytes → copied ≡ take (length bytes - from) (drop from bytes)
-    → get_or (copied ++ drop (length (take (length bytes - from) (drop from bytes))) (replicate 48 0)) k 0 ≡ get_or bytes (from + k) 0
+    → get_or (copied ++ drop (length (take (length bytes - from) (drop from bytes))) (replicate 80 0)) k 0 ≡ get_or bytes (from + k) 0
 with_zeros bytes copied from k within is =
     let n = length bytes - from in
     let long : length (take n (drop from bytes)) ≡ n = length-take-le n (drop from bytes) (omega (arith, length-drop from bytes)) in
@@ -23,8 +23,8 @@ with_zeros bytes copied from k within is =
           ∙ get_or-drop from bytes k 0
       | inr past ↦
           get_or-append_right copied _ n k 0 long_copied past
-          ∙ get_or-drop (length (take n (drop from bytes))) (replicate 48 0) (k - n) 0
-          ∙ zeros 48 (length (take n (drop from bytes)) + (k - n))
+          ∙ get_or-drop (length (take n (drop from bytes))) (replicate 80 0) (k - n) 0
+          ∙ zeros 80 (length (take n (drop from bytes)) + (k - n))
           ∙ sym (get_or_past bytes (from + k) 0 (omega arith))
     ]
 

@@ -4,9 +4,9 @@ use Rattle.aho_prefilter.proofs.packed.Masks.groups.Goals as goal
 
 pub returns : goal.returns
 returns c =
-    let low = c.by_low_half.ensures.held in
+    let low = c.low_groups.ensures.groups in
     let high = c.by_high_half.ensures.held in
-    let both = HasLanes-zip2 bit_and c.by_low_half.result c.by_high_half.result low.long high.long in
+    let both = HasLanes-zip2 bit_and c.low_groups.result c.by_high_half.result low.long high.long in
     record {
       groups = record {
         long = both.long;

@@ -11,23 +11,23 @@ use Rattle.aho_prefilter.proofs.packed.Packed.find_in_block.Goals as goal
 
 module _ (packed : Packed) (bytes lanes : List ℕ) (at met : ℕ) (groups : HasLanes lanes (λ k. groups_at packed bytes (at + k))) (bits : (k : ℕ) → (bit_at met k ≡ 1) ↔ (get_or lanes k 0 ≢ 0)) where
   -- a place that meets some group has its bit
-  has_bit : (k : ℕ) → at ≤ k → k < at + 16 → MeetsAt packed bytes k → bit_at met (k - at) ≡ 1
+  has_bit : (k : ℕ) → at ≤ k → k < at + 32 → MeetsAt packed bytes k → bit_at met (k - at) ≡ 1
   has_bit k low high meets =
       let e : at + (k - at) ≡ k = omega arith in
       (bits (k - at)).1 (λ none. meets (sym (ap (groups_at packed bytes) e) ∙ sym (groups.each (k - at) (omega arith)) ∙ none))
 
-  no_bit : met ≡ 0 → (k : ℕ) → at ≤ k → k < at + 16 → MeetsAt packed bytes k → ⊥
+  no_bit : met ≡ 0 → (k : ℕ) → at ≤ k → k < at + 32 → MeetsAt packed bytes k → ⊥
   no_bit none k low high meets =
       let set = has_bit k low high meets in
       let unset : bit_at met (k - at) ≡ 0 = ap (λ m. bit_at m (k - at)) none ∙ bit_at-zero (k - at) in
       omega arith
 
-  lowest_bit : met ≢ 0 → met < 2 ^ 64 → NoneBefore (MeetsAt packed bytes) at (at + 16) (at + count_trailing_zeros 64 met) × MeetsAt packed bytes (at + count_trailing_zeros 64 met)
+  lowest_bit : met ≢ 0 → met < 2 ^ 64 → NoneBefore (MeetsAt packed bytes) at (at + 32) (at + count_trailing_zeros 64 met) × MeetsAt packed bytes (at + count_trailing_zeros 64 met)
   lowest_bit some small =
       let lowest = bit_at-trailing_zeros w64 met (omega (arith, some)) small in
       let lane = count_trailing_zeros 64 met in
       let set = (bits lane).0 lowest.1 in
-      let below : lane < 16 = elim (cases_lt lane 16) [ inl less ↦ less | inr past ↦ absurd (set (get_or_past lanes lane 0 (omega (arith, groups.long)))) ] in (
+      let below : lane < 32 = elim (cases_lt lane 32) [ inl less ↦ less | inr past ↦ absurd (set (get_or_past lanes lane 0 (omega (arith, groups.long)))) ] in (
         record {
           low = omega arith;
           high = omega arith;

@@ -1,4 +1,4 @@
-use Rattle.std.proofs.Common.{◌≡◌, ℕ, ◌+◌, ◌-◌, ◌<◌, ◌≤◌, List, get_or, length, sym, ap, ◌∙◌, arith}
+use Rattle.std.proofs.Common.{◌≡◌, ℕ, ◌+◌, ◌-◌, ◌<◌, ◌≤◌, ◌*◌, List, get_or, length, sym, ap, ◌∙◌, arith}
 use Rattle.memchr.specs.Find.{NoneBefore, Nowhere}
 use Rattle.aho_prefilter.specs.Packed.{MeetsAt, groups_at}
 use Rattle.aho_prefilter.specs.declared.packed.Packed.{Packed}
@@ -10,26 +10,26 @@ module _ (packed : Packed) (bytes rest : List ℕ) (from : ℕ) (same : (k : ℕ
   of_rest : (k : ℕ) → from ≤ k → MeetsAt packed bytes k → MeetsAt packed rest (k - from)
   of_rest k low meets none =
       let e : from + (k - from) ≡ k = omega arith in
-      meets (sym (ap (groups_at packed bytes) e) ∙ sym (groups_at-copied packed bytes rest from same (k - from)) ∙ none)
+      meets (sym (ap (groups_at packed bytes) e) ∙ sym (groups_at-copied bytes rest from same packed (k - from)) ∙ none)
 
-  first_of : (at n : ℕ) → from + at < n → NoneBefore (MeetsAt packed rest) 0 32 at × MeetsAt packed rest at → NoneBefore (MeetsAt packed bytes) from n (from + at) × MeetsAt packed bytes (from + at)
-  first_of at n below found = (
+  first_of : (at n limit : ℕ) → from + at < n → NoneBefore (MeetsAt packed rest) 0 limit at × MeetsAt packed rest at → NoneBefore (MeetsAt packed bytes) from n (from + at) × MeetsAt packed bytes (from + at)
+  first_of at n limit below found = (
     record {
       low = omega arith;
       high = below;
       before = λ k low high meets. found.0.before (k - from) (omega arith) (omega arith) (of_rest k low meets);
     },
-    λ none. found.1 (groups_at-copied packed bytes rest from same at ∙ none),
+    λ none. found.1 (groups_at-copied bytes rest from same packed at ∙ none),
   )
 
   none_of : (at n : ℕ) → n ≤ from + at → Nowhere (MeetsAt packed rest) 0 at → Nowhere (MeetsAt packed bytes) from n
   none_of at n past none = λ k low high meets. none (k - from) (omega arith) (omega arith) (of_rest k low meets)
 
 pub returns-in-Some : goal.returns-in-Some
-returns-in-Some c = record { first = first_of c.args.self.now c.args.bytes.now c.padded-rest.result c.args.from c.padded-rest.ensures.same c.in-Some.at (length c.args.bytes.now) (omega (arith, c.if-at-bytes.true)) c.in-Some.ensures.first }
+returns-in-Some c = record { first = first_of c.args.self.now c.args.bytes.now c.padded-rest.result c.args.from c.padded-rest.ensures.same c.in-Some.at (length c.args.bytes.now) _ (omega (arith, c.if-at-left.true)) c.in-Some.ensures.first }
 
 pub returns-in_default : goal.returns-in_default
-returns-in_default c = record { first = none_of c.args.self.now c.args.bytes.now c.padded-rest.result c.args.from c.padded-rest.ensures.same c.in-Some.at (length c.args.bytes.now) (omega (arith, c.if-at-bytes.false)) c.in-Some.ensures.first.0.before }
+returns-in_default c = record { first = none_of c.args.self.now c.args.bytes.now c.padded-rest.result c.args.from c.padded-rest.ensures.same c.in-Some.at (length c.args.bytes.now) (omega (arith, c.if-at-left.false)) c.in-Some.ensures.first.0.before }
 
 pub returns-in_default-2 : goal.returns-in_default-2
-returns-in_default-2 c = record { first = none_of c.args.self.now c.args.bytes.now c.padded-rest.result c.args.from c.padded-rest.ensures.same 32 (length c.args.bytes.now) (omega arith) c.in_default.ensures.first }
+returns-in_default-2 c = record { first = none_of c.args.self.now c.args.bytes.now c.padded-rest.result c.args.from c.padded-rest.ensures.same (c.div_ceil.result * 32) (length c.args.bytes.now) (omega (arith, c.div_ceil.ensures)) c.in_default.ensures.first }

@@ -6,8 +6,8 @@ use Rattle.aho_prefilter.proofs.Firsts.{first_after}
 use Rattle.aho_prefilter.proofs.packed_heads.PackedHeads.find.Goals as goal
 
 -- so many blocks stand within
-within : (room left : ℕ) → left ≡ room → left / 16 * 16 ≤ room
-within room left is = omega (arith, is, div-add-mod' left 16)
+within : (room left : ℕ) → left ≡ room → left / 32 * 32 ≤ room
+within room left is = omega (arith, is, div-add-mod' left 32)
 
 pub returns-in-Some : goal.returns-in-Some
 returns-in-Some c = record {

@@ -5,4 +5,4 @@ use Rattle.aho_prefilter.specs.PackedHeads.{MeetsHeadAt}
 use Rattle.aho_prefilter.proofs.packed_heads.PackedHeads.find_in_blocks.Given as goal
 
 abbrev pub invariant-loop : goal.invariant-loop
-invariant-loop l = (l.counter ≤ l.from) × (l.from ≤ l.blocks) × Nowhere (MeetsHeadAt l.self l.bytes) 0 (l.from * 16)
+invariant-loop l = (l.counter ≤ l.from) × (l.from ≤ l.blocks) × Nowhere (MeetsHeadAt l.self l.bytes) 0 (l.from * 32)

@@ -14,7 +14,7 @@ add-requires c =
     let rule = c.args.ignore_case in
     let patterns = c.args.patterns.now in
     let before = pieces_of (take c.loop-pattern.pattern-index patterns) in
-    let size = ap (λ (s : PackedHeads). s.heads.size) c.loop-pattern.invariant ∙ fold-size rule (pieces_of patterns) before (packed_heads_none rule c.args.size) in
+    let size = ap (λ (s : PackedHeads). s.heads.size) c.loop-pattern.invariant ∙ fold-size rule (pieces_of patterns) before (packed_heads_none rule c.args.tested c.args.size) in
     let count : length (pieces_of patterns) ≡ length patterns = length-map patterns (λ piece. piece.now) in
     let head = c.requires.long c.loop-pattern.pattern-index (omega (arith, c.loop-pattern-test.true)) in
     let same = get_or-map (λ piece. piece.now) patterns c.loop-pattern.pattern-index (record { ref_ptr = (0, 0); now = [] }) [] c.loop-pattern-test.true in
@@ -28,7 +28,7 @@ loop-pattern-preserved c =
     let i = c.loop-pattern.pattern-index in
     let pattern = (get_or patterns i (record { ref_ptr = (0, 0); now = [] })).now in
     let step : PackedHeads → List ℕ → PackedHeads = λ search word. packed_heads_with rule (group_among rule words word) search word in
-    let none = packed_heads_none rule c.args.size in
+    let none = packed_heads_none rule c.args.tested c.args.size in
     let next : i + 1 ≡ suc i = omega arith in
     let more : pieces_of (take (i + 1) patterns) ≡ pieces_of (take i patterns) ++ pattern ∷ [] =
     ap (λ n. pieces_of (take n patterns)) next

@@ -9,5 +9,5 @@ abbrev pub invariant-loop-pattern : goal.invariant-loop-pattern
 invariant-loop-pattern l =
     l.made
     ≡ fold (λ search word. packed_heads_with l.fn.ignore_case (group_among l.fn.ignore_case (pieces_of l.patterns) word) search word)
-    (packed_heads_none l.fn.ignore_case l.fn.size)
+    (packed_heads_none l.fn.ignore_case l.fn.tested l.fn.size)
     (pieces_of (take l.pattern-index l.patterns))

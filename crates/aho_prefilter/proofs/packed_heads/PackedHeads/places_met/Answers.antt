@@ -10,7 +10,7 @@ returns c =
     record {
       met = record {
         few = λ k set.
-            elim (cases_lt k 16) [ inl below ↦ below | inr past ↦ absurd ((bits k).0 set (get_or_past c.groups.result k 0 (omega (arith, groups.long)))) ];
+            elim (cases_lt k 32) [ inl below ↦ below | inr past ↦ absurd ((bits k).0 set (get_or_past c.groups.result k 0 (omega (arith, groups.long)))) ];
         each = λ k below. (
           λ set none. (bits k).0 set (groups.each k below ∙ none),
           λ meets. (bits k).1 (λ none. meets (sym (groups.each k below) ∙ none)),
