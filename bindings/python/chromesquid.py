@@ -14,8 +14,8 @@ type str.
 
 A call on a short haystack takes a few microseconds by ctypes, and less than one where the extension module _chromesquid was built.
 
-This one file needs libchromesquid.so, which bin/clib makes: in the folder that the environment names as CHROMESQUID_LIBRARY, or
-beside this file, or where the system looks for libraries. `python3 -m chromesquid` tells whether it is there and answers."""
+This one file needs libchromesquid.so.0, which bin/clib makes, and a processor of x86-64-v2: in the folder that the environment names as
+CHROMESQUID_LIBRARY, or beside this file, or where bin/install or the system has libraries. `python3 -m chromesquid` tells whether it is there and answers."""
 
 from __future__ import annotations
 
@@ -189,10 +189,12 @@ _VERSION = 100
 
 
 def _library() -> ctypes.CDLL:
-    name = "libchromesquid.so"
-    folder = os.environ.get("CHROMESQUID_LIBRARY") or os.path.dirname(os.path.abspath(__file__))
-    beside = os.path.join(folder, name)
-    return ctypes.CDLL(beside if os.path.exists(beside) else name)
+    names, here = ("libchromesquid.so.0", "libchromesquid.so"), os.path.dirname(os.path.abspath(__file__))
+    # Where bin/install puts this file, the folder of libraries is two above.
+    named = os.environ.get("CHROMESQUID_LIBRARY")
+    folders = [named] if named else [here, os.path.dirname(os.path.dirname(here))]
+    places = (os.path.join(folder, name) for folder in folders for name in names)
+    return ctypes.CDLL(next(filter(os.path.exists, places), names[0]))
 
 
 _loaded = _library()
