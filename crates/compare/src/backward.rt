@@ -98,13 +98,7 @@ pub(crate) fn compare_backward_streams(
     let writes = turns(alloc, numbers, true)?;
     let mut source = ScriptedSource::new(asked.text, reads.as_slice());
     let mut sink = ScriptedSink::new(alloc, writes.as_slice());
-    let (answer, lookups) = replace_counted(
-        alloc,
-        &searcher,
-        &mut source,
-        &mut sink,
-        asked.bytes,
-    );
+    let (answer, lookups) = replace_counted(alloc, &searcher, &mut source, &mut sink, asked.bytes);
     let given = given(asked.text, &source);
     let most = 4 * given.len() as u128;
     count.same("look-ups of a stream backward", &(lookups <= most), &true)?;
