@@ -104,7 +104,7 @@ fn call<R: Read>(
         name => match calls_named(name) {
             Some(calls) => {
                 let with_rows = settings.iter().any(|setting| setting.as_str() == "rows");
-                without::calls(alloc, calls, &builder, with_rows, input, want)
+                without::make(alloc, calls, &builder, with_rows, input, want)
             }
             None => Err("no such call"),
         },

@@ -36,8 +36,8 @@ pub enum Calls {
     Replaces,
 }
 
-/// These calls of the automaton that a builder makes, or of the one with its rows.
-pub fn calls<R: Read>(
+/// Makes these calls of the automaton that a builder makes, or of the one with its rows.
+pub fn make<R: Read>(
     alloc: Global,
     calls: Calls,
     builder: &Builder,
