@@ -63,9 +63,13 @@ fn overlaps<A: Automaton>(automaton: &A, anchored: Anchored, answers: &mut Answe
 {
     let input = Input::new(TEXT).anchored(anchored);
     let mut state = OverlappingState::start();
-    answers.tell_whether(automaton.try_find_overlapping(&input, &mut state).is_ok());
+    let Ok(()) = automaton.try_find_overlapping(&input, &mut state) else {
+        return answers.tell_match(state.get_match());
+    };
     answers.tell_match(state.get_match());
-    answers.tell_whether(automaton.try_find_overlapping(&input, &mut state).is_ok());
+    let Ok(()) = automaton.try_find_overlapping(&input, &mut state) else {
+        return answers.tell(usize::MAX - 1);
+    };
     answers.tell_match(state.get_match());
 }
 
