@@ -47,10 +47,11 @@ fn a_pattern_behind_a_prefix_adds_no_state(rt: HostRuntime) -> Result<(), Fail> 
     Ok(())
 }
 
-/// Patterns, and the bytes of their automaton without a prefilter at a depth of dense rows.
+/// Patterns, and the bytes of their automaton at a depth of dense rows, with a prefilter where they can have one or without.
 struct Sum {
     kind: MatchKind,
     patterns: &'static [&'static [u8]],
+    prefilter: bool,
     dense_depth: usize,
     memory: usize,
 }
@@ -59,51 +60,78 @@ const SUMS: &[Sum] = &[
     Sum {
         kind: MatchKind::Standard,
         patterns: &[b"abc"],
+        prefilter: false,
         dense_depth: 0,
         memory: 7103,
     },
     Sum {
         kind: MatchKind::LeftmostLongest,
         patterns: &[b"abc"],
+        prefilter: false,
         dense_depth: 1,
         memory: 7163,
     },
     Sum {
         kind: MatchKind::Standard,
         patterns: &[b"abc"],
+        prefilter: false,
         dense_depth: 3,
         memory: 7203,
     },
     Sum {
         kind: MatchKind::LeftmostFirst,
         patterns: &[b"abc"],
+        prefilter: false,
         dense_depth: usize::MAX,
         memory: 7203,
     },
     Sum {
         kind: MatchKind::Standard,
         patterns: &[b"", b"ab"],
+        prefilter: false,
         dense_depth: 3,
         memory: 7174,
     },
     Sum {
         kind: MatchKind::LeftmostFirst,
         patterns: &[b"", b"xyz"],
+        prefilter: false,
         dense_depth: 3,
         memory: 7045,
+    },
+    Sum {
+        kind: MatchKind::Standard,
+        patterns: &[b"", b"ab"],
+        prefilter: true,
+        dense_depth: 0,
+        memory: 7110,
+    },
+    Sum {
+        kind: MatchKind::Standard,
+        patterns: &[b"abc"],
+        prefilter: true,
+        dense_depth: 0,
+        memory: 7106,
+    },
+    Sum {
+        kind: MatchKind::Standard,
+        patterns: &[b"abc"],
+        prefilter: true,
+        dense_depth: 1,
+        memory: 7166,
     },
 ];
 
 #[test]
-fn rows_take_memory(rt: HostRuntime) -> Result<(), Fail> {
+fn rows_and_prefilters_take_memory(rt: HostRuntime) -> Result<(), Fail> {
     for sum in SUMS {
         let mut builder = Builder::new();
         builder
             .match_kind(sum.kind)
-            .prefilter(false)
+            .prefilter(sum.prefilter)
             .dense_depth(sum.dense_depth);
         let nfa = builder.build(rt.alloc(), sum.patterns.iter().copied())?;
-        let case = (sum.kind, sum.patterns, sum.dense_depth);
+        let case = (sum.kind, sum.patterns, sum.prefilter, sum.dense_depth);
         assert_same_in(&rt, &case, nfa.memory_usage(), sum.memory);
         assert_same_in(&rt, &case, nfa.try_clone()?.memory_usage(), sum.memory);
     }

@@ -12,9 +12,9 @@ use aho_core::search::{Input, MatchKind};
 use std::alloc::Global;
 
 /// Words that nest, share first and last bytes and have letters, so that a build grows in every way it can.
-const PATTERNS: [&[u8]; 6] = [b"abcd", b"bc", b"bcdef", b"cab", b"abcdefgh", b"bc"];
+pub const PATTERNS: [&[u8]; 6] = [b"abcd", b"bc", b"bcdef", b"cab", b"abcdefgh", b"bc"];
 
-/// The builder of these settings.
+/// The builder of these settings. That rows are wanted is no setting of a builder.
 pub fn builder_of(settings: &[String]) -> Result<Builder, Wrong> {
     let mut builder = Builder::new();
     for setting in settings {
@@ -30,6 +30,7 @@ pub fn builder_of(settings: &[String]) -> Result<Builder, Wrong> {
             "bare" => {
                 builder.prefilter(false);
             }
+            "rows" => {}
             _ => return Err("no such setting"),
         }
     }

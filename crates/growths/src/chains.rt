@@ -2,15 +2,26 @@
 
 ghost use Rattle.std.specs.Prelude.{◌≡◌, ◌<◌, ℕ, [], length, ⊤};
 
+use crate::answers::Answers;
 use crate::wants::{Want, Wrong};
 use aho_core::search::StateID;
 use aho_table::remapper::{Remappable, Remapper};
 use std::alloc::Global;
+use std::io::Read;
 
 /// Three states of which each names another.
 #[derive(Drop)]
 struct Chain {
     names: [StateID; 3],
+}
+
+impl Chain {
+    /// Tells which state each names.
+    fn tell(&self, answers: &mut Answers) {
+        for name in &self.names {
+            answers.tell(name.as_usize());
+        }
+    }
 }
 
 impl Remappable for Chain {
@@ -67,6 +78,24 @@ pub fn remapper(alloc: Global, want: &mut Want) -> Result<(), Wrong> {
     } else {
         Err("a chain is renumbered wrong")
     }
+}
+
+/// `swap` and `remap` of two remappers, the second of them where every allocation is refused.
+pub fn renumbers<R: Read>(alloc: Global, input: &mut R) -> Result<(), Wrong> {
+    let (first, second, third) = (number(0), number(1), number(2));
+    let names = [second, third, first];
+    let (mut one, mut other) = (Chain { names }, Chain { names });
+    let (Ok(to_one), Ok(to_other)) = (Remapper::new(alloc, &one), Remapper::new(alloc, &other))
+    else {
+        return Err("a remapper was refused");
+    };
+    let mut answers = Answers::new(alloc);
+    exchange(to_one, &mut one, first, third);
+    one.tell(&mut answers);
+    answers.begin_again(input)?;
+    exchange(to_other, &mut other, first, third);
+    other.tell(&mut answers);
+    answers.are_the_same()
 }
 
 fn number(index: usize) -> StateID

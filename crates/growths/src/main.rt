@@ -6,25 +6,35 @@
 //! a build are `first` or `longest` (Standard without either), `-i`, `sparse` (no dense rows) and `bare` (no prefilter), in any
 //! order.
 //!
+//! Other calls grow nothing: `searches` (also iteration, steps, and what an automaton tells), `lends`, `advances`, `finds` and
+//! `replaces` (of streams that have begun), `states`, `buffers` and `renumbers`. They are made twice, and between the two a byte of the
+//! standard input is read, from where on the library refuses every growth. It prints `answered` where all answers were the same.
+//! With the further setting `rows` the automaton is the one with rows.
+//!
 //! The status is 0, or 1 with a line that says what was not as promised.
 #![tactic(auto)]
 
+mod answers;
 mod builds;
 mod chains;
+mod reading;
 mod replacing;
+mod searching;
 mod streams;
 mod wants;
+mod without;
 
 use std::alloc::Global;
-use std::io::ErrorKind;
+use std::io::{ErrorKind, Read};
 use std::process::ExitCode;
 use std::{env, io};
 use wants::{Want, Wrong};
+use without::Calls;
 
 fn main(rt: HostRuntime) -> ExitCode {
     let mut want = Want::new();
     let line = match words(&rt, &mut want) {
-        Ok(words) => match call(rt.alloc(), words.as_slice(), &mut want) {
+        Ok(words) => match call(rt.alloc(), words.as_slice(), &mut rt.stdin(), &mut want) {
             Ok(()) => want.told(),
             Err(wrong) => return failed(&rt, wrong),
         },
@@ -66,7 +76,12 @@ fn read_words(rt: &HostRuntime) -> io::Result<Vec<String>> {
 }
 
 /// Makes the call that the first word names, with the settings that the others name.
-fn call(alloc: Global, words: &[String], want: &mut Want) -> Result<(), Wrong> {
+fn call<R: Read>(
+    alloc: Global,
+    words: &[String],
+    input: &mut R,
+    want: &mut Want,
+) -> Result<(), Wrong> {
     let Some((name, settings)) = words.split_first() else {
         return Err("no call is named");
     };
@@ -83,6 +98,27 @@ fn call(alloc: Global, words: &[String], want: &mut Want) -> Result<(), Wrong> {
         "stream" => streams::replace(alloc, want),
         "stream-with" => streams::replace_with(alloc, want),
         "remapper" => chains::remapper(alloc, want),
-        _ => Err("no such call"),
+        "states" => without::read_out(alloc, &builder, input, want),
+        "buffers" => reading::buffers(alloc, input),
+        "renumbers" => chains::renumbers(alloc, input),
+        name => match calls_named(name) {
+            Some(calls) => {
+                let with_rows = settings.iter().any(|setting| setting.as_str() == "rows");
+                without::make(alloc, calls, &builder, with_rows, input, want)
+            }
+            None => Err("no such call"),
+        },
+    }
+}
+
+/// The calls of an automaton, or of streams over one, that have this name.
+fn calls_named(name: &str) -> Option<Calls> {
+    match name {
+        "searches" => Some(Calls::Searches),
+        "lends" => Some(Calls::Lends),
+        "advances" => Some(Calls::Advances),
+        "finds" => Some(Calls::Finds),
+        "replaces" => Some(Calls::Replaces),
+        _ => None,
     }
 }

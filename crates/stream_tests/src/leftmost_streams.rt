@@ -2,11 +2,11 @@
 
 ghost use Rattle.aho_core.specs.Patterns.{Patterns};
 
-use crate::asserts::{assert_in, assert_same};
-use crate::automata::nfa_of;
+use crate::asserts::{assert_in, assert_same_in};
+use crate::automata::{Setting, Trial, nfa_of, try_over_each};
 use crate::scripted::{ScriptedSource, Turn};
 use crate::stream_finds::{ONE_BYTE, Told, found_of, told_under};
-use crate::streams::{behind, written};
+use crate::streams::{Far, behind, written};
 use aho_automaton::automaton::Automaton;
 use aho_core::error::StreamError;
 use aho_core::search::{Input, MatchKind, PatternID};
@@ -109,48 +109,95 @@ fn items_of<A: Automaton>(alloc: Global, automaton: &A, row: &Row) -> Result<Vec
 }
 
 /// The stream of a row tells what is wanted.
-fn is_told(rt: &impl Abort, alloc: Global, row: &Row) -> Result<(), Fail> {
-    let nfa = nfa_of(rt, alloc, row.patterns, row.kind, false);
-    let items = items_of(alloc, &nfa, row)?;
-    assert_in(rt, &row.given, items.as_slice() == row.told);
-    Ok(())
+impl Trial for Row {
+    fn run<H: Abort, A: Automaton>(
+        &self,
+        rt: &H,
+        alloc: Global,
+        automaton: &A,
+        setting: Setting,
+    ) -> Result<(), Fail> {
+        let items = items_of(alloc, automaton, self)?;
+        let case = (setting, self.given, self.limit);
+        assert_in(rt, case, items.as_slice() == self.told);
+        Ok(())
+    }
 }
 
 #[test]
 fn a_leftmost_match_waits_until_it_is_settled(rt: HostRuntime) -> Result<(), Fail> {
     for row in rows() {
-        is_told(&rt, rt.alloc(), &row)?;
+        try_over_each(&rt, rt.alloc(), row.patterns, row.kind, &row)?;
     }
     Ok(())
+}
+
+/// So many bytes of "abcx" are walked.
+#[derive(Clone, Copy)]
+struct WalksAgain {
+    position: u128,
+}
+
+impl Trial for WalksAgain {
+    fn run<H: Abort, A: Automaton>(
+        &self,
+        rt: &H,
+        alloc: Global,
+        automaton: &A,
+        setting: Setting,
+    ) -> Result<(), Fail> {
+        let mut source = ScriptedSource::new(b"abcx", &[]);
+        let told = told_under(alloc, automaton, &mut source, 100)?;
+        assert_same_in(rt, setting, told.position, self.position);
+        Ok(())
+    }
 }
 
 #[test]
 fn the_walk_starts_again_behind_a_match(rt: HostRuntime) -> Result<(), Fail> {
     let words: [&[u8]; 3] = [b"abcd", b"ab", b"c"];
-    let nfa = nfa_of(&rt, rt.alloc(), &words, MatchKind::LeftmostLongest, false);
-    let mut source = ScriptedSource::new(b"abcx", &[]);
-    let told = told_under(rt.alloc(), &nfa, &mut source, 100)?;
-    assert_same(&rt, told.position, 7);
-    Ok(())
+    let trial = WalksAgain { position: 7 };
+    try_over_each(&rt, rt.alloc(), &words, MatchKind::LeftmostLongest, &trial)
+}
+
+/// This is written in the place of "samwi", which comes byte by byte.
+#[derive(Clone, Copy)]
+struct IsReplaced {
+    written: &'static [u8],
+}
+
+impl Trial for IsReplaced {
+    fn run<H: Abort, A: Automaton>(
+        &self,
+        rt: &H,
+        alloc: Global,
+        automaton: &A,
+        setting: Setting,
+    ) -> Result<(), Fail> {
+        let written = written(rt, alloc, automaton, &[b"A", b"B"], b"samwi", ONE_BYTE)?;
+        assert_same_in(rt, setting, written.as_slice(), self.written);
+        Ok(())
+    }
 }
 
 #[test]
 fn leftmost_matches_are_replaced(rt: HostRuntime) -> Result<(), Fail> {
-    let nfa = nfa_of(&rt, rt.alloc(), SAM, MatchKind::LeftmostFirst, false);
-    let written = written(&rt, rt.alloc(), &nfa, &[b"A", b"B"], b"samwi", ONE_BYTE)?;
-    assert_same(&rt, written.as_slice(), b"Bwi".as_slice());
-    Ok(())
+    let trial = IsReplaced { written: b"Bwi" };
+    try_over_each(&rt, rt.alloc(), SAM, MatchKind::LeftmostFirst, &trial)
 }
 
 #[test]
 fn a_leftmost_match_behind_a_buffer_is_replaced(rt: HostRuntime) -> Result<(), Fail> {
     let words: [&[u8]; 2] = [b"foobarbaz", b"foo"];
-    let nfa = nfa_of(&rt, rt.alloc(), &words, MatchKind::LeftmostLongest, false);
     let given = behind(rt.alloc(), 65_530, b"foobarqux")?;
-    let wanted = behind(rt.alloc(), 65_530, b"Bbarqux")?;
-    let written = written(&rt, rt.alloc(), &nfa, &[b"A", b"B"], &given, &[])?;
-    assert_in(&rt, "foo", written.as_slice() == wanted.as_slice());
-    Ok(())
+    let written = behind(rt.alloc(), 65_530, b"Bbarqux")?;
+    let trial = Far {
+        given: given.as_slice(),
+        place: (1, 65_530, 65_533),
+        pieces: &[b"A", b"B"],
+        written: written.as_slice(),
+    };
+    try_over_each(&rt, rt.alloc(), &words, MatchKind::LeftmostLongest, &trial)
 }
 
 /// The matches of plain iteration over these bytes.

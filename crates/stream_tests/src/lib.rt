@@ -1,5 +1,6 @@
-//! A caller that collects a stream's matches, and the tests of streams and of the program: worked rows under every cut, limits, refusals,
-//! and devices whose calls go by a list. Random streams are compared with the search in memory by the program `compare`.
+//! A caller that collects a stream's matches, and the tests of streams and of the program: worked rows over each form of an automaton
+//! and under every cut, limits, refusals, and devices whose calls go by a list. Random streams are compared with the search in memory by
+//! the program `compare`.
 #![tactic(auto)]
 
 #[cfg(test)]

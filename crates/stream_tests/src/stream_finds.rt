@@ -3,8 +3,8 @@
 ghost use Rattle.aho_core.specs.Patterns.{Patterns};
 ghost use Rattle.aho_prefilter.specs.Prefilter.{IsPrefilterOf};
 
-use crate::asserts::{assert_same, assert_same_in};
-use crate::automata::{nfa_holding, nfa_of, relinked_of};
+use crate::asserts::{assert_in, assert_same, assert_same_in};
+use crate::automata::{DEPTHS, Setting, Trial, nfa_of, nfa_with, try_over_each};
 use crate::collect::matches_of;
 use crate::scripted::{ScriptedSource, Turn};
 use aho_automaton::automaton::{Automaton, WithPrefilter};
@@ -37,7 +37,7 @@ pub(crate) fn found_of(m: Match) -> (usize, usize, usize) {
 }
 
 /// The first items of a stream's search, at most a hundred.
-fn items<A: Automaton>(
+pub(crate) fn items<A: Automaton>(
     alloc: Global,
     automaton: &A,
     source: &mut ScriptedSource<'_>,
@@ -96,13 +96,27 @@ fn worked_matches() -> [Result<(usize, usize, usize), StreamError>; 3] {
     [Ok(WORKED[0]), Ok(WORKED[1]), Ok(WORKED[2])]
 }
 
+/// The matches of the worked stream are found, which gives one byte a read.
+struct AreFound;
+
+impl Trial for AreFound {
+    fn run<H: Abort, A: Automaton>(
+        &self,
+        rt: &H,
+        alloc: Global,
+        automaton: &A,
+        setting: Setting,
+    ) -> Result<(), Fail> {
+        let mut source = ScriptedSource::new(TEXT, ONE_BYTE);
+        let found = items(alloc, automaton, &mut source)?;
+        assert_same_in(rt, setting, found.as_slice(), worked_matches().as_slice());
+        Ok(())
+    }
+}
+
 #[test]
 fn a_stream_is_searched_across_its_reads(rt: HostRuntime) -> Result<(), Fail> {
-    let nfa = nfa_of(&rt, rt.alloc(), WORDS, MatchKind::Standard, false);
-    let mut source = ScriptedSource::new(TEXT, ONE_BYTE);
-    let found = items(rt.alloc(), &nfa, &mut source)?;
-    assert_same(&rt, found.as_slice(), worked_matches().as_slice());
-    Ok(())
+    try_over_each(&rt, rt.alloc(), WORDS, MatchKind::Standard, &AreFound)
 }
 
 /// The worked stream is searched by a search that was begun before its source was there.
@@ -145,23 +159,38 @@ fn the_matches_of_a_stream_are_collected(rt: HostRuntime) -> Result<(), Fail> {
     collects_all(&rt, rt.alloc(), &nfa)
 }
 
+/// The worked stream, of whose reads one fails, tells that fault and its matches.
+#[derive(Clone, Copy)]
+struct LosesNothing<'t> {
+    reads: &'t [Turn],
+}
+
+impl<'t> Trial for LosesNothing<'t> {
+    fn run<H: Abort, A: Automaton>(
+        &self,
+        rt: &H,
+        alloc: Global,
+        automaton: &A,
+        setting: Setting,
+    ) -> Result<(), Fail> {
+        let mut source = ScriptedSource::new(TEXT, self.reads);
+        let mut found = items(alloc, automaton, &mut source)?;
+        let case = (setting, self.reads);
+        assert_same_in(rt, &case, found.len(), 4);
+        assert_in(rt, &case, found.contains(&Err(StreamError::Read(Fault))));
+        found.retain(|item| item.is_ok());
+        assert_same_in(rt, &case, found.as_slice(), worked_matches().as_slice());
+        Ok(())
+    }
+}
+
 #[test]
 fn a_failed_read_is_told_and_nothing_is_lost(rt: HostRuntime) -> Result<(), Fail> {
-    let nfa = nfa_of(&rt, rt.alloc(), WORDS, MatchKind::Standard, false);
     for at in 0..21 {
         let mut turns = [Turn::Move(1); 64];
         turns[at] = Turn::Fail;
-        let mut source = ScriptedSource::new(TEXT, &turns);
-        let found = items(rt.alloc(), &nfa, &mut source)?;
-        assert_same_in(&rt, ("read", &at), found.len(), 4);
-        let mut matches = found;
-        matches.retain(|item| item.is_ok());
-        assert_same_in(
-            &rt,
-            ("read", &at),
-            matches.as_slice(),
-            worked_matches().as_slice(),
-        );
+        let trial = LosesNothing { reads: &turns };
+        try_over_each(&rt, rt.alloc(), WORDS, MatchKind::Standard, &trial)?;
     }
     Ok(())
 }
@@ -182,33 +211,35 @@ fn worked_under(
     Ok(items)
 }
 
-/// The first so many of the worked matches are told under this limit.
-fn is_answered_once<A: Automaton>(
-    rt: &impl Abort,
-    alloc: Global,
-    automaton: &A,
+/// The first so many of the worked matches are told under this limit, and then the limit.
+#[derive(Clone, Copy)]
+struct IsToldOnce {
     limit: u64,
     count: usize,
-) -> Result<(), Fail>
-    requires of { (p : Patterns) × A.is_of automaton.now p }
-{
-    let mut source = ScriptedSource::new(TEXT, ONE_BYTE);
-    let told = told_under(alloc, automaton, &mut source, limit)?;
-    let wanted = worked_under(alloc, limit, count)?;
-    assert_same_in(
-        rt,
-        ("limit", &limit),
-        told.items.as_slice(),
-        wanted.as_slice(),
-    );
-    Ok(())
+}
+
+impl Trial for IsToldOnce {
+    fn run<H: Abort, A: Automaton>(
+        &self,
+        rt: &H,
+        alloc: Global,
+        automaton: &A,
+        setting: Setting,
+    ) -> Result<(), Fail> {
+        let mut source = ScriptedSource::new(TEXT, ONE_BYTE);
+        let told = told_under(alloc, automaton, &mut source, self.limit)?;
+        let wanted = worked_under(alloc, self.limit, self.count)?;
+        let case = (setting, "limit", self.limit);
+        assert_same_in(rt, case, told.items.as_slice(), wanted.as_slice());
+        Ok(())
+    }
 }
 
 #[test]
 fn a_limit_is_answered_once(rt: HostRuntime) -> Result<(), Fail> {
-    let nfa = nfa_of(&rt, rt.alloc(), WORDS, MatchKind::Standard, false);
     for (limit, count) in [(0, 0), (1, 0), (8, 0), (9, 1), (15, 2), (20, 3), (21, 3)] {
-        is_answered_once(&rt, rt.alloc(), &nfa, limit, count)?;
+        let trial = IsToldOnce { limit, count };
+        try_over_each(&rt, rt.alloc(), WORDS, MatchKind::Standard, &trial)?;
     }
     Ok(())
 }
@@ -303,28 +334,45 @@ fn walks_all<A: Automaton>(rt: &impl Abort, alloc: Global, automaton: &A) -> Res
     Ok(())
 }
 
-/// The automaton of "aaab" skips in no stream, and nor does one that is made from what it tells.
-fn walk_all(rt: &impl Abort, alloc: Global, nfa: &NFA) -> Result<(), Fail>
-    requires of { (p : Patterns) × ⟦<NFA as Automaton>⟧.is_of nfa.now p }
-{
-    walks_all(rt, alloc, nfa)?;
-    let relinked = relinked_of(rt, alloc, nfa);
-    walks_all(rt, alloc, &relinked)
+/// A stream of eight "a" is walked byte by byte, also where the automaton holds a prefilter.
+struct IsWalked;
+
+impl Trial for IsWalked {
+    fn run<H: Abort, A: Automaton>(
+        &self,
+        rt: &H,
+        alloc: Global,
+        automaton: &A,
+        setting: Setting,
+    ) -> Result<(), Fail> {
+        let holds = setting.prefilter && !setting.relinked;
+        assert_same_in(rt, setting, automaton.prefilter().is_some(), holds);
+        walks_all(rt, alloc, automaton)
+    }
 }
 
 #[test]
 fn a_stream_is_walked_at_the_same_cost(rt: HostRuntime) -> Result<(), Fail> {
-    for prefilter in [true, false] {
-        let nfa = nfa_holding(&rt, rt.alloc(), &[b"aaab"], MatchKind::Standard, prefilter);
-        assert_same(&rt, nfa.prefilter().is_some(), prefilter);
-        walk_all(&rt, rt.alloc(), &nfa)?;
-    }
-    Ok(())
+    let words: [&[u8]; 1] = [b"aaab"];
+    try_over_each(&rt, rt.alloc(), &words, MatchKind::Standard, &IsWalked)
 }
 
 /// Each byte of eight "a" is stepped once, and no next state is asked for.
-fn is_stepped_once(rt: &impl Abort, alloc: Global, prefilter: bool) -> Result<(), Fail> {
-    let nfa = nfa_holding(rt, alloc, &[b"aaab"], MatchKind::Standard, prefilter);
+fn is_stepped_once(
+    rt: &impl Abort,
+    alloc: Global,
+    prefilter: bool,
+    dense_depth: usize,
+) -> Result<(), Fail> {
+    let words: [&[u8]; 1] = [b"aaab"];
+    let nfa = nfa_with(
+        rt,
+        alloc,
+        &words,
+        MatchKind::Standard,
+        prefilter,
+        dense_depth,
+    );
     let tally = Tally::new(nfa);
     walks_all(rt, alloc, &tally)?;
     assert_same(rt, (tally.steps(), tally.next_states()), (8, 0));
@@ -333,8 +381,11 @@ fn is_stepped_once(rt: &impl Abort, alloc: Global, prefilter: bool) -> Result<()
 
 #[test]
 fn each_byte_of_a_stream_is_stepped_once(rt: HostRuntime) -> Result<(), Fail> {
-    is_stepped_once(&rt, rt.alloc(), true)?;
-    is_stepped_once(&rt, rt.alloc(), false)
+    for dense_depth in DEPTHS {
+        is_stepped_once(&rt, rt.alloc(), true, dense_depth)?;
+        is_stepped_once(&rt, rt.alloc(), false, dense_depth)?;
+    }
+    Ok(())
 }
 
 /// Whether the first bytes of a stream are held back up to its second read, which fails.

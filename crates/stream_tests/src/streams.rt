@@ -4,9 +4,9 @@ ghost use Rattle.std.specs.Prelude.{◌≡◌, length};
 ghost use Rattle.aho_core.specs.Patterns.{Patterns};
 
 use crate::asserts::{assert_in, assert_same, assert_same_in};
-use crate::automata::nfa_of;
+use crate::automata::{Setting, Trial, nfa_of, try_over_each};
 use crate::scripted::{ScriptedSink, ScriptedSource, Turn};
-use crate::stream_finds::ONE_BYTE;
+use crate::stream_finds::{ONE_BYTE, items};
 use aho_automaton::automaton::Automaton;
 use aho_core::error::{Fault, MatchError, StreamError};
 use aho_core::search::MatchKind;
@@ -148,6 +148,7 @@ fn is_replaced_under_a_cut<A: Automaton>(
     rt: &impl Abort,
     alloc: Global,
     automaton: &A,
+    setting: Setting,
     row: &Row,
     count: usize,
 ) -> Result<(), Fail>
@@ -157,23 +158,31 @@ fn is_replaced_under_a_cut<A: Automaton>(
     let mut source = ScriptedSource::new(row.given, &turns);
     let mut sink = ScriptedSink::new(alloc, &turns);
     replaces(rt, alloc, automaton, row.pieces, &mut source, &mut sink)?;
-    assert_same_in(rt, (&count, "bytes at once"), sink.taken(), row.written);
+    let case = (setting, count, "bytes at once");
+    assert_same_in(rt, case, sink.taken(), row.written);
     Ok(())
 }
 
 /// The stream of a row is replaced, whatever its devices move at once.
-fn is_replaced_under_every_cut(rt: &impl Abort, alloc: Global, row: &Row) -> Result<(), Fail> {
-    let nfa = nfa_of(rt, alloc, row.patterns, MatchKind::Standard, false);
-    for count in 1..=row.given.len() + 1 {
-        is_replaced_under_a_cut(rt, alloc, &nfa, row, count)?;
+impl Trial for Row {
+    fn run<H: Abort, A: Automaton>(
+        &self,
+        rt: &H,
+        alloc: Global,
+        automaton: &A,
+        setting: Setting,
+    ) -> Result<(), Fail> {
+        for count in 1..=self.given.len() + 1 {
+            is_replaced_under_a_cut(rt, alloc, automaton, setting, self, count)?;
+        }
+        Ok(())
     }
-    Ok(())
 }
 
 #[test]
 fn each_row_is_replaced_under_every_cut(rt: HostRuntime) -> Result<(), Fail> {
     for row in ROWS {
-        is_replaced_under_every_cut(&rt, rt.alloc(), row)?;
+        try_over_each(&rt, rt.alloc(), row.patterns, MatchKind::Standard, row)?;
     }
     Ok(())
 }
@@ -202,85 +211,91 @@ fn a_start_replaces_a_stream_that_comes_later(rt: HostRuntime) -> Result<(), Fai
     replaces_by_a_start(&rt, alloc, &nfa)
 }
 
-/// The animals' stream ends at a read that gives nothing, and what is behind is not read.
-fn ends_at_an_empty_read<A: Automaton>(
-    rt: &impl Abort,
-    alloc: Global,
-    automaton: &A,
-) -> Result<(), Fail>
-    requires of { (p : Patterns) × A.is_of automaton.now p }
-{
-    let turns = [Turn::Move(6), Turn::Move(0)];
-    let mut source = ScriptedSource::new(ANIMALS.given, &turns);
-    let mut sink = ScriptedSink::new(alloc, &[]);
-    replaces(rt, alloc, automaton, ANIMALS.pieces, &mut source, &mut sink)?;
-    assert_same(rt, sink.taken(), b"The qu".as_slice());
-    assert_same(rt, source.rest(), b"ick brown fox.".as_slice());
-    Ok(())
+/// A replacement of the animals' stream: the turns of the source and the sink, what it answers, what is written, and what the source
+/// has left.
+#[derive(Clone, Copy)]
+struct Scripted<'t> {
+    reads: &'t [Turn],
+    writes: &'t [Turn],
+    answer: Result<(), StreamError>,
+    written: &'t [u8],
+    left: &'t [u8],
+}
+
+impl<'t> Trial for Scripted<'t> {
+    fn run<H: Abort, A: Automaton>(
+        &self,
+        rt: &H,
+        alloc: Global,
+        automaton: &A,
+        setting: Setting,
+    ) -> Result<(), Fail> {
+        let mut source = ScriptedSource::new(ANIMALS.given, self.reads);
+        let mut sink = ScriptedSink::new(alloc, self.writes);
+        let answer = replaces(rt, alloc, automaton, ANIMALS.pieces, &mut source, &mut sink);
+        assert_same_in(rt, setting, sink.taken(), self.written);
+        assert_same_in(rt, setting, answer, self.answer);
+        assert_same_in(rt, setting, source.rest(), self.left);
+        Ok(())
+    }
+}
+
+/// A row of the animals' stream is met by each automaton.
+fn is_met(rt: &impl Abort, alloc: Global, row: &Scripted<'_>) -> Result<(), Fail> {
+    try_over_each(rt, alloc, ANIMALS.patterns, MatchKind::Standard, row)
 }
 
 #[test]
 fn an_empty_read_ends_the_stream(rt: HostRuntime) -> Result<(), Fail> {
-    let alloc = rt.alloc();
-    let nfa = nfa_of(&rt, alloc, ANIMALS.patterns, MatchKind::Standard, false);
-    ends_at_an_empty_read(&rt, alloc, &nfa)
+    let row = Scripted {
+        reads: &[Turn::Move(6), Turn::Move(0)],
+        writes: &[],
+        answer: Ok(()),
+        written: b"The qu",
+        left: b"ick brown fox.",
+    };
+    is_met(&rt, rt.alloc(), &row)
 }
 
 #[test]
 fn a_failed_read_leaves_a_beginning(rt: HostRuntime) -> Result<(), Fail> {
-    let alloc = rt.alloc();
-    let nfa = nfa_of(&rt, alloc, ANIMALS.patterns, MatchKind::Standard, false);
-    let turns = [Turn::Move(7), Turn::Fail];
-    let mut source = ScriptedSource::new(ANIMALS.given, &turns);
-    let mut sink = ScriptedSink::new(alloc, &[]);
-    let answer = replaces(&rt, alloc, &nfa, ANIMALS.pieces, &mut source, &mut sink);
-    assert_same(&rt, answer, Err(StreamError::Read(Fault)));
-    assert!(&rt; b"The ".starts_with(sink.taken()));
-    assert!(&rt; sink.taken().starts_with(b"Th"));
-    Ok(())
-}
-
-/// What is written before a write fails is this beginning, whose bytes are written one by one.
-fn is_left_by_a_failed_write<A: Automaton>(
-    rt: &impl Abort,
-    alloc: Global,
-    automaton: &A,
-    beginning: &[u8],
-) -> Result<(), Fail>
-    requires of { (p : Patterns) × A.is_of automaton.now p }
-{
-    let mut turns = turns_of(alloc, Turn::Move(1), beginning.len())?;
-    turns.push(Turn::Fail)?;
-    let mut source = ScriptedSource::new(ANIMALS.given, &[]);
-    let mut sink = ScriptedSink::new(alloc, &turns);
-    let answer = replaces(rt, alloc, automaton, ANIMALS.pieces, &mut source, &mut sink);
-    assert_same(rt, answer, Err(StreamError::Write(Fault)));
-    assert_same(rt, sink.taken(), beginning);
-    Ok(())
+    let row = Scripted {
+        reads: &[Turn::Move(7), Turn::Fail],
+        writes: &[],
+        answer: Err(StreamError::Read(Fault)),
+        written: b"Th",
+        left: b"ck brown fox.",
+    };
+    is_met(&rt, rt.alloc(), &row)
 }
 
 #[test]
 fn a_failed_write_leaves_a_beginning(rt: HostRuntime) -> Result<(), Fail> {
-    let alloc = rt.alloc();
-    let nfa = nfa_of(&rt, alloc, ANIMALS.patterns, MatchKind::Standard, false);
     for count in 0..ANIMALS.written.len() {
-        is_left_by_a_failed_write(&rt, alloc, &nfa, &ANIMALS.written[..count])?;
+        let mut turns = turns_of(rt.alloc(), Turn::Move(1), count)?;
+        turns.push(Turn::Fail)?;
+        let row = Scripted {
+            reads: &[],
+            writes: turns.as_slice(),
+            answer: Err(StreamError::Write(Fault)),
+            written: &ANIMALS.written[..count],
+            left: b"",
+        };
+        is_met(&rt, rt.alloc(), &row)?;
     }
     Ok(())
 }
 
 #[test]
 fn a_write_of_nothing_is_told(rt: HostRuntime) -> Result<(), Fail> {
-    let alloc = rt.alloc();
-    let nfa = nfa_of(&rt, alloc, ANIMALS.patterns, MatchKind::Standard, false);
-    let turns = [Turn::Move(0)];
-    let mut source = ScriptedSource::new(ANIMALS.given, &[]);
-    let mut sink = ScriptedSink::new(alloc, &turns);
-    let answer = replaces(&rt, alloc, &nfa, ANIMALS.pieces, &mut source, &mut sink);
-    assert_same(&rt, answer, Err(StreamError::WriteZero));
-    assert_same(&rt, sink.taken(), b"".as_slice());
-    assert_same(&rt, sink.writes(), 1);
-    Ok(())
+    let row = Scripted {
+        reads: &[],
+        writes: &[Turn::Move(0)],
+        answer: Err(StreamError::WriteZero),
+        written: b"",
+        left: b"",
+    };
+    is_met(&rt, rt.alloc(), &row)
 }
 
 /// A replacement of the animals' stream by a closure that puts brackets around each match, and then answers that the
@@ -326,28 +341,34 @@ const CLOSURE_ROWS: [ClosureRow; 5] = [
     },
 ];
 
-/// A closure that answers this puts brackets around the matches of the animals' stream, as the row says.
-fn is_put_in_brackets<A: Automaton>(
-    rt: &impl Abort,
-    alloc: Global,
-    automaton: &A,
-    row: &ClosureRow,
+/// A closure row, and what its replacement answers.
+#[derive(Clone, Copy)]
+struct InBrackets<'r> {
+    row: &'r ClosureRow,
     wanted: Result<(), StreamError>,
-)
-    requires of { (p : Patterns) × A.is_of automaton.now p }
-{
-    let closure = if row.refuses { wanted } else { Ok(()) };
-    let mut source = ScriptedSource::new(ANIMALS.given, row.reads);
-    let mut sink = ScriptedSink::new(alloc, row.writes);
-    let answer = puts_in_brackets(alloc, automaton, &mut source, &mut sink, closure);
-    assert_same(rt, sink.taken(), row.written);
-    assert_same(rt, answer, wanted);
+}
+
+impl<'r> Trial for InBrackets<'r> {
+    fn run<H: Abort, A: Automaton>(
+        &self,
+        rt: &H,
+        alloc: Global,
+        automaton: &A,
+        setting: Setting,
+    ) -> Result<(), Fail> {
+        let row = self.row;
+        let closure = if row.refuses { self.wanted } else { Ok(()) };
+        let mut source = ScriptedSource::new(ANIMALS.given, row.reads);
+        let mut sink = ScriptedSink::new(alloc, row.writes);
+        let answer = puts_in_brackets(alloc, automaton, &mut source, &mut sink, closure);
+        assert_same_in(rt, setting, sink.taken(), row.written);
+        assert_same_in(rt, setting, answer, self.wanted);
+        Ok(())
+    }
 }
 
 #[test]
-fn a_closure_is_called_on_each_match(rt: HostRuntime) {
-    let alloc = rt.alloc();
-    let nfa = nfa_of(&rt, alloc, ANIMALS.patterns, MatchKind::Standard, false);
+fn a_closure_is_called_on_each_match(rt: HostRuntime) -> Result<(), Fail> {
     let answers = [
         Ok(()),
         Err(StreamError::PositionLimit),
@@ -356,29 +377,57 @@ fn a_closure_is_called_on_each_match(rt: HostRuntime) {
         Err(StreamError::WriteZero),
     ];
     for at in 0..5 {
-        is_put_in_brackets(&rt, alloc, &nfa, &CLOSURE_ROWS[at], answers[at]);
+        let trial = InBrackets {
+            row: &CLOSURE_ROWS[at],
+            wanted: answers[at],
+        };
+        let words = ANIMALS.patterns;
+        try_over_each(&rt, rt.alloc(), words, MatchKind::Standard, &trial)?;
+    }
+    Ok(())
+}
+
+/// A closure that answers this writes "X" for the one match of "bac", and no more where it refuses.
+#[derive(Clone, Copy)]
+struct PutsAnX {
+    closure: Result<(), StreamError>,
+    written: &'static [u8],
+}
+
+impl Trial for PutsAnX {
+    fn run<H: Abort, A: Automaton>(
+        &self,
+        rt: &H,
+        alloc: Global,
+        automaton: &A,
+        setting: Setting,
+    ) -> Result<(), Fail> {
+        let mut source = ScriptedSource::new(b"bac", &[]);
+        let mut sink = ScriptedSink::new(alloc, &[]);
+        let answer = puts_an_x(alloc, automaton, &mut source, &mut sink, self.closure);
+        assert_same_in(rt, setting, sink.taken(), self.written);
+        assert_same_in(rt, setting, answer, self.closure);
+        Ok(())
     }
 }
 
-/// A closure that answers this writes "X" for the first match, and no more where it refuses.
-fn is_called_for_an_x(
-    rt: &impl Abort,
-    alloc: Global,
-    closure: Result<(), StreamError>,
-    written: &[u8],
-) {
-    let nfa = nfa_of(rt, alloc, &[b"a"], MatchKind::Standard, false);
-    let mut source = ScriptedSource::new(b"bac", &[]);
-    let mut sink = ScriptedSink::new(alloc, &[]);
-    let answer = puts_an_x(alloc, &nfa, &mut source, &mut sink, closure);
-    assert_same(rt, sink.taken(), written);
-    assert_same(rt, &answer, &closure);
-}
-
 #[test]
-fn a_closure_that_refuses_ends_the_replacement(rt: HostRuntime) {
-    is_called_for_an_x(&rt, rt.alloc(), Ok(()), b"bXc");
-    is_called_for_an_x(&rt, rt.alloc(), Err(StreamError::PositionLimit), b"bX");
+fn a_closure_that_refuses_ends_the_replacement(rt: HostRuntime) -> Result<(), Fail> {
+    let words: [&[u8]; 1] = [b"a"];
+    let rows = [
+        PutsAnX {
+            closure: Ok(()),
+            written: b"bXc",
+        },
+        PutsAnX {
+            closure: Err(StreamError::PositionLimit),
+            written: b"bX",
+        },
+    ];
+    for row in &rows {
+        try_over_each(&rt, rt.alloc(), &words, MatchKind::Standard, row)?;
+    }
+    Ok(())
 }
 
 #[test]
@@ -412,27 +461,57 @@ fn between(alloc: Global, count: usize, word: &[u8]) -> Result<Vec<u8>, AllocErr
     Ok(bytes)
 }
 
-/// A match of this word, behind so many bytes, is replaced.
+/// A stream in which one match is found at this place and replaced, of patterns with these pieces.
+#[derive(Clone, Copy)]
+pub(crate) struct Far<'g> {
+    pub(crate) given: &'g [u8],
+    pub(crate) place: (usize, usize, usize),
+    pub(crate) pieces: &'g [&'g [u8]],
+    pub(crate) written: &'g [u8],
+}
+
+impl<'g> Trial for Far<'g> {
+    fn run<H: Abort, A: Automaton>(
+        &self,
+        rt: &H,
+        alloc: Global,
+        automaton: &A,
+        setting: Setting,
+    ) -> Result<(), Fail> {
+        let mut source = ScriptedSource::new(self.given, &[]);
+        let found = items(alloc, automaton, &mut source)?;
+        assert_same_in(rt, setting, found.as_slice(), [Ok(self.place)].as_slice());
+        let written = written(rt, alloc, automaton, self.pieces, self.given, &[])?;
+        assert_in(rt, setting, written.as_slice() == self.written);
+        Ok(())
+    }
+}
+
+/// A match of this word, behind so many bytes, is found there and replaced.
 fn is_replaced_behind(
     rt: &impl Abort,
     alloc: Global,
     word: &[u8],
     count: usize,
+    end: usize,
 ) -> Result<(), Fail> {
     let given = between(alloc, count, word)?;
-    let wanted = behind(alloc, count, b"!z")?;
-    let nfa = nfa_of(rt, alloc, &[word], MatchKind::Standard, false);
-    let written = written(rt, alloc, &nfa, &[b"!"], &given, &[])?;
-    assert_in(rt, &count, written.as_slice() == wanted.as_slice());
-    Ok(())
+    let written = behind(alloc, count, b"!z")?;
+    let trial = Far {
+        given: given.as_slice(),
+        place: (0, count, end),
+        pieces: &[b"!"],
+        written: written.as_slice(),
+    };
+    try_over_each(rt, alloc, &[word], MatchKind::Standard, &trial)
 }
 
 #[test]
 fn a_match_across_the_end_of_the_buffer_is_replaced(rt: HostRuntime) -> Result<(), Fail> {
     let alloc = rt.alloc();
-    is_replaced_behind(&rt, alloc, b"foobar", 65_533)?;
+    is_replaced_behind(&rt, alloc, b"foobar", 65_533, 65_539)?;
     let long = behind(alloc, 9_000, b"y")?;
-    is_replaced_behind(&rt, alloc, &long, 70_000)
+    is_replaced_behind(&rt, alloc, &long, 70_000, 79_001)
 }
 
 #[test]
