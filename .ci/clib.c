@@ -398,6 +398,7 @@ static void tells(void) {
     HAS(facts.patterns == 0 && facts.min_len == SIZE_MAX && facts.max_len == 0);
     cs_free(&it);
     HAS(cs_version() == CS_VERSION);
+    HAS(CS_VERSION_MAJOR * 10000 + CS_VERSION_MINOR * 100 + CS_VERSION_PATCH == CS_VERSION);
 }
 
 /* Handles that share one searcher, each in a thread of its own. */

@@ -246,6 +246,9 @@ def version() -> Tuple[int, int, int]:
     return number // 10000, number // 100 % 100, number % 100
 
 
+__version__ = ".".join(map(str, version()))
+
+
 def _pattern_bytes(pattern: Haystack) -> bytes:
     return pattern.encode(*_ENCODING) if isinstance(pattern, str) else bytes(memoryview(pattern))
 
@@ -908,7 +911,7 @@ def _main() -> None:
     searcher = AhoCorasick(["samwise", "sam", "frodo"], kind="leftmost-first")
     if [*searcher.find_iter("frodo and samwise")] != [Match(2, 0, 5), Match(0, 10, 17)]:
         raise SystemExit(f"chromesquid: {_loaded._name} answers otherwise than it should")
-    print(f"chromesquid {'.'.join(map(str, version()))}: {_loaded._name} is there and answers")
+    print(f"chromesquid {__version__}: {_loaded._name} is there and answers")
 
 
 if __name__ == "__main__":

@@ -1,23 +1,35 @@
-"""Makes the wheel of chromesquid.py with its library, for pip and by hand: python3 make_wheel.py FOLDER.
+"""Makes the wheel of chromesquid.py with its library, and an archive from which pip makes one, for pip and by hand:
 
-The library is libchromesquid.so of the folder that the environment names as CHROMESQUID_LIBRARY, or else that of bin/program.
-With a C compiler and Python's header the wheel has the extension module for small calls too, for any CPython from 3.8 on; else, and for
-other Pythons, ctypes serves them. One library, one version of these files and one compiler make one wheel, byte for byte."""
+    python3 make_wheel.py FOLDER
+
+The library is libchromesquid.so of the folder that the environment names as CHROMESQUID_LIBRARY, or else that beside this file, as in such an
+archive, or that of bin/program. With a C compiler and Python's header the wheel has the extension module for small calls too, for any CPython
+from 3.8 on; else, and for other Pythons, ctypes serves them. One library, one version of these files and one compiler make one wheel and one
+archive, byte for byte."""
 
 import base64
+import gzip
 import hashlib
+import io
 import os
 import re
 import shutil
 import subprocess
 import sys
 import sysconfig
+import tarfile
 import tempfile
 import zipfile
 
 HERE = os.path.dirname(os.path.abspath(__file__))
+TOP = os.path.join(HERE, "..", "..")
 LIBRARY = "libchromesquid.so"
 EXTENSION = "_chromesquid.abi3.so"
+LICENCES = ("LICENSE-MIT", "UNLICENSE", "THIRD-PARTY")
+SOURCES = ("README.md", "_chromesquid.c", "chromesquid.py", "make_wheel.py", "pyproject.toml", "test_chromesquid.py")
+# A wheel has no tag for what a processor has to have, so it is told by the number of its build.
+BUILD = "1_x86_64_v2"
+MAIN = b"from chromesquid import _main\n\n_main()\n"
 
 
 def _read(*path):
@@ -26,10 +38,16 @@ def _read(*path):
 
 
 def _library():
-    folder = os.environ.get("CHROMESQUID_LIBRARY") or os.path.join(HERE, "..", "..", "bin", "program")
-    if not os.path.exists(os.path.join(folder, LIBRARY)):
-        raise SystemExit(f"make_wheel: there is no {LIBRARY} in {folder}: bin/clib makes it, and CHROMESQUID_LIBRARY names its folder")
-    return _read(folder, LIBRARY)
+    named = os.environ.get("CHROMESQUID_LIBRARY")
+    for folder in [named] if named else [HERE, os.path.join(TOP, "bin", "program")]:
+        if os.path.exists(os.path.join(folder, LIBRARY)):
+            return _read(folder, LIBRARY)
+    raise SystemExit(f"make_wheel: there is no {LIBRARY}: bin/clib makes it, and CHROMESQUID_LIBRARY names its folder")
+
+
+def _licences():
+    """The texts of the licences by their names: they stand beside this file, or at the top of the repository."""
+    return {name: _read(HERE if os.path.exists(os.path.join(HERE, name)) else TOP, name) for name in LICENCES}
 
 
 def _extension():
@@ -54,16 +72,36 @@ def _tag(library):
     return f"py3-none-manylinux_2_{newest}_x86_64"
 
 
+def _metadata():
+    lines = [
+        "Metadata-Version: 2.4",
+        "Name: chromesquid",
+        f"Version: {_version()}",
+        "Summary: Searches bytes and texts for many patterns at once, with proved answers; for x86-64-v2",
+        "Keywords: aho-corasick,search,replace,redaction",
+        "License-Expression: MIT OR Unlicense",
+        *(f"License-File: {name}" for name in LICENCES),
+        "Classifier: Operating System :: POSIX :: Linux",
+        "Classifier: Programming Language :: Python :: 3",
+        "Classifier: Typing :: Typed",
+        "Requires-Python: >=3.8",
+        "Description-Content-Type: text/markdown",
+    ]
+    return "\n".join(lines).encode() + b"\n\n" + _read(HERE, "README.md")
+
+
 def build_wheel(wheel_directory, config_settings=None, metadata_directory=None):
-    library, version = _library(), _version()
-    tag, info = _tag(library), f"chromesquid-{version}.dist-info"
-    metadata = f"Metadata-Version: 2.1\nName: chromesquid\nVersion: {version}\nSummary: Searches bytes and texts for many patterns at once, with proved answers\n"
-    metadata += "License: MIT OR Unlicense\nRequires-Python: >=3.8\nDescription-Content-Type: text/markdown\n\n"
+    library = _library()
+    tag, named = _tag(library), f"chromesquid-{_version()}"
+    info = f"{named}.dist-info"
     files = {
-        "chromesquid.py": _read(HERE, "chromesquid.py"),
-        LIBRARY: library,
-        f"{info}/METADATA": metadata.encode() + _read(HERE, "README.md"),
-        f"{info}/WHEEL": f"Wheel-Version: 1.0\nGenerator: make_wheel\nRoot-Is-Purelib: false\nTag: {tag}\n".encode(),
+        "chromesquid/__init__.py": _read(HERE, "chromesquid.py"),
+        "chromesquid/__main__.py": MAIN,
+        "chromesquid/py.typed": b"",
+        f"chromesquid/{LIBRARY}": library,
+        f"{info}/METADATA": _metadata(),
+        f"{info}/WHEEL": f"Wheel-Version: 1.0\nGenerator: make_wheel\nRoot-Is-Purelib: false\nTag: {tag}\nBuild: {BUILD}\n".encode(),
+        **{f"{info}/licenses/{name}": text for name, text in _licences().items()},
     }
     extension = _extension()
     if extension:
@@ -71,16 +109,32 @@ def build_wheel(wheel_directory, config_settings=None, metadata_directory=None):
     record = "".join(f"{name},sha256={base64.urlsafe_b64encode(hashlib.sha256(held).digest()).rstrip(b'=').decode()},{len(held)}\n"
                      for name, held in files.items())
     files[f"{info}/RECORD"] = f"{record}{info}/RECORD,,\n".encode()
-    wheel = f"chromesquid-{version}-{tag}.whl"
+    wheel = f"{named}-{BUILD}-{tag}.whl"
     with zipfile.ZipFile(os.path.join(wheel_directory, wheel), "w", zipfile.ZIP_DEFLATED) as made:
         for name, held in files.items():
             entry = zipfile.ZipInfo(name, (1980, 1, 1, 0, 0, 0))
-            entry.external_attr, entry.compress_type = (0o755 if name in (LIBRARY, EXTENSION) else 0o644) << 16, zipfile.ZIP_DEFLATED
+            entry.external_attr, entry.compress_type = (0o755 if name.endswith((LIBRARY, EXTENSION)) else 0o644) << 16, zipfile.ZIP_DEFLATED
             made.writestr(entry, held)
     return wheel
+
+
+def build_sdist(sdist_directory, config_settings=None):
+    """An archive of these sources, and of the library as it was proved and built."""
+    named = f"chromesquid-{_version()}"
+    files = {"PKG-INFO": _metadata(), LIBRARY: _library(), **{name: _read(HERE, name) for name in SOURCES}, **_licences()}
+    packed = io.BytesIO()
+    with tarfile.open(fileobj=packed, mode="w", format=tarfile.PAX_FORMAT) as made:
+        for name, held in sorted(files.items()):
+            entry = tarfile.TarInfo(f"{named}/{name}")
+            entry.size, entry.mode = len(held), 0o644
+            made.addfile(entry, io.BytesIO(held))
+    with open(os.path.join(sdist_directory, f"{named}.tar.gz"), "wb") as file:
+        file.write(gzip.compress(packed.getvalue(), mtime=0))
+    return f"{named}.tar.gz"
 
 
 if __name__ == "__main__":
     if len(sys.argv) != 2 or not os.path.isdir(sys.argv[1]):
         raise SystemExit("make_wheel: usage: python3 make_wheel.py FOLDER")
-    print(os.path.join(sys.argv[1], build_wheel(sys.argv[1])))
+    for build in build_wheel, build_sdist:
+        print(os.path.join(sys.argv[1], build(sys.argv[1])))

@@ -17,8 +17,13 @@
 extern "C" {
 #endif
 
-/* The version of this header: 102 is 0.1.2. cs_version tells that of the library. */
+/* The version of this header: 10000 for each major version, 100 for each minor one, and the patch; 102 is 0.1.2. cs_version tells that of
+ * the library. Before 1.0 a minor version may change what a program calls, a patch does not. The number in libchromesquid.so.0 is raised
+ * where a program has to be compiled anew. */
 #define CS_VERSION 100
+#define CS_VERSION_MAJOR (CS_VERSION / 10000)
+#define CS_VERSION_MINOR (CS_VERSION / 100 % 100)
+#define CS_VERSION_PATCH (CS_VERSION % 100)
 
 /* The form of cs_options: 2 is the one with an automaton and limits. */
 #define CS_OPTIONS_FORM 2
