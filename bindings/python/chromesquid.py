@@ -194,7 +194,12 @@ def _library() -> ctypes.CDLL:
     named = os.environ.get("CHROMESQUID_LIBRARY")
     folders = [named] if named else [here, os.path.dirname(os.path.dirname(here))]
     places = (os.path.join(folder, name) for folder in folders for name in names)
-    return ctypes.CDLL(next(filter(os.path.exists, places), names[0]))
+    try:
+        return ctypes.CDLL(next(filter(os.path.exists, places), names[0]))
+    except OSError as error:
+        if "ISA level" not in str(error):
+            raise
+        raise ImportError("libchromesquid needs a processor of x86-64-v2, as those from 2009 on are (SSE4.2)") from error
 
 
 _loaded = _library()
@@ -269,7 +274,7 @@ def _borrowed(haystack: Bytes) -> Any:
 
 
 class AhoCorasick:
-    """A searcher for some patterns, all of type str or all of bytes.
+    """A searcher for some patterns, all of type str or all of bytes: a list or what else has an order, as a mapping, whose keys they are.
 
     `kind` says which of several matches is found: "standard", the one that ends first; "leftmost-first", of those that start first
     the one whose pattern stands first; "leftmost-longest", of those that start first the longest. With `ignore_case` ASCII
