@@ -68,16 +68,21 @@ pub record HasBegun (owner : Searcher) (stream : PushedStream) : Type 0 where
   pub none : (p : Patterns) → IsBuiltFrom owner p → WasPushed stream p []
   pub going : stream.progress.ended ≡ false
 
--- so many of these bytes were pushed: where all was searched through as many as there is room for, and one at least, else none.
--- Nothing was told
+-- so many of these bytes were pushed, one at least where all was searched through, and nothing was told
 pub record TakesPushed (stream stream' : PushedStream) (bytes : List ℕ) (taken : ℕ) : Type 0 where
   pub goes_on : GoesOnWith stream stream' (take taken bytes)
   pub within : taken ≤ length bytes
   pub some : IsSearched ghosts stream.searcher stream.progress → 0 < length bytes → 0 < taken
-  pub filled : IsSearched ghosts stream.searcher stream.progress → taken ≡ min (length bytes) (room_left stream.progress)
-  pub unsearched : (IsSearched ghosts stream.searcher stream.progress → ⊥) → taken ≡ 0
   pub told : told_to stream' ≡ told_to stream
   pub ended : stream'.progress.ended ≡ stream.progress.ended
+
+-- where all was searched through, as many of these bytes are taken as there is room for
+abbrev pub FillsRoom : PushedStream → List ℕ → ℕ → Type 0
+FillsRoom stream bytes taken = IsSearched ghosts stream.searcher stream.progress → taken ≡ min (length bytes) (room_left stream.progress)
+
+-- and else none
+abbrev pub LeavesAll : PushedStream → ℕ → Type 0
+LeavesAll stream taken = (IsSearched ghosts stream.searcher stream.progress → ⊥) → taken ≡ 0
 
 -- 0 tells that no match is settled by what was pushed, and none is left after the end; 1 tells the next match, whatever follows
 abbrev pub TellsNow : Patterns → PushedStream → PushedStream → List ℕ → ℕ → CsMatch → Type 0

@@ -6,7 +6,7 @@ ghost use Rattle.aho_core.specs.Replacement.{pieces_of};
 ghost use Rattle.aho_stream.specs.After.{ForGiven};
 ghost use Rattle.chromesquid.specs.Rules.{Answers, HasNoEmpty, No};
 ghost use Rattle.chromesquid_c.specs.Replacing.{IsOneEach};
-ghost use Rattle.chromesquid_c.specs.Streaming.{Ends, HasBegun, HasEnded, HasRoomFor, IsUnpushed, PutsFor, IsFull, TakesPushed, TellsFound, TellsReplaced, room_wanted};
+ghost use Rattle.chromesquid_c.specs.Streaming.{Ends, HasBegun, HasEnded, FillsRoom, HasRoomFor, IsUnpushed, PutsFor, IsFull, LeavesAll, TakesPushed, TellsFound, TellsReplaced, room_wanted};
 
 use crate::options::CsMatch;
 use crate::replace::put_bytes;
@@ -87,6 +87,8 @@ impl Pushed {
     /// Pushes bytes, as many as there is room for, and puts into `taken` how many.
     pub(crate) fn push(&mut self, bytes: &[u8], taken: &mut usize) -> u32
         ensures pushed { result ≡ DONE → TakesPushed self.old self.new bytes.now taken.new }
+        ensures filled { result ≡ DONE → FillsRoom self.old bytes.now taken.new }
+        ensures unsearched { result ≡ DONE → LeavesAll self.old taken.new }
         ensures ended { HasEnded self.old → result ≡ ENDED }
         ensures full { (HasEnded self.old → ⊥) → IsFull self.old → result ≡ TOO_MANY_BYTES }
         ensures done { (HasEnded self.old → ⊥) → (IsFull self.old → ⊥) → result ≡ DONE }

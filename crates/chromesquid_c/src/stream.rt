@@ -5,7 +5,7 @@ ghost use Rattle.chromesquid.specs.Rules.{Answers, HasEmpty, HasNoEmpty, No, Ref
 ghost use Rattle.chromesquid_c.specs.Holding.{HoldsSame, IfHeld, IsEmpty};
 ghost use Rattle.chromesquid_c.specs.HoldingStream.{HasNoStream, HoldsSameStream, IfStream, OfStream};
 ghost use Rattle.chromesquid_c.specs.Replacing.{IsOneEach};
-ghost use Rattle.chromesquid_c.specs.Streaming.{Ends, HasBegun, HasEnded, IsFull, TakesPushed, TellsFound, TellsReplaced, room_wanted};
+ghost use Rattle.chromesquid_c.specs.Streaming.{Ends, FillsRoom, HasBegun, HasEnded, IsFull, LeavesAll, TakesPushed, TellsFound, TellsReplaced, room_wanted};
 
 use crate::handle::CsSearcher;
 use crate::list::is_unanchored;
@@ -91,6 +91,8 @@ pub extern "C" fn cs_stream_new(alloc: Global, searcher: &mut CsSearcher, out: &
 pub extern "C" fn cs_stream_push(stream: &mut CsStream, bytes: &[u8], taken: &mut usize) -> u32
     ensures pushed { IfStream stream.old (λ s. result ≡ DONE
         → OfStream stream.new (λ t. TakesPushed s t bytes.now taken.new)) }
+    ensures filled { IfStream stream.old (λ s. result ≡ DONE → FillsRoom s bytes.now taken.new) }
+    ensures unsearched { IfStream stream.old (λ s. result ≡ DONE → LeavesAll s taken.new) }
     ensures ended { IfStream stream.old (λ s. HasEnded s → result ≡ ENDED) }
     ensures full { IfStream stream.old (λ s.
         (HasEnded s → ⊥) → IsFull s → result ≡ TOO_MANY_BYTES) }
