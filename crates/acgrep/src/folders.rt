@@ -83,6 +83,7 @@ impl<'a, R: Files> Folders for System<'a, R> {
 
 /// All that an open folder gives: names, each with a zero byte behind it. Each read is offered the whole room, since the system refuses one
 /// that the next name does not fit.
+#[tactic(auto, using(crate::proofs::FolderTexts::text_begun))]
 fn read_names<R: Read>(alloc: Global, folder: &mut R, room: &mut [u8]) -> io::Result<Vec<u8>>
     requires room { 0 < length room.old }
     ensures whole { IfOk result (λ text. IfSome (R.remaining folder.old) (λ known. text.items ≡ known)) }

@@ -4,6 +4,7 @@
 //! tells.
 #![tactic(auto)]
 
+mod actions;
 mod alone;
 mod arguments;
 mod backed;
