@@ -373,9 +373,9 @@ fn search_input<A: Lister, F: Open, R: Read, W: Sink, E: Sink>(
         return Outcome::Unread;
     }
     // Where it cannot be read at all, nothing is told of its lines.
-    if let Err(error) = input.read(&mut []) {
+    if let Some(why) = files.unusable_input() {
         let _ = output.flush();
-        tell_unreadable(job, &error, errors);
+        tell_unreadable(job, why, errors);
         return Outcome::Unread;
     }
     search_one(automaton, job, buffer, input, state, page, output, errors)

@@ -11,6 +11,7 @@ ghost use Rattle.acgrep.specs.Runs.{origins_of};
 ghost use Rattle.acgrep.specs.Told.{MayName, TellsOfFile, TellsOfSources, source_names};
 
 use crate::arguments::Source;
+use crate::failure::Unusable;
 use crate::open::Open;
 use crate::patterns::Keys;
 use crate::tell::{tell_build, tell_input, tell_memory, tell_unopened, tell_zero};
@@ -60,7 +61,7 @@ fn tell_source<E: Sink>(source: Source<'_>, error: &io::Error, errors: &mut Erro
 {
     match source {
         Source::Text(_) => tell_memory(errors),
-        Source::File(name) if is_input(name) => tell_input(name, error, errors),
+        Source::File(name) if is_input(name) => tell_input(name, Unusable::of(error), errors),
         Source::File(name) => tell_unopened(name, Reason::of(error), errors),
     }
 }

@@ -86,7 +86,7 @@ fn main(rt: HostRuntime) -> ExitCode {
         rt.alloc(),
         given.as_slice(),
         &screen,
-        &System::new(&rt),
+        &System::new(&rt, &mut rt.stdin()),
         &mut rt.stdin(),
         &mut FromWrite::new(output),
         &mut errors,

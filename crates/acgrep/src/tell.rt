@@ -7,6 +7,7 @@ ghost use Rattle.programs.specs.Telling.{TellsBytes};
 ghost use Rattle.std.specs.Prelude.{◌≡◌};
 
 use crate::arguments::Wrong;
+use crate::failure::Unusable;
 use crate::help::USAGE;
 use crate::json::is_text;
 use crate::long::Valued;
@@ -14,7 +15,6 @@ use call_options::misuse::Misuse;
 use chromesquid::{BuildError, MatchError, Sink};
 use programs::errors::Errors;
 use programs::reason::Reason;
-use std::io;
 
 /// What is told of a folder that stands in itself.
 const LOOP: &[u8] = b"warning: recursive directory loop";
@@ -30,9 +30,6 @@ const NO_TEXT: &[u8] = b"its name is not UTF-8, so it cannot be opened";
 
 /// What is told of a standard input that is closed, or is open for writing alone.
 const UNUSABLE: &[u8] = b"Bad file descriptor";
-
-/// The system's number for that.
-const NO_DESCRIPTOR: i32 = 9;
 
 /// The program's name.
 const PROGRAM: &[u8] = b"acgrep";
@@ -89,13 +86,12 @@ pub fn tell_output<E: Sink>(name: &[u8], errors: &mut Errors<'_, E>)
 }
 
 /// Tells why standard input cannot be read, by what it is called.
-pub fn tell_input<E: Sink>(name: &[u8], error: &io::Error, errors: &mut Errors<'_, E>)
+pub fn tell_input<E: Sink>(name: &[u8], why: Unusable, errors: &mut Errors<'_, E>)
     ensures told { TellsOfFile E.Sink name.now errors.old errors.new }
 {
-    if error.raw_os_error() == Some(NO_DESCRIPTOR) {
-        tell_unusable(name, errors);
-    } else {
-        tell_fault(name, Reason::of(error), errors);
+    match why {
+        Unusable::Closed => tell_unusable(name, errors),
+        Unusable::Fault(reason) => tell_fault(name, reason, errors),
     }
 }
 

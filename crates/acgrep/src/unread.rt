@@ -3,7 +3,7 @@
 ghost use Rattle.std.specs.Prelude.{false};
 ghost use Rattle.acgrep.specs.Told.{TellsCause, TellsOfOutcome, stopped_if};
 
-use crate::failure::Stop;
+use crate::failure::{Stop, Unusable};
 use crate::select::Job;
 use crate::tell::{
     tell_fault, tell_input, tell_memory, tell_output, tell_search, tell_unopened, tell_write,
@@ -11,7 +11,6 @@ use crate::tell::{
 use chromesquid::Sink;
 use programs::errors::Errors;
 use programs::reason::Reason;
-use std::io;
 
 /// Tells why a file cannot be read, if that is asked for.
 fn tell_unread<E: Sink>(job: &Job<'_>, reason: Reason, errors: &mut Errors<'_, E>)
@@ -36,14 +35,14 @@ pub fn tell_closed<E: Sink>(job: &Job<'_>, reason: Reason, errors: &mut Errors<'
 }
 
 /// Tells why standard input cannot be read at all, if that is asked for.
-pub fn tell_unreadable<E: Sink>(job: &Job<'_>, error: &io::Error, errors: &mut Errors<'_, E>)
+pub fn tell_unreadable<E: Sink>(job: &Job<'_>, why: Unusable, errors: &mut Errors<'_, E>)
     ensures told { TellsOfOutcome E.Sink job.now.hushed job.now.style.name.now (stopped_if false)
         errors.old errors.new }
 {
     if job.hushed {
         return;
     }
-    tell_input(job.style.name, error, errors);
+    tell_input(job.style.name, why, errors);
 }
 
 /// Tells that the output goes to a file, if that is asked for.
