@@ -9,7 +9,7 @@ use Rattle.programs.specs.Names.{IsOneOf, name_bytes, or_input}
 use Rattle.programs.specs.Telling.{Tells, TellsSome}
 use Rattle.programs.specs.declared.errors.Errors.{Errors}
 use Rattle.programs.proofs.Lines.{some-tells, some-then, some-weaker, then-some, tells-none, tells-then, tells-weaker}
-use Rattle.acgrep.specs.Arguments.{Origin, Said, shown_by}
+use Rattle.acgrep.specs.Arguments.{Origin, Said, shown_by, ways_by}
 use Rattle.acgrep.specs.Folders.{AreChosen, Tree}
 use Rattle.acgrep.specs.Reached.{TellsMissed}
 use Rattle.acgrep.specs.Runs.{AreReached, are_several, asks_to_look, chooses, status_reached}
