@@ -3,7 +3,7 @@ use Rattle.std.proofs.Common.{◌≡◌, ◌==◌, inl, inr, ℕ, suc, zero, ◌
 use Rattle.std.specs.Prelude.{option_and_then, option_map}
 use Rattle.std.specs.Char.{is_ascii_digit}
 use Rattle.std.proofs.lemmas.Bool.{cases_Bool, eqb-true}
-use Rattle.acgrep.specs.Arguments.{AreDigits, AreRefused, ReadSoFar, Said, letter_by, letters_by, letters_from, number_by, numbered, said_so, switch_by, switched, with_digits, with_number}
+use Rattle.acgrep.specs.Arguments.{AreDigits, AreRefused, ReadSoFar, Said, letter_by, letters_by, letters_from, number_by, valued_letter, said_so, switch_by, switched, with_digits, with_number}
 use Rattle.acgrep.specs.Mistakes.{IsTold, digits_value_of, if_none, wrong_digits, wrong_from_digits, wrong_letter, wrong_letters}
 use Rattle.acgrep.specs.Told.{number_parts, valued_name}
 use Rattle.acgrep.specs.declared.arguments.Refusal.{Refusal}
@@ -118,14 +118,14 @@ not_equal a b differ =
     ]
 
 -- a letter that turns something on
-pub letter_switch : (letter : ℕ) (rest : List ℕ) (follow : Said → Option ReadSoFar) (s : Said) (switch : Switch) → (letter ≡ 101 → ⊥) → (letter ≡ 102 → ⊥) → numbered letter ≡ None
+pub letter_switch : (letter : ℕ) (rest : List ℕ) (follow : Said → Option ReadSoFar) (s : Said) (switch : Switch) → (letter ≡ 101 → ⊥) → (letter ≡ 102 → ⊥) → valued_letter letter ≡ None
     → switch_by letter ≡ Some switch → letter_by letter rest follow s ≡ follow (record s { flags = switched switch s.flags })
 letter_switch letter rest follow s switch no_text no_file plain is =
     let text = not_equal letter 101 no_text in
     let file = not_equal letter 102 no_file in
     rw text (rw file (rw plain (rw is refl)))
 
-pub wrong_switch : (letter : ℕ) (rest : List ℕ) (others : List (List ℕ)) (switch : Switch) → (letter ≡ 101 → ⊥) → (letter ≡ 102 → ⊥) → numbered letter ≡ None → switch_by letter ≡ Some switch
+pub wrong_switch : (letter : ℕ) (rest : List ℕ) (others : List (List ℕ)) (switch : Switch) → (letter ≡ 101 → ⊥) → (letter ≡ 102 → ⊥) → valued_letter letter ≡ None → switch_by letter ≡ Some switch
     → wrong_letter letter rest others ≡ others
 wrong_switch letter rest others switch no_text no_file plain is =
     let text = not_equal letter 101 no_text in

@@ -11,6 +11,7 @@ pub mod FileTellings
 pub mod FilesBegun
 pub mod Fillings
 pub mod FirstLines
+pub mod FolderTexts
 pub mod FormatTexts
 pub mod Formatted
 pub mod Fronts

@@ -4,12 +4,12 @@ use Rattle.call_options.specs.Names.{found_among}
 use Rattle.call_options.specs.declared.found.Found.{Found}
 use Rattle.call_options.specs.declared.found.Found.TheVariants.{Unknown}
 use Rattle.call_options.proofs.Names.{then_options}
-use Rattle.acgrep.specs.Long.{context_options, file_options, found_by, other_options, output_options, pattern_options}
+use Rattle.acgrep.specs.Long.{context_options, file_options, other_options, output_options, pattern_options, shared_by}
 use Rattle.acgrep.specs.declared.long.Long.{Long}
 
 pub found_all : (asked : List ℕ) (a b c d r : Found Long) → a ≡ found_among pattern_options asked Unknown → b ≡ found_among output_options asked a → c ≡ found_among context_options asked b
-    → d ≡ found_among file_options asked c → r ≡ found_among other_options asked d → r ≡ found_by asked
-unfolding found_by
+    → d ≡ found_among file_options asked c → r ≡ found_among other_options asked d → r ≡ shared_by asked
+unfolding shared_by
 found_all asked a b c d r first second third fourth last =
     let to_output = then_options asked _ _ output_options b first second in
     let to_context = then_options asked _ _ context_options c to_output third in

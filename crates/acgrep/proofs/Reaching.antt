@@ -9,10 +9,10 @@ use Rattle.programs.specs.Names.{IsOneOf, name_bytes, or_input}
 use Rattle.programs.specs.Telling.{Tells, TellsSome}
 use Rattle.programs.specs.declared.errors.Errors.{Errors}
 use Rattle.programs.proofs.Lines.{some-tells, some-then, some-weaker, then-some, tells-none, tells-then, tells-weaker}
-use Rattle.acgrep.specs.Arguments.{Origin, Said, shown_by}
+use Rattle.acgrep.specs.Arguments.{Origin, Said, shown_by, ways_by}
 use Rattle.acgrep.specs.Folders.{AreChosen, Tree}
 use Rattle.acgrep.specs.Reached.{TellsMissed}
-use Rattle.acgrep.specs.Runs.{AreReached, are_several, asks_to_look, has_rules, status_reached}
+use Rattle.acgrep.specs.Runs.{AreReached, are_several, asks_to_look, chooses, status_reached}
 use Rattle.acgrep.specs.Told.{IsMessage, MaySay, TellsOfFile, TellsOfFiles, TellsStatus, files_told, names_told, shown_names, source_names}
 use Rattle.acgrep.specs.declared.options.Flags.{Flags}
 use Rattle.acgrep.specs.declared.options.Shown.{Shown}
@@ -163,8 +163,8 @@ or-neither true b none = absurd (cc)
 or-neither false b none = (refl, none)
 
 -- where operands are not looked at they are not entered, and there is no rule
-pub looks-not : (given : Said) → asks_to_look given ≡ false → (given.flags.recursive ≡ false) × (has_rules given.rules ≡ false)
-looks-not given none = or-neither given.flags.recursive (has_rules given.rules) none
+pub looks-not : (given : Said) → asks_to_look given ≡ false → (given.flags.recursive ≡ false) × (chooses given.rules (ways_by given.flags) ≡ false)
+looks-not given none = or-neither given.flags.recursive (chooses given.rules (ways_by given.flags)) none
 
 pub reached-plain : (tree : Tree) (given : Said) (names : List (List ℕ)) → asks_to_look given ≡ false → AreReached tree given names (or_input names) []
 reached-plain tree given names none =
@@ -172,11 +172,11 @@ reached-plain tree given names none =
     rw plain (rw free refl, refl)
 
 -- where they are, and not entered, there are rules
-pub looks-ruled : (given : Said) → asks_to_look given ≡ true → given.flags.recursive ≡ false → has_rules given.rules ≡ true
-looks-ruled given looks plain = ap (λ (b : Bool). b || has_rules given.rules) (sym plain) ∙ looks
+pub looks-ruled : (given : Said) → asks_to_look given ≡ true → given.flags.recursive ≡ false → chooses given.rules (ways_by given.flags) ≡ true
+looks-ruled given looks plain = ap (λ (b : Bool). b || chooses given.rules (ways_by given.flags)) (sym plain) ∙ looks
 
 pub reached-chosen : (tree : Tree) (given : Said) (names files unread : List (List ℕ)) → asks_to_look given ≡ true → given.flags.recursive ≡ false
-    → AreChosen tree given.rules (or_input names) files → unread ≡ [] → AreReached tree given names files unread
+    → AreChosen tree given.rules (ways_by given.flags) (or_input names) files → unread ≡ [] → AreReached tree given names files unread
 reached-chosen tree given names files unread looks plain chosen none = rw plain (rw (looks-ruled given looks plain) chosen, none)
 
 -- what a search tells of files is told of those that it may name

@@ -22,7 +22,7 @@ use Rattle.acgrep.specs.Arguments.{Said, origin_of}
 use Rattle.acgrep.specs.Files.{is_enough, seen_after, shown_name, status_by}
 use Rattle.acgrep.specs.Folders.{Tree}
 use Rattle.acgrep.specs.Runs.{origins_of}
-use Rattle.acgrep.specs.Told.{IsMessage, IsToldCause, IsUnopened, MayName, MaySaid, MayTell, TellsIf, TellsOutcome, TellsStatus, files_told, loop_text, no_text_text, output_text, names_said, shown_names, source_names, unopened_line, zero_text}
+use Rattle.acgrep.specs.Told.{IsMessage, IsToldCause, IsUnopened, MayName, MaySaid, MayTell, TellsIf, TellsOutcome, TellsStatus, files_told, loop_text, no_text_text, output_text, names_said, shown_names, source_names, unopened_line, unusable_text, zero_text}
 use Rattle.acgrep.specs.declared.arguments.Source.{Source}
 use Rattle.acgrep.specs.declared.arguments.Source.TheVariants.{File}
 use Rattle.acgrep.specs.declared.files.Seen.{Seen}
@@ -97,7 +97,14 @@ module _ {E : Type 0} (K : SinkGhosts E) (names : List (List ℕ)) where
       → TellsBytes K old new (message_by (codes "acgrep") (record { name = Some name; line = line; cause = zero_text })) → TellsSome K (IsMessage names) old new
   tells-zero old new name line may told =
       let m : Message = record { name = Some name; line = line; cause = zero_text } in
-      tells-message old new m may (inl (inr (inr (inr (inr (inr refl)))))) told
+      tells-message old new m may (inl (inr (inr (inr (inr (inr (inl refl))))))) told
+
+  -- one of standard input that cannot be used
+  pub tells-unusable : (old new : Errors E) (name : List ℕ) → MayName names name
+      → TellsBytes K old new (message_by (codes "acgrep") (record { name = Some name; line = None; cause = unusable_text })) → TellsSome K (IsMessage names) old new
+  tells-unusable old new name may told =
+      let m : Message = record { name = Some name; line = None; cause = unusable_text } in
+      tells-message old new m may (inl (inr (inr (inr (inr (inr (inr refl))))))) told
 
   -- one of a file that cannot be opened: its name is why where it is not UTF-8
   pub tells-unopened : (old new : Errors E) (name : List ℕ) (reason : Reason) → MayName names name → TellsBytes K old new (unopened_line name reason)

@@ -15,6 +15,7 @@ use Rattle.acgrep.specs.Rules.{RuleSaid}
 use Rattle.acgrep.specs.declared.folders.Kind.{Kind}
 use Rattle.acgrep.specs.declared.folders.Kind.TheVariants.{File, Folder, Link, Device}
 use Rattle.acgrep.specs.declared.walk.Found.{Found}
+use Rattle.acgrep.specs.declared.walk.Ways.{Ways}
 
 -- a folder holds the names that were read, in order
 holds-put : (tree : Tree) (folder : List ℕ) (names ordered : List (List ℕ)) → IfSome (tree.lists folder) (λ known. IsPermutation known names) → IsPermutation names ordered
@@ -26,8 +27,8 @@ holds-put tree folder names ordered listed permuted sorted = record { listed = b
     by (Some k) is = IsPermutation-trans k names ordered is permuted
 
 -- no name stands for no file
-nothing-there : (tree : Tree) (rules : List RuleSaid) (follow : Bool) {files unread : List (List ℕ)} → AreFiles tree rules follow [] files unread → (files ≡ []) × (unread ≡ [])
-nothing-there tree rules follow none = (refl, refl)
+nothing-there : (tree : Tree) (rules : List RuleSaid) (ways : Ways) {files unread : List (List ℕ)} → AreFiles tree rules ways [] files unread → (files ≡ []) × (unread ≡ [])
+nothing-there tree rules ways none = (refl, refl)
 
 -- an element goes from the end of one list to the front of another
 pub moved : {X Y : Type 0} (f : X → Y) (front : List X) (last : X) (behind : List Y) → map f (front ++ (last ∷ [])) ++ behind ≡ map f front ++ (f last ∷ behind)
@@ -42,52 +43,52 @@ sorted-map f lt (x ∷ xs) sorted = λ k d low high.
     let here : get_or (map f (x ∷ xs)) k d ≡ f (get_or (x ∷ xs) k x) = get_or-map f (x ∷ xs) k x d (omega (arith, within)) in
     ap (λ (y : _). lt y (get_or (map f (x ∷ xs)) k d)) next ∙ ap (λ (y : _). lt (f (get_or (x ∷ xs) (k + 1) x)) y) here ∙ sorted k x low within
 
-module _ (tree : Tree) (rules : List RuleSaid) (follow : Bool) (operands : List (List ℕ)) where
+module _ (tree : Tree) (rules : List RuleSaid) (ways : Ways) (operands : List (List ℕ)) where
   -- a walk goes on
-  pub begins-then : (before after : List Spot) (old new : Found) → Begins tree rules follow operands before old → FindsFiles tree rules follow before after old new → Begins tree rules follow operands after new
+  pub begins-then : (before after : List Spot) (old new : Found) → Begins tree rules ways operands before old → FindsFiles tree rules ways before after old new → Begins tree rules ways operands after new
   begins-then before after old new so_far step = record {
     leads = λ files unread are.
         let all = so_far.leads (step.files ++ files) (step.unread ++ unread) (step.leads files unread are) in
         let names : listed_bytes old.names.items ++ (step.files ++ files) ≡ listed_bytes new.names.items ++ files = sym (append_assoc (listed_bytes old.names.items) step.files files) ∙ ap (λ l. l ++ files) (sym step.names) in
         let others : missed_of old.unread.items ++ (step.unread ++ unread) ≡ missed_of new.unread.items ++ unread = sym (append_assoc (missed_of old.unread.items) step.unread unread) ∙ ap (λ l. l ++ unread) (sym step.missed) in
-        subst (λ (l : List (List ℕ)). AreBelow tree rules follow operands (listed_bytes new.names.items ++ files) l) others
-        (subst (λ (l : List (List ℕ)). AreBelow tree rules follow operands l (missed_of old.unread.items ++ (step.unread ++ unread))) names all);
+        subst (λ (l : List (List ℕ)). AreBelow tree rules ways operands (listed_bytes new.names.items ++ files) l) others
+        (subst (λ (l : List (List ℕ)). AreBelow tree rules ways operands l (missed_of old.unread.items ++ (step.unread ++ unread))) names all);
   }
 
   -- and ends where nothing is left
-  pub begins-end : (found : Found) → Begins tree rules follow operands [] found → AreBelow tree rules follow operands (listed_bytes found.names.items) (missed_of found.unread.items)
+  pub begins-end : (found : Found) → Begins tree rules ways operands [] found → AreBelow tree rules ways operands (listed_bytes found.names.items) (missed_of found.unread.items)
   begins-end found so_far =
-      subst (λ (l : List (List ℕ)). AreBelow tree rules follow operands (listed_bytes found.names.items) l) (append-nil (missed_of found.unread.items))
-      (subst (λ (l : List (List ℕ)). AreBelow tree rules follow operands l (missed_of found.unread.items ++ [])) (append-nil (listed_bytes found.names.items)) (so_far.leads [] [] none))
+      subst (λ (l : List (List ℕ)). AreBelow tree rules ways operands (listed_bytes found.names.items) l) (append-nil (missed_of found.unread.items))
+      (subst (λ (l : List (List ℕ)). AreBelow tree rules ways operands l (missed_of found.unread.items ++ [])) (append-nil (listed_bytes found.names.items)) (so_far.leads [] [] none))
 
   -- it begins at operands, if there are some
-  pub begins-given : (found : Found) → 0 < length operands → listed_bytes found.names.items ≡ [] → missed_of found.unread.items ≡ [] → Begins tree rules follow operands (map operand operands) found
+  pub begins-given : (found : Found) → 0 < length operands → listed_bytes found.names.items ≡ [] → missed_of found.unread.items ≡ [] → Begins tree rules ways operands (map operand operands) found
   begins-given found some clean empty = record {
     leads = λ files unread are.
-        subst (λ (l : List (List ℕ)). AreBelow tree rules follow operands (l ++ files) (missed_of found.unread.items ++ unread)) (sym clean)
-        (subst (λ (l : List (List ℕ)). AreBelow tree rules follow operands files (l ++ unread)) (sym empty) (given operands some files unread are));
+        subst (λ (l : List (List ℕ)). AreBelow tree rules ways operands (l ++ files) (missed_of found.unread.items ++ unread)) (sym clean)
+        (subst (λ (l : List (List ℕ)). AreBelow tree rules ways operands files (l ++ unread)) (sym empty) (given operands some files unread are));
   }
     where
-      given : (names : List (List ℕ)) → 0 < length names → (files unread : List (List ℕ)) → AreFiles tree rules follow (map operand names) files unread → AreBelow tree rules follow names files unread
+      given : (names : List (List ℕ)) → 0 < length names → (files unread : List (List ℕ)) → AreFiles tree rules ways (map operand names) files unread → AreBelow tree rules ways names files unread
       given [] some files unread are = absurd (omega (arith, some))
       given (name ∷ names) some files unread are = are
 
 -- or in the working folder
-module _ (tree : Tree) (rules : List RuleSaid) (follow : Bool) (found : Found) where
+module _ (tree : Tree) (rules : List RuleSaid) (ways : Ways) (found : Found) where
   pub begins-here : (names : List (List ℕ)) (spots : List Spot) → IfSome (tree.lists (codes ".")) (λ known. IsPermutation known names) → PutsInside names [] [] spots
-      → listed_bytes found.names.items ≡ [] → missed_of found.unread.items ≡ [] → Begins tree rules follow [] spots found
+      → listed_bytes found.names.items ≡ [] → missed_of found.unread.items ≡ [] → Begins tree rules ways [] spots found
   begins-here names spots listed puts clean empty = record {
     leads = λ files unread are.
-        let all : AreFiles tree rules follow (map (inside []) puts.ordered) files unread = subst (λ (l : List Spot). AreFiles tree rules follow l files unread) (puts.put ∙ append-nil (map (inside []) puts.ordered)) are in
-        subst (λ (l : List (List ℕ)). AreBelow tree rules follow [] (l ++ files) (missed_of found.unread.items ++ unread)) (sym clean)
-        (subst (λ (l : List (List ℕ)). AreBelow tree rules follow [] files (l ++ unread)) (sym empty) (inl (puts.ordered, holds-put tree (codes ".") names puts.ordered listed puts.permuted puts.sorted, all)));
+        let all : AreFiles tree rules ways (map (inside []) puts.ordered) files unread = subst (λ (l : List Spot). AreFiles tree rules ways l files unread) (puts.put ∙ append-nil (map (inside []) puts.ordered)) are in
+        subst (λ (l : List (List ℕ)). AreBelow tree rules ways [] (l ++ files) (missed_of found.unread.items ++ unread)) (sym clean)
+        (subst (λ (l : List (List ℕ)). AreBelow tree rules ways [] files (l ++ unread)) (sym empty) (inl (puts.ordered, holds-put tree (codes ".") names puts.ordered listed puts.permuted puts.sorted, all)));
   }
 
   -- which may be unreadable
-  pub begins-nowhere : listed_bytes found.names.items ≡ [] → missed_of found.unread.items ≡ codes "." ∷ [] → Begins tree rules follow [] [] found
+  pub begins-nowhere : listed_bytes found.names.items ≡ [] → missed_of found.unread.items ≡ codes "." ∷ [] → Begins tree rules ways [] [] found
   begins-nowhere clean missing = record {
     leads = λ files unread are.
-        let (no_files, no_others) = nothing-there tree rules follow are in
+        let (no_files, no_others) = nothing-there tree rules ways are in
         inr (ap (λ l. listed_bytes found.names.items ++ l) no_files ∙ append-nil (listed_bytes found.names.items) ∙ clean, ap (λ l. missed_of found.unread.items ++ l) no_others ∙ append-nil (missed_of found.unread.items) ∙ missing);
   }
 
@@ -97,8 +98,8 @@ pub enters-put : (tree : Tree) (folder : List ℕ) (names : List (List ℕ)) (be
 enters-put tree folder names before after found listed puts = inl (puts.ordered, holds-put tree folder names puts.ordered listed puts.permuted puts.sorted, puts.put, refl)
 
 -- what is found at a name
-module _ (tree : Tree) (rules : List RuleSaid) (follow : Bool) (spot : Spot) (spots : List Spot) (old new : Found) where
-  pub finds-input : is_standard spot ≡ true → listed_bytes new.names.items ≡ listed_bytes old.names.items ++ (spot.name ∷ []) → new.unread ≡ old.unread → FindsFiles tree rules follow (spot ∷ spots) spots old new
+module _ (tree : Tree) (rules : List RuleSaid) (ways : Ways) (spot : Spot) (spots : List Spot) (old new : Found) where
+  pub finds-input : is_standard spot ≡ true → listed_bytes new.names.items ≡ listed_bytes old.names.items ++ (spot.name ∷ []) → new.unread ≡ old.unread → FindsFiles tree rules ways (spot ∷ spots) spots old new
   finds-input is grown same = record {
     files = spot.name ∷ [];
     unread = [];
@@ -107,11 +108,11 @@ module _ (tree : Tree) (rules : List RuleSaid) (follow : Bool) (spot : Spot) (sp
     leads = λ more others are. input is are;
   }
 
-  pub finds-looked : (kind : Kind) → is_standard spot ≡ false → IsKind tree follow spot kind → is_folder kind ≡ false → is_spot_left rules false spot ≡ false
-      → listed_bytes new.names.items ≡ listed_bytes old.names.items ++ files_by follow kind spot
-      → new.unread ≡ old.unread → FindsFiles tree rules follow (spot ∷ spots) spots old new
+  pub finds-looked : (kind : Kind) → is_standard spot ≡ false → IsKind tree ways spot kind → is_folder kind ≡ false → is_spot_left rules false spot ≡ false
+      → listed_bytes new.names.items ≡ listed_bytes old.names.items ++ files_by ways kind spot
+      → new.unread ≡ old.unread → FindsFiles tree rules ways (spot ∷ spots) spots old new
   finds-looked kind other is plain kept grown same = record {
-    files = files_by follow kind spot;
+    files = files_by ways kind spot;
     unread = [];
     names = grown;
     missed = ap (λ u. missed_of u.items) same ∙ sym (append-nil (missed_of old.unread.items));
@@ -119,7 +120,7 @@ module _ (tree : Tree) (rules : List RuleSaid) (follow : Bool) (spot : Spot) (sp
   }
 
   -- nothing is at one that is left out
-  pub finds-left : (kind : Kind) → is_standard spot ≡ false → IsKind tree follow spot kind → is_spot_left rules (is_folder kind) spot ≡ true → FindsFiles tree rules follow (spot ∷ spots) spots old old
+  pub finds-left : (kind : Kind) → is_standard spot ≡ false → IsKind tree ways spot kind → is_spot_left rules (is_folder kind) spot ≡ true → FindsFiles tree rules ways (spot ∷ spots) spots old old
   finds-left kind other is out = record {
     files = [];
     unread = [];
@@ -129,11 +130,11 @@ module _ (tree : Tree) (rules : List RuleSaid) (follow : Bool) (spot : Spot) (sp
   }
 
   -- nor at one that cannot be looked at, which is told or left out
-  pub finds-lost : is_standard spot ≡ false → IsLost tree follow spot → Loses rules spot old new → FindsFiles tree rules follow (spot ∷ spots) spots old new
+  pub finds-lost : is_standard spot ≡ false → IsLost tree ways spot → Loses rules spot old new → FindsFiles tree rules ways (spot ∷ spots) spots old new
   finds-lost other gone loses = by (is_lost_left rules spot) refl loses
     where
       by : (out : Bool) → is_lost_left rules spot ≡ out
-          → MatchBool out (new ≡ old) ((new.names ≡ old.names) × (missed_of new.unread.items ≡ missed_of old.unread.items ++ (spot.name ∷ []))) → FindsFiles tree rules follow (spot ∷ spots) spots old new
+          → MatchBool out (new ≡ old) ((new.names ≡ old.names) × (missed_of new.unread.items ≡ missed_of old.unread.items ++ (spot.name ∷ []))) → FindsFiles tree rules ways (spot ∷ spots) spots old new
       by true out same = record {
         files = [];
         unread = [];
@@ -149,20 +150,20 @@ module _ (tree : Tree) (rules : List RuleSaid) (follow : Bool) (spot : Spot) (sp
         leads = λ more others are. missed other gone kept are;
       }
 
-  pub finds-entered : (after : List Spot) → is_standard spot ≡ false → IsKind tree follow spot Folder → is_spot_left rules true spot ≡ false → Enters tree spot.name spots after old new → FindsFiles tree rules follow (spot ∷ spots) after old new
+  pub finds-entered : (after : List Spot) → is_standard spot ≡ false → IsKind tree ways spot Folder → is_spot_left rules true spot ≡ false → Enters tree spot.name spots after old new → FindsFiles tree rules ways (spot ∷ spots) after old new
   finds-entered after other is kept (inl (names, holds, put, same)) = record {
     files = [];
     unread = [];
     names = ap (λ f. listed_bytes f.names.items) same ∙ sym (append-nil (listed_bytes old.names.items));
     missed = ap (λ f. missed_of f.unread.items) same ∙ sym (append-nil (missed_of old.unread.items));
-    leads = λ more others are. entered names other is kept holds (subst (λ (l : List Spot). AreFiles tree rules follow l more others) put are);
+    leads = λ more others are. entered names other is kept holds (subst (λ (l : List Spot). AreFiles tree rules ways l more others) put are);
   }
   finds-entered after other is kept (inr (put, same, grown)) = record {
     files = [];
     unread = spot.name ∷ [];
     names = ap (λ n. listed_bytes n.items) same ∙ sym (append-nil (listed_bytes old.names.items));
     missed = grown;
-    leads = λ more others are. unlisted other is kept (subst (λ (l : List Spot). AreFiles tree rules follow l more others) put are);
+    leads = λ more others are. unlisted other is kept (subst (λ (l : List Spot). AreFiles tree rules ways l more others) put are);
   }
 
 -- the names that were read are those of the folder
@@ -171,11 +172,11 @@ pub listed-as : (tree : Tree) (given folder : List ℕ) (names : List (List ℕ)
 listed-as tree given folder names same listed = subst (λ (name : List ℕ). IfSome (tree.lists name) (λ known. IsPermutation known names)) same listed
 
 -- what is a folder is that kind
-pub folder-alone : (tree : Tree) (follow : Bool) (spot : Spot) (kind : Kind) → is_folder kind ≡ true → IsKind tree follow spot kind → IsKind tree follow spot Folder
-folder-alone tree follow spot File is known = absurd (cc)
-folder-alone tree follow spot Folder is known = known
-folder-alone tree follow spot Link is known = absurd (cc)
-folder-alone tree follow spot Device is known = absurd (cc)
+pub folder-alone : (tree : Tree) (ways : Ways) (spot : Spot) (kind : Kind) → is_folder kind ≡ true → IsKind tree ways spot kind → IsKind tree ways spot Folder
+folder-alone tree ways spot File is known = absurd (cc)
+folder-alone tree ways spot Folder is known = known
+folder-alone tree ways spot Link is known = absurd (cc)
+folder-alone tree ways spot Device is known = absurd (cc)
 
 -- an operand more is put down
 pub put-more : (spots : List Spot) (rest : List (Bor (List ℕ))) (d : Bor (List ℕ)) → 0 < length rest

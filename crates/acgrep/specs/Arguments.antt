@@ -7,6 +7,7 @@ use Rattle.std.specs.Str.Parse.{digits_value}
 use Rattle.aho_core.specs.declared.search.MatchKind.TheVariants.{LeftmostLongest}
 use Rattle.call_options.specs.Forms.{Form, argument_form, joined_letters, long_name, long_with, no_more, no_option}
 use Rattle.acgrep.specs.declared.arguments.Given.{Given}
+use Rattle.acgrep.specs.Actions.{color_named, devices_named, folders_named}
 use Rattle.acgrep.specs.Formats.{format_pieces}
 use Rattle.acgrep.specs.Long.{option_by}
 use Rattle.acgrep.specs.Rules.{RuleSaid, rules_said, without_slashes}
@@ -16,11 +17,11 @@ use Rattle.acgrep.specs.declared.format.Piece.{Piece}
 use Rattle.acgrep.specs.declared.long.Long.{Long}
 use Rattle.acgrep.specs.declared.long.Long.TheVariants.{Plain, Takes, When}
 use Rattle.acgrep.specs.declared.long.Valued.{Valued}
-use Rattle.acgrep.specs.declared.long.Valued.TheVariants.{Regexp, PatternFile, Kind, Offset, FirstLine, MaxCount, After, Before, Around, Separator, Label, Format, Included, Excluded, ExcludedFolder}
+use Rattle.acgrep.specs.declared.long.Valued.TheVariants.{Regexp, PatternFile, Kind, Offset, FirstLine, MaxCount, After, Before, Around, Separator, Label, Format, Included, Excluded, ExcludedFolder, Folders, Devices}
 use Rattle.acgrep.specs.declared.options.Color.{Color}
 use Rattle.acgrep.specs.declared.options.Context.{Context}
 use Rattle.acgrep.specs.declared.options.Switch.{Switch}
-use Rattle.acgrep.specs.declared.options.Switch.TheVariants.{IgnoreCase, MatchCase, Invert, WholeWords, WholeLines, Counts, Tallies, Numbers, OnlyMatching, Offsets, OnlyNames, OnlyLacking, Recursive, Follow, NullNames, NullData, Quiet, NoSeparator, InitialTab, Json, NoName, WithName, NoMatchOk, NoMessages, Help, Version, Text, Same}
+use Rattle.acgrep.specs.declared.options.Switch.TheVariants.{IgnoreCase, MatchCase, Invert, WholeWords, WholeLines, Counts, Tallies, Numbers, OnlyMatching, Offsets, OnlyNames, OnlyLacking, Recursive, Follow, NullNames, NullData, Quiet, NoSeparator, InitialTab, Json, NoName, WithName, NoMatchOk, NoMessages, Help, Version, Text, ReadFolders, SkipFolders, ReadDevices, SkipDevices, Same}
 use Rattle.acgrep.specs.declared.arguments.Awaited.{Awaited}
 use Rattle.acgrep.specs.declared.arguments.Awaited.TheVariants.{Fresh, Argument, Operands}
 use Rattle.acgrep.specs.declared.arguments.Refusal.{Refusal}
@@ -32,6 +33,7 @@ use Rattle.acgrep.specs.declared.options.Fit.{Fit}
 use Rattle.acgrep.specs.declared.options.Fit.TheVariants.{AnyPart, WholeWord, WholeLine}
 use Rattle.acgrep.specs.declared.options.Flags.{Flags}
 use Rattle.acgrep.specs.declared.options.Shown.{Shown}
+use Rattle.acgrep.specs.declared.walk.Ways.{Ways}
 use Rattle.acgrep.specs.declared.options.Shown.TheVariants.{Lines, Matches, Objects, Count, Names, Lacking, Nothing}
 
 -- where patterns come from: a text, or the file of a name
@@ -90,10 +92,10 @@ switch_by letter =
     else if letter == 72 then Some WithName
     else if letter == 86 then Some Version
     else if letter == 97 then Some Text
-    else if letter == 70 || letter == 85 then Some Same
+    else if letter == 70 || (letter == 85 || letter == 117) then Some Same
     else None
 
--- what such an option changes; of `-h` and `-H` the last counts, of `-l` and `-L`, and of `-i` and `--no-ignore-case`
+-- what such an option changes; of `-h` and `-H` the last counts, of `-l` and `-L`, of `-i` and `--no-ignore-case`, and of `-r` and `-d`
 abbrev pub switched : Switch → Flags → Flags
 switched IgnoreCase flags = record flags { ignore_case = true }
 switched MatchCase flags = record flags { ignore_case = false }
@@ -107,8 +109,8 @@ switched OnlyMatching flags = record flags { only_matching = true }
 switched Offsets flags = record flags { offset = true }
 switched OnlyNames flags = record flags { names = true; lacking = false }
 switched OnlyLacking flags = record flags { names = false; lacking = true }
-switched Recursive flags = record flags { recursive = true }
-switched Follow flags = record flags { recursive = true; follow = true }
+switched Recursive flags = record flags { recursive = true; skips_folders = false }
+switched Follow flags = record flags { recursive = true; follow = true; skips_folders = false }
 switched NullNames flags = record flags { null = true }
 switched NullData flags = record flags { null_data = true }
 switched Quiet flags = record flags { quiet = true }
@@ -122,6 +124,10 @@ switched NoMessages flags = record flags { no_messages = true }
 switched Help flags = record flags { help = true }
 switched Version flags = record flags { version = true }
 switched Text flags = record flags { text = true }
+switched ReadFolders flags = record flags { recursive = false; skips_folders = false }
+switched SkipFolders flags = record flags { recursive = false; skips_folders = true }
+switched ReadDevices flags = record flags { devices = Some true }
+switched SkipDevices flags = record flags { devices = Some false }
 switched Same flags = flags
 
 -- whether this is a number below 2^64 in decimal: one digit or more, and nothing else
@@ -179,6 +185,8 @@ numbered_in Format number flags = flags
 numbered_in Included number flags = flags
 numbered_in Excluded number flags = flags
 numbered_in ExcludedFolder number flags = flags
+numbered_in Folders number flags = flags
+numbered_in Devices number flags = flags
 
 abbrev pub with_number : Valued → ℕ → Said → Said
 with_number valued number s = record s { flags = numbered_in valued number s.flags }
@@ -201,6 +209,13 @@ with_format argument s = option_map (λ pieces. with_pieces s pieces) (format_pi
 abbrev pub with_rule : Sense → List ℕ → Said → Said
 with_rule sense glob s = record s { rules = s.rules ++ (record { sense = sense; glob = glob } ∷ []) }
 
+-- what is done with folders that are operands, and with devices
+abbrev pub with_folders : List ℕ → Said → Option Said
+with_folders argument s = option_map (λ switch. record s { flags = switched switch s.flags }) (folders_named argument)
+
+abbrev pub with_devices : List ℕ → Said → Option Said
+with_devices argument s = option_map (λ switch. record s { flags = switched switch s.flags }) (devices_named argument)
+
 -- the argument of an option; that of `--exclude-dir` has no slashes at its end
 abbrev pub value_by : Valued → List ℕ → Said → Option ReadSoFar
 value_by Regexp argument s = Some (said_so (with_source false argument s))
@@ -218,20 +233,24 @@ value_by Format argument s = option_map said_so (with_format argument s)
 value_by Included argument s = Some (said_so (with_rule Include argument s))
 value_by Excluded argument s = Some (said_so (with_rule Exclude argument s))
 value_by ExcludedFolder argument s = Some (said_so (with_rule ExcludeFolder (without_slashes argument) s))
+value_by Folders argument s = option_map said_so (with_folders argument s)
+value_by Devices argument s = option_map said_so (with_devices argument s)
 
--- the option of a letter whose argument is a number
-abbrev pub numbered : ℕ → Option Valued
-numbered letter =
+-- the option of a letter that takes an argument, but for those that give patterns
+abbrev pub valued_letter : ℕ → Option Valued
+valued_letter letter =
     if letter == 109 then Some MaxCount
     else if letter == 65 then Some After
     else if letter == 66 then Some Before
     else if letter == 67 then Some Around
+    else if letter == 100 then Some Folders
+    else if letter == 68 then Some Devices
     else None
 
--- that number stands behind its letter too
-abbrev pub numbered_by : Valued → List ℕ → Said → Option ReadSoFar
-numbered_by valued [] s = Some (record { awaits = Argument valued; said = s })
-numbered_by valued (first ∷ rest) s = number_value valued (first ∷ rest) s
+-- that argument stands behind its letter too
+abbrev pub behind_by : Valued → List ℕ → Said → Option ReadSoFar
+behind_by valued [] s = Some (record { awaits = Argument valued; said = s })
+behind_by valued (first ∷ rest) s = value_by valued (first ∷ rest) s
 
 -- so many digits stand at the front of letters, and then none
 pub record AreDigits (letters : List ℕ) (count : ℕ) : Type 0 where
@@ -244,15 +263,15 @@ with_digits [] s = Some s
 with_digits (digit ∷ digits) s = option_map (λ number. with_number Around number s) (number_by (digit ∷ digits))
 
 -- a letter that gives no patterns, and those behind it
-abbrev pub numbered_or : Option Valued → ℕ → List ℕ → (Said → Option ReadSoFar) → Said → Option ReadSoFar
-numbered_or (Some valued) letter rest follow s = numbered_by valued rest s
-numbered_or None letter rest follow s = option_and_then (λ switch. follow (record s { flags = switched switch s.flags })) (switch_by letter)
+abbrev pub valued_or : Option Valued → ℕ → List ℕ → (Said → Option ReadSoFar) → Said → Option ReadSoFar
+valued_or (Some valued) letter rest follow s = behind_by valued rest s
+valued_or None letter rest follow s = option_and_then (λ switch. follow (record s { flags = switched switch s.flags })) (switch_by letter)
 
 -- one that is no digit
 abbrev pub letter_by : ℕ → List ℕ → (Said → Option ReadSoFar) → Said → Option ReadSoFar
 letter_by letter rest follow s =
     if letter == 101 || letter == 102 then Some (taken_by (letter == 102) rest s)
-    else numbered_or (numbered letter) letter rest follow s
+    else valued_or (valued_letter letter) letter rest follow s
 
 -- joined letters behind some digits
 abbrev pub letters_from : List ℕ → List ℕ → Said → Option ReadSoFar
@@ -265,13 +284,6 @@ abbrev pub letters_by : List ℕ → Said → Option ReadSoFar
 letters_by letters s = letters_from [] letters s
 
 -- when matches are coloured
-abbrev pub color_named : List ℕ → Option Color
-color_named argument =
-    if bytes_eq argument (codes "auto") then Some Auto
-    else if bytes_eq argument (codes "always") then Some Always
-    else if bytes_eq argument (codes "never") then Some Never
-    else None
-
 abbrev pub with_color : Color → Said → ReadSoFar
 with_color color s = said_so (record s { flags = record s.flags { color = color } })
 
@@ -342,6 +354,8 @@ no_flags = record {
   lacking = false;
   recursive = false;
   follow = false;
+  skips_folders = false;
+  devices = None;
   null = false;
   null_data = false;
   quiet = false;
@@ -407,6 +421,10 @@ around_asked flags = record {
 
 abbrev pub context_by : Flags → Option Context
 context_by flags = if is_some flags.before || (is_some flags.after || is_some flags.context) then Some (around_asked flags) else None
+
+-- what is done with links, folders and devices
+abbrev pub ways_by : Flags → Ways
+ways_by flags = record { follow = flags.follow; skips_folders = flags.skips_folders; devices = flags.devices }
 
 -- what a match has to be: of `-w` and `-x` the latter goes first
 abbrev pub fit_by : Flags → Fit

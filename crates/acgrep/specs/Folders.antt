@@ -1,13 +1,13 @@
 -- Which files the operands of a recursive search name.
-use Rattle.std.specs.Prelude.{◌≡◌, ◌⊎◌, ℕ, ◌&&◌, ◌||◌, nat_eq, Bool, MatchBool, true, false, List, [], ◌∷◌, ◌++◌, Option, None, IfSome, codes, map, not, if◌then◌else◌}
+use Rattle.std.specs.Prelude.{◌≡◌, ◌⊎◌, ℕ, ◌&&◌, ◌||◌, nat_eq, Bool, MatchBool, true, false, List, [], ◌∷◌, ◌++◌, Option, None, IfSome, codes, map, not, unwrap_or, if◌then◌else◌}
 use Rattle.std.specs.List.{ends_with}
-use Rattle.std.specs.Str.{IsUtf8}
+use Rattle.std.specs.Str.{IsUtf8, bytes_eq}
 use Rattle.std.specs.List.Sorted.{IsPermutation, IsSorted}
 use Rattle.std.specs.Cmp.Lexicographic.{slice_cmp}
 use Rattle.std.specs.Ordering.{nat_cmp}
 use Rattle.programs.specs.Names.{is_input}
 use Rattle.acgrep.specs.Listed.{listed_bytes}
-use Rattle.acgrep.specs.Rules.{RuleSaid, is_left_out}
+use Rattle.acgrep.specs.Rules.{RuleSaid, is_left_out, without_slashes}
 use Rattle.acgrep.specs.declared.folders.Folders.{Ghosts as FolderGhosts}
 use Rattle.acgrep.specs.declared.folders.Kind.{Kind}
 use Rattle.acgrep.specs.declared.folders.Kind.TheVariants.{File, Folder, Link, Device}
@@ -15,6 +15,7 @@ use Rattle.acgrep.specs.declared.open.Open.{Ghosts as Openers}
 use Rattle.acgrep.specs.declared.walk.Found.{Found}
 use Rattle.acgrep.specs.declared.walk.Pending.{Pending}
 use Rattle.acgrep.specs.declared.walk.Unread.{Unread}
+use Rattle.acgrep.specs.declared.walk.Ways.{Ways}
 
 -- what is known of names and folders
 pub record Tree : Type 0 where
@@ -47,8 +48,12 @@ abbrev pub between : (folder name : List ℕ) → List ℕ
 between [] name = if is_input name then codes "./" else []
 between (byte ∷ bytes) name = if ends_with nat_eq (byte ∷ bytes) (codes "/") then [] else codes "/"
 
+-- the name of a folder has no slashes at its end there, but for its first byte; two slashes alone may be another folder than one
+abbrev pub folder_named : List ℕ → List ℕ
+folder_named folder = if bytes_eq folder (codes "//") then folder else without_slashes folder
+
 abbrev pub path_inside : (folder name : List ℕ) → List ℕ
-path_inside folder name = folder ++ (between folder name ++ name)
+path_inside folder name = folder_named folder ++ (between (folder_named folder) name ++ name)
 
 -- what has this name in a folder
 abbrev pub inside : (folder name : List ℕ) → Spot
@@ -58,13 +63,13 @@ inside folder name = record { name = path_inside folder name; given = false }
 abbrev pub is_standard : Spot → Bool
 is_standard spot = spot.given && is_input spot.name
 
--- links are followed that are operands, and others where `follow` is so
-abbrev pub is_followed : Bool → Spot → Bool
-is_followed follow spot = spot.given || follow
+-- links are followed that are operands, and others where that is asked for
+abbrev pub is_followed : Ways → Spot → Bool
+is_followed ways spot = spot.given || ways.follow
 
 -- a name stands for this, as far as is known
-abbrev pub IsKind : Tree → Bool → Spot → Kind → Type 0
-IsKind tree follow spot kind = IfSome (tree.kinds (is_followed follow spot) spot.name) (λ known. kind ≡ known)
+abbrev pub IsKind : Tree → Ways → Spot → Kind → Type 0
+IsKind tree ways spot kind = IfSome (tree.kinds (is_followed ways spot) spot.name) (λ known. kind ≡ known)
 
 abbrev pub is_folder : Kind → Bool
 is_folder File = false
@@ -72,15 +77,19 @@ is_folder Folder = true
 is_folder Link = false
 is_folder Device = false
 
--- whether it is searched: a file is, and a device where a link would be followed
-abbrev pub is_searched : Kind → Bool → Bool
-is_searched File followed = true
-is_searched Folder followed = false
-is_searched Link followed = false
-is_searched Device followed = followed
+-- devices are read where that is said, and where nothing is said of it those where a link would be followed
+abbrev pub reads_devices : Ways → Spot → Bool
+reads_devices ways spot = unwrap_or ways.devices (is_followed ways spot)
 
-abbrev pub files_by : Bool → Kind → Spot → List (List ℕ)
-files_by follow kind spot = if is_searched kind (is_followed follow spot) then spot.name ∷ [] else []
+-- whether it is searched: a file is, and a device where those are read
+abbrev pub is_searched : Kind → Bool → Bool
+is_searched File devices = true
+is_searched Folder devices = false
+is_searched Link devices = false
+is_searched Device devices = devices
+
+abbrev pub files_by : Ways → Kind → Spot → List (List ℕ)
+files_by ways kind spot = if is_searched kind (reads_devices ways spot) then spot.name ∷ [] else []
 
 -- a folder holds these names, as far as is known, and they are in the order of their bytes
 pub record HoldsNames (tree : Tree) (folder : List ℕ) (names : List (List ℕ)) : Type 0 where
@@ -100,44 +109,44 @@ abbrev pub IsUnknown : Tree → Bool → List ℕ → Type 0
 IsUnknown tree followed name = (tree.kinds followed name ≡ None) ⊎ (IsUtf8 name → ⊥)
 
 -- so it is of what cannot be looked at
-abbrev pub IsLost : Tree → Bool → Spot → Type 0
-IsLost tree follow spot = IsUnknown tree (is_followed follow spot) spot.name
+abbrev pub IsLost : Tree → Ways → Spot → Type 0
+IsLost tree ways spot = IsUnknown tree (is_followed ways spot) spot.name
 
 -- names stand for these files, one after another, but for those that rules leave out. A folder stands for what it holds. What cannot
 -- be looked at, or be read as a folder, is left out, and told; and so is a folder that stands in itself, as links can have it
-pub data AreFiles (tree : Tree) (rules : List RuleSaid) (follow : Bool) : List Spot → (files unread : List (List ℕ)) → Type 0 where
-  none : AreFiles tree rules follow [] [] []
+pub data AreFiles (tree : Tree) (rules : List RuleSaid) (ways : Ways) : List Spot → (files unread : List (List ℕ)) → Type 0 where
+  none : AreFiles tree rules ways [] [] []
   input : {spot : Spot} {spots : List Spot} {files unread : List (List ℕ)}
-      → is_standard spot ≡ true → AreFiles tree rules follow spots files unread → AreFiles tree rules follow (spot ∷ spots) (spot.name ∷ files) unread
+      → is_standard spot ≡ true → AreFiles tree rules ways spots files unread → AreFiles tree rules ways (spot ∷ spots) (spot.name ∷ files) unread
   missed : {spot : Spot} {spots : List Spot} {files unread : List (List ℕ)}
-      → is_standard spot ≡ false → IsLost tree follow spot → is_lost_left rules spot ≡ false
-      → AreFiles tree rules follow spots files unread → AreFiles tree rules follow (spot ∷ spots) files (spot.name ∷ unread)
+      → is_standard spot ≡ false → IsLost tree ways spot → is_lost_left rules spot ≡ false
+      → AreFiles tree rules ways spots files unread → AreFiles tree rules ways (spot ∷ spots) files (spot.name ∷ unread)
   lost : {spot : Spot} {spots : List Spot} {files unread : List (List ℕ)}
-      → is_standard spot ≡ false → IsLost tree follow spot → is_lost_left rules spot ≡ true
-      → AreFiles tree rules follow spots files unread → AreFiles tree rules follow (spot ∷ spots) files unread
+      → is_standard spot ≡ false → IsLost tree ways spot → is_lost_left rules spot ≡ true
+      → AreFiles tree rules ways spots files unread → AreFiles tree rules ways (spot ∷ spots) files unread
   left : {spot : Spot} {spots : List Spot} {files unread : List (List ℕ)} (kind : Kind)
-      → is_standard spot ≡ false → IsKind tree follow spot kind → is_spot_left rules (is_folder kind) spot ≡ true
-      → AreFiles tree rules follow spots files unread → AreFiles tree rules follow (spot ∷ spots) files unread
+      → is_standard spot ≡ false → IsKind tree ways spot kind → is_spot_left rules (is_folder kind) spot ≡ true
+      → AreFiles tree rules ways spots files unread → AreFiles tree rules ways (spot ∷ spots) files unread
   looked : {spot : Spot} {spots : List Spot} {files unread : List (List ℕ)} (kind : Kind)
-      → is_standard spot ≡ false → IsKind tree follow spot kind → is_folder kind ≡ false → is_spot_left rules false spot ≡ false
-      → AreFiles tree rules follow spots files unread → AreFiles tree rules follow (spot ∷ spots) (files_by follow kind spot ++ files) unread
+      → is_standard spot ≡ false → IsKind tree ways spot kind → is_folder kind ≡ false → is_spot_left rules false spot ≡ false
+      → AreFiles tree rules ways spots files unread → AreFiles tree rules ways (spot ∷ spots) (files_by ways kind spot ++ files) unread
   unlisted : {spot : Spot} {spots : List Spot} {files unread : List (List ℕ)}
-      → is_standard spot ≡ false → IsKind tree follow spot Folder → is_spot_left rules true spot ≡ false
-      → AreFiles tree rules follow spots files unread → AreFiles tree rules follow (spot ∷ spots) files (spot.name ∷ unread)
+      → is_standard spot ≡ false → IsKind tree ways spot Folder → is_spot_left rules true spot ≡ false
+      → AreFiles tree rules ways spots files unread → AreFiles tree rules ways (spot ∷ spots) files (spot.name ∷ unread)
   entered : {spot : Spot} {spots : List Spot} {files unread : List (List ℕ)} (names : List (List ℕ))
-      → is_standard spot ≡ false → IsKind tree follow spot Folder → is_spot_left rules true spot ≡ false → HoldsNames tree spot.name names
-      → AreFiles tree rules follow (map (inside spot.name) names ++ spots) files unread → AreFiles tree rules follow (spot ∷ spots) files unread
+      → is_standard spot ≡ false → IsKind tree ways spot Folder → is_spot_left rules true spot ≡ false → HoldsNames tree spot.name names
+      → AreFiles tree rules ways (map (inside spot.name) names ++ spots) files unread → AreFiles tree rules ways (spot ∷ spots) files unread
 
 -- those below the working folder, unless that cannot be read
-abbrev pub AreHere : Tree → List RuleSaid → Bool → (files unread : List (List ℕ)) → Type 0
-AreHere tree rules follow files unread =
-    ((names : List (List ℕ)) × HoldsNames tree (codes ".") names × AreFiles tree rules follow (map (inside []) names) files unread)
+abbrev pub AreHere : Tree → List RuleSaid → Ways → (files unread : List (List ℕ)) → Type 0
+AreHere tree rules ways files unread =
+    ((names : List (List ℕ)) × HoldsNames tree (codes ".") names × AreFiles tree rules ways (map (inside []) names) files unread)
     ⊎ ((files ≡ []) × (unread ≡ codes "." ∷ []))
 
 -- these files are named by operands, or are below them; where there is no operand, those below the working folder
-abbrev pub AreBelow : Tree → List RuleSaid → Bool → (operands files unread : List (List ℕ)) → Type 0
-AreBelow tree rules follow [] files unread = AreHere tree rules follow files unread
-AreBelow tree rules follow (name ∷ names) files unread = AreFiles tree rules follow (map operand (name ∷ names)) files unread
+abbrev pub AreBelow : Tree → List RuleSaid → Ways → (operands files unread : List (List ℕ)) → Type 0
+AreBelow tree rules ways [] files unread = AreHere tree rules ways files unread
+AreBelow tree rules ways (name ∷ names) files unread = AreFiles tree rules ways (map operand (name ∷ names)) files unread
 
 -- what is still to be looked at
 abbrev pub spot_of : Pending → Spot
@@ -151,12 +160,12 @@ abbrev pub missed_of : List Unread → List (List ℕ)
 missed_of unread = map (λ missed. missed.name.items) unread
 
 -- what was found between two times: whatever files the names behind stand for, those before stand for these and them
-pub record FindsFiles (tree : Tree) (rules : List RuleSaid) (follow : Bool) (before after : List Spot) (old new : Found) : Type 0 where
+pub record FindsFiles (tree : Tree) (rules : List RuleSaid) (ways : Ways) (before after : List Spot) (old new : Found) : Type 0 where
   pub files : List (List ℕ)
   pub unread : List (List ℕ)
   pub names : listed_bytes new.names.items ≡ listed_bytes old.names.items ++ files
   pub missed : missed_of new.unread.items ≡ missed_of old.unread.items ++ unread
-  pub leads : (more others : List (List ℕ)) → AreFiles tree rules follow after more others → AreFiles tree rules follow before (files ++ more) (unread ++ others)
+  pub leads : (more others : List (List ℕ)) → AreFiles tree rules ways after more others → AreFiles tree rules ways before (files ++ more) (unread ++ others)
 
 -- the names of a folder, in order, were put before what is still to be looked at
 pub record PutsInside (names : List (List ℕ)) (folder : List ℕ) (old new : List Spot) : Type 0 where
@@ -172,9 +181,9 @@ Enters tree folder before after old new =
     ⊎ ((after ≡ before) × (new.names ≡ old.names) × (missed_of new.unread.items ≡ missed_of old.unread.items ++ (folder ∷ [])))
 
 -- a walk begins at these names: whatever files they stand for, those are named by the operands
-pub record Begins (tree : Tree) (rules : List RuleSaid) (follow : Bool) (operands : List (List ℕ)) (spots : List Spot) (found : Found) : Type 0 where
-  pub leads : (files unread : List (List ℕ)) → AreFiles tree rules follow spots files unread
-      → AreBelow tree rules follow operands (listed_bytes found.names.items ++ files) (missed_of found.unread.items ++ unread)
+pub record Begins (tree : Tree) (rules : List RuleSaid) (ways : Ways) (operands : List (List ℕ)) (spots : List Spot) (found : Found) : Type 0 where
+  pub leads : (files unread : List (List ℕ)) → AreFiles tree rules ways spots files unread
+      → AreBelow tree rules ways operands (listed_bytes found.names.items ++ files) (missed_of found.unread.items ++ unread)
 
 -- what cannot be looked at was told, or left out
 abbrev pub Loses : List RuleSaid → Spot → Found → Found → Type 0
@@ -182,25 +191,36 @@ Loses rules spot old new =
     MatchBool (is_lost_left rules spot) (new ≡ old)
     ((new.names ≡ old.names) × (missed_of new.unread.items ≡ missed_of old.unread.items ++ (spot.name ∷ [])))
 
--- an operand is searched or not, as rules say, where it can be looked at
-abbrev pub IsKept : Tree → List RuleSaid → List ℕ → Bool → Type 0
-IsKept tree rules name kept =
+-- an operand of this kind is passed over
+abbrev pub is_passed : Ways → Kind → Bool
+is_passed ways File = false
+is_passed ways Folder = ways.skips_folders
+is_passed ways Link = false
+is_passed ways Device = not (unwrap_or ways.devices true)
+
+-- operands of some kind are
+abbrev pub passes : Ways → Bool
+passes ways = ways.skips_folders || not (unwrap_or ways.devices true)
+
+-- an operand is searched or not, by what it is and as rules say, where it can be looked at
+abbrev pub IsKept : Tree → List RuleSaid → Ways → List ℕ → Bool → Type 0
+IsKept tree rules ways name kept =
     MatchBool (is_input name) (kept ≡ true)
     ((IsUnknown tree true name × (kept ≡ true))
-    ⊎ ((kind : Kind) × IsKind tree true (operand name) kind × (kept ≡ not (is_spot_left rules (is_folder kind) (operand name)))))
+    ⊎ ((kind : Kind) × IfSome (tree.kinds true name) (λ known. kind ≡ known) × (kept ≡ not (is_passed ways kind || is_left_out rules (is_folder kind) true name))))
 
 abbrev pub kept_of : List ℕ → Bool → List (List ℕ)
 kept_of name kept = if kept then name ∷ [] else []
 
 -- these of the operands are searched, where folders are not entered
-abbrev pub AreChosen : Tree → List RuleSaid → (names files : List (List ℕ)) → Type 0
-AreChosen tree rules [] files = files ≡ []
-AreChosen tree rules (name ∷ names) files =
-    (kept : Bool) × (others : List (List ℕ)) × IsKept tree rules name kept × AreChosen tree rules names others × (files ≡ kept_of name kept ++ others)
+abbrev pub AreChosen : Tree → List RuleSaid → Ways → (names files : List (List ℕ)) → Type 0
+AreChosen tree rules ways [] files = files ≡ []
+AreChosen tree rules ways (name ∷ names) files =
+    (kept : Bool) × (others : List (List ℕ)) × IsKept tree rules ways name kept × AreChosen tree rules ways names others × (files ≡ kept_of name kept ++ others)
 
 -- one operand was looked at
-pub record Chooses (tree : Tree) (rules : List RuleSaid) (name : List ℕ) (old new : Found) : Type 0 where
+pub record Chooses (tree : Tree) (rules : List RuleSaid) (ways : Ways) (name : List ℕ) (old new : Found) : Type 0 where
   pub kept : Bool
-  pub is : IsKept tree rules name kept
+  pub is : IsKept tree rules ways name kept
   pub names : listed_bytes new.names.items ≡ listed_bytes old.names.items ++ kept_of name kept
   pub unread : new.unread ≡ old.unread

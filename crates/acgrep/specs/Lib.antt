@@ -1,3 +1,4 @@
+pub mod Actions
 pub mod Alone
 pub mod Arguments
 pub mod Backing

@@ -3,13 +3,13 @@ use Rattle.std.specs.Prelude.{ℕ, List, [], ◌∷◌, Option, codes}
 use Rattle.std.specs.Result.{result_ok}
 use Rattle.call_options.specs.Names.{Named, found_among, meant, named, named_either}
 use Rattle.call_options.specs.declared.found.Found.{Found}
-use Rattle.call_options.specs.declared.found.Found.TheVariants.{Unknown}
+use Rattle.call_options.specs.declared.found.Found.TheVariants.{Unknown, Begun, Several, Whole}
 use Rattle.acgrep.specs.declared.long.Long.{Long}
 use Rattle.acgrep.specs.declared.long.Long.TheVariants.{Plain, Takes, When}
-use Rattle.acgrep.specs.declared.long.Valued.TheVariants.{Regexp, PatternFile, Kind, Offset, FirstLine, MaxCount, After, Before, Around, Separator, Label, Format, Included, Excluded, ExcludedFolder}
+use Rattle.acgrep.specs.declared.long.Valued.TheVariants.{Regexp, PatternFile, Kind, Offset, FirstLine, MaxCount, After, Before, Around, Separator, Label, Format, Included, Excluded, ExcludedFolder, Folders, Devices}
 use Rattle.acgrep.specs.declared.options.Switch.TheVariants.{IgnoreCase, MatchCase, Invert, WholeWords, WholeLines, Counts, Tallies, Numbers, OnlyMatching, Offsets, OnlyNames, OnlyLacking, NullNames, NullData, Recursive, Follow, Quiet, NoSeparator, InitialTab, Json, NoName, WithName, NoMatchOk, NoMessages, Help, Version, Text, Same}
 
--- the options that say what is searched for
+-- the options that grep has too: those that say what is searched for
 abbrev pub pattern_options : List (Named Long)
 pattern_options = named (codes "regexp") (Takes Regexp)
     ∷ named (codes "file") (Takes PatternFile)
@@ -18,8 +18,7 @@ pattern_options = named (codes "regexp") (Takes Regexp)
     ∷ named (codes "invert-match") (Plain Invert)
     ∷ named (codes "word-regexp") (Plain WholeWords)
     ∷ named (codes "line-regexp") (Plain WholeLines)
-    ∷ named (codes "kind") (Takes Kind)
-    ∷ named (codes "fixed-strings") (Plain Same)
+    ∷ named_either (codes "fixed-strings") (codes "fixed-regexp") (Plain Same)
     ∷ named (codes "text") (Plain Text)
     ∷ named (codes "binary") (Plain Same)
     ∷ []
@@ -27,7 +26,6 @@ pattern_options = named (codes "regexp") (Takes Regexp)
 -- those that say what is written
 abbrev pub output_options : List (Named Long)
 output_options = named (codes "count") (Plain Counts)
-    ∷ named (codes "counts") (Plain Tallies)
     ∷ named (codes "files-with-matches") (Plain OnlyNames)
     ∷ named (codes "files-without-match") (Plain OnlyLacking)
     ∷ named (codes "null") (Plain NullNames)
@@ -35,8 +33,6 @@ output_options = named (codes "count") (Plain Counts)
     ∷ named (codes "quiet") (Plain Quiet)
     ∷ named (codes "silent") (Plain Quiet)
     ∷ named (codes "only-matching") (Plain OnlyMatching)
-    ∷ named (codes "json") (Plain Json)
-    ∷ named (codes "format") (Takes Format)
     ∷ named (codes "initial-tab") (Plain InitialTab)
     ∷ named (codes "label") (Takes Label)
     ∷ named (codes "line-number") (Plain Numbers)
@@ -60,25 +56,47 @@ abbrev pub file_options : List (Named Long)
 file_options = named (codes "include") (Takes Included)
     ∷ named (codes "exclude") (Takes Excluded)
     ∷ named (codes "exclude-dir") (Takes ExcludedFolder)
+    ∷ named (codes "directories") (Takes Folders)
+    ∷ named (codes "devices") (Takes Devices)
     ∷ []
 
 -- and all others
 abbrev pub other_options : List (Named Long)
 other_options = named_either (codes "color") (codes "colour") When
-    ∷ named (codes "offset") (Takes Offset)
-    ∷ named (codes "first-line") (Takes FirstLine)
     ∷ named (codes "recursive") (Plain Recursive)
     ∷ named (codes "dereference-recursive") (Plain Follow)
-    ∷ named (codes "no-match-ok") (Plain NoMatchOk)
     ∷ named (codes "no-messages") (Plain NoMessages)
     ∷ named (codes "line-buffered") (Plain Same)
+    ∷ named (codes "unix-byte-offsets") (Plain Same)
     ∷ named (codes "help") (Plain Help)
     ∷ named (codes "version") (Plain Version)
     ∷ []
 
+-- those that only acgrep has
+abbrev pub own_options : List (Named Long)
+own_options = named (codes "kind") (Takes Kind)
+    ∷ named (codes "counts") (Plain Tallies)
+    ∷ named (codes "json") (Plain Json)
+    ∷ named (codes "format") (Takes Format)
+    ∷ named (codes "offset") (Takes Offset)
+    ∷ named (codes "first-line") (Takes FirstLine)
+    ∷ named (codes "no-match-ok") (Plain NoMatchOk)
+    ∷ []
+
+-- what a name means among those that grep has too
+unfoldable pub shared_by : List ℕ → Found Long
+shared_by asked = found_among other_options asked (found_among file_options asked (found_among context_options asked (found_among output_options asked (found_among pattern_options asked Unknown))))
+
+-- where none of them has a name that begins so, it is one of the others, or begins it
+abbrev pub or_own : Found Long → List ℕ → Found Long
+or_own Unknown asked = found_among own_options asked Unknown
+or_own (Begun long) asked = Begun long
+or_own Several asked = Several
+or_own (Whole long) asked = Whole long
+
 -- what a name means among all of them
-unfoldable pub found_by : List ℕ → Found Long
-found_by asked = found_among other_options asked (found_among file_options asked (found_among context_options asked (found_among output_options asked (found_among pattern_options asked Unknown))))
+abbrev pub found_by : List ℕ → Found Long
+found_by asked = or_own (shared_by asked) asked
 
 -- the option that is meant, where one is
 abbrev pub option_by : List ℕ → Option Long

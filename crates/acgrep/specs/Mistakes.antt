@@ -11,9 +11,9 @@ use Rattle.call_options.specs.Forms.{Form, argument_form, joined_letters, long_n
 use Rattle.call_options.specs.Names.{meant}
 use Rattle.call_options.specs.declared.found.NotFound.{NotFound}
 use Rattle.call_options.specs.declared.misuse.Misuse.TheVariants.{UnknownLetter, NotFound as NoName, NoArgument, TakesNone}
-use Rattle.acgrep.specs.Arguments.{ReadSoFar, Said, argument_by, nothing_said, number_by, numbered, switch_by}
+use Rattle.acgrep.specs.Arguments.{ReadSoFar, Said, argument_by, nothing_said, number_by, switch_by, valued_letter}
 use Rattle.acgrep.specs.Long.{found_by, option_by}
-use Rattle.acgrep.specs.Told.{TellsWrong, color_parts, format_parts, kind_parts, misuse_parts, number_parts, valued_name, wrong_parts}
+use Rattle.acgrep.specs.Told.{TellsWrong, color_parts, devices_parts, folders_parts, format_parts, kind_parts, misuse_parts, number_parts, valued_name, wrong_parts}
 use Rattle.acgrep.specs.declared.arguments.Awaited.{Awaited}
 use Rattle.acgrep.specs.declared.arguments.Awaited.TheVariants.{Fresh, Argument, Operands}
 use Rattle.acgrep.specs.declared.arguments.Refusal.{Refusal}
@@ -22,7 +22,7 @@ use Rattle.acgrep.specs.declared.arguments.Wrong.TheVariants.{NoPattern}
 use Rattle.acgrep.specs.declared.long.Long.{Long}
 use Rattle.acgrep.specs.declared.long.Long.TheVariants.{Plain, Takes, When}
 use Rattle.acgrep.specs.declared.long.Valued.{Valued}
-use Rattle.acgrep.specs.declared.long.Valued.TheVariants.{Regexp, PatternFile, Kind, Offset, FirstLine, MaxCount, After, Before, Around, Separator, Label, Format, Included, Excluded, ExcludedFolder}
+use Rattle.acgrep.specs.declared.long.Valued.TheVariants.{Regexp, PatternFile, Kind, Offset, FirstLine, MaxCount, After, Before, Around, Separator, Label, Format, Included, Excluded, ExcludedFolder, Folders, Devices}
 
 -- what is told of an argument that an option cannot have; any is a pattern, a file's name, a separator, a label or a glob
 abbrev pub wrong_value : Valued → List ℕ → List (List ℕ)
@@ -41,6 +41,8 @@ wrong_value Format argument = format_parts argument
 wrong_value Included argument = []
 wrong_value Excluded argument = []
 wrong_value ExcludedFolder argument = []
+wrong_value Folders argument = folders_parts argument
+wrong_value Devices argument = devices_parts argument
 
 -- of a long name that means no option
 abbrev pub wrong_found : Result Long NotFound → List ℕ → List (List ℕ)
@@ -62,10 +64,10 @@ abbrev pub if_none : {A : Type 0} → Option A → List (List ℕ) → List (Lis
 if_none None one other = one
 if_none (Some value) one other = other
 
--- of what stands behind the letter of an option whose argument is a number, where it is not empty
-abbrev pub wrong_numbered : Valued → List ℕ → List (List ℕ)
-wrong_numbered valued [] = []
-wrong_numbered valued (first ∷ rest) = number_parts (valued_name valued) (first ∷ rest)
+-- of what stands behind the letter of an option that takes an argument, where it is not empty
+abbrev pub wrong_behind : Valued → List ℕ → List (List ℕ)
+wrong_behind valued [] = []
+wrong_behind valued (first ∷ rest) = wrong_value valued (first ∷ rest)
 
 -- of digits that write no number
 abbrev pub wrong_digits : List ℕ → List (List ℕ)
@@ -78,13 +80,13 @@ digits_value_of (digit ∷ digits) = number_by (digit ∷ digits)
 
 -- of a letter that gives no patterns, and those behind it
 abbrev pub wrong_else : Option Valued → ℕ → List ℕ → List (List ℕ) → List (List ℕ)
-wrong_else (Some valued) letter rest others = wrong_numbered valued rest
+wrong_else (Some valued) letter rest others = wrong_behind valued rest
 wrong_else None letter rest others = if_none (switch_by letter) (misuse_parts UnknownLetter (letter ∷ [])) others
 
 -- of a letter that is no digit, and those behind it; what stands behind that of an option with an argument is no letter
 abbrev pub wrong_letter : ℕ → List ℕ → List (List ℕ) → List (List ℕ)
 wrong_letter letter rest others =
-    if letter == 101 || letter == 102 then [] else wrong_else (numbered letter) letter rest others
+    if letter == 101 || letter == 102 then [] else wrong_else (valued_letter letter) letter rest others
 
 -- of joined letters behind some digits: of the first mistake
 abbrev pub wrong_from_digits : List ℕ → List ℕ → List (List ℕ)

@@ -7,10 +7,10 @@ use Rattle.aho_devices.specs.Counts.{AppendsBeginning}
 use Rattle.aho_core.specs.declared.search.MatchKind.{MatchKind}
 use Rattle.aho_core.specs.declared.search.MatchKind.TheVariants.{LeftmostLongest}
 use Rattle.acgrep.specs.Binary.{is_guarded, writes_lines}
-use Rattle.acgrep.specs.Arguments.{Origin, Said, asks_counts, context_by, ending_by, fit_by, origin_of, said_by, shown_by}
+use Rattle.acgrep.specs.Arguments.{Origin, Said, asks_counts, context_by, ending_by, fit_by, origin_of, said_by, shown_by, ways_by}
 use Rattle.programs.specs.Names.{is_input, or_input}
 use Rattle.acgrep.specs.Files.{AreFilesBegun, AreSearchedOr}
-use Rattle.acgrep.specs.Folders.{AreBelow, AreChosen, Known, Tree}
+use Rattle.acgrep.specs.Folders.{AreBelow, AreChosen, Known, Tree, passes}
 use Rattle.acgrep.specs.Lines.{lines}
 use Rattle.acgrep.specs.Listed.{listed_bytes}
 use Rattle.acgrep.specs.Rules.{RuleSaid}
@@ -33,6 +33,7 @@ use Rattle.acgrep.specs.declared.print.Form.{Form}
 use Rattle.acgrep.specs.declared.print.Form.TheVariants.{Json, Pieces}
 use Rattle.acgrep.specs.declared.print.Place.{Place}
 use Rattle.acgrep.specs.declared.select.Job.{Job}
+use Rattle.acgrep.specs.declared.walk.Ways.{Ways}
 
 -- what holds of what the arguments say, where they are right
 abbrev pub IfSaid : {Z : Type 0} → List (Vec ℕ Z) → (Said → Type 0) → Type 0
@@ -210,19 +211,23 @@ abbrev pub has_rules : List RuleSaid → Bool
 has_rules [] = false
 has_rules (rule ∷ rules) = true
 
--- without rules these are the files that operands name, or standard input
-abbrev pub AreNamed : Tree → List RuleSaid → (names files : List (List ℕ)) → Type 0
-AreNamed tree rules names files = MatchBool (has_rules rules) (AreChosen tree rules (or_input names) files) (files ≡ or_input names)
+-- whether operands are chosen: there are rules, or those of some kind are passed over
+abbrev pub chooses : List RuleSaid → Ways → Bool
+chooses rules ways = has_rules rules || passes ways
+
+-- where they are not, these are the files that operands name, or standard input
+abbrev pub AreNamed : Tree → List RuleSaid → Ways → (names files : List (List ℕ)) → Type 0
+AreNamed tree rules ways names files = MatchBool (chooses rules ways) (AreChosen tree rules ways (or_input names) files) (files ≡ or_input names)
 
 -- these are the files that operands name, with those below folders where that is asked for, and without those that rules leave out;
 -- some names cannot be looked at or read
 abbrev pub AreReached : Tree → Said → (names files unread : List (List ℕ)) → Type 0
 AreReached tree given names files unread =
-    MatchBool given.flags.recursive (AreBelow tree given.rules given.flags.follow names files unread) (AreNamed tree given.rules names files × (unread ≡ []))
+    MatchBool given.flags.recursive (AreBelow tree given.rules (ways_by given.flags) names files unread) (AreNamed tree given.rules (ways_by given.flags) names files × (unread ≡ []))
 
 -- whether operands are looked at before they are searched
 abbrev pub asks_to_look : Said → Bool
-asks_to_look given = given.flags.recursive || has_rules given.rules
+asks_to_look given = given.flags.recursive || chooses given.rules (ways_by given.flags)
 
 -- whether the only operand is the only file
 abbrev pub is_alone : (names files : List (List ℕ)) → Bool

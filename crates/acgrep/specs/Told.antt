@@ -21,11 +21,11 @@ use Rattle.acgrep.specs.Formats.{unknown_in}
 use Rattle.acgrep.specs.Runs.{AreReached, names_by, origins_of, sources_by}
 use Rattle.acgrep.specs.declared.arguments.Source.{Source}
 use Rattle.acgrep.specs.declared.arguments.Wrong.{Wrong}
-use Rattle.acgrep.specs.declared.arguments.Wrong.TheVariants.{NoPattern, UnknownLetter, NotFound, NoArgument, TakesNone, UnknownKind, UnknownColor, UnknownField, NoNumber}
+use Rattle.acgrep.specs.declared.arguments.Wrong.TheVariants.{NoPattern, UnknownLetter, NotFound, NoArgument, TakesNone, UnknownKind, UnknownColor, UnknownFolders, UnknownDevices, UnknownField, NoNumber}
 use Rattle.acgrep.specs.declared.files.Outcome.{Outcome}
 use Rattle.acgrep.specs.declared.files.Outcome.TheVariants.{Searched, Unread, Stopped}
 use Rattle.acgrep.specs.declared.long.Valued.{Valued}
-use Rattle.acgrep.specs.declared.long.Valued.TheVariants.{Regexp, PatternFile, Kind, Offset, FirstLine, MaxCount, After, Before, Around, Separator, Label, Format, Included, Excluded, ExcludedFolder}
+use Rattle.acgrep.specs.declared.long.Valued.TheVariants.{Regexp, PatternFile, Kind, Offset, FirstLine, MaxCount, After, Before, Around, Separator, Label, Format, Included, Excluded, ExcludedFolder, Folders, Devices}
 use Rattle.acgrep.specs.declared.options.Shown.{Shown}
 use Rattle.acgrep.specs.declared.options.Shown.TheVariants.{Nothing}
 
@@ -40,6 +40,10 @@ loop_text = codes "warning: recursive directory loop"
 -- and of a file to which the output goes
 abbrev pub output_text : List ℕ
 output_text = codes "input file is also the output"
+
+-- what is told of a standard input that is closed, or is open for writing alone
+abbrev pub unusable_text : List ℕ
+unusable_text = codes "Bad file descriptor"
 
 -- what is told of a pattern that holds a zero byte where that ends a line
 abbrev pub zero_text : List ℕ
@@ -61,12 +65,12 @@ abbrev pub IsUnopened : Option (List ℕ) → List ℕ → Type 0
 IsUnopened None cause = ⊥
 IsUnopened (Some name) cause = (is_utf8 name ≡ false) × (cause ≡ no_text_text)
 
--- a call of the system failed, the patterns or the search were refused, a folder stands in itself, a file is the output, or a pattern
--- holds a zero byte
+-- a call of the system failed, the patterns or the search were refused, a folder stands in itself, a file is the output, a pattern
+-- holds a zero byte, or standard input cannot be used
 abbrev pub IsToldCause : List ℕ → Type 0
 IsToldCause cause = ((reason : Reason) × (cause ≡ reason_text reason))
     ⊎ (((error : BuildError) × (cause ≡ build_error_text error)) ⊎ (((error : MatchErrorKind) × (cause ≡ match_error_text error))
-    ⊎ ((cause ≡ loop_text) ⊎ ((cause ≡ output_text) ⊎ (cause ≡ zero_text)))))
+    ⊎ ((cause ≡ loop_text) ⊎ ((cause ≡ output_text) ⊎ ((cause ≡ zero_text) ⊎ (cause ≡ unusable_text))))))
 
 -- that, or one of these files
 abbrev pub MayName : List (List ℕ) → List ℕ → Type 0
@@ -114,6 +118,8 @@ valued_name Format = codes "--format"
 valued_name Included = codes "--include"
 valued_name Excluded = codes "--exclude"
 valued_name ExcludedFolder = codes "--exclude-dir"
+valued_name Folders = codes "-d"
+valued_name Devices = codes "-D"
 
 -- what is told of something that was given, between what stands before and behind it
 abbrev pub named_parts : (before name behind : List ℕ) → List (List ℕ)
@@ -135,6 +141,13 @@ kind_parts kind = codes "acgrep: option '--kind' takes first, longest or standar
 abbrev pub color_parts : List ℕ → List (List ℕ)
 color_parts time = codes "acgrep: option '--color' takes auto, always or never, not '" ∷ time ∷ codes "'\n" ∷ usage_text ∷ []
 
+-- there is nothing like that to be done with folders, or with devices
+abbrev pub folders_parts : List ℕ → List (List ℕ)
+folders_parts action = codes "acgrep: option '-d' takes read, recurse or skip, not '" ∷ action ∷ codes "'\n" ∷ usage_text ∷ []
+
+abbrev pub devices_parts : List ℕ → List (List ℕ)
+devices_parts action = codes "acgrep: option '-D' takes read or skip, not '" ∷ action ∷ codes "'\n" ∷ usage_text ∷ []
+
 -- there is no such field, or this format has this where a field stands
 abbrev pub field_parts : List ℕ → List (List ℕ)
 field_parts field = codes "acgrep: option '--format' has no field '" ∷ field ∷ codes "'\n" ∷ usage_text ∷ []
@@ -151,6 +164,8 @@ wrong_parts (NoArgument valued) = misuse_parts Unargued (valued_name valued)
 wrong_parts (TakesNone name) = misuse_parts Argued name.now
 wrong_parts (UnknownKind name) = kind_parts name.now
 wrong_parts (UnknownColor name) = color_parts name.now
+wrong_parts (UnknownFolders action) = folders_parts action.now
+wrong_parts (UnknownDevices action) = devices_parts action.now
 wrong_parts (UnknownField field) = field_parts field.now
 wrong_parts (NoNumber valued number) = number_parts (valued_name valued) number.now
 

@@ -5,14 +5,15 @@
 
 ghost use Rattle.std.specs.Prelude.{◌≡◌, ◌≤◌, ◌<◌, Some, IfOk, IfErr, OnOk, length};
 ghost use Rattle.programs.specs.Arguments.{kind_by};
-ghost use Rattle.acgrep.specs.Arguments.{AreDigits, FailsBy, ReadsBy, SaysMore, argument_by, color_by, color_named, fresh_by, joined_by, letters_by, named_by, nothing_said, number_by, numbered, numbered_by, said, said_by, source_option, so_far, taken_by, turned_by, value_by, with_format, with_operand, with_rule, with_separator, with_source};
+ghost use Rattle.acgrep.specs.Arguments.{AreDigits, FailsBy, ReadsBy, SaysMore, argument_by, behind_by, color_by, fresh_by, joined_by, letters_by, named_by, nothing_said, number_by, said, said_by, source_option, so_far, taken_by, turned_by, value_by, valued_letter, with_devices, with_folders, with_format, with_operand, with_rule, with_separator, with_source};
 ghost use Rattle.acgrep.specs.Listed.{listed_bytes};
 ghost use Rattle.acgrep.specs.Long.{option_by};
 ghost use Rattle.acgrep.specs.Rules.{without_slashes};
 ghost use Rattle.acgrep.specs.declared.rules.Sense.TheVariants.{ExcludeFolder};
-ghost use Rattle.acgrep.specs.Mistakes.{IsFirstMistake, TellsBy, mistake_at, wrong_fresh, wrong_joined, wrong_letters, wrong_name, wrong_numbered, wrong_value};
-ghost use Rattle.acgrep.specs.Told.{color_parts, format_parts, kind_parts, number_parts, valued_name};
+ghost use Rattle.acgrep.specs.Mistakes.{IsFirstMistake, TellsBy, mistake_at, wrong_behind, wrong_fresh, wrong_joined, wrong_letters, wrong_name, wrong_value};
+ghost use Rattle.acgrep.specs.Told.{color_parts, devices_parts, folders_parts, format_parts, kind_parts, number_parts, valued_name};
 
+use crate::actions::{color_in, devices_in, folders_in};
 use crate::format::{Piece, read_format};
 use crate::long::{Long, Valued, option_of};
 use crate::options::{Color, Flags, switch_of};
@@ -22,13 +23,6 @@ use call_options::found::NotFound;
 use chromesquid::MatchKind;
 use std::alloc::{AllocError, Global};
 use std::str;
-
-/// The names of when matches are coloured.
-const AUTO: &[u8] = b"auto";
-
-const ALWAYS: &[u8] = b"always";
-
-const NEVER: &[u8] = b"never";
 
 /// The names of the match kinds.
 const STANDARD: &[u8] = b"standard";
@@ -61,8 +55,12 @@ pub enum Wrong<'a> {
     TakesNone(&'a [u8]),
     /// The argument of `--kind` is none of its three.
     UnknownKind(&'a [u8]),
-    /// The argument of `--color` is none of its three.
+    /// The argument of `--color` is none of its nine.
     UnknownColor(&'a [u8]),
+    /// The argument of `-d` is none of its three.
+    UnknownFolders(&'a [u8]),
+    /// The argument of `-D` is none of its two.
+    UnknownDevices(&'a [u8]),
     /// The argument of `--format` has this where a field stands.
     UnknownField(&'a [u8]),
     /// The argument of this option is no number below 2^64.
@@ -248,21 +246,6 @@ fn read_color<'a>(given: &mut Given<'a>, argument: &'a [u8]) -> Result<Awaited, 
     Ok(Awaited::Fresh)
 }
 
-/// When matches are coloured, if bytes name that.
-fn color_in(bytes: &[u8]) -> Option<Color>
-    ensures color { result ≡ color_named bytes.now }
-{
-    if bytes == AUTO {
-        Some(Color::Auto)
-    } else if bytes == ALWAYS {
-        Some(Color::Always)
-    } else if bytes == NEVER {
-        Some(Color::Never)
-    } else {
-        None
-    }
-}
-
 /// Reads the argument of an option.
 fn read_value<'a>(
     given: &mut Given<'a>,
@@ -283,6 +266,8 @@ fn read_value<'a>(
         Valued::Included => add_rule(given, Sense::Include, argument)?,
         Valued::Excluded => add_rule(given, Sense::Exclude, argument)?,
         Valued::ExcludedFolder => add_folder_rule(given, argument)?,
+        Valued::Folders => set_folders(given, argument)?,
+        Valued::Devices => set_devices(given, argument)?,
         _ => {
             let number = read_number(valued, argument)?;
             given.flags = given.flags.numbered(valued, number);
@@ -307,6 +292,32 @@ fn set_format<'a>(given: &mut Given<'a>, argument: &'a [u8]) -> Result<(), Refus
 {
     read_format(argument, &mut given.format)?;
     given.flags.formatted = true;
+    Ok(())
+}
+
+/// Takes an argument for what is done with folders.
+fn set_folders<'a>(given: &mut Given<'a>, argument: &'a [u8]) -> Result<(), Refusal<'a>>
+    ensures set { OnOk result (with_folders argument.now (said given.old) ≡ Some (said given.new)) }
+    ensures refused { FailsBy (with_folders argument.now (said given.old)) result }
+    ensures wrong { TellsBy (folders_parts argument.now) result }
+{
+    match folders_in(argument) {
+        Some(switch) => given.flags = given.flags.switched(switch),
+        None => return Err(Refusal::Wrong(Wrong::UnknownFolders(argument))),
+    }
+    Ok(())
+}
+
+/// Takes an argument for what is done with devices.
+fn set_devices<'a>(given: &mut Given<'a>, argument: &'a [u8]) -> Result<(), Refusal<'a>>
+    ensures set { OnOk result (with_devices argument.now (said given.old) ≡ Some (said given.new)) }
+    ensures refused { FailsBy (with_devices argument.now (said given.old)) result }
+    ensures wrong { TellsBy (devices_parts argument.now) result }
+{
+    match devices_in(argument) {
+        Some(switch) => given.flags = given.flags.switched(switch),
+        None => return Err(Refusal::Wrong(Wrong::UnknownDevices(argument))),
+    }
     Ok(())
 }
 
@@ -389,8 +400,8 @@ fn read_letters<'a>(given: &mut Given<'a>, letters: &'a [u8]) -> Result<Awaited,
         if *letter == b'e' || *letter == b'f' {
             return take_source(given, *letter == b'f', behind);
         }
-        if let Some(valued) = numbered(*letter) {
-            return take_number(given, valued, behind);
+        if let Some(valued) = valued_letter(*letter) {
+            return take_value(given, valued, behind);
         }
         match switch_of(*letter) {
             Some(switch) => given.flags = given.flags.switched(switch),
@@ -418,35 +429,35 @@ fn take_source<'a>(
     Ok(Awaited::Fresh)
 }
 
-/// The option of a letter whose argument is a number.
-fn numbered(letter: u8) -> Option<Valued>
-    ensures option { result ≡ numbered letter }
+/// The option of a letter that takes an argument, but for those that give patterns.
+fn valued_letter(letter: u8) -> Option<Valued>
+    ensures option { result ≡ valued_letter letter }
 {
     match letter {
         b'm' => Some(Valued::MaxCount),
         b'A' => Some(Valued::After),
         b'B' => Some(Valued::Before),
         b'C' => Some(Valued::Around),
+        b'd' => Some(Valued::Folders),
+        b'D' => Some(Valued::Devices),
         _ => None,
     }
 }
 
 /// Takes what stands behind such a letter for its argument, if it is not empty.
-fn take_number<'a>(
+fn take_value<'a>(
     given: &mut Given<'a>,
     valued: Valued,
     behind: &'a [u8],
 ) -> Result<Awaited, Refusal<'a>>
-    ensures read { ReadsBy (numbered_by valued behind.now) given.old given.new result }
-    ensures refused { FailsBy (numbered_by valued behind.now (said given.old)) result }
-    ensures wrong { TellsBy (wrong_numbered valued behind.now) result }
+    ensures read { ReadsBy (behind_by valued behind.now) given.old given.new result }
+    ensures refused { FailsBy (behind_by valued behind.now (said given.old)) result }
+    ensures wrong { TellsBy (wrong_behind valued behind.now) result }
 {
     if behind.is_empty() {
         return Ok(Awaited::Argument(valued));
     }
-    let number = read_number(valued, behind)?;
-    given.flags = given.flags.numbered(valued, number);
-    Ok(Awaited::Fresh)
+    read_value(given, valued, behind)
 }
 
 /// Takes the digits at the front of letters for the argument of `-C`, and answers what follows.

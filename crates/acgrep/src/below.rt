@@ -59,11 +59,12 @@ pub fn search_operands<F: Open + Folders, R: Read, W: Sink, E: Sink>(
     search_by(searcher, &job, operands, input, output, errors)
 }
 
-/// Whether operands are looked at before they are searched: those that are folders are entered, or there are rules.
+/// Whether operands are looked at before they are searched: those that are folders are entered, there are rules, or some kind of operand
+/// is passed over.
 fn asks_to_look(given: &Given<'_>) -> bool
     ensures asks { result ≡ asks_to_look (said given.now) }
 {
-    given.flags.recursive || !given.rules.is_empty()
+    given.flags.recursive || !given.rules.is_empty() || given.flags.ways().passes()
 }
 
 /// Searches those that rules do not leave out, and the files below folders where that is asked for.
@@ -122,9 +123,9 @@ fn reach<F: Folders>(
 {
     let rules = given.rules.as_slice();
     if given.flags.recursive {
-        return walk(alloc, files, given.flags.follow, rules, operands);
+        return walk(alloc, files, given.flags.ways(), rules, operands);
     }
-    match choose(alloc, files, rules, operands) {
+    match choose(alloc, files, rules, given.flags.ways(), operands) {
         Ok(found) => Ok(found),
         Err(_) => Err(Stop::OutOfMemory),
     }

@@ -18,6 +18,28 @@ pub enum Stop {
     Write,
 }
 
+/// The system's number for a descriptor that is closed, or not open for what is asked of it.
+const NO_DESCRIPTOR: i32 = 9;
+
+/// Why standard input cannot be read at all.
+#[derive(Clone, Copy)]
+pub enum Unusable {
+    /// It is closed, or open for writing alone.
+    Closed,
+    /// It cannot be read, for this reason.
+    Fault(Reason),
+}
+
+impl Unusable {
+    /// What an error of a read tells.
+    pub fn of(error: &io::Error) -> Unusable {
+        if error.raw_os_error() == Some(NO_DESCRIPTOR) {
+            return Unusable::Closed;
+        }
+        Unusable::Fault(Reason::of(error))
+    }
+}
+
 impl From<MatchError> for Stop {
     fn from(error: MatchError) -> Stop {
         Stop::Search(error)

@@ -22,7 +22,7 @@ use crate::print::{Style, put_count, put_name};
 use crate::select::{Job, State};
 use crate::stream::search_stream;
 use crate::tell::tell_memory;
-use crate::unread::{tell_closed, tell_same, tell_stop, tell_total};
+use crate::unread::{tell_closed, tell_same, tell_stop, tell_total, tell_unreadable};
 use chromesquid::{Sink, write_whole};
 use programs::errors::Errors;
 use programs::reason::Reason;
@@ -370,6 +370,12 @@ fn search_input<A: Lister, F: Open, R: Read, W: Sink, E: Sink>(
     if writes_into(job, files, b"/dev/stdin") {
         let _ = output.flush();
         tell_same(job, errors);
+        return Outcome::Unread;
+    }
+    // Where it cannot be read at all, nothing is told of its lines.
+    if let Some(why) = files.unusable_input() {
+        let _ = output.flush();
+        tell_unreadable(job, why, errors);
         return Outcome::Unread;
     }
     search_one(automaton, job, buffer, input, state, page, output, errors)

@@ -1,6 +1,6 @@
 //! What looks at names, and lists folders.
 
-ghost use Rattle.std.specs.Prelude.{◌≡◌, ℕ, Bool, List, Option, None, IfErr, IfOk, IfSome};
+ghost use Rattle.std.specs.Prelude.{◌≡◌, ◌<◌, ℕ, Bool, List, Option, None, IfErr, IfOk, IfSome, length};
 ghost use Rattle.std.specs.List.Sorted.{IsPermutation};
 ghost use Rattle.acgrep.specs.Listed.{listed_bytes};
 ghost use Rattle.acgrep.specs.declared.folders.Kind.{Kind};
@@ -8,9 +8,12 @@ ghost use Rattle.acgrep.specs.declared.folders.Kind.{Kind};
 use crate::open::{Identity, System};
 use std::alloc::{AllocError, Global};
 use std::fs::{FileType, Files};
-use std::io::Read;
+use std::io::{ErrorKind, Read};
 use std::os::unix::fs::MetadataExt;
 use std::{fs, io};
+
+/// How many bytes of names are read from a folder at once.
+const ROOM_LEN: usize = 32 * 1024;
 
 /// What a name stands for.
 #[derive(Clone, Copy, PartialEq, Eq)]
@@ -72,10 +75,28 @@ impl<'a, R: Files> Folders for System<'a, R> {
         let mut path = String::from_str(alloc, name)?;
         path.push('/')?;
         let mut folder = self.rt.open_dir(path.as_str())?;
-        let mut text = Vec::new(alloc);
-        folder.read_to_end(&mut text)?;
+        let mut room = Vec::from_elem(alloc, 0, ROOM_LEN)?;
+        let text = read_names(alloc, &mut folder, room.as_mut_slice())?;
         Ok(names_in(alloc, text.as_slice())?)
     }
+}
+
+/// All that an open folder gives: names, each with a zero byte behind it. Each read is offered the whole room, since the system refuses one
+/// that the next name does not fit.
+#[tactic(auto, using(crate::proofs::FolderTexts::text_begun))]
+fn read_names<R: Read>(alloc: Global, folder: &mut R, room: &mut [u8]) -> io::Result<Vec<u8>>
+    requires room { 0 < length room.old }
+    ensures whole { IfOk result (λ text. IfSome (R.remaining folder.old) (λ known. text.items ≡ known)) }
+{
+    let mut text = Vec::new(alloc);
+    for _ in 0..u64::MAX {
+        let count = folder.read(room)?;
+        if count == 0 {
+            return Ok(text);
+        }
+        text.extend_from_slice(&room[..count])?;
+    }
+    Err(io::Error::from(ErrorKind::OutOfMemory))
 }
 
 /// What a file of the system is.

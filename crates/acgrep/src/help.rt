@@ -67,6 +67,10 @@ Folders:
                         devices there are not read
   -R, --dereference-recursive
                         the same, but they are
+  -d, --directories ACTION
+                        with a FILE that is a folder: read (which fails), recurse
+                        (as -r) or skip
+  -D, --devices ACTION  with devices: read or skip
   --include GLOB        search only files with a name that GLOB fits
   --exclude GLOB        do not search those: the last of both that fits decides
   --exclude-dir GLOB    do not search what is in folders with such a name
@@ -75,13 +79,14 @@ Others:
   -s, --no-messages     do not tell of files that cannot be read
   --no-match-ok         end with 0 where no line is selected too
   -a, --text            write lines that hold a zero byte to a terminal too
-  -F, -U, --fixed-strings, --binary, --line-buffered
+  -F, -U, -u, --fixed-strings, --binary, --unix-byte-offsets, --line-buffered
                         what is done without them too
   --                    what follows is no option
   --help                write this text
   -V, --version         write the version
 
-A long name may be a beginning that no other one has, and takes its argument
-behind '=' or as the next one. The status is 0 where a line is selected, 1 where none is, and 2 where an error
+A long name may be a beginning that no other one has, where those that grep
+has too go first, and takes its argument behind '=' or as the next one. The
+status is 0 where a line is selected, 1 where none is, and 2 where an error
 occurred, but for -q with a selected line.
 ";

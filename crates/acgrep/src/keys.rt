@@ -11,9 +11,10 @@ ghost use Rattle.acgrep.specs.Runs.{origins_of};
 ghost use Rattle.acgrep.specs.Told.{MayName, TellsOfFile, TellsOfSources, source_names};
 
 use crate::arguments::Source;
+use crate::failure::Unusable;
 use crate::open::Open;
 use crate::patterns::Keys;
-use crate::tell::{tell_build, tell_memory, tell_unopened, tell_zero};
+use crate::tell::{tell_build, tell_input, tell_memory, tell_unopened, tell_zero};
 use chromesquid::{BuildError, Sink};
 use memchr::memchr_iter;
 use programs::errors::Errors;
@@ -45,7 +46,7 @@ pub fn read_keys<F: Open, R: Read, E: Sink>(
         match read_source(&mut keys, source, files, input) {
             Ok(()) => {}
             Err(error) => {
-                tell_source(source, Reason::of(&error), errors);
+                tell_source(source, &error, errors);
                 return None;
             }
         }
@@ -55,12 +56,13 @@ pub fn read_keys<F: Open, R: Read, E: Sink>(
 }
 
 /// Tells why a source cannot be read. Where it is a text, memory ran out.
-fn tell_source<E: Sink>(source: Source<'_>, reason: Reason, errors: &mut Errors<'_, E>)
+fn tell_source<E: Sink>(source: Source<'_>, error: &io::Error, errors: &mut Errors<'_, E>)
     ensures told { TellsOfFile E.Sink (origin_of source.entry).bytes errors.old errors.new }
 {
     match source {
         Source::Text(_) => tell_memory(errors),
-        Source::File(name) => tell_unopened(name, reason, errors),
+        Source::File(name) if is_input(name) => tell_input(name, Unusable::of(error), errors),
+        Source::File(name) => tell_unopened(name, Reason::of(error), errors),
     }
 }
 

@@ -1,10 +1,11 @@
 //! The long names of options, and their beginnings.
 
 ghost use Rattle.std.specs.Prelude.{◌≡◌, Some, None, IfErr, IfOk};
-ghost use Rattle.acgrep.specs.Long.{context_options, file_options, found_by, option_by, other_options, output_options, pattern_options};
+ghost use Rattle.acgrep.specs.Long.{context_options, file_options, found_by, option_by, or_own, other_options, output_options, own_options, pattern_options, shared_by};
 ghost use Rattle.acgrep.specs.Mistakes.{wrong_name};
 ghost use Rattle.acgrep.specs.Told.{wrong_parts};
 ghost use Rattle.call_options.specs.Names.{found_among};
+ghost use Rattle.call_options.specs.declared.found.Found.TheVariants.{Unknown};
 
 use crate::arguments::Wrong;
 use crate::options::Switch;
@@ -43,6 +44,10 @@ pub enum Valued {
     Excluded,
     /// `--exclude-dir`
     ExcludedFolder,
+    /// `-d`
+    Folders,
+    /// `-D`
+    Devices,
 }
 
 /// An option by its long name.
@@ -68,15 +73,46 @@ pub fn option_of(name: &[u8]) -> Result<Long, Wrong<'_>>
     }
 }
 
-/// What a name means.
+/// What a name means. A beginning is one of a name that grep has too, where one begins so.
 fn found_of(name: &[u8]) -> Found<Long>
     ensures found { result ≡ found_by name.now }
+{
+    or_own(shared_of(name), name)
+}
+
+/// What a name means among the options that grep has too.
+fn shared_of(name: &[u8]) -> Found<Long>
+    ensures found { result ≡ shared_by name.now }
 {
     let patterns = or_patterns(Found::Unknown, name);
     let output = or_output(patterns, name);
     let context = or_context(output, name);
     let files = or_files(context, name);
     or_others(files, name)
+}
+
+/// What it means with the options that only acgrep has, where none of grep has a name that begins so.
+fn or_own(found: Found<Long>, name: &[u8]) -> Found<Long>
+    ensures found { result ≡ or_own found name.now }
+{
+    match found {
+        Found::Unknown => own_of(name),
+        _ => found,
+    }
+}
+
+/// What a name means among the options that only acgrep has.
+fn own_of(name: &[u8]) -> Found<Long>
+    ensures found { result ≡ found_among own_options name.now Unknown }
+{
+    Found::Unknown
+        .or(name, b"kind", Long::Takes(Valued::Kind))
+        .or(name, b"counts", Long::Plain(Switch::Tallies))
+        .or(name, b"json", Long::Plain(Switch::Json))
+        .or(name, b"format", Long::Takes(Valued::Format))
+        .or(name, b"offset", Long::Takes(Valued::Offset))
+        .or(name, b"first-line", Long::Takes(Valued::FirstLine))
+        .or(name, b"no-match-ok", Long::Plain(Switch::NoMatchOk))
 }
 
 /// What it means with the options that say what is searched for.
@@ -91,8 +127,12 @@ fn or_patterns(found: Found<Long>, name: &[u8]) -> Found<Long>
         .or(name, b"invert-match", Long::Plain(Switch::Invert))
         .or(name, b"word-regexp", Long::Plain(Switch::WholeWords))
         .or(name, b"line-regexp", Long::Plain(Switch::WholeLines))
-        .or(name, b"kind", Long::Takes(Valued::Kind))
-        .or(name, b"fixed-strings", Long::Plain(Switch::Same))
+        .or_either(
+            name,
+            b"fixed-strings",
+            b"fixed-regexp",
+            Long::Plain(Switch::Same),
+        )
         .or(name, b"text", Long::Plain(Switch::Text))
         .or(name, b"binary", Long::Plain(Switch::Same))
 }
@@ -103,7 +143,6 @@ fn or_output(found: Found<Long>, name: &[u8]) -> Found<Long>
 {
     found
         .or(name, b"count", Long::Plain(Switch::Counts))
-        .or(name, b"counts", Long::Plain(Switch::Tallies))
         .or(name, b"files-with-matches", Long::Plain(Switch::OnlyNames))
         .or(
             name,
@@ -115,8 +154,6 @@ fn or_output(found: Found<Long>, name: &[u8]) -> Found<Long>
         .or(name, b"quiet", Long::Plain(Switch::Quiet))
         .or(name, b"silent", Long::Plain(Switch::Quiet))
         .or(name, b"only-matching", Long::Plain(Switch::OnlyMatching))
-        .or(name, b"json", Long::Plain(Switch::Json))
-        .or(name, b"format", Long::Takes(Valued::Format))
         .or(name, b"initial-tab", Long::Plain(Switch::InitialTab))
         .or(name, b"label", Long::Takes(Valued::Label))
         .or(name, b"line-number", Long::Plain(Switch::Numbers))
@@ -150,6 +187,8 @@ fn or_files(found: Found<Long>, name: &[u8]) -> Found<Long>
         .or(name, b"include", Long::Takes(Valued::Included))
         .or(name, b"exclude", Long::Takes(Valued::Excluded))
         .or(name, b"exclude-dir", Long::Takes(Valued::ExcludedFolder))
+        .or(name, b"directories", Long::Takes(Valued::Folders))
+        .or(name, b"devices", Long::Takes(Valued::Devices))
 }
 
 /// What it means with all other options.
@@ -158,13 +197,11 @@ fn or_others(found: Found<Long>, name: &[u8]) -> Found<Long>
 {
     found
         .or_either(name, b"color", b"colour", Long::When)
-        .or(name, b"offset", Long::Takes(Valued::Offset))
-        .or(name, b"first-line", Long::Takes(Valued::FirstLine))
         .or(name, b"recursive", Long::Plain(Switch::Recursive))
         .or(name, b"dereference-recursive", Long::Plain(Switch::Follow))
-        .or(name, b"no-match-ok", Long::Plain(Switch::NoMatchOk))
         .or(name, b"no-messages", Long::Plain(Switch::NoMessages))
         .or(name, b"line-buffered", Long::Plain(Switch::Same))
+        .or(name, b"unix-byte-offsets", Long::Plain(Switch::Same))
         .or(name, b"help", Long::Plain(Switch::Help))
         .or(name, b"version", Long::Plain(Switch::Version))
 }

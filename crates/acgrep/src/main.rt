@@ -4,6 +4,7 @@
 //! tells.
 #![tactic(auto)]
 
+mod actions;
 mod alone;
 mod arguments;
 mod backed;
@@ -50,6 +51,7 @@ use colors::Screen;
 use open::System;
 use programs::closed::{Noted, Quiet};
 use programs::errors::Errors;
+use programs::reason::Reason;
 use run::{refuse, run};
 use std::cell::Cell;
 use std::env;
@@ -58,6 +60,9 @@ use std::process::ExitCode;
 
 /// How many bytes of output are kept before they are written.
 const OUTPUT_CAPACITY: usize = 64 * 1024;
+
+/// The status where nobody reads the output any more.
+const UNREAD: u8 = 141;
 
 fn main(rt: HostRuntime) -> ExitCode {
     let reason = Cell::new(None);
@@ -81,12 +86,21 @@ fn main(rt: HostRuntime) -> ExitCode {
         rt.alloc(),
         given.as_slice(),
         &screen,
-        &System::new(&rt),
+        &System::new(&rt, &mut rt.stdin()),
         &mut rt.stdin(),
         &mut FromWrite::new(output),
         &mut errors,
     );
-    ExitCode::from(status)
+    ExitCode::from(status_at_end(status, reason.get()))
+}
+
+/// The status of the process: where nobody reads the output any more, that which a shell tells of a program that is ended by the signal
+/// for it, as grep is.
+fn status_at_end(status: u8, reason: Option<Reason>) -> u8 {
+    match reason {
+        Some(Reason::Closed) => UNREAD,
+        _ => status,
+    }
 }
 
 /// Whether the terminal has colours: it has a name, and is not called dumb, and `NO_COLOR` is not set or is empty.

@@ -3,6 +3,7 @@
 ghost use Rattle.std.specs.Prelude.{ℕ, List, Option, None, IfOk};
 ghost use Rattle.std.specs.Io.KnownBytes.{Keeps};
 
+use crate::failure::Unusable;
 use std::fs::Files;
 use std::io::Read;
 use std::os::unix::fs::MetadataExt;
@@ -23,6 +24,9 @@ pub trait Open {
 
     /// Whether the output goes to the file of this name, as far as that can be told.
     fn is_output(&self, name: &str) -> bool;
+
+    /// Why standard input cannot be read at all, if it cannot.
+    fn unusable_input(&self) -> Option<Unusable>;
 }
 
 /// What tells a file from all others: the number of its device, and its own there.
@@ -41,15 +45,26 @@ pub struct System<'a, R> {
     pub rt: &'a R,
     /// The file to which the output goes, if it is one.
     output: Option<Identity>,
+    /// Why standard input cannot be read, if it cannot.
+    unusable: Option<Unusable>,
 }
 
 impl<'a, R: Files> System<'a, R> {
-    /// Those of this runtime.
-    pub fn new(rt: &'a R) -> System<'a, R> {
+    /// Those of this runtime, with its standard input. A read of no bytes tells whether that can be read.
+    pub fn new<I: Read>(rt: &'a R, input: &mut I) -> System<'a, R> {
         System {
             rt,
             output: file_named(rt, "/dev/stdout"),
+            unusable: unusable_of(input),
         }
+    }
+}
+
+/// Why it cannot be read at all, if it cannot.
+fn unusable_of<I: Read>(input: &mut I) -> Option<Unusable> {
+    match input.read(&mut []) {
+        Ok(_) => None,
+        Err(error) => Some(Unusable::of(&error)),
     }
 }
 
@@ -76,5 +91,9 @@ impl<'a, R: Files> Open for System<'a, R> {
             Some(output) => file_named(self.rt, name) == Some(output),
             None => false,
         }
+    }
+
+    fn unusable_input(&self) -> Option<Unusable> {
+        self.unusable
     }
 }

@@ -4,6 +4,7 @@ ghost use Rattle.std.specs.Prelude.{◌≡◌};
 ghost use Rattle.acgrep.specs.Arguments.{switch_by};
 
 use crate::long::Valued;
+use crate::walk::Ways;
 use chromesquid::MatchKind;
 
 /// When matches are coloured.
@@ -115,7 +116,15 @@ pub enum Switch {
     Version,
     /// `-a`
     Text,
-    /// `-F`, `-U` and `--line-buffered`: what is done without them too.
+    /// `-d read`
+    ReadFolders,
+    /// `-d skip`
+    SkipFolders,
+    /// `-D read`
+    ReadDevices,
+    /// `-D skip`
+    SkipDevices,
+    /// `-F`, `-U`, `-u` and `--line-buffered`: what is done without them too.
     Same,
 }
 
@@ -145,7 +154,7 @@ pub fn switch_of(letter: u8) -> Option<Switch>
         b'H' => Some(Switch::WithName),
         b'V' => Some(Switch::Version),
         b'a' => Some(Switch::Text),
-        b'F' | b'U' => Some(Switch::Same),
+        b'F' | b'U' | b'u' => Some(Switch::Same),
         _ => None,
     }
 }
@@ -175,10 +184,14 @@ pub struct Flags {
     pub names: bool,
     /// `-L`, and no `-l` behind it: files without one are.
     pub lacking: bool,
-    /// `-r` and `-R`: the files below folders are searched.
+    /// `-r`, `-R` and `-d recurse`, and no other `-d` behind them: the files below folders are searched.
     pub recursive: bool,
     /// `-R`: links below folders are followed too, and devices there are read.
     pub follow: bool,
+    /// `-d skip`, and no `-r` or `-d` behind it: operands that are folders are passed over.
+    pub skips_folders: bool,
+    /// The last `-D`: whether devices are read.
+    pub devices: Option<bool>,
     /// `-Z`: a zero byte stands behind a file's name.
     pub null: bool,
     /// `-z`: a zero byte ends a line.
@@ -224,7 +237,7 @@ pub struct Flags {
 }
 
 impl Flags {
-    ghost use Rattle.acgrep.specs.Arguments.{asks_counts, context_by, ending_by, fit_by, no_flags, numbered_in, shown_by, switched};
+    ghost use Rattle.acgrep.specs.Arguments.{asks_counts, context_by, ending_by, fit_by, no_flags, numbered_in, shown_by, switched, ways_by};
 
     /// Where no option is given.
     pub fn new() -> Flags
@@ -244,6 +257,8 @@ impl Flags {
             lacking: false,
             recursive: false,
             follow: false,
+            skips_folders: false,
+            devices: None,
             null: false,
             null_data: false,
             quiet: false,
@@ -333,6 +348,17 @@ impl Flags {
         }
     }
 
+    /// What is done with links, folders and devices.
+    pub fn ways(&self) -> Ways
+        ensures ways { result ≡ ways_by self.now }
+    {
+        Ways {
+            follow: self.follow,
+            skips_folders: self.skips_folders,
+            devices: self.devices,
+        }
+    }
+
     /// These with an option whose argument is a number.
     pub fn numbered(self, valued: Valued, number: u64) -> Flags
         ensures numbered { result ≡ numbered_in valued number self }
@@ -353,7 +379,9 @@ impl Flags {
             | Valued::Format
             | Valued::Included
             | Valued::Excluded
-            | Valued::ExcludedFolder => {}
+            | Valued::ExcludedFolder
+            | Valued::Folders
+            | Valued::Devices => {}
         }
         flags
     }
@@ -382,11 +410,25 @@ impl Flags {
                 flags.names = false;
                 flags.lacking = true;
             }
-            Switch::Recursive => flags.recursive = true,
+            Switch::Recursive => {
+                flags.recursive = true;
+                flags.skips_folders = false;
+            }
             Switch::Follow => {
                 flags.recursive = true;
                 flags.follow = true;
+                flags.skips_folders = false;
             }
+            Switch::ReadFolders => {
+                flags.recursive = false;
+                flags.skips_folders = false;
+            }
+            Switch::SkipFolders => {
+                flags.recursive = false;
+                flags.skips_folders = true;
+            }
+            Switch::ReadDevices => flags.devices = Some(true),
+            Switch::SkipDevices => flags.devices = Some(false),
             Switch::NullNames => flags.null = true,
             Switch::NullData => flags.null_data = true,
             Switch::Quiet => flags.quiet = true,

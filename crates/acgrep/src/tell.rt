@@ -7,6 +7,7 @@ ghost use Rattle.programs.specs.Telling.{TellsBytes};
 ghost use Rattle.std.specs.Prelude.{◌≡◌};
 
 use crate::arguments::Wrong;
+use crate::failure::Unusable;
 use crate::help::USAGE;
 use crate::json::is_text;
 use crate::long::Valued;
@@ -26,6 +27,9 @@ const ZERO: &[u8] = b"the pattern holds a zero byte, which ends a line under -z"
 
 /// What is told of a file whose name is not UTF-8.
 const NO_TEXT: &[u8] = b"its name is not UTF-8, so it cannot be opened";
+
+/// What is told of a standard input that is closed, or is open for writing alone.
+const UNUSABLE: &[u8] = b"Bad file descriptor";
 
 /// The program's name.
 const PROGRAM: &[u8] = b"acgrep";
@@ -81,6 +85,23 @@ pub fn tell_output<E: Sink>(name: &[u8], errors: &mut Errors<'_, E>)
     errors.tell(PROGRAM, Some(name), None, SAME);
 }
 
+/// Tells why standard input cannot be read, by what it is called.
+pub fn tell_input<E: Sink>(name: &[u8], why: Unusable, errors: &mut Errors<'_, E>)
+    ensures told { TellsOfFile E.Sink name.now errors.old errors.new }
+{
+    match why {
+        Unusable::Closed => tell_unusable(name, errors),
+        Unusable::Fault(reason) => tell_fault(name, reason, errors),
+    }
+}
+
+/// Tells that what is called so is closed, or is open for writing alone.
+fn tell_unusable<E: Sink>(name: &[u8], errors: &mut Errors<'_, E>)
+    ensures told { TellsOfFile E.Sink name.now errors.old errors.new }
+{
+    errors.tell(PROGRAM, Some(name), None, UNUSABLE);
+}
+
 /// Tells why the output cannot be written.
 pub fn tell_write<E: Sink>(errors: &mut Errors<'_, E>)
     ensures told { TellsCause E.Sink errors.old errors.new }
@@ -133,6 +154,18 @@ pub fn tell_wrong<E: Sink>(errors: &mut Errors<'_, E>, wrong: Wrong<'_>)
         Wrong::UnknownColor(name) => errors.write(&[
             b"acgrep: option '--color' takes auto, always or never, not '",
             name,
+            b"'\n",
+            USAGE,
+        ]),
+        Wrong::UnknownFolders(action) => errors.write(&[
+            b"acgrep: option '-d' takes read, recurse or skip, not '",
+            action,
+            b"'\n",
+            USAGE,
+        ]),
+        Wrong::UnknownDevices(action) => errors.write(&[
+            b"acgrep: option '-D' takes read or skip, not '",
+            action,
             b"'\n",
             USAGE,
         ]),
@@ -199,6 +232,8 @@ fn valued_name<'a>(valued: Valued) -> &'a [u8]
         Valued::Included => b"--include",
         Valued::Excluded => b"--exclude",
         Valued::ExcludedFolder => b"--exclude-dir",
+        Valued::Folders => b"-d",
+        Valued::Devices => b"-D",
     }
 }
 

@@ -3,9 +3,11 @@
 ghost use Rattle.std.specs.Prelude.{false};
 ghost use Rattle.acgrep.specs.Told.{TellsCause, TellsOfOutcome, stopped_if};
 
-use crate::failure::Stop;
+use crate::failure::{Stop, Unusable};
 use crate::select::Job;
-use crate::tell::{tell_fault, tell_memory, tell_output, tell_search, tell_unopened, tell_write};
+use crate::tell::{
+    tell_fault, tell_input, tell_memory, tell_output, tell_search, tell_unopened, tell_write,
+};
 use chromesquid::Sink;
 use programs::errors::Errors;
 use programs::reason::Reason;
@@ -30,6 +32,17 @@ pub fn tell_closed<E: Sink>(job: &Job<'_>, reason: Reason, errors: &mut Errors<'
         return;
     }
     tell_unopened(job.style.name, reason, errors);
+}
+
+/// Tells why standard input cannot be read at all, if that is asked for.
+pub fn tell_unreadable<E: Sink>(job: &Job<'_>, why: Unusable, errors: &mut Errors<'_, E>)
+    ensures told { TellsOfOutcome E.Sink job.now.hushed job.now.style.name.now (stopped_if false)
+        errors.old errors.new }
+{
+    if job.hushed {
+        return;
+    }
+    tell_input(job.style.name, why, errors);
 }
 
 /// Tells that the output goes to a file, if that is asked for.

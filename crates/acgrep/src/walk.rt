@@ -3,7 +3,7 @@
 ghost use Rattle.std.specs.Prelude.{◌≡◌, [], ◌∷◌, ◌++◌, IfErr, IfOk, IfSome, List, OnOk, false, map};
 ghost use Rattle.std.specs.List.Sorted.{IsPermutation};
 ghost use Rattle.programs.specs.Names.{name_bytes};
-ghost use Rattle.acgrep.specs.Folders.{AreBelow, Begins, Enters, FindsFiles, IsKind, IsUnknown, Loses, PutsInside, between, is_folder, is_followed, is_lost_left, is_searched, is_spot_left, is_standard, path_inside, missed_of, operand, spot_of, spots_of, tree_of};
+ghost use Rattle.acgrep.specs.Folders.{AreBelow, Begins, Enters, FindsFiles, IsKind, IsUnknown, Loses, PutsInside, between, folder_named, is_folder, is_followed, is_lost_left, is_searched, is_spot_left, is_standard, path_inside, missed_of, operand, reads_devices, spot_of, spots_of, tree_of};
 ghost use Rattle.acgrep.specs.Listed.{listed_bytes};
 ghost use Rattle.acgrep.specs.Rules.{RuleSaid, rules_said};
 
@@ -11,7 +11,7 @@ use crate::failure::Stop;
 use crate::folders::{Folders, Kind};
 use crate::keys::is_input;
 use crate::open::Identity;
-use crate::rules::{Rule, is_left_out};
+use crate::rules::{Rule, is_left_out, without_slashes};
 use programs::reason::Reason;
 use std::alloc::{AllocError, Global};
 use std::collections::VecDeque;
@@ -20,6 +20,31 @@ use std::{io, str};
 
 /// The working folder.
 const HERE: &[u8] = b".";
+
+/// What may be another folder than one slash is.
+const TWO_SLASHES: &[u8] = b"//";
+
+/// What is done with links, folders and devices.
+#[derive(Clone, Copy)]
+pub struct Ways {
+    /// Whether links below folders are followed.
+    pub follow: bool,
+    /// Whether operands that are folders are passed over, where folders are not entered.
+    pub skips_folders: bool,
+    /// Whether devices are read. Where nothing is said of that, those are that are operands, and where links are followed all.
+    pub devices: Option<bool>,
+}
+
+impl Ways {
+    ghost use Rattle.acgrep.specs.Folders.{passes};
+
+    /// Whether operands of some kind are passed over, where folders are not entered.
+    pub fn passes(&self) -> bool
+        ensures passes { result ≡ passes self.now }
+    {
+        self.skips_folders || !self.devices.unwrap_or(true)
+    }
+}
 
 /// What a walk finds.
 #[derive(Drop)]
@@ -84,25 +109,25 @@ impl Found {
 }
 
 /// The files that these operands name: themselves, and those below folders, without those that rules leave out. Where there is no
-/// operand, those below the working folder. `follow` says whether links below folders are followed.
+/// operand, those below the working folder. `ways` says what is done with links and devices.
 pub fn walk<F: Folders>(
     alloc: Global,
     files: &F,
-    follow: bool,
+    ways: Ways,
     rules: &[Rule<'_>],
     operands: &[&[u8]],
 ) -> Result<Found, Stop>
-    ensures found { IfOk result (λ found. AreBelow (tree_of F.Folders files.now) (rules_said rules.now) follow (name_bytes operands.now)
+    ensures found { IfOk result (λ found. AreBelow (tree_of F.Folders files.now) (rules_said rules.now) ways (name_bytes operands.now)
         (listed_bytes found.names.items) (missed_of found.unread.items)) }
 {
     let mut found = Found::new(alloc);
     let mut pending = VecDeque::new(alloc);
-    begin(alloc, files, follow, operands, &mut pending, &mut found)?;
+    begin(alloc, files, ways, operands, &mut pending, &mut found)?;
     for _ in 0..u64::MAX {
         let Some(spot) = pending.pop_front() else {
             return Ok(found);
         };
-        pass(alloc, files, follow, rules, spot, &mut pending, &mut found)?;
+        pass(alloc, files, ways, rules, spot, &mut pending, &mut found)?;
     }
     Err(Stop::Read(Reason::Fault))
 }
@@ -111,7 +136,7 @@ pub fn walk<F: Folders>(
 fn begin<F: Folders>(
     alloc: Global,
     files: &F,
-    follow: bool,
+    ways: Ways,
     operands: &[&[u8]],
     pending: &mut VecDeque<Pending>,
     found: &mut Found,
@@ -120,7 +145,7 @@ fn begin<F: Folders>(
     requires nothing { found.old.names.items ≡ [] }
     requires nowhere { found.old.unread.items ≡ [] }
     // Whatever rules there are.
-    ensures begun { OnOk result ((rules : List RuleSaid) → Begins (tree_of F.Folders files.now) rules follow
+    ensures begun { OnOk result ((rules : List RuleSaid) → Begins (tree_of F.Folders files.now) rules ways
         (name_bytes operands.now) (spots_of pending.new.items) found.new) }
 {
     if !operands.is_empty() {
@@ -128,7 +153,7 @@ fn begin<F: Folders>(
     }
     match list_named(alloc, files, HERE) {
         Ok(names) => {
-            let above = around_here(alloc, files, follow)?;
+            let above = around_here(alloc, files, ways)?;
             put_first(alloc, names, b"", above.as_slice(), pending)
         }
         Err(error) => found.miss(Vec::from_slice(alloc, HERE)?, Some(Reason::of(&error))),
@@ -139,10 +164,10 @@ fn begin<F: Folders>(
 fn around_here<F: Folders>(
     alloc: Global,
     files: &F,
-    follow: bool,
+    ways: Ways,
 ) -> Result<Vec<Identity>, AllocError> {
     let mut around = Vec::new(alloc);
-    if !follow {
+    if !ways.follow {
         return Ok(around);
     }
     if let Ok(identity) = identity_of(files, HERE) {
@@ -178,20 +203,20 @@ fn put_given(
 fn pass<F: Folders>(
     alloc: Global,
     files: &F,
-    follow: bool,
+    ways: Ways,
     rules: &[Rule<'_>],
     spot: Pending,
     pending: &mut VecDeque<Pending>,
     found: &mut Found,
 ) -> Result<(), AllocError>
-    ensures finds { OnOk result (FindsFiles (tree_of F.Folders files.now) (rules_said rules.now) follow
+    ensures finds { OnOk result (FindsFiles (tree_of F.Folders files.now) (rules_said rules.now) ways
         (spot_of spot ∷ spots_of pending.old.items) (spots_of pending.new.items) found.old found.new) }
 {
     if is_standard(&spot) {
         return found.add(spot.name);
     }
-    match look_at(files, spot.name.as_slice(), is_followed(follow, &spot)) {
-        Ok(kind) => take(alloc, files, follow, rules, kind, spot, pending, found),
+    match look_at(files, spot.name.as_slice(), is_followed(ways, &spot)) {
+        Ok(kind) => take(alloc, files, ways, rules, kind, spot, pending, found),
         Err(error) => lose(rules, spot, Reason::of(&error), found),
     }
 }
@@ -233,17 +258,27 @@ fn is_standard(spot: &Pending) -> bool
 }
 
 /// Whether a link of this name is followed.
-fn is_followed(follow: bool, spot: &Pending) -> bool
-    ensures { result ≡ is_followed follow (spot_of spot.now) }
+fn is_followed(ways: Ways, spot: &Pending) -> bool
+    ensures { result ≡ is_followed ways (spot_of spot.now) }
 {
-    spot.given || follow
+    spot.given || ways.follow
+}
+
+/// Whether a device of this name is read. Where nothing is said of that, it is where a link would be followed.
+fn reads_devices(ways: Ways, spot: &Pending) -> bool
+    ensures { result ≡ reads_devices ways (spot_of spot.now) }
+{
+    match ways.devices {
+        Some(read) => read,
+        None => is_followed(ways, spot),
+    }
 }
 
 /// Takes what a name stands for, unless it is left out.
 fn take<F: Folders>(
     alloc: Global,
     files: &F,
-    follow: bool,
+    ways: Ways,
     rules: &[Rule<'_>],
     kind: Kind,
     spot: Pending,
@@ -251,17 +286,17 @@ fn take<F: Folders>(
     found: &mut Found,
 ) -> Result<(), AllocError>
     requires other { is_standard (spot_of spot) ≡ false }
-    requires kind { IsKind (tree_of F.Folders files.now) follow (spot_of spot) kind }
-    ensures finds { OnOk result (FindsFiles (tree_of F.Folders files.now) (rules_said rules.now) follow
+    requires kind { IsKind (tree_of F.Folders files.now) ways (spot_of spot) kind }
+    ensures finds { OnOk result (FindsFiles (tree_of F.Folders files.now) (rules_said rules.now) ways
         (spot_of spot ∷ spots_of pending.old.items) (spots_of pending.new.items) found.old found.new) }
 {
     if is_spot_left(rules, is_folder(kind), &spot) {
         return Ok(());
     }
     if is_folder(kind) {
-        return enter(alloc, files, follow, spot, pending, found);
+        return enter(alloc, files, ways, spot, pending, found);
     }
-    if is_searched(kind, is_followed(follow, &spot)) {
+    if is_searched(kind, reads_devices(ways, &spot)) {
         return found.add(spot.name);
     }
     Ok(())
@@ -281,7 +316,7 @@ pub fn is_folder(kind: Kind) -> bool
 fn enter<F: Folders>(
     alloc: Global,
     files: &F,
-    follow: bool,
+    ways: Ways,
     spot: Pending,
     pending: &mut VecDeque<Pending>,
     found: &mut Found,
@@ -289,7 +324,7 @@ fn enter<F: Folders>(
     ensures entered { OnOk result (Enters (tree_of F.Folders files.now) spot.name.items
         (spots_of pending.old.items) (spots_of pending.new.items) found.old found.new) }
 {
-    if !follow {
+    if !ways.follow {
         return open_folder(
             alloc,
             files,
@@ -350,13 +385,13 @@ fn identity_of<F: Folders>(files: &F, name: &[u8]) -> io::Result<Identity> {
     }
 }
 
-/// Whether something that is no folder is searched: a file, and a device where links are followed.
-fn is_searched(kind: Kind, follow: bool) -> bool
-    ensures { result ≡ is_searched kind follow }
+/// Whether something that is no folder is searched: a file, and a device where those are read.
+fn is_searched(kind: Kind, devices: bool) -> bool
+    ensures { result ≡ is_searched kind devices }
 {
     match kind {
         Kind::File => true,
-        Kind::Device => follow,
+        Kind::Device => devices,
         Kind::Folder | Kind::Link => false,
     }
 }
@@ -391,10 +426,23 @@ fn path_inside(alloc: Global, folder: &[u8], name: &[u8]) -> Result<Vec<u8>, All
     ensures path_inside { IfOk result (λ path. path.items ≡ path_inside folder.now name.now) }
 {
     let mut path = Vec::new(alloc);
+    let folder = folder_named(folder);
     path.extend_from_slice(folder)?;
     path.extend_from_slice(between(folder, name))?;
     path.extend_from_slice(name)?;
     Ok(path)
+}
+
+/// The name of a folder as it stands before the names in it: without the slashes at its end, but for its first byte. Two slashes alone may
+/// be another folder than one.
+fn folder_named(folder: &[u8]) -> &[u8]
+    ensures named { result.now ≡ folder_named folder.now }
+{
+    if folder == TWO_SLASHES {
+        folder
+    } else {
+        without_slashes(folder)
+    }
 }
 
 /// What stands between the name of a folder and a name in it. The working folder has no name here; `-` is a file there, and not

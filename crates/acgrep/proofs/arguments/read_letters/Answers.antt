@@ -1,6 +1,6 @@
 -- A letter that is no digit turns something on.
 use Rattle.std.proofs.Common.{rules, ◌≡◌, ◌∙◌, ◌∷◌, List, ℕ, None, Some, ap, arith, subst, sym}
-use Rattle.acgrep.specs.Arguments.{AreDigits, letters_by, numbered, said, switch_by}
+use Rattle.acgrep.specs.Arguments.{AreDigits, letters_by, said, switch_by, valued_letter}
 use Rattle.acgrep.specs.Mistakes.{wrong_letters}
 use Rattle.acgrep.specs.declared.options.Flags.{Flags}
 use Rattle.acgrep.proofs.Digits.{letter_first, letter_switch, wrong_first, wrong_switch}
@@ -16,7 +16,7 @@ loop-letter-preserved c =
     let none : c.digits_in-digits.result ≡ 0 = omega (arith, c.if-digits-gt0.false) in
     let digits : AreDigits (letter ∷ behind) 0 =
     subst (λ (n : ℕ). AreDigits (letter ∷ behind) n) none (subst (λ (l : List ℕ). AreDigits l c.digits_in-digits.result) cut c.digits_in-digits.ensures.digits) in
-    let plain : numbered letter ≡ None = sym c.numbered.ensures.option ∙ c.in_default-numbered.is in
+    let plain : valued_letter letter ≡ None = sym c.valued_letter.ensures.option ∙ c.in_default-valued_letter.is in
     let turns : switch_by letter ≡ Some switch = sym c.switch_of.ensures.switch ∙ c.in-Some-switch_of.is in
     record {
       read = ap (λ (flags : Flags). letters_by behind (record s { flags = flags })) c.switched-given.ensures.switched

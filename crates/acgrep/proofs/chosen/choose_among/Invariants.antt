@@ -7,7 +7,7 @@ use Rattle.acgrep.proofs.Choosing.{AreSoFar}
 use Rattle.acgrep.proofs.chosen.choose_among.Given as goal
 
 abbrev pub invariant-loop-rest : goal.invariant-loop-rest
-invariant-loop-rest g l = AreSoFar (tree_of g.F.Folders l.fn.files) (rules_said l.fn.rules) (name_bytes l.fn.names) (name_bytes l.rest) l.found
+invariant-loop-rest g l = AreSoFar (tree_of g.F.Folders l.fn.files) (rules_said l.fn.rules) l.fn.ways (name_bytes l.fn.names) (name_bytes l.rest) l.found
 
 abbrev pub decreases-loop-rest : goal.decreases-loop-rest
 decreases-loop-rest g l = length l.rest

@@ -12,6 +12,4 @@ returns c =
     let e5 = then_option asked _ _ _ _ _ e4 c.or-4.ensures.found in
     let e6 = then_option asked _ _ _ _ _ e5 c.or-5.ensures.found in
     let e7 = then_option asked _ _ _ _ _ e6 c.or-6.ensures.found in
-    let e8 = then_option asked _ _ _ _ _ e7 c.or-7.ensures.found in
-    let e9 = then_option asked _ _ _ _ _ e8 c.or-8.ensures.found in
-    record { found = then_option asked _ _ _ _ _ e9 c.or-9.ensures.found }
+    record { found = then_option asked _ _ _ _ _ e7 c.or-7.ensures.found }

@@ -35,6 +35,16 @@ returns-in-UnknownColor g c = record {
   told = subst (λ (wrong : Wrong). TellsBytes g.E.Sink c.args.errors.now c.write-in-UnknownColor.new.self (concat (wrong_parts wrong))) (sym c.in-UnknownColor.is) c.write-in-UnknownColor.ensures.told;
 }
 
+pub returns-in-UnknownFolders : goal.returns-in-UnknownFolders
+returns-in-UnknownFolders g c = record {
+  told = subst (λ (wrong : Wrong). TellsBytes g.E.Sink c.args.errors.now c.write-in-UnknownFolders.new.self (concat (wrong_parts wrong))) (sym c.in-UnknownFolders.is) c.write-in-UnknownFolders.ensures.told;
+}
+
+pub returns-in-UnknownDevices : goal.returns-in-UnknownDevices
+returns-in-UnknownDevices g c = record {
+  told = subst (λ (wrong : Wrong). TellsBytes g.E.Sink c.args.errors.now c.write-in-UnknownDevices.new.self (concat (wrong_parts wrong))) (sym c.in-UnknownDevices.is) c.write-in-UnknownDevices.ensures.told;
+}
+
 pub returns-in-UnknownField : goal.returns-in-UnknownField
 returns-in-UnknownField g c = record {
   told = subst (λ (wrong : Wrong). TellsBytes g.E.Sink c.args.errors.now c.write-in-UnknownField.new.self (concat (wrong_parts wrong))) (sym c.in-UnknownField.is) c.write-in-UnknownField.ensures.told;

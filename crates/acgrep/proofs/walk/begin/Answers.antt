@@ -18,8 +18,8 @@ returns-then-not-is_empty g c =
     let some : 0 < length names = subst (λ (n : ℕ). 0 < n) (sym (length-map c.args.operands.now (λ name. name.now))) full in
     record {
       begun = on_ok_weaker c.put_given.result
-          (λ put rules. subst (λ (l : List Spot). Begins tree rules c.args.follow names l found) (sym (put ∙ ap (λ l. spots_of l ++ map operand names) c.requires.none))
-          (begins-given tree rules c.args.follow names found some (ap listed_bytes c.requires.nothing) (ap missed_of c.requires.nowhere)))
+          (λ put rules. subst (λ (l : List Spot). Begins tree rules c.args.ways names l found) (sym (put ∙ ap (λ l. spots_of l ++ map operand names) c.requires.none))
+          (begins-given tree rules c.args.ways names found some (ap listed_bytes c.requires.nothing) (ap missed_of c.requires.nowhere)))
           c.put_given.ensures.put;
     }
 
@@ -33,8 +33,8 @@ returns-in_ok-above-in-Ok g c =
     let after = spots_of c.put_first.new.pending.items in
     record {
       begun = on_ok_weaker c.put_first.result
-          (λ put rules. subst (λ (operands : List (List ℕ)). Begins tree rules c.args.follow operands after found) (sym none)
-          (begins-here tree rules c.args.follow found names after c.in-Ok.ensures.told (subst (λ (l : List Spot). PutsInside names [] l after) (ap spots_of c.requires.none) put)
+          (λ put rules. subst (λ (operands : List (List ℕ)). Begins tree rules c.args.ways operands after found) (sym none)
+          (begins-here tree rules c.args.ways found names after c.in-Ok.ensures.told (subst (λ (l : List Spot). PutsInside names [] l after) (ap spots_of c.requires.none) put)
           (ap listed_bytes c.requires.nothing) (ap missed_of c.requires.nowhere)))
           c.put_first.ensures.put;
     }
@@ -47,9 +47,9 @@ returns-in_ok-from_slice-in-Err g c =
     let none : name_bytes c.args.operands.now ≡ [] = ap name_bytes (all-gone c.args.operands.now empty) in
     record {
       begun = on_ok_weaker c.miss.result
-          (λ grown rules. subst (λ (operands : List (List ℕ)). Begins tree rules c.args.follow operands (spots_of c.args.pending.now.items) found) (sym none)
-          (subst (λ (l : List Spot). Begins tree rules c.args.follow [] l found) (sym (ap spots_of c.requires.none))
-          (begins-nowhere tree rules c.args.follow found (ap (λ n. listed_bytes n.items) c.miss.ensures.names ∙ ap listed_bytes c.requires.nothing)
+          (λ grown rules. subst (λ (operands : List (List ℕ)). Begins tree rules c.args.ways operands (spots_of c.args.pending.now.items) found) (sym none)
+          (subst (λ (l : List Spot). Begins tree rules c.args.ways [] l found) (sym (ap spots_of c.requires.none))
+          (begins-nowhere tree rules c.args.ways found (ap (λ n. listed_bytes n.items) c.miss.ensures.names ∙ ap listed_bytes c.requires.nothing)
           (grown ∙ ap (λ l. missed_of l ++ (c.in_ok-from_slice-in-Err.field-0.items ∷ [])) c.requires.nowhere ∙ ap (λ (n : List ℕ). n ∷ []) c.in_ok-from_slice-in-Err.ensures.items))))
           c.miss.ensures.unread;
     }

@@ -13,8 +13,8 @@ loop-preserved g c =
     let operands = name_bytes c.args.operands.now in
     let before = spot_of c.in-Some.spot ∷ spots_of c.pop_front.new.self.items in
     let cut : spots_of c.loop.pending.items ≡ before = ap spots_of c.in-Some.ensures.items in
-    begins-then tree ruled c.args.follow operands before (spots_of c.pass.new.pending.items) c.loop.found c.pass.new.found
-    (subst (λ (l : List Spot). Begins tree ruled c.args.follow operands l c.loop.found) cut c.loop.invariant) c.in_ok-pass.ensures.finds
+    begins-then tree ruled c.args.ways operands before (spots_of c.pass.new.pending.items) c.loop.found c.pass.new.found
+    (subst (λ (l : List Spot). Begins tree ruled c.args.ways operands l c.loop.found) cut c.loop.invariant) c.in_ok-pass.ensures.finds
 
 pub returns-in_default : goal.returns-in_default
 returns-in_default g c =
@@ -23,4 +23,4 @@ returns-in_default g c =
     let operands = name_bytes c.args.operands.now in
     let gone : length c.loop.pending.items ≡ 0 = search rules in
     let none : c.loop.pending.items ≡ [] = all-gone c.loop.pending.items gone in
-    record { found = begins-end tree ruled c.args.follow operands c.loop.found (subst (λ (l : List Spot). Begins tree ruled c.args.follow operands l c.loop.found) (ap spots_of none) c.loop.invariant) }
+    record { found = begins-end tree ruled c.args.ways operands c.loop.found (subst (λ (l : List Spot). Begins tree ruled c.args.ways operands l c.loop.found) (ap spots_of none) c.loop.invariant) }

@@ -1,0 +1,20 @@
+-- What was read of a reader so far, up to its end.
+use Rattle.std.proofs.Common.{◌≡◌, ℕ, List, [], ◌++◌, Option, take, sym, subst, append-nil}
+use Rattle.std.specs.Prelude.{IfSome}
+use Rattle.std.specs.Io.KnownBytes.{Consumes, IsAtEnd}
+use Rattle.std.proofs.KnownBytes.{Consumes-nil, Consumes-trans, Consumes-whole}
+
+-- nothing
+pub text_begun : (left : Option (List ℕ)) (text : List ℕ) → text ≡ [] → Consumes left left text
+text_begun left text none = subst (Consumes left left) (sym none) (Consumes-nil left)
+
+module _ (begin left left' : Option (List ℕ)) (text room : List ℕ) (count : ℕ) where
+  -- and what a read gave more
+  pub text_more : (new : List ℕ) → Consumes begin left text → Consumes left left' (take count room) → new ≡ text ++ take count room → Consumes begin left' new
+  text_more new read more grown = subst (Consumes begin left') (sym grown) (Consumes-trans begin left left' text (take count room) read more)
+
+  -- where that is nothing, it is all
+  pub text_whole : count ≡ 0 → Consumes begin left text → Consumes left left' (take count room) → IsAtEnd left' → IfSome begin (λ known. text ≡ known)
+  text_whole none read more ended =
+      Consumes-whole begin left' (text ++ take count room) (λ known. text ≡ known) (Consumes-trans begin left left' text (take count room) read more) ended
+      (subst (λ (n : ℕ). text ≡ text ++ take n room) (sym none) (sym (append-nil text)))

@@ -1,0 +1,10 @@
+-- One option after another.
+use Rattle.call_options.proofs.Names.{then_option}
+use Rattle.acgrep.proofs.actions.folders_of.Goals as goal
+
+pub returns : goal.returns
+returns c =
+    let asked = c.args.bytes.now in
+    let first = c.or.ensures.found in
+    let e2 = then_option asked _ _ _ _ _ first c.or-2.ensures.found in
+    record { found = then_option asked _ _ _ _ _ e2 c.or-3.ensures.found }

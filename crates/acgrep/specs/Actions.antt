@@ -1,0 +1,40 @@
+-- What the arguments of `--color`, `-d` and `-D` name.
+use Rattle.std.specs.Prelude.{ℕ, ◌||◌, Bool, List, [], ◌∷◌, Option, None, Some, codes, if◌then◌else◌}
+use Rattle.std.specs.Result.{result_ok}
+use Rattle.std.specs.Str.{bytes_eq, str_eq_ignore_ascii_case}
+use Rattle.call_options.specs.Names.{Named, found_among, meant, named}
+use Rattle.call_options.specs.declared.found.Found.TheVariants.{Unknown}
+use Rattle.acgrep.specs.declared.options.Color.{Color}
+use Rattle.acgrep.specs.declared.options.Color.TheVariants.{Auto, Always, Never}
+use Rattle.acgrep.specs.declared.options.Switch.{Switch}
+use Rattle.acgrep.specs.declared.options.Switch.TheVariants.{Recursive, ReadFolders, SkipFolders, ReadDevices, SkipDevices}
+
+-- one of three names, in whichever case
+abbrev pub is_one_of : (first second third : List ℕ) → List ℕ → Bool
+is_one_of first second third name =
+    str_eq_ignore_ascii_case name first || (str_eq_ignore_ascii_case name second || str_eq_ignore_ascii_case name third)
+
+-- when matches are coloured
+abbrev pub color_named : List ℕ → Option Color
+color_named argument =
+    if is_one_of (codes "always") (codes "yes") (codes "force") argument then Some Always
+    else if is_one_of (codes "never") (codes "no") (codes "none") argument then Some Never
+    else if is_one_of (codes "auto") (codes "tty") (codes "if-tty") argument then Some Auto
+    else None
+
+-- what is done with folders: a beginning of one of these names that no other has is enough
+abbrev pub folder_actions : List (Named Switch)
+folder_actions = named (codes "read") ReadFolders
+    ∷ named (codes "recurse") Recursive
+    ∷ named (codes "skip") SkipFolders
+    ∷ []
+
+abbrev pub folders_named : List ℕ → Option Switch
+folders_named argument = result_ok (meant (found_among folder_actions argument Unknown))
+
+-- and with devices
+abbrev pub devices_named : List ℕ → Option Switch
+devices_named argument =
+    if bytes_eq argument (codes "read") then Some ReadDevices
+    else if bytes_eq argument (codes "skip") then Some SkipDevices
+    else None

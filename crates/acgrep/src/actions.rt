@@ -1,0 +1,71 @@
+//! What the arguments of `--color`, `-d` and `-D` name.
+
+ghost use Rattle.std.specs.Prelude.{◌≡◌};
+ghost use Rattle.acgrep.specs.Actions.{color_named, devices_named, folder_actions, folders_named, is_one_of};
+ghost use Rattle.call_options.specs.Names.{found_among};
+ghost use Rattle.call_options.specs.declared.found.Found.TheVariants.{Unknown};
+
+use crate::options::{Color, Switch};
+use call_options::found::Found;
+
+/// The names of what is done with devices.
+const READ: &[u8] = b"read";
+
+const SKIP: &[u8] = b"skip";
+
+/// When matches are coloured, if bytes name that.
+pub fn color_in(bytes: &[u8]) -> Option<Color>
+    ensures color { result ≡ color_named bytes.now }
+{
+    if is_one_of(b"always", b"yes", b"force", bytes) {
+        Some(Color::Always)
+    } else if is_one_of(b"never", b"no", b"none", bytes) {
+        Some(Color::Never)
+    } else if is_one_of(b"auto", b"tty", b"if-tty", bytes) {
+        Some(Color::Auto)
+    } else {
+        None
+    }
+}
+
+/// Whether bytes are one of these names, in whichever case.
+fn is_one_of(first: &[u8], second: &[u8], third: &[u8], bytes: &[u8]) -> bool
+    ensures one { result ≡ is_one_of first.now second.now third.now bytes.now }
+{
+    bytes.eq_ignore_ascii_case(first)
+        || bytes.eq_ignore_ascii_case(second)
+        || bytes.eq_ignore_ascii_case(third)
+}
+
+/// What is done with folders, if bytes name that or begin one name of it.
+pub fn folders_in(bytes: &[u8]) -> Option<Switch>
+    ensures folders { result ≡ folders_named bytes.now }
+{
+    match folders_of(bytes).option() {
+        Ok(switch) => Some(switch),
+        Err(_) => None,
+    }
+}
+
+/// What is found of them among the names of what is done with folders.
+fn folders_of(bytes: &[u8]) -> Found<Switch>
+    ensures found { result ≡ found_among folder_actions bytes.now Unknown }
+{
+    Found::Unknown
+        .or(bytes, b"read", Switch::ReadFolders)
+        .or(bytes, b"recurse", Switch::Recursive)
+        .or(bytes, b"skip", Switch::SkipFolders)
+}
+
+/// What is done with devices, if bytes name that.
+pub fn devices_in(bytes: &[u8]) -> Option<Switch>
+    ensures devices { result ≡ devices_named bytes.now }
+{
+    if bytes == READ {
+        Some(Switch::ReadDevices)
+    } else if bytes == SKIP {
+        Some(Switch::SkipDevices)
+    } else {
+        None
+    }
+}
