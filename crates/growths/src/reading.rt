@@ -142,8 +142,13 @@ pub fn advances<'a, A: Automaton>(start: StreamStart<'a, A>, answers: &mut Answe
             }
         }
     }
-    answers.tell(chunks.lookups() as u64 as usize);
-    answers.tell(chunks.position() as u64 as usize);
+    answers.tell(low_half(chunks.lookups()));
+    answers.tell(low_half(chunks.position()));
+}
+
+/// The low half of the bits of a number.
+fn low_half(number: u128) -> usize {
+    (number % (1 << 64)) as usize
 }
 
 /// All matches of a stream.

@@ -57,19 +57,14 @@ fn finds<A: Automaton>(automaton: &A, anchored: Anchored, earliest: bool, answer
     }
 }
 
-/// Two calls of an overlapping search, of which each may be refused.
+/// The first call of an overlapping search, which may be refused. Those behind it are the listing's.
 fn overlaps<A: Automaton>(automaton: &A, anchored: Anchored, answers: &mut Answers)
     requires of { (p : Patterns) × A.is_of automaton.now p }
 {
     let input = Input::new(TEXT).anchored(anchored);
     let mut state = OverlappingState::start();
-    let Ok(()) = automaton.try_find_overlapping(&input, &mut state) else {
-        return answers.tell_match(state.get_match());
-    };
-    answers.tell_match(state.get_match());
-    let Ok(()) = automaton.try_find_overlapping(&input, &mut state) else {
-        return answers.tell(usize::MAX - 1);
-    };
+    let searched = automaton.try_find_overlapping(&input, &mut state);
+    answers.tell_whether(searched.is_ok());
     answers.tell_match(state.get_match());
 }
 

@@ -103,26 +103,50 @@ fn streams<A: Automaton, R: Read>(
 ) -> Result<(), Wrong>
     requires of { (p : Patterns) × A.is_of automaton.now p }
 {
+    let pieces: &[&[u8]] = &PIECES;
+    if automaton.patterns_len() != pieces.len() {
+        return Err("there is not one piece for each pattern");
+    }
+    streams_by(alloc, calls, automaton, pieces, input)
+}
+
+/// The same with pieces of which there is one for each pattern.
+fn streams_by<A: Automaton, R: Read>(
+    alloc: Global,
+    calls: Calls,
+    automaton: &A,
+    pieces: &[&[u8]],
+    input: &mut R,
+) -> Result<(), Wrong>
+    requires of { (p : Patterns) × A.is_of automaton.now p }
+    requires one_each { length pieces.now ≡ length (A.lengths automaton.now) }
+{
     let (first, second) = (begin(alloc, automaton)?, begin(alloc, automaton)?);
     let mut answers = Answers::new(alloc);
-    over_stream(calls, first, &mut answers);
+    over_stream(calls, first, pieces, &mut answers);
     answers.begin_again(input)?;
-    over_stream(calls, second, &mut answers);
+    over_stream(calls, second, pieces, &mut answers);
     answers.are_the_same()
 }
 
 /// One stream.
-fn over_stream<'a, A: Automaton>(calls: Calls, start: StreamStart<'a, A>, answers: &mut Answers)
+fn over_stream<'a, A: Automaton>(
+    calls: Calls,
+    start: StreamStart<'a, A>,
+    pieces: &[&[u8]],
+    answers: &mut Answers,
+)
     requires of { (p : Patterns) × A.is_of start.automaton.now p }
     requires fresh { IsFreshStart A.Automaton start }
     requires open { start.progress.ended ≡ false }
     requires below { start.progress.refused ≡ false }
+    requires one_each { length pieces.now ≡ length (A.lengths start.automaton.now) }
 {
     match calls {
         Calls::Lends => lends(start, answers),
         Calls::Advances => advances(start, answers),
         Calls::Finds => finds(start, answers),
-        _ => replaces(start, &PIECES, answers),
+        _ => replaces(start, pieces, answers),
     }
 }
 
