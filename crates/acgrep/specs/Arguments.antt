@@ -2,7 +2,7 @@
 use Rattle.programs.specs.Arguments.{kind_by}
 use Rattle.std.specs.Prelude.{◌≡◌, ℕ, ◌==◌, ◌^◌, ◌||◌, ◌&&◌, ◌<◌, nat_lt, slice_index, Bool, true, false, List, [], ◌∷◌, ◌++◌, Option, Some, None, codes, is_some, not, unwrap_or, length, map, Result, IfErr, IfOk, OnOk, option_and_then, option_map, if◌then◌else◌}
 use Rattle.std.specs.Char.{is_ascii_digit}
-use Rattle.std.specs.Str.{all_ascii_digits, bytes_eq}
+use Rattle.std.specs.Str.{all_ascii_digits}
 use Rattle.std.specs.Str.Parse.{digits_value}
 use Rattle.aho_core.specs.declared.search.MatchKind.TheVariants.{LeftmostLongest}
 use Rattle.call_options.specs.Forms.{Form, argument_form, joined_letters, long_name, long_with, no_more, no_option}
@@ -28,7 +28,7 @@ use Rattle.acgrep.specs.declared.arguments.Refusal.{Refusal}
 use Rattle.acgrep.specs.declared.arguments.Refusal.TheVariants.{Wrong, OutOfMemory}
 use Rattle.acgrep.specs.declared.arguments.Source.{Source}
 use Rattle.acgrep.specs.declared.arguments.Source.TheVariants.{Text, File}
-use Rattle.acgrep.specs.declared.options.Color.TheVariants.{Auto, Always, Never}
+use Rattle.acgrep.specs.declared.options.Color.TheVariants.{Auto, Never}
 use Rattle.acgrep.specs.declared.options.Fit.{Fit}
 use Rattle.acgrep.specs.declared.options.Fit.TheVariants.{AnyPart, WholeWord, WholeLine}
 use Rattle.acgrep.specs.declared.options.Flags.{Flags}
