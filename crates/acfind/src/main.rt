@@ -21,6 +21,7 @@ use aho_devices::adapters::{FromRead, FromWrite};
 use programs::arguments::arguments;
 use programs::failure::Failure;
 use programs::run::{report, run};
+use programs::unopened::fill_closed;
 use std::alloc::Global;
 use std::io::{BufWriter, Read, Write};
 use std::process::ExitCode;
@@ -29,8 +30,12 @@ use std::process::ExitCode;
 const OUTPUT_CAPACITY: usize = 64 * 1024;
 
 fn main(rt: HostRuntime) -> ExitCode {
+    let filled = fill_closed(&rt, &rt.stdin(), &rt.stdout(), &rt.stderr());
     let given = arguments(&rt);
     let mut errors = FromWrite::new(rt.stderr());
+    if filled.is_err() {
+        return ExitCode::from(report(&Failure::Read, &mut errors));
+    }
     match BufWriter::with_capacity(rt.alloc(), OUTPUT_CAPACITY, rt.stdout()) {
         Ok(output) => exit_code(
             rt.alloc(),

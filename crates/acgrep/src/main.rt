@@ -50,18 +50,25 @@ use colors::Screen;
 use open::System;
 use programs::closed::{Noted, Quiet};
 use programs::errors::Errors;
+use programs::unopened::{DEVICE, fill_closed};
 use run::{refuse, run};
 use std::cell::Cell;
 use std::env;
 use std::io::{BufWriter, IsTerminal};
 use std::process::ExitCode;
+use tell::tell_fault;
 
 /// How many bytes of output are kept before they are written.
 const OUTPUT_CAPACITY: usize = 64 * 1024;
 
 fn main(rt: HostRuntime) -> ExitCode {
+    let filled = fill_closed(&rt, &rt.stdin(), &rt.stdout(), &rt.stderr());
     let reason = Cell::new(None);
     let mut errors = Errors::new(FromWrite::new(Quiet::new(rt.stderr(), &reason)), &reason);
+    if let Err(reason) = filled {
+        tell_fault(DEVICE.as_bytes(), reason, &mut errors);
+        return ExitCode::from(2);
+    }
     let Ok(given) = arguments(&rt) else {
         return ExitCode::from(refuse(&mut errors));
     };

@@ -41,6 +41,7 @@ ghost use Rattle.acredact.specs.Checks.{MatchedAsked, UnmatchedAsked};
 
 use aho_devices::adapters::{FromRead, FromWrite};
 use aho_devices::device::Sink;
+use failure::Failure::Unread;
 use folder::{Folder, Host};
 use in_place::{asks_in_place, replace_in_place};
 use into::{make_and_run, named_output};
@@ -49,6 +50,7 @@ use programs::arguments::arguments;
 use programs::closed::{Noted, Quiet};
 use programs::errors::Errors;
 use programs::failure::Failure;
+use programs::unopened::{DEVICE, fill_closed};
 use run::{refuse, report, run};
 use std::alloc::Global;
 use std::cell::Cell;
@@ -60,9 +62,13 @@ use streams::Streams;
 const OUTPUT_CAPACITY: usize = 64 * 1024;
 
 fn main(rt: HostRuntime) -> ExitCode {
+    let filled = fill_closed(&rt, &rt.stdin(), &rt.stdout(), &rt.stderr());
     let given = arguments(&rt);
     let reason = Cell::new(None);
     let mut errors = Errors::new(FromWrite::new(Quiet::new(rt.stderr(), &reason)), &reason);
+    if let Err(reason) = filled {
+        return ExitCode::from(report(&Unread(DEVICE, reason), &mut errors));
+    }
     if let Ok(arguments) = &given {
         let arguments = arguments.as_slice();
         let folder = Host::new(&rt);

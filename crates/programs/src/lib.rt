@@ -16,3 +16,4 @@ pub mod reason;
 mod replace;
 pub mod rows;
 pub mod run;
+pub mod unopened;
