@@ -27,7 +27,7 @@ pub struct Judge<'s, 't> {
     /// Whether ASCII letters are the same in both cases.
     pub ignore_case: bool,
     /// The rules of the patterns, with their own pieces.
-    pub rules: &'s [Rule],
+    pub rules: &'s [Rule<'t>],
     /// The piece of those that have none of their own.
     pub usual: &'t [u8],
 }
@@ -114,7 +114,7 @@ fn flaw_of_rule<A: Automaton>(
     automaton: &A,
     judge: &Judge<'_, '_>,
     marks: &[bool],
-    rule: &Rule,
+    rule: &Rule<'_>,
     usual: bool,
 ) -> Option<Flaw>
     requires of { (p : Patterns) × A.is_of automaton.now p }

@@ -9,11 +9,12 @@ ghost use Rattle.acredact.specs.Loading.{AddsFile, AddsItem, AddsList, CannotLoa
 ghost use Rattle.acredact.specs.Reads.{ReadsText};
 ghost use Rattle.acredact.specs.Tables.{AddsLine};
 
-use crate::arguments::{Item, Word, has, last_value};
+use crate::arguments::{Item, Word, covers, has, last_value};
 use crate::failure::Failure;
 use crate::files::is_input;
 use crate::folder::Folder;
-use crate::patterns::{Form, Rule, add_line, add_lines};
+use crate::parts::add_parts;
+use crate::patterns::{BadLine, Form, LineFault, Place, Rule, add_line, add_lines, mark_of};
 use aho_devices::adapters::FromRead;
 use aho_devices::device::Source;
 use programs::reason::Reason;
@@ -22,6 +23,15 @@ use std::io::Read;
 
 /// How many bytes of a list are read at once.
 const PIECE: usize = 16 * 1024;
+
+/// How many bytes a key has at least.
+const LEAST_KEY: usize = 16;
+
+/// Where a pattern stands that is an argument.
+const OF_ARGUMENT: Place<'static> = Place {
+    list: "-e",
+    line: 0,
+};
 
 /// How files of patterns and tables are read.
 #[derive(Clone, Copy)]
@@ -34,6 +44,8 @@ pub struct Lists<'f, F> {
     pub crlf: bool,
     /// Whether a file may be empty.
     pub allow_empty: bool,
+    /// Whether long lines of a pattern that has line ends are patterns too.
+    pub parts: bool,
 }
 
 /// How the files of patterns and tables are read that are given.
@@ -46,6 +58,7 @@ pub fn lists_of<'f, F>(alloc: Global, given: &[Item<'_>], folder: &'f F) -> List
         folder,
         crlf: has(given, Word::Crlf),
         allow_empty: has(given, Word::AllowEmpty),
+        parts: covers(given),
     }
 }
 
@@ -58,7 +71,7 @@ pub fn rules<'a, F: Folder, I: Read>(
     lists: &Lists<'_, F>,
     items: &[Item<'a>],
     input: &mut FromRead<I>,
-) -> Result<Vec<Rule>, Failure<'a>>
+) -> Result<Vec<Rule<'a>>, Failure<'a>>
     ensures given { IfOk result (λ rules.
         GivesRules F.Folder lists.now (all_given items.now) rules input.old input.new) }
     ensures fails { IfErr result (CannotLoadOne (reading_of_lists F.Folder lists.now) (all_given items.now)) }
@@ -108,8 +121,8 @@ fn read_key<'a, F: Folder, I: Read>(
 {
     match read_list(lists, name, input) {
         Ok(key) => {
-            if key.is_empty() {
-                return Err(Failure::EmptyKey(name));
+            if key.len() < LEAST_KEY {
+                return Err(Failure::ShortKey(name));
             }
             Ok(Some(key))
         }
@@ -120,7 +133,7 @@ fn read_key<'a, F: Folder, I: Read>(
 /// Adds the rules of an item, if it has any.
 fn add_item<'a, F: Folder, I: Read>(
     lists: &Lists<'_, F>,
-    rules: &mut Vec<Rule>,
+    rules: &mut Vec<Rule<'a>>,
     item: Item<'a>,
     input: &mut FromRead<I>,
 ) -> Result<(), Failure<'a>>
@@ -129,7 +142,7 @@ fn add_item<'a, F: Folder, I: Read>(
     ensures fails { IfErr result (CannotLoad (reading_of_lists F.Folder lists.now) (given_of item.entry)) }
 {
     match item.word {
-        Word::Pattern => add_pattern(lists.alloc, rules, item.value),
+        Word::Pattern => add_pattern(lists, rules, item.value),
         Word::Patterns => add_file(lists, rules, item.value, false, input),
         Word::Table => add_file(lists, rules, item.value, true, input),
         _ => Ok(()),
@@ -137,24 +150,43 @@ fn add_item<'a, F: Folder, I: Read>(
 }
 
 /// Adds the rule of a pattern among the arguments.
-fn add_pattern<'a>(
-    alloc: Global,
-    rules: &mut Vec<Rule>,
+fn add_pattern<'a, F>(
+    lists: &Lists<'_, F>,
+    rules: &mut Vec<Rule<'a>>,
     pattern: &'a str,
 ) -> Result<(), Failure<'a>>
-    ensures added { OnOk result (AddsLine false pattern.now rules.old rules.new) }
+    ensures added { OnOk result (AddsPattern lists.now pattern.now rules.old rules.new) }
     ensures fails { IfErr result (IsPatternFailure pattern.now) }
 {
-    match add_line(alloc, rules, pattern.as_bytes(), false, 0) {
-        Ok(()) => Ok(()),
+    let bytes = pattern.as_bytes();
+    match add_line(lists.alloc, rules, bytes, false, OF_ARGUMENT) {
+        Ok(()) => add_parts_of(lists, rules, bytes),
         Err(fault) => Err(Failure::Pattern(fault)),
+    }
+}
+
+/// Adds the lines of a pattern that has line ends, where these are patterns too.
+fn add_parts_of<'a, F>(
+    lists: &Lists<'_, F>,
+    rules: &mut Vec<Rule<'a>>,
+    pattern: &[u8],
+) -> Result<(), Failure<'a>>
+    ensures added { OnOk result (AddsSecrets rules.old rules.new (parts_by (rules_for lists.now) pattern.now)) }
+    ensures fails { IfErr result (IsMemoryFault) }
+{
+    if !lists.parts {
+        return Ok(());
+    }
+    match add_parts(lists.alloc, rules, pattern) {
+        Ok(()) => Ok(()),
+        Err(_) => Err(Failure::Pattern(LineFault::OutOfMemory)),
     }
 }
 
 /// Adds the rules of a file: of a table, or of a file of patterns.
 fn add_file<'a, F: Folder, I: Read>(
     lists: &Lists<'_, F>,
-    rules: &mut Vec<Rule>,
+    rules: &mut Vec<Rule<'a>>,
     name: &'a str,
     table: bool,
     input: &mut FromRead<I>,
@@ -172,7 +204,7 @@ fn add_file<'a, F: Folder, I: Read>(
 /// Adds the rules of the text of a file.
 fn add_text<'a, F>(
     lists: &Lists<'_, F>,
-    rules: &mut Vec<Rule>,
+    rules: &mut Vec<Rule<'a>>,
     name: &'a str,
     table: bool,
     text: &[u8],
@@ -183,11 +215,14 @@ fn add_text<'a, F>(
     if text.is_empty() && !lists.allow_empty {
         return Err(Failure::Empty(name));
     }
+    if let Some(fault) = mark_of(text) {
+        return Err(Failure::Line(name, BadLine { number: 1, fault }));
+    }
     let form = Form {
         table,
         crlf: lists.crlf,
     };
-    match add_lines(lists.alloc, rules, text, form) {
+    match add_lines(lists.alloc, rules, text, form, name) {
         Ok(()) => Ok(()),
         Err(line) => Err(Failure::Line(name, line)),
     }

@@ -11,12 +11,23 @@ use std::slice;
 
 /// A pattern, and its own replacement where it has one.
 #[derive(Drop)]
-pub struct Rule {
+pub struct Rule<'a> {
     /// The bytes that are searched for.
     pub pattern: Vec<u8>,
     /// The bytes that are written in their place.
     pub replacement: Option<Vec<u8>>,
-    /// The number of its line in its file, from 1 on, and 0 for one that is an argument.
+    /// The file that it stands in, and `-e` for one that is an argument.
+    pub list: &'a str,
+    /// The number of its line in that file, from 1 on, and 0 for one that is an argument.
+    pub line: usize,
+}
+
+/// Where a pattern stands.
+#[derive(Clone, Copy)]
+pub struct Place<'a> {
+    /// The file, and `-e` for an argument.
+    pub list: &'a str,
+    /// The number of the line, and 0 for an argument.
     pub line: usize,
 }
 
@@ -42,6 +53,16 @@ pub enum LineFault {
     BadEscape,
     /// A pattern of a file of patterns ends in a carriage return.
     CarriageReturn,
+    /// A byte order mark stands in front of the first line.
+    ByteOrderMark,
+    /// The file is UTF-16: a byte order mark of that stands in front of the first line.
+    Utf16,
+    /// There is a zero byte in it.
+    ZeroByte,
+    /// Its pattern begins or ends with a blank.
+    Blank,
+    /// Quotes stand around its pattern.
+    Quotes,
     /// Memory runs out.
     OutOfMemory,
 }
@@ -67,7 +88,7 @@ impl<T: Drop> From<AllocFailed<T>> for LineFault {
 }
 
 /// A text without this byte at its end.
-fn without_last(text: &[u8], byte: u8) -> &[u8]
+pub fn without_last(text: &[u8], byte: u8) -> &[u8]
     ensures stripped { result.now ≡ strip_last byte text.now }
 {
     match text.split_last() {
@@ -77,7 +98,7 @@ fn without_last(text: &[u8], byte: u8) -> &[u8]
 }
 
 /// The rule of a line of a file of patterns: its bytes are the pattern.
-fn plain(alloc: Global, line: &[u8], number: usize) -> Result<Rule, LineFault>
+fn plain<'a>(alloc: Global, line: &[u8], place: Place<'a>) -> Result<Rule<'a>, LineFault>
     ensures rule { IfOk result (λ rule. Holds false line.now (secret_of rule)) }
     ensures fault { IfErr result (IsLineFault false line.now) }
     ensures line { IfOk result (λ rule. rule.line ≡ number) }
@@ -88,12 +109,13 @@ fn plain(alloc: Global, line: &[u8], number: usize) -> Result<Rule, LineFault>
     Ok(Rule {
         pattern: copy_of(alloc, line)?,
         replacement: None,
-        line: number,
+        list: place.list,
+        line: place.line,
     })
 }
 
 /// The rule of a line of a table: its pattern, a TAB, and the replacement.
-fn row(alloc: Global, line: &[u8], number: usize) -> Result<Rule, LineFault>
+fn row<'a>(alloc: Global, line: &[u8], place: Place<'a>) -> Result<Rule<'a>, LineFault>
     ensures rule { IfOk result (λ rule. Holds true line.now (secret_of rule)) }
     ensures fault { IfErr result (IsLineFault true line.now) }
     ensures line { IfOk result (λ rule. rule.line ≡ number) }
@@ -109,12 +131,13 @@ fn row(alloc: Global, line: &[u8], number: usize) -> Result<Rule, LineFault>
     Ok(Rule {
         pattern,
         replacement: Some(replacement),
-        line: number,
+        list: place.list,
+        line: place.line,
     })
 }
 
 /// What stands before the first place of a byte, and behind it.
-fn split_at(text: &[u8], byte: u8) -> Option<(&[u8], &[u8])>
+pub fn split_at(text: &[u8], byte: u8) -> Option<(&[u8], &[u8])>
     ensures split { IfSome result (λ parts. text.now ≡ parts.0.now ++ (byte ∷ parts.1.now)) }
     ensures first { IfSome result (λ parts. IsWithout byte parts.0.now) }
     ensures shorter { IfSome result (λ two. length two.1.now < length text.now) }
@@ -189,7 +212,7 @@ fn escaped_byte(text: &[u8]) -> Result<(u8, &[u8]), LineFault>
 }
 
 /// These bytes in memory of their own.
-fn copy_of(alloc: Global, bytes: &[u8]) -> Result<Vec<u8>, AllocError>
+pub fn copy_of(alloc: Global, bytes: &[u8]) -> Result<Vec<u8>, AllocError>
     ensures same { IfOk result (λ copy. copy.items ≡ bytes.now) }
 {
     let mut copy = Vec::new(alloc);
@@ -206,16 +229,29 @@ pub struct BadLine {
     pub fault: LineFault,
 }
 
+/// What is wrong with the beginning of a list, if something is: a byte order mark stands there, of UTF-8 or of UTF-16.
+pub fn mark_of(text: &[u8]) -> Option<LineFault>
+    ensures mark { result ≡ mark_of text.now }
+{
+    match text {
+        [0xEF, 0xBB, 0xBF, ..] => Some(LineFault::ByteOrderMark),
+        [0xFF, 0xFE, ..] => Some(LineFault::Utf16),
+        [0xFE, 0xFF, ..] => Some(LineFault::Utf16),
+        _ => None,
+    }
+}
+
 /// Adds the rules of a text, one for each line: of a table, or of a file of patterns.
 ///
 /// # Errors
 ///
 /// The first line that holds no rule, with the reason; or `OutOfMemory`, at any line.
-pub fn add_lines(
+pub fn add_lines<'a>(
     alloc: Global,
-    rules: &mut Vec<Rule>,
+    rules: &mut Vec<Rule<'a>>,
     text: &[u8],
     form: Form,
+    list: &'a str,
 ) -> Result<(), BadLine>
     ensures added { OnOk result (AddsLines form (lines_in text.now) rules.old rules.new) }
     ensures fault { IfErr result (IsListFault form (lines_in text.now)) }
@@ -226,38 +262,41 @@ pub fn add_lines(
     let mut number: usize = 1;
     let mut rest = without_last(text, b'\n');
     while let Some((line, more)) = split_at(rest, b'\n') {
-        add_numbered(alloc, rules, line, form, number)?;
+        add_numbered(alloc, rules, line, form, Place { list, line: number })?;
         number = number.saturating_add(1);
         rest = more;
     }
-    add_numbered(alloc, rules, rest, form, number)
+    add_numbered(alloc, rules, rest, form, Place { list, line: number })
 }
 
 /// Adds the rule of the line of this number.
-fn add_numbered(
+fn add_numbered<'a>(
     alloc: Global,
-    rules: &mut Vec<Rule>,
+    rules: &mut Vec<Rule<'a>>,
     line: &[u8],
     form: Form,
-    number: usize,
+    place: Place<'a>,
 ) -> Result<(), BadLine>
     ensures added { OnOk result (AddsListed form line.now rules.old rules.new) }
     ensures number { IfErr result (λ bad. bad.number ≡ number) }
     ensures fault { IfErr result (λ bad. IsLineFaultBy form line.now bad.fault) }
 {
-    match add_listed(alloc, rules, line, form, number) {
+    match add_listed(alloc, rules, line, form, place) {
         Ok(()) => Ok(()),
-        Err(fault) => Err(BadLine { number, fault }),
+        Err(fault) => Err(BadLine {
+            number: place.line,
+            fault,
+        }),
     }
 }
 
 /// Adds the rule of the line of a file.
-fn add_listed(
+fn add_listed<'a>(
     alloc: Global,
-    rules: &mut Vec<Rule>,
+    rules: &mut Vec<Rule<'a>>,
     line: &[u8],
     form: Form,
-    number: usize,
+    place: Place<'a>,
 ) -> Result<(), LineFault>
     ensures added { OnOk result (AddsListed form line.now rules.old rules.new) }
     ensures fault { IfErr result (IsLineFaultBy form line.now) }
@@ -266,7 +305,10 @@ fn add_listed(
     if !form.table && ends_in_return(line) {
         return Err(LineFault::CarriageReturn);
     }
-    add_line(alloc, rules, line, form.table, number)
+    if split_at(line, 0).is_some() {
+        return Err(LineFault::ZeroByte);
+    }
+    add_line(alloc, rules, line, form.table, place)
 }
 
 /// A line as its rule stands in it: without a carriage return at its end, where those are left out.
@@ -286,28 +328,28 @@ fn ends_in_return(line: &[u8]) -> bool
     matches!(line.split_last(), Some((b'\r', _)))
 }
 
-/// Adds the rule of a line, which has this number.
-pub fn add_line(
+/// Adds the rule of a line, which stands here.
+pub fn add_line<'a>(
     alloc: Global,
-    rules: &mut Vec<Rule>,
+    rules: &mut Vec<Rule<'a>>,
     line: &[u8],
     table: bool,
-    number: usize,
+    place: Place<'a>,
 ) -> Result<(), LineFault>
     ensures added { OnOk result (AddsLine table line.now rules.old rules.new) }
     ensures fault { IfErr result (IsLineFault table line.now) }
 {
     let rule = if table {
-        row(alloc, line, number)?
+        row(alloc, line, place)?
     } else {
-        plain(alloc, line, number)?
+        plain(alloc, line, place)?
     };
     rules.push(rule)?;
     Ok(())
 }
 
 /// The patterns of the rules.
-pub fn patterns_of<'r>(alloc: Global, rules: &'r [Rule]) -> Result<Vec<&'r [u8]>, AllocError>
+pub fn patterns_of<'r>(alloc: Global, rules: &'r [Rule<'_>]) -> Result<Vec<&'r [u8]>, AllocError>
     ensures patterns { IfOk result (λ patterns. pieces_of patterns.items
         ≡ patterns_in (secrets_of rules.entry.now)) }
 {
@@ -323,7 +365,7 @@ pub fn patterns_of<'r>(alloc: Global, rules: &'r [Rule]) -> Result<Vec<&'r [u8]>
 /// What is written for each rule: its own replacement, or this text where it has none.
 pub fn replacements_of<'r>(
     alloc: Global,
-    rules: &'r [Rule],
+    rules: &'r [Rule<'_>],
     text: &'r [u8],
 ) -> Result<Vec<&'r [u8]>, AllocError>
     ensures pieces { IfOk result (λ pieces. pieces_of pieces.items
@@ -339,7 +381,7 @@ pub fn replacements_of<'r>(
 }
 
 /// What is written for a rule.
-fn replacement_of<'r>(rule: &'r Rule, text: &'r [u8]) -> &'r [u8]
+fn replacement_of<'r>(rule: &'r Rule<'_>, text: &'r [u8]) -> &'r [u8]
     ensures piece { result.now ≡ piece_by text.entry.now (secret_of rule.entry.now) }
 {
     match &rule.replacement {

@@ -32,6 +32,7 @@ use crate::back::back_of;
 use crate::check::check;
 use crate::clean::{Judge, Unclean, unclean_of};
 use crate::counts::{counts_of, put_counts};
+use crate::doubts::warn_of_lists;
 use crate::failure::{Failure, tell_failure, tell_unclean};
 use crate::files::{Job, back_files, redact_files};
 use crate::folder::Folder;
@@ -276,7 +277,7 @@ fn load<'a, F: Folder, I: Read, W: Write, E: Sink>(
 fn load_key<'a, F: Folder, I: Read, W: Write, E: Sink>(
     alloc: Global,
     given: &[Item<'a>],
-    rules: &[Rule],
+    rules: &[Rule<'a>],
     folder: &F,
     streams: &mut Streams<'_, I, W, E>,
 ) -> Result<bool, Failure<'a>>
@@ -297,7 +298,7 @@ fn load_key<'a, F: Folder, I: Read, W: Write, E: Sink>(
 fn redact_counted<'a, F: Folder, I: Read, W: Write, E: Sink>(
     alloc: Global,
     given: &[Item<'_>],
-    rules: &[Rule],
+    rules: &[Rule<'a>],
     key: Option<&[u8]>,
     folder: &F,
     streams: &mut Streams<'_, I, W, E>,
@@ -325,7 +326,7 @@ fn redact_counted<'a, F: Folder, I: Read, W: Write, E: Sink>(
 fn redact_telling<'a, F: Folder, I: Read, W: Write, E: Sink>(
     alloc: Global,
     given: &[Item<'_>],
-    rules: &[Rule],
+    rules: &[Rule<'a>],
     key: Option<&[u8]>,
     folder: &F,
     tally: &mut [u64],
@@ -359,7 +360,7 @@ pub fn tell_counted<'a, E: Sink>(
     alloc: Global,
     all: bool,
     given: &[Item<'_>],
-    rules: &[Rule],
+    rules: &[Rule<'_>],
     tally: &[u64],
     volume: Volume,
     errors: &mut Errors<'_, E>,
@@ -389,7 +390,7 @@ fn tell_totals<E: Sink>(
     alloc: Global,
     errors: &mut Errors<'_, E>,
     given: &[Item<'_>],
-    rules: &[Rule],
+    rules: &[Rule<'_>],
     tally: &[u64],
     volume: Volume,
 ) -> Result<(), AllocError>
@@ -408,7 +409,7 @@ fn tell_totals<E: Sink>(
 fn put_asked_counts(
     text: &mut Vec<u8>,
     given: &[Item<'_>],
-    rules: &[Rule],
+    rules: &[Rule<'_>],
     tally: &[u64],
 ) -> Result<(), AllocError>
     ensures put { OnOk result (PutsText text.old text.new
@@ -460,7 +461,7 @@ pub fn key_by(bytes: Option<&[u8]>, ignore_case: bool) -> Option<Key<'_>>
 fn redact_all<'a, F: Folder, I: Read, W: Write, E: Sink>(
     alloc: Global,
     given: &[Item<'_>],
-    rules: &[Rule],
+    rules: &[Rule<'a>],
     key: Option<&[u8]>,
     folder: &F,
     counts: &mut [u64],
@@ -508,6 +509,7 @@ fn redact_all<'a, F: Folder, I: Read, W: Write, E: Sink>(
         back.as_ref(),
         &job,
         &judge,
+        rules,
         strict,
         counts,
         volume,
@@ -531,6 +533,7 @@ fn redact_warned<
     back: Option<&Backward<C>>,
     job: &Job<'_, '_, F>,
     judge: &Judge<'_, '_>,
+    rules: &[Rule<'a>],
     strict: bool,
     counts: &mut [u64],
     volume: &mut Volume,
@@ -552,8 +555,22 @@ fn redact_warned<
 {
     let unclean = unclean_of(automaton, judge, job.covers, job.key.is_some());
     // Not by `?`: this error may hold names.
-    match warn(&mut streams.errors, unclean, strict) {
+    match warn_of(&mut streams.errors, rules, unclean, strict) {
         Ok(()) => Ok(redact_by(automaton, rows, back, job, counts, volume, streams)?),
+        Err(failure) => Err(failure),
+    }
+}
+
+/// Tells of patterns of lists that are doubtful and of a piece that is not clean, or refuses the first of these.
+pub fn warn_of<'a, E: Sink>(
+    errors: &mut Errors<'_, E>,
+    rules: &[Rule<'a>],
+    unclean: Option<Unclean>,
+    strict: bool,
+) -> Result<(), Failure<'a>> {
+    // Not by `?`: this error holds names.
+    match warn_of_lists(errors, rules, strict) {
+        Ok(()) => warn(errors, unclean, strict),
         Err(failure) => Err(failure),
     }
 }

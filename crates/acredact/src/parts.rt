@@ -1,0 +1,51 @@
+//! The lines of a pattern that is given as an argument and has line ends. In a log whose lines begin with a time the whole pattern
+//! stands nowhere, but its lines do.
+
+ghost use Rattle.std.specs.Prelude.{◌≡◌, ◌++◌, OnOk};
+ghost use Rattle.acredact.specs.Parts.{AddsSecrets, line_secrets, part_secrets, secrets_of_lines};
+
+use crate::patterns::{Rule, copy_of, split_at, without_last};
+use std::alloc::{AllocError, Global};
+
+/// How many bytes a line of a pattern has at least that is a pattern too. A shorter one may stand anywhere.
+const LEAST_PART: usize = 8;
+
+/// Adds each line of a pattern that has line ends, if it has eight bytes or more, as a pattern of its own.
+pub fn add_parts<'a>(
+    alloc: Global,
+    rules: &mut Vec<Rule<'a>>,
+    pattern: &[u8],
+) -> Result<(), AllocError>
+    ensures added { OnOk result (AddsSecrets rules.old rules.new (part_secrets pattern.now)) }
+{
+    if split_at(pattern, b'\n').is_none() {
+        return Ok(());
+    }
+    let mut rest = pattern;
+    while let Some((line, more)) = split_at(rest, b'\n') {
+        add_part(alloc, rules, line)?;
+        rest = more;
+    }
+    add_part(alloc, rules, rest)
+}
+
+/// Adds a line, without a carriage return at its end, if it is long enough.
+fn add_part<'a>(
+    alloc: Global,
+    rules: &mut Vec<Rule<'a>>,
+    line: &[u8],
+) -> Result<(), AllocError>
+    ensures added { OnOk result (AddsSecrets rules.old rules.new (line_secrets line.now)) }
+{
+    let line = without_last(line, b'\r');
+    if line.len() < LEAST_PART {
+        return Ok(());
+    }
+    rules.push(Rule {
+        pattern: copy_of(alloc, line)?,
+        replacement: None,
+        list: "-e",
+        line: 0,
+    })?;
+    Ok(())
+}
