@@ -129,7 +129,7 @@ counts_other counted failure unclean (some, inr of) is = let clash : Other OutOf
 
 -- what may be told, and why
 pub may_fail : (call : Call) (fails : Type 0) (failure : Failure) → IsRunFailure fails failure → MayFail call fails failure
-may_fail call fails failure is = inr (inr (inr (inr (inr is))))
+may_fail call fails failure is = inr (inr (inr (inr (inr (inl is)))))
 
 -- the files of a call whose patterns were loaded
 module _ {R : Type 0} {Reads : Readers R} {W E : Type 0} (Writes : Writers W) (K : SinkGhosts E) (call : Call) where

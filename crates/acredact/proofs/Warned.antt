@@ -5,6 +5,7 @@ use Rattle.std.specs.List.{All, concat}
 use Rattle.std.specs.declared.io.traits.Read.{Ghosts as Readers}
 use Rattle.std.specs.declared.io.traits.Write.{Ghosts as Writers}
 use Rattle.std.proofs.lemmas.List.Elements.{All-append, All-cons, All-head, All-nil, All-tail}
+use Rattle.aho_core.specs.Listing.{IsMember}
 use Rattle.aho_core.specs.Patterns.{Patterns}
 use Rattle.aho_devices.specs.declared.device.Sink.{Ghosts as SinkGhosts}
 use Rattle.programs.specs.Streams.{bytes_left}
@@ -15,12 +16,14 @@ use Rattle.programs.proofs.Tellings.{tells-later}
 use Rattle.acredact.specs.Arguments.{counts_asked, has}
 use Rattle.acredact.specs.Calls.{Call, CallOutcome, IsBuildRefusal, IsCountsFailure, IsCountsLine, IsLineOf, IsRunFailure, IsUntouched, OutputFails, RestOutcome, RunOutcome, TellsCounts, WarnedOutcome, names_asked, reading_by, redactor_by_given, work_by}
 use Rattle.acredact.specs.Counts.{zeros}
+use Rattle.acredact.specs.Doubts.{IsWarnFailure, TellsDoubts, TellsWarnings, WarnsOfBoth, all_doubt_lines}
 use Rattle.acredact.specs.Files.{Work, key_for, keyed_of}
 use Rattle.acredact.specs.Loading.{AreLoaded, Loaded, loaded_as}
 use Rattle.acredact.specs.Messages.{unclean_line}
-use Rattle.acredact.specs.Pieces.{IsJudged, IsJudgedBy, TellsOfPieces, TellsUnclean}
+use Rattle.acredact.specs.Pieces.{IsJudged, IsJudgedBy, TellsOfPieces}
 use Rattle.acredact.specs.Secrets.{AreCleanBy, Redactor}
 use Rattle.acredact.specs.Summaries.{no_volume}
+use Rattle.acredact.specs.Tables.{Secret, secrets_of}
 use Rattle.acredact.specs.Totals.{CountsOfNames}
 use Rattle.acredact.specs.Volumes.{ReadsVolume}
 use Rattle.acredact.specs.declared.arguments.Word.TheVariants.{Strict}
@@ -36,9 +39,12 @@ use Rattle.acredact.proofs.Done.{concat_both}
 use Rattle.acredact.proofs.Free.{free_of}
 
 -- where they are to be refused, nothing is told and they are clean
-clean_of : {E : Type 0} (K : SinkGhosts E) (strict : Bool) (r : Redactor) (old new : Errors E) → strict ≡ true → TellsOfPieces K strict r old new → r.covers ≡ true → AreCleanBy (is_some r.key) r.patterns r.pieces
-clean_of K strict r old new is (None, judged, same) = judged
-clean_of K strict r old new is (Some unclean, judged, (lax, told)) = let clash : true ≡ false = sym is ∙ lax in absurd (cc)
+clean_pieces : {E : Type 0} (K : SinkGhosts E) (strict : Bool) (r : Redactor) (old new : Errors E) → strict ≡ true → TellsOfPieces K strict r old new → r.covers ≡ true → AreCleanBy (is_some r.key) r.patterns r.pieces
+clean_pieces K strict r old new is (None, judged, same) = judged
+clean_pieces K strict r old new is (Some unclean, judged, (lax, told)) = let clash : true ≡ false = sym is ∙ lax in absurd (cc)
+
+clean_of : {E : Type 0} (K : SinkGhosts E) (strict : Bool) (secrets : List Secret) (r : Redactor) (old new : Errors E) → strict ≡ true → TellsWarnings K strict secrets r old new → r.covers ≡ true → AreCleanBy (is_some r.key) r.patterns r.pieces
+clean_of K strict secrets r old new is (between, doubts, pieces) = clean_pieces K strict r between new is pieces
 
 -- whether there is a key
 named_by : (key : Option Key) → is_some key ≡ is_some (option_map keyed_of key)
@@ -76,14 +82,32 @@ module _ {E : Type 0} (K : SinkGhosts E) (IsLine : List ℕ → Type 0) (old mid
         written = subst (TellsBytes K old new) (sym (concat_both (line ∷ lines) (later.first ∷ later.more))) written;
       }
 
--- what is told of pieces may be told
-piece_tells : {E : Type 0} (K : SinkGhosts E) (call : Call) (fails : Type 0) (load : Loaded) (old new : Errors E) → TellsOfPieces K (has Strict call.given) (redactor_by_given call.given load) old new → Tells K (IsLineOf call fails) old new
-piece_tells K call fails load old new (None, judged, same) = tells_same K (IsLineOf call fails) old new same
-piece_tells K call fails load old new (Some unclean, judged, (lax, told)) = record {
-  told = unclean_line unclean ∷ [];
-  are_lines = All-cons (IsLineOf call fails) (unclean_line unclean) [] (inr (inr (inr (lax, judged.0, (unclean, refl))))) (All-nil (IsLineOf call fails));
-  written = subst (TellsBytes K old new) (sym (append-nil (unclean_line unclean))) told;
-}
+-- what holds of each member holds of all
+all_members : (Is : List ℕ → Type 0) (lines : List (List ℕ)) → ((line : List ℕ) → IsMember lines line → Is line) → All Is lines
+all_members Is [] each = All-nil Is
+all_members Is (line ∷ lines) each = All-cons Is line lines (each line (inl refl)) (all_members Is lines (λ other is. each other (inr is)))
+
+module _ {E : Type 0} (K : SinkGhosts E) (call : Call) (fails : Type 0) (load : Loaded) (left between : Option (List ℕ)) (loaded : AreLoaded (reading_by call) call.given load left between) where
+  -- what is told of patterns of lists may be told
+  doubts_tell : (strict : Bool) → has Strict call.given ≡ strict → (old new : Errors E) → TellsDoubts K strict load.secrets old new → Tells K (IsLineOf call fails) old new
+  doubts_tell true is old new doubts = tells_same K (IsLineOf call fails) old new doubts.1
+  doubts_tell false is old new doubts = record {
+    told = all_doubt_lines load.secrets;
+    are_lines = all_members (IsLineOf call fails) (all_doubt_lines load.secrets) (λ line member. inr (inr (inr (is, load, left, between, loaded, inl member))));
+    written = doubts;
+  }
+
+  -- and so may what is told of pieces
+  piece_tells : (old new : Errors E) → TellsOfPieces K (has Strict call.given) (redactor_by_given call.given load) old new → Tells K (IsLineOf call fails) old new
+  piece_tells old new (None, judged, same) = tells_same K (IsLineOf call fails) old new same
+  piece_tells old new (Some unclean, judged, (lax, told)) = record {
+    told = unclean_line unclean ∷ [];
+    are_lines = All-cons (IsLineOf call fails) (unclean_line unclean) [] (inr (inr (inr (lax, load, left, between, loaded, inr (unclean, judged.0, judged.1, refl))))) (All-nil (IsLineOf call fails));
+    written = subst (TellsBytes K old new) (sym (append-nil (unclean_line unclean))) told;
+  }
+
+  warnings_tell : (old new : Errors E) → TellsWarnings K (has Strict call.given) load.secrets (redactor_by_given call.given load) old new → Tells K (IsLineOf call fails) old new
+  warnings_tell old new (mid, doubts, pieces) = tells_both K (IsLineOf call fails) old mid new (doubts_tell (has Strict call.given) refl old mid doubts) (piece_tells mid new pieces)
 
 -- and so may what is told behind it
 told_behind : {E : Type 0} (K : SinkGhosts E) (call : Call) (old mid new : Errors E) (fails : Type 0) (result : Result Bool Failure) → Tells K (IsLineOf call fails) old mid → OnErr result (Tells K (IsLineOf call fails) mid new) → OnErr result (Tells K (IsLineOf call fails) old new)
@@ -91,29 +115,31 @@ told_behind K call old mid new fails (Ok all) first told = tt
 told_behind K call old mid new fails (Err failure) first told = tells_both K (IsLineOf call fails) old mid new first told
 
 -- no file was read
-module _ {R : Type 0} {Reads : Readers R} {W E : Type 0} (Writes : Writers W) (K : SinkGhosts E) (strict : Bool) (work : Work) where
-  pub warned_refused : (streams : Streams R W E Reads) (failure : Failure) → IsRunFailure (OutputFails streams.output streams.output) failure → WarnedOutcome Writes K strict work (Err failure) streams streams
-  warned_refused streams failure fails = inl (failure, refl, refl, inr (inr fails))
+module _ {R : Type 0} {Reads : Readers R} {W E : Type 0} (Writes : Writers W) (K : SinkGhosts E) (strict : Bool) (secrets : List Secret) (work : Work) where
+  pub warned_refused : (streams : Streams R W E Reads) (failure : Failure) → IsRunFailure (OutputFails streams.output streams.output) failure → WarnedOutcome Writes K strict secrets work (Err failure) streams streams
+  warned_refused streams failure fails = inl (failure, refl, refl, inr (inr (inl fails)))
 
   -- memory may always run out
-  pub warned_memory : (streams : Streams R W E Reads) → WarnedOutcome Writes K strict work (Err (Other OutOfMemory)) streams streams
+  pub warned_memory : (streams : Streams R W E Reads) → WarnedOutcome Writes K strict secrets work (Err (Other OutOfMemory)) streams streams
   warned_memory streams = warned_refused streams (Other OutOfMemory) (inl refl)
 
   -- the library refuses the patterns
-  pub warned_built : (streams : Streams R W E Reads) (failure : Failure) → IsBuildRefusal work.redactor.patterns failure → WarnedOutcome Writes K strict work (Err failure) streams streams
+  pub warned_built : (streams : Streams R W E Reads) (failure : Failure) → IsBuildRefusal work.redactor.patterns failure → WarnedOutcome Writes K strict secrets work (Err failure) streams streams
   warned_built streams failure refused = inl (failure, refl, refl, inr (inl refused))
 
-  -- a piece is refused
+  -- a pattern or a piece is refused
   pub warned_strict : (streams : Streams R W E Reads) (errors : Errors E) (answer : Option Unclean) (failure : Failure) → IsJudged work.redactor answer
-      → (piece : Unclean) × (answer ≡ Some piece) × (failure ≡ UncleanPiece piece) × (strict ≡ true) → errors ≡ streams.errors → WarnedOutcome Writes K strict work (Err failure) streams (record streams { errors = errors })
-  warned_strict streams errors answer failure judged (piece, is, fails, asked) same =
+      → IsWarnFailure strict secrets answer failure → errors ≡ streams.errors → WarnedOutcome Writes K strict secrets work (Err failure) streams (record streams { errors = errors })
+  warned_strict streams errors answer failure judged (inl doubted) same =
+      inl (failure, refl, ap (λ (e : Errors E). record streams { errors = e }) same, inr (inr (inr doubted)))
+  warned_strict streams errors answer failure judged (inr (piece, is, fails, asked)) same =
       let here : IsJudged work.redactor (Some piece) = subst (λ (a : Option Unclean). IsJudged work.redactor a) is judged in
       inl (failure, refl, ap (λ (e : Errors E). record streams { errors = e }) same, inl (piece, fails, asked, here.0, here.1))
 
   -- files are redacted behind what is told of pieces
-  pub warned_run : (old new : Streams R W E Reads) (errors : Errors E) (answer : Option Unclean) (result : Result Bool Failure) → IsJudged work.redactor answer → TellsUnclean K strict answer old.errors errors
-      → RunOutcome Writes K work result (record old { errors = errors }) new → WarnedOutcome Writes K strict work result old new
-  warned_run old new errors answer result judged told run = inr (errors, (answer, judged, told), run)
+  pub warned_run : (old new : Streams R W E Reads) (errors : Errors E) (answer : Option Unclean) (result : Result Bool Failure) → IsJudged work.redactor answer → WarnsOfBoth K strict secrets answer old.errors errors
+      → RunOutcome Writes K work result (record old { errors = errors }) new → WarnedOutcome Writes K strict secrets work result old new
+  warned_run old new errors answer result judged (between, doubts, told) run = inr (errors, (between, doubts, (answer, judged, told)), run)
 
 module _ {R : Type 0} {Reads : Readers R} {W E : Type 0} (Writes : Writers W) (K : SinkGhosts E) (call : Call) (left : Option (List ℕ)) where
   refused_other : (old new : Streams R W E Reads) (result : Result Bool Failure) → IfErr result (λ failure. (unclean : Unclean) → failure ≡ UncleanPiece unclean → ⊥)
@@ -123,17 +149,17 @@ module _ {R : Type 0} {Reads : Readers R} {W E : Type 0} (Writes : Writers W) (K
 
   module _ (load : Loaded) (old mid : Streams R W E Reads) (loaded : AreLoaded (reading_by call) call.given load left (bytes_left old.input)) where
     -- what comes of the files comes behind what is told of the pieces
-    call_warned : (new : Streams R W E Reads) (errors : Errors E) (result : Result Bool Failure) → TellsOfPieces K (has Strict call.given) (redactor_by_given call.given load) old.errors errors
+    call_warned : (new : Streams R W E Reads) (errors : Errors E) (result : Result Bool Failure) → TellsWarnings K (has Strict call.given) load.secrets (redactor_by_given call.given load) old.errors errors
         → RestOutcome Writes K call load result (record old { errors = errors }) new → CallOutcome Writes K call left result old new
     call_warned new errors result told rest =
-        let first = λ (fails : Type 0). piece_tells K call fails load old.errors errors told in
+        let first = λ (fails : Type 0). warnings_tell K call fails load left (bytes_left old.input) loaded old.errors errors told in
         record {
           redacts = λ is. record { load = load; between = bytes_left old.input; loaded = loaded; redacted = rest.redacts is };
           strict = λ asked is. record {
             load = load;
             between = bytes_left old.input;
             loaded = loaded;
-            free = free_of (work_by call load) asked.covers (clean_of K (has Strict call.given) (redactor_by_given call.given load) old.errors errors asked.strict told asked.covers) (names_asked call.given) _ _ _ _ (rest.redacts is);
+            free = free_of (work_by call load) asked.covers (clean_of K (has Strict call.given) load.secrets (redactor_by_given call.given load) old.errors errors asked.strict told asked.covers) (names_asked call.given) _ _ _ _ (rest.redacts is);
           };
           refused = refused_other old new result rest.other;
           begins = elim rest.begins [
@@ -144,7 +170,7 @@ module _ {R : Type 0} {Reads : Readers R} {W E : Type 0} (Writes : Writers W) (K
             load = load;
             between = bytes_left old.input;
             loaded = loaded;
-            told = subst (λ (e : Errors E). TellsOfPieces K (has Strict call.given) (redactor_by_given call.given load) old.errors e) (sym (rest.quiet none is)) told;
+            told = subst (λ (e : Errors E). TellsWarnings K (has Strict call.given) load.secrets (redactor_by_given call.given load) old.errors e) (sym (rest.quiet none is)) told;
           };
           counts = λ some is. let (ranges, found, volume, read, counted) = rest.counts some is in record {
             load = load;
@@ -165,7 +191,7 @@ module _ {R : Type 0} {Reads : Readers R} {W E : Type 0} (Writes : Writers W) (K
         }
 
     -- the files' redaction fails, or is refused
-    pub call_cut : (failure : Failure) → WarnedOutcome Writes K (has Strict call.given) (work_by call load) (Err failure) old mid → CallOutcome Writes K call left (Err failure) old mid
+    pub call_cut : (failure : Failure) → WarnedOutcome Writes K (has Strict call.given) load.secrets (work_by call load) (Err failure) old mid → CallOutcome Writes K call left (Err failure) old mid
     call_cut failure (inl (why, is, same, of)) =
         let alike : why ≡ failure = cc in
         subst (λ (s : Streams R W E Reads). CallOutcome Writes K call left (Err failure) old s) (sym same)
@@ -173,14 +199,15 @@ module _ {R : Type 0} {Reads : Readers R} {W E : Type 0} (Writes : Writers W) (K
         (call_refused Writes K call left old.input old why (elim of [
           | inl strict ↦ inr (inr (inr (inl (load, left, bytes_left old.input, loaded, strict))))
           | inr (inl refused) ↦ inr (inr (inr (inr (inl (load.secrets, left, loaded.between, loaded.secrets, refused)))))
-          | inr (inr run) ↦ may_fail call _ why run
+          | inr (inr (inl run)) ↦ may_fail call _ why run
+          | inr (inr (inr doubted)) ↦ inr (inr (inr (inr (inr (inr (load, left, bytes_left old.input, loaded, doubted))))))
         ])))
     call_cut failure (inr (errors, told, run)) =
         call_warned mid errors (Err failure) told (rest_cut Writes K call load (record old { errors = errors }) mid failure run)
 
   -- all was done but the counts
   pub call_told : (rules : List Rule) (key : Option (List ℕ)) (numbers : List ℕ) (volume : Volume) (old mid : Streams R W E Reads) → AreLoaded (reading_by call) call.given (loaded_as rules key) left (bytes_left old.input)
-      → (all counted : Bool) (result : Result Bool Failure) (errors : Errors E) → counted ≡ counts_asked call.given → WarnedOutcome Writes K (has Strict call.given) (work_by call (loaded_as rules key)) (Ok all) old mid
+      → (all counted : Bool) (result : Result Bool Failure) (errors : Errors E) → counted ≡ counts_asked call.given → WarnedOutcome Writes K (has Strict call.given) (secrets_of rules) (work_by call (loaded_as rules key)) (Ok all) old mid
       → (all ≡ true → CountsOfNames (bytes_left old.input) (bytes_left mid.input) (zeros counted rules) numbers (work_by call (loaded_as rules key)) (names_asked call.given)
       × ReadsVolume call.holds (names_asked call.given) no_volume volume (bytes_left old.input) (bytes_left mid.input))
       → IfOk result (λ done. done ≡ all) → OnOk result (MatchBool counted (TellsCounts K call.given rules numbers volume mid.errors errors) (errors ≡ mid.errors))

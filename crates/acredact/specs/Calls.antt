@@ -3,6 +3,7 @@ use Rattle.std.specs.Prelude.{◌≡◌, ◌⊎◌, ℕ, ◌||◌, Bool, MatchBo
 use Rattle.std.specs.Borrow.{Bor}
 use Rattle.std.specs.declared.io.traits.Read.{Ghosts as Readers}
 use Rattle.std.specs.declared.io.traits.Write.{Ghosts as Writers}
+use Rattle.aho_core.specs.Listing.{IsMember}
 use Rattle.aho_core.specs.Occurrence.{Occurrence}
 use Rattle.aho_core.specs.Patterns.{Patterns}
 use Rattle.aho_core.specs.declared.error.BuildError.{BuildError}
@@ -19,12 +20,13 @@ use Rattle.programs.specs.declared.reason.Reason.{Reason}
 use Rattle.acredact.specs.Arguments.{Given, GivesNoPattern, RefusesUnclean, counts_asked, covers_asked, has, is_same, last_value}
 use Rattle.acredact.specs.Builds.{RefusesPatterns, patterns_by_given}
 use Rattle.acredact.specs.Counts.{lines_of_rules}
+use Rattle.acredact.specs.Doubts.{IsDoubtFailure, TellsWarnings, all_doubt_lines}
 use Rattle.acredact.specs.Failures.{IsFailureLine}
 use Rattle.acredact.specs.Files.{AreCut, AreDone, AreFree, AreRedacted, Does, Work, are_none, redactor_of, unread_line, work_of}
 use Rattle.acredact.specs.Loading.{AreGiven, AreLoaded, CannotLoadKey, CannotLoadOne, Loaded, Reading, Rules, key_lent, loaded_as}
 use Rattle.acredact.specs.Messages.{output_line, unclean_line}
 use Rattle.acredact.specs.Mistakes.{IsMistakeOfCall}
-use Rattle.acredact.specs.Pieces.{IsUncleanBy, TellsOfPieces}
+use Rattle.acredact.specs.Pieces.{IsUncleanBy}
 use Rattle.acredact.specs.Secrets.{Keyed, Redactor, key_of_cover}
 use Rattle.acredact.specs.Tables.{Secret, patterns_in, piece_by, secrets_of}
 use Rattle.acredact.specs.Summaries.{no_volume, totals_text}
@@ -57,7 +59,7 @@ abbrev pub gives_pattern : List Given → Bool
 gives_pattern given = has PatternOption given || has PatternFile given || has Table given
 
 abbrev pub rules_asked : List Given → Rules
-rules_asked given = record { crlf = has Crlf given; allow_empty = has AllowEmpty given }
+rules_asked given = record { crlf = has Crlf given; allow_empty = has AllowEmpty given; parts = covers_asked given }
 
 abbrev pub reading_by : Call → Reading
 reading_by call = record { holds = call.holds; refuses = call.refuses; rules = rules_asked call.given }
@@ -136,6 +138,11 @@ IsUncleanFailure call failure = (load : Loaded) × (left : Option (List ℕ)) ×
     × AreLoaded (reading_by call) call.given load left between
     × IsStrictFailure (has Strict call.given) (redactor_by_given call.given load) failure
 
+-- a pattern of a list that may be meant otherwise is refused
+abbrev pub IsDoubtedCall : Call → Failure → Type 0
+IsDoubtedCall call failure = (load : Loaded) × (left : Option (List ℕ)) × (between : Option (List ℕ))
+    × AreLoaded (reading_by call) call.given load left between × IsDoubtFailure (has Strict call.given) load.secrets failure
+
 -- those that were loaded are refused
 abbrev pub IsRefusedCall : Call → Failure → Type 0
 IsRefusedCall call failure = (secrets : List Secret) × (left : Option (List ℕ)) × (between : Option (List ℕ))
@@ -143,7 +150,7 @@ IsRefusedCall call failure = (secrets : List Secret) × (left : Option (List ℕ
     × IsBuildRefusal (patterns_by_given call.given (patterns_in secrets)) failure
 
 -- why a call ends early: there is no pattern, one of the options or the key cannot be loaded, the counts cannot be written, a piece is not clean,
--- the patterns are refused, or the files are not redacted
+-- the patterns are refused, the files are not redacted, or a pattern of a list is refused
 abbrev pub MayFail : Call → (fails : Type 0) → Failure → Type 0
 MayFail call fails failure =
     ((failure ≡ Arguments NoRoom) ⊎ ((failure ≡ Arguments NoPattern) × GivesNoPattern call.given))
@@ -151,7 +158,8 @@ MayFail call fails failure =
     ⊎ (((failure ≡ Counts) × (counts_asked call.given ≡ true))
     ⊎ (IsUncleanFailure call failure
     ⊎ (IsRefusedCall call failure
-    ⊎ IsRunFailure fails failure))))
+    ⊎ (IsRunFailure fails failure
+    ⊎ IsDoubtedCall call failure)))))
 
 -- the line that tells why a file was not read to its end, or that the output goes to it
 abbrev pub IsUnreadLine : List (List ℕ) → List ℕ → Type 0
@@ -169,10 +177,16 @@ IsCountsLine given line = (counts_asked given ≡ true) × IsCountsText given li
 abbrev pub IsCountsFailure : Bool → Failure → Type 0
 IsCountsFailure counted failure = (counted ≡ true) × ((failure ≡ Counts) ⊎ (failure ≡ Other OutOfMemory))
 
--- the line of a piece that is not clean, of a cover where such a piece is not refused
+-- a line that warns of a redaction by some patterns: of one of a list that may be meant otherwise, or of a piece that is not clean
+abbrev pub Warns : List Secret → Redactor → List ℕ → Type 0
+Warns secrets r line =
+    IsMember (all_doubt_lines secrets) line
+    ⊎ ((unclean : Unclean) × (r.covers ≡ true) × IsUncleanBy (is_some r.key) r.patterns r.pieces unclean × (line ≡ unclean_line unclean))
+
+-- one of the patterns that were loaded, where such a one is not refused
 abbrev pub IsWarningLine : Call → List ℕ → Type 0
-IsWarningLine call line =
-    (has Strict call.given ≡ false) × (covers_asked call.given ≡ true) × ((unclean : Unclean) × (line ≡ unclean_line unclean))
+IsWarningLine call line = (has Strict call.given ≡ false) × (load : Loaded) × (left : Option (List ℕ)) × (between : Option (List ℕ))
+    × AreLoaded (reading_by call) call.given load left between × Warns load.secrets (redactor_by_given call.given load) line
 
 -- what may be told of a call: a piece that is not clean, a file that is not read to its end, why it ends early, and the counts where
 -- they are asked for
@@ -217,7 +231,7 @@ pub record WarnsCall {E : Type 0} (K : SinkGhosts E) (call : Call) (left : Optio
   pub load : Loaded
   pub between : Option (List ℕ)
   pub loaded : AreLoaded (reading_by call) call.given load left between
-  pub told : TellsOfPieces K (has Strict call.given) (redactor_by_given call.given load) errors errors'
+  pub told : TellsWarnings K (has Strict call.given) load.secrets (redactor_by_given call.given load) errors errors'
 
 module _ {R : Type 0} {Reads : Readers R} {W : Type 0} (Writes : Writers W) where
   module _ {E : Type 0} (call : Call) (left : Option (List ℕ)) (streams streams' : Streams R W E Reads) where
@@ -262,7 +276,7 @@ module _ {R : Type 0} {Reads : Readers R} {W : Type 0} (Writes : Writers W) wher
       pub ranges : List Occurrence
       pub found : NamesHaveRanges (work_by call load) (names_asked call.given) ranges between (bytes_left streams'.input)
       pub meanwhile : Errors E
-      pub warned : TellsOfPieces K (has Strict call.given) (redactor_by_given call.given load) streams.errors meanwhile
+      pub warned : TellsWarnings K (has Strict call.given) load.secrets (redactor_by_given call.given load) streams.errors meanwhile
       pub volume : Volume
       pub read : ReadsVolume call.holds (names_asked call.given) no_volume volume between (bytes_left streams'.input)
       pub counted : TellsTotals K call.given load.secrets ranges volume meanwhile streams'.errors
@@ -313,17 +327,18 @@ module _ {R : Type 0} {Reads : Readers R} {W : Type 0} (Writes : Writers W) wher
       pub quiet : result ≡ Ok true → streams'.errors ≡ streams.errors
       pub fails : IfErr result (IsRunFailure (OutputFails streams.output streams'.output))
 
-    -- they are not, since a piece is refused, memory runs out, or the library refuses the patterns; or what is told of the pieces comes first
-    abbrev pub WarnedOutcome : (strict : Bool) → Work → Result Bool Failure → (streams streams' : Streams R W E Reads) → Type 0
-    WarnedOutcome strict work result streams streams' =
+    -- they are not, since a pattern or a piece is refused, memory runs out, or the library refuses the patterns; or warnings come first
+    abbrev pub WarnedOutcome : (strict : Bool) → List Secret → Work → Result Bool Failure → (streams streams' : Streams R W E Reads) → Type 0
+    WarnedOutcome strict secrets work result streams streams' =
         ((failure : Failure) × (result ≡ Err failure) × (streams' ≡ streams)
         × (IsStrictFailure strict work.redactor failure
-        ⊎ (IsBuildRefusal work.redactor.patterns failure ⊎ IsRunFailure (OutputFails streams.output streams.output) failure)))
-        ⊎ ((errors : Errors E) × TellsOfPieces K strict work.redactor streams.errors errors × RunOutcome work result (record streams { errors = errors }) streams')
+        ⊎ (IsBuildRefusal work.redactor.patterns failure
+        ⊎ (IsRunFailure (OutputFails streams.output streams.output) failure ⊎ IsDoubtFailure strict secrets failure))))
+        ⊎ ((errors : Errors E) × TellsWarnings K strict secrets work.redactor streams.errors errors × RunOutcome work result (record streams { errors = errors }) streams')
 
     -- the same of a job, where files are redacted by these patterns
-    abbrev pub WarnedJob : {F X : Type 0} → Folders F X → (strict : Bool) → Job F → Patterns → Result Bool Failure → (streams streams' : Streams R W E Reads) → Type 0
-    WarnedJob D strict job p result streams streams' = WarnedOutcome strict (work_of D job (redactor_of job p)) result streams streams'
+    abbrev pub WarnedJob : {F X : Type 0} → Folders F X → (strict : Bool) → List Secret → Job F → Patterns → Result Bool Failure → (streams streams' : Streams R W E Reads) → Type 0
+    WarnedJob D strict secrets job p result streams streams' = WarnedOutcome strict secrets (work_of D job (redactor_of job p)) result streams streams'
 
     -- the same of a call whose patterns were loaded as these rules, and whose key is this, with the bytes that the input has left since
     abbrev pub LoadOutcome : {F X : Type 0} → Folders F X → F → List Given → List Rule → Option (Bor (List ℕ)) → Result Bool Failure → (streams streams' : Streams R W E Reads) → Type 0

@@ -380,7 +380,7 @@ fn read_value<'a>(
 ) -> Result<Expects, Mistake<'a>>
     ensures read { ReadsAs (by_value word value.now) items.old items.new result }
     ensures refused { FailsAs (by_value word value.now) items.old result }
-    ensures wrong { TellsAs (kind_line value.now) result }
+    ensures wrong { TellsAs kind_line result }
 {
     if !is_value_of(word, value) {
         return Err(Mistake::UnknownKind);

@@ -1,8 +1,9 @@
 //! Lines of lists that may be meant otherwise than they stand there: with a blank at an end, or with quotes around them.
 
-ghost use Rattle.std.specs.Prelude.{◌≡◌, IfErr, OnErr, OnOk};
+ghost use Rattle.std.specs.Prelude.{◌≡◌, IfErr, OnErr, OnOk, true};
+ghost use Rattle.std.specs.List.{concat};
 ghost use Rattle.programs.specs.Telling.{TellsBytes};
-ghost use Rattle.acredact.specs.Doubts.{IsDoubtFailure, TellsDoubts, doubt_in, doubt_of, doubts_text, is_blank, is_quote};
+ghost use Rattle.acredact.specs.Doubts.{AreUndoubted, IsDoubtFailure, TellsDoubts, all_doubt_lines, doubt_in, doubt_lines, doubt_of, is_blank, is_quote};
 ghost use Rattle.acredact.specs.Tables.{secret_of, secrets_of};
 
 use crate::failure::{Failure, tell_line};
@@ -28,7 +29,10 @@ pub fn warn_of_lists<'a, E: Sink>(
 }
 
 /// Refuses the first pattern of a list that is doubtful.
-fn refuse_doubtful<'a>(rules: &[Rule<'a>]) -> Result<(), Failure<'a>> {
+fn refuse_doubtful<'a>(rules: &[Rule<'a>]) -> Result<(), Failure<'a>>
+    ensures none { OnOk result (AreUndoubted (secrets_of rules.now)) }
+    ensures refused { IfErr result (IsDoubtFailure true (secrets_of rules.now)) }
+{
     let mut rest = rules;
     while !rest.is_empty() {
         if let Some(fault) = doubt_of(&rest[0]) {
@@ -42,7 +46,7 @@ fn refuse_doubtful<'a>(rules: &[Rule<'a>]) -> Result<(), Failure<'a>> {
 
 /// Tells of each pattern of a list that is doubtful.
 fn tell_doubtful<E: Sink>(errors: &mut Errors<'_, E>, rules: &[Rule<'_>])
-    ensures told { TellsBytes E.Sink errors.old errors.new (doubts_text (secrets_of rules.now)) }
+    ensures told { TellsBytes E.Sink errors.old errors.new (concat (all_doubt_lines (secrets_of rules.now))) }
 {
     let mut rest = rules;
     while !rest.is_empty() {
@@ -52,7 +56,9 @@ fn tell_doubtful<E: Sink>(errors: &mut Errors<'_, E>, rules: &[Rule<'_>])
 }
 
 /// Tells of a pattern, if it is one of a list and doubtful.
-fn tell_doubt<E: Sink>(errors: &mut Errors<'_, E>, rule: &Rule<'_>) {
+fn tell_doubt<E: Sink>(errors: &mut Errors<'_, E>, rule: &Rule<'_>)
+    ensures told { TellsBytes E.Sink errors.old errors.new (concat (doubt_lines (secret_of rule.now))) }
+{
     match doubt_of(rule) {
         Some(fault) => {
             let number = rule.line;

@@ -24,7 +24,7 @@ use crate::outputs::Outputs;
 use crate::patterns::{Rule, patterns_of, replacements_of};
 use crate::rows::build;
 use crate::run::{
-    FAILED, gives_pattern, key_by, names, redact_by, report, tell_counted, text_of, warn,
+    FAILED, gives_pattern, key_by, names, redact_by, report, tell_counted, text_of, warn_of,
 };
 use crate::streams::Streams;
 use crate::summary::Volume;
@@ -135,7 +135,7 @@ fn load_places<'a, F: Folder, O: Outputs, I: Read, E: Sink>(
 fn load_key<'a, F: Folder, O: Outputs, I: Read, E: Sink>(
     alloc: Global,
     given: &[Item<'a>],
-    rules: &[Rule],
+    rules: &[Rule<'a>],
     folder: &F,
     outputs: &mut O,
     streams: &mut Streams<'_, I, O::File, E>,
@@ -159,7 +159,7 @@ fn load_key<'a, F: Folder, O: Outputs, I: Read, E: Sink>(
 fn place_counted<'a, F: Folder, O: Outputs, I: Read, E: Sink>(
     alloc: Global,
     given: &[Item<'_>],
-    rules: &[Rule],
+    rules: &[Rule<'a>],
     key: Option<&[u8]>,
     folder: &F,
     outputs: &mut O,
@@ -194,7 +194,7 @@ fn place_counted<'a, F: Folder, O: Outputs, I: Read, E: Sink>(
 fn place_all<'a, F: Folder, O: Outputs, I: Read, E: Sink>(
     alloc: Global,
     given: &[Item<'_>],
-    rules: &[Rule],
+    rules: &[Rule<'a>],
     key: Option<&[u8]>,
     folder: &F,
     counts: &mut [u64],
@@ -236,6 +236,7 @@ fn place_all<'a, F: Folder, O: Outputs, I: Read, E: Sink>(
         back.as_ref(),
         &job,
         &judge,
+        rules,
         strict,
         counts,
         volume,
@@ -259,7 +260,8 @@ fn place_warned<
     rows: Option<&B>,
     back: Option<&Backward<C>>,
     job: &Job<'_, '_, F>,
-    judge: &Judge<'_, '_>,
+    judge: &Judge<'_, '_, '_>,
+    rules: &[Rule<'a>],
     strict: bool,
     counts: &mut [u64],
     volume: &mut Volume,
@@ -276,7 +278,7 @@ fn place_warned<
 {
     let unclean = unclean_of(automaton, judge, job.covers, job.key.is_some());
     // Not by `?`: this error may hold names.
-    match warn(&mut streams.errors, unclean, strict) {
+    match warn_of(&mut streams.errors, rules, unclean, strict) {
         Ok(()) => Ok(place_each(automaton, rows, back, job, counts, volume, outputs, streams)?),
         Err(failure) => Err(failure),
     }

@@ -1,13 +1,15 @@
 //! The rules of all patterns, files and tables that are given.
 
-ghost use Rattle.std.specs.Prelude.{◌≡◌, ℕ, List, Option, IfErr, IfOk, OnOk, false};
+ghost use Rattle.std.specs.Prelude.{◌≡◌, ℕ, List, Option, IfErr, IfOk, OnOk};
 ghost use Rattle.aho_devices.specs.Counts.{counted};
 ghost use Rattle.programs.specs.Streams.{bytes_left};
 ghost use Rattle.acredact.specs.Arguments.{all_given, given_of};
 ghost use Rattle.acredact.specs.Calls.{rules_asked};
 ghost use Rattle.acredact.specs.Loading.{AddsFile, AddsItem, AddsList, CannotLoad, CannotLoadKey, CannotLoadOne, CannotRead, GivesRules, IsFileFailure, IsKeyFailure, IsPatternFailure, IsTextFailure, IsTextReason, LoadsKey, ReadsKey, ReadsList, is_failed_text, reading_of_lists, rules_for};
+ghost use Rattle.acredact.specs.Parts.{AddsSome, ArePartsBy, GivesPattern};
 ghost use Rattle.acredact.specs.Reads.{ReadsText};
-ghost use Rattle.acredact.specs.Tables.{AddsLine};
+ghost use Rattle.acredact.specs.declared.failure.Failure.TheVariants.{Pattern};
+ghost use Rattle.acredact.specs.declared.patterns.LineFault.TheVariants.{OutOfMemory};
 
 use crate::arguments::{Item, Word, covers, has, last_value};
 use crate::failure::Failure;
@@ -155,7 +157,7 @@ fn add_pattern<'a, F>(
     rules: &mut Vec<Rule<'a>>,
     pattern: &'a str,
 ) -> Result<(), Failure<'a>>
-    ensures added { OnOk result (AddsPattern lists.now pattern.now rules.old rules.new) }
+    ensures added { OnOk result (AddsSome (GivesPattern lists.now.parts pattern.now) rules.old rules.new) }
     ensures fails { IfErr result (IsPatternFailure pattern.now) }
 {
     let bytes = pattern.as_bytes();
@@ -171,8 +173,8 @@ fn add_parts_of<'a, F>(
     rules: &mut Vec<Rule<'a>>,
     pattern: &[u8],
 ) -> Result<(), Failure<'a>>
-    ensures added { OnOk result (AddsSecrets rules.old rules.new (parts_by (rules_for lists.now) pattern.now)) }
-    ensures fails { IfErr result (IsMemoryFault) }
+    ensures added { OnOk result (AddsSome (ArePartsBy lists.now.parts pattern.now) rules.old rules.new) }
+    ensures fails { IfErr result (λ failure. failure ≡ Pattern OutOfMemory) }
 {
     if !lists.parts {
         return Ok(());
@@ -209,7 +211,7 @@ fn add_text<'a, F>(
     table: bool,
     text: &[u8],
 ) -> Result<(), Failure<'a>>
-    ensures added { OnOk result (AddsList lists.now table text.now rules.old rules.new) }
+    ensures added { OnOk result (AddsList lists.now table name.now text.now rules.old rules.new) }
     ensures fails { IfErr result (IsTextFailure (rules_for lists.now) table name.now text.now) }
 {
     if text.is_empty() && !lists.allow_empty {

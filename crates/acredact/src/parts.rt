@@ -1,8 +1,8 @@
 //! The lines of a pattern that is given as an argument and has line ends. In a log whose lines begin with a time the whole pattern
 //! stands nowhere, but its lines do.
 
-ghost use Rattle.std.specs.Prelude.{◌≡◌, ◌++◌, OnOk};
-ghost use Rattle.acredact.specs.Parts.{AddsSecrets, line_secrets, part_secrets, secrets_of_lines};
+ghost use Rattle.std.specs.Prelude.{◌≡◌, OnOk};
+ghost use Rattle.acredact.specs.Parts.{AddsSome, ArePartsOf, line_secrets};
 
 use crate::patterns::{Rule, copy_of, split_at, without_last};
 use std::alloc::{AllocError, Global};
@@ -16,7 +16,7 @@ pub fn add_parts<'a>(
     rules: &mut Vec<Rule<'a>>,
     pattern: &[u8],
 ) -> Result<(), AllocError>
-    ensures added { OnOk result (AddsSecrets rules.old rules.new (part_secrets pattern.now)) }
+    ensures added { OnOk result (AddsSome (ArePartsOf pattern.now) rules.old rules.new) }
 {
     if split_at(pattern, b'\n').is_none() {
         return Ok(());
@@ -35,7 +35,7 @@ fn add_part<'a>(
     rules: &mut Vec<Rule<'a>>,
     line: &[u8],
 ) -> Result<(), AllocError>
-    ensures added { OnOk result (AddsSecrets rules.old rules.new (line_secrets line.now)) }
+    ensures added { OnOk result (AddsSome (λ more. more ≡ line_secrets line.now) rules.old rules.new) }
 {
     let line = without_last(line, b'\r');
     if line.len() < LEAST_PART {

@@ -1,10 +1,10 @@
 //! Patterns with their replacements: of a file of patterns, and of a table.
 
-ghost use Rattle.std.specs.Prelude.{◌≡◌, [], ◌<◌, ◌≤◌, ◌∷◌, ◌++◌, IfErr, IfNone, IfOk, IfSome, OnOk, OnErr, false, length, map, slice_index, true};
+ghost use Rattle.std.specs.Prelude.{◌≡◌, ◌<◌, ◌≤◌, ◌∷◌, ◌++◌, IfErr, IfNone, IfOk, IfSome, OnOk, false, length, map, slice_index, true};
 ghost use Rattle.std.specs.Io.BufRead.{ends_with_byte, strip_last};
 ghost use Rattle.aho_core.specs.Replacement.{pieces_of};
-ghost use Rattle.acredact.specs.LineFaults.{IsBadStart, IsLineFault, IsLineFaultBy, IsListFault, IsTextFault};
-ghost use Rattle.acredact.specs.Tables.{AddsLine, AddsLines, AddsListed, Holds, IsWithout, escape_of, in_table, stripped_by, lines_in, patterns_in, piece_by, secret_of, secrets_of};
+ghost use Rattle.acredact.specs.LineFaults.{IsBadStart, IsLineFault, IsLineFaultBy, IsListFault, IsTextFault, mark_in};
+ghost use Rattle.acredact.specs.Tables.{AddsLine, AddsLines, AddsListed, Holds, IsWithout, StandsAt, escape_of, in_table, stripped_by, lines_in, patterns_in, piece_by, secret_of, secrets_of};
 
 use std::alloc::{AllocError, AllocFailed, Global};
 use std::slice;
@@ -101,7 +101,7 @@ pub fn without_last(text: &[u8], byte: u8) -> &[u8]
 fn plain<'a>(alloc: Global, line: &[u8], place: Place<'a>) -> Result<Rule<'a>, LineFault>
     ensures rule { IfOk result (λ rule. Holds false line.now (secret_of rule)) }
     ensures fault { IfErr result (IsLineFault false line.now) }
-    ensures line { IfOk result (λ rule. rule.line ≡ number) }
+    ensures stands { IfOk result (λ rule. StandsAt place.list.now place.line (secret_of rule)) }
 {
     if line.is_empty() {
         return Err(LineFault::EmptyPattern);
@@ -118,7 +118,7 @@ fn plain<'a>(alloc: Global, line: &[u8], place: Place<'a>) -> Result<Rule<'a>, L
 fn row<'a>(alloc: Global, line: &[u8], place: Place<'a>) -> Result<Rule<'a>, LineFault>
     ensures rule { IfOk result (λ rule. Holds true line.now (secret_of rule)) }
     ensures fault { IfErr result (IsLineFault true line.now) }
-    ensures line { IfOk result (λ rule. rule.line ≡ number) }
+    ensures stands { IfOk result (λ rule. StandsAt place.list.now place.line (secret_of rule)) }
 {
     let Some((before, behind)) = split_at(line, b'\t') else {
         return Err(LineFault::NoTab);
@@ -231,14 +231,15 @@ pub struct BadLine {
 
 /// What is wrong with the beginning of a list, if something is: a byte order mark stands there, of UTF-8 or of UTF-16.
 pub fn mark_of(text: &[u8]) -> Option<LineFault>
-    ensures mark { result ≡ mark_of text.now }
+    ensures mark { result ≡ mark_in text.now }
 {
-    match text {
-        [0xEF, 0xBB, 0xBF, ..] => Some(LineFault::ByteOrderMark),
-        [0xFF, 0xFE, ..] => Some(LineFault::Utf16),
-        [0xFE, 0xFF, ..] => Some(LineFault::Utf16),
-        _ => None,
+    if text.starts_with(b"\xEF\xBB\xBF") {
+        return Some(LineFault::ByteOrderMark);
     }
+    if text.starts_with(b"\xFF\xFE") || text.starts_with(b"\xFE\xFF") {
+        return Some(LineFault::Utf16);
+    }
+    None
 }
 
 /// Adds the rules of a text, one for each line: of a table, or of a file of patterns.
@@ -253,7 +254,7 @@ pub fn add_lines<'a>(
     form: Form,
     list: &'a str,
 ) -> Result<(), BadLine>
-    ensures added { OnOk result (AddsLines form (lines_in text.now) rules.old rules.new) }
+    ensures added { OnOk result (AddsLines form list.now (lines_in text.now) rules.old rules.new) }
     ensures fault { IfErr result (IsListFault form (lines_in text.now)) }
 {
     if text.is_empty() {
@@ -277,8 +278,8 @@ fn add_numbered<'a>(
     form: Form,
     place: Place<'a>,
 ) -> Result<(), BadLine>
-    ensures added { OnOk result (AddsListed form line.now rules.old rules.new) }
-    ensures number { IfErr result (λ bad. bad.number ≡ number) }
+    ensures added { OnOk result (AddsListed form line.now place rules.old rules.new) }
+    ensures number { IfErr result (λ bad. bad.number ≡ place.line) }
     ensures fault { IfErr result (λ bad. IsLineFaultBy form line.now bad.fault) }
 {
     match add_listed(alloc, rules, line, form, place) {
@@ -298,7 +299,7 @@ fn add_listed<'a>(
     form: Form,
     place: Place<'a>,
 ) -> Result<(), LineFault>
-    ensures added { OnOk result (AddsListed form line.now rules.old rules.new) }
+    ensures added { OnOk result (AddsListed form line.now place rules.old rules.new) }
     ensures fault { IfErr result (IsLineFaultBy form line.now) }
 {
     let line = stripped_by(form, line);
@@ -336,7 +337,7 @@ pub fn add_line<'a>(
     table: bool,
     place: Place<'a>,
 ) -> Result<(), LineFault>
-    ensures added { OnOk result (AddsLine table line.now rules.old rules.new) }
+    ensures added { OnOk result (AddsLine table line.now place rules.old rules.new) }
     ensures fault { IfErr result (IsLineFault table line.now) }
 {
     let rule = if table {

@@ -15,8 +15,9 @@ ghost use Rattle.acredact.specs.Failures.{IsFailureLine};
 ghost use Rattle.acredact.specs.Files.{CanDo, keyed_of};
 ghost use Rattle.acredact.specs.Loading.{key_lent, loaded_as};
 ghost use Rattle.acredact.specs.Pieces.{IfOfAll, TellsUnclean, pieces_by};
+ghost use Rattle.acredact.specs.Doubts.{IsWarnFailure, RefusesPiece, WarnsOfBoth};
 ghost use Rattle.acredact.specs.Secrets.{IfOf};
-ghost use Rattle.acredact.specs.Statuses.{SaysOfRedaction};
+ghost use Rattle.acredact.specs.Statuses.{IsIdle, SaysOfRedaction};
 ghost use Rattle.acredact.specs.Tables.{HaveNoEmpty, secrets_of};
 ghost use Rattle.acredact.specs.Summaries.{counts_told_by, summary_told_by, totals_text};
 ghost use Rattle.acredact.specs.Totals.{CountsWork, JobCounts};
@@ -109,6 +110,8 @@ pub fn run<F: Folder, I: Read, W: Write, E: Sink>(
     ensures tells_wrong { AreMistaken arguments.now → TellsSome E.Sink
         (IsWrongLine (texts arguments.now)) streams.old.errors streams.new.errors }
     ensures patternless { IfAsked arguments.now (λ given. GivesNoPattern given → result ≡ 2) }
+    ensures idle { IfAsked arguments.now (λ given.
+        GivesNoPattern given → IsIdle streams.old streams.new) }
 
     // Where the status is 0, the files were redacted, one after another, and no secret is left.
     ensures redacts { IfAsked arguments.now (λ given. result ≡ 0
@@ -220,6 +223,8 @@ fn redact_asked<'a, F: Folder, I: Read, W: Write, E: Sink>(
 ) -> Result<bool, Failure<'a>>
     ensures patternless { AsksToRedact (all_given given.now)
         → GivesNoPattern (all_given given.now) → OnOk result ⊥ }
+    ensures idle { AsksToRedact (all_given given.now)
+        → GivesNoPattern (all_given given.now) → IsIdle streams.old streams.new }
     ensures outcome { AsksToRedact (all_given given.now) → AskedOutcome W.Write E.Sink
         F.Folder folder.now (all_given given.now) result streams.old streams.new }
     ensures flushed { OnOk result (streams.new.output.device.flushed ≡ true) }
@@ -469,7 +474,7 @@ fn redact_all<'a, F: Folder, I: Read, W: Write, E: Sink>(
     streams: &mut Streams<'_, I, W, E>,
 ) -> Result<bool, Failure<'a>>
     requires some { HaveNoEmpty (secrets_of rules.now) }
-    ensures outcome { WarnedOutcome W.Write E.Sink (has Strict (all_given given.now))
+    ensures outcome { WarnedOutcome W.Write E.Sink (has Strict (all_given given.now)) (secrets_of rules.now)
         (work_by (call_of F.Folder folder.now (all_given given.now)) (loaded_as rules.now (key_lent key.entry)))
         result streams.old streams.new }
     ensures counted { CountsWork
@@ -532,7 +537,7 @@ fn redact_warned<
     rows: Option<&B>,
     back: Option<&Backward<C>>,
     job: &Job<'_, '_, F>,
-    judge: &Judge<'_, '_>,
+    judge: &Judge<'_, '_, '_>,
     rules: &[Rule<'a>],
     strict: bool,
     counts: &mut [u64],
@@ -546,7 +551,7 @@ fn redact_warned<
     requires pieces { pieces_of job.now.replacements.now ≡ pieces_by judge.now }
     ensures outcome { IfOfAll A.Automaton B.Automaton automaton.now rows.entry judge.now
         (λ p. IfBackIs C.Automaton back.entry p
-        (WarnedJob W.Write E.Sink F.Folder strict job.now p result streams.old streams.new)) }
+        (WarnedJob W.Write E.Sink F.Folder strict (secrets_of rules.now) job.now p result streams.old streams.new)) }
     ensures counted { IfOfAll A.Automaton B.Automaton automaton.now rows.entry judge.now
         (λ p. IfBackIs C.Automaton back.entry p
         (JobCounts F.Folder job.now result streams.old streams.new counts.old counts.new p)) }
@@ -567,7 +572,11 @@ pub fn warn_of<'a, E: Sink>(
     rules: &[Rule<'a>],
     unclean: Option<Unclean>,
     strict: bool,
-) -> Result<(), Failure<'a>> {
+) -> Result<(), Failure<'a>>
+    ensures told { OnOk result (WarnsOfBoth E.Sink strict (secrets_of rules.now) unclean errors.old errors.new) }
+    ensures refused { IfErr result (IsWarnFailure strict (secrets_of rules.now) unclean) }
+    ensures untold { OnErr result (errors.new ≡ errors.old) }
+{
     // Not by `?`: this error holds names.
     match warn_of_lists(errors, rules, strict) {
         Ok(()) => warn(errors, unclean, strict),
@@ -576,14 +585,13 @@ pub fn warn_of<'a, E: Sink>(
 }
 
 /// Tells of a piece that is not clean, or refuses it.
-pub fn warn<'a, E: Sink>(
+fn warn<'a, E: Sink>(
     errors: &mut Errors<'_, E>,
     unclean: Option<Unclean>,
     strict: bool,
 ) -> Result<(), Failure<'a>>
     ensures told { OnOk result (TellsUnclean E.Sink strict unclean errors.old errors.new) }
-    ensures refused { IfErr result (λ failure. (piece : Unclean) × (unclean ≡ Some piece)
-        × (failure ≡ UncleanPiece piece) × (strict ≡ true)) }
+    ensures refused { IfErr result (RefusesPiece strict unclean) }
     ensures untold { OnErr result (errors.new ≡ errors.old) }
 {
     match unclean {

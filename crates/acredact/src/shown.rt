@@ -3,7 +3,7 @@
 ghost use Rattle.std.specs.Prelude.{◌≡◌, ◌<◌, ℕ, Option, decimal, option_map, true};
 ghost use Rattle.programs.specs.Messages.{line_before};
 ghost use Rattle.programs.specs.Telling.{TellsBytes};
-ghost use Rattle.acredact.specs.Messages.{digit_of, escaped_byte, is_control, message_about, shown, told_line};
+ghost use Rattle.acredact.specs.Messages.{digit_of, escaped_of, is_control, message_about, shown, told_line};
 
 use aho_devices::device::Sink;
 use itoa::write_digits;
@@ -67,7 +67,7 @@ pub fn write_shown<E: Sink>(errors: &mut Errors<'_, E>, name: &[u8])
 
 /// Writes a byte of a name.
 fn write_byte<E: Sink>(errors: &mut Errors<'_, E>, byte: u8)
-    ensures told { TellsBytes E.Sink errors.old errors.new (escaped_byte byte) }
+    ensures told { TellsBytes E.Sink errors.old errors.new (escaped_of byte) }
 {
     if is_control(byte) {
         let digits = [digit_of(byte / 16), digit_of(byte % 16)];
