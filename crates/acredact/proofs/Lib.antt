@@ -2,6 +2,10 @@
 mod Covered
 -- lines that are added one after another
 mod Lines
+mod Parts
+-- names in messages, and what is told of doubtful patterns
+mod Shown
+mod Doubts
 -- what is written is a redaction, or begins one
 mod Redactions
 mod MadeClean

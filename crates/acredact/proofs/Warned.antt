@@ -211,8 +211,8 @@ module _ {R : Type 0} {Reads : Readers R} {W E : Type 0} (Writes : Writers W) (K
       → (all ≡ true → CountsOfNames (bytes_left old.input) (bytes_left mid.input) (zeros counted rules) numbers (work_by call (loaded_as rules key)) (names_asked call.given)
       × ReadsVolume call.holds (names_asked call.given) no_volume volume (bytes_left old.input) (bytes_left mid.input))
       → IfOk result (λ done. done ≡ all) → OnOk result (MatchBool counted (TellsCounts K call.given rules numbers volume mid.errors errors) (errors ≡ mid.errors))
-      → IfErr result (IsCountsFailure counted) → Tells K (IsCountsLine call.given) mid.errors errors → CallOutcome Writes K call left result old (record mid { errors = errors })
+      → IfErr result (IsCountsFailure counted) → Tells K (IsCountsLine call.given (secrets_of rules)) mid.errors errors → CallOutcome Writes K call left result old (record mid { errors = errors })
   call_told rules key numbers volume old mid loaded all counted result errors is (inl (why, fails, same, of)) grown done counts untold told = let clash : Ok all ≡ Err why = fails in absurd (cc)
   call_told rules key numbers volume old mid loaded all counted result errors is (inr (warned, pieces, run)) grown done counts untold told =
       call_warned (loaded_as rules key) old mid loaded (record mid { errors = errors }) warned result pieces
-      (rest_told Writes K call rules key numbers volume (record old { errors = warned }) mid all counted result errors is run grown done counts untold told)
+      (rest_told Writes K call rules key left (bytes_left old.input) loaded numbers volume (record old { errors = warned }) mid all counted result errors is run grown done counts untold told)

@@ -19,7 +19,7 @@ use Rattle.programs.specs.declared.failure.Failure.TheVariants.{Build, OutOfMemo
 use Rattle.programs.specs.declared.reason.Reason.{Reason}
 use Rattle.acredact.specs.Arguments.{Given, GivesNoPattern, RefusesUnclean, counts_asked, covers_asked, has, is_same, last_value}
 use Rattle.acredact.specs.Builds.{RefusesPatterns, patterns_by_given}
-use Rattle.acredact.specs.Counts.{lines_of_rules}
+use Rattle.acredact.specs.Counts.{lines_of, lines_of_rules}
 use Rattle.acredact.specs.Doubts.{IsDoubtFailure, TellsWarnings, all_doubt_lines}
 use Rattle.acredact.specs.Failures.{IsFailureLine}
 use Rattle.acredact.specs.Files.{AreCut, AreDone, AreFree, AreRedacted, Does, Work, are_none, redactor_of, unread_line, work_of}
@@ -165,13 +165,18 @@ MayFail call fails failure =
 abbrev pub IsUnreadLine : List (List ℕ) → List ℕ → Type 0
 IsUnreadLine names line = (name : List ℕ) × IsOneOf name names × (((reason : Reason) × (line ≡ unread_line name reason)) ⊎ (line ≡ output_line name))
 
--- the lines of the counts
-abbrev pub IsCountsText : List Given → List ℕ → Type 0
-IsCountsText given text = (lines : List ℕ) × (counts : List ℕ) × (volume : Volume) × (text ≡ totals_text given lines counts volume)
+-- the lines of the counts of some patterns, each with the line of its file
+abbrev pub IsCountsText : List Given → List Secret → List ℕ → Type 0
+IsCountsText given secrets text = (counts : List ℕ) × (volume : Volume) × (text ≡ totals_text given (lines_of secrets) counts volume)
 
 -- that, where they are asked for
-abbrev pub IsCountsLine : List Given → List ℕ → Type 0
-IsCountsLine given line = (counts_asked given ≡ true) × IsCountsText given line
+abbrev pub IsCountsLine : List Given → List Secret → List ℕ → Type 0
+IsCountsLine given secrets line = (counts_asked given ≡ true) × IsCountsText given secrets line
+
+-- of the patterns that were loaded
+abbrev pub CountsLoaded : Call → List ℕ → Type 0
+CountsLoaded call line = (load : Loaded) × (left : Option (List ℕ)) × (between : Option (List ℕ))
+    × AreLoaded (reading_by call) call.given load left between × IsCountsLine call.given load.secrets line
 
 -- why the counts are not told
 abbrev pub IsCountsFailure : Bool → Failure → Type 0
@@ -194,7 +199,7 @@ abbrev pub IsLineOf : Call → (fails : Type 0) → List ℕ → Type 0
 IsLineOf call fails line =
     IsUnreadLine (names_asked call.given) line
     ⊎ (((failure : Failure) × MayFail call fails failure × IsFailureLine failure line)
-    ⊎ (IsCountsLine call.given line
+    ⊎ (CountsLoaded call line
     ⊎ IsWarningLine call line))
 
 -- what is told of wrong arguments
@@ -219,11 +224,9 @@ TellsAnyCounts K given rules counts volume errors errors' = MatchBool (counts_as
 
 -- it is told whole how many of these ranges have the text of each pattern in their place
 pub record TellsTotals {E : Type 0} (K : SinkGhosts E) (given : List Given) (secrets : List Secret) (ranges : List Occurrence) (volume : Volume) (errors errors' : Errors E) : Type 0 where
-  pub lines : List ℕ
-  pub one_line : length lines ≡ length secrets
   pub counts : List ℕ
   pub totals : AreTotals (length secrets) ranges counts
-  pub told : TellsBytes K errors errors' (totals_text given lines counts volume)
+  pub told : TellsBytes K errors errors' (totals_text given (lines_of secrets) counts volume)
   pub whole : errors'.failed ≡ false
 
 -- of all patterns that were loaded the pieces are told, where they are not clean

@@ -1,5 +1,5 @@
 -- The lines of a pattern that is an argument and has line ends.
-use Rattle.std.specs.Prelude.{◌≡◌, ◌⊎◌, ℕ, Bool, MatchBool, List, [], ◌∷◌, ◌++◌, None, Vec, codes, if◌then◌else◌, length, nat_eq, nat_lt}
+use Rattle.std.specs.Prelude.{◌≡◌, ◌⊎◌, ℕ, Bool, MatchBool, false, List, [], ◌∷◌, ◌++◌, None, Vec, codes, if◌then◌else◌, length, nat_eq, nat_lt}
 use Rattle.std.specs.Io.BufRead.{strip_last}
 use Rattle.std.specs.List.{flat_map, slice_split}
 use Rattle.acredact.specs.LineFaults.{HasByte}
@@ -14,11 +14,14 @@ secret_given bytes = record { pattern = bytes; replacement = None; list = codes 
 abbrev pub line_secrets : List ℕ → List Secret
 line_secrets line = if nat_lt (length (strip_last 13 line)) 8 then [] else secret_given (strip_last 13 line) ∷ []
 
+abbrev pub lines_secrets : List ℕ → List Secret
+lines_secrets value = flat_map line_secrets (slice_split (λ b. nat_eq b 10) value)
+
 -- those of all its lines; it has none where there is no line end
 abbrev pub ArePartsOf : List ℕ → List Secret → Type 0
 ArePartsOf value parts =
     (IsWithout 10 value × (parts ≡ []))
-    ⊎ (HasByte 10 value × (parts ≡ flat_map line_secrets (slice_split (λ b. nat_eq b 10) value)))
+    ⊎ (HasByte 10 value × (parts ≡ lines_secrets value))
 
 -- where lines are patterns too
 abbrev pub ArePartsBy : (wanted : Bool) → List ℕ → List Secret → Type 0

@@ -2,7 +2,7 @@
 //! stands nowhere, but its lines do.
 
 ghost use Rattle.std.specs.Prelude.{◌≡◌, OnOk};
-ghost use Rattle.acredact.specs.Parts.{AddsSome, ArePartsOf, line_secrets};
+ghost use Rattle.acredact.specs.Parts.{AddsSome, ArePartsOf, line_secrets, lines_secrets};
 
 use crate::patterns::{Rule, copy_of, split_at, without_last};
 use std::alloc::{AllocError, Global};
@@ -18,9 +18,20 @@ pub fn add_parts<'a>(
 ) -> Result<(), AllocError>
     ensures added { OnOk result (AddsSome (ArePartsOf pattern.now) rules.old rules.new) }
 {
-    if split_at(pattern, b'\n').is_none() {
-        return Ok(());
+    match split_at(pattern, b'\n') {
+        None => Ok(()),
+        Some(_) => add_each(alloc, rules, pattern),
     }
+}
+
+/// Adds each line that has eight bytes or more.
+fn add_each<'a>(
+    alloc: Global,
+    rules: &mut Vec<Rule<'a>>,
+    pattern: &[u8],
+) -> Result<(), AllocError>
+    ensures added { OnOk result (AddsSome (λ more. more ≡ lines_secrets pattern.now) rules.old rules.new) }
+{
     let mut rest = pattern;
     while let Some((line, more)) = split_at(rest, b'\n') {
         add_part(alloc, rules, line)?;

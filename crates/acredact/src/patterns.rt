@@ -101,7 +101,7 @@ pub fn without_last(text: &[u8], byte: u8) -> &[u8]
 fn plain<'a>(alloc: Global, line: &[u8], place: Place<'a>) -> Result<Rule<'a>, LineFault>
     ensures rule { IfOk result (λ rule. Holds false line.now (secret_of rule)) }
     ensures fault { IfErr result (IsLineFault false line.now) }
-    ensures stands { IfOk result (λ rule. StandsAt place.list.now place.line (secret_of rule)) }
+    ensures stands { IfOk result (λ rule. StandsAt place.entry.list.now place.entry.line (secret_of rule)) }
 {
     if line.is_empty() {
         return Err(LineFault::EmptyPattern);
@@ -118,7 +118,7 @@ fn plain<'a>(alloc: Global, line: &[u8], place: Place<'a>) -> Result<Rule<'a>, L
 fn row<'a>(alloc: Global, line: &[u8], place: Place<'a>) -> Result<Rule<'a>, LineFault>
     ensures rule { IfOk result (λ rule. Holds true line.now (secret_of rule)) }
     ensures fault { IfErr result (IsLineFault true line.now) }
-    ensures stands { IfOk result (λ rule. StandsAt place.list.now place.line (secret_of rule)) }
+    ensures stands { IfOk result (λ rule. StandsAt place.entry.list.now place.entry.line (secret_of rule)) }
 {
     let Some((before, behind)) = split_at(line, b'\t') else {
         return Err(LineFault::NoTab);
@@ -278,8 +278,8 @@ fn add_numbered<'a>(
     form: Form,
     place: Place<'a>,
 ) -> Result<(), BadLine>
-    ensures added { OnOk result (AddsListed form line.now place rules.old rules.new) }
-    ensures number { IfErr result (λ bad. bad.number ≡ place.line) }
+    ensures added { OnOk result (AddsListed form line.now place.entry rules.old rules.new) }
+    ensures number { IfErr result (λ bad. bad.number ≡ place.entry.line) }
     ensures fault { IfErr result (λ bad. IsLineFaultBy form line.now bad.fault) }
 {
     match add_listed(alloc, rules, line, form, place) {
@@ -299,7 +299,7 @@ fn add_listed<'a>(
     form: Form,
     place: Place<'a>,
 ) -> Result<(), LineFault>
-    ensures added { OnOk result (AddsListed form line.now place rules.old rules.new) }
+    ensures added { OnOk result (AddsListed form line.now place.entry rules.old rules.new) }
     ensures fault { IfErr result (IsLineFaultBy form line.now) }
 {
     let line = stripped_by(form, line);
@@ -337,7 +337,7 @@ pub fn add_line<'a>(
     table: bool,
     place: Place<'a>,
 ) -> Result<(), LineFault>
-    ensures added { OnOk result (AddsLine table line.now place rules.old rules.new) }
+    ensures added { OnOk result (AddsLine table line.now place.entry rules.old rules.new) }
     ensures fault { IfErr result (IsLineFault table line.now) }
 {
     let rule = if table {

@@ -373,7 +373,8 @@ pub fn tell_counted<'a, E: Sink>(
     ensures all { IfOk result (λ done. done ≡ all) }
     ensures told { OnOk result (TellsAnyCounts E.Sink (all_given given.now) rules.now tally.now volume
         errors.old errors.new) }
-    ensures lines { Tells E.Sink (IsCountsLine (all_given given.now)) errors.old errors.new }
+    ensures lines { Tells E.Sink (IsCountsLine (all_given given.now) (secrets_of rules.now))
+        errors.old errors.new }
     ensures fails { IfErr result (IsCountsFailure (counts_given given.now)) }
 {
     if !counts(given) {
