@@ -14,11 +14,11 @@ use Rattle.programs.specs.Failures.{failure_of_stream}
 use Rattle.programs.specs.Streams.{bytes_left}
 use Rattle.programs.specs.Telling.{Tells, TellsBytes, TellsSome}
 use Rattle.programs.specs.declared.errors.Errors.{Errors}
-use Rattle.programs.specs.declared.failure.Failure.TheVariants.{OutOfMemory, Write as NotWritten, WriteZero as TakesNothing}
+use Rattle.programs.specs.declared.failure.Failure.TheVariants.{Build, OutOfMemory, Write as NotWritten, WriteZero as TakesNothing}
 use Rattle.programs.specs.declared.reason.Reason.{Reason}
 use Rattle.programs.proofs.Tellings.{tells-later}
 use Rattle.acredact.specs.Arguments.{Given, counts_asked}
-use Rattle.acredact.specs.Calls.{BeginsCall, Call, CallOutcome, IsCountsFailure, IsCountsLine, IsLineOf, IsRunFailure, IsUnreadLine, IsUntouched, MayFail, OutputFails, RestOutcome, RunOutcome, TellsCounts, names_asked, reading_by, work_by}
+use Rattle.acredact.specs.Calls.{BeginsCall, Call, CallOutcome, IsBuildRefusal, IsCountsFailure, IsCountsLine, IsLineOf, IsRunFailure, IsUnreadLine, IsUntouched, MayFail, OutputFails, RestOutcome, RunOutcome, TellsCounts, names_asked, reading_by, work_by}
 use Rattle.acredact.specs.Counts.{lines_of, zeros}
 use Rattle.acredact.specs.Files.{AreCut, FilesOutcome, IsDone, Work, are_none, unread_line}
 use Rattle.acredact.specs.Messages.{output_line}
@@ -119,7 +119,7 @@ module _ {R : Type 0} {Reads : Readers R} {W E : Type 0} (Writes : Writers W) (K
   }
 
 -- why a run fails, and that it is no piece
-run_other : (fails : Type 0) (failure : Failure) (unclean : Unclean) → IsRunFailure fails failure → failure ≡ UncleanPiece unclean → ⊥
+pub run_other : (fails : Type 0) (failure : Failure) (unclean : Unclean) → IsRunFailure fails failure → failure ≡ UncleanPiece unclean → ⊥
 run_other fails failure unclean (inl of) is = let clash : Other OutOfMemory ≡ UncleanPiece unclean = sym of ∙ is in cc
 run_other fails failure unclean (inr (inl of, why)) is = let clash : Other NotWritten ≡ UncleanPiece unclean = sym of ∙ is in cc
 run_other fails failure unclean (inr (inr of, why)) is = let clash : Other TakesNothing ≡ UncleanPiece unclean = sym of ∙ is in cc
@@ -127,6 +127,10 @@ run_other fails failure unclean (inr (inr of, why)) is = let clash : Other Takes
 counts_other : (counted : Bool) (failure : Failure) (unclean : Unclean) → IsCountsFailure counted failure → failure ≡ UncleanPiece unclean → ⊥
 counts_other counted failure unclean (some, inl of) is = let clash : Counts ≡ UncleanPiece unclean = sym of ∙ is in cc
 counts_other counted failure unclean (some, inr of) is = let clash : Other OutOfMemory ≡ UncleanPiece unclean = sym of ∙ is in cc
+
+-- why patterns are refused is no piece
+pub build_other : (p : Patterns) (failure : Failure) (unclean : Unclean) → IsBuildRefusal p failure → failure ≡ UncleanPiece unclean → ⊥
+build_other p failure unclean (error, of, refused) is = let clash : Other (Build error) ≡ UncleanPiece unclean = sym of ∙ is in cc
 
 -- what may be told, and why
 pub may_fail : (call : Call) (fails : Type 0) (failure : Failure) → IsRunFailure fails failure → MayFail call fails failure

@@ -6,7 +6,7 @@ use Rattle.std.specs.List.{AllZip, slice_split}
 use Rattle.std.proofs.lemmas.Bool.{ne_eqb}
 use Rattle.std.proofs.lemmas.List.Splits.{slice_split_at, slice_split_none}
 use Rattle.acredact.specs.LineFaults.{IsLineFaultBy, IsListFault, NamesNone}
-use Rattle.acredact.specs.Tables.{AreNumbered, HoldsBy, IsAdded, IsAddedList, IsWithout, Secret, StandsAt, lines_in}
+use Rattle.acredact.specs.Tables.{AreNumbered, HoldsBy, IsAdded, IsAddedList, IsWithout, Secret, lines_in}
 use Rattle.acredact.specs.declared.patterns.BadLine.{BadLine}
 use Rattle.acredact.specs.declared.patterns.Form.{Form}
 use Rattle.acredact.specs.declared.patterns.Place.{Place}
@@ -26,25 +26,24 @@ zip_length R (x ∷ xs) [] h = absurd h
 zip_length R (x ∷ xs) (a ∷ us) h = omega (arith, zip_length R xs us h.1)
 
 -- a secret more is numbered behind the others
-numbered_more : (list : List ℕ) (before : ℕ) (more : List Secret) (secret : Secret) → AreNumbered list before more → StandsAt list (min (before + length more + 1) (2 ^ 64 - 1)) secret → AreNumbered list before (more ++ (secret ∷ []))
-numbered_more list before [] secret are stands =
+numbered_more : (before : ℕ) (more : List Secret) (secret : Secret) → AreNumbered before more → secret.line ≡ min (before + length more + 1) (2 ^ 64 - 1) → AreNumbered before (more ++ (secret ∷ []))
+numbered_more before [] secret are at =
     let e : before + length {A = Secret} [] + 1 ≡ before + 1 = omega arith in
-    (subst (λ (n : ℕ). StandsAt list (min n (2 ^ 64 - 1)) secret) e stands, tt)
-numbered_more list before (first ∷ more) secret are stands =
+    (at ∙ ap (λ (n : ℕ). min n (2 ^ 64 - 1)) e, tt)
+numbered_more before (first ∷ more) secret are at =
     let e : before + length (first ∷ more) + 1 ≡ before + 1 + length more + 1 = omega arith in
-    (are.0, numbered_more list (before + 1) more secret are.1 (subst (λ (n : ℕ). StandsAt list (min n (2 ^ 64 - 1)) secret) e stands))
+    (are.0, numbered_more (before + 1) more secret are.1 (at ∙ ap (λ (n : ℕ). min n (2 ^ 64 - 1)) e))
 
 -- what some lines hold is added, and then what one more does
-pub added_line : (form : Form) (list : List ℕ) (place : Place) (old mid new : List Secret) (front : List (List ℕ)) (line : List ℕ) → place.list.now ≡ list → place.line ≡ min (length front + 1) (2 ^ 64 - 1)
-    → IsAddedList form list old mid front → IsAdded (HoldsBy form line) place mid new → IsAddedList form list old new (front ++ (line ∷ []))
-added_line form list place old mid new front line named at first second =
+pub added_line : (form : Form) (place : Place) (old mid new : List Secret) (front : List (List ℕ)) (line : List ℕ) → place.line ≡ min (length front + 1) (2 ^ 64 - 1)
+    → IsAddedList form old mid front → IsAdded (HoldsBy form line) place mid new → IsAddedList form old new (front ++ (line ∷ []))
+added_line form place old mid new front line at first second =
     let e : length front + 1 ≡ 0 + length first.more + 1 = omega (arith, zip_length _ front first.more first.held) in
     record {
       more = first.more ++ (second.secret ∷ []);
       grown = second.grown ∙ ap (λ l. l ++ (second.secret ∷ [])) first.grown ∙ append_assoc old first.more (second.secret ∷ []);
       held = zip_append _ front (line ∷ []) first.more (second.secret ∷ []) first.held (second.held, tt);
-      numbered = numbered_more list 0 first.more second.secret first.numbered
-          (record { list_is = second.stands.list_is ∙ named; line_is = second.stands.line_is ∙ at ∙ ap (λ n. min n (2 ^ 64 - 1)) e });
+      numbered = numbered_more 0 first.more second.secret first.numbered (second.stands.line_is ∙ at ∙ ap (λ (n : ℕ). min n (2 ^ 64 - 1)) e);
     }
 
 -- a line stands in front of what is left

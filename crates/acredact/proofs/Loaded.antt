@@ -68,7 +68,7 @@ text_told holds name text left left' reads is =
 
 -- what the text of a list gives is what the list does
 pub file_added : (reading : Reading) (table : Bool) (name text : List ℕ) (old new : List Secret) (left left' : Option (List ℕ)) → OfName reading.holds name (ReadsText text) left left'
-    → IsAddedText reading.rules table name text old new → IsAddedFile reading table name old new left left'
+    → IsAddedText reading.rules table text old new → IsAddedFile reading table name old new left left'
 file_added reading table name text old new left left' reads added =
     record { more = added.more; grown = added.grown; held = record { text = text; reads = reads; held = added.held } }
 

@@ -46,26 +46,26 @@ lines_some form (line ∷ lines) (secret ∷ secrets) held = All-cons IsSomeSecr
 none_some : (secrets : List Secret) → secrets ≡ [] → HaveNoEmpty secrets
 none_some secrets none = subst HaveNoEmpty (sym none) (All-nil IsSomeSecret)
 
-line_some : (line : List ℕ) → HaveNoEmpty (line_secrets line)
-line_some line = by_length (nat_lt (length (strip_last 13 line)) 8) refl
+line_some : (list : ℕ) (line : List ℕ) → HaveNoEmpty (line_secrets list line)
+line_some list line = by_length (nat_lt (length (strip_last 13 line)) 8) refl
   where
-    by_length : (short : Bool) → short ≡ nat_lt (length (strip_last 13 line)) 8 → HaveNoEmpty (if short then [] else secret_given (strip_last 13 line) ∷ [])
+    by_length : (short : Bool) → short ≡ nat_lt (length (strip_last 13 line)) 8 → HaveNoEmpty (if short then [] else secret_given list (strip_last 13 line) ∷ [])
     by_length true is = All-nil IsSomeSecret
-    by_length false is = All-cons IsSomeSecret (secret_given (strip_last 13 line)) [] (omega (arith, ltb-false _ _ (sym is))) (All-nil IsSomeSecret)
+    by_length false is = All-cons IsSomeSecret (secret_given list (strip_last 13 line)) [] (omega (arith, ltb-false _ _ (sym is))) (All-nil IsSomeSecret)
 
-all_lines_some : (lines : List (List ℕ)) → HaveNoEmpty (flat_map line_secrets lines)
-all_lines_some [] = All-nil IsSomeSecret
-all_lines_some (line ∷ lines) = All-append IsSomeSecret (line_secrets line) (flat_map line_secrets lines) (line_some line) (all_lines_some lines)
+all_lines_some : (list : ℕ) (lines : List (List ℕ)) → HaveNoEmpty (flat_map (line_secrets list) lines)
+all_lines_some list [] = All-nil IsSomeSecret
+all_lines_some list (line ∷ lines) = All-append IsSomeSecret (line_secrets list line) (flat_map (line_secrets list) lines) (line_some list line) (all_lines_some list lines)
 
 -- nor is a line of one
-parts_some : (wanted : Bool) (value : List ℕ) (parts : List Secret) → ArePartsBy wanted value parts → HaveNoEmpty parts
-parts_some false value parts are = none_some parts are
-parts_some true value parts (inl are) = none_some parts are.1
-parts_some true value parts (inr are) = subst HaveNoEmpty (sym are.1) (all_lines_some (slice_split (λ b. nat_eq b 10) value))
+parts_some : (wanted : Bool) (list : ℕ) (value : List ℕ) (parts : List Secret) → ArePartsBy wanted list value parts → HaveNoEmpty parts
+parts_some false list value parts are = none_some parts are
+parts_some true list value parts (inl are) = none_some parts are.1
+parts_some true list value parts (inr are) = subst HaveNoEmpty (sym are.1) (all_lines_some list (slice_split (λ b. nat_eq b 10) value))
 
 option_some : (reading : Reading) (word : Word) (value : List ℕ) (secrets : List Secret) (left left' : Option (List ℕ)) → OptionGives reading word value secrets left left' → HaveNoEmpty secrets
 option_some reading Pattern value secrets left left' (gives, same) =
-    subst HaveNoEmpty (sym gives.are) (All-cons IsSomeSecret gives.secret gives.parts gives.held.some (parts_some reading.rules.parts value gives.parts gives.lines))
+    subst HaveNoEmpty (sym gives.are) (All-cons IsSomeSecret gives.secret gives.parts gives.held.some (parts_some reading.rules.parts gives.secret.list value gives.parts gives.lines))
 option_some reading PatternFile value secrets left left' gives = lines_some _ _ secrets gives.held.held
 option_some reading Table value secrets left left' gives = lines_some _ _ secrets gives.held.held
 option_some reading IgnoreCase value secrets left left' gives = none_some secrets gives.0

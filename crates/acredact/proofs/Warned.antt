@@ -13,14 +13,14 @@ use Rattle.programs.specs.Telling.{Tells, TellsBytes, TellsSome}
 use Rattle.programs.specs.declared.errors.Errors.{Errors}
 use Rattle.programs.specs.declared.failure.Failure.TheVariants.{OutOfMemory}
 use Rattle.programs.proofs.Tellings.{tells-later}
-use Rattle.acredact.specs.Arguments.{counts_asked, has}
-use Rattle.acredact.specs.Calls.{Call, CallOutcome, IsBuildRefusal, IsCountsFailure, IsCountsLine, IsLineOf, IsRunFailure, IsUntouched, OutputFails, RestOutcome, RunOutcome, TellsCounts, WarnedOutcome, names_asked, reading_by, redactor_by_given, work_by}
+use Rattle.acredact.specs.Arguments.{Given, counts_asked, has}
+use Rattle.acredact.specs.Calls.{Call, CallOutcome, IsBuildRefusal, IsCountsFailure, IsCountsLine, IsLineOf, IsRunFailure, IsUntouched, MayFail, OutputFails, RestOutcome, RunOutcome, TellsCounts, WarnedOutcome, names_asked, reading_by, redactor_by_given, work_by}
 use Rattle.acredact.specs.Counts.{zeros}
-use Rattle.acredact.specs.Doubts.{IsWarnFailure, TellsDoubts, TellsWarnings, WarnsOfBoth, all_doubt_lines}
+use Rattle.acredact.specs.Doubts.{TellsDoubts, all_doubt_lines}
 use Rattle.acredact.specs.Files.{Work, key_for, keyed_of}
 use Rattle.acredact.specs.Loading.{AreLoaded, Loaded, loaded_as}
 use Rattle.acredact.specs.Messages.{unclean_line}
-use Rattle.acredact.specs.Pieces.{IsJudged, IsJudgedBy, TellsOfPieces}
+use Rattle.acredact.specs.Pieces.{IsJudged, IsJudgedBy, TellsOfPieces, TellsUnclean}
 use Rattle.acredact.specs.Secrets.{AreCleanBy, Redactor}
 use Rattle.acredact.specs.Summaries.{no_volume}
 use Rattle.acredact.specs.Tables.{Secret, secrets_of}
@@ -34,7 +34,7 @@ use Rattle.acredact.specs.declared.patterns.Rule.{Rule}
 use Rattle.acredact.specs.declared.ways.Key.{Key}
 use Rattle.acredact.specs.declared.streams.Streams.{Streams}
 use Rattle.acredact.specs.declared.summary.Volume.{Volume}
-use Rattle.acredact.proofs.Calls.{call_refused, may_fail, rest_cut, rest_told, tells_same}
+use Rattle.acredact.proofs.Calls.{build_other, may_fail, rest_cut, rest_told, run_other, tells_same}
 use Rattle.acredact.proofs.Done.{concat_both}
 use Rattle.acredact.proofs.Free.{free_of}
 
@@ -43,8 +43,10 @@ clean_pieces : {E : Type 0} (K : SinkGhosts E) (strict : Bool) (r : Redactor) (o
 clean_pieces K strict r old new is (None, judged, same) = judged
 clean_pieces K strict r old new is (Some unclean, judged, (lax, told)) = let clash : true ≡ false = sym is ∙ lax in absurd (cc)
 
-clean_of : {E : Type 0} (K : SinkGhosts E) (strict : Bool) (secrets : List Secret) (r : Redactor) (old new : Errors E) → strict ≡ true → TellsWarnings K strict secrets r old new → r.covers ≡ true → AreCleanBy (is_some r.key) r.patterns r.pieces
-clean_of K strict secrets r old new is (between, doubts, pieces) = clean_pieces K strict r between new is pieces
+-- where patterns of lists are to be refused, nothing was told of them
+same_strict : {E : Type 0} (K : SinkGhosts E) (strict : Bool) (given : List Given) (secrets : List Secret) (old new : Errors E) → strict ≡ true → TellsDoubts K strict given secrets old new → new ≡ old
+same_strict K true given secrets old new is doubts = doubts.1
+same_strict K false given secrets old new is doubts = let clash : false ≡ true = is in absurd (cc)
 
 -- whether there is a key
 named_by : (key : Option Key) → is_some key ≡ is_some (option_map keyed_of key)
@@ -89,11 +91,11 @@ all_members Is (line ∷ lines) each = All-cons Is line lines (each line (inl re
 
 module _ {E : Type 0} (K : SinkGhosts E) (call : Call) (fails : Type 0) (load : Loaded) (left between : Option (List ℕ)) (loaded : AreLoaded (reading_by call) call.given load left between) where
   -- what is told of patterns of lists may be told
-  doubts_tell : (strict : Bool) → has Strict call.given ≡ strict → (old new : Errors E) → TellsDoubts K strict load.secrets old new → Tells K (IsLineOf call fails) old new
+  doubts_tell : (strict : Bool) → has Strict call.given ≡ strict → (old new : Errors E) → TellsDoubts K strict call.given load.secrets old new → Tells K (IsLineOf call fails) old new
   doubts_tell true is old new doubts = tells_same K (IsLineOf call fails) old new doubts.1
   doubts_tell false is old new doubts = record {
-    told = all_doubt_lines load.secrets;
-    are_lines = all_members (IsLineOf call fails) (all_doubt_lines load.secrets) (λ line member. inr (inr (inr (is, load, left, between, loaded, inl member))));
+    told = all_doubt_lines call.given load.secrets;
+    are_lines = all_members (IsLineOf call fails) (all_doubt_lines call.given load.secrets) (λ line member. inr (inr (inr (is, load, left, between, loaded, inl member))));
     written = doubts;
   }
 
@@ -106,8 +108,10 @@ module _ {E : Type 0} (K : SinkGhosts E) (call : Call) (fails : Type 0) (load : 
     written = subst (TellsBytes K old new) (sym (append-nil (unclean_line unclean))) told;
   }
 
-  warnings_tell : (old new : Errors E) → TellsWarnings K (has Strict call.given) load.secrets (redactor_by_given call.given load) old new → Tells K (IsLineOf call fails) old new
-  warnings_tell old new (mid, doubts, pieces) = tells_both K (IsLineOf call fails) old mid new (doubts_tell (has Strict call.given) refl old mid doubts) (piece_tells mid new pieces)
+  -- one after the other
+  warnings_tell : (old mid new : Errors E) → TellsDoubts K (has Strict call.given) call.given load.secrets old mid → TellsOfPieces K (has Strict call.given) (redactor_by_given call.given load) mid new
+      → Tells K (IsLineOf call fails) old new
+  warnings_tell old mid new doubts pieces = tells_both K (IsLineOf call fails) old mid new (doubts_tell (has Strict call.given) refl old mid doubts) (piece_tells mid new pieces)
 
 -- and so may what is told behind it
 told_behind : {E : Type 0} (K : SinkGhosts E) (call : Call) (old mid new : Errors E) (fails : Type 0) (result : Result Bool Failure) → Tells K (IsLineOf call fails) old mid → OnErr result (Tells K (IsLineOf call fails) mid new) → OnErr result (Tells K (IsLineOf call fails) old new)
@@ -115,31 +119,29 @@ told_behind K call old mid new fails (Ok all) first told = tt
 told_behind K call old mid new fails (Err failure) first told = tells_both K (IsLineOf call fails) old mid new first told
 
 -- no file was read
-module _ {R : Type 0} {Reads : Readers R} {W E : Type 0} (Writes : Writers W) (K : SinkGhosts E) (strict : Bool) (secrets : List Secret) (work : Work) where
-  pub warned_refused : (streams : Streams R W E Reads) (failure : Failure) → IsRunFailure (OutputFails streams.output streams.output) failure → WarnedOutcome Writes K strict secrets work (Err failure) streams streams
-  warned_refused streams failure fails = inl (failure, refl, refl, inr (inr (inl fails)))
+module _ {R : Type 0} {Reads : Readers R} {W E : Type 0} (Writes : Writers W) (K : SinkGhosts E) (strict : Bool) (work : Work) where
+  pub warned_refused : (streams : Streams R W E Reads) (failure : Failure) → IsRunFailure (OutputFails streams.output streams.output) failure → WarnedOutcome Writes K strict work (Err failure) streams streams
+  warned_refused streams failure fails = inl (failure, refl, refl, inr (inr fails))
 
   -- memory may always run out
-  pub warned_memory : (streams : Streams R W E Reads) → WarnedOutcome Writes K strict secrets work (Err (Other OutOfMemory)) streams streams
+  pub warned_memory : (streams : Streams R W E Reads) → WarnedOutcome Writes K strict work (Err (Other OutOfMemory)) streams streams
   warned_memory streams = warned_refused streams (Other OutOfMemory) (inl refl)
 
   -- the library refuses the patterns
-  pub warned_built : (streams : Streams R W E Reads) (failure : Failure) → IsBuildRefusal work.redactor.patterns failure → WarnedOutcome Writes K strict secrets work (Err failure) streams streams
+  pub warned_built : (streams : Streams R W E Reads) (failure : Failure) → IsBuildRefusal work.redactor.patterns failure → WarnedOutcome Writes K strict work (Err failure) streams streams
   warned_built streams failure refused = inl (failure, refl, refl, inr (inl refused))
 
-  -- a pattern or a piece is refused
+  -- a piece is refused
   pub warned_strict : (streams : Streams R W E Reads) (errors : Errors E) (answer : Option Unclean) (failure : Failure) → IsJudged work.redactor answer
-      → IsWarnFailure strict secrets answer failure → errors ≡ streams.errors → WarnedOutcome Writes K strict secrets work (Err failure) streams (record streams { errors = errors })
-  warned_strict streams errors answer failure judged (inl doubted) same =
-      inl (failure, refl, ap (λ (e : Errors E). record streams { errors = e }) same, inr (inr (inr doubted)))
-  warned_strict streams errors answer failure judged (inr (piece, is, fails, asked)) same =
+      → (piece : Unclean) × (answer ≡ Some piece) × (failure ≡ UncleanPiece piece) × (strict ≡ true) → errors ≡ streams.errors → WarnedOutcome Writes K strict work (Err failure) streams (record streams { errors = errors })
+  warned_strict streams errors answer failure judged (piece, is, fails, asked) same =
       let here : IsJudged work.redactor (Some piece) = subst (λ (a : Option Unclean). IsJudged work.redactor a) is judged in
       inl (failure, refl, ap (λ (e : Errors E). record streams { errors = e }) same, inl (piece, fails, asked, here.0, here.1))
 
   -- files are redacted behind what is told of pieces
-  pub warned_run : (old new : Streams R W E Reads) (errors : Errors E) (answer : Option Unclean) (result : Result Bool Failure) → IsJudged work.redactor answer → WarnsOfBoth K strict secrets answer old.errors errors
-      → RunOutcome Writes K work result (record old { errors = errors }) new → WarnedOutcome Writes K strict secrets work result old new
-  warned_run old new errors answer result judged (between, doubts, told) run = inr (errors, (between, doubts, (answer, judged, told)), run)
+  pub warned_run : (old new : Streams R W E Reads) (errors : Errors E) (answer : Option Unclean) (result : Result Bool Failure) → IsJudged work.redactor answer → TellsUnclean K strict answer old.errors errors
+      → RunOutcome Writes K work result (record old { errors = errors }) new → WarnedOutcome Writes K strict work result old new
+  warned_run old new errors answer result judged told run = inr (errors, (answer, judged, told), run)
 
 module _ {R : Type 0} {Reads : Readers R} {W E : Type 0} (Writes : Writers W) (K : SinkGhosts E) (call : Call) (left : Option (List ℕ)) where
   refused_other : (old new : Streams R W E Reads) (result : Result Bool Failure) → IfErr result (λ failure. (unclean : Unclean) → failure ≡ UncleanPiece unclean → ⊥)
@@ -147,21 +149,36 @@ module _ {R : Type 0} {Reads : Readers R} {W E : Type 0} (Writes : Writers W) (K
   refused_other old new (Ok all) other = tt
   refused_other old new (Err failure) other = λ unclean is. absurd (other unclean is)
 
-  module _ (load : Loaded) (old mid : Streams R W E Reads) (loaded : AreLoaded (reading_by call) call.given load left (bytes_left old.input)) where
+  module _ (load : Loaded) (old mid : Streams R W E Reads) (loaded : AreLoaded (reading_by call) call.given load left (bytes_left old.input)) (first : Errors E) (doubts : TellsDoubts K (has Strict call.given) call.given load.secrets first old.errors) where
+    -- no file is read, behind what is told of patterns of lists
+    pub call_behind : (failure : Failure) → ((unclean : Unclean) → failure ≡ UncleanPiece unclean → has Strict call.given ≡ true) → MayFail call (OutputFails old.output old.output) failure
+        → CallOutcome Writes K call left (Err failure) (record old { errors = first }) old
+    call_behind failure strictly fails = record {
+      redacts = λ (is : Err failure ≡ Ok true). absurd (cc);
+      strict = λ asked (is : Err failure ≡ Ok true). absurd (cc);
+      refused = λ unclean is. record { output = refl; errors = same_strict K (has Strict call.given) call.given load.secrets first old.errors (strictly unclean is) doubts };
+      begins = inl refl;
+      quiet = λ none (is : Err failure ≡ Ok true). absurd (cc);
+      counts = λ some (is : Err failure ≡ Ok true). absurd (cc);
+      partly = λ (is : Err failure ≡ Ok false). absurd (cc);
+      fails = fails;
+      told = doubts_tell K call (OutputFails old.output old.output) load left (bytes_left old.input) loaded (has Strict call.given) refl first old.errors doubts;
+    }
+
     -- what comes of the files comes behind what is told of the pieces
-    call_warned : (new : Streams R W E Reads) (errors : Errors E) (result : Result Bool Failure) → TellsWarnings K (has Strict call.given) load.secrets (redactor_by_given call.given load) old.errors errors
-        → RestOutcome Writes K call load result (record old { errors = errors }) new → CallOutcome Writes K call left result old new
+    call_warned : (new : Streams R W E Reads) (errors : Errors E) (result : Result Bool Failure) → TellsOfPieces K (has Strict call.given) (redactor_by_given call.given load) old.errors errors
+        → RestOutcome Writes K call load result (record old { errors = errors }) new → CallOutcome Writes K call left result (record old { errors = first }) new
     call_warned new errors result told rest =
-        let first = λ (fails : Type 0). warnings_tell K call fails load left (bytes_left old.input) loaded old.errors errors told in
+        let warns = λ (fails : Type 0). warnings_tell K call fails load left (bytes_left old.input) loaded first old.errors errors doubts told in
         record {
           redacts = λ is. record { load = load; between = bytes_left old.input; loaded = loaded; redacted = rest.redacts is };
           strict = λ asked is. record {
             load = load;
             between = bytes_left old.input;
             loaded = loaded;
-            free = free_of (work_by call load) asked.covers (clean_of K (has Strict call.given) load.secrets (redactor_by_given call.given load) old.errors errors asked.strict told asked.covers) (names_asked call.given) _ _ _ _ (rest.redacts is);
+            free = free_of (work_by call load) asked.covers (clean_pieces K (has Strict call.given) (redactor_by_given call.given load) old.errors errors asked.strict told asked.covers) (names_asked call.given) _ _ _ _ (rest.redacts is);
           };
-          refused = refused_other old new result rest.other;
+          refused = refused_other (record old { errors = first }) new result rest.other;
           begins = elim rest.begins [
             | inl same ↦ inl same
             | inr cut ↦ inr (record { load = load; between = bytes_left old.input; loaded = loaded; lines = cut.0; cut = cut.1 })
@@ -170,7 +187,7 @@ module _ {R : Type 0} {Reads : Readers R} {W E : Type 0} (Writes : Writers W) (K
             load = load;
             between = bytes_left old.input;
             loaded = loaded;
-            told = subst (λ (e : Errors E). TellsWarnings K (has Strict call.given) load.secrets (redactor_by_given call.given load) old.errors e) (sym (rest.quiet none is)) told;
+            told = (old.errors, doubts, subst (λ (e : Errors E). TellsOfPieces K (has Strict call.given) (redactor_by_given call.given load) old.errors e) (sym (rest.quiet none is)) told);
           };
           counts = λ some is. let (ranges, found, volume, read, counted) = rest.counts some is in record {
             load = load;
@@ -180,39 +197,38 @@ module _ {R : Type 0} {Reads : Readers R} {W E : Type 0} (Writes : Writers W) (K
             ranges = ranges;
             found = found;
             meanwhile = errors;
-            warned = told;
+            warned = (old.errors, doubts, told);
             volume = volume;
             read = read;
             counted = counted;
           };
-          partly = λ is. some_behind K (IsLineOf call (OutputFails old.output new.output)) old.errors errors new.errors (first _) (rest.partly is);
+          partly = λ is. some_behind K (IsLineOf call (OutputFails old.output new.output)) first errors new.errors (warns _) (rest.partly is);
           fails = rest.fails;
-          told = told_behind K call old.errors errors new.errors (OutputFails old.output new.output) result (first _) rest.told;
+          told = told_behind K call first errors new.errors (OutputFails old.output new.output) result (warns _) rest.told;
         }
 
     -- the files' redaction fails, or is refused
-    pub call_cut : (failure : Failure) → WarnedOutcome Writes K (has Strict call.given) load.secrets (work_by call load) (Err failure) old mid → CallOutcome Writes K call left (Err failure) old mid
+    pub call_cut : (failure : Failure) → WarnedOutcome Writes K (has Strict call.given) (work_by call load) (Err failure) old mid → CallOutcome Writes K call left (Err failure) (record old { errors = first }) mid
     call_cut failure (inl (why, is, same, of)) =
         let alike : why ≡ failure = cc in
-        subst (λ (s : Streams R W E Reads). CallOutcome Writes K call left (Err failure) old s) (sym same)
-        (subst (λ (f : Failure). CallOutcome Writes K call left (Err f) old old) alike
-        (call_refused Writes K call left old.input old why (elim of [
-          | inl strict ↦ inr (inr (inr (inl (load, left, bytes_left old.input, loaded, strict))))
-          | inr (inl refused) ↦ inr (inr (inr (inr (inl (load.secrets, left, loaded.between, loaded.secrets, refused)))))
-          | inr (inr (inl run)) ↦ may_fail call _ why run
-          | inr (inr (inr doubted)) ↦ inr (inr (inr (inr (inr (inr (load, left, bytes_left old.input, loaded, doubted))))))
-        ])))
+        subst (λ (s : Streams R W E Reads). CallOutcome Writes K call left (Err failure) (record old { errors = first }) s) (sym same)
+        (subst (λ (f : Failure). CallOutcome Writes K call left (Err f) (record old { errors = first }) old) alike
+        (elim of [
+          | inl strict ↦ call_behind why (λ unclean is. strict.2.0) (inr (inr (inr (inl (load, left, bytes_left old.input, loaded, strict)))))
+          | inr (inl refused) ↦ call_behind why (λ unclean is. absurd (build_other _ why unclean refused is)) (inr (inr (inr (inr (inl (load.secrets, left, loaded.between, loaded.secrets, refused))))))
+          | inr (inr run) ↦ call_behind why (λ unclean is. absurd (run_other _ why unclean run is)) (may_fail call _ why run)
+        ]))
     call_cut failure (inr (errors, told, run)) =
         call_warned mid errors (Err failure) told (rest_cut Writes K call load (record old { errors = errors }) mid failure run)
 
   -- all was done but the counts
   pub call_told : (rules : List Rule) (key : Option (List ℕ)) (numbers : List ℕ) (volume : Volume) (old mid : Streams R W E Reads) → AreLoaded (reading_by call) call.given (loaded_as rules key) left (bytes_left old.input)
-      → (all counted : Bool) (result : Result Bool Failure) (errors : Errors E) → counted ≡ counts_asked call.given → WarnedOutcome Writes K (has Strict call.given) (secrets_of rules) (work_by call (loaded_as rules key)) (Ok all) old mid
+      → (first : Errors E) → TellsDoubts K (has Strict call.given) call.given (secrets_of rules) first old.errors → (all counted : Bool) (result : Result Bool Failure) (errors : Errors E) → counted ≡ counts_asked call.given → WarnedOutcome Writes K (has Strict call.given) (work_by call (loaded_as rules key)) (Ok all) old mid
       → (all ≡ true → CountsOfNames (bytes_left old.input) (bytes_left mid.input) (zeros counted rules) numbers (work_by call (loaded_as rules key)) (names_asked call.given)
       × ReadsVolume call.holds (names_asked call.given) no_volume volume (bytes_left old.input) (bytes_left mid.input))
       → IfOk result (λ done. done ≡ all) → OnOk result (MatchBool counted (TellsCounts K call.given rules numbers volume mid.errors errors) (errors ≡ mid.errors))
-      → IfErr result (IsCountsFailure counted) → Tells K (IsCountsLine call.given (secrets_of rules)) mid.errors errors → CallOutcome Writes K call left result old (record mid { errors = errors })
-  call_told rules key numbers volume old mid loaded all counted result errors is (inl (why, fails, same, of)) grown done counts untold told = let clash : Ok all ≡ Err why = fails in absurd (cc)
-  call_told rules key numbers volume old mid loaded all counted result errors is (inr (warned, pieces, run)) grown done counts untold told =
-      call_warned (loaded_as rules key) old mid loaded (record mid { errors = errors }) warned result pieces
+      → IfErr result (IsCountsFailure counted) → Tells K (IsCountsLine call.given (secrets_of rules)) mid.errors errors → CallOutcome Writes K call left result (record old { errors = first }) (record mid { errors = errors })
+  call_told rules key numbers volume old mid loaded first doubts all counted result errors is (inl (why, fails, same, of)) grown done counts untold told = let clash : Ok all ≡ Err why = fails in absurd (cc)
+  call_told rules key numbers volume old mid loaded first doubts all counted result errors is (inr (warned, pieces, run)) grown done counts untold told =
+      call_warned (loaded_as rules key) old mid loaded first doubts (record mid { errors = errors }) warned result pieces
       (rest_told Writes K call rules key left (bytes_left old.input) loaded numbers volume (record old { errors = warned }) mid all counted result errors is run grown done counts untold told)

@@ -20,13 +20,13 @@ use Rattle.programs.specs.declared.reason.Reason.{Reason}
 use Rattle.acredact.specs.Arguments.{Given, GivesNoPattern, RefusesUnclean, counts_asked, covers_asked, has, is_same, last_value}
 use Rattle.acredact.specs.Builds.{RefusesPatterns, patterns_by_given}
 use Rattle.acredact.specs.Counts.{lines_of, lines_of_rules}
-use Rattle.acredact.specs.Doubts.{IsDoubtFailure, TellsWarnings, all_doubt_lines}
+use Rattle.acredact.specs.Doubts.{IsDoubtFailure, TellsDoubts, TellsWarnings, all_doubt_lines}
 use Rattle.acredact.specs.Failures.{IsFailureLine}
 use Rattle.acredact.specs.Files.{AreCut, AreDone, AreFree, AreRedacted, Does, Work, are_none, redactor_of, unread_line, work_of}
 use Rattle.acredact.specs.Loading.{AreGiven, AreLoaded, CannotLoadKey, CannotLoadOne, Loaded, Reading, Rules, key_lent, loaded_as}
 use Rattle.acredact.specs.Messages.{output_line, unclean_line}
 use Rattle.acredact.specs.Mistakes.{IsMistakeOfCall}
-use Rattle.acredact.specs.Pieces.{IsUncleanBy}
+use Rattle.acredact.specs.Pieces.{IsUncleanBy, TellsOfPieces}
 use Rattle.acredact.specs.Secrets.{Keyed, Redactor, key_of_cover}
 use Rattle.acredact.specs.Tables.{Secret, patterns_in, piece_by, secrets_of}
 use Rattle.acredact.specs.Summaries.{no_volume, totals_text}
@@ -141,7 +141,7 @@ IsUncleanFailure call failure = (load : Loaded) × (left : Option (List ℕ)) ×
 -- a pattern of a list that may be meant otherwise is refused
 abbrev pub IsDoubtedCall : Call → Failure → Type 0
 IsDoubtedCall call failure = (load : Loaded) × (left : Option (List ℕ)) × (between : Option (List ℕ))
-    × AreLoaded (reading_by call) call.given load left between × IsDoubtFailure (has Strict call.given) load.secrets failure
+    × AreLoaded (reading_by call) call.given load left between × IsDoubtFailure (has Strict call.given) call.given load.secrets failure
 
 -- those that were loaded are refused
 abbrev pub IsRefusedCall : Call → Failure → Type 0
@@ -183,15 +183,15 @@ abbrev pub IsCountsFailure : Bool → Failure → Type 0
 IsCountsFailure counted failure = (counted ≡ true) × ((failure ≡ Counts) ⊎ (failure ≡ Other OutOfMemory))
 
 -- a line that warns of a redaction by some patterns: of one of a list that may be meant otherwise, or of a piece that is not clean
-abbrev pub Warns : List Secret → Redactor → List ℕ → Type 0
-Warns secrets r line =
-    IsMember (all_doubt_lines secrets) line
+abbrev pub Warns : List Given → List Secret → Redactor → List ℕ → Type 0
+Warns given secrets r line =
+    IsMember (all_doubt_lines given secrets) line
     ⊎ ((unclean : Unclean) × (r.covers ≡ true) × IsUncleanBy (is_some r.key) r.patterns r.pieces unclean × (line ≡ unclean_line unclean))
 
 -- one of the patterns that were loaded, where such a one is not refused
 abbrev pub IsWarningLine : Call → List ℕ → Type 0
 IsWarningLine call line = (has Strict call.given ≡ false) × (load : Loaded) × (left : Option (List ℕ)) × (between : Option (List ℕ))
-    × AreLoaded (reading_by call) call.given load left between × Warns load.secrets (redactor_by_given call.given load) line
+    × AreLoaded (reading_by call) call.given load left between × Warns call.given load.secrets (redactor_by_given call.given load) line
 
 -- what may be told of a call: a piece that is not clean, a file that is not read to its end, why it ends early, and the counts where
 -- they are asked for
@@ -234,7 +234,7 @@ pub record WarnsCall {E : Type 0} (K : SinkGhosts E) (call : Call) (left : Optio
   pub load : Loaded
   pub between : Option (List ℕ)
   pub loaded : AreLoaded (reading_by call) call.given load left between
-  pub told : TellsWarnings K (has Strict call.given) load.secrets (redactor_by_given call.given load) errors errors'
+  pub told : TellsWarnings K (has Strict call.given) call.given load.secrets (redactor_by_given call.given load) errors errors'
 
 module _ {R : Type 0} {Reads : Readers R} {W : Type 0} (Writes : Writers W) where
   module _ {E : Type 0} (call : Call) (left : Option (List ℕ)) (streams streams' : Streams R W E Reads) where
@@ -279,7 +279,7 @@ module _ {R : Type 0} {Reads : Readers R} {W : Type 0} (Writes : Writers W) wher
       pub ranges : List Occurrence
       pub found : NamesHaveRanges (work_by call load) (names_asked call.given) ranges between (bytes_left streams'.input)
       pub meanwhile : Errors E
-      pub warned : TellsWarnings K (has Strict call.given) load.secrets (redactor_by_given call.given load) streams.errors meanwhile
+      pub warned : TellsWarnings K (has Strict call.given) call.given load.secrets (redactor_by_given call.given load) streams.errors meanwhile
       pub volume : Volume
       pub read : ReadsVolume call.holds (names_asked call.given) no_volume volume between (bytes_left streams'.input)
       pub counted : TellsTotals K call.given load.secrets ranges volume meanwhile streams'.errors
@@ -330,24 +330,29 @@ module _ {R : Type 0} {Reads : Readers R} {W : Type 0} (Writes : Writers W) wher
       pub quiet : result ≡ Ok true → streams'.errors ≡ streams.errors
       pub fails : IfErr result (IsRunFailure (OutputFails streams.output streams'.output))
 
-    -- they are not, since a pattern or a piece is refused, memory runs out, or the library refuses the patterns; or warnings come first
-    abbrev pub WarnedOutcome : (strict : Bool) → List Secret → Work → Result Bool Failure → (streams streams' : Streams R W E Reads) → Type 0
-    WarnedOutcome strict secrets work result streams streams' =
+    -- they are not, since a piece is refused, memory runs out, or the library refuses the patterns; or what is told of the pieces comes first
+    abbrev pub WarnedOutcome : (strict : Bool) → Work → Result Bool Failure → (streams streams' : Streams R W E Reads) → Type 0
+    WarnedOutcome strict work result streams streams' =
         ((failure : Failure) × (result ≡ Err failure) × (streams' ≡ streams)
         × (IsStrictFailure strict work.redactor failure
-        ⊎ (IsBuildRefusal work.redactor.patterns failure
-        ⊎ (IsRunFailure (OutputFails streams.output streams.output) failure ⊎ IsDoubtFailure strict secrets failure))))
-        ⊎ ((errors : Errors E) × TellsWarnings K strict secrets work.redactor streams.errors errors × RunOutcome work result (record streams { errors = errors }) streams')
+        ⊎ (IsBuildRefusal work.redactor.patterns failure ⊎ IsRunFailure (OutputFails streams.output streams.output) failure)))
+        ⊎ ((errors : Errors E) × TellsOfPieces K strict work.redactor streams.errors errors × RunOutcome work result (record streams { errors = errors }) streams')
 
     -- the same of a job, where files are redacted by these patterns
-    abbrev pub WarnedJob : {F X : Type 0} → Folders F X → (strict : Bool) → List Secret → Job F → Patterns → Result Bool Failure → (streams streams' : Streams R W E Reads) → Type 0
-    WarnedJob D strict secrets job p result streams streams' = WarnedOutcome strict secrets (work_of D job (redactor_of job p)) result streams streams'
+    abbrev pub WarnedJob : {F X : Type 0} → Folders F X → (strict : Bool) → Job F → Patterns → Result Bool Failure → (streams streams' : Streams R W E Reads) → Type 0
+    WarnedJob D strict job p result streams streams' = WarnedOutcome strict (work_of D job (redactor_of job p)) result streams streams'
 
     -- the same of a call whose patterns were loaded as these rules, and whose key is this, with the bytes that the input has left since
     abbrev pub LoadOutcome : {F X : Type 0} → Folders F X → F → List Given → List Rule → Option (Bor (List ℕ)) → Result Bool Failure → (streams streams' : Streams R W E Reads) → Type 0
     LoadOutcome D folder given rules key result streams streams' = (left : Option (List ℕ))
         → AreLoaded (reading_by (call_of D folder given)) given (loaded_as rules (key_lent key)) left (bytes_left streams.input)
         → CallOutcome (call_of D folder given) left result streams streams'
+
+    -- the same behind what is told of doubtful patterns of lists
+    abbrev pub DoubtedOutcome : {F X : Type 0} → Folders F X → F → List Given → List Rule → Option (Bor (List ℕ)) → Result Bool Failure → (streams streams' : Streams R W E Reads) → Type 0
+    DoubtedOutcome D folder given rules key result streams streams' = (first : Errors E)
+        → TellsDoubts K (has Strict given) given (secrets_of rules) first streams.errors
+        → LoadOutcome D folder given rules key result (record streams { errors = first }) streams'
 
     -- and of one whose key is to be loaded
     abbrev pub KeylessOutcome : {F X : Type 0} → Folders F X → F → List Given → List Rule → Result Bool Failure → (streams streams' : Streams R W E Reads) → Type 0

@@ -1,17 +1,17 @@
 -- Which patterns of lists may be meant otherwise than they stand there, and what is told of them.
-use Rattle.std.specs.Prelude.{◌≡◌, ◌⊎◌, ℕ, ◌-◌, ◌==◌, ◌&&◌, ◌||◌, Bool, MatchBool, true, List, [], ◌∷◌, ◌++◌, Option, Some, None, if◌then◌else◌, length, nat_lt, slice_index}
+use Rattle.std.specs.Prelude.{◌≡◌, ℕ, ◌-◌, ◌==◌, ◌&&◌, ◌||◌, Bool, MatchBool, true, List, [], ◌∷◌, ◌++◌, Option, Some, None, codes, get_or, map, if◌then◌else◌, length, nat_lt, slice_index}
 use Rattle.std.specs.List.{All, concat, flat_map}
 use Rattle.aho_devices.specs.declared.device.Sink.{Ghosts as SinkGhosts}
 use Rattle.programs.specs.Telling.{TellsBytes}
 use Rattle.programs.specs.declared.errors.Errors.{Errors}
+use Rattle.acredact.specs.Arguments.{Given}
 use Rattle.acredact.specs.Failures.{bad_line}
 use Rattle.acredact.specs.Messages.{told_line}
-use Rattle.acredact.specs.Pieces.{TellsOfPieces, TellsUnclean}
+use Rattle.acredact.specs.Pieces.{TellsOfPieces}
 use Rattle.acredact.specs.Secrets.{Redactor}
 use Rattle.acredact.specs.Tables.{Secret}
-use Rattle.acredact.specs.declared.clean.Unclean.{Unclean}
 use Rattle.acredact.specs.declared.failure.Failure.{Failure}
-use Rattle.acredact.specs.declared.failure.Failure.TheVariants.{Line, Unclean as UncleanPiece}
+use Rattle.acredact.specs.declared.failure.Failure.TheVariants.{Line}
 use Rattle.acredact.specs.declared.patterns.BadLine.{BadLine}
 use Rattle.acredact.specs.declared.patterns.LineFault.{LineFault}
 use Rattle.acredact.specs.declared.patterns.LineFault.TheVariants.{Blank, Quotes}
@@ -42,23 +42,27 @@ doubt_of secret = if secret.line == 0 then None else doubt_in secret.pattern
 abbrev pub bad_at : ℕ → LineFault → BadLine
 bad_at number fault = record { number = number; fault = fault }
 
+-- the file of the option of this number
+abbrev pub list_name : List Given → ℕ → List ℕ
+list_name given number = get_or (map (λ item. item.value) given) number (codes "-")
+
 -- the line that tells it: of which file and which line, and why
 abbrev pub lines_of_doubt : List ℕ → ℕ → Option LineFault → List (List ℕ)
 lines_of_doubt list number None = []
 lines_of_doubt list number (Some fault) = told_line (bad_line list (bad_at number fault)) ∷ []
 
-abbrev pub doubt_lines : Secret → List (List ℕ)
-doubt_lines secret = lines_of_doubt secret.list secret.line (doubt_of secret)
+abbrev pub doubt_lines : List Given → Secret → List (List ℕ)
+doubt_lines given secret = lines_of_doubt (list_name given secret.list) secret.line (doubt_of secret)
 
 -- and those of all patterns, in order
-abbrev pub all_doubt_lines : List Secret → List (List ℕ)
-all_doubt_lines secrets = flat_map doubt_lines secrets
+abbrev pub all_doubt_lines : List Given → List Secret → List (List ℕ)
+all_doubt_lines given secrets = flat_map (doubt_lines given) secrets
 
 abbrev pub AreUndoubted : List Secret → Type 0
 AreUndoubted secrets = All (λ secret. doubt_of secret ≡ None) secrets
 
 -- the first pattern of which that is so is refused
-pub record IsDoubtFailure (strict : Bool) (secrets : List Secret) (failure : Failure) : Type 0 where
+pub record IsDoubtFailure (strict : Bool) (given : List Given) (secrets : List Secret) (failure : Failure) : Type 0 where
   pub asked : strict ≡ true
   pub front : List Secret
   pub secret : Secret
@@ -69,26 +73,14 @@ pub record IsDoubtFailure (strict : Bool) (secrets : List Secret) (failure : Fai
   pub doubt : doubt_of secret ≡ Some fault
   pub name : _
   pub is : failure ≡ Line name (bad_at secret.line fault)
-  pub named : name.now ≡ secret.list
+  pub named : name.now ≡ list_name given secret.list
 
 module _ {E : Type 0} (K : SinkGhosts E) (strict : Bool) where
   -- of each it is told, but where the first is to be refused: then there is none
-  abbrev pub TellsDoubts : List Secret → (errors errors' : Errors E) → Type 0
-  TellsDoubts secrets errors errors' =
-      MatchBool strict (AreUndoubted secrets × (errors' ≡ errors)) (TellsBytes K errors errors' (concat (all_doubt_lines secrets)))
+  abbrev pub TellsDoubts : List Given → List Secret → (errors errors' : Errors E) → Type 0
+  TellsDoubts given secrets errors errors' =
+      MatchBool strict (AreUndoubted secrets × (errors' ≡ errors)) (TellsBytes K errors errors' (concat (all_doubt_lines given secrets)))
 
   -- what is told before a file is read: of patterns of lists, and then of pieces
-  abbrev pub TellsWarnings : List Secret → Redactor → (errors errors' : Errors E) → Type 0
-  TellsWarnings secrets r errors errors' = (between : Errors E) × TellsDoubts secrets errors between × TellsOfPieces K strict r between errors'
-
-  -- the same, where a piece was found that is not clean, or none
-  abbrev pub WarnsOfBoth : List Secret → Option Unclean → (errors errors' : Errors E) → Type 0
-  WarnsOfBoth secrets unclean errors errors' = (between : Errors E) × TellsDoubts secrets errors between × TellsUnclean K strict unclean between errors'
-
--- the piece that was found is refused
-abbrev pub RefusesPiece : (strict : Bool) → Option Unclean → Failure → Type 0
-RefusesPiece strict unclean failure = (piece : Unclean) × (unclean ≡ Some piece) × (failure ≡ UncleanPiece piece) × (strict ≡ true)
-
--- a pattern or a piece is
-abbrev pub IsWarnFailure : (strict : Bool) → List Secret → Option Unclean → Failure → Type 0
-IsWarnFailure strict secrets unclean failure = IsDoubtFailure strict secrets failure ⊎ RefusesPiece strict unclean failure
+  abbrev pub TellsWarnings : List Given → List Secret → Redactor → (errors errors' : Errors E) → Type 0
+  TellsWarnings given secrets r errors errors' = (between : Errors E) × TellsDoubts given secrets errors between × TellsOfPieces K strict r between errors'

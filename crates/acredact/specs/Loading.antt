@@ -43,18 +43,18 @@ reading_of_lists D lists = record { holds = D.holds lists.folder.now; refuses = 
 abbrev pub form_by : Rules → Bool → Form
 form_by rules table = record { table = table; crlf = rules.crlf }
 
--- the text of a list of this name holds these secrets, one in each line, and no byte order mark stands in front of them
-pub record HoldsSecrets (rules : Rules) (table : Bool) (name text : List ℕ) (secrets : List Secret) : Type 0 where
+-- the text of a list holds these secrets, one in each line, and no byte order mark stands in front of them
+pub record HoldsSecrets (rules : Rules) (table : Bool) (text : List ℕ) (secrets : List Secret) : Type 0 where
   pub some : text ≡ [] → rules.allow_empty ≡ true
   pub unmarked : mark_in text ≡ None
   pub held : AllZip (HoldsBy (form_by rules table)) (lines_in text) secrets
-  pub numbered : AreNumbered name 0 secrets
+  pub numbered : AreNumbered 0 secrets
 
 -- the list of this name was read, and it holds these
 pub record GivesSecrets (reading : Reading) (table : Bool) (name : List ℕ) (secrets : List Secret) (left left' : Option (List ℕ)) : Type 0 where
   pub text : List ℕ
   pub reads : OfName reading.holds name (ReadsText text) left left'
-  pub held : HoldsSecrets reading.rules table name text secrets
+  pub held : HoldsSecrets reading.rules table text secrets
 
 -- the secrets that an option gives
 abbrev pub OptionGives : Reading → Word → List ℕ → List Secret → (left left' : Option (List ℕ)) → Type 0
@@ -117,10 +117,10 @@ abbrev pub loaded_as : List Rule → Option (List ℕ) → Loaded
 loaded_as rules key = record { secrets = secrets_of rules; key = key }
 
 -- what a list holds is added
-pub record IsAddedText (rules : Rules) (table : Bool) (name text : List ℕ) (old new : List Secret) : Type 0 where
+pub record IsAddedText (rules : Rules) (table : Bool) (text : List ℕ) (old new : List Secret) : Type 0 where
   pub more : List Secret
   pub grown : new ≡ old ++ more
-  pub held : HoldsSecrets rules table name text more
+  pub held : HoldsSecrets rules table text more
 
 pub record IsAddedFile (reading : Reading) (table : Bool) (name : List ℕ) (old new : List Secret) (left left' : Option (List ℕ)) : Type 0 where
   pub more : List Secret
@@ -134,8 +134,8 @@ pub record IsAddedItem (reading : Reading) (item : Given) (old new : List Secret
   pub of : OptionGives reading item.word item.value more left left'
 
 -- the same, of the rules and of the input before and after
-abbrev pub AddsList : {F Z : Type 0} → Lists F → Bool → (name text : List ℕ) → (rules rules' : Vec Rule Z) → Type 0
-AddsList lists table name text rules rules' = IsAddedText (rules_for lists) table name text (secrets_of rules.items) (secrets_of rules'.items)
+abbrev pub AddsList : {F Z : Type 0} → Lists F → Bool → List ℕ → (rules rules' : Vec Rule Z) → Type 0
+AddsList lists table text rules rules' = IsAddedText (rules_for lists) table text (secrets_of rules.items) (secrets_of rules'.items)
 
 module _ {F X R Z : Type 0} {Reads : Readers R} (D : Folders F X) (lists : Lists F) where
   abbrev pub AddsFile : Bool → List ℕ → (rules rules' : Vec Rule Z) → (input input' : FromRead R Reads) → Type 0

@@ -1,31 +1,31 @@
 -- The lines of a pattern that is an argument and has line ends.
-use Rattle.std.specs.Prelude.{◌≡◌, ◌⊎◌, ℕ, Bool, MatchBool, false, List, [], ◌∷◌, ◌++◌, None, Vec, codes, if◌then◌else◌, length, nat_eq, nat_lt}
+use Rattle.std.specs.Prelude.{◌≡◌, ◌⊎◌, ℕ, Bool, MatchBool, false, List, [], ◌∷◌, ◌++◌, None, Vec, if◌then◌else◌, length, nat_eq, nat_lt}
 use Rattle.std.specs.Io.BufRead.{strip_last}
 use Rattle.std.specs.List.{flat_map, slice_split}
 use Rattle.acredact.specs.LineFaults.{HasByte}
-use Rattle.acredact.specs.Tables.{Holds, IsWithout, Secret, StandsAt, secrets_of}
+use Rattle.acredact.specs.Tables.{Holds, IsWithout, Secret, secrets_of}
 use Rattle.acredact.specs.declared.patterns.Rule.{Rule}
 
--- a pattern that is an argument
-abbrev pub secret_given : List ℕ → Secret
-secret_given bytes = record { pattern = bytes; replacement = None; list = codes "-e"; line = 0 }
+-- a pattern that the option of this number gives
+abbrev pub secret_given : ℕ → List ℕ → Secret
+secret_given list bytes = record { pattern = bytes; replacement = None; list = list; line = 0 }
 
 -- a line of one, without a carriage return at its end, is one too if it has eight bytes or more
-abbrev pub line_secrets : List ℕ → List Secret
-line_secrets line = if nat_lt (length (strip_last 13 line)) 8 then [] else secret_given (strip_last 13 line) ∷ []
+abbrev pub line_secrets : ℕ → List ℕ → List Secret
+line_secrets list line = if nat_lt (length (strip_last 13 line)) 8 then [] else secret_given list (strip_last 13 line) ∷ []
 
-abbrev pub lines_secrets : List ℕ → List Secret
-lines_secrets value = flat_map line_secrets (slice_split (λ b. nat_eq b 10) value)
+abbrev pub lines_secrets : ℕ → List ℕ → List Secret
+lines_secrets list value = flat_map (line_secrets list) (slice_split (λ b. nat_eq b 10) value)
 
 -- those of all its lines; it has none where there is no line end
-abbrev pub ArePartsOf : List ℕ → List Secret → Type 0
-ArePartsOf value parts =
+abbrev pub ArePartsOf : ℕ → List ℕ → List Secret → Type 0
+ArePartsOf list value parts =
     (IsWithout 10 value × (parts ≡ []))
-    ⊎ (HasByte 10 value × (parts ≡ lines_secrets value))
+    ⊎ (HasByte 10 value × (parts ≡ lines_secrets list value))
 
 -- where lines are patterns too
-abbrev pub ArePartsBy : (wanted : Bool) → List ℕ → List Secret → Type 0
-ArePartsBy wanted value parts = MatchBool wanted (ArePartsOf value parts) (parts ≡ [])
+abbrev pub ArePartsBy : (wanted : Bool) → ℕ → List ℕ → List Secret → Type 0
+ArePartsBy wanted list value parts = MatchBool wanted (ArePartsOf list value parts) (parts ≡ [])
 
 -- what a pattern among the arguments gives: it, and its lines where they are patterns too
 pub record GivesPattern (wanted : Bool) (value : List ℕ) (secrets : List Secret) : Type 0 where
@@ -33,8 +33,8 @@ pub record GivesPattern (wanted : Bool) (value : List ℕ) (secrets : List Secre
   pub parts : List Secret
   pub are : secrets ≡ secret ∷ parts
   pub held : Holds false value secret
-  pub stands : StandsAt (codes "-e") 0 secret
-  pub lines : ArePartsBy wanted value parts
+  pub line : secret.line ≡ 0
+  pub lines : ArePartsBy wanted secret.list value parts
 
 -- secrets of which this is so are added
 pub record IsAddedSome (Are : List Secret → Type 0) (old new : List Secret) : Type 0 where

@@ -18,18 +18,18 @@ escape_of byte =
 abbrev pub in_table : List ℕ → List ℕ
 in_table bytes = flat_map escape_of bytes
 
--- a pattern, and its own replacement where it has one; the file that it stands in, and its line there, or '-e' and 0
+-- a pattern, and its own replacement where it has one; the number of the option that gives it, and its line in a file, or 0
 pub record Secret : Type 0 where
   pub pattern : List ℕ
   pub replacement : Option (List ℕ)
-  pub list : List ℕ
+  pub list : ℕ
   pub line : ℕ
 
 abbrev pub secret_of : Rule → Secret
 secret_of rule = record {
   pattern = rule.pattern.items;
   replacement = option_map (λ bytes. bytes.items) rule.replacement;
-  list = rule.list.now;
+  list = rule.list;
   line = rule.line;
 }
 
@@ -73,15 +73,15 @@ pub record HoldsBy (form : Form) (line : List ℕ) (secret : Secret) : Type 0 wh
   pub no_return : form.table ≡ false → ends_with_byte 13 (stripped_by form line) ≡ false
   pub no_zero : IsWithout 0 (stripped_by form line)
 
--- a secret stands in this file or argument, at this line
-pub record StandsAt (list : List ℕ) (line : ℕ) (secret : Secret) : Type 0 where
-  pub list_is : secret.list ≡ list
-  pub line_is : secret.line ≡ line
+-- a secret stands here
+pub record StandsAt (place : Place) (secret : Secret) : Type 0 where
+  pub list_is : secret.list ≡ place.list
+  pub line_is : secret.line ≡ place.line
 
--- secrets stand in this file, one in each line behind some; a number stops at the greatest
-abbrev pub AreNumbered : List ℕ → ℕ → List Secret → Type 0
-AreNumbered list before [] = Unit {0}
-AreNumbered list before (secret ∷ secrets) = StandsAt list (min (before + 1) (2 ^ 64 - 1)) secret × AreNumbered list (before + 1) secrets
+-- secrets stand in one line each, behind some lines; a number stops at the greatest
+abbrev pub AreNumbered : ℕ → List Secret → Type 0
+AreNumbered before [] = Unit {0}
+AreNumbered before (secret ∷ secrets) = (secret.line ≡ min (before + 1) (2 ^ 64 - 1)) × AreNumbered (before + 1) secrets
 
 -- what is written for a pattern: its own replacement, or a text where it has none
 abbrev pub piece_by : List ℕ → Secret → List ℕ
@@ -92,14 +92,14 @@ pub record IsAdded (Is : Secret → Type 0) (place : Place) (old new : List Secr
   pub secret : Secret
   pub grown : new ≡ old ++ (secret ∷ [])
   pub held : Is secret
-  pub stands : StandsAt place.list.now place.line secret
+  pub stands : StandsAt place secret
 
 -- what the lines of a file hold is added, in order
-pub record IsAddedList (form : Form) (list : List ℕ) (old new : List Secret) (lines : List (List ℕ)) : Type 0 where
+pub record IsAddedList (form : Form) (old new : List Secret) (lines : List (List ℕ)) : Type 0 where
   pub more : List Secret
   pub grown : new ≡ old ++ more
   pub held : AllZip (HoldsBy form) lines more
-  pub numbered : AreNumbered list 0 more
+  pub numbered : AreNumbered 0 more
 
 -- the same, of the rules before and after
 abbrev pub AddsLine : {Z : Type 0} → Bool → List ℕ → Place → (rules rules' : Vec Rule Z) → Type 0
@@ -108,8 +108,8 @@ AddsLine table line place rules rules' = IsAdded (Holds table line) place (secre
 abbrev pub AddsListed : {Z : Type 0} → Form → List ℕ → Place → (rules rules' : Vec Rule Z) → Type 0
 AddsListed form line place rules rules' = IsAdded (HoldsBy form line) place (secrets_of rules.items) (secrets_of rules'.items)
 
-abbrev pub AddsLines : {Z : Type 0} → Form → List ℕ → List (List ℕ) → (rules rules' : Vec Rule Z) → Type 0
-AddsLines form list lines rules rules' = IsAddedList form list (secrets_of rules.items) (secrets_of rules'.items) lines
+abbrev pub AddsLines : {Z : Type 0} → Form → List (List ℕ) → (rules rules' : Vec Rule Z) → Type 0
+AddsLines form lines rules rules' = IsAddedList form (secrets_of rules.items) (secrets_of rules'.items) lines
 
 -- the bytes of the patterns
 abbrev pub patterns_in : List Secret → List (List ℕ)

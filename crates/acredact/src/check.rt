@@ -81,7 +81,7 @@ fn check_given<'a, F: Folder, I: Read, E: Sink>(
 fn check_rules<'a, F: Folder, I: Read, E: Sink>(
     alloc: Global,
     given: &[Item<'a>],
-    rules: &[Rule<'_>],
+    rules: &[Rule],
     folder: &F,
     input: &mut FromRead<I>,
     errors: &mut Errors<'_, E>,

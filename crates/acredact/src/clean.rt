@@ -21,13 +21,13 @@ use aho_core::search::{Input, Match};
 
 /// By what pieces are judged.
 #[derive(Clone, Copy)]
-pub struct Judge<'s, 't, 'l> {
+pub struct Judge<'s, 't> {
     /// The patterns.
     pub words: &'s [&'t [u8]],
     /// Whether ASCII letters are the same in both cases.
     pub ignore_case: bool,
     /// The rules of the patterns, with their own pieces.
-    pub rules: &'s [Rule<'l>],
+    pub rules: &'s [Rule],
     /// The piece of those that have none of their own.
     pub usual: &'t [u8],
 }
@@ -57,7 +57,7 @@ pub struct Unclean {
 /// of the patterns, of their own pieces and of the usual one a few times.
 pub fn unclean_of<A: Automaton>(
     automaton: &A,
-    judge: &Judge<'_, '_, '_>,
+    judge: &Judge<'_, '_>,
     covers: bool,
     named: bool,
 ) -> Option<Unclean>
@@ -81,7 +81,7 @@ pub fn unclean_of<A: Automaton>(
 /// The first pattern whose piece is not clean.
 fn first_unclean<A: Automaton>(
     automaton: &A,
-    judge: &Judge<'_, '_, '_>,
+    judge: &Judge<'_, '_>,
     marks: &[bool],
 ) -> Option<Unclean>
     requires of { (p : Patterns) × A.is_of automaton.now p }
@@ -112,9 +112,9 @@ fn first_unclean<A: Automaton>(
 /// Why the piece of a rule is not clean, where it is not. The usual one is not looked at again where that is known to be clean.
 fn flaw_of_rule<A: Automaton>(
     automaton: &A,
-    judge: &Judge<'_, '_, '_>,
+    judge: &Judge<'_, '_>,
     marks: &[bool],
-    rule: &Rule<'_>,
+    rule: &Rule,
     usual: bool,
 ) -> Option<Flaw>
     requires of { (p : Patterns) × A.is_of automaton.now p }
@@ -137,7 +137,7 @@ fn flaw_of_rule<A: Automaton>(
 /// Why the usual piece is not clean, where it is not known to be.
 fn flaw_unless<A: Automaton>(
     automaton: &A,
-    judge: &Judge<'_, '_, '_>,
+    judge: &Judge<'_, '_>,
     marks: &[bool],
     usual: bool,
 ) -> Option<Flaw>
@@ -159,7 +159,7 @@ fn flaw_unless<A: Automaton>(
 /// Why a piece is not clean, where it is not.
 fn flaw_of<A: Automaton>(
     automaton: &A,
-    judge: &Judge<'_, '_, '_>,
+    judge: &Judge<'_, '_>,
     marks: &[bool],
     piece: &[u8],
 ) -> Option<Flaw>
@@ -202,7 +202,7 @@ fn found_in<A: Automaton>(automaton: &A, piece: &[u8]) -> Option<Match>
 }
 
 /// The number, from 1 on, of a pattern that holds a byte. Where the byte is not marked there is none.
-fn holder_of(judge: &Judge<'_, '_, '_>, marks: &[bool], byte: u8) -> Option<usize>
+fn holder_of(judge: &Judge<'_, '_>, marks: &[bool], byte: u8) -> Option<usize>
     requires sized { length marks.now ≡ 256 }
     requires marked { WordsAreMarked judge.now.ignore_case (pieces_of judge.now.words.now) marks.now }
     ensures holder { IfSome result (IsHolder judge.now.ignore_case (pieces_of judge.now.words.now) byte) }

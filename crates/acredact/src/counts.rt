@@ -14,7 +14,7 @@ use std::alloc::{AllocError, Global};
 const MAX_DIGITS: usize = 20;
 
 /// A count for each rule where they are counted, and else none.
-pub fn counts_of(alloc: Global, rules: &[Rule<'_>], counted: bool) -> Result<Vec<u64>, AllocError>
+pub fn counts_of(alloc: Global, rules: &[Rule], counted: bool) -> Result<Vec<u64>, AllocError>
     ensures counts { IfOk result (λ all. all.items ≡ zeros counted rules.now) }
 {
     let mut counts = Vec::new(alloc);
@@ -30,7 +30,7 @@ pub fn counts_of(alloc: Global, rules: &[Rule<'_>], counted: bool) -> Result<Vec
 
 /// Puts a line for each pattern: how many of its matches were replaced, a TAB, its number from 1 on, a TAB, and the number of its
 /// line in its file, or `-e`.
-pub fn put_counts(text: &mut Vec<u8>, rules: &[Rule<'_>], counts: &[u64]) -> Result<(), AllocError>
+pub fn put_counts(text: &mut Vec<u8>, rules: &[Rule], counts: &[u64]) -> Result<(), AllocError>
     ensures put { OnOk result (PutsText text.old text.new (counts_told rules.now counts.now)) }
 {
     let mut rest = rules;

@@ -3,9 +3,11 @@
 ghost use Rattle.std.specs.Prelude.{◌≡◌, IfErr, OnErr, OnOk, true};
 ghost use Rattle.std.specs.List.{concat};
 ghost use Rattle.programs.specs.Telling.{TellsBytes};
-ghost use Rattle.acredact.specs.Doubts.{AreUndoubted, IsDoubtFailure, TellsDoubts, all_doubt_lines, doubt_in, doubt_lines, doubt_of, is_blank, is_quote};
+ghost use Rattle.acredact.specs.Doubts.{AreUndoubted, IsDoubtFailure, TellsDoubts, all_doubt_lines, doubt_in, doubt_lines, doubt_of, is_blank, is_quote, list_name};
+ghost use Rattle.acredact.specs.Arguments.{all_given};
 ghost use Rattle.acredact.specs.Tables.{secret_of, secrets_of};
 
+use crate::arguments::Item;
 use crate::failure::{Failure, tell_line};
 use crate::patterns::{BadLine, LineFault, Rule};
 use aho_devices::device::Sink;
@@ -14,30 +16,32 @@ use programs::errors::Errors;
 /// Tells of each pattern of a list that is doubtful, by file and line, or refuses the first of them.
 pub fn warn_of_lists<'a, E: Sink>(
     errors: &mut Errors<'_, E>,
-    rules: &[Rule<'a>],
+    given: &[Item<'a>],
+    rules: &[Rule],
     strict: bool,
 ) -> Result<(), Failure<'a>>
-    ensures told { OnOk result (TellsDoubts E.Sink strict (secrets_of rules.now) errors.old errors.new) }
-    ensures refused { IfErr result (IsDoubtFailure strict (secrets_of rules.now)) }
+    ensures told { OnOk result (TellsDoubts E.Sink strict (all_given given.now) (secrets_of rules.now) errors.old errors.new) }
+    ensures refused { IfErr result (IsDoubtFailure strict (all_given given.now) (secrets_of rules.now)) }
     ensures untold { OnErr result (errors.new ≡ errors.old) }
 {
     if strict {
-        return refuse_doubtful(rules);
+        return refuse_doubtful(given, rules);
     }
-    tell_doubtful(errors, rules);
+    tell_doubtful(errors, given, rules);
     Ok(())
 }
 
 /// Refuses the first pattern of a list that is doubtful.
-fn refuse_doubtful<'a>(rules: &[Rule<'a>]) -> Result<(), Failure<'a>>
+fn refuse_doubtful<'a>(given: &[Item<'a>], rules: &[Rule]) -> Result<(), Failure<'a>>
     ensures none { OnOk result (AreUndoubted (secrets_of rules.now)) }
-    ensures refused { IfErr result (IsDoubtFailure true (secrets_of rules.now)) }
+    ensures refused { IfErr result (IsDoubtFailure true (all_given given.now) (secrets_of rules.now)) }
 {
     let mut rest = rules;
     while !rest.is_empty() {
         if let Some(fault) = doubt_of(&rest[0]) {
             let number = rest[0].line;
-            return Err(Failure::Line(rest[0].list, BadLine { number, fault }));
+            let name = name_of_list(given, rest[0].list);
+            return Err(Failure::Line(name, BadLine { number, fault }));
         }
         rest = &rest[1..];
     }
@@ -45,31 +49,42 @@ fn refuse_doubtful<'a>(rules: &[Rule<'a>]) -> Result<(), Failure<'a>>
 }
 
 /// Tells of each pattern of a list that is doubtful.
-fn tell_doubtful<E: Sink>(errors: &mut Errors<'_, E>, rules: &[Rule<'_>])
-    ensures told { TellsBytes E.Sink errors.old errors.new (concat (all_doubt_lines (secrets_of rules.now))) }
+fn tell_doubtful<E: Sink>(errors: &mut Errors<'_, E>, given: &[Item<'_>], rules: &[Rule])
+    ensures told { TellsBytes E.Sink errors.old errors.new (concat (all_doubt_lines (all_given given.now) (secrets_of rules.now))) }
 {
     let mut rest = rules;
     while !rest.is_empty() {
-        tell_doubt(errors, &rest[0]);
+        tell_doubt(errors, given, &rest[0]);
         rest = &rest[1..];
     }
 }
 
 /// Tells of a pattern, if it is one of a list and doubtful.
-fn tell_doubt<E: Sink>(errors: &mut Errors<'_, E>, rule: &Rule<'_>)
-    ensures told { TellsBytes E.Sink errors.old errors.new (concat (doubt_lines (secret_of rule.now))) }
+fn tell_doubt<E: Sink>(errors: &mut Errors<'_, E>, given: &[Item<'_>], rule: &Rule)
+    ensures told { TellsBytes E.Sink errors.old errors.new (concat (doubt_lines (all_given given.now) (secret_of rule.now))) }
 {
     match doubt_of(rule) {
         Some(fault) => {
             let number = rule.line;
-            tell_line(errors, rule.list, BadLine { number, fault })
+            let name = name_of_list(given, rule.list);
+            tell_line(errors, name, BadLine { number, fault })
         }
         None => errors.write(&[]),
     }
 }
 
+/// The file of the option of this number.
+fn name_of_list<'a>(given: &[Item<'a>], number: usize) -> &'a str
+    ensures name { result.now ≡ list_name (all_given given.now) number }
+{
+    match given.get(number) {
+        Some(item) => item.value,
+        None => "-",
+    }
+}
+
 /// What is doubtful of a pattern, if it is one of a list.
-fn doubt_of(rule: &Rule<'_>) -> Option<LineFault>
+fn doubt_of(rule: &Rule) -> Option<LineFault>
     ensures doubt { result ≡ doubt_of (secret_of rule.now) }
 {
     if rule.line == 0 {

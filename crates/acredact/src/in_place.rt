@@ -16,6 +16,7 @@ use crate::arguments::{Item, Mistake, Word, counts, covers, has, items, replaces
 use crate::back::back_of;
 use crate::clean::{Judge, unclean_of};
 use crate::counts::counts_of;
+use crate::doubts::warn_of_lists;
 use crate::failure::{Failure, tell_no_file, tell_unread};
 use crate::files::{Job, both, is_input};
 use crate::folder::Folder;
@@ -24,7 +25,7 @@ use crate::outputs::Outputs;
 use crate::patterns::{Rule, patterns_of, replacements_of};
 use crate::rows::build;
 use crate::run::{
-    FAILED, gives_pattern, key_by, names, redact_by, report, tell_counted, text_of, warn_of,
+    FAILED, gives_pattern, key_by, names, redact_by, report, tell_counted, text_of, warn,
 };
 use crate::streams::Streams;
 use crate::summary::Volume;
@@ -135,7 +136,7 @@ fn load_places<'a, F: Folder, O: Outputs, I: Read, E: Sink>(
 fn load_key<'a, F: Folder, O: Outputs, I: Read, E: Sink>(
     alloc: Global,
     given: &[Item<'a>],
-    rules: &[Rule<'a>],
+    rules: &[Rule],
     folder: &F,
     outputs: &mut O,
     streams: &mut Streams<'_, I, O::File, E>,
@@ -148,9 +149,31 @@ fn load_key<'a, F: Folder, O: Outputs, I: Read, E: Sink>(
     match key_of(&lists, given, &mut streams.input) {
         Ok(Some(key)) => {
             let key = Some(key.as_slice());
-            place_counted(alloc, given, rules, key, folder, outputs, streams)
+            place_loaded(alloc, given, rules, key, folder, outputs, streams)
         }
-        Ok(None) => place_counted(alloc, given, rules, None, folder, outputs, streams),
+        Ok(None) => place_loaded(alloc, given, rules, None, folder, outputs, streams),
+        Err(failure) => Err(failure),
+    }
+}
+
+/// Tells of doubtful patterns of lists, or refuses the first, replaces each file by these rules, and answers whether all were
+/// replaced.
+fn place_loaded<'a, F: Folder, O: Outputs, I: Read, E: Sink>(
+    alloc: Global,
+    given: &[Item<'a>],
+    rules: &[Rule],
+    key: Option<&[u8]>,
+    folder: &F,
+    outputs: &mut O,
+    streams: &mut Streams<'_, I, O::File, E>,
+) -> Result<bool, Failure<'a>>
+    requires some { HaveNoEmpty (secrets_of rules.now) }
+    ensures outcome { LoadedPlaces O.File.Write F.Folder O.Outputs
+        folder.now given.now rules.now key.entry result outputs.old outputs.new }
+{
+    let strict = has(given, Word::Strict);
+    match warn_of_lists(&mut streams.errors, given, rules, strict) {
+        Ok(()) => place_counted(alloc, given, rules, key, folder, outputs, streams),
         Err(failure) => Err(failure),
     }
 }
@@ -159,7 +182,7 @@ fn load_key<'a, F: Folder, O: Outputs, I: Read, E: Sink>(
 fn place_counted<'a, F: Folder, O: Outputs, I: Read, E: Sink>(
     alloc: Global,
     given: &[Item<'_>],
-    rules: &[Rule<'a>],
+    rules: &[Rule],
     key: Option<&[u8]>,
     folder: &F,
     outputs: &mut O,
@@ -194,7 +217,7 @@ fn place_counted<'a, F: Folder, O: Outputs, I: Read, E: Sink>(
 fn place_all<'a, F: Folder, O: Outputs, I: Read, E: Sink>(
     alloc: Global,
     given: &[Item<'_>],
-    rules: &[Rule<'a>],
+    rules: &[Rule],
     key: Option<&[u8]>,
     folder: &F,
     counts: &mut [u64],
@@ -236,7 +259,6 @@ fn place_all<'a, F: Folder, O: Outputs, I: Read, E: Sink>(
         back.as_ref(),
         &job,
         &judge,
-        rules,
         strict,
         counts,
         volume,
@@ -260,8 +282,7 @@ fn place_warned<
     rows: Option<&B>,
     back: Option<&Backward<C>>,
     job: &Job<'_, '_, F>,
-    judge: &Judge<'_, '_, '_>,
-    rules: &[Rule<'a>],
+    judge: &Judge<'_, '_>,
     strict: bool,
     counts: &mut [u64],
     volume: &mut Volume,
@@ -278,7 +299,7 @@ fn place_warned<
 {
     let unclean = unclean_of(automaton, judge, job.covers, job.key.is_some());
     // Not by `?`: this error may hold names.
-    match warn_of(&mut streams.errors, rules, unclean, strict) {
+    match warn(&mut streams.errors, unclean, strict) {
         Ok(()) => Ok(place_each(automaton, rows, back, job, counts, volume, outputs, streams)?),
         Err(failure) => Err(failure),
     }

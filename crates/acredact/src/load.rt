@@ -29,12 +29,6 @@ const PIECE: usize = 16 * 1024;
 /// How many bytes a key has at least.
 const LEAST_KEY: usize = 16;
 
-/// Where a pattern stands that is an argument.
-const OF_ARGUMENT: Place<'static> = Place {
-    list: "-e",
-    line: 0,
-};
-
 /// How files of patterns and tables are read.
 #[derive(Clone, Copy)]
 pub struct Lists<'f, F> {
@@ -73,19 +67,21 @@ pub fn rules<'a, F: Folder, I: Read>(
     lists: &Lists<'_, F>,
     items: &[Item<'a>],
     input: &mut FromRead<I>,
-) -> Result<Vec<Rule<'a>>, Failure<'a>>
+) -> Result<Vec<Rule>, Failure<'a>>
     ensures given { IfOk result (λ rules.
         GivesRules F.Folder lists.now (all_given items.now) rules input.old input.new) }
     ensures fails { IfErr result (CannotLoadOne (reading_of_lists F.Folder lists.now) (all_given items.now)) }
 {
     let mut rules = Vec::new(lists.alloc);
+    let mut number: usize = 0;
     let mut rest = items;
     while !rest.is_empty() {
         // Not by `?`: this error holds names.
-        match add_item(lists, &mut rules, rest[0], input) {
+        match add_item(lists, &mut rules, rest[0], number, input) {
             Ok(()) => {}
             Err(failure) => return Err(failure),
         }
+        number = number.saturating_add(1);
         rest = &rest[1..];
     }
     Ok(rules)
@@ -135,8 +131,9 @@ fn read_key<'a, F: Folder, I: Read>(
 /// Adds the rules of an item, if it has any.
 fn add_item<'a, F: Folder, I: Read>(
     lists: &Lists<'_, F>,
-    rules: &mut Vec<Rule<'a>>,
+    rules: &mut Vec<Rule>,
     item: Item<'a>,
+    number: usize,
     input: &mut FromRead<I>,
 ) -> Result<(), Failure<'a>>
     ensures added { OnOk result (AddsItem F.Folder lists.now (given_of item.entry)
@@ -144,9 +141,9 @@ fn add_item<'a, F: Folder, I: Read>(
     ensures fails { IfErr result (CannotLoad (reading_of_lists F.Folder lists.now) (given_of item.entry)) }
 {
     match item.word {
-        Word::Pattern => add_pattern(lists, rules, item.value),
-        Word::Patterns => add_file(lists, rules, item.value, false, input),
-        Word::Table => add_file(lists, rules, item.value, true, input),
+        Word::Pattern => add_pattern(lists, rules, item.value, number),
+        Word::Patterns => add_file(lists, rules, item.value, false, number, input),
+        Word::Table => add_file(lists, rules, item.value, true, number, input),
         _ => Ok(()),
     }
 }
@@ -154,15 +151,16 @@ fn add_item<'a, F: Folder, I: Read>(
 /// Adds the rule of a pattern among the arguments.
 fn add_pattern<'a, F>(
     lists: &Lists<'_, F>,
-    rules: &mut Vec<Rule<'a>>,
+    rules: &mut Vec<Rule>,
     pattern: &'a str,
+    list: usize,
 ) -> Result<(), Failure<'a>>
     ensures added { OnOk result (AddsSome (GivesPattern lists.now.parts pattern.now) rules.old rules.new) }
     ensures fails { IfErr result (IsPatternFailure pattern.now) }
 {
     let bytes = pattern.as_bytes();
-    match add_line(lists.alloc, rules, bytes, false, OF_ARGUMENT) {
-        Ok(()) => add_parts_of(lists, rules, bytes),
+    match add_line(lists.alloc, rules, bytes, false, Place { list, line: 0 }) {
+        Ok(()) => add_parts_of(lists, rules, bytes, list),
         Err(fault) => Err(Failure::Pattern(fault)),
     }
 }
@@ -170,16 +168,17 @@ fn add_pattern<'a, F>(
 /// Adds the lines of a pattern that has line ends, where these are patterns too.
 fn add_parts_of<'a, F>(
     lists: &Lists<'_, F>,
-    rules: &mut Vec<Rule<'a>>,
+    rules: &mut Vec<Rule>,
     pattern: &[u8],
+    list: usize,
 ) -> Result<(), Failure<'a>>
-    ensures added { OnOk result (AddsSome (ArePartsBy lists.now.parts pattern.now) rules.old rules.new) }
+    ensures added { OnOk result (AddsSome (ArePartsBy lists.now.parts list pattern.now) rules.old rules.new) }
     ensures fails { IfErr result (λ failure. failure ≡ Pattern OutOfMemory) }
 {
     if !lists.parts {
         return Ok(());
     }
-    match add_parts(lists.alloc, rules, pattern) {
+    match add_parts(lists.alloc, rules, pattern, list) {
         Ok(()) => Ok(()),
         Err(_) => Err(Failure::Pattern(LineFault::OutOfMemory)),
     }
@@ -188,9 +187,10 @@ fn add_parts_of<'a, F>(
 /// Adds the rules of a file: of a table, or of a file of patterns.
 fn add_file<'a, F: Folder, I: Read>(
     lists: &Lists<'_, F>,
-    rules: &mut Vec<Rule<'a>>,
+    rules: &mut Vec<Rule>,
     name: &'a str,
     table: bool,
+    list: usize,
     input: &mut FromRead<I>,
 ) -> Result<(), Failure<'a>>
     ensures added { OnOk result (AddsFile F.Folder lists.now table name.now
@@ -198,7 +198,7 @@ fn add_file<'a, F: Folder, I: Read>(
     ensures fails { IfErr result (IsFileFailure (reading_of_lists F.Folder lists.now) table name.now) }
 {
     match read_list(lists, name, input) {
-        Ok(text) => add_text(lists, rules, name, table, text.as_slice()),
+        Ok(text) => add_text(lists, rules, name, table, list, text.as_slice()),
         Err(reason) => Err(Failure::Unread(name, reason)),
     }
 }
@@ -206,12 +206,13 @@ fn add_file<'a, F: Folder, I: Read>(
 /// Adds the rules of the text of a file.
 fn add_text<'a, F>(
     lists: &Lists<'_, F>,
-    rules: &mut Vec<Rule<'a>>,
+    rules: &mut Vec<Rule>,
     name: &'a str,
     table: bool,
+    list: usize,
     text: &[u8],
 ) -> Result<(), Failure<'a>>
-    ensures added { OnOk result (AddsList lists.now table name.now text.now rules.old rules.new) }
+    ensures added { OnOk result (AddsList lists.now table text.now rules.old rules.new) }
     ensures fails { IfErr result (IsTextFailure (rules_for lists.now) table name.now text.now) }
 {
     if text.is_empty() && !lists.allow_empty {
@@ -224,7 +225,7 @@ fn add_text<'a, F>(
         table,
         crlf: lists.crlf,
     };
-    match add_lines(lists.alloc, rules, text, form, name) {
+    match add_lines(lists.alloc, rules, text, form, list) {
         Ok(()) => Ok(()),
         Err(line) => Err(Failure::Line(name, line)),
     }

@@ -11,42 +11,45 @@ use std::alloc::{AllocError, Global};
 const LEAST_PART: usize = 8;
 
 /// Adds each line of a pattern that has line ends, if it has eight bytes or more, as a pattern of its own.
-pub fn add_parts<'a>(
+pub fn add_parts(
     alloc: Global,
-    rules: &mut Vec<Rule<'a>>,
+    rules: &mut Vec<Rule>,
     pattern: &[u8],
+    list: usize,
 ) -> Result<(), AllocError>
-    ensures added { OnOk result (AddsSome (ArePartsOf pattern.now) rules.old rules.new) }
+    ensures added { OnOk result (AddsSome (ArePartsOf list pattern.now) rules.old rules.new) }
 {
     match split_at(pattern, b'\n') {
         None => Ok(()),
-        Some(_) => add_each(alloc, rules, pattern),
+        Some(_) => add_each(alloc, rules, pattern, list),
     }
 }
 
 /// Adds each line that has eight bytes or more.
-fn add_each<'a>(
+fn add_each(
     alloc: Global,
-    rules: &mut Vec<Rule<'a>>,
+    rules: &mut Vec<Rule>,
     pattern: &[u8],
+    list: usize,
 ) -> Result<(), AllocError>
-    ensures added { OnOk result (AddsSome (λ more. more ≡ lines_secrets pattern.now) rules.old rules.new) }
+    ensures added { OnOk result (AddsSome (λ more. more ≡ lines_secrets list pattern.now) rules.old rules.new) }
 {
     let mut rest = pattern;
     while let Some((line, more)) = split_at(rest, b'\n') {
-        add_part(alloc, rules, line)?;
+        add_part(alloc, rules, line, list)?;
         rest = more;
     }
-    add_part(alloc, rules, rest)
+    add_part(alloc, rules, rest, list)
 }
 
 /// Adds a line, without a carriage return at its end, if it is long enough.
-fn add_part<'a>(
+fn add_part(
     alloc: Global,
-    rules: &mut Vec<Rule<'a>>,
+    rules: &mut Vec<Rule>,
     line: &[u8],
+    list: usize,
 ) -> Result<(), AllocError>
-    ensures added { OnOk result (AddsSome (λ more. more ≡ line_secrets line.now) rules.old rules.new) }
+    ensures added { OnOk result (AddsSome (λ more. more ≡ line_secrets list line.now) rules.old rules.new) }
 {
     let line = without_last(line, b'\r');
     if line.len() < LEAST_PART {
@@ -55,7 +58,7 @@ fn add_part<'a>(
     rules.push(Rule {
         pattern: copy_of(alloc, line)?,
         replacement: None,
-        list: "-e",
+        list,
         line: 0,
     })?;
     Ok(())

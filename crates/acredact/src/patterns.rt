@@ -11,23 +11,23 @@ use std::slice;
 
 /// A pattern, and its own replacement where it has one.
 #[derive(Drop)]
-pub struct Rule<'a> {
+pub struct Rule {
     /// The bytes that are searched for.
     pub pattern: Vec<u8>,
     /// The bytes that are written in their place.
     pub replacement: Option<Vec<u8>>,
-    /// The file that it stands in, and `-e` for one that is an argument.
-    pub list: &'a str,
-    /// The number of its line in that file, from 1 on, and 0 for one that is an argument.
+    /// The number of the option that gives it, from 0 on, among all options and files.
+    pub list: usize,
+    /// The number of its line in its file, from 1 on, and 0 for one that is an argument.
     pub line: usize,
 }
 
 /// Where a pattern stands.
 #[derive(Clone, Copy)]
-pub struct Place<'a> {
-    /// The file, and `-e` for an argument.
-    pub list: &'a str,
-    /// The number of the line, and 0 for an argument.
+pub struct Place {
+    /// The number of the option that gives it, from 0 on.
+    pub list: usize,
+    /// The number of the line in its file, from 1 on, and 0 for an argument.
     pub line: usize,
 }
 
@@ -98,10 +98,10 @@ pub fn without_last(text: &[u8], byte: u8) -> &[u8]
 }
 
 /// The rule of a line of a file of patterns: its bytes are the pattern.
-fn plain<'a>(alloc: Global, line: &[u8], place: Place<'a>) -> Result<Rule<'a>, LineFault>
+fn plain(alloc: Global, line: &[u8], place: Place) -> Result<Rule, LineFault>
     ensures rule { IfOk result (λ rule. Holds false line.now (secret_of rule)) }
     ensures fault { IfErr result (IsLineFault false line.now) }
-    ensures stands { IfOk result (λ rule. StandsAt place.entry.list.now place.entry.line (secret_of rule)) }
+    ensures stands { IfOk result (λ rule. StandsAt place (secret_of rule)) }
 {
     if line.is_empty() {
         return Err(LineFault::EmptyPattern);
@@ -115,10 +115,10 @@ fn plain<'a>(alloc: Global, line: &[u8], place: Place<'a>) -> Result<Rule<'a>, L
 }
 
 /// The rule of a line of a table: its pattern, a TAB, and the replacement.
-fn row<'a>(alloc: Global, line: &[u8], place: Place<'a>) -> Result<Rule<'a>, LineFault>
+fn row(alloc: Global, line: &[u8], place: Place) -> Result<Rule, LineFault>
     ensures rule { IfOk result (λ rule. Holds true line.now (secret_of rule)) }
     ensures fault { IfErr result (IsLineFault true line.now) }
-    ensures stands { IfOk result (λ rule. StandsAt place.entry.list.now place.entry.line (secret_of rule)) }
+    ensures stands { IfOk result (λ rule. StandsAt place (secret_of rule)) }
 {
     let Some((before, behind)) = split_at(line, b'\t') else {
         return Err(LineFault::NoTab);
@@ -247,14 +247,14 @@ pub fn mark_of(text: &[u8]) -> Option<LineFault>
 /// # Errors
 ///
 /// The first line that holds no rule, with the reason; or `OutOfMemory`, at any line.
-pub fn add_lines<'a>(
+pub fn add_lines(
     alloc: Global,
-    rules: &mut Vec<Rule<'a>>,
+    rules: &mut Vec<Rule>,
     text: &[u8],
     form: Form,
-    list: &'a str,
+    list: usize,
 ) -> Result<(), BadLine>
-    ensures added { OnOk result (AddsLines form list.now (lines_in text.now) rules.old rules.new) }
+    ensures added { OnOk result (AddsLines form (lines_in text.now) rules.old rules.new) }
     ensures fault { IfErr result (IsListFault form (lines_in text.now)) }
 {
     if text.is_empty() {
@@ -271,15 +271,15 @@ pub fn add_lines<'a>(
 }
 
 /// Adds the rule of the line of this number.
-fn add_numbered<'a>(
+fn add_numbered(
     alloc: Global,
-    rules: &mut Vec<Rule<'a>>,
+    rules: &mut Vec<Rule>,
     line: &[u8],
     form: Form,
-    place: Place<'a>,
+    place: Place,
 ) -> Result<(), BadLine>
-    ensures added { OnOk result (AddsListed form line.now place.entry rules.old rules.new) }
-    ensures number { IfErr result (λ bad. bad.number ≡ place.entry.line) }
+    ensures added { OnOk result (AddsListed form line.now place rules.old rules.new) }
+    ensures number { IfErr result (λ bad. bad.number ≡ place.line) }
     ensures fault { IfErr result (λ bad. IsLineFaultBy form line.now bad.fault) }
 {
     match add_listed(alloc, rules, line, form, place) {
@@ -292,14 +292,14 @@ fn add_numbered<'a>(
 }
 
 /// Adds the rule of the line of a file.
-fn add_listed<'a>(
+fn add_listed(
     alloc: Global,
-    rules: &mut Vec<Rule<'a>>,
+    rules: &mut Vec<Rule>,
     line: &[u8],
     form: Form,
-    place: Place<'a>,
+    place: Place,
 ) -> Result<(), LineFault>
-    ensures added { OnOk result (AddsListed form line.now place.entry rules.old rules.new) }
+    ensures added { OnOk result (AddsListed form line.now place rules.old rules.new) }
     ensures fault { IfErr result (IsLineFaultBy form line.now) }
 {
     let line = stripped_by(form, line);
@@ -330,14 +330,14 @@ fn ends_in_return(line: &[u8]) -> bool
 }
 
 /// Adds the rule of a line, which stands here.
-pub fn add_line<'a>(
+pub fn add_line(
     alloc: Global,
-    rules: &mut Vec<Rule<'a>>,
+    rules: &mut Vec<Rule>,
     line: &[u8],
     table: bool,
-    place: Place<'a>,
+    place: Place,
 ) -> Result<(), LineFault>
-    ensures added { OnOk result (AddsLine table line.now place.entry rules.old rules.new) }
+    ensures added { OnOk result (AddsLine table line.now place rules.old rules.new) }
     ensures fault { IfErr result (IsLineFault table line.now) }
 {
     let rule = if table {
@@ -350,7 +350,7 @@ pub fn add_line<'a>(
 }
 
 /// The patterns of the rules.
-pub fn patterns_of<'r>(alloc: Global, rules: &'r [Rule<'_>]) -> Result<Vec<&'r [u8]>, AllocError>
+pub fn patterns_of<'r>(alloc: Global, rules: &'r [Rule]) -> Result<Vec<&'r [u8]>, AllocError>
     ensures patterns { IfOk result (λ patterns. pieces_of patterns.items
         ≡ patterns_in (secrets_of rules.entry.now)) }
 {
@@ -366,7 +366,7 @@ pub fn patterns_of<'r>(alloc: Global, rules: &'r [Rule<'_>]) -> Result<Vec<&'r [
 /// What is written for each rule: its own replacement, or this text where it has none.
 pub fn replacements_of<'r>(
     alloc: Global,
-    rules: &'r [Rule<'_>],
+    rules: &'r [Rule],
     text: &'r [u8],
 ) -> Result<Vec<&'r [u8]>, AllocError>
     ensures pieces { IfOk result (λ pieces. pieces_of pieces.items
@@ -382,7 +382,7 @@ pub fn replacements_of<'r>(
 }
 
 /// What is written for a rule.
-fn replacement_of<'r>(rule: &'r Rule<'_>, text: &'r [u8]) -> &'r [u8]
+fn replacement_of<'r>(rule: &'r Rule, text: &'r [u8]) -> &'r [u8]
     ensures piece { result.now ≡ piece_by text.entry.now (secret_of rule.entry.now) }
 {
     match &rule.replacement {

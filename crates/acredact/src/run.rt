@@ -8,14 +8,13 @@ ghost use Rattle.programs.specs.Streams.{WritesBytes, bytes_left};
 ghost use Rattle.programs.specs.Telling.{Tells, TellsBytes, TellsSome};
 ghost use Rattle.acredact.specs.Arguments.{AreMistaken, AsksToRedact, GivesNoPattern, IfAsked, IfChecking, IfNoCheck, IsCheck, RefusesUnclean, all_given, checks_asked, counts_asked, counts_given, has};
 ghost use Rattle.acredact.specs.Back.{AreBoth, FilesJob, IfBackIs, RowsCounts, RowsOutcome};
-ghost use Rattle.acredact.specs.Calls.{AskedOutcome, BeginsAsked, CountsAsked, IsCountsFailure, IsCountsLine, IsPrintFailure, IsRefusedLine, IsWrongLine, KeylessOutcome, LeavesNoneAsked, LoadOutcome, OutputFails, ReadsAsked, RedactsAsked, TellsAsked, TellsAnyCounts, WarnedJob, WarnedOutcome, WarnsAsked, call_of, gives_pattern, keyed_as, names_asked, text_asked, work_by};
+ghost use Rattle.acredact.specs.Calls.{AskedOutcome, BeginsAsked, CountsAsked, DoubtedOutcome, IsCountsFailure, IsCountsLine, IsPrintFailure, IsRefusedLine, IsWrongLine, KeylessOutcome, LeavesNoneAsked, LoadOutcome, OutputFails, ReadsAsked, RedactsAsked, TellsAsked, TellsAnyCounts, WarnedJob, WarnedOutcome, WarnsAsked, call_of, gives_pattern, keyed_as, names_asked, text_asked, work_by};
 ghost use Rattle.acredact.specs.Checks.{MatchedAsked, SaysOfCheck, TellsUncheckedAsked, UnmatchedAsked};
 ghost use Rattle.acredact.specs.Counts.{PutsText, lines_of_rules, zeros};
 ghost use Rattle.acredact.specs.Failures.{IsFailureLine};
 ghost use Rattle.acredact.specs.Files.{CanDo, keyed_of};
 ghost use Rattle.acredact.specs.Loading.{key_lent, loaded_as};
 ghost use Rattle.acredact.specs.Pieces.{IfOfAll, TellsUnclean, pieces_by};
-ghost use Rattle.acredact.specs.Doubts.{IsWarnFailure, RefusesPiece, WarnsOfBoth};
 ghost use Rattle.acredact.specs.Secrets.{IfOf};
 ghost use Rattle.acredact.specs.Statuses.{IsIdle, SaysOfRedaction};
 ghost use Rattle.acredact.specs.Tables.{HaveNoEmpty, secrets_of};
@@ -282,7 +281,7 @@ fn load<'a, F: Folder, I: Read, W: Write, E: Sink>(
 fn load_key<'a, F: Folder, I: Read, W: Write, E: Sink>(
     alloc: Global,
     given: &[Item<'a>],
-    rules: &[Rule<'a>],
+    rules: &[Rule],
     folder: &F,
     streams: &mut Streams<'_, I, W, E>,
 ) -> Result<bool, Failure<'a>>
@@ -293,8 +292,29 @@ fn load_key<'a, F: Folder, I: Read, W: Write, E: Sink>(
 {
     let lists = lists_of(alloc, given, folder);
     match key_of(&lists, given, &mut streams.input) {
-        Ok(Some(key)) => redact_counted(alloc, given, rules, Some(key.as_slice()), folder, streams),
-        Ok(None) => redact_counted(alloc, given, rules, None, folder, streams),
+        Ok(Some(key)) => redact_loaded(alloc, given, rules, Some(key.as_slice()), folder, streams),
+        Ok(None) => redact_loaded(alloc, given, rules, None, folder, streams),
+        Err(failure) => Err(failure),
+    }
+}
+
+/// Tells of doubtful patterns of lists, or refuses the first, redacts all files by these rules, and answers whether all were read.
+fn redact_loaded<'a, F: Folder, I: Read, W: Write, E: Sink>(
+    alloc: Global,
+    given: &[Item<'a>],
+    rules: &[Rule],
+    key: Option<&[u8]>,
+    folder: &F,
+    streams: &mut Streams<'_, I, W, E>,
+) -> Result<bool, Failure<'a>>
+    requires some { HaveNoEmpty (secrets_of rules.now) }
+    ensures outcome { LoadOutcome W.Write E.Sink F.Folder
+        folder.now (all_given given.now) rules.now key.entry result streams.old streams.new }
+    ensures flushed { OnOk result (streams.new.output.device.flushed ≡ true) }
+{
+    let strict = has(given, Word::Strict);
+    match warn_of_lists(&mut streams.errors, given, rules, strict) {
+        Ok(()) => redact_counted(alloc, given, rules, key, folder, streams),
         Err(failure) => Err(failure),
     }
 }
@@ -303,13 +323,13 @@ fn load_key<'a, F: Folder, I: Read, W: Write, E: Sink>(
 fn redact_counted<'a, F: Folder, I: Read, W: Write, E: Sink>(
     alloc: Global,
     given: &[Item<'_>],
-    rules: &[Rule<'a>],
+    rules: &[Rule],
     key: Option<&[u8]>,
     folder: &F,
     streams: &mut Streams<'_, I, W, E>,
 ) -> Result<bool, Failure<'a>>
     requires some { HaveNoEmpty (secrets_of rules.now) }
-    ensures outcome { LoadOutcome W.Write E.Sink F.Folder
+    ensures outcome { DoubtedOutcome W.Write E.Sink F.Folder
         folder.now (all_given given.now) rules.now key.entry result streams.old streams.new }
     ensures flushed { OnOk result (streams.new.output.device.flushed ≡ true) }
 {
@@ -331,7 +351,7 @@ fn redact_counted<'a, F: Folder, I: Read, W: Write, E: Sink>(
 fn redact_telling<'a, F: Folder, I: Read, W: Write, E: Sink>(
     alloc: Global,
     given: &[Item<'_>],
-    rules: &[Rule<'a>],
+    rules: &[Rule],
     key: Option<&[u8]>,
     folder: &F,
     tally: &mut [u64],
@@ -339,7 +359,7 @@ fn redact_telling<'a, F: Folder, I: Read, W: Write, E: Sink>(
 ) -> Result<bool, Failure<'a>>
     requires some { HaveNoEmpty (secrets_of rules.now) }
     requires none { tally.old ≡ zeros (counts_given given.now) rules.now }
-    ensures outcome { LoadOutcome W.Write E.Sink F.Folder
+    ensures outcome { DoubtedOutcome W.Write E.Sink F.Folder
         folder.now (all_given given.now) rules.now key.entry result streams.old streams.new }
     ensures flushed { OnOk result (streams.new.output.device.flushed ≡ true) }
 {
@@ -365,7 +385,7 @@ pub fn tell_counted<'a, E: Sink>(
     alloc: Global,
     all: bool,
     given: &[Item<'_>],
-    rules: &[Rule<'_>],
+    rules: &[Rule],
     tally: &[u64],
     volume: Volume,
     errors: &mut Errors<'_, E>,
@@ -396,7 +416,7 @@ fn tell_totals<E: Sink>(
     alloc: Global,
     errors: &mut Errors<'_, E>,
     given: &[Item<'_>],
-    rules: &[Rule<'_>],
+    rules: &[Rule],
     tally: &[u64],
     volume: Volume,
 ) -> Result<(), AllocError>
@@ -415,7 +435,7 @@ fn tell_totals<E: Sink>(
 fn put_asked_counts(
     text: &mut Vec<u8>,
     given: &[Item<'_>],
-    rules: &[Rule<'_>],
+    rules: &[Rule],
     tally: &[u64],
 ) -> Result<(), AllocError>
     ensures put { OnOk result (PutsText text.old text.new
@@ -467,7 +487,7 @@ pub fn key_by(bytes: Option<&[u8]>, ignore_case: bool) -> Option<Key<'_>>
 fn redact_all<'a, F: Folder, I: Read, W: Write, E: Sink>(
     alloc: Global,
     given: &[Item<'_>],
-    rules: &[Rule<'a>],
+    rules: &[Rule],
     key: Option<&[u8]>,
     folder: &F,
     counts: &mut [u64],
@@ -475,7 +495,7 @@ fn redact_all<'a, F: Folder, I: Read, W: Write, E: Sink>(
     streams: &mut Streams<'_, I, W, E>,
 ) -> Result<bool, Failure<'a>>
     requires some { HaveNoEmpty (secrets_of rules.now) }
-    ensures outcome { WarnedOutcome W.Write E.Sink (has Strict (all_given given.now)) (secrets_of rules.now)
+    ensures outcome { WarnedOutcome W.Write E.Sink (has Strict (all_given given.now))
         (work_by (call_of F.Folder folder.now (all_given given.now)) (loaded_as rules.now (key_lent key.entry)))
         result streams.old streams.new }
     ensures counted { CountsWork
@@ -515,7 +535,6 @@ fn redact_all<'a, F: Folder, I: Read, W: Write, E: Sink>(
         back.as_ref(),
         &job,
         &judge,
-        rules,
         strict,
         counts,
         volume,
@@ -538,8 +557,7 @@ fn redact_warned<
     rows: Option<&B>,
     back: Option<&Backward<C>>,
     job: &Job<'_, '_, F>,
-    judge: &Judge<'_, '_, '_>,
-    rules: &[Rule<'a>],
+    judge: &Judge<'_, '_>,
     strict: bool,
     counts: &mut [u64],
     volume: &mut Volume,
@@ -552,7 +570,7 @@ fn redact_warned<
     requires pieces { pieces_of job.now.replacements.now ≡ pieces_by judge.now }
     ensures outcome { IfOfAll A.Automaton B.Automaton automaton.now rows.entry judge.now
         (λ p. IfBackIs C.Automaton back.entry p
-        (WarnedJob W.Write E.Sink F.Folder strict (secrets_of rules.now) job.now p result streams.old streams.new)) }
+        (WarnedJob W.Write E.Sink F.Folder strict job.now p result streams.old streams.new)) }
     ensures counted { IfOfAll A.Automaton B.Automaton automaton.now rows.entry judge.now
         (λ p. IfBackIs C.Automaton back.entry p
         (JobCounts F.Folder job.now result streams.old streams.new counts.old counts.new p)) }
@@ -561,38 +579,21 @@ fn redact_warned<
 {
     let unclean = unclean_of(automaton, judge, job.covers, job.key.is_some());
     // Not by `?`: this error may hold names.
-    match warn_of(&mut streams.errors, rules, unclean, strict) {
+    match warn(&mut streams.errors, unclean, strict) {
         Ok(()) => Ok(redact_by(automaton, rows, back, job, counts, volume, streams)?),
         Err(failure) => Err(failure),
     }
 }
 
-/// Tells of patterns of lists that are doubtful and of a piece that is not clean, or refuses the first of these.
-pub fn warn_of<'a, E: Sink>(
-    errors: &mut Errors<'_, E>,
-    rules: &[Rule<'a>],
-    unclean: Option<Unclean>,
-    strict: bool,
-) -> Result<(), Failure<'a>>
-    ensures told { OnOk result (WarnsOfBoth E.Sink strict (secrets_of rules.now) unclean errors.old errors.new) }
-    ensures refused { IfErr result (IsWarnFailure strict (secrets_of rules.now) unclean) }
-    ensures untold { OnErr result (errors.new ≡ errors.old) }
-{
-    // Not by `?`: this error holds names.
-    match warn_of_lists(errors, rules, strict) {
-        Ok(()) => warn(errors, unclean, strict),
-        Err(failure) => Err(failure),
-    }
-}
-
 /// Tells of a piece that is not clean, or refuses it.
-fn warn<'a, E: Sink>(
+pub fn warn<'a, E: Sink>(
     errors: &mut Errors<'_, E>,
     unclean: Option<Unclean>,
     strict: bool,
 ) -> Result<(), Failure<'a>>
     ensures told { OnOk result (TellsUnclean E.Sink strict unclean errors.old errors.new) }
-    ensures refused { IfErr result (RefusesPiece strict unclean) }
+    ensures refused { IfErr result (λ failure. (piece : Unclean) × (unclean ≡ Some piece)
+        × (failure ≡ UncleanPiece piece) × (strict ≡ true)) }
     ensures untold { OnErr result (errors.new ≡ errors.old) }
 {
     match unclean {

@@ -17,7 +17,7 @@ loop-line-preserved c =
     let one = c.in_ok-add_part.ensures.added in (
       front ++ (c.in-Some.line.now ∷ []),
       line_more _ front _ c.in-Some.line.now c.in-Some.more.now is c.in-Some.ensures.split c.in-Some.ensures.first,
-      part_more _ _ _ one.more front c.in-Some.line.now added one.grown one.of,
+      part_more _ _ _ _ one.more front c.in-Some.line.now added one.grown one.of,
     )
 
 pub returns-clause-added : goal.returns-clause-added
@@ -25,8 +25,8 @@ returns-clause-added c =
     let (front, is, added) = c.loop-line.invariant in
     on_ok_weaker c.add_part-2.result
     (λ last. record {
-      more = flat_map line_secrets (front ++ (c.loop-line.rest.now ∷ []));
-      grown = part_more _ _ _ last.more front c.loop-line.rest.now added last.grown last.of;
-      of = ap (flat_map line_secrets) (sym (line_last _ front c.loop-line.rest.now is c.in_default.ensures.none));
+      more = flat_map (line_secrets c.args.list) (front ++ (c.loop-line.rest.now ∷ []));
+      grown = part_more _ _ _ _ last.more front c.loop-line.rest.now added last.grown last.of;
+      of = ap (flat_map (line_secrets c.args.list)) (sym (line_last _ front c.loop-line.rest.now is c.in_default.ensures.none));
     })
     c.add_part-2.ensures.added

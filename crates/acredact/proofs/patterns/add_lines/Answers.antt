@@ -1,5 +1,5 @@
 -- One line more is added, and at the end the last one.
-use Rattle.std.proofs.Common.{rules, ◌≡◌, ◌≤◌, [], ◌∷◌, ◌++◌, length, length-append, refl, sym, subst, ◌∙◌, append_assoc, arith}
+use Rattle.std.proofs.Common.{rules, ◌≡◌, ◌≤◌, [], ◌∷◌, ◌++◌, length, length-append, sym, subst, ◌∙◌, append_assoc, arith}
 use Rattle.std.specs.Prelude.{Err, IfErr, nat_eq}
 use Rattle.std.specs.List.{slice_split}
 use Rattle.std.proofs.lemmas.Result.{IfErr-weaker, on_ok_weaker}
@@ -13,7 +13,7 @@ loop-line-preserved c =
     let (front, is, added, counts) = c.loop-line.invariant in (
       front ++ (c.in-Some.line.now ∷ []),
       line_more _ front _ c.in-Some.line.now c.in-Some.more.now is c.in-Some.ensures.split c.in-Some.ensures.first,
-      added_line _ _ _ _ _ _ front c.in-Some.line.now refl counts added c.in_ok-add_numbered.ensures.added,
+      added_line _ _ _ _ _ front c.in-Some.line.now counts added c.in_ok-add_numbered.ensures.added,
       omega (arith, length-append front (c.in-Some.line.now ∷ []), counts, c.saturating_add-number.ensures),
     )
 
@@ -35,9 +35,9 @@ returns-clause-added c =
     let some : 1 ≤ length c.args.text.now = search rules in
     on_ok_weaker c.add_numbered-2.result
     (λ last.
-    subst (IsAddedList c.args.form c.args.list.now (secrets_of c.args.rules.now.items) (secrets_of c.add_numbered-2.new.rules.items))
+    subst (IsAddedList c.args.form (secrets_of c.args.rules.now.items) (secrets_of c.add_numbered-2.new.rules.items))
     (sym (lines_some c.args.text.now some ∙ line_last _ front c.loop-line.rest.now is c.in_default.ensures.none))
-    (added_line _ _ _ _ _ _ front c.loop-line.rest.now refl counts added last))
+    (added_line _ _ _ _ _ front c.loop-line.rest.now counts added last))
     c.add_numbered-2.ensures.added
 
 pub returns-clause-fault : goal.returns-clause-fault

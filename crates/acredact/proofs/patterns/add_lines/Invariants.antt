@@ -9,7 +9,7 @@ use Rattle.acredact.proofs.patterns.add_lines.Given as goal
 abbrev pub invariant-loop-line : goal.invariant-loop-line
 invariant-loop-line l = (front : List (List ℕ))
     × (slice_split (λ b. nat_eq b 10) (strip_last 10 l.fn.text) ≡ front ++ slice_split (λ b. nat_eq b 10) l.rest)
-    × IsAddedList l.fn.form l.fn.list (secrets_of l.initial.rules.items) (secrets_of l.rules.items) front
+    × IsAddedList l.fn.form (secrets_of l.initial.rules.items) (secrets_of l.rules.items) front
     × (l.number ≡ min (length front + 1) (2 ^ 64 - 1))
 
 abbrev pub decreases-loop-line : goal.decreases-loop-line

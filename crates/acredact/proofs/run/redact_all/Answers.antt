@@ -113,23 +113,23 @@ returns-in_err-nfa-clause-outcome g c =
     let work = work_by (call_of g.F.Folder c.args.folder.now (all_given c.args.given.now)) (loaded_as c.args.rules.now (key_lent c.args.key)) in
     let is : c.from_residual-in_err-nfa.result ≡ Err (Other (Build c.in_err-nfa.field-0.0)) = search rules in
     let words = ap pieces_of c.as_slice-words.ensures.value ∙ c.in_ok-patterns.ensures.patterns in
-    subst (λ (r : Result Bool Failure). WarnedOutcome g.W.Write g.E.Sink (has Strict (all_given c.args.given.now)) (secrets_of c.args.rules.now) work r c.args.streams.now c.args.streams.now) (sym is)
-    (warned_built g.W.Write g.E.Sink (has Strict (all_given c.args.given.now)) (secrets_of c.args.rules.now) work c.args.streams.now _
+    subst (λ (r : Result Bool Failure). WarnedOutcome g.W.Write g.E.Sink (has Strict (all_given c.args.given.now)) work r c.args.streams.now c.args.streams.now) (sym is)
+    (warned_built g.W.Write g.E.Sink (has Strict (all_given c.args.given.now)) work c.args.streams.now _
     (c.in_err-nfa.field-0.0, refl, subst (λ (l : List (List ℕ)). RefusesPatterns (patterns_by_given (all_given c.args.given.now) l) c.in_err-nfa.field-0.0) words c.in_err-nfa.ensures.refused))
 
 pub returns-in_err-rows-clause-outcome : goal.returns-in_err-rows-clause-outcome
 returns-in_err-rows-clause-outcome g c =
     let work = work_by (call_of g.F.Folder c.args.folder.now (all_given c.args.given.now)) (loaded_as c.args.rules.now (key_lent c.args.key)) in
     let is : c.from_residual-in_err-rows.result ≡ Err (Other OutOfMemory) = search rules in
-    subst (λ (r : Result Bool Failure). WarnedOutcome g.W.Write g.E.Sink (has Strict (all_given c.args.given.now)) (secrets_of c.args.rules.now) work r c.args.streams.now c.args.streams.now) (sym is)
-    (warned_memory g.W.Write g.E.Sink (has Strict (all_given c.args.given.now)) (secrets_of c.args.rules.now) work c.args.streams.now)
+    subst (λ (r : Result Bool Failure). WarnedOutcome g.W.Write g.E.Sink (has Strict (all_given c.args.given.now)) work r c.args.streams.now c.args.streams.now) (sym is)
+    (warned_memory g.W.Write g.E.Sink (has Strict (all_given c.args.given.now)) work c.args.streams.now)
 
 pub returns-in_err-back-clause-outcome : goal.returns-in_err-back-clause-outcome
 returns-in_err-back-clause-outcome g c =
     let work = work_by (call_of g.F.Folder c.args.folder.now (all_given c.args.given.now)) (loaded_as c.args.rules.now (key_lent c.args.key)) in
     let is : c.from_residual-in_err-back.result ≡ Err (Other OutOfMemory) = search rules in
-    subst (λ (r : Result Bool Failure). WarnedOutcome g.W.Write g.E.Sink (has Strict (all_given c.args.given.now)) (secrets_of c.args.rules.now) work r c.args.streams.now c.args.streams.now) (sym is)
-    (warned_memory g.W.Write g.E.Sink (has Strict (all_given c.args.given.now)) (secrets_of c.args.rules.now) work c.args.streams.now)
+    subst (λ (r : Result Bool Failure). WarnedOutcome g.W.Write g.E.Sink (has Strict (all_given c.args.given.now)) work r c.args.streams.now c.args.streams.now) (sym is)
+    (warned_memory g.W.Write g.E.Sink (has Strict (all_given c.args.given.now)) work c.args.streams.now)
 
 pub returns-clause-counted : goal.returns-clause-counted
 returns-clause-counted g c =
@@ -144,9 +144,9 @@ returns-clause-outcome g c =
     let p = patterns_by_given (all_given c.args.given.now) (patterns_in (secrets_of c.args.rules.now)) in
     let after = (goal.at.returns-clause-outcome g c).After-as_ref in
     let work = work_by (call_of g.F.Folder c.args.folder.now (all_given c.args.given.now)) (loaded_as c.args.rules.now (key_lent c.args.key)) in
-    subst (λ (b : Bool). WarnedOutcome g.W.Write g.E.Sink b (secrets_of c.args.rules.now) work c.redact_warned.result c.args.streams.now c.redact_warned.new.streams) c.has-strict.ensures.has
+    subst (λ (b : Bool). WarnedOutcome g.W.Write g.E.Sink b work c.redact_warned.result c.args.streams.now c.redact_warned.new.streams) c.has-strict.ensures.has
     (work_as (g.F.Folder.holds c.args.folder.now) (g.F.Folder.refuses c.args.folder.now) (g.F.Folder.meets c.args.folder.now) p _ _ _ _ _ _ _ _ (names_are g after) (covers_are g after) (pieces_are g after) (key_is g after)
-    (λ w. WarnedOutcome g.W.Write g.E.Sink c.has-strict.result (secrets_of c.args.rules.now) w c.redact_warned.result c.args.streams.now c.redact_warned.new.streams) (c.redact_warned.ensures.outcome p (nfa_is g after) (patterns_are g after) (rows_are g after)
+    (λ w. WarnedOutcome g.W.Write g.E.Sink c.has-strict.result w c.redact_warned.result c.args.streams.now c.redact_warned.new.streams) (c.redact_warned.ensures.outcome p (nfa_is g after) (patterns_are g after) (rows_are g after)
     (back_is (all_given c.args.given.now) _ _ c.in_ok-back.back c.as_ref-2.result (words_are g after) c.as_ref-2.ensures.value c.in_ok-back.ensures.of)))
 
 pub returns-clause-read : goal.returns-clause-read

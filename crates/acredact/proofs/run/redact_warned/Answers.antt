@@ -22,17 +22,17 @@ pub returns-in_err-redact_by-in-Ok-clause-outcome : goal.returns-in_err-redact_b
 returns-in_err-redact_by-in-Ok-clause-outcome g c = λ p of are rows back.
     let work = work_of g.F.Folder c.args.job.now (redactor_of c.args.job.now p) in
     let is : c.from_residual.result ≡ Err (Other (failure_of_stream c.in_err-redact_by-in-Ok.field-0.0)) = search rules in
-    subst (λ (r : Result Bool Failure). WarnedOutcome g.W.Write g.E.Sink c.args.strict (secrets_of c.args.rules.now) work r c.args.streams.now c.redact_by.new.streams) (sym is)
-    (warned_run g.W.Write g.E.Sink c.args.strict (secrets_of c.args.rules.now) work c.args.streams.now c.redact_by.new.streams c.warn_of.new.errors c.unclean_of-unclean.result _ (judged_as p c.args.job.now.covers _ _ _ _ c.unclean_of-unclean.result c.is_some.ensures c.requires.pieces (c.unclean_of-unclean.ensures.judged p of are)) c.in-Ok.ensures.told
+    subst (λ (r : Result Bool Failure). WarnedOutcome g.W.Write g.E.Sink c.args.strict work r c.args.streams.now c.redact_by.new.streams) (sym is)
+    (warned_run g.W.Write g.E.Sink c.args.strict work c.args.streams.now c.redact_by.new.streams c.warn.new.errors c.unclean_of-unclean.result _ (judged_as p c.args.job.now.covers _ _ _ _ c.unclean_of-unclean.result c.is_some.ensures c.requires.pieces (c.unclean_of-unclean.ensures.judged p of are)) c.in-Ok.ensures.told
     (run_fails g.W.Write g.E.Sink work _ _ _ (c.in_err-redact_by-in-Ok.ensures.outcome p of rows back)))
 
 pub returns-in_ok-redact_by-in-Ok-clause-outcome : goal.returns-in_ok-redact_by-in-Ok-clause-outcome
 returns-in_ok-redact_by-in-Ok-clause-outcome g c = λ p of are rows back.
     let work = work_of g.F.Folder c.args.job.now (redactor_of c.args.job.now p) in
-    warned_run g.W.Write g.E.Sink c.args.strict (secrets_of c.args.rules.now) work c.args.streams.now c.redact_by.new.streams c.warn_of.new.errors c.unclean_of-unclean.result _ (judged_as p c.args.job.now.covers _ _ _ _ c.unclean_of-unclean.result c.is_some.ensures c.requires.pieces (c.unclean_of-unclean.ensures.judged p of are)) c.in-Ok.ensures.told
+    warned_run g.W.Write g.E.Sink c.args.strict work c.args.streams.now c.redact_by.new.streams c.warn.new.errors c.unclean_of-unclean.result _ (judged_as p c.args.job.now.covers _ _ _ _ c.unclean_of-unclean.result c.is_some.ensures c.requires.pieces (c.unclean_of-unclean.ensures.judged p of are)) c.in-Ok.ensures.told
     (run_done g.W.Write g.E.Sink work _ _ _ (c.in_ok-redact_by-in-Ok.ensures.outcome p of rows back))
 
 pub returns-in-Err-clause-outcome : goal.returns-in-Err-clause-outcome
 returns-in-Err-clause-outcome g c = λ p of are rows back.
     let work = work_of g.F.Folder c.args.job.now (redactor_of c.args.job.now p) in
-    warned_strict g.W.Write g.E.Sink c.args.strict (secrets_of c.args.rules.now) work c.args.streams.now c.warn_of.new.errors c.unclean_of-unclean.result c.in-Err.failure (judged_as p c.args.job.now.covers _ _ _ _ c.unclean_of-unclean.result c.is_some.ensures c.requires.pieces (c.unclean_of-unclean.ensures.judged p of are)) c.in-Err.ensures.refused c.in-Err.ensures.untold
+    warned_strict g.W.Write g.E.Sink c.args.strict work c.args.streams.now c.warn.new.errors c.unclean_of-unclean.result c.in-Err.failure (judged_as p c.args.job.now.covers _ _ _ _ c.unclean_of-unclean.result c.is_some.ensures c.requires.pieces (c.unclean_of-unclean.ensures.judged p of are)) c.in-Err.ensures.refused c.in-Err.ensures.untold
