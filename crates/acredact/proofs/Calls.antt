@@ -19,7 +19,7 @@ use Rattle.programs.specs.declared.reason.Reason.{Reason}
 use Rattle.programs.proofs.Tellings.{tells-later}
 use Rattle.acredact.specs.Arguments.{Given, counts_asked}
 use Rattle.acredact.specs.Calls.{BeginsCall, Call, CallOutcome, IsBuildRefusal, IsCountsFailure, IsCountsLine, IsLineOf, IsRunFailure, IsUnreadLine, IsUntouched, MayFail, OutputFails, RestOutcome, RunOutcome, TellsCounts, names_asked, reading_by, work_by}
-use Rattle.acredact.specs.Counts.{lines_of, zeros}
+use Rattle.acredact.specs.Counts.{secret_lines, zeros}
 use Rattle.acredact.specs.Files.{AreCut, FilesOutcome, IsDone, Work, are_none, unread_line}
 use Rattle.acredact.specs.Messages.{output_line}
 use Rattle.acredact.specs.Loading.{AreLoaded, Loaded, loaded_as}
@@ -67,11 +67,11 @@ tells_same K IsLine old new same = record { told = []; are_lines = All-nil IsLin
 
 -- the text of the counts was
 pub tells_counts : {E : Type 0} (K : SinkGhosts E) (given : List Given) (old new : Errors E) (secrets : List Secret) (counts : List ℕ) (volume : Volume) → counts_asked given ≡ true
-    → TellsBytes K old new (totals_text given (lines_of secrets) counts volume) → Tells K (IsCountsLine given secrets) old new
+    → TellsBytes K old new (totals_text given (secret_lines secrets) counts volume) → Tells K (IsCountsLine given secrets) old new
 tells_counts K given old new secrets counts volume is told = record {
-  told = totals_text given (lines_of secrets) counts volume ∷ [];
-  are_lines = All-cons (IsCountsLine given secrets) (totals_text given (lines_of secrets) counts volume) [] (is, (counts, volume, refl)) (All-nil (IsCountsLine given secrets));
-  written = subst (TellsBytes K old new) (sym (append-nil (totals_text given (lines_of secrets) counts volume))) told;
+  told = totals_text given (secret_lines secrets) counts volume ∷ [];
+  are_lines = All-cons (IsCountsLine given secrets) (totals_text given (secret_lines secrets) counts volume) [] (is, (counts, volume, refl)) (All-nil (IsCountsLine given secrets));
+  written = subst (TellsBytes K old new) (sym (append-nil (totals_text given (secret_lines secrets) counts volume))) told;
 }
 
 -- before anything was touched

@@ -6,7 +6,7 @@ use Rattle.std.specs.List.{AllZip, slice_split}
 use Rattle.std.proofs.lemmas.Bool.{ne_eqb}
 use Rattle.std.proofs.lemmas.List.Splits.{slice_split_at, slice_split_none}
 use Rattle.acredact.specs.LineFaults.{IsLineFaultBy, IsListFault, NamesNone}
-use Rattle.acredact.specs.Tables.{AreNumbered, HoldsBy, IsAdded, IsAddedList, IsWithout, Secret, lines_in}
+use Rattle.acredact.specs.Tables.{HaveLines, HoldsBy, IsAdded, IsAddedList, IsWithout, Secret, lines_in}
 use Rattle.acredact.specs.declared.patterns.BadLine.{BadLine}
 use Rattle.acredact.specs.declared.patterns.Form.{Form}
 use Rattle.acredact.specs.declared.patterns.Place.{Place}
@@ -26,7 +26,7 @@ zip_length R (x ∷ xs) [] h = absurd h
 zip_length R (x ∷ xs) (a ∷ us) h = omega (arith, zip_length R xs us h.1)
 
 -- a secret more is numbered behind the others
-numbered_more : (before : ℕ) (more : List Secret) (secret : Secret) → AreNumbered before more → secret.line ≡ min (before + length more + 1) (2 ^ 64 - 1) → AreNumbered before (more ++ (secret ∷ []))
+numbered_more : (before : ℕ) (more : List Secret) (secret : Secret) → HaveLines before more → secret.line ≡ min (before + length more + 1) (2 ^ 64 - 1) → HaveLines before (more ++ (secret ∷ []))
 numbered_more before [] secret are at =
     let e : before + length {A = Secret} [] + 1 ≡ before + 1 = omega arith in
     (at ∙ ap (λ (n : ℕ). min n (2 ^ 64 - 1)) e, tt)

@@ -19,7 +19,7 @@ use Rattle.programs.specs.declared.failure.Failure.TheVariants.{Build, OutOfMemo
 use Rattle.programs.specs.declared.reason.Reason.{Reason}
 use Rattle.acredact.specs.Arguments.{Given, GivesNoPattern, RefusesUnclean, counts_asked, covers_asked, has, is_same, last_value}
 use Rattle.acredact.specs.Builds.{RefusesPatterns, patterns_by_given}
-use Rattle.acredact.specs.Counts.{lines_of, lines_of_rules}
+use Rattle.acredact.specs.Counts.{secret_lines, lines_of_rules}
 use Rattle.acredact.specs.Doubts.{IsDoubtFailure, TellsDoubts, TellsWarnings, all_doubt_lines}
 use Rattle.acredact.specs.Failures.{IsFailureLine}
 use Rattle.acredact.specs.Files.{AreCut, AreDone, AreFree, AreRedacted, Does, Work, are_none, redactor_of, unread_line, work_of}
@@ -167,7 +167,7 @@ IsUnreadLine names line = (name : List ℕ) × IsOneOf name names × (((reason :
 
 -- the lines of the counts of some patterns, each with the line of its file
 abbrev pub IsCountsText : List Given → List Secret → List ℕ → Type 0
-IsCountsText given secrets text = (counts : List ℕ) × (volume : Volume) × (text ≡ totals_text given (lines_of secrets) counts volume)
+IsCountsText given secrets text = (counts : List ℕ) × (volume : Volume) × (text ≡ totals_text given (secret_lines secrets) counts volume)
 
 -- that, where they are asked for
 abbrev pub IsCountsLine : List Given → List Secret → List ℕ → Type 0
@@ -226,7 +226,7 @@ TellsAnyCounts K given rules counts volume errors errors' = MatchBool (counts_as
 pub record TellsTotals {E : Type 0} (K : SinkGhosts E) (given : List Given) (secrets : List Secret) (ranges : List Occurrence) (volume : Volume) (errors errors' : Errors E) : Type 0 where
   pub counts : List ℕ
   pub totals : AreTotals (length secrets) ranges counts
-  pub told : TellsBytes K errors errors' (totals_text given (lines_of secrets) counts volume)
+  pub told : TellsBytes K errors errors' (totals_text given (secret_lines secrets) counts volume)
   pub whole : errors'.failed ≡ false
 
 -- of all patterns that were loaded the pieces are told, where they are not clean

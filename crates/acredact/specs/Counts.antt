@@ -29,11 +29,11 @@ counts_text number [] counts = []
 counts_text number (line ∷ lines) [] = []
 counts_text number (line ∷ lines) (count ∷ counts) = count_line count number line ++ counts_text (counted_more number) lines counts
 
-abbrev pub lines_of : List Secret → List ℕ
-lines_of secrets = map (λ secret. secret.line) secrets
+abbrev pub secret_lines : List Secret → List ℕ
+secret_lines secrets = map (λ secret. secret.line) secrets
 
 abbrev pub lines_of_rules : List Rule → List ℕ
-lines_of_rules rules = lines_of (secrets_of rules)
+lines_of_rules rules = secret_lines (secrets_of rules)
 
 -- what is told of these rules
 abbrev pub counts_told : List Rule → (counts : List ℕ) → List ℕ

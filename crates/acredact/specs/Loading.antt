@@ -12,7 +12,7 @@ use Rattle.acredact.specs.Arguments.{Given, last_value}
 use Rattle.acredact.specs.LineFaults.{IsLineFault, IsListFault, mark_in}
 use Rattle.acredact.specs.Parts.{GivesPattern}
 use Rattle.acredact.specs.Reads.{OfName, ReadsText}
-use Rattle.acredact.specs.Tables.{AreNumbered, HoldsBy, Secret, lines_in, secrets_of}
+use Rattle.acredact.specs.Tables.{HaveLines, HoldsBy, Secret, lines_in, secrets_of}
 use Rattle.acredact.specs.declared.arguments.Word.{Word}
 use Rattle.acredact.specs.declared.arguments.Word.TheVariants.{IgnoreCase, Kind, Pattern, Patterns, Table, With, Pseudonym, Output, InPlace, Count, Summary, Crlf, AllowEmpty, Strict, Check, Help, Version, File}
 use Rattle.acredact.specs.declared.failure.Failure.{Failure}
@@ -48,7 +48,7 @@ pub record HoldsSecrets (rules : Rules) (table : Bool) (text : List ℕ) (secret
   pub some : text ≡ [] → rules.allow_empty ≡ true
   pub unmarked : mark_in text ≡ None
   pub held : AllZip (HoldsBy (form_by rules table)) (lines_in text) secrets
-  pub numbered : AreNumbered 0 secrets
+  pub numbered : HaveLines 0 secrets
 
 -- the list of this name was read, and it holds these
 pub record GivesSecrets (reading : Reading) (table : Bool) (name : List ℕ) (secrets : List Secret) (left left' : Option (List ℕ)) : Type 0 where

@@ -74,14 +74,14 @@ pub record HoldsBy (form : Form) (line : List ℕ) (secret : Secret) : Type 0 wh
   pub no_zero : IsWithout 0 (stripped_by form line)
 
 -- a secret stands here
-pub record StandsAt (place : Place) (secret : Secret) : Type 0 where
+pub record StandsHere (place : Place) (secret : Secret) : Type 0 where
   pub list_is : secret.list ≡ place.list
   pub line_is : secret.line ≡ place.line
 
 -- secrets stand in one line each, behind some lines; a number stops at the greatest
-abbrev pub AreNumbered : ℕ → List Secret → Type 0
-AreNumbered before [] = Unit {0}
-AreNumbered before (secret ∷ secrets) = (secret.line ≡ min (before + 1) (2 ^ 64 - 1)) × AreNumbered (before + 1) secrets
+abbrev pub HaveLines : ℕ → List Secret → Type 0
+HaveLines before [] = Unit {0}
+HaveLines before (secret ∷ secrets) = (secret.line ≡ min (before + 1) (2 ^ 64 - 1)) × HaveLines (before + 1) secrets
 
 -- what is written for a pattern: its own replacement, or a text where it has none
 abbrev pub piece_by : List ℕ → Secret → List ℕ
@@ -92,21 +92,21 @@ pub record IsAdded (Is : Secret → Type 0) (place : Place) (old new : List Secr
   pub secret : Secret
   pub grown : new ≡ old ++ (secret ∷ [])
   pub held : Is secret
-  pub stands : StandsAt place secret
+  pub stands : StandsHere place secret
 
 -- what the lines of a file hold is added, in order
 pub record IsAddedList (form : Form) (old new : List Secret) (lines : List (List ℕ)) : Type 0 where
   pub more : List Secret
   pub grown : new ≡ old ++ more
   pub held : AllZip (HoldsBy form) lines more
-  pub numbered : AreNumbered 0 more
+  pub numbered : HaveLines 0 more
 
 -- the same, of the rules before and after
 abbrev pub AddsLine : {Z : Type 0} → Bool → List ℕ → Place → (rules rules' : Vec Rule Z) → Type 0
 AddsLine table line place rules rules' = IsAdded (Holds table line) place (secrets_of rules.items) (secrets_of rules'.items)
 
-abbrev pub AddsListed : {Z : Type 0} → Form → List ℕ → Place → (rules rules' : Vec Rule Z) → Type 0
-AddsListed form line place rules rules' = IsAdded (HoldsBy form line) place (secrets_of rules.items) (secrets_of rules'.items)
+abbrev pub AddsOf : {Z : Type 0} → Form → List ℕ → Place → (rules rules' : Vec Rule Z) → Type 0
+AddsOf form line place rules rules' = IsAdded (HoldsBy form line) place (secrets_of rules.items) (secrets_of rules'.items)
 
 abbrev pub AddsLines : {Z : Type 0} → Form → List (List ℕ) → (rules rules' : Vec Rule Z) → Type 0
 AddsLines form lines rules rules' = IsAddedList form (secrets_of rules.items) (secrets_of rules'.items) lines

@@ -4,7 +4,7 @@ ghost use Rattle.std.specs.Prelude.{◌≡◌, ◌<◌, ◌≤◌, ◌∷◌, �
 ghost use Rattle.std.specs.Io.BufRead.{ends_with_byte, strip_last};
 ghost use Rattle.aho_core.specs.Replacement.{pieces_of};
 ghost use Rattle.acredact.specs.LineFaults.{IsBadStart, IsLineFault, IsLineFaultBy, IsListFault, IsTextFault, mark_in};
-ghost use Rattle.acredact.specs.Tables.{AddsLine, AddsLines, AddsListed, Holds, IsWithout, StandsAt, escape_of, in_table, stripped_by, lines_in, patterns_in, piece_by, secret_of, secrets_of};
+ghost use Rattle.acredact.specs.Tables.{AddsLine, AddsLines, AddsOf, Holds, IsWithout, StandsHere, escape_of, in_table, stripped_by, lines_in, patterns_in, piece_by, secret_of, secrets_of};
 
 use std::alloc::{AllocError, AllocFailed, Global};
 use std::slice;
@@ -101,7 +101,7 @@ pub fn without_last(text: &[u8], byte: u8) -> &[u8]
 fn plain(alloc: Global, line: &[u8], place: Place) -> Result<Rule, LineFault>
     ensures rule { IfOk result (λ rule. Holds false line.now (secret_of rule)) }
     ensures fault { IfErr result (IsLineFault false line.now) }
-    ensures stands { IfOk result (λ rule. StandsAt place (secret_of rule)) }
+    ensures stands { IfOk result (λ rule. StandsHere place (secret_of rule)) }
 {
     if line.is_empty() {
         return Err(LineFault::EmptyPattern);
@@ -118,7 +118,7 @@ fn plain(alloc: Global, line: &[u8], place: Place) -> Result<Rule, LineFault>
 fn row(alloc: Global, line: &[u8], place: Place) -> Result<Rule, LineFault>
     ensures rule { IfOk result (λ rule. Holds true line.now (secret_of rule)) }
     ensures fault { IfErr result (IsLineFault true line.now) }
-    ensures stands { IfOk result (λ rule. StandsAt place (secret_of rule)) }
+    ensures stands { IfOk result (λ rule. StandsHere place (secret_of rule)) }
 {
     let Some((before, behind)) = split_at(line, b'\t') else {
         return Err(LineFault::NoTab);
@@ -278,7 +278,7 @@ fn add_numbered(
     form: Form,
     place: Place,
 ) -> Result<(), BadLine>
-    ensures added { OnOk result (AddsListed form line.now place rules.old rules.new) }
+    ensures added { OnOk result (AddsOf form line.now place rules.old rules.new) }
     ensures number { IfErr result (λ bad. bad.number ≡ place.line) }
     ensures fault { IfErr result (λ bad. IsLineFaultBy form line.now bad.fault) }
 {
@@ -299,7 +299,7 @@ fn add_listed(
     form: Form,
     place: Place,
 ) -> Result<(), LineFault>
-    ensures added { OnOk result (AddsListed form line.now place rules.old rules.new) }
+    ensures added { OnOk result (AddsOf form line.now place rules.old rules.new) }
     ensures fault { IfErr result (IsLineFaultBy form line.now) }
 {
     let line = stripped_by(form, line);
