@@ -1,8 +1,8 @@
 -- Names as they stand in messages, byte after byte, and messages part after part.
 use Rattle.std.proofs.Common.{◌≡◌, ℕ, ◌-◌, ◌≤◌, Bool, true, false, List, [], ◌∷◌, ◌++◌, length, take, drop, refl, sym, ap, subst, ◌∙◌, append-nil, append_assoc, arith}
-use Rattle.std.specs.Prelude.{if◌then◌else◌, codes, slice_index}
+use Rattle.std.specs.Prelude.{◌/◌, ◌%◌, if◌then◌else◌, codes, slice_index}
 use Rattle.std.proofs.Math.Seq.{take-length}
-use Rattle.acredact.specs.Messages.{escaped_of, is_control, shown}
+use Rattle.acredact.specs.Messages.{digit_of, escaped_of, is_control, shown}
 
 -- a list of no length is empty
 pub nil_of : {X : Type 0} (xs : List X) → length xs ≡ 0 → xs ≡ []
@@ -23,11 +23,11 @@ shown_next all done (b ∷ rest) some is =
 
 -- a byte that is none is shown as it is
 plain_byte : (byte : ℕ) → is_control byte ≡ false → escaped_of byte ≡ byte ∷ []
-plain_byte byte none = by (is_control byte) none
+plain_byte byte none = by (codes "\\x" ++ (digit_of (byte / 16) ∷ digit_of (byte % 16) ∷ [])) (is_control byte) none
   where
-    by : (control : Bool) → control ≡ false → (if control then _ else byte ∷ []) ≡ byte ∷ []
-    by true is = absurd (cc)
-    by false is = refl
+    by : (escape : List ℕ) (control : Bool) → control ≡ false → (if control then escape else byte ∷ []) ≡ byte ∷ []
+    by escape true is = let clash : true ≡ false = is in absurd (cc)
+    by escape false is = refl
 
 pub plain_next : (all name done rest : List ℕ) → 1 ≤ length rest → (name ≡ done ++ rest) × (all ≡ done ++ shown rest) → is_control (slice_index rest 0) ≡ false
     → (name ≡ (done ++ (slice_index rest 0 ∷ [])) ++ take (length rest - 1) (drop 1 rest)) × (all ≡ (done ++ (slice_index rest 0 ∷ [])) ++ shown (take (length rest - 1) (drop 1 rest)))
