@@ -4,8 +4,8 @@ use Rattle.std.specs.Prelude.{None, Some}
 use Rattle.std.proofs.lemmas.List.Elements.{All-nil}
 use Rattle.acredact.specs.Doubts.{AreUndoubted, doubt_of}
 use Rattle.acredact.specs.Tables.{Secret, secret_of, secrets_of}
-use Rattle.acredact.proofs.Doubts.{first_rule, undoubted_next}
-use Rattle.acredact.proofs.Shown.{nil_of}
+use Rattle.acredact.proofs.Doubting.{first_rule, undoubted_next}
+use Rattle.acredact.proofs.ShownNames.{nil_of}
 use Rattle.acredact.proofs.doubts.refuse_doubtful.Goals as goal
 
 pub loop-rest-init : goal.loop-rest-init

@@ -7,8 +7,8 @@ use Rattle.acredact.specs.Arguments.{all_given}
 use Rattle.acredact.specs.Doubts.{all_doubt_lines}
 use Rattle.acredact.specs.Tables.{secrets_of}
 use Rattle.acredact.proofs.Done.{tells_none}
-use Rattle.acredact.proofs.Doubts.{doubts_next}
-use Rattle.acredact.proofs.Shown.{nil_of}
+use Rattle.acredact.proofs.Doubting.{doubts_next}
+use Rattle.acredact.proofs.ShownNames.{nil_of}
 use Rattle.acredact.proofs.doubts.tell_doubtful.Goals as goal
 
 pub loop-rest-init : goal.loop-rest-init

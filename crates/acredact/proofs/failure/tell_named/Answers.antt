@@ -3,7 +3,7 @@ use Rattle.std.proofs.Common.{rules, ◌≡◌, ℕ, List, ◌++◌, sym, subst,
 use Rattle.programs.specs.Telling.{TellsBytes}
 use Rattle.programs.proofs.Tellings.{tells-later}
 use Rattle.acredact.specs.Messages.{shown}
-use Rattle.acredact.proofs.Shown.{three_parts}
+use Rattle.acredact.proofs.ShownNames.{three_parts}
 use Rattle.acredact.proofs.failure.tell_named.Goals as goal
 
 pub returns-then-is_plain : goal.returns-then-is_plain

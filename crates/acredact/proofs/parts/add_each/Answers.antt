@@ -5,7 +5,7 @@ use Rattle.std.proofs.lemmas.Result.{on_ok_weaker}
 use Rattle.acredact.specs.Parts.{line_secrets}
 use Rattle.acredact.specs.Tables.{secrets_of}
 use Rattle.acredact.proofs.Lines.{line_last, line_more}
-use Rattle.acredact.proofs.Parts.{part_more}
+use Rattle.acredact.proofs.PartLines.{part_more}
 use Rattle.acredact.proofs.parts.add_each.Goals as goal
 
 pub loop-line-init : goal.loop-line-init

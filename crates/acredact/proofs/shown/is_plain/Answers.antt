@@ -2,7 +2,7 @@
 use Rattle.std.proofs.Common.{rules, ◌≡◌, ℕ, ◌≤◌, List, [], ◌∷◌, ◌++◌, length, refl, sym, ap, ◌∙◌, false}
 use Rattle.std.specs.Prelude.{slice_index}
 use Rattle.acredact.specs.Messages.{is_control, shown}
-use Rattle.acredact.proofs.Shown.{nil_of, plain_next}
+use Rattle.acredact.proofs.ShownNames.{nil_of, plain_next}
 use Rattle.acredact.proofs.shown.is_plain.Goals as goal
 
 pub loop-rest-init : goal.loop-rest-init

@@ -5,7 +5,7 @@ use Rattle.programs.specs.Messages.{line_before}
 use Rattle.programs.specs.Telling.{TellsBytes}
 use Rattle.programs.proofs.Tellings.{tells-later}
 use Rattle.acredact.specs.Messages.{shown, told_line}
-use Rattle.acredact.proofs.Shown.{five_parts}
+use Rattle.acredact.proofs.ShownNames.{five_parts}
 use Rattle.acredact.proofs.shown.tell_shown.Goals as goal
 
 pub returns-then-is_plain : goal.returns-then-is_plain

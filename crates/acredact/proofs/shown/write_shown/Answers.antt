@@ -5,7 +5,7 @@ use Rattle.programs.specs.Telling.{TellsBytes}
 use Rattle.programs.proofs.Tellings.{tells-later}
 use Rattle.acredact.specs.Messages.{escaped_of, shown}
 use Rattle.acredact.proofs.Done.{tells_none}
-use Rattle.acredact.proofs.Shown.{nil_of, shown_next}
+use Rattle.acredact.proofs.ShownNames.{nil_of, shown_next}
 use Rattle.acredact.proofs.shown.write_shown.Goals as goal
 
 pub loop-rest-init : goal.loop-rest-init

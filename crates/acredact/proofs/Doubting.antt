@@ -8,7 +8,7 @@ use Rattle.acredact.specs.Doubts.{AreUndoubted, all_doubt_lines, doubt_lines, do
 use Rattle.acredact.specs.Tables.{Secret, secret_of, secrets_of}
 use Rattle.acredact.specs.declared.patterns.Rule.{Rule}
 use Rattle.acredact.proofs.Done.{concat_both}
-use Rattle.acredact.proofs.Shown.{rest_of}
+use Rattle.acredact.proofs.ShownNames.{rest_of}
 
 -- one more
 pub doubts_next : (given : List Given) (text done : List ℕ) (rules : List Rule) (other : Rule) → 1 ≤ length rules → text ≡ done ++ concat (all_doubt_lines given (secrets_of rules))
