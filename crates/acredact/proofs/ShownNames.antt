@@ -44,7 +44,7 @@ five_parts p s n c l cause end =
     ∙ ap (λ x. ((((p ++ s) ++ n) ++ x) ++ l) ++ (cause ++ (end ++ []))) (append-nil c)
     ∙ ap (λ x. ((((p ++ s) ++ n) ++ c) ++ l) ++ (cause ++ x)) (append-nil end)
     ∙ ap (λ x. x ++ (cause ++ end))
-        (append_assoc ((p ++ s) ++ n) c l ∙ append_assoc (p ++ s) n (c ++ l) ∙ append_assoc p s (n ++ (c ++ l)) ∙ ap (λ x. p ++ (s ++ x)) (sym (append_assoc n c l)))
+    (append_assoc ((p ++ s) ++ n) c l ∙ append_assoc (p ++ s) n (c ++ l) ∙ append_assoc p s (n ++ (c ++ l)) ∙ ap (λ x. p ++ (s ++ x)) (sym (append_assoc n c l)))
 
 -- and one that is written in three
 pub three_parts : (p s b n e end : List ℕ) → (((p ++ (s ++ (b ++ []))) ++ n) ++ (e ++ (end ++ []))) ≡ p ++ (s ++ (b ++ (n ++ (e ++ end))))

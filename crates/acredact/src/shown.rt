@@ -24,12 +24,7 @@ pub fn digits_of(number: u64, room: &mut [u8; MAX_DIGITS]) -> &[u8]
 }
 
 /// Tells as a line what is wrong with something, of which line of it, and why.
-pub fn tell_shown<E: Sink>(
-    errors: &mut Errors<'_, E>,
-    name: &[u8],
-    line: Option<u64>,
-    cause: &[u8],
-)
+pub fn tell_shown<E: Sink>(errors: &mut Errors<'_, E>, name: &[u8], line: Option<u64>, cause: &[u8])
     ensures told { TellsBytes E.Sink errors.old errors.new
         (told_line (message_about name.now line cause.now)) }
 {

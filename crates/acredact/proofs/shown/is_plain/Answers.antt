@@ -10,13 +10,13 @@ loop-rest-init c = ([], refl, refl)
 
 pub loop-rest-preserved : goal.loop-rest-preserved
 loop-rest-preserved c =
-    let (done, both) = c.loop-rest.invariant in
+    let (done, is, shows) = c.loop-rest.invariant in
     let some : 1 ≤ length c.loop-rest.rest.now = search rules in
     let none : is_control (slice_index c.loop-rest.rest.now 0) ≡ false = search rules in
-    (done ++ (slice_index c.loop-rest.rest.now 0 ∷ []), plain_next _ _ done c.loop-rest.rest.now some both none)
+    (done ++ (slice_index c.loop-rest.rest.now 0 ∷ []), plain_next _ _ done c.loop-rest.rest.now some (is, shows) none)
 
-pub returns-clause-plain : goal.returns-clause-plain
-returns-clause-plain c = λ plain.
+pub returns : goal.returns
+returns c =
     let (done, is, shows) = c.loop-rest.invariant in
     let none : length c.loop-rest.rest.now ≡ 0 = search rules in
-    shows ∙ ap (λ l. done ++ shown l) (nil_of c.loop-rest.rest.now none) ∙ sym (ap (λ l. done ++ l) (nil_of c.loop-rest.rest.now none)) ∙ sym is
+    record { plain = λ plain. shows ∙ ap (λ l. done ++ shown l) (nil_of c.loop-rest.rest.now none) ∙ sym (ap (λ l. done ++ l) (nil_of c.loop-rest.rest.now none)) ∙ sym is }
