@@ -1,11 +1,14 @@
 -- What is told of patterns of lists, one after another.
-use Rattle.std.proofs.Common.{◌≡◌, ℕ, ◌-◌, ◌≤◌, List, [], ◌∷◌, ◌++◌, length, take, drop, get_or, refl, sym, ap, subst, ◌∙◌, append_assoc, arith}
-use Rattle.std.specs.Prelude.{None}
+use Rattle.std.proofs.Common.{◌≡◌, ℕ, ◌-◌, ◌≤◌, ◌<◌, List, [], ◌∷◌, ◌++◌, length, take, drop, get_or, true, refl, sym, ap, subst, ◌∙◌, append_assoc, arith}
+use Rattle.std.specs.Prelude.{None, codes, nat_lt, slice_index_or}
+use Rattle.std.proofs.lemmas.Grind.{common_steps}
 use Rattle.std.specs.List.{concat}
 use Rattle.std.proofs.lemmas.List.Elements.{All-append, All-cons, All-nil}
-use Rattle.acredact.specs.Arguments.{Given}
-use Rattle.acredact.specs.Doubts.{AreUndoubted, all_doubt_lines, doubt_lines, doubt_of}
+use Rattle.std.proofs.lemmas.List.{get_or-map, length-map}
+use Rattle.acredact.specs.Arguments.{Given, all_given, given_of}
+use Rattle.acredact.specs.Doubts.{AreUndoubted, all_doubt_lines, doubt_lines, doubt_of, list_name}
 use Rattle.acredact.specs.Tables.{Secret, secret_of, secrets_of}
+use Rattle.acredact.specs.declared.arguments.Item.{Item}
 use Rattle.acredact.specs.declared.patterns.Rule.{Rule}
 use Rattle.acredact.proofs.Done.{concat_both}
 use Rattle.acredact.proofs.ShownNames.{rest_of}
@@ -32,3 +35,11 @@ undoubted_next all front (rule ∷ rules) other some (is, before) none = (
 pub first_rule : (all front : List Secret) (rules : List Rule) (other : Rule) → 1 ≤ length rules → all ≡ front ++ secrets_of rules → all ≡ front ++ (secret_of (get_or rules 0 other) ∷ secrets_of (drop 1 rules))
 first_rule all front [] other some is = absurd (omega (arith, some))
 first_rule all front (rule ∷ rules) other some is = is
+
+-- the value of the item at a number is the name there
+pub name_there : (items : List Item) (number : ℕ) (item d : Item) → true ≡ nat_lt number (length items) → item ≡ slice_index_or items number d → item.value.now ≡ list_name (all_given items) number
+name_there items number item d within found =
+    let lt : number < length items = grind (arith, common_steps, within) in
+    let among : number < length (all_given items) = subst (λ (n : ℕ). number < n) (sym (length-map items given_of)) lt in
+    ap (λ (it : Item). it.value.now) found
+    ∙ sym (get_or-map (λ (it : Given). it.value) (all_given items) number (given_of d) (codes "-") among ∙ ap (λ (it : Given). it.value) (get_or-map given_of items number d (given_of d) lt))

@@ -61,7 +61,15 @@ all_doubt_lines given secrets = flat_map (doubt_lines given) secrets
 abbrev pub AreUndoubted : List Secret → Type 0
 AreUndoubted secrets = All (λ secret. doubt_of secret ≡ None) secrets
 
--- the first pattern of which that is so is refused
+-- a pattern of which that is so is refused
+pub record RefusesDoubt (given : List Given) (secret : Secret) (failure : Failure) : Type 0 where
+  pub fault : LineFault
+  pub doubt : doubt_of secret ≡ Some fault
+  pub name : _
+  pub is : failure ≡ Line name (bad_at secret.line fault)
+  pub named : name.now ≡ list_name given secret.list
+
+-- and of several the first
 pub record IsDoubtFailure (strict : Bool) (given : List Given) (secrets : List Secret) (failure : Failure) : Type 0 where
   pub asked : strict ≡ true
   pub front : List Secret
@@ -69,11 +77,7 @@ pub record IsDoubtFailure (strict : Bool) (given : List Given) (secrets : List S
   pub rest : List Secret
   pub are : secrets ≡ front ++ (secret ∷ rest)
   pub before : AreUndoubted front
-  pub fault : LineFault
-  pub doubt : doubt_of secret ≡ Some fault
-  pub name : _
-  pub is : failure ≡ Line name (bad_at secret.line fault)
-  pub named : name.now ≡ list_name given secret.list
+  pub of : RefusesDoubt given secret failure
 
 module _ {E : Type 0} (K : SinkGhosts E) (strict : Bool) where
   -- of each it is told, but where the first is to be refused: then there is none

@@ -1,9 +1,9 @@
 //! Lines of lists that may be meant otherwise than they stand there: with a blank at an end, or with quotes around them.
 
-ghost use Rattle.std.specs.Prelude.{◌≡◌, IfErr, OnErr, OnOk, true};
+ghost use Rattle.std.specs.Prelude.{◌≡◌, IfErr, None, OnErr, OnOk, true};
 ghost use Rattle.std.specs.List.{concat};
 ghost use Rattle.programs.specs.Telling.{TellsBytes};
-ghost use Rattle.acredact.specs.Doubts.{AreUndoubted, IsDoubtFailure, TellsDoubts, all_doubt_lines, doubt_in, doubt_lines, doubt_of, is_blank, is_quote, list_name};
+ghost use Rattle.acredact.specs.Doubts.{AreUndoubted, IsDoubtFailure, RefusesDoubt, TellsDoubts, all_doubt_lines, doubt_in, doubt_lines, doubt_of, is_blank, is_quote, list_name};
 ghost use Rattle.acredact.specs.Arguments.{all_given};
 ghost use Rattle.acredact.specs.Tables.{secret_of, secrets_of};
 
@@ -38,14 +38,27 @@ fn refuse_doubtful<'a>(given: &[Item<'a>], rules: &[Rule]) -> Result<(), Failure
 {
     let mut rest = rules;
     while !rest.is_empty() {
-        if let Some(fault) = doubt_of(&rest[0]) {
-            let number = rest[0].line;
-            let name = name_of_list(given, rest[0].list);
-            return Err(Failure::Line(name, BadLine { number, fault }));
+        match refuse_doubt(given, &rest[0]) {
+            Ok(()) => rest = &rest[1..],
+            Err(failure) => return Err(failure),
         }
-        rest = &rest[1..];
     }
     Ok(())
+}
+
+/// Refuses a pattern, if it is one of a list and doubtful.
+fn refuse_doubt<'a>(given: &[Item<'a>], rule: &Rule) -> Result<(), Failure<'a>>
+    ensures none { OnOk result (doubt_of (secret_of rule.now) ≡ None) }
+    ensures refused { IfErr result (RefusesDoubt (all_given given.now) (secret_of rule.now)) }
+{
+    match doubt_of(rule) {
+        Some(fault) => {
+            let number = rule.line;
+            let name = name_of_list(given, rule.list);
+            Err(Failure::Line(name, BadLine { number, fault }))
+        }
+        None => Ok(()),
+    }
 }
 
 /// Tells of each pattern of a list that is doubtful.

@@ -4,8 +4,9 @@ use Rattle.std.specs.List.{concat}
 use Rattle.programs.specs.Telling.{TellsBytes}
 use Rattle.programs.proofs.Tellings.{tells-later}
 use Rattle.acredact.specs.Arguments.{all_given}
-use Rattle.acredact.specs.Doubts.{all_doubt_lines}
-use Rattle.acredact.specs.Tables.{secrets_of}
+use Rattle.acredact.specs.Doubts.{all_doubt_lines, doubt_lines}
+use Rattle.acredact.specs.Tables.{secret_of, secrets_of}
+use Rattle.acredact.specs.declared.patterns.Rule.{Rule}
 use Rattle.acredact.proofs.Done.{tells_none}
 use Rattle.acredact.proofs.Doubting.{doubts_next}
 use Rattle.acredact.proofs.ShownNames.{nil_of}
@@ -18,7 +19,11 @@ pub loop-rest-preserved : goal.loop-rest-preserved
 loop-rest-preserved g c =
     let (done, is, told) = c.loop-rest.invariant in
     let some : 1 ≤ length c.loop-rest.rest.now = search rules in
-    (_, doubts_next _ _ done c.loop-rest.rest.now _ some is, tells-later g.E.Sink told c.tell_doubt.ensures.told)
+    let lines = λ (rule : Rule). concat (doubt_lines (all_given c.args.given.now) (secret_of rule)) in (
+      _,
+      doubts_next _ _ done c.loop-rest.rest.now c.index-rest-0.result some is,
+      subst (λ (rule : Rule). TellsBytes g.E.Sink c.args.errors.now c.tell_doubt.new.errors (done ++ lines rule)) c.index-rest-0.is (tells-later g.E.Sink told c.tell_doubt.ensures.told),
+    )
 
 pub returns : goal.returns
 returns g c =

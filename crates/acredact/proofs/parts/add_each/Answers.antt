@@ -20,13 +20,15 @@ loop-line-preserved c =
       part_more _ _ _ _ one.more front c.in-Some.line.now added one.grown one.of,
     )
 
-pub returns-clause-added : goal.returns-clause-added
-returns-clause-added c =
+pub returns : goal.returns
+returns c =
     let (front, is, added) = c.loop-line.invariant in
-    on_ok_weaker c.add_part-2.result
-    (λ last. record {
-      more = flat_map (line_secrets c.args.list) (front ++ (c.loop-line.rest.now ∷ []));
-      grown = part_more _ _ _ _ last.more front c.loop-line.rest.now added last.grown last.of;
-      of = ap (flat_map (line_secrets c.args.list)) (sym (line_last _ front c.loop-line.rest.now is c.in_default.ensures.none));
-    })
-    c.add_part-2.ensures.added
+    record {
+      added = on_ok_weaker c.add_part-2.result
+          (λ last. record {
+            more = flat_map (line_secrets c.args.list) (front ++ (c.loop-line.rest.now ∷ []));
+            grown = part_more _ _ _ _ last.more front c.loop-line.rest.now added last.grown last.of;
+            of = ap (flat_map (line_secrets c.args.list)) (sym (line_last _ front c.loop-line.rest.now is c.in_default.ensures.none));
+          })
+          c.add_part-2.ensures.added;
+    }

@@ -13,7 +13,8 @@ loop-rest-preserved c =
     let (done, is, shows) = c.loop-rest.invariant in
     let some : 1 ≤ length c.loop-rest.rest.now = search rules in
     let none : is_control (slice_index c.loop-rest.rest.now 0) ≡ false = search rules in
-    (done ++ (slice_index c.loop-rest.rest.now 0 ∷ []), plain_next _ _ done c.loop-rest.rest.now some (is, shows) none)
+    let next = plain_next _ _ done c.loop-rest.rest.now some (is, shows) none in
+    (done ++ (slice_index c.loop-rest.rest.now 0 ∷ []), next.0, next.1)
 
 pub returns : goal.returns
 returns c =
