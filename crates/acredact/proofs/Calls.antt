@@ -14,17 +14,18 @@ use Rattle.programs.specs.Failures.{failure_of_stream}
 use Rattle.programs.specs.Streams.{bytes_left}
 use Rattle.programs.specs.Telling.{Tells, TellsBytes, TellsSome}
 use Rattle.programs.specs.declared.errors.Errors.{Errors}
-use Rattle.programs.specs.declared.failure.Failure.TheVariants.{OutOfMemory, Write as NotWritten, WriteZero as TakesNothing}
+use Rattle.programs.specs.declared.failure.Failure.TheVariants.{Build, OutOfMemory, Write as NotWritten, WriteZero as TakesNothing}
 use Rattle.programs.specs.declared.reason.Reason.{Reason}
 use Rattle.programs.proofs.Tellings.{tells-later}
 use Rattle.acredact.specs.Arguments.{Given, counts_asked}
-use Rattle.acredact.specs.Calls.{BeginsCall, Call, CallOutcome, IsCountsFailure, IsCountsLine, IsLineOf, IsRunFailure, IsUnreadLine, IsUntouched, MayFail, OutputFails, RestOutcome, RunOutcome, TellsCounts, names_asked, work_by}
-use Rattle.acredact.specs.Counts.{zeros}
+use Rattle.acredact.specs.Calls.{BeginsCall, Call, CallOutcome, IsBuildRefusal, IsCountsFailure, IsCountsLine, IsLineOf, IsRunFailure, IsUnreadLine, IsUntouched, MayFail, OutputFails, RestOutcome, RunOutcome, TellsCounts, names_asked, reading_by, work_by}
+use Rattle.acredact.specs.Counts.{secret_lines, zeros}
 use Rattle.acredact.specs.Files.{AreCut, FilesOutcome, IsDone, Work, are_none, unread_line}
 use Rattle.acredact.specs.Messages.{output_line}
-use Rattle.acredact.specs.Loading.{Loaded, loaded_as}
+use Rattle.acredact.specs.Loading.{AreLoaded, Loaded, loaded_as}
 use Rattle.acredact.specs.Secrets.{Keyed}
 use Rattle.acredact.specs.Summaries.{no_volume, totals_text}
+use Rattle.acredact.specs.Tables.{Secret, secrets_of}
 use Rattle.acredact.specs.Totals.{CountsOfNames}
 use Rattle.acredact.specs.Volumes.{ReadsVolume}
 use Rattle.acredact.specs.declared.clean.Unclean.{Unclean}
@@ -65,12 +66,12 @@ pub tells_same : {E : Type 0} (K : SinkGhosts E) (IsLine : List ℕ → Type 0) 
 tells_same K IsLine old new same = record { told = []; are_lines = All-nil IsLine; written = subst (λ (e : Errors _). TellsBytes K old e []) (sym same) (tells_none K old) }
 
 -- the text of the counts was
-pub tells_counts : {E : Type 0} (K : SinkGhosts E) (given : List Given) (old new : Errors E) (lines counts : List ℕ) (volume : Volume) → counts_asked given ≡ true → TellsBytes K old new (totals_text given lines counts volume)
-    → Tells K (IsCountsLine given) old new
-tells_counts K given old new lines counts volume is told = record {
-  told = totals_text given lines counts volume ∷ [];
-  are_lines = All-cons (IsCountsLine given) (totals_text given lines counts volume) [] (is, (lines, counts, volume, refl)) (All-nil (IsCountsLine given));
-  written = subst (TellsBytes K old new) (sym (append-nil (totals_text given lines counts volume))) told;
+pub tells_counts : {E : Type 0} (K : SinkGhosts E) (given : List Given) (old new : Errors E) (secrets : List Secret) (counts : List ℕ) (volume : Volume) → counts_asked given ≡ true
+    → TellsBytes K old new (totals_text given (secret_lines secrets) counts volume) → Tells K (IsCountsLine given secrets) old new
+tells_counts K given old new secrets counts volume is told = record {
+  told = totals_text given (secret_lines secrets) counts volume ∷ [];
+  are_lines = All-cons (IsCountsLine given secrets) (totals_text given (secret_lines secrets) counts volume) [] (is, (counts, volume, refl)) (All-nil (IsCountsLine given secrets));
+  written = subst (TellsBytes K old new) (sym (append-nil (totals_text given (secret_lines secrets) counts volume))) told;
 }
 
 -- before anything was touched
@@ -118,7 +119,7 @@ module _ {R : Type 0} {Reads : Readers R} {W E : Type 0} (Writes : Writers W) (K
   }
 
 -- why a run fails, and that it is no piece
-run_other : (fails : Type 0) (failure : Failure) (unclean : Unclean) → IsRunFailure fails failure → failure ≡ UncleanPiece unclean → ⊥
+pub run_other : (fails : Type 0) (failure : Failure) (unclean : Unclean) → IsRunFailure fails failure → failure ≡ UncleanPiece unclean → ⊥
 run_other fails failure unclean (inl of) is = let clash : Other OutOfMemory ≡ UncleanPiece unclean = sym of ∙ is in cc
 run_other fails failure unclean (inr (inl of, why)) is = let clash : Other NotWritten ≡ UncleanPiece unclean = sym of ∙ is in cc
 run_other fails failure unclean (inr (inr of, why)) is = let clash : Other TakesNothing ≡ UncleanPiece unclean = sym of ∙ is in cc
@@ -127,9 +128,13 @@ counts_other : (counted : Bool) (failure : Failure) (unclean : Unclean) → IsCo
 counts_other counted failure unclean (some, inl of) is = let clash : Counts ≡ UncleanPiece unclean = sym of ∙ is in cc
 counts_other counted failure unclean (some, inr of) is = let clash : Other OutOfMemory ≡ UncleanPiece unclean = sym of ∙ is in cc
 
+-- why patterns are refused is no piece
+pub build_other : (p : Patterns) (failure : Failure) (unclean : Unclean) → IsBuildRefusal p failure → failure ≡ UncleanPiece unclean → ⊥
+build_other p failure unclean (error, of, refused) is = let clash : Other (Build error) ≡ UncleanPiece unclean = sym of ∙ is in cc
+
 -- what may be told, and why
 pub may_fail : (call : Call) (fails : Type 0) (failure : Failure) → IsRunFailure fails failure → MayFail call fails failure
-may_fail call fails failure is = inr (inr (inr (inr (inr is))))
+may_fail call fails failure is = inr (inr (inr (inr (inr (inl is)))))
 
 -- the files of a call whose patterns were loaded
 module _ {R : Type 0} {Reads : Readers R} {W E : Type 0} (Writes : Writers W) (K : SinkGhosts E) (call : Call) where
@@ -157,32 +162,34 @@ module _ {R : Type 0} {Reads : Readers R} {W E : Type 0} (Writes : Writers W) (K
     }
 
     -- the lines of the files, and then those of the counts
-    lines_both : (fails : Type 0) (lines more : List (List ℕ)) (errors : Errors E) → All (IsLineOf call fails) lines → All (IsCountsLine call.given) more
+    lines_both : (left between : Option (List ℕ)) (loaded : AreLoaded (reading_by call) call.given load left between) (fails : Type 0) (lines more : List (List ℕ)) (errors : Errors E)
+        → All (IsLineOf call fails) lines → All (IsCountsLine call.given load.secrets) more
         → TellsBytes K old.errors mid.errors (concat lines) → TellsBytes K mid.errors errors (concat more) → Tells K (IsLineOf call fails) old.errors errors
-    lines_both fails lines more errors are counts first later = record {
+    lines_both left between loaded fails lines more errors are counts first later = record {
       told = lines ++ more;
-      are_lines = All-append (IsLineOf call fails) lines more are (All-weaker (IsCountsLine call.given) (IsLineOf call fails) (λ line is. inr (inr (inl is))) more counts);
+      are_lines = All-append (IsLineOf call fails) lines more are (All-weaker (IsCountsLine call.given load.secrets) (IsLineOf call fails) (λ line is. inr (inr (inl (load, left, between, loaded, is)))) more counts);
       written = subst (TellsBytes K old.errors errors) (sym (concat_both lines more)) (tells-later K first later);
     }
 
     -- one or more, where some are
-    some_both : (fails : Type 0) (lines more : List (List ℕ)) (errors : Errors E) → false ≡ are_none lines → All (IsLineOf call fails) lines → All (IsCountsLine call.given) more
+    some_both : (left between : Option (List ℕ)) (loaded : AreLoaded (reading_by call) call.given load left between) (fails : Type 0) (lines more : List (List ℕ)) (errors : Errors E)
+        → false ≡ are_none lines → All (IsLineOf call fails) lines → All (IsCountsLine call.given load.secrets) more
         → TellsBytes K old.errors mid.errors (concat lines) → TellsBytes K mid.errors errors (concat more) → TellsSome K (IsLineOf call fails) old.errors errors
     unfolding lines_both
-    some_both fails [] more errors none are counts first later = absurd (cc)
-    some_both fails (line ∷ lines) more errors none are counts first later =
-        let all = lines_both fails (line ∷ lines) more errors are counts first later in
+    some_both left between loaded fails [] more errors none are counts first later = absurd (cc)
+    some_both left between loaded fails (line ∷ lines) more errors none are counts first later =
+        let all = lines_both left between loaded fails (line ∷ lines) more errors are counts first later in
         record { first = line; is_line = All-head (IsLineOf call fails) line (lines ++ more) all.are_lines; more = lines ++ more; are_lines = All-tail (IsLineOf call fails) line (lines ++ more) all.are_lines; written = all.written }
 
   -- those whose patterns were loaded as these rules, where all was done
-  module _ (rules : List Rule) (key : Option (List ℕ)) (counts : List ℕ) (volume : Volume) (old mid : Streams R W E Reads) where
+  module _ (rules : List Rule) (key : Option (List ℕ)) (left between : Option (List ℕ)) (loaded : AreLoaded (reading_by call) call.given (loaded_as rules key) left between) (counts : List ℕ) (volume : Volume) (old mid : Streams R W E Reads) where
     abbrev Counted : Bool → Bool → Type 0
     Counted counted all = all ≡ true → CountsOfNames (bytes_left old.input) (bytes_left mid.input) (zeros counted rules) counts (work_by call (loaded_as rules key)) (names_asked call.given)
         × ReadsVolume call.holds (names_asked call.given) no_volume volume (bytes_left old.input) (bytes_left mid.input)
 
     -- the counts are told
     rest_done : (all : Bool) (errors : Errors E) → RunOutcome Writes K (work_by call (loaded_as rules key)) (Ok all) old mid → Counted (counts_asked call.given) all
-        → MatchBool (counts_asked call.given) (TellsCounts K call.given rules counts volume mid.errors errors) (errors ≡ mid.errors) → Tells K (IsCountsLine call.given) mid.errors errors
+        → MatchBool (counts_asked call.given) (TellsCounts K call.given rules counts volume mid.errors errors) (errors ≡ mid.errors) → Tells K (IsCountsLine call.given (secrets_of rules)) mid.errors errors
         → RestOutcome Writes K call (loaded_as rules key) (Ok all) old (record mid { errors = errors })
     rest_done all errors run grown are_told told =
         let (lines, is_all, (done, first)) = run.done in
@@ -207,7 +214,7 @@ module _ {R : Type 0} {Reads : Readers R} {W E : Type 0} (Writes : Writers W) (K
               );
           partly = λ (is : Ok all ≡ Ok false).
               let so : all ≡ false = cc in
-              some_both (loaded_as rules key) old mid _ lines told.told errors (sym so ∙ is_all) (are _) told.are_lines first told.written;
+              some_both (loaded_as rules key) old mid left between loaded _ lines told.told errors (sym so ∙ is_all) (are _) told.are_lines first told.written;
           fails = tt;
           told = tt;
           other = tt;
@@ -215,7 +222,7 @@ module _ {R : Type 0} {Reads : Readers R} {W E : Type 0} (Writes : Writers W) (K
 
     -- or they are not
     rest_untold : (all : Bool) (errors : Errors E) (failure : Failure) → RunOutcome Writes K (work_by call (loaded_as rules key)) (Ok all) old mid
-        → IsCountsFailure (counts_asked call.given) failure → Tells K (IsCountsLine call.given) mid.errors errors
+        → IsCountsFailure (counts_asked call.given) failure → Tells K (IsCountsLine call.given (secrets_of rules)) mid.errors errors
         → RestOutcome Writes K call (loaded_as rules key) (Err failure) old (record mid { errors = errors })
     rest_untold all errors failure run fails told =
         let (lines, is_all, (done, first)) = run.done in
@@ -231,13 +238,13 @@ module _ {R : Type 0} {Reads : Readers R} {W E : Type 0} (Writes : Writers W) (K
             | inr memory ↦ may_fail call _ failure (inl memory)
           ];
           other = λ unclean is. counts_other (counts_asked call.given) failure unclean fails is;
-          told = lines_both (loaded_as rules key) old mid _ lines told.told errors (lines_cut (loaded_as rules key) old mid _ lines _ _ _ cut) told.are_lines first told.written;
+          told = lines_both (loaded_as rules key) old mid left between loaded _ lines told.told errors (lines_cut (loaded_as rules key) old mid _ lines _ _ _ cut) told.are_lines first told.written;
         }
 
     -- by what is answered of that
     pub rest_told : (all counted : Bool) (result : Result Bool Failure) (errors : Errors E) → counted ≡ counts_asked call.given → RunOutcome Writes K (work_by call (loaded_as rules key)) (Ok all) old mid
         → Counted counted all → IfOk result (λ done. done ≡ all) → OnOk result (MatchBool counted (TellsCounts K call.given rules counts volume mid.errors errors) (errors ≡ mid.errors))
-        → IfErr result (IsCountsFailure counted) → Tells K (IsCountsLine call.given) mid.errors errors → RestOutcome Writes K call (loaded_as rules key) result old (record mid { errors = errors })
+        → IfErr result (IsCountsFailure counted) → Tells K (IsCountsLine call.given (secrets_of rules)) mid.errors errors → RestOutcome Writes K call (loaded_as rules key) result old (record mid { errors = errors })
     rest_told all counted (Ok done) errors is run grown same are_told fails told =
         subst (λ (b : Bool). RestOutcome Writes K call (loaded_as rules key) (Ok b) old (record mid { errors = errors })) (sym same)
         (rest_done all errors run (subst (λ (b : Bool). Counted b all) is grown) (subst (λ (b : Bool). MatchBool b (TellsCounts K call.given rules counts volume mid.errors errors) (errors ≡ mid.errors)) is are_told)

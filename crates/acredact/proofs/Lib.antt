@@ -2,6 +2,10 @@
 mod Covered
 -- lines that are added one after another
 mod Lines
+mod PartLines
+-- names in messages, and what is told of doubtful patterns
+mod ShownNames
+mod Doubting
 -- what is written is a redaction, or begins one
 mod Redactions
 mod MadeClean

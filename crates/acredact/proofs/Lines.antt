@@ -1,14 +1,15 @@
 -- Lines of a text that are added one after another.
 use Rattle.std.proofs.Common.{◌≡◌, ◌≢◌, ℕ, ◌+◌, ◌-◌, ◌^◌, ◌≤◌, List, [], ◌∷◌, ◌++◌, length, refl, sym, ap, ◌∙◌, append_assoc, arith}
-use Rattle.std.specs.Prelude.{Result, Ok, Err, IfErr, drop, min, nat_eq, slice_index, false}
-use Rattle.std.specs.Io.BufRead.{ends_with_byte, strip_last}
+use Rattle.std.specs.Prelude.{Result, Ok, Err, IfErr, drop, min, nat_eq, slice_index}
+use Rattle.std.specs.Io.BufRead.{strip_last}
 use Rattle.std.specs.List.{AllZip, slice_split}
 use Rattle.std.proofs.lemmas.Bool.{ne_eqb}
 use Rattle.std.proofs.lemmas.List.Splits.{slice_split_at, slice_split_none}
 use Rattle.acredact.specs.LineFaults.{IsLineFaultBy, IsListFault, NamesNone}
-use Rattle.acredact.specs.Tables.{IsAdded, IsAddedList, IsWithout, Secret, stripped_by, lines_in}
+use Rattle.acredact.specs.Tables.{HaveLines, HoldsBy, IsAdded, IsAddedList, IsWithout, Secret, lines_in}
 use Rattle.acredact.specs.declared.patterns.BadLine.{BadLine}
 use Rattle.acredact.specs.declared.patterns.Form.{Form}
+use Rattle.acredact.specs.declared.patterns.Place.{Place}
 
 -- what holds of two pairs of lists, place by place, holds of both together
 zip_append : {A B : Type 0} (R : A → B → Type 0) (xs ys : List A) (us bs : List B) → AllZip R xs us → AllZip R ys bs → AllZip R (xs ++ ys) (us ++ bs)
@@ -17,13 +18,33 @@ zip_append R [] ys (a ∷ us) bs h k = absurd h
 zip_append R (x ∷ xs) ys [] bs h k = absurd h
 zip_append R (x ∷ xs) ys (a ∷ us) bs h k = (h.0, zip_append R xs ys us bs h.1 k)
 
--- what some lines hold is added, and then what others hold
-pub added_more : (form : Form) (old mid new : List Secret) (front lines : List (List ℕ)) → IsAddedList form old mid front → IsAddedList form mid new lines → IsAddedList form old new (front ++ lines)
-added_more form old mid new front lines first second = record {
-  more = first.more ++ second.more;
-  grown = second.grown ∙ ap (λ l. l ++ second.more) first.grown ∙ append_assoc old first.more second.more;
-  held = zip_append _ front lines first.more second.more first.held second.held;
-}
+-- such lists are of one length
+zip_length : {A B : Type 0} (R : A → B → Type 0) (xs : List A) (us : List B) → AllZip R xs us → length xs ≡ length us
+zip_length R [] [] h = refl
+zip_length R [] (a ∷ us) h = absurd h
+zip_length R (x ∷ xs) [] h = absurd h
+zip_length R (x ∷ xs) (a ∷ us) h = omega (arith, zip_length R xs us h.1)
+
+-- a secret more is numbered behind the others
+numbered_more : (before : ℕ) (more : List Secret) (secret : Secret) → HaveLines before more → secret.line ≡ min (before + length more + 1) (2 ^ 64 - 1) → HaveLines before (more ++ (secret ∷ []))
+numbered_more before [] secret are at =
+    let e : before + length {A = Secret} [] + 1 ≡ before + 1 = omega arith in
+    (at ∙ ap (λ (n : ℕ). min n (2 ^ 64 - 1)) e, tt)
+numbered_more before (first ∷ more) secret are at =
+    let e : before + length (first ∷ more) + 1 ≡ before + 1 + length more + 1 = omega arith in
+    (are.0, numbered_more (before + 1) more secret are.1 (at ∙ ap (λ (n : ℕ). min n (2 ^ 64 - 1)) e))
+
+-- what some lines hold is added, and then what one more does
+pub added_line : (form : Form) (place : Place) (old mid new : List Secret) (front : List (List ℕ)) (line : List ℕ) → place.line ≡ min (length front + 1) (2 ^ 64 - 1)
+    → IsAddedList form old mid front → IsAdded (HoldsBy form line) place mid new → IsAddedList form old new (front ++ (line ∷ []))
+added_line form place old mid new front line at first second =
+    let e : length front + 1 ≡ 0 + length first.more + 1 = omega (arith, zip_length _ front first.more first.held) in
+    record {
+      more = first.more ++ (second.secret ∷ []);
+      grown = second.grown ∙ ap (λ l. l ++ (second.secret ∷ [])) first.grown ∙ append_assoc old first.more (second.secret ∷ []);
+      held = zip_append _ front (line ∷ []) first.more (second.secret ∷ []) first.held (second.held, tt);
+      numbered = numbered_more 0 first.more second.secret first.numbered (second.stands.line_is ∙ at ∙ ap (λ (n : ℕ). min n (2 ^ 64 - 1)) e);
+    }
 
 -- a line stands in front of what is left
 pub line_more : (all front : List (List ℕ)) (rest line more : List ℕ) → all ≡ front ++ slice_split (λ b. nat_eq b 10) rest → rest ≡ line ++ (10 ∷ more) → IsWithout 10 line
@@ -40,15 +61,6 @@ line_last all front rest is without = is ∙ ap (λ l. front ++ l) (slice_split_
 pub lines_some : (text : List ℕ) → 1 ≤ length text → lines_in text ≡ slice_split (λ b. nat_eq b 10) (strip_last 10 text)
 lines_some [] some = absurd (omega (arith, some))
 lines_some (byte ∷ bytes) some = refl
-
--- one line's secret is added as that of a list of one line
-pub added_one : (form : Form) (old new : List Secret) (line : List ℕ) → (form.table ≡ false → ends_with_byte 13 (stripped_by form line) ≡ false) → IsAdded form.table old new (stripped_by form line)
-    → IsAddedList form old new (line ∷ [])
-added_one form old new line no_return added = record {
-  more = added.secret ∷ [];
-  grown = added.grown;
-  held = (record { holds = added.held; no_return = no_return }, tt);
-}
 
 -- the line behind some others is at fault
 pub fault_at : (form : Form) (lines front rest : List (List ℕ)) (line : List ℕ) (number : ℕ) (bad : BadLine) → lines ≡ front ++ (line ∷ rest) → number ≡ min (length front + 1) (2 ^ 64 - 1)

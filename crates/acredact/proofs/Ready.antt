@@ -1,8 +1,10 @@
 -- What is loaded can be searched for.
-use Rattle.std.proofs.Common.{◌≡◌, ℕ, ◌≤◌, Bool, false, true, List, [], ◌∷◌, Option, length, map, refl, sym, ap, subst, ◌∙◌, arith}
-use Rattle.std.specs.Prelude.{◌||◌, codes, option_and_then, unwrap_or, Result, Ok, Err, IsOk, Some, None}
+use Rattle.std.proofs.Common.{◌≡◌, inl, inr, ℕ, ◌≤◌, Bool, false, true, List, [], ◌∷◌, Option, length, map, refl, sym, ap, subst, ◌∙◌, arith}
+use Rattle.std.specs.Prelude.{◌||◌, codes, if◌then◌else◌, nat_eq, nat_lt, option_and_then, unwrap_or, Result, Ok, Err, IsOk, Some, None}
+use Rattle.std.specs.Io.BufRead.{strip_last}
 use Rattle.std.specs.Borrow.{Bor}
-use Rattle.std.specs.List.{AllZip}
+use Rattle.std.specs.List.{AllZip, flat_map, slice_split}
+use Rattle.std.proofs.lemmas.Bool.{ltb-false}
 use Rattle.std.proofs.lemmas.List.{length-map}
 use Rattle.std.proofs.lemmas.Slice.Eq.{bytes_eq-Decides}
 use Rattle.std.proofs.lemmas.List.Elements.{All-append, All-cons, All-head, All-nil, All-tail}
@@ -18,6 +20,7 @@ use Rattle.acredact.specs.Arguments.{Given, GivesNoPattern, covers_asked, has, i
 use Rattle.acredact.specs.Calls.{gives_pattern}
 use Rattle.acredact.specs.Loading.{AreGiven, OptionGives, Reading, Rules, reading_of_lists, rules_for}
 use Rattle.acredact.specs.Looks.{CanLook}
+use Rattle.acredact.specs.Parts.{ArePartsBy, line_secrets, secret_given}
 use Rattle.acredact.specs.Secrets.{CanRedact}
 use Rattle.acredact.specs.Tables.{HaveNoEmpty, HoldsBy, Secret, patterns_in}
 use Rattle.acredact.specs.declared.arguments.Word.{Word}
@@ -43,8 +46,26 @@ lines_some form (line ∷ lines) (secret ∷ secrets) held = All-cons IsSomeSecr
 none_some : (secrets : List Secret) → secrets ≡ [] → HaveNoEmpty secrets
 none_some secrets none = subst HaveNoEmpty (sym none) (All-nil IsSomeSecret)
 
+line_some : (list : ℕ) (line : List ℕ) → HaveNoEmpty (line_secrets list line)
+line_some list line = by_length (nat_lt (length (strip_last 13 line)) 8) refl
+  where
+    by_length : (short : Bool) → short ≡ nat_lt (length (strip_last 13 line)) 8 → HaveNoEmpty (if short then [] else secret_given list (strip_last 13 line) ∷ [])
+    by_length true is = All-nil IsSomeSecret
+    by_length false is = All-cons IsSomeSecret (secret_given list (strip_last 13 line)) [] (omega (arith, ltb-false _ _ (sym is))) (All-nil IsSomeSecret)
+
+all_lines_some : (list : ℕ) (lines : List (List ℕ)) → HaveNoEmpty (flat_map (line_secrets list) lines)
+all_lines_some list [] = All-nil IsSomeSecret
+all_lines_some list (line ∷ lines) = All-append IsSomeSecret (line_secrets list line) (flat_map (line_secrets list) lines) (line_some list line) (all_lines_some list lines)
+
+-- nor is a line of one
+parts_some : (wanted : Bool) (list : ℕ) (value : List ℕ) (parts : List Secret) → ArePartsBy wanted list value parts → HaveNoEmpty parts
+parts_some false list value parts are = none_some parts are
+parts_some true list value parts (inl are) = none_some parts are.1
+parts_some true list value parts (inr are) = subst HaveNoEmpty (sym are.1) (all_lines_some list (slice_split (λ b. nat_eq b 10) value))
+
 option_some : (reading : Reading) (word : Word) (value : List ℕ) (secrets : List Secret) (left left' : Option (List ℕ)) → OptionGives reading word value secrets left left' → HaveNoEmpty secrets
-option_some reading Pattern value secrets left left' ((secret, are, holds), same) = subst HaveNoEmpty (sym are) (All-cons IsSomeSecret secret [] holds.some (All-nil IsSomeSecret))
+option_some reading Pattern value secrets left left' (gives, same) =
+    subst HaveNoEmpty (sym gives.are) (All-cons IsSomeSecret gives.secret gives.parts gives.held.some (parts_some reading.rules.parts gives.secret.list value gives.parts gives.lines))
 option_some reading PatternFile value secrets left left' gives = lines_some _ _ secrets gives.held.held
 option_some reading Table value secrets left left' gives = lines_some _ _ secrets gives.held.held
 option_some reading IgnoreCase value secrets left left' gives = none_some secrets gives.0

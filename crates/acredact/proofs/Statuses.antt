@@ -10,7 +10,7 @@ use Rattle.programs.specs.declared.errors.Errors.{Errors}
 use Rattle.acredact.specs.Arguments.{AsksToCheck, AsksToRedact, Given, GivesNoPattern, checks_asked, has}
 use Rattle.acredact.specs.Calls.{Call, CallOutcome, IsLineOf, OutputFails}
 use Rattle.acredact.specs.Failures.{IsFailureLine}
-use Rattle.acredact.specs.Statuses.{CallStatus}
+use Rattle.acredact.specs.Statuses.{CallStatus, IsIdle}
 use Rattle.acredact.specs.declared.arguments.Word.TheVariants.{Check, Help, Version}
 use Rattle.acredact.specs.declared.failure.Failure.{Failure}
 use Rattle.acredact.specs.declared.streams.Streams.{Streams}
@@ -79,6 +79,7 @@ module _ {R : Type 0} {Reads : Readers R} {W E : Type 0} (Writes : Writers W) (K
   pub status_done : (GivesNoPattern call.given → ⊥) → CallOutcome Writes K call (bytes_left old.input) (Ok true) old new → CallStatus Writes K call 0 old new
   status_done some of = record {
     patternless = λ none. absurd (some none);
+    idle = λ none. absurd (some none);
     redacts = λ is. of.redacts refl;
     begins = of.begins;
     strict = λ asked is. of.strict asked refl;
@@ -88,9 +89,10 @@ module _ {R : Type 0} {Reads : Readers R} {W E : Type 0} (Writes : Writers W) (K
   }
 
   -- some file was not read to its end
-  pub status_partly : CallOutcome Writes K call (bytes_left old.input) (Ok false) old new → CallStatus Writes K call 2 old new
-  status_partly of = record {
+  pub status_partly : (GivesNoPattern call.given → IsIdle old new) → CallOutcome Writes K call (bytes_left old.input) (Ok false) old new → CallStatus Writes K call 2 old new
+  status_partly idle of = record {
     patternless = λ none. refl;
+    idle = idle;
     redacts = λ (is : 2 ≡ 0). absurd (omega arith);
     begins = of.begins;
     strict = λ asked (is : 2 ≡ 0). absurd (omega arith);
@@ -100,10 +102,11 @@ module _ {R : Type 0} {Reads : Readers R} {W E : Type 0} (Writes : Writers W) (K
   }
 
   -- the call ended early, and that is told
-  pub status_failed : (failure : Failure) (errors : Errors E) (line : List ℕ) → CallOutcome Writes K call (bytes_left old.input) (Err failure) old new → IsFailureLine failure line → TellsBytes K new.errors errors line
+  pub status_failed : (GivesNoPattern call.given → IsIdle old new) → (failure : Failure) (errors : Errors E) (line : List ℕ) → CallOutcome Writes K call (bytes_left old.input) (Err failure) old new → IsFailureLine failure line → TellsBytes K new.errors errors line
       → CallStatus Writes K call 2 old (record new { errors = errors })
-  status_failed failure errors line of is told = record {
+  status_failed idle failure errors line of is told = record {
     patternless = λ none. refl;
+    idle = λ none. record { unread = (idle none).unread; unwritten = (idle none).unwritten };
     redacts = λ (is : 2 ≡ 0). absurd (omega arith);
     begins = begins_told Writes K call _ old new errors of.begins;
     strict = λ asked (is : 2 ≡ 0). absurd (omega arith);

@@ -12,7 +12,7 @@ use Rattle.programs.specs.Names.{is_input}
 use Rattle.programs.specs.declared.errors.Errors.{Errors}
 use Rattle.acredact.specs.Arguments.{Given}
 use Rattle.acredact.specs.Calls.{TellsCounts, TellsTotals}
-use Rattle.acredact.specs.Counts.{lines_of_rules, zeros}
+use Rattle.acredact.specs.Counts.{zeros}
 use Rattle.acredact.specs.Files.{Work}
 use Rattle.acredact.specs.Secrets.{Redactor}
 use Rattle.acredact.specs.Tables.{secret_of, secrets_of}
@@ -101,8 +101,6 @@ totals_from rules ranges counts grown =
 pub totals_told : {E : Type 0} (K : SinkGhosts E) (given : List Given) (rules : List Rule) (ranges : List Occurrence) (counts : List ℕ) (volume : Volume) (old new : Errors E) → CountsThese ranges (zeros true rules) counts → TellsCounts K given rules counts volume old new
     → TellsTotals K given (secrets_of rules) ranges volume old new
 totals_told K given rules ranges counts volume old new grown told = record {
-  lines = lines_of_rules rules;
-  one_line = length-map rules (λ rule. rule.line) ∙ sym (length-map rules secret_of);
   counts = counts;
   totals = totals_from rules ranges counts grown;
   told = told.told;

@@ -5,6 +5,7 @@ use Rattle.std.specs.List.{All, concat}
 use Rattle.std.specs.declared.io.traits.Read.{Ghosts as Readers}
 use Rattle.std.specs.declared.io.traits.Write.{Ghosts as Writers}
 use Rattle.std.proofs.lemmas.List.Elements.{All-append, All-cons, All-head, All-nil, All-tail}
+use Rattle.aho_core.specs.Listing.{IsMember}
 use Rattle.aho_core.specs.Patterns.{Patterns}
 use Rattle.aho_devices.specs.declared.device.Sink.{Ghosts as SinkGhosts}
 use Rattle.programs.specs.Streams.{bytes_left}
@@ -12,15 +13,17 @@ use Rattle.programs.specs.Telling.{Tells, TellsBytes, TellsSome}
 use Rattle.programs.specs.declared.errors.Errors.{Errors}
 use Rattle.programs.specs.declared.failure.Failure.TheVariants.{OutOfMemory}
 use Rattle.programs.proofs.Tellings.{tells-later}
-use Rattle.acredact.specs.Arguments.{counts_asked, has}
-use Rattle.acredact.specs.Calls.{Call, CallOutcome, IsBuildRefusal, IsCountsFailure, IsCountsLine, IsLineOf, IsRunFailure, IsUntouched, OutputFails, RestOutcome, RunOutcome, TellsCounts, WarnedOutcome, names_asked, reading_by, redactor_by_given, work_by}
+use Rattle.acredact.specs.Arguments.{Given, counts_asked, has}
+use Rattle.acredact.specs.Calls.{Call, CallOutcome, IsBuildRefusal, IsCountsFailure, IsCountsLine, IsLineOf, IsRunFailure, IsUntouched, MayFail, OutputFails, RestOutcome, RunOutcome, TellsCounts, WarnedOutcome, names_asked, reading_by, redactor_by_given, work_by}
 use Rattle.acredact.specs.Counts.{zeros}
+use Rattle.acredact.specs.Doubts.{TellsDoubts, all_doubt_lines}
 use Rattle.acredact.specs.Files.{Work, key_for, keyed_of}
 use Rattle.acredact.specs.Loading.{AreLoaded, Loaded, loaded_as}
 use Rattle.acredact.specs.Messages.{unclean_line}
 use Rattle.acredact.specs.Pieces.{IsJudged, IsJudgedBy, TellsOfPieces, TellsUnclean}
 use Rattle.acredact.specs.Secrets.{AreCleanBy, Redactor}
 use Rattle.acredact.specs.Summaries.{no_volume}
+use Rattle.acredact.specs.Tables.{Secret, secrets_of}
 use Rattle.acredact.specs.Totals.{CountsOfNames}
 use Rattle.acredact.specs.Volumes.{ReadsVolume}
 use Rattle.acredact.specs.declared.arguments.Word.TheVariants.{Strict}
@@ -31,14 +34,19 @@ use Rattle.acredact.specs.declared.patterns.Rule.{Rule}
 use Rattle.acredact.specs.declared.ways.Key.{Key}
 use Rattle.acredact.specs.declared.streams.Streams.{Streams}
 use Rattle.acredact.specs.declared.summary.Volume.{Volume}
-use Rattle.acredact.proofs.Calls.{call_refused, may_fail, rest_cut, rest_told, tells_same}
+use Rattle.acredact.proofs.Calls.{build_other, may_fail, rest_cut, rest_told, run_other, tells_same}
 use Rattle.acredact.proofs.Done.{concat_both}
 use Rattle.acredact.proofs.Free.{free_of}
 
 -- where they are to be refused, nothing is told and they are clean
-clean_of : {E : Type 0} (K : SinkGhosts E) (strict : Bool) (r : Redactor) (old new : Errors E) → strict ≡ true → TellsOfPieces K strict r old new → r.covers ≡ true → AreCleanBy (is_some r.key) r.patterns r.pieces
-clean_of K strict r old new is (None, judged, same) = judged
-clean_of K strict r old new is (Some unclean, judged, (lax, told)) = let clash : true ≡ false = sym is ∙ lax in absurd (cc)
+clean_pieces : {E : Type 0} (K : SinkGhosts E) (strict : Bool) (r : Redactor) (old new : Errors E) → strict ≡ true → TellsOfPieces K strict r old new → r.covers ≡ true → AreCleanBy (is_some r.key) r.patterns r.pieces
+clean_pieces K strict r old new is (None, judged, same) = judged
+clean_pieces K strict r old new is (Some unclean, judged, (lax, told)) = let clash : true ≡ false = sym is ∙ lax in absurd (cc)
+
+-- where patterns of lists are to be refused, nothing was told of them
+same_strict : {E : Type 0} (K : SinkGhosts E) (strict : Bool) (given : List Given) (secrets : List Secret) (old new : Errors E) → strict ≡ true → TellsDoubts K strict given secrets old new → new ≡ old
+same_strict K true given secrets old new is doubts = doubts.1
+same_strict K false given secrets old new is doubts = let clash : false ≡ true = is in absurd (cc)
 
 -- whether there is a key
 named_by : (key : Option Key) → is_some key ≡ is_some (option_map keyed_of key)
@@ -76,14 +84,34 @@ module _ {E : Type 0} (K : SinkGhosts E) (IsLine : List ℕ → Type 0) (old mid
         written = subst (TellsBytes K old new) (sym (concat_both (line ∷ lines) (later.first ∷ later.more))) written;
       }
 
--- what is told of pieces may be told
-piece_tells : {E : Type 0} (K : SinkGhosts E) (call : Call) (fails : Type 0) (load : Loaded) (old new : Errors E) → TellsOfPieces K (has Strict call.given) (redactor_by_given call.given load) old new → Tells K (IsLineOf call fails) old new
-piece_tells K call fails load old new (None, judged, same) = tells_same K (IsLineOf call fails) old new same
-piece_tells K call fails load old new (Some unclean, judged, (lax, told)) = record {
-  told = unclean_line unclean ∷ [];
-  are_lines = All-cons (IsLineOf call fails) (unclean_line unclean) [] (inr (inr (inr (lax, judged.0, (unclean, refl))))) (All-nil (IsLineOf call fails));
-  written = subst (TellsBytes K old new) (sym (append-nil (unclean_line unclean))) told;
-}
+-- what holds of each member holds of all
+all_members : (Is : List ℕ → Type 0) (lines : List (List ℕ)) → ((line : List ℕ) → IsMember lines line → Is line) → All Is lines
+all_members Is [] each = All-nil Is
+all_members Is (line ∷ lines) each = All-cons Is line lines (each line (inl refl)) (all_members Is lines (λ other is. each other (inr is)))
+
+module _ {E : Type 0} (K : SinkGhosts E) (call : Call) (fails : Type 0) (load : Loaded) (left between : Option (List ℕ)) (loaded : AreLoaded (reading_by call) call.given load left between) where
+  -- what is told of patterns of lists may be told
+  doubts_tell : (strict : Bool) → has Strict call.given ≡ strict → (old new : Errors E) → TellsDoubts K strict call.given load.secrets old new → Tells K (IsLineOf call fails) old new
+  doubts_tell true is old new doubts = tells_same K (IsLineOf call fails) old new doubts.1
+  doubts_tell false is old new doubts = record {
+    told = all_doubt_lines call.given load.secrets;
+    are_lines = all_members (IsLineOf call fails) (all_doubt_lines call.given load.secrets) (λ line member. inr (inr (inr (is, load, left, between, loaded, inl member))));
+    written = doubts;
+  }
+
+  -- and so may what is told of pieces
+  piece_tells : (old new : Errors E) → TellsOfPieces K (has Strict call.given) (redactor_by_given call.given load) old new → Tells K (IsLineOf call fails) old new
+  piece_tells old new (None, judged, same) = tells_same K (IsLineOf call fails) old new same
+  piece_tells old new (Some unclean, judged, (lax, told)) = record {
+    told = unclean_line unclean ∷ [];
+    are_lines = All-cons (IsLineOf call fails) (unclean_line unclean) [] (inr (inr (inr (lax, load, left, between, loaded, inr (unclean, judged.0, judged.1, refl))))) (All-nil (IsLineOf call fails));
+    written = subst (TellsBytes K old new) (sym (append-nil (unclean_line unclean))) told;
+  }
+
+  -- one after the other
+  warnings_tell : (old mid new : Errors E) → TellsDoubts K (has Strict call.given) call.given load.secrets old mid → TellsOfPieces K (has Strict call.given) (redactor_by_given call.given load) mid new
+      → Tells K (IsLineOf call fails) old new
+  warnings_tell old mid new doubts pieces = tells_both K (IsLineOf call fails) old mid new (doubts_tell (has Strict call.given) refl old mid doubts) (piece_tells mid new pieces)
 
 -- and so may what is told behind it
 told_behind : {E : Type 0} (K : SinkGhosts E) (call : Call) (old mid new : Errors E) (fails : Type 0) (result : Result Bool Failure) → Tells K (IsLineOf call fails) old mid → OnErr result (Tells K (IsLineOf call fails) mid new) → OnErr result (Tells K (IsLineOf call fails) old new)
@@ -121,21 +149,36 @@ module _ {R : Type 0} {Reads : Readers R} {W E : Type 0} (Writes : Writers W) (K
   refused_other old new (Ok all) other = tt
   refused_other old new (Err failure) other = λ unclean is. absurd (other unclean is)
 
-  module _ (load : Loaded) (old mid : Streams R W E Reads) (loaded : AreLoaded (reading_by call) call.given load left (bytes_left old.input)) where
+  module _ (load : Loaded) (old mid : Streams R W E Reads) (loaded : AreLoaded (reading_by call) call.given load left (bytes_left old.input)) (first : Errors E) (doubts : TellsDoubts K (has Strict call.given) call.given load.secrets first old.errors) where
+    -- no file is read, behind what is told of patterns of lists
+    pub call_behind : (failure : Failure) → ((unclean : Unclean) → failure ≡ UncleanPiece unclean → has Strict call.given ≡ true) → MayFail call (OutputFails old.output old.output) failure
+        → CallOutcome Writes K call left (Err failure) (record old { errors = first }) old
+    call_behind failure strictly fails = record {
+      redacts = λ (is : Err failure ≡ Ok true). absurd (cc);
+      strict = λ asked (is : Err failure ≡ Ok true). absurd (cc);
+      refused = λ unclean is. record { output = refl; errors = same_strict K (has Strict call.given) call.given load.secrets first old.errors (strictly unclean is) doubts };
+      begins = inl refl;
+      quiet = λ none (is : Err failure ≡ Ok true). absurd (cc);
+      counts = λ some (is : Err failure ≡ Ok true). absurd (cc);
+      partly = λ (is : Err failure ≡ Ok false). absurd (cc);
+      fails = fails;
+      told = doubts_tell K call (OutputFails old.output old.output) load left (bytes_left old.input) loaded (has Strict call.given) refl first old.errors doubts;
+    }
+
     -- what comes of the files comes behind what is told of the pieces
     call_warned : (new : Streams R W E Reads) (errors : Errors E) (result : Result Bool Failure) → TellsOfPieces K (has Strict call.given) (redactor_by_given call.given load) old.errors errors
-        → RestOutcome Writes K call load result (record old { errors = errors }) new → CallOutcome Writes K call left result old new
+        → RestOutcome Writes K call load result (record old { errors = errors }) new → CallOutcome Writes K call left result (record old { errors = first }) new
     call_warned new errors result told rest =
-        let first = λ (fails : Type 0). piece_tells K call fails load old.errors errors told in
+        let warns = λ (fails : Type 0). warnings_tell K call fails load left (bytes_left old.input) loaded first old.errors errors doubts told in
         record {
           redacts = λ is. record { load = load; between = bytes_left old.input; loaded = loaded; redacted = rest.redacts is };
           strict = λ asked is. record {
             load = load;
             between = bytes_left old.input;
             loaded = loaded;
-            free = free_of (work_by call load) asked.covers (clean_of K (has Strict call.given) (redactor_by_given call.given load) old.errors errors asked.strict told asked.covers) (names_asked call.given) _ _ _ _ (rest.redacts is);
+            free = free_of (work_by call load) asked.covers (clean_pieces K (has Strict call.given) (redactor_by_given call.given load) old.errors errors asked.strict told asked.covers) (names_asked call.given) _ _ _ _ (rest.redacts is);
           };
-          refused = refused_other old new result rest.other;
+          refused = refused_other (record old { errors = first }) new result rest.other;
           begins = elim rest.begins [
             | inl same ↦ inl same
             | inr cut ↦ inr (record { load = load; between = bytes_left old.input; loaded = loaded; lines = cut.0; cut = cut.1 })
@@ -144,7 +187,7 @@ module _ {R : Type 0} {Reads : Readers R} {W E : Type 0} (Writes : Writers W) (K
             load = load;
             between = bytes_left old.input;
             loaded = loaded;
-            told = subst (λ (e : Errors E). TellsOfPieces K (has Strict call.given) (redactor_by_given call.given load) old.errors e) (sym (rest.quiet none is)) told;
+            told = (old.errors, doubts, subst (λ (e : Errors E). TellsOfPieces K (has Strict call.given) (redactor_by_given call.given load) old.errors e) (sym (rest.quiet none is)) told);
           };
           counts = λ some is. let (ranges, found, volume, read, counted) = rest.counts some is in record {
             load = load;
@@ -154,38 +197,38 @@ module _ {R : Type 0} {Reads : Readers R} {W E : Type 0} (Writes : Writers W) (K
             ranges = ranges;
             found = found;
             meanwhile = errors;
-            warned = told;
+            warned = (old.errors, doubts, told);
             volume = volume;
             read = read;
             counted = counted;
           };
-          partly = λ is. some_behind K (IsLineOf call (OutputFails old.output new.output)) old.errors errors new.errors (first _) (rest.partly is);
+          partly = λ is. some_behind K (IsLineOf call (OutputFails old.output new.output)) first errors new.errors (warns _) (rest.partly is);
           fails = rest.fails;
-          told = told_behind K call old.errors errors new.errors (OutputFails old.output new.output) result (first _) rest.told;
+          told = told_behind K call first errors new.errors (OutputFails old.output new.output) result (warns _) rest.told;
         }
 
     -- the files' redaction fails, or is refused
-    pub call_cut : (failure : Failure) → WarnedOutcome Writes K (has Strict call.given) (work_by call load) (Err failure) old mid → CallOutcome Writes K call left (Err failure) old mid
+    pub call_cut : (failure : Failure) → WarnedOutcome Writes K (has Strict call.given) (work_by call load) (Err failure) old mid → CallOutcome Writes K call left (Err failure) (record old { errors = first }) mid
     call_cut failure (inl (why, is, same, of)) =
         let alike : why ≡ failure = cc in
-        subst (λ (s : Streams R W E Reads). CallOutcome Writes K call left (Err failure) old s) (sym same)
-        (subst (λ (f : Failure). CallOutcome Writes K call left (Err f) old old) alike
-        (call_refused Writes K call left old.input old why (elim of [
-          | inl strict ↦ inr (inr (inr (inl (load, left, bytes_left old.input, loaded, strict))))
-          | inr (inl refused) ↦ inr (inr (inr (inr (inl (load.secrets, left, loaded.between, loaded.secrets, refused)))))
-          | inr (inr run) ↦ may_fail call _ why run
-        ])))
+        subst (λ (s : Streams R W E Reads). CallOutcome Writes K call left (Err failure) (record old { errors = first }) s) (sym same)
+        (subst (λ (f : Failure). CallOutcome Writes K call left (Err f) (record old { errors = first }) old) alike
+        (elim of [
+          | inl strict ↦ call_behind why (λ unclean is. strict.2) (inr (inr (inr (inl (load, left, bytes_left old.input, loaded, strict)))))
+          | inr (inl refused) ↦ call_behind why (λ unclean is. absurd (build_other _ why unclean refused is)) (inr (inr (inr (inr (inl (load.secrets, left, loaded.between, loaded.secrets, refused))))))
+          | inr (inr run) ↦ call_behind why (λ unclean is. absurd (run_other _ why unclean run is)) (may_fail call _ why run)
+        ]))
     call_cut failure (inr (errors, told, run)) =
         call_warned mid errors (Err failure) told (rest_cut Writes K call load (record old { errors = errors }) mid failure run)
 
   -- all was done but the counts
   pub call_told : (rules : List Rule) (key : Option (List ℕ)) (numbers : List ℕ) (volume : Volume) (old mid : Streams R W E Reads) → AreLoaded (reading_by call) call.given (loaded_as rules key) left (bytes_left old.input)
-      → (all counted : Bool) (result : Result Bool Failure) (errors : Errors E) → counted ≡ counts_asked call.given → WarnedOutcome Writes K (has Strict call.given) (work_by call (loaded_as rules key)) (Ok all) old mid
+      → (first : Errors E) → TellsDoubts K (has Strict call.given) call.given (secrets_of rules) first old.errors → (all counted : Bool) (result : Result Bool Failure) (errors : Errors E) → counted ≡ counts_asked call.given → WarnedOutcome Writes K (has Strict call.given) (work_by call (loaded_as rules key)) (Ok all) old mid
       → (all ≡ true → CountsOfNames (bytes_left old.input) (bytes_left mid.input) (zeros counted rules) numbers (work_by call (loaded_as rules key)) (names_asked call.given)
       × ReadsVolume call.holds (names_asked call.given) no_volume volume (bytes_left old.input) (bytes_left mid.input))
       → IfOk result (λ done. done ≡ all) → OnOk result (MatchBool counted (TellsCounts K call.given rules numbers volume mid.errors errors) (errors ≡ mid.errors))
-      → IfErr result (IsCountsFailure counted) → Tells K (IsCountsLine call.given) mid.errors errors → CallOutcome Writes K call left result old (record mid { errors = errors })
-  call_told rules key numbers volume old mid loaded all counted result errors is (inl (why, fails, same, of)) grown done counts untold told = let clash : Ok all ≡ Err why = fails in absurd (cc)
-  call_told rules key numbers volume old mid loaded all counted result errors is (inr (warned, pieces, run)) grown done counts untold told =
-      call_warned (loaded_as rules key) old mid loaded (record mid { errors = errors }) warned result pieces
-      (rest_told Writes K call rules key numbers volume (record old { errors = warned }) mid all counted result errors is run grown done counts untold told)
+      → IfErr result (IsCountsFailure counted) → Tells K (IsCountsLine call.given (secrets_of rules)) mid.errors errors → CallOutcome Writes K call left result (record old { errors = first }) (record mid { errors = errors })
+  call_told rules key numbers volume old mid loaded first doubts all counted result errors is (inl (why, fails, same, of)) grown done counts untold told = let clash : Ok all ≡ Err why = fails in absurd (cc)
+  call_told rules key numbers volume old mid loaded first doubts all counted result errors is (inr (warned, pieces, run)) grown done counts untold told =
+      call_warned (loaded_as rules key) old mid loaded first doubts (record mid { errors = errors }) warned result pieces
+      (rest_told Writes K call rules key left (bytes_left old.input) loaded numbers volume (record old { errors = warned }) mid all counted result errors is run grown done counts untold told)

@@ -3,6 +3,7 @@ use Rattle.std.specs.Prelude.{◌≡◌, ◌⊎◌, ℕ, ◌||◌, Bool, MatchBo
 use Rattle.std.specs.Borrow.{Bor}
 use Rattle.std.specs.declared.io.traits.Read.{Ghosts as Readers}
 use Rattle.std.specs.declared.io.traits.Write.{Ghosts as Writers}
+use Rattle.aho_core.specs.Listing.{IsMember}
 use Rattle.aho_core.specs.Occurrence.{Occurrence}
 use Rattle.aho_core.specs.Patterns.{Patterns}
 use Rattle.aho_core.specs.declared.error.BuildError.{BuildError}
@@ -18,7 +19,8 @@ use Rattle.programs.specs.declared.failure.Failure.TheVariants.{Build, OutOfMemo
 use Rattle.programs.specs.declared.reason.Reason.{Reason}
 use Rattle.acredact.specs.Arguments.{Given, GivesNoPattern, RefusesUnclean, counts_asked, covers_asked, has, is_same, last_value}
 use Rattle.acredact.specs.Builds.{RefusesPatterns, patterns_by_given}
-use Rattle.acredact.specs.Counts.{lines_of_rules}
+use Rattle.acredact.specs.Counts.{secret_lines, lines_of_rules}
+use Rattle.acredact.specs.Doubts.{IsDoubtFailure, TellsDoubts, TellsWarnings, all_doubt_lines}
 use Rattle.acredact.specs.Failures.{IsFailureLine}
 use Rattle.acredact.specs.Files.{AreCut, AreDone, AreFree, AreRedacted, Does, Work, are_none, redactor_of, unread_line, work_of}
 use Rattle.acredact.specs.Loading.{AreGiven, AreLoaded, CannotLoadKey, CannotLoadOne, Loaded, Reading, Rules, key_lent, loaded_as}
@@ -57,7 +59,7 @@ abbrev pub gives_pattern : List Given → Bool
 gives_pattern given = has PatternOption given || has PatternFile given || has Table given
 
 abbrev pub rules_asked : List Given → Rules
-rules_asked given = record { crlf = has Crlf given; allow_empty = has AllowEmpty given }
+rules_asked given = record { crlf = has Crlf given; allow_empty = has AllowEmpty given; parts = covers_asked given }
 
 abbrev pub reading_by : Call → Reading
 reading_by call = record { holds = call.holds; refuses = call.refuses; rules = rules_asked call.given }
@@ -136,6 +138,11 @@ IsUncleanFailure call failure = (load : Loaded) × (left : Option (List ℕ)) ×
     × AreLoaded (reading_by call) call.given load left between
     × IsStrictFailure (has Strict call.given) (redactor_by_given call.given load) failure
 
+-- a pattern of a list that may be meant otherwise is refused
+abbrev pub IsDoubtedCall : Call → Failure → Type 0
+IsDoubtedCall call failure = (load : Loaded) × (left : Option (List ℕ)) × (between : Option (List ℕ))
+    × AreLoaded (reading_by call) call.given load left between × IsDoubtFailure (has Strict call.given) call.given load.secrets failure
+
 -- those that were loaded are refused
 abbrev pub IsRefusedCall : Call → Failure → Type 0
 IsRefusedCall call failure = (secrets : List Secret) × (left : Option (List ℕ)) × (between : Option (List ℕ))
@@ -143,7 +150,7 @@ IsRefusedCall call failure = (secrets : List Secret) × (left : Option (List ℕ
     × IsBuildRefusal (patterns_by_given call.given (patterns_in secrets)) failure
 
 -- why a call ends early: there is no pattern, one of the options or the key cannot be loaded, the counts cannot be written, a piece is not clean,
--- the patterns are refused, or the files are not redacted
+-- the patterns are refused, the files are not redacted, or a pattern of a list is refused
 abbrev pub MayFail : Call → (fails : Type 0) → Failure → Type 0
 MayFail call fails failure =
     ((failure ≡ Arguments NoRoom) ⊎ ((failure ≡ Arguments NoPattern) × GivesNoPattern call.given))
@@ -151,28 +158,40 @@ MayFail call fails failure =
     ⊎ (((failure ≡ Counts) × (counts_asked call.given ≡ true))
     ⊎ (IsUncleanFailure call failure
     ⊎ (IsRefusedCall call failure
-    ⊎ IsRunFailure fails failure))))
+    ⊎ (IsRunFailure fails failure
+    ⊎ IsDoubtedCall call failure)))))
 
 -- the line that tells why a file was not read to its end, or that the output goes to it
 abbrev pub IsUnreadLine : List (List ℕ) → List ℕ → Type 0
 IsUnreadLine names line = (name : List ℕ) × IsOneOf name names × (((reason : Reason) × (line ≡ unread_line name reason)) ⊎ (line ≡ output_line name))
 
--- the lines of the counts
-abbrev pub IsCountsText : List Given → List ℕ → Type 0
-IsCountsText given text = (lines : List ℕ) × (counts : List ℕ) × (volume : Volume) × (text ≡ totals_text given lines counts volume)
+-- the lines of the counts of some patterns, each with the line of its file
+abbrev pub IsCountsText : List Given → List Secret → List ℕ → Type 0
+IsCountsText given secrets text = (counts : List ℕ) × (volume : Volume) × (text ≡ totals_text given (secret_lines secrets) counts volume)
 
 -- that, where they are asked for
-abbrev pub IsCountsLine : List Given → List ℕ → Type 0
-IsCountsLine given line = (counts_asked given ≡ true) × IsCountsText given line
+abbrev pub IsCountsLine : List Given → List Secret → List ℕ → Type 0
+IsCountsLine given secrets line = (counts_asked given ≡ true) × IsCountsText given secrets line
+
+-- of the patterns that were loaded
+abbrev pub CountsLoaded : Call → List ℕ → Type 0
+CountsLoaded call line = (load : Loaded) × (left : Option (List ℕ)) × (between : Option (List ℕ))
+    × AreLoaded (reading_by call) call.given load left between × IsCountsLine call.given load.secrets line
 
 -- why the counts are not told
 abbrev pub IsCountsFailure : Bool → Failure → Type 0
 IsCountsFailure counted failure = (counted ≡ true) × ((failure ≡ Counts) ⊎ (failure ≡ Other OutOfMemory))
 
--- the line of a piece that is not clean, of a cover where such a piece is not refused
+-- a line that warns of a redaction by some patterns: of one of a list that may be meant otherwise, or of a piece that is not clean
+abbrev pub Warns : List Given → List Secret → Redactor → List ℕ → Type 0
+Warns given secrets r line =
+    IsMember (all_doubt_lines given secrets) line
+    ⊎ ((unclean : Unclean) × (r.covers ≡ true) × IsUncleanBy (is_some r.key) r.patterns r.pieces unclean × (line ≡ unclean_line unclean))
+
+-- one of the patterns that were loaded, where such a one is not refused
 abbrev pub IsWarningLine : Call → List ℕ → Type 0
-IsWarningLine call line =
-    (has Strict call.given ≡ false) × (covers_asked call.given ≡ true) × ((unclean : Unclean) × (line ≡ unclean_line unclean))
+IsWarningLine call line = (has Strict call.given ≡ false) × (load : Loaded) × (left : Option (List ℕ)) × (between : Option (List ℕ))
+    × AreLoaded (reading_by call) call.given load left between × Warns call.given load.secrets (redactor_by_given call.given load) line
 
 -- what may be told of a call: a piece that is not clean, a file that is not read to its end, why it ends early, and the counts where
 -- they are asked for
@@ -180,7 +199,7 @@ abbrev pub IsLineOf : Call → (fails : Type 0) → List ℕ → Type 0
 IsLineOf call fails line =
     IsUnreadLine (names_asked call.given) line
     ⊎ (((failure : Failure) × MayFail call fails failure × IsFailureLine failure line)
-    ⊎ (IsCountsLine call.given line
+    ⊎ (CountsLoaded call line
     ⊎ IsWarningLine call line))
 
 -- what is told of wrong arguments
@@ -205,11 +224,9 @@ TellsAnyCounts K given rules counts volume errors errors' = MatchBool (counts_as
 
 -- it is told whole how many of these ranges have the text of each pattern in their place
 pub record TellsTotals {E : Type 0} (K : SinkGhosts E) (given : List Given) (secrets : List Secret) (ranges : List Occurrence) (volume : Volume) (errors errors' : Errors E) : Type 0 where
-  pub lines : List ℕ
-  pub one_line : length lines ≡ length secrets
   pub counts : List ℕ
   pub totals : AreTotals (length secrets) ranges counts
-  pub told : TellsBytes K errors errors' (totals_text given lines counts volume)
+  pub told : TellsBytes K errors errors' (totals_text given (secret_lines secrets) counts volume)
   pub whole : errors'.failed ≡ false
 
 -- of all patterns that were loaded the pieces are told, where they are not clean
@@ -217,7 +234,7 @@ pub record WarnsCall {E : Type 0} (K : SinkGhosts E) (call : Call) (left : Optio
   pub load : Loaded
   pub between : Option (List ℕ)
   pub loaded : AreLoaded (reading_by call) call.given load left between
-  pub told : TellsOfPieces K (has Strict call.given) (redactor_by_given call.given load) errors errors'
+  pub told : TellsWarnings K (has Strict call.given) call.given load.secrets (redactor_by_given call.given load) errors errors'
 
 module _ {R : Type 0} {Reads : Readers R} {W : Type 0} (Writes : Writers W) where
   module _ {E : Type 0} (call : Call) (left : Option (List ℕ)) (streams streams' : Streams R W E Reads) where
@@ -262,7 +279,7 @@ module _ {R : Type 0} {Reads : Readers R} {W : Type 0} (Writes : Writers W) wher
       pub ranges : List Occurrence
       pub found : NamesHaveRanges (work_by call load) (names_asked call.given) ranges between (bytes_left streams'.input)
       pub meanwhile : Errors E
-      pub warned : TellsOfPieces K (has Strict call.given) (redactor_by_given call.given load) streams.errors meanwhile
+      pub warned : TellsWarnings K (has Strict call.given) call.given load.secrets (redactor_by_given call.given load) streams.errors meanwhile
       pub volume : Volume
       pub read : ReadsVolume call.holds (names_asked call.given) no_volume volume between (bytes_left streams'.input)
       pub counted : TellsTotals K call.given load.secrets ranges volume meanwhile streams'.errors
@@ -330,6 +347,12 @@ module _ {R : Type 0} {Reads : Readers R} {W : Type 0} (Writes : Writers W) wher
     LoadOutcome D folder given rules key result streams streams' = (left : Option (List ℕ))
         → AreLoaded (reading_by (call_of D folder given)) given (loaded_as rules (key_lent key)) left (bytes_left streams.input)
         → CallOutcome (call_of D folder given) left result streams streams'
+
+    -- the same behind what is told of doubtful patterns of lists
+    abbrev pub DoubtedOutcome : {F X : Type 0} → Folders F X → F → List Given → List Rule → Option (Bor (List ℕ)) → Result Bool Failure → (streams streams' : Streams R W E Reads) → Type 0
+    DoubtedOutcome D folder given rules key result streams streams' = (first : Errors E)
+        → TellsDoubts K (has Strict given) given (secrets_of rules) first streams.errors
+        → LoadOutcome D folder given rules key result (record streams { errors = first }) streams'
 
     -- and of one whose key is to be loaded
     abbrev pub KeylessOutcome : {F X : Type 0} → Folders F X → F → List Given → List Rule → Result Bool Failure → (streams streams' : Streams R W E Reads) → Type 0

@@ -1,5 +1,6 @@
 -- How many matches of each pattern were replaced, and how that is told.
 use Rattle.std.specs.Prelude.{◌≡◌, ℕ, ◌+◌, ◌-◌, ◌^◌, ◌==◌, min, Bool, List, [], ◌∷◌, ◌++◌, codes, decimal, map, Vec, if◌then◌else◌}
+use Rattle.acredact.specs.Tables.{Secret, secrets_of}
 use Rattle.acredact.specs.declared.patterns.Rule.{Rule}
 
 -- these bytes were put at the end of a text
@@ -28,8 +29,11 @@ counts_text number [] counts = []
 counts_text number (line ∷ lines) [] = []
 counts_text number (line ∷ lines) (count ∷ counts) = count_line count number line ++ counts_text (counted_more number) lines counts
 
+abbrev pub secret_lines : List Secret → List ℕ
+secret_lines secrets = map (λ secret. secret.line) secrets
+
 abbrev pub lines_of_rules : List Rule → List ℕ
-lines_of_rules rules = map (λ rule. rule.line) rules
+lines_of_rules rules = secret_lines (secrets_of rules)
 
 -- what is told of these rules
 abbrev pub counts_told : List Rule → (counts : List ℕ) → List ℕ

@@ -6,10 +6,10 @@ use Rattle.programs.specs.declared.failure.Failure.{Failure as OtherFailure}
 use Rattle.programs.specs.declared.failure.Failure.TheVariants.{Usage, Build, Search, OutOfMemory, PositionLimit, Read, Write, WriteZero}
 use Rattle.acredact.specs.LineFaults.{line_fault_text}
 use Rattle.programs.specs.declared.reason.Reason.{Reason}
-use Rattle.acredact.specs.Messages.{about, alone, line_about, told_line, unclean_line}
+use Rattle.acredact.specs.Messages.{about, alone, line_about, message_about, told_line, unclean_line}
 use Rattle.acredact.specs.Mistakes.{mistake_line}
 use Rattle.acredact.specs.declared.failure.Failure.{Failure}
-use Rattle.acredact.specs.declared.failure.Failure.TheVariants.{NotText, Arguments, Pattern, Unread, Empty, EmptyKey, Line, Unclean, Counts, Other}
+use Rattle.acredact.specs.declared.failure.Failure.TheVariants.{NotText, Arguments, Pattern, Unread, Empty, ShortKey, Line, Unclean, Counts, Other}
 use Rattle.acredact.specs.declared.patterns.BadLine.{BadLine}
 
 -- the output failed, or took nothing
@@ -31,7 +31,7 @@ IsOtherLine other line =
 
 -- what is told of a line of a file
 abbrev pub bad_line : List ℕ → BadLine → Message
-bad_line name bad = record { name = Some name; line = Some bad.number; cause = line_fault_text bad.fault }
+bad_line name bad = message_about name (Some bad.number) (line_fault_text bad.fault)
 
 -- the line that tells a failure: of what, and why. Of a pattern it holds nothing, and of a file its name
 abbrev pub IsFailureLine : Failure → List ℕ → Type 0
@@ -40,7 +40,7 @@ IsFailureLine (Arguments mistake) line = line ≡ mistake_line mistake
 IsFailureLine (Pattern fault) line = line ≡ told_line (about (codes "-e") (line_fault_text fault))
 IsFailureLine (Unread name reason) line = line ≡ told_line (about name.now (reason_text reason))
 IsFailureLine (Empty name) line = line ≡ told_line (about name.now (codes "no pattern: give --allow-empty to allow it"))
-IsFailureLine (EmptyKey name) line = line ≡ told_line (about name.now (codes "empty key"))
+IsFailureLine (ShortKey name) line = line ≡ told_line (about name.now (codes "key of less than 16 bytes"))
 IsFailureLine (Line name bad) line = line ≡ told_line (bad_line name.now bad)
 IsFailureLine (Unclean unclean) line = line ≡ unclean_line unclean
 IsFailureLine Counts line = line ≡ told_line (alone (codes "the counts cannot be written"))

@@ -6,6 +6,7 @@ pub mod Mistakes
 -- what the lines of files of patterns and of tables hold
 pub mod Tables
 pub mod LineFaults
+pub mod Parts
 -- which patterns a pseudonym can spell
 pub mod Spelling
 -- what a redaction is, and that no secret is passed on
@@ -33,6 +34,7 @@ pub mod Looks
 pub mod Builds
 pub mod Counts
 pub mod Failures
+pub mod Doubts
 pub mod Calls
 pub mod Checks
 pub mod Statuses

@@ -1,11 +1,12 @@
 -- Why a line of a file of patterns or of a table holds no secret.
-use Rattle.std.specs.Prelude.{◌≡◌, ◌⊎◌, ℕ, ◌+◌, ◌-◌, ◌^◌, min, Bool, MatchBool, true, false, List, [], ◌∷◌, ◌++◌, codes, length, nat_eq}
+use Rattle.std.specs.Prelude.{◌≡◌, ◌⊎◌, ℕ, ◌+◌, ◌-◌, ◌^◌, min, Bool, MatchBool, true, false, List, [], ◌∷◌, ◌++◌, Option, Some, None, codes, if◌then◌else◌, length, nat_eq}
 use Rattle.std.specs.Io.BufRead.{ends_with_byte}
+use Rattle.std.specs.List.{starts_with}
 use Rattle.acredact.specs.Tables.{IsWithout, in_table, stripped_by}
 use Rattle.acredact.specs.declared.patterns.BadLine.{BadLine}
 use Rattle.acredact.specs.declared.patterns.Form.{Form}
 use Rattle.acredact.specs.declared.patterns.LineFault.{LineFault}
-use Rattle.acredact.specs.declared.patterns.LineFault.TheVariants.{EmptyPattern, NoTab, SecondTab, BadEscape, CarriageReturn, OutOfMemory}
+use Rattle.acredact.specs.declared.patterns.LineFault.TheVariants.{EmptyPattern, NoTab, SecondTab, BadEscape, CarriageReturn, ByteOrderMark, Utf16, ZeroByte, Blank, Quotes, OutOfMemory}
 
 -- behind a backslash stands none of 't', 'n' and a backslash
 abbrev pub NamesNone : List ℕ → Type 0
@@ -19,6 +20,11 @@ IsBadStart text NoTab = ⊥
 IsBadStart text SecondTab = (rest : List ℕ) × (text ≡ 9 ∷ rest)
 IsBadStart text BadEscape = (rest : List ℕ) × ((text ≡ 10 ∷ rest) ⊎ ((text ≡ 92 ∷ rest) × NamesNone rest))
 IsBadStart text CarriageReturn = ⊥
+IsBadStart text ByteOrderMark = ⊥
+IsBadStart text Utf16 = ⊥
+IsBadStart text ZeroByte = ⊥
+IsBadStart text Blank = ⊥
+IsBadStart text Quotes = ⊥
 IsBadStart text OutOfMemory = ⊥
 
 -- that is so of a text behind some bytes, or memory runs out
@@ -40,11 +46,24 @@ IsRowFault line fault =
 abbrev pub IsLineFault : Bool → List ℕ → LineFault → Type 0
 IsLineFault table line fault = (fault ≡ OutOfMemory) ⊎ MatchBool table (IsRowFault line fault) (IsPlainFault line fault)
 
+-- a byte stands in a text
+abbrev pub HasByte : ℕ → List ℕ → Type 0
+HasByte byte text = (front : List ℕ) × (rest : List ℕ) × (text ≡ front ++ (byte ∷ rest))
+
 -- and why a line of a file does not
 abbrev pub IsLineFaultBy : Form → List ℕ → LineFault → Type 0
 IsLineFaultBy form line fault =
     ((fault ≡ CarriageReturn) × (form.table ≡ false) × (ends_with_byte 13 (stripped_by form line) ≡ true))
-    ⊎ IsLineFault form.table (stripped_by form line) fault
+    ⊎ (((fault ≡ ZeroByte) × HasByte 0 (stripped_by form line))
+    ⊎ IsLineFault form.table (stripped_by form line) fault)
+
+-- what is wrong with the beginning of a list: a byte order mark of UTF-8, or one of the two of UTF-16
+abbrev pub mark_in : List ℕ → Option LineFault
+mark_in text =
+    if starts_with nat_eq text (239 ∷ 187 ∷ 191 ∷ []) then Some ByteOrderMark
+    else if starts_with nat_eq text (255 ∷ 254 ∷ []) then Some Utf16
+    else if starts_with nat_eq text (254 ∷ 255 ∷ []) then Some Utf16
+    else None
 
 -- the line of this number among some lines holds no secret for this reason
 pub record IsListFault (form : Form) (lines : List (List ℕ)) (bad : BadLine) : Type 0 where
@@ -62,4 +81,9 @@ line_fault_text NoTab = codes "no TAB"
 line_fault_text SecondTab = codes "second TAB: write \\t"
 line_fault_text BadEscape = codes "bad escape: write \\t, \\n or \\\\"
 line_fault_text CarriageReturn = codes "carriage return at the end of a pattern: give --crlf to leave it out"
+line_fault_text ByteOrderMark = codes "byte order mark: leave it out"
+line_fault_text Utf16 = codes "UTF-16: give UTF-8, or what the files hold"
+line_fault_text ZeroByte = codes "zero byte: is this UTF-16?"
+line_fault_text Blank = codes "a blank at an end of the pattern is a part of it"
+line_fault_text Quotes = codes "the quotes around the pattern are a part of it"
 line_fault_text OutOfMemory = codes "out of memory"

@@ -1,5 +1,5 @@
 -- What the options give, one after another, and why they do not.
-use Rattle.std.specs.Prelude.{◌≡◌, ◌⊎◌, ℕ, ◌≤◌, Bool, true, false, List, [], ◌∷◌, ◌++◌, Option, Some, None, IfSome, Result, Ok, Err, length, option_map, Vec}
+use Rattle.std.specs.Prelude.{◌≡◌, ◌⊎◌, ℕ, ◌<◌, ◌≤◌, Bool, true, false, List, [], ◌∷◌, ◌++◌, Option, Some, None, IfSome, Result, Ok, Err, length, option_map, Vec}
 use Rattle.std.specs.Borrow.{Bor}
 use Rattle.std.specs.List.{AllZip}
 use Rattle.std.specs.declared.io.traits.Read.{Ghosts as Readers}
@@ -9,13 +9,14 @@ use Rattle.programs.specs.Streams.{bytes_left}
 use Rattle.programs.specs.declared.reason.Reason.{Reason}
 use Rattle.programs.specs.declared.reason.Reason.TheVariants.{NotFound, Denied, Directory, Irregular, NoDirectory, Links, LongName, Invalid, Full, TooLarge, Quota, Interrupted, Unavailable, Closed, OutOfMemory, PositionLimit, ReadFault, Fault}
 use Rattle.acredact.specs.Arguments.{Given, last_value}
-use Rattle.acredact.specs.LineFaults.{IsLineFault, IsListFault}
+use Rattle.acredact.specs.LineFaults.{IsLineFault, IsListFault, mark_in}
+use Rattle.acredact.specs.Parts.{GivesPattern}
 use Rattle.acredact.specs.Reads.{OfName, ReadsText}
-use Rattle.acredact.specs.Tables.{Holds, HoldsBy, Secret, lines_in, secrets_of}
+use Rattle.acredact.specs.Tables.{HaveLines, HoldsBy, Secret, lines_in, secrets_of}
 use Rattle.acredact.specs.declared.arguments.Word.{Word}
 use Rattle.acredact.specs.declared.arguments.Word.TheVariants.{IgnoreCase, Kind, Pattern, Patterns, Table, With, Pseudonym, Output, InPlace, Count, Summary, Crlf, AllowEmpty, Strict, Check, Help, Version, File}
 use Rattle.acredact.specs.declared.failure.Failure.{Failure}
-use Rattle.acredact.specs.declared.failure.Failure.TheVariants.{NotText, Arguments, Pattern as BadPattern, Unread, Empty, EmptyKey, Line, Unclean, Counts, Other}
+use Rattle.acredact.specs.declared.failure.Failure.TheVariants.{NotText, Arguments, Pattern as BadPattern, Unread, Empty, ShortKey, Line, Unclean, Counts, Other}
 use Rattle.acredact.specs.declared.folder.Folder.{Ghosts as Folders}
 use Rattle.acredact.specs.declared.load.Lists.{Lists}
 use Rattle.acredact.specs.declared.patterns.Form.{Form}
@@ -25,9 +26,10 @@ use Rattle.acredact.specs.declared.patterns.Rule.{Rule}
 pub record Rules : Type 0 where
   pub crlf : Bool
   pub allow_empty : Bool
+  pub parts : Bool
 
 abbrev pub rules_for : {F : Type 0} → Lists F → Rules
-rules_for lists = record { crlf = lists.crlf; allow_empty = lists.allow_empty }
+rules_for lists = record { crlf = lists.crlf; allow_empty = lists.allow_empty; parts = lists.parts }
 
 -- and by which folder
 pub record Reading : Type 1 where
@@ -41,10 +43,12 @@ reading_of_lists D lists = record { holds = D.holds lists.folder.now; refuses = 
 abbrev pub form_by : Rules → Bool → Form
 form_by rules table = record { table = table; crlf = rules.crlf }
 
--- the text of a list holds these secrets, one in each line
+-- the text of a list holds these secrets, one in each line, and no byte order mark stands in front of them
 pub record HoldsSecrets (rules : Rules) (table : Bool) (text : List ℕ) (secrets : List Secret) : Type 0 where
   pub some : text ≡ [] → rules.allow_empty ≡ true
+  pub unmarked : mark_in text ≡ None
   pub held : AllZip (HoldsBy (form_by rules table)) (lines_in text) secrets
+  pub numbered : HaveLines 0 secrets
 
 -- the list of this name was read, and it holds these
 pub record GivesSecrets (reading : Reading) (table : Bool) (name : List ℕ) (secrets : List Secret) (left left' : Option (List ℕ)) : Type 0 where
@@ -52,13 +56,9 @@ pub record GivesSecrets (reading : Reading) (table : Bool) (name : List ℕ) (se
   pub reads : OfName reading.holds name (ReadsText text) left left'
   pub held : HoldsSecrets reading.rules table text secrets
 
--- a pattern among the arguments is its bytes
-abbrev pub IsSecret : List ℕ → List Secret → Type 0
-IsSecret value secrets = (secret : Secret) × (secrets ≡ secret ∷ []) × Holds false value secret
-
 -- the secrets that an option gives
 abbrev pub OptionGives : Reading → Word → List ℕ → List Secret → (left left' : Option (List ℕ)) → Type 0
-OptionGives reading Pattern value secrets left left' = IsSecret value secrets × (left' ≡ left)
+OptionGives reading Pattern value secrets left left' = GivesPattern reading.rules.parts value secrets × (left' ≡ left)
 OptionGives reading Patterns value secrets left left' = GivesSecrets reading false value secrets left left'
 OptionGives reading Table value secrets left left' = GivesSecrets reading true value secrets left left'
 OptionGives reading IgnoreCase value secrets left left' = (secrets ≡ []) × (left' ≡ left)
@@ -83,10 +83,10 @@ AreGiven reading [] secrets left left' = (secrets ≡ []) × (left' ≡ left)
 AreGiven reading (item ∷ items) secrets left left' = (first : List Secret) × (rest : List Secret) × (secrets ≡ first ++ rest)
     × (between : Option (List ℕ)) × OptionGives reading item.word item.value first left between × AreGiven reading items rest between left'
 
--- the key in the file of a name was read: all bytes of that, and there is one
+-- the key in the file of a name was read: all bytes of that, and there are 16 or more
 pub record GivesKey (reading : Reading) (name : List ℕ) (key : Option (List ℕ)) (left left' : Option (List ℕ)) : Type 0 where
   pub bytes : List ℕ
-  pub some : 1 ≤ length bytes
+  pub long : 16 ≤ length bytes
   pub is : key ≡ Some bytes
   pub reads : OfName reading.holds name (ReadsText bytes) left left'
 
@@ -199,7 +199,7 @@ IsPatternFailure value (Arguments mistake) = ⊥
 IsPatternFailure value (BadPattern fault) = IsLineFault false value fault
 IsPatternFailure value (Unread name reason) = ⊥
 IsPatternFailure value (Empty name) = ⊥
-IsPatternFailure value (EmptyKey name) = ⊥
+IsPatternFailure value (ShortKey name) = ⊥
 IsPatternFailure value (Line name bad) = ⊥
 IsPatternFailure value (Unclean unclean) = ⊥
 IsPatternFailure value Counts = ⊥
@@ -212,8 +212,9 @@ IsTextFailure rules table file text (Arguments mistake) = ⊥
 IsTextFailure rules table file text (BadPattern fault) = ⊥
 IsTextFailure rules table file text (Unread name reason) = ⊥
 IsTextFailure rules table file text (Empty name) = (name.now ≡ file) × (text ≡ []) × (rules.allow_empty ≡ false)
-IsTextFailure rules table file text (EmptyKey name) = ⊥
-IsTextFailure rules table file text (Line name bad) = (name.now ≡ file) × IsListFault (form_by rules table) (lines_in text) bad
+IsTextFailure rules table file text (ShortKey name) = ⊥
+IsTextFailure rules table file text (Line name bad) =
+    (name.now ≡ file) × (((bad.number ≡ 1) × (mark_in text ≡ Some bad.fault)) ⊎ IsListFault (form_by rules table) (lines_in text) bad)
 IsTextFailure rules table file text (Unclean unclean) = ⊥
 IsTextFailure rules table file text Counts = ⊥
 IsTextFailure rules table file text (Other failure) = ⊥
@@ -228,11 +229,11 @@ IsFileFailure reading table file failure =
     ((name : _) × (reason : Reason) × (failure ≡ Unread name reason) × (name.now ≡ file) × CannotRead reading file reason)
     ⊎ ((text : List ℕ) × IsListText reading file text × IsTextFailure reading.rules table file text failure)
 
--- the file of a name gives no key: it cannot be read, or is empty
+-- the file of a name gives no key: it cannot be read, or has less than 16 bytes
 abbrev pub IsKeyFailure : Reading → List ℕ → Failure → Type 0
 IsKeyFailure reading file failure =
     ((name : _) × (reason : Reason) × (failure ≡ Unread name reason) × (name.now ≡ file) × CannotRead reading file reason)
-    ⊎ ((name : _) × (failure ≡ EmptyKey name) × (name.now ≡ file) × IsListText reading file [])
+    ⊎ ((name : _) × (text : List ℕ) × (failure ≡ ShortKey name) × (name.now ≡ file) × (length text < 16) × IsListText reading file text)
 
 -- nor does that of the option
 abbrev pub CannotLoadKey : Reading → List Given → Failure → Type 0

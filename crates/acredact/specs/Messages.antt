@@ -1,5 +1,6 @@
 -- The lines on standard error.
-use Rattle.std.specs.Prelude.{ℕ, List, ◌++◌, None, Some, codes, decimal}
+use Rattle.std.specs.Prelude.{ℕ, ◌+◌, ◌-◌, ◌/◌, ◌%◌, ◌==◌, ◌||◌, Bool, List, [], ◌∷◌, ◌++◌, Option, None, Some, codes, decimal, if◌then◌else◌, nat_lt}
+use Rattle.std.specs.List.{flat_map}
 use Rattle.programs.specs.Messages.{Message, message_by}
 use Rattle.acredact.specs.declared.clean.Flaw.{Flaw}
 use Rattle.acredact.specs.declared.clean.Flaw.TheVariants.{Empty, Pseudonym, Spells}
@@ -9,9 +10,29 @@ use Rattle.acredact.specs.declared.clean.Unclean.{Unclean}
 abbrev pub told_line : Message → List ℕ
 told_line message = message_by (codes "acredact") message
 
--- what it is about, and why
+-- a control character of ASCII
+abbrev pub is_control : ℕ → Bool
+is_control byte = nat_lt byte 32 || byte == 127
+
+-- a hexadecimal digit
+abbrev pub digit_of : ℕ → ℕ
+digit_of digit = if nat_lt digit 10 then 48 + digit else 65 + (digit - 10)
+
+-- a byte as it stands in a message: a control character as '\x' and two digits
+abbrev pub escaped_of : ℕ → List ℕ
+escaped_of byte = if is_control byte then codes "\\x" ++ (digit_of (byte / 16) ∷ digit_of (byte % 16) ∷ []) else byte ∷ []
+
+-- and a name, so that a message is one line
+abbrev pub shown : List ℕ → List ℕ
+shown name = flat_map escaped_of name
+
+-- what it is about, of which line, and why
+abbrev pub message_about : List ℕ → Option ℕ → List ℕ → Message
+message_about name line cause = record { name = Some (shown name); line = line; cause = cause }
+
+-- the same of no line
 abbrev pub about : List ℕ → List ℕ → Message
-about name cause = record { name = Some name; line = None; cause = cause }
+about name cause = message_about name None cause
 
 -- why alone
 abbrev pub alone : List ℕ → Message

@@ -8,7 +8,7 @@ use Rattle.call_options.specs.declared.misuse.Misuse.{Misuse}
 use Rattle.call_options.specs.declared.misuse.Misuse.TheVariants.{UnknownLetter as NoLetter, NotFound as NoName, NoArgument, TakesNone as Argued}
 use Rattle.acredact.specs.Arguments.{Given, ItemsSoFar, all_given, by_argument, given_by, mixture_of, option_name, takes_value}
 use Rattle.acredact.specs.Long.{found_of_name, word_by_name}
-use Rattle.acredact.specs.Messages.{alone, told_line}
+use Rattle.acredact.specs.Messages.{alone, shown, told_line}
 use Rattle.acredact.specs.declared.arguments.Expects.{Expects}
 use Rattle.acredact.specs.declared.arguments.Expects.TheVariants.{Any, Value, Name}
 use Rattle.acredact.specs.declared.arguments.Item.{Item}
@@ -32,7 +32,7 @@ mixture_text CountCheck = codes "--count and --check do not go together: a check
 
 -- the line that tells what is wrong with something that was given
 abbrev pub named_line : (before name behind : List ℕ) → List ℕ
-named_line before name behind = codes "acredact" ++ (codes ": " ++ (before ++ (name ++ (behind ++ codes "\n"))))
+named_line before name behind = codes "acredact" ++ (codes ": " ++ (before ++ (shown name ++ (behind ++ codes "\n"))))
 
 -- an option that is called so is misused, or one of this letter or long name
 abbrev pub misuse_line : Misuse → List ℕ → List ℕ
@@ -42,9 +42,9 @@ misuse_line misuse name = named_line (text_before misuse) name (text_behind misu
 abbrev pub letter_line : ℕ → List ℕ
 letter_line letter = misuse_line NoLetter (letter ∷ [])
 
--- there is no such kind
-abbrev pub kind_line : List ℕ → List ℕ
-kind_line kind = named_line (codes "option '--kind' takes cover, first, longest or standard, not '") kind (codes "'")
+-- there is no such kind: the value is not told
+abbrev pub kind_line : List ℕ
+kind_line = told_line (alone (codes "option '--kind' takes cover, first, longest or standard"))
 
 -- the line that tells a mistake
 abbrev pub mistake_line : Mistake → List ℕ
@@ -52,7 +52,7 @@ mistake_line (UnknownLetter letter) = letter_line letter
 mistake_line (NotFound why name) = misuse_line (NoName why) name.now
 mistake_line (NoValue word) = misuse_line NoArgument (option_name word)
 mistake_line (TakesNone name) = misuse_line Argued name.now
-mistake_line (UnknownKind kind) = kind_line kind.now
+mistake_line UnknownKind = kind_line
 mistake_line NoPattern = told_line (alone (codes "no pattern: give -e, -f or -t, or --help"))
 mistake_line (Mixed mixture) = told_line (alone (mixture_text mixture))
 mistake_line OutOfMemory = told_line (alone (codes "out of memory"))
@@ -68,7 +68,7 @@ line_of_name name = line_of_found (meant (found_of_name name)) name
 -- of a long name with a value behind an equals sign, where its option cannot have that one
 abbrev pub line_of_joined : Option Word → (name value : List ℕ) → List ℕ
 line_of_joined None name value = line_of_name name
-line_of_joined (Some word) name value = if takes_value word then kind_line value else misuse_line Argued name
+line_of_joined (Some word) name value = if takes_value word then kind_line else misuse_line Argued name
 
 -- of the letter of no option
 abbrev pub line_of_letter : List ℕ → List ℕ
@@ -94,7 +94,7 @@ line_of_any argument = line_of_form (argument_form argument)
 -- of a wrong argument, by what is expected of it
 abbrev pub line_of_argument : Expects → List ℕ → List ℕ
 line_of_argument Any argument = line_of_any argument
-line_of_argument (Value word) argument = kind_line argument
+line_of_argument (Value word) argument = kind_line
 line_of_argument Name argument = []
 
 abbrev pub line_or : List ℕ → (ItemsSoFar → Option (List ℕ)) → Option ItemsSoFar → Option (List ℕ)

@@ -15,9 +15,15 @@ use Rattle.acredact.specs.declared.streams.Streams.{Streams}
 abbrev pub check_status : Verdict → ℕ
 check_status verdict = if verdict.all then (if verdict.found then 1 else 0) else 2
 
+-- nothing was read of the input, and nothing written
+pub record IsIdle {R W E : Type 0} {Reads : Readers R} (streams streams' : Streams R W E Reads) : Type 0 where
+  pub unread : streams'.input ≡ streams.input
+  pub unwritten : streams'.output ≡ streams.output
+
 -- what that of a redaction says: of this call, and of the state before and after it
 pub record CallStatus {R W E : Type 0} {Reads : Readers R} (Writes : Writers W) (K : SinkGhosts E) (call : Call) (status : ℕ) (streams streams' : Streams R W E Reads) : Type 0 where
   pub patternless : GivesNoPattern call.given → status ≡ 2
+  pub idle : GivesNoPattern call.given → IsIdle streams streams'
   pub redacts : status ≡ 0 → RedactsCall Writes call (bytes_left streams.input) streams streams'
   pub begins : BeginsCall Writes call (bytes_left streams.input) streams streams'
   pub strict : RefusesUnclean call.given → status ≡ 0 → LeavesNone Writes call (bytes_left streams.input) streams streams'

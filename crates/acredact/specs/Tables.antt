@@ -1,8 +1,9 @@
 -- What the lines of a file of patterns and of a table hold.
-use Rattle.std.specs.Prelude.{◌≡◌, ℕ, ◌≤◌, Bool, true, false, List, [], ◌∷◌, ◌++◌, Option, Some, None, Vec, codes, length, map, nat_eq, option_map, unwrap_or, if◌then◌else◌}
+use Rattle.std.specs.Prelude.{◌≡◌, ℕ, ◌+◌, ◌-◌, ◌^◌, ◌≤◌, min, Bool, true, false, List, [], ◌∷◌, ◌++◌, Option, Some, None, Vec, codes, length, map, nat_eq, option_map, unwrap_or, if◌then◌else◌}
 use Rattle.std.specs.Io.BufRead.{ends_with_byte, strip_last}
 use Rattle.std.specs.List.{All, AllZip, flat_map, slice_split}
 use Rattle.acredact.specs.declared.patterns.Form.{Form}
+use Rattle.acredact.specs.declared.patterns.Place.{Place}
 use Rattle.acredact.specs.declared.patterns.Rule.{Rule}
 
 -- how a byte stands in a table: a TAB, a line end and a backslash as two bytes, and any other as itself
@@ -17,13 +18,20 @@ escape_of byte =
 abbrev pub in_table : List ℕ → List ℕ
 in_table bytes = flat_map escape_of bytes
 
--- a pattern, and its own replacement where it has one
+-- a pattern, and its own replacement where it has one; the number of the option that gives it, and its line in a file, or 0
 pub record Secret : Type 0 where
   pub pattern : List ℕ
   pub replacement : Option (List ℕ)
+  pub list : ℕ
+  pub line : ℕ
 
 abbrev pub secret_of : Rule → Secret
-secret_of rule = record { pattern = rule.pattern.items; replacement = option_map (λ bytes. bytes.items) rule.replacement }
+secret_of rule = record {
+  pattern = rule.pattern.items;
+  replacement = option_map (λ bytes. bytes.items) rule.replacement;
+  list = rule.list;
+  line = rule.line;
+}
 
 abbrev pub secrets_of : List Rule → List Secret
 secrets_of rules = map secret_of rules
@@ -55,40 +63,53 @@ lines_in (byte ∷ bytes) = slice_split (λ b. nat_eq b 10) (strip_last 10 (byte
 abbrev pub stripped_by : Form → List ℕ → List ℕ
 stripped_by form line = if form.crlf then strip_last 13 line else line
 
--- a line of a file holds a secret: a pattern of a file of patterns ends in no carriage return
+-- a byte does not stand in a text
+abbrev pub IsWithout : ℕ → List ℕ → Type 0
+IsWithout byte text = All (λ b. nat_eq b byte ≡ false) text
+
+-- a line of a file holds a secret: there is no zero byte in it, and a pattern of a file of patterns ends in no carriage return
 pub record HoldsBy (form : Form) (line : List ℕ) (secret : Secret) : Type 0 where
   pub holds : Holds form.table (stripped_by form line) secret
   pub no_return : form.table ≡ false → ends_with_byte 13 (stripped_by form line) ≡ false
+  pub no_zero : IsWithout 0 (stripped_by form line)
+
+-- a secret stands here
+pub record StandsHere (place : Place) (secret : Secret) : Type 0 where
+  pub list_is : secret.list ≡ place.list
+  pub line_is : secret.line ≡ place.line
+
+-- secrets stand in one line each, behind some lines; a number stops at the greatest
+abbrev pub HaveLines : ℕ → List Secret → Type 0
+HaveLines before [] = Unit {0}
+HaveLines before (secret ∷ secrets) = (secret.line ≡ min (before + 1) (2 ^ 64 - 1)) × HaveLines (before + 1) secrets
 
 -- what is written for a pattern: its own replacement, or a text where it has none
 abbrev pub piece_by : List ℕ → Secret → List ℕ
 piece_by text secret = unwrap_or secret.replacement text
 
--- a byte does not stand in a text
-abbrev pub IsWithout : ℕ → List ℕ → Type 0
-IsWithout byte text = All (λ b. nat_eq b byte ≡ false) text
-
 -- what a line holds is added
-pub record IsAdded (table : Bool) (old new : List Secret) (line : List ℕ) : Type 0 where
+pub record IsAdded (Is : Secret → Type 0) (place : Place) (old new : List Secret) : Type 0 where
   pub secret : Secret
   pub grown : new ≡ old ++ (secret ∷ [])
-  pub held : Holds table line secret
+  pub held : Is secret
+  pub stands : StandsHere place secret
 
 -- what the lines of a file hold is added, in order
 pub record IsAddedList (form : Form) (old new : List Secret) (lines : List (List ℕ)) : Type 0 where
   pub more : List Secret
   pub grown : new ≡ old ++ more
   pub held : AllZip (HoldsBy form) lines more
+  pub numbered : HaveLines 0 more
 
 -- the same, of the rules before and after
-abbrev pub AddsLine : {Z : Type 0} → Bool → List ℕ → (rules rules' : Vec Rule Z) → Type 0
-AddsLine table line rules rules' = IsAdded table (secrets_of rules.items) (secrets_of rules'.items) line
+abbrev pub AddsLine : {Z : Type 0} → Bool → List ℕ → Place → (rules rules' : Vec Rule Z) → Type 0
+AddsLine table line place rules rules' = IsAdded (Holds table line) place (secrets_of rules.items) (secrets_of rules'.items)
+
+abbrev pub AddsOf : {Z : Type 0} → Form → List ℕ → Place → (rules rules' : Vec Rule Z) → Type 0
+AddsOf form line place rules rules' = IsAdded (HoldsBy form line) place (secrets_of rules.items) (secrets_of rules'.items)
 
 abbrev pub AddsLines : {Z : Type 0} → Form → List (List ℕ) → (rules rules' : Vec Rule Z) → Type 0
 AddsLines form lines rules rules' = IsAddedList form (secrets_of rules.items) (secrets_of rules'.items) lines
-
-abbrev pub AddsListed : {Z : Type 0} → Form → List ℕ → (rules rules' : Vec Rule Z) → Type 0
-AddsListed form line rules rules' = AddsLines form (line ∷ []) rules rules'
 
 -- the bytes of the patterns
 abbrev pub patterns_in : List Secret → List (List ℕ)

@@ -107,8 +107,8 @@ pub enum Mistake<'a> {
     NoValue(Word),
     /// The option of this long name has a value, and takes none.
     TakesNone(&'a [u8]),
-    /// There is no such match kind.
-    UnknownKind(&'a [u8]),
+    /// The value of `--kind` is no kind. It is not told: it may be a secret, where the option is not the one that was meant.
+    UnknownKind,
     /// There is no pattern, no file of patterns and no table.
     NoPattern,
     /// These options do not go together.
@@ -380,10 +380,10 @@ fn read_value<'a>(
 ) -> Result<Expects, Mistake<'a>>
     ensures read { ReadsAs (by_value word value.now) items.old items.new result }
     ensures refused { FailsAs (by_value word value.now) items.old result }
-    ensures wrong { TellsAs (kind_line value.now) result }
+    ensures wrong { TellsAs kind_line result }
 {
     if !is_value_of(word, value) {
-        return Err(Mistake::UnknownKind(value.as_bytes()));
+        return Err(Mistake::UnknownKind);
     }
     add(items, word, value)?;
     Ok(Expects::Any)

@@ -12,20 +12,14 @@ ghost use Rattle.acredact.specs.declared.clean.Flaw.TheVariants.{Empty, Pseudony
 use crate::arguments::{Mistake, Mixture, name_of};
 use crate::clean::{Flaw, Unclean};
 use crate::patterns::{BadLine, LineFault};
+use crate::shown::{MAX_DIGITS, PROGRAM, digits_of, is_plain, tell_shown, write_shown};
 use aho_core::error::{BuildError, StreamError};
 use aho_devices::device::Sink;
 use call_options::misuse::Misuse;
-use itoa::write_digits;
 use programs::errors::Errors;
 use programs::failure;
 use programs::reason::Reason;
 use std::alloc::AllocError;
-
-/// The name that stands before each message.
-const PROGRAM: &[u8] = b"acredact";
-
-/// The most digits that a number has.
-const MAX_DIGITS: usize = 20;
 
 /// Why a call ends early.
 #[derive(Drop)]
@@ -40,8 +34,8 @@ pub enum Failure<'a> {
     Unread(&'a str, Reason),
     /// A file of patterns or a table is empty.
     Empty(&'a str),
-    /// The file of a key is empty.
-    EmptyKey(&'a str),
+    /// The file of a key has too few bytes.
+    ShortKey(&'a str),
     /// A line of a file of patterns or of a table is wrong.
     Line(&'a str, BadLine),
     /// The piece of a pattern is not clean.
@@ -120,7 +114,7 @@ pub fn tell_no_file<E: Sink>(errors: &mut Errors<'_, E>, name: &str)
 fn tell_about<E: Sink>(errors: &mut Errors<'_, E>, name: &str, cause: &str)
     ensures told { TellsBytes E.Sink errors.old errors.new (line_about name.now cause.now) }
 {
-    errors.tell(PROGRAM, Some(name.as_bytes()), None, cause.as_bytes());
+    tell_shown(errors, name.as_bytes(), None, cause.as_bytes());
 }
 
 /// Tells a cause as a line.
@@ -145,7 +139,7 @@ pub fn tell_failure<E: Sink>(errors: &mut Errors<'_, E>, failure: &Failure<'_>)
             name,
             "no pattern: give --allow-empty to allow it",
         ),
-        Failure::EmptyKey(name) => tell_about(errors, name, "empty key"),
+        Failure::ShortKey(name) => tell_about(errors, name, "key of less than 16 bytes"),
         Failure::Line(name, line) => tell_line(errors, name, *line),
         Failure::Unclean(unclean) => tell_unclean(errors, *unclean),
         Failure::Counts => tell_alone(errors, "the counts cannot be written"),
@@ -170,7 +164,7 @@ fn tell_empty<E: Sink>(errors: &mut Errors<'_, E>, number: usize)
         (piece_line (decimal number) (flaw_text Empty)) }
 {
     let mut room = [0; MAX_DIGITS];
-    let digits = digits_of(number, &mut room);
+    let digits = digits_of(number as u64, &mut room);
     errors.write(&[
         PROGRAM,
         b": the replacement of pattern ",
@@ -186,8 +180,8 @@ fn tell_spelled<E: Sink>(errors: &mut Errors<'_, E>, number: usize, pattern: usi
 {
     let mut room = [0; MAX_DIGITS];
     let mut other_room = [0; MAX_DIGITS];
-    let digits = digits_of(number, &mut room);
-    let other_digits = digits_of(pattern, &mut other_room);
+    let digits = digits_of(number as u64, &mut room);
+    let other_digits = digits_of(pattern as u64, &mut other_room);
     errors.write(&[
         PROGRAM,
         b": the replacement of pattern ",
@@ -204,21 +198,13 @@ fn tell_pseudonym<E: Sink>(errors: &mut Errors<'_, E>, number: usize)
         (piece_line (decimal number) (flaw_text Pseudonym)) }
 {
     let mut room = [0; MAX_DIGITS];
-    let digits = digits_of(number, &mut room);
+    let digits = digits_of(number as u64, &mut room);
     errors.write(&[
         PROGRAM,
         b": the replacement of pattern ",
         digits,
         b" is a pseudonym: it can spell this pattern with what stands beside it\n",
     ]);
-}
-
-/// The digits of a number, in this room.
-fn digits_of(number: usize, room: &mut [u8; MAX_DIGITS]) -> &[u8]
-    ensures digits { result.now ≡ decimal number }
-{
-    let start = write_digits(number as u64, room, MAX_DIGITS);
-    &room[start..]
 }
 
 /// Tells as a line what is wrong with the arguments.
@@ -230,11 +216,9 @@ fn tell_mistake<E: Sink>(errors: &mut Errors<'_, E>, mistake: Mistake<'_>)
         Mistake::NotFound(why, name) => tell_misuse(errors, Misuse::NotFound(why), name),
         Mistake::NoValue(word) => tell_misuse(errors, Misuse::NoArgument, name_of(word).as_bytes()),
         Mistake::TakesNone(name) => tell_misuse(errors, Misuse::TakesNone, name),
-        Mistake::UnknownKind(kind) => tell_named(
+        Mistake::UnknownKind => tell_alone(
             errors,
-            b"option '--kind' takes cover, first, longest or standard, not '",
-            kind,
-            b"'",
+            "option '--kind' takes cover, first, longest or standard",
         ),
         Mistake::NoPattern => tell_alone(errors, "no pattern: give -e, -f or -t, or --help"),
         Mistake::Mixed(mixture) => tell_alone(errors, mixture_text(mixture)),
@@ -253,7 +237,12 @@ fn tell_misuse<E: Sink>(errors: &mut Errors<'_, E>, misuse: Misuse, name: &[u8])
 fn tell_named<E: Sink>(errors: &mut Errors<'_, E>, before: &[u8], name: &[u8], behind: &[u8])
     ensures told { TellsBytes E.Sink errors.old errors.new (named_line before.now name.now behind.now) }
 {
-    errors.write(&[PROGRAM, b": ", before, name, behind, b"\n"]);
+    if is_plain(name) {
+        return errors.write(&[PROGRAM, b": ", before, name, behind, b"\n"]);
+    }
+    errors.write(&[PROGRAM, b": ", before]);
+    write_shown(errors, name);
+    errors.write(&[behind, b"\n"]);
 }
 
 /// What is told of options that do not go together.
@@ -286,12 +275,12 @@ fn mixture_text(mixture: Mixture) -> &'static str
 }
 
 /// Tells as a line what is wrong with a line of a file.
-fn tell_line<E: Sink>(errors: &mut Errors<'_, E>, name: &str, bad: BadLine)
+pub fn tell_line<E: Sink>(errors: &mut Errors<'_, E>, name: &str, bad: BadLine)
     ensures told { TellsBytes E.Sink errors.old errors.new (told_line (bad_line name.now bad)) }
 {
-    errors.tell(
-        PROGRAM,
-        Some(name.as_bytes()),
+    tell_shown(
+        errors,
+        name.as_bytes(),
         Some(bad.number as u64),
         text_of(bad.fault).as_bytes(),
     );
@@ -309,6 +298,11 @@ fn text_of(fault: LineFault) -> &'static str
         LineFault::CarriageReturn => {
             "carriage return at the end of a pattern: give --crlf to leave it out"
         }
+        LineFault::ByteOrderMark => "byte order mark: leave it out",
+        LineFault::Utf16 => "UTF-16: give UTF-8, or what the files hold",
+        LineFault::ZeroByte => "zero byte: is this UTF-16?",
+        LineFault::Blank => "a blank at an end of the pattern is a part of it",
+        LineFault::Quotes => "the quotes around the pattern are a part of it",
         LineFault::OutOfMemory => "out of memory",
     }
 }

@@ -16,6 +16,7 @@ use crate::arguments::{Item, Mistake, Word, counts, covers, has, items, replaces
 use crate::back::back_of;
 use crate::clean::{Judge, unclean_of};
 use crate::counts::counts_of;
+use crate::doubts::warn_of_lists;
 use crate::failure::{Failure, tell_no_file, tell_unread};
 use crate::files::{Job, both, is_input};
 use crate::folder::Folder;
@@ -148,9 +149,31 @@ fn load_key<'a, F: Folder, O: Outputs, I: Read, E: Sink>(
     match key_of(&lists, given, &mut streams.input) {
         Ok(Some(key)) => {
             let key = Some(key.as_slice());
-            place_counted(alloc, given, rules, key, folder, outputs, streams)
+            place_loaded(alloc, given, rules, key, folder, outputs, streams)
         }
-        Ok(None) => place_counted(alloc, given, rules, None, folder, outputs, streams),
+        Ok(None) => place_loaded(alloc, given, rules, None, folder, outputs, streams),
+        Err(failure) => Err(failure),
+    }
+}
+
+/// Tells of doubtful patterns of lists, or refuses the first, replaces each file by these rules, and answers whether all were
+/// replaced.
+fn place_loaded<'a, F: Folder, O: Outputs, I: Read, E: Sink>(
+    alloc: Global,
+    given: &[Item<'a>],
+    rules: &[Rule],
+    key: Option<&[u8]>,
+    folder: &F,
+    outputs: &mut O,
+    streams: &mut Streams<'_, I, O::File, E>,
+) -> Result<bool, Failure<'a>>
+    requires some { HaveNoEmpty (secrets_of rules.now) }
+    ensures outcome { LoadedPlaces O.File.Write F.Folder O.Outputs
+        folder.now given.now rules.now key.entry result outputs.old outputs.new }
+{
+    let strict = has(given, Word::Strict);
+    match warn_of_lists(&mut streams.errors, given, rules, strict) {
+        Ok(()) => place_counted(alloc, given, rules, key, folder, outputs, streams),
         Err(failure) => Err(failure),
     }
 }

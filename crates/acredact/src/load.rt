@@ -1,19 +1,22 @@
 //! The rules of all patterns, files and tables that are given.
 
-ghost use Rattle.std.specs.Prelude.{◌≡◌, ℕ, List, Option, IfErr, IfOk, OnOk, false};
+ghost use Rattle.std.specs.Prelude.{◌≡◌, ℕ, List, Option, IfErr, IfOk, OnOk};
 ghost use Rattle.aho_devices.specs.Counts.{counted};
 ghost use Rattle.programs.specs.Streams.{bytes_left};
 ghost use Rattle.acredact.specs.Arguments.{all_given, given_of};
 ghost use Rattle.acredact.specs.Calls.{rules_asked};
 ghost use Rattle.acredact.specs.Loading.{AddsFile, AddsItem, AddsList, CannotLoad, CannotLoadKey, CannotLoadOne, CannotRead, GivesRules, IsFileFailure, IsKeyFailure, IsPatternFailure, IsTextFailure, IsTextReason, LoadsKey, ReadsKey, ReadsList, is_failed_text, reading_of_lists, rules_for};
+ghost use Rattle.acredact.specs.Parts.{AddsSome, ArePartsBy, GivesPattern};
 ghost use Rattle.acredact.specs.Reads.{ReadsText};
-ghost use Rattle.acredact.specs.Tables.{AddsLine};
+ghost use Rattle.acredact.specs.declared.failure.Failure.TheVariants.{Pattern};
+ghost use Rattle.acredact.specs.declared.patterns.LineFault.TheVariants.{OutOfMemory};
 
-use crate::arguments::{Item, Word, has, last_value};
+use crate::arguments::{Item, Word, covers, has, last_value};
 use crate::failure::Failure;
 use crate::files::is_input;
 use crate::folder::Folder;
-use crate::patterns::{Form, Rule, add_line, add_lines};
+use crate::parts::add_parts;
+use crate::patterns::{BadLine, Form, LineFault, Place, Rule, add_line, add_lines, mark_of};
 use aho_devices::adapters::FromRead;
 use aho_devices::device::Source;
 use programs::reason::Reason;
@@ -22,6 +25,9 @@ use std::io::Read;
 
 /// How many bytes of a list are read at once.
 const PIECE: usize = 16 * 1024;
+
+/// How many bytes a key has at least.
+const LEAST_KEY: usize = 16;
 
 /// How files of patterns and tables are read.
 #[derive(Clone, Copy)]
@@ -34,6 +40,8 @@ pub struct Lists<'f, F> {
     pub crlf: bool,
     /// Whether a file may be empty.
     pub allow_empty: bool,
+    /// Whether long lines of a pattern that has line ends are patterns too.
+    pub parts: bool,
 }
 
 /// How the files of patterns and tables are read that are given.
@@ -46,6 +54,7 @@ pub fn lists_of<'f, F>(alloc: Global, given: &[Item<'_>], folder: &'f F) -> List
         folder,
         crlf: has(given, Word::Crlf),
         allow_empty: has(given, Word::AllowEmpty),
+        parts: covers(given),
     }
 }
 
@@ -64,13 +73,15 @@ pub fn rules<'a, F: Folder, I: Read>(
     ensures fails { IfErr result (CannotLoadOne (reading_of_lists F.Folder lists.now) (all_given items.now)) }
 {
     let mut rules = Vec::new(lists.alloc);
+    let mut number: usize = 0;
     let mut rest = items;
     while !rest.is_empty() {
         // Not by `?`: this error holds names.
-        match add_item(lists, &mut rules, rest[0], input) {
+        match add_item(lists, &mut rules, rest[0], number, input) {
             Ok(()) => {}
             Err(failure) => return Err(failure),
         }
+        number = number.saturating_add(1);
         rest = &rest[1..];
     }
     Ok(rules)
@@ -108,8 +119,8 @@ fn read_key<'a, F: Folder, I: Read>(
 {
     match read_list(lists, name, input) {
         Ok(key) => {
-            if key.is_empty() {
-                return Err(Failure::EmptyKey(name));
+            if key.len() < LEAST_KEY {
+                return Err(Failure::ShortKey(name));
             }
             Ok(Some(key))
         }
@@ -122,6 +133,7 @@ fn add_item<'a, F: Folder, I: Read>(
     lists: &Lists<'_, F>,
     rules: &mut Vec<Rule>,
     item: Item<'a>,
+    number: usize,
     input: &mut FromRead<I>,
 ) -> Result<(), Failure<'a>>
     ensures added { OnOk result (AddsItem F.Folder lists.now (given_of item.entry)
@@ -129,25 +141,46 @@ fn add_item<'a, F: Folder, I: Read>(
     ensures fails { IfErr result (CannotLoad (reading_of_lists F.Folder lists.now) (given_of item.entry)) }
 {
     match item.word {
-        Word::Pattern => add_pattern(lists.alloc, rules, item.value),
-        Word::Patterns => add_file(lists, rules, item.value, false, input),
-        Word::Table => add_file(lists, rules, item.value, true, input),
+        Word::Pattern => add_pattern(lists, rules, item.value, number),
+        Word::Patterns => add_file(lists, rules, item.value, false, number, input),
+        Word::Table => add_file(lists, rules, item.value, true, number, input),
         _ => Ok(()),
     }
 }
 
 /// Adds the rule of a pattern among the arguments.
-fn add_pattern<'a>(
-    alloc: Global,
+fn add_pattern<'a, F>(
+    lists: &Lists<'_, F>,
     rules: &mut Vec<Rule>,
     pattern: &'a str,
+    list: usize,
 ) -> Result<(), Failure<'a>>
-    ensures added { OnOk result (AddsLine false pattern.now rules.old rules.new) }
+    ensures added { OnOk result (AddsSome (GivesPattern lists.now.parts pattern.now) rules.old rules.new) }
     ensures fails { IfErr result (IsPatternFailure pattern.now) }
 {
-    match add_line(alloc, rules, pattern.as_bytes(), false, 0) {
-        Ok(()) => Ok(()),
+    let bytes = pattern.as_bytes();
+    match add_line(lists.alloc, rules, bytes, false, Place { list, line: 0 }) {
+        Ok(()) => add_parts_of(lists, rules, bytes, list),
         Err(fault) => Err(Failure::Pattern(fault)),
+    }
+}
+
+/// Adds the lines of a pattern that has line ends, where these are patterns too.
+fn add_parts_of<'a, F>(
+    lists: &Lists<'_, F>,
+    rules: &mut Vec<Rule>,
+    pattern: &[u8],
+    list: usize,
+) -> Result<(), Failure<'a>>
+    ensures added { OnOk result (AddsSome (ArePartsBy lists.now.parts list pattern.now) rules.old rules.new) }
+    ensures fails { IfErr result (λ failure. failure ≡ Pattern OutOfMemory) }
+{
+    if !lists.parts {
+        return Ok(());
+    }
+    match add_parts(lists.alloc, rules, pattern, list) {
+        Ok(()) => Ok(()),
+        Err(_) => Err(Failure::Pattern(LineFault::OutOfMemory)),
     }
 }
 
@@ -157,6 +190,7 @@ fn add_file<'a, F: Folder, I: Read>(
     rules: &mut Vec<Rule>,
     name: &'a str,
     table: bool,
+    list: usize,
     input: &mut FromRead<I>,
 ) -> Result<(), Failure<'a>>
     ensures added { OnOk result (AddsFile F.Folder lists.now table name.now
@@ -164,7 +198,7 @@ fn add_file<'a, F: Folder, I: Read>(
     ensures fails { IfErr result (IsFileFailure (reading_of_lists F.Folder lists.now) table name.now) }
 {
     match read_list(lists, name, input) {
-        Ok(text) => add_text(lists, rules, name, table, text.as_slice()),
+        Ok(text) => add_text(lists, rules, name, table, list, text.as_slice()),
         Err(reason) => Err(Failure::Unread(name, reason)),
     }
 }
@@ -175,6 +209,7 @@ fn add_text<'a, F>(
     rules: &mut Vec<Rule>,
     name: &'a str,
     table: bool,
+    list: usize,
     text: &[u8],
 ) -> Result<(), Failure<'a>>
     ensures added { OnOk result (AddsList lists.now table text.now rules.old rules.new) }
@@ -183,11 +218,14 @@ fn add_text<'a, F>(
     if text.is_empty() && !lists.allow_empty {
         return Err(Failure::Empty(name));
     }
+    if let Some(fault) = mark_of(text) {
+        return Err(Failure::Line(name, BadLine { number: 1, fault }));
+    }
     let form = Form {
         table,
         crlf: lists.crlf,
     };
-    match add_lines(lists.alloc, rules, text, form) {
+    match add_lines(lists.alloc, rules, text, form, list) {
         Ok(()) => Ok(()),
         Err(line) => Err(Failure::Line(name, line)),
     }

@@ -13,6 +13,7 @@ mod back;
 mod check;
 mod clean;
 mod counts;
+mod doubts;
 mod failure;
 mod files;
 mod folder;
@@ -23,10 +24,12 @@ mod long;
 mod look;
 mod meter;
 mod outputs;
+mod parts;
 mod patterns;
 mod redact;
 mod rows;
 mod run;
+mod shown;
 mod spelled;
 mod streams;
 mod summary;
@@ -41,6 +44,7 @@ ghost use Rattle.acredact.specs.Checks.{MatchedAsked, UnmatchedAsked};
 
 use aho_devices::adapters::{FromRead, FromWrite};
 use aho_devices::device::Sink;
+use failure::Failure::Unread;
 use folder::{Folder, Host};
 use in_place::{asks_in_place, replace_in_place};
 use into::{make_and_run, named_output};
@@ -49,6 +53,7 @@ use programs::arguments::arguments;
 use programs::closed::{Noted, Quiet};
 use programs::errors::Errors;
 use programs::failure::Failure;
+use programs::unopened::{DEVICE, fill_closed};
 use run::{refuse, report, run};
 use std::alloc::Global;
 use std::cell::Cell;
@@ -60,9 +65,13 @@ use streams::Streams;
 const OUTPUT_CAPACITY: usize = 64 * 1024;
 
 fn main(rt: HostRuntime) -> ExitCode {
+    let filled = fill_closed(&rt, &rt.stdin(), &rt.stdout(), &rt.stderr());
     let given = arguments(&rt);
     let reason = Cell::new(None);
     let mut errors = Errors::new(FromWrite::new(Quiet::new(rt.stderr(), &reason)), &reason);
+    if let Err(reason) = filled {
+        return ExitCode::from(report(&Unread(DEVICE, reason), &mut errors));
+    }
     if let Ok(arguments) = &given {
         let arguments = arguments.as_slice();
         let folder = Host::new(&rt);

@@ -1,10 +1,10 @@
 //! Patterns with their replacements: of a file of patterns, and of a table.
 
-ghost use Rattle.std.specs.Prelude.{◌≡◌, [], ◌<◌, ◌≤◌, ◌∷◌, ◌++◌, IfErr, IfNone, IfOk, IfSome, OnOk, OnErr, false, length, map, slice_index, true};
+ghost use Rattle.std.specs.Prelude.{◌≡◌, ◌<◌, ◌≤◌, ◌∷◌, ◌++◌, IfErr, IfNone, IfOk, IfSome, OnOk, false, length, map, slice_index, true};
 ghost use Rattle.std.specs.Io.BufRead.{ends_with_byte, strip_last};
 ghost use Rattle.aho_core.specs.Replacement.{pieces_of};
-ghost use Rattle.acredact.specs.LineFaults.{IsBadStart, IsLineFault, IsLineFaultBy, IsListFault, IsTextFault};
-ghost use Rattle.acredact.specs.Tables.{AddsLine, AddsLines, AddsListed, Holds, IsWithout, escape_of, in_table, stripped_by, lines_in, patterns_in, piece_by, secret_of, secrets_of};
+ghost use Rattle.acredact.specs.LineFaults.{IsBadStart, IsLineFault, IsLineFaultBy, IsListFault, IsTextFault, mark_in};
+ghost use Rattle.acredact.specs.Tables.{AddsLine, AddsLines, AddsOf, Holds, IsWithout, StandsHere, escape_of, in_table, stripped_by, lines_in, patterns_in, piece_by, secret_of, secrets_of};
 
 use std::alloc::{AllocError, AllocFailed, Global};
 use std::slice;
@@ -16,7 +16,18 @@ pub struct Rule {
     pub pattern: Vec<u8>,
     /// The bytes that are written in their place.
     pub replacement: Option<Vec<u8>>,
+    /// The number of the option that gives it, from 0 on, among all options and files.
+    pub list: usize,
     /// The number of its line in its file, from 1 on, and 0 for one that is an argument.
+    pub line: usize,
+}
+
+/// Where a pattern stands.
+#[derive(Clone, Copy)]
+pub struct Place {
+    /// The number of the option that gives it, from 0 on.
+    pub list: usize,
+    /// The number of the line in its file, from 1 on, and 0 for an argument.
     pub line: usize,
 }
 
@@ -42,6 +53,16 @@ pub enum LineFault {
     BadEscape,
     /// A pattern of a file of patterns ends in a carriage return.
     CarriageReturn,
+    /// A byte order mark stands in front of the first line.
+    ByteOrderMark,
+    /// The file is UTF-16: a byte order mark of that stands in front of the first line.
+    Utf16,
+    /// There is a zero byte in it.
+    ZeroByte,
+    /// Its pattern begins or ends with a blank.
+    Blank,
+    /// Quotes stand around its pattern.
+    Quotes,
     /// Memory runs out.
     OutOfMemory,
 }
@@ -67,7 +88,7 @@ impl<T: Drop> From<AllocFailed<T>> for LineFault {
 }
 
 /// A text without this byte at its end.
-fn without_last(text: &[u8], byte: u8) -> &[u8]
+pub fn without_last(text: &[u8], byte: u8) -> &[u8]
     ensures stripped { result.now ≡ strip_last byte text.now }
 {
     match text.split_last() {
@@ -77,10 +98,10 @@ fn without_last(text: &[u8], byte: u8) -> &[u8]
 }
 
 /// The rule of a line of a file of patterns: its bytes are the pattern.
-fn plain(alloc: Global, line: &[u8], number: usize) -> Result<Rule, LineFault>
+fn plain(alloc: Global, line: &[u8], place: Place) -> Result<Rule, LineFault>
     ensures rule { IfOk result (λ rule. Holds false line.now (secret_of rule)) }
     ensures fault { IfErr result (IsLineFault false line.now) }
-    ensures line { IfOk result (λ rule. rule.line ≡ number) }
+    ensures stands { IfOk result (λ rule. StandsHere place (secret_of rule)) }
 {
     if line.is_empty() {
         return Err(LineFault::EmptyPattern);
@@ -88,15 +109,16 @@ fn plain(alloc: Global, line: &[u8], number: usize) -> Result<Rule, LineFault>
     Ok(Rule {
         pattern: copy_of(alloc, line)?,
         replacement: None,
-        line: number,
+        list: place.list,
+        line: place.line,
     })
 }
 
 /// The rule of a line of a table: its pattern, a TAB, and the replacement.
-fn row(alloc: Global, line: &[u8], number: usize) -> Result<Rule, LineFault>
+fn row(alloc: Global, line: &[u8], place: Place) -> Result<Rule, LineFault>
     ensures rule { IfOk result (λ rule. Holds true line.now (secret_of rule)) }
     ensures fault { IfErr result (IsLineFault true line.now) }
-    ensures line { IfOk result (λ rule. rule.line ≡ number) }
+    ensures stands { IfOk result (λ rule. StandsHere place (secret_of rule)) }
 {
     let Some((before, behind)) = split_at(line, b'\t') else {
         return Err(LineFault::NoTab);
@@ -109,12 +131,13 @@ fn row(alloc: Global, line: &[u8], number: usize) -> Result<Rule, LineFault>
     Ok(Rule {
         pattern,
         replacement: Some(replacement),
-        line: number,
+        list: place.list,
+        line: place.line,
     })
 }
 
 /// What stands before the first place of a byte, and behind it.
-fn split_at(text: &[u8], byte: u8) -> Option<(&[u8], &[u8])>
+pub fn split_at(text: &[u8], byte: u8) -> Option<(&[u8], &[u8])>
     ensures split { IfSome result (λ parts. text.now ≡ parts.0.now ++ (byte ∷ parts.1.now)) }
     ensures first { IfSome result (λ parts. IsWithout byte parts.0.now) }
     ensures shorter { IfSome result (λ two. length two.1.now < length text.now) }
@@ -189,7 +212,7 @@ fn escaped_byte(text: &[u8]) -> Result<(u8, &[u8]), LineFault>
 }
 
 /// These bytes in memory of their own.
-fn copy_of(alloc: Global, bytes: &[u8]) -> Result<Vec<u8>, AllocError>
+pub fn copy_of(alloc: Global, bytes: &[u8]) -> Result<Vec<u8>, AllocError>
     ensures same { IfOk result (λ copy. copy.items ≡ bytes.now) }
 {
     let mut copy = Vec::new(alloc);
@@ -206,6 +229,19 @@ pub struct BadLine {
     pub fault: LineFault,
 }
 
+/// What is wrong with the beginning of a list, if something is: a byte order mark stands there, of UTF-8 or of UTF-16.
+pub fn mark_of(text: &[u8]) -> Option<LineFault>
+    ensures mark { result ≡ mark_in text.now }
+{
+    if text.starts_with(b"\xEF\xBB\xBF") {
+        return Some(LineFault::ByteOrderMark);
+    }
+    if text.starts_with(b"\xFF\xFE") || text.starts_with(b"\xFE\xFF") {
+        return Some(LineFault::Utf16);
+    }
+    None
+}
+
 /// Adds the rules of a text, one for each line: of a table, or of a file of patterns.
 ///
 /// # Errors
@@ -216,6 +252,7 @@ pub fn add_lines(
     rules: &mut Vec<Rule>,
     text: &[u8],
     form: Form,
+    list: usize,
 ) -> Result<(), BadLine>
     ensures added { OnOk result (AddsLines form (lines_in text.now) rules.old rules.new) }
     ensures fault { IfErr result (IsListFault form (lines_in text.now)) }
@@ -226,11 +263,11 @@ pub fn add_lines(
     let mut number: usize = 1;
     let mut rest = without_last(text, b'\n');
     while let Some((line, more)) = split_at(rest, b'\n') {
-        add_numbered(alloc, rules, line, form, number)?;
+        add_numbered(alloc, rules, line, form, Place { list, line: number })?;
         number = number.saturating_add(1);
         rest = more;
     }
-    add_numbered(alloc, rules, rest, form, number)
+    add_numbered(alloc, rules, rest, form, Place { list, line: number })
 }
 
 /// Adds the rule of the line of this number.
@@ -239,15 +276,18 @@ fn add_numbered(
     rules: &mut Vec<Rule>,
     line: &[u8],
     form: Form,
-    number: usize,
+    place: Place,
 ) -> Result<(), BadLine>
-    ensures added { OnOk result (AddsListed form line.now rules.old rules.new) }
-    ensures number { IfErr result (λ bad. bad.number ≡ number) }
+    ensures added { OnOk result (AddsOf form line.now place rules.old rules.new) }
+    ensures number { IfErr result (λ bad. bad.number ≡ place.line) }
     ensures fault { IfErr result (λ bad. IsLineFaultBy form line.now bad.fault) }
 {
-    match add_listed(alloc, rules, line, form, number) {
+    match add_listed(alloc, rules, line, form, place) {
         Ok(()) => Ok(()),
-        Err(fault) => Err(BadLine { number, fault }),
+        Err(fault) => Err(BadLine {
+            number: place.line,
+            fault,
+        }),
     }
 }
 
@@ -257,16 +297,19 @@ fn add_listed(
     rules: &mut Vec<Rule>,
     line: &[u8],
     form: Form,
-    number: usize,
+    place: Place,
 ) -> Result<(), LineFault>
-    ensures added { OnOk result (AddsListed form line.now rules.old rules.new) }
+    ensures added { OnOk result (AddsOf form line.now place rules.old rules.new) }
     ensures fault { IfErr result (IsLineFaultBy form line.now) }
 {
     let line = stripped_by(form, line);
     if !form.table && ends_in_return(line) {
         return Err(LineFault::CarriageReturn);
     }
-    add_line(alloc, rules, line, form.table, number)
+    if split_at(line, 0).is_some() {
+        return Err(LineFault::ZeroByte);
+    }
+    add_line(alloc, rules, line, form.table, place)
 }
 
 /// A line as its rule stands in it: without a carriage return at its end, where those are left out.
@@ -286,21 +329,21 @@ fn ends_in_return(line: &[u8]) -> bool
     matches!(line.split_last(), Some((b'\r', _)))
 }
 
-/// Adds the rule of a line, which has this number.
+/// Adds the rule of a line, which stands here.
 pub fn add_line(
     alloc: Global,
     rules: &mut Vec<Rule>,
     line: &[u8],
     table: bool,
-    number: usize,
+    place: Place,
 ) -> Result<(), LineFault>
-    ensures added { OnOk result (AddsLine table line.now rules.old rules.new) }
+    ensures added { OnOk result (AddsLine table line.now place rules.old rules.new) }
     ensures fault { IfErr result (IsLineFault table line.now) }
 {
     let rule = if table {
-        row(alloc, line, number)?
+        row(alloc, line, place)?
     } else {
-        plain(alloc, line, number)?
+        plain(alloc, line, place)?
     };
     rules.push(rule)?;
     Ok(())

@@ -8,7 +8,7 @@ ghost use Rattle.programs.specs.Streams.{WritesBytes, bytes_left};
 ghost use Rattle.programs.specs.Telling.{Tells, TellsBytes, TellsSome};
 ghost use Rattle.acredact.specs.Arguments.{AreMistaken, AsksToRedact, GivesNoPattern, IfAsked, IfChecking, IfNoCheck, IsCheck, RefusesUnclean, all_given, checks_asked, counts_asked, counts_given, has};
 ghost use Rattle.acredact.specs.Back.{AreBoth, FilesJob, IfBackIs, RowsCounts, RowsOutcome};
-ghost use Rattle.acredact.specs.Calls.{AskedOutcome, BeginsAsked, CountsAsked, IsCountsFailure, IsCountsLine, IsPrintFailure, IsRefusedLine, IsWrongLine, KeylessOutcome, LeavesNoneAsked, LoadOutcome, OutputFails, ReadsAsked, RedactsAsked, TellsAsked, TellsAnyCounts, WarnedJob, WarnedOutcome, WarnsAsked, call_of, gives_pattern, keyed_as, names_asked, text_asked, work_by};
+ghost use Rattle.acredact.specs.Calls.{AskedOutcome, BeginsAsked, CountsAsked, DoubtedOutcome, IsCountsFailure, IsCountsLine, IsPrintFailure, IsRefusedLine, IsWrongLine, KeylessOutcome, LeavesNoneAsked, LoadOutcome, OutputFails, ReadsAsked, RedactsAsked, TellsAsked, TellsAnyCounts, WarnedJob, WarnedOutcome, WarnsAsked, call_of, gives_pattern, keyed_as, names_asked, text_asked, work_by};
 ghost use Rattle.acredact.specs.Checks.{MatchedAsked, SaysOfCheck, TellsUncheckedAsked, UnmatchedAsked};
 ghost use Rattle.acredact.specs.Counts.{PutsText, lines_of_rules, zeros};
 ghost use Rattle.acredact.specs.Failures.{IsFailureLine};
@@ -16,7 +16,7 @@ ghost use Rattle.acredact.specs.Files.{CanDo, keyed_of};
 ghost use Rattle.acredact.specs.Loading.{key_lent, loaded_as};
 ghost use Rattle.acredact.specs.Pieces.{IfOfAll, TellsUnclean, pieces_by};
 ghost use Rattle.acredact.specs.Secrets.{IfOf};
-ghost use Rattle.acredact.specs.Statuses.{SaysOfRedaction};
+ghost use Rattle.acredact.specs.Statuses.{IsIdle, SaysOfRedaction};
 ghost use Rattle.acredact.specs.Tables.{HaveNoEmpty, secrets_of};
 ghost use Rattle.acredact.specs.Summaries.{counts_told_by, summary_told_by, totals_text};
 ghost use Rattle.acredact.specs.Totals.{CountsWork, JobCounts};
@@ -32,6 +32,7 @@ use crate::back::back_of;
 use crate::check::check;
 use crate::clean::{Judge, Unclean, unclean_of};
 use crate::counts::{counts_of, put_counts};
+use crate::doubts::warn_of_lists;
 use crate::failure::{Failure, tell_failure, tell_unclean};
 use crate::files::{Job, back_files, redact_files};
 use crate::folder::Folder;
@@ -108,6 +109,8 @@ pub fn run<F: Folder, I: Read, W: Write, E: Sink>(
     ensures tells_wrong { AreMistaken arguments.now → TellsSome E.Sink
         (IsWrongLine (texts arguments.now)) streams.old.errors streams.new.errors }
     ensures patternless { IfAsked arguments.now (λ given. GivesNoPattern given → result ≡ 2) }
+    ensures idle { IfAsked arguments.now (λ given.
+        GivesNoPattern given → IsIdle streams.old streams.new) }
 
     // Where the status is 0, the files were redacted, one after another, and no secret is left.
     ensures redacts { IfAsked arguments.now (λ given. result ≡ 0
@@ -219,6 +222,8 @@ fn redact_asked<'a, F: Folder, I: Read, W: Write, E: Sink>(
 ) -> Result<bool, Failure<'a>>
     ensures patternless { AsksToRedact (all_given given.now)
         → GivesNoPattern (all_given given.now) → OnOk result ⊥ }
+    ensures idle { AsksToRedact (all_given given.now)
+        → GivesNoPattern (all_given given.now) → IsIdle streams.old streams.new }
     ensures outcome { AsksToRedact (all_given given.now) → AskedOutcome W.Write E.Sink
         F.Folder folder.now (all_given given.now) result streams.old streams.new }
     ensures flushed { OnOk result (streams.new.output.device.flushed ≡ true) }
@@ -287,8 +292,29 @@ fn load_key<'a, F: Folder, I: Read, W: Write, E: Sink>(
 {
     let lists = lists_of(alloc, given, folder);
     match key_of(&lists, given, &mut streams.input) {
-        Ok(Some(key)) => redact_counted(alloc, given, rules, Some(key.as_slice()), folder, streams),
-        Ok(None) => redact_counted(alloc, given, rules, None, folder, streams),
+        Ok(Some(key)) => redact_loaded(alloc, given, rules, Some(key.as_slice()), folder, streams),
+        Ok(None) => redact_loaded(alloc, given, rules, None, folder, streams),
+        Err(failure) => Err(failure),
+    }
+}
+
+/// Tells of doubtful patterns of lists, or refuses the first, redacts all files by these rules, and answers whether all were read.
+fn redact_loaded<'a, F: Folder, I: Read, W: Write, E: Sink>(
+    alloc: Global,
+    given: &[Item<'a>],
+    rules: &[Rule],
+    key: Option<&[u8]>,
+    folder: &F,
+    streams: &mut Streams<'_, I, W, E>,
+) -> Result<bool, Failure<'a>>
+    requires some { HaveNoEmpty (secrets_of rules.now) }
+    ensures outcome { LoadOutcome W.Write E.Sink F.Folder
+        folder.now (all_given given.now) rules.now key.entry result streams.old streams.new }
+    ensures flushed { OnOk result (streams.new.output.device.flushed ≡ true) }
+{
+    let strict = has(given, Word::Strict);
+    match warn_of_lists(&mut streams.errors, given, rules, strict) {
+        Ok(()) => redact_counted(alloc, given, rules, key, folder, streams),
         Err(failure) => Err(failure),
     }
 }
@@ -303,7 +329,7 @@ fn redact_counted<'a, F: Folder, I: Read, W: Write, E: Sink>(
     streams: &mut Streams<'_, I, W, E>,
 ) -> Result<bool, Failure<'a>>
     requires some { HaveNoEmpty (secrets_of rules.now) }
-    ensures outcome { LoadOutcome W.Write E.Sink F.Folder
+    ensures outcome { DoubtedOutcome W.Write E.Sink F.Folder
         folder.now (all_given given.now) rules.now key.entry result streams.old streams.new }
     ensures flushed { OnOk result (streams.new.output.device.flushed ≡ true) }
 {
@@ -333,7 +359,7 @@ fn redact_telling<'a, F: Folder, I: Read, W: Write, E: Sink>(
 ) -> Result<bool, Failure<'a>>
     requires some { HaveNoEmpty (secrets_of rules.now) }
     requires none { tally.old ≡ zeros (counts_given given.now) rules.now }
-    ensures outcome { LoadOutcome W.Write E.Sink F.Folder
+    ensures outcome { DoubtedOutcome W.Write E.Sink F.Folder
         folder.now (all_given given.now) rules.now key.entry result streams.old streams.new }
     ensures flushed { OnOk result (streams.new.output.device.flushed ≡ true) }
 {
@@ -367,7 +393,8 @@ pub fn tell_counted<'a, E: Sink>(
     ensures all { IfOk result (λ done. done ≡ all) }
     ensures told { OnOk result (TellsAnyCounts E.Sink (all_given given.now) rules.now tally.now volume
         errors.old errors.new) }
-    ensures lines { Tells E.Sink (IsCountsLine (all_given given.now)) errors.old errors.new }
+    ensures lines { Tells E.Sink (IsCountsLine (all_given given.now) (secrets_of rules.now))
+        errors.old errors.new }
     ensures fails { IfErr result (IsCountsFailure (counts_given given.now)) }
 {
     if !counts(given) {

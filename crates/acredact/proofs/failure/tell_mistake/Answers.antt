@@ -19,7 +19,7 @@ returns-in-TakesNone g c = record {
 
 pub returns-in-UnknownKind : goal.returns-in-UnknownKind
 returns-in-UnknownKind g c = record {
-  told = subst (λ (m : Mistake). TellsBytes g.E.Sink c.args.errors.now c.tell_named.new.errors (mistake_line m)) (sym c.in-UnknownKind.is) c.tell_named.ensures.told;
+  told = subst (λ (m : Mistake). TellsBytes g.E.Sink c.args.errors.now c.tell_alone.new.errors (mistake_line m)) (sym c.in-UnknownKind.is) c.tell_alone.ensures.told;
 }
 
 pub returns-in-NoValue : goal.returns-in-NoValue
@@ -30,7 +30,7 @@ returns-in-NoValue g c = record {
 
 pub returns-in-NoPattern : goal.returns-in-NoPattern
 returns-in-NoPattern g c = record {
-  told = subst (λ (m : Mistake). TellsBytes g.E.Sink c.args.errors.now c.tell_alone.new.errors (mistake_line m)) (sym c.in-NoPattern.is) c.tell_alone.ensures.told;
+  told = subst (λ (m : Mistake). TellsBytes g.E.Sink c.args.errors.now c.tell_alone-in-NoPattern.new.errors (mistake_line m)) (sym c.in-NoPattern.is) c.tell_alone-in-NoPattern.ensures.told;
 }
 
 pub returns-in-Mixed : goal.returns-in-Mixed

@@ -23,8 +23,8 @@ returns-in-Ok-Some g c = record {
       let key : IsKeyGiven (reading_by call) asked (Some c.as_slice.result.now) old new =
       subst (λ (l : List ℕ). IsKeyGiven (reading_by call) asked (Some l) old new) (sym c.as_slice.ensures.value) of_call in
       record {
-        replaces = λ is. record { load = _; between = _; loaded = record { between = old; secrets = given; key = key }; replaced = c.place_counted.ensures.outcome.all is };
-        keeps = inr (record { load = _; between = _; loaded = record { between = old; secrets = given; key = key }; whole = c.place_counted.ensures.outcome.whole });
+        replaces = λ is. record { load = _; between = _; loaded = record { between = old; secrets = given; key = key }; replaced = c.place_loaded.ensures.outcome.all is };
+        keeps = inr (record { load = _; between = _; loaded = record { between = old; secrets = given; key = key }; whole = c.place_loaded.ensures.outcome.whole });
       };
 }
 
@@ -41,8 +41,8 @@ returns-in-Ok-None g c = record {
       reading_from g.F.Folder c.lists_of-lists.result c.args.folder.now (rules_asked (all_given c.args.given.now)) c.lists_of-lists.ensures.folder c.lists_of-lists.ensures.rules
       (λ r. IsKeyGiven r asked None old new) of_lists in
       record {
-        replaces = λ is. record { load = _; between = _; loaded = record { between = old; secrets = given; key = key }; replaced = c.place_counted-in-Ok-None.ensures.outcome.all is };
-        keeps = inr (record { load = _; between = _; loaded = record { between = old; secrets = given; key = key }; whole = c.place_counted-in-Ok-None.ensures.outcome.whole });
+        replaces = λ is. record { load = _; between = _; loaded = record { between = old; secrets = given; key = key }; replaced = c.place_loaded-in-Ok-None.ensures.outcome.all is };
+        keeps = inr (record { load = _; between = _; loaded = record { between = old; secrets = given; key = key }; whole = c.place_loaded-in-Ok-None.ensures.outcome.whole });
       };
 }
 

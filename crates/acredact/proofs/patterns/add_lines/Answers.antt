@@ -5,7 +5,7 @@ use Rattle.std.specs.List.{slice_split}
 use Rattle.std.proofs.lemmas.Result.{IfErr-weaker, on_ok_weaker}
 use Rattle.acredact.specs.LineFaults.{IsListFault}
 use Rattle.acredact.specs.Tables.{IsAddedList, lines_in, secrets_of}
-use Rattle.acredact.proofs.Lines.{added_more, err_both, fault_at, line_last, line_more, lines_some}
+use Rattle.acredact.proofs.Lines.{added_line, err_both, fault_at, line_last, line_more, lines_some}
 use Rattle.acredact.proofs.patterns.add_lines.Goals as goal
 
 pub loop-line-preserved : goal.loop-line-preserved
@@ -13,7 +13,7 @@ loop-line-preserved c =
     let (front, is, added, counts) = c.loop-line.invariant in (
       front ++ (c.in-Some.line.now ∷ []),
       line_more _ front _ c.in-Some.line.now c.in-Some.more.now is c.in-Some.ensures.split c.in-Some.ensures.first,
-      added_more _ _ _ _ front (c.in-Some.line.now ∷ []) added c.in_ok-add_numbered.ensures.added,
+      added_line _ _ _ _ _ front c.in-Some.line.now counts added c.in_ok-add_numbered.ensures.added,
       omega (arith, length-append front (c.in-Some.line.now ∷ []), counts, c.saturating_add-number.ensures),
     )
 
@@ -37,7 +37,7 @@ returns-clause-added c =
     (λ last.
     subst (IsAddedList c.args.form (secrets_of c.args.rules.now.items) (secrets_of c.add_numbered-2.new.rules.items))
     (sym (lines_some c.args.text.now some ∙ line_last _ front c.loop-line.rest.now is c.in_default.ensures.none))
-    (added_more _ _ _ _ front (c.loop-line.rest.now ∷ []) added last))
+    (added_line _ _ _ _ _ front c.loop-line.rest.now counts added last))
     c.add_numbered-2.ensures.added
 
 pub returns-clause-fault : goal.returns-clause-fault

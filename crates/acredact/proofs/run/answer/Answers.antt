@@ -35,6 +35,7 @@ returns-in-Ok-false-clause-redacted g c = λ asks.
     let call = call_of g.F.Folder c.args.folder.now (all_given c.args.given.now) in
     let partly : c.redact_asked.result ≡ Ok false = search rules in
     status_partly g.W.Write g.E.Sink call c.args.streams.now c.redact_asked.new.streams
+    (c.redact_asked.ensures.idle asks)
     (subst (λ (r : Result Bool Failure). CallOutcome g.W.Write g.E.Sink call (bytes_left c.args.streams.now.input) r c.args.streams.now c.redact_asked.new.streams) partly (c.redact_asked.ensures.outcome asks))
 
 pub returns-in-Ok-false-clause-checked : goal.returns-in-Ok-false-clause-checked
@@ -44,7 +45,7 @@ pub returns-in-Err-clause-redacted : goal.returns-in-Err-clause-redacted
 returns-in-Err-clause-redacted g c = λ asks.
     let told = c.report.ensures.told in
     subst (λ (status : ℕ). CallStatus g.W.Write g.E.Sink (call_of g.F.Folder c.args.folder.now (all_given c.args.given.now)) status c.args.streams.now (record c.redact_asked.new.streams { errors = c.report.new.errors })) (sym c.report.ensures.failed)
-    (status_failed g.W.Write g.E.Sink (call_of g.F.Folder c.args.folder.now (all_given c.args.given.now)) c.args.streams.now c.redact_asked.new.streams c.in-Err.failure c.report.new.errors told.0
+    (status_failed g.W.Write g.E.Sink (call_of g.F.Folder c.args.folder.now (all_given c.args.given.now)) c.args.streams.now c.redact_asked.new.streams (c.redact_asked.ensures.idle asks) c.in-Err.failure c.report.new.errors told.0
     (c.in-Err.ensures.outcome asks) told.1 told.2)
 
 pub returns-in-Err-clause-checked : goal.returns-in-Err-clause-checked

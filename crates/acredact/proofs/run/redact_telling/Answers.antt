@@ -10,9 +10,9 @@ use Rattle.acredact.proofs.Warned.{call_cut, call_told}
 use Rattle.acredact.proofs.run.redact_telling.Goals as goal
 
 pub returns-in-Ok-clause-outcome : goal.returns-in-Ok-clause-outcome
-returns-in-Ok-clause-outcome g c = λ left loaded.
+returns-in-Ok-clause-outcome g c = λ first doubts left loaded.
     let call = call_of g.F.Folder c.args.folder.now (all_given c.args.given.now) in
-    call_told g.W.Write g.E.Sink call left c.args.rules.now (key_lent c.args.key) c.redact_all.new.counts c.redact_all.new.volume c.args.streams.now c.redact_all.new.streams loaded
+    call_told g.W.Write g.E.Sink call left c.args.rules.now (key_lent c.args.key) c.redact_all.new.counts c.redact_all.new.volume c.args.streams.now c.redact_all.new.streams loaded first doubts
     c.in-Ok.all (counts_asked call.given) c.tell_counted.result _ refl c.in-Ok.ensures.outcome
     (λ whole. (
       subst (λ (l : List ℕ). CountsOfNames (bytes_left c.args.streams.now.input) (bytes_left c.redact_all.new.streams.input) l c.redact_all.new.counts (work_by call (loaded_as c.args.rules.now (key_lent c.args.key))) (names_asked call.given))
@@ -22,6 +22,6 @@ returns-in-Ok-clause-outcome g c = λ left loaded.
     c.tell_counted.ensures.all c.tell_counted.ensures.told c.tell_counted.ensures.fails c.tell_counted.ensures.lines
 
 pub returns-in-Err-clause-outcome : goal.returns-in-Err-clause-outcome
-returns-in-Err-clause-outcome g c = λ left loaded.
-    call_cut g.W.Write g.E.Sink (call_of g.F.Folder c.args.folder.now (all_given c.args.given.now)) left (loaded_as c.args.rules.now (key_lent c.args.key)) c.args.streams.now c.redact_all.new.streams loaded
+returns-in-Err-clause-outcome g c = λ first doubts left loaded.
+    call_cut g.W.Write g.E.Sink (call_of g.F.Folder c.args.folder.now (all_given c.args.given.now)) left (loaded_as c.args.rules.now (key_lent c.args.key)) c.args.streams.now c.redact_all.new.streams loaded first doubts
     c.in-Err.failure c.in-Err.ensures.outcome

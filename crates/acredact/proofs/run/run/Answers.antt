@@ -32,6 +32,7 @@ returns-in-Ok g c =
       unwritten = λ wrong. let clash : None ≡ Some items = sym wrong ∙ mine in absurd (cc);
       tells_wrong = λ wrong. let clash : None ≡ Some items = sym wrong ∙ mine in absurd (cc);
       patternless = λ given right asks. (redacted given right asks).patternless;
+      idle = λ given right asks. (redacted given right asks).idle;
       redacts = λ given right asks. (redacted given right asks).redacts;
       begins = λ given right asks. (redacted given right asks).begins;
       strict = λ given right asks. (redacted given right asks).strict;
@@ -54,7 +55,7 @@ returns-in-Err g c =
     let memory = λ (given : List Given) (right : all_asked (texts c.args.arguments.now) ≡ Some given). ap Arguments (memory_alone (texts c.args.arguments.now) given c.in-Err.mistake right c.in-Err.ensures.wrong) in
     let redacted = λ (given : List Given) (right : all_asked (texts c.args.arguments.now) ≡ Some given).
     subst (λ (status : ℕ). CallStatus g.W.Write g.E.Sink (call_of g.F.Folder c.args.folder.now given) status c.args.streams.now (record c.args.streams.now { errors = c.report.new.errors })) (sym c.report.ensures.failed)
-    (status_failed g.W.Write g.E.Sink (call_of g.F.Folder c.args.folder.now given) c.args.streams.now c.args.streams.now (Arguments c.in-Err.mistake) c.report.new.errors told.0
+    (status_failed g.W.Write g.E.Sink (call_of g.F.Folder c.args.folder.now given) c.args.streams.now c.args.streams.now (λ none. record { unread = refl; unwritten = refl }) (Arguments c.in-Err.mistake) c.report.new.errors told.0
     (call_refused g.W.Write g.E.Sink (call_of g.F.Folder c.args.folder.now given) (bytes_left c.args.streams.now.input) c.args.streams.now.input c.args.streams.now (Arguments c.in-Err.mistake) (inl (inl (memory given right))))
     told.1 told.2) in
     let checked = λ (given : List Given) (right : all_asked (texts c.args.arguments.now) ≡ Some given).
@@ -68,6 +69,7 @@ returns-in-Err g c =
       unwritten = λ wrong. refl;
       tells_wrong = λ wrong. tells_one g.E.Sink (IsWrongLine (texts c.args.arguments.now)) _ _ told.0 (Arguments c.in-Err.mistake, (c.in-Err.mistake, refl, c.in-Err.ensures.wrong), told.1) told.2;
       patternless = λ given right asks. (redacted given right).patternless;
+      idle = λ given right asks. (redacted given right).idle;
       redacts = λ given right asks. (redacted given right).redacts;
       begins = λ given right asks. (redacted given right).begins;
       strict = λ given right asks. (redacted given right).strict;

@@ -1,0 +1,45 @@
+-- What is told of patterns of lists, one after another.
+use Rattle.std.proofs.Common.{◌≡◌, ℕ, ◌-◌, ◌≤◌, ◌<◌, List, [], ◌∷◌, ◌++◌, length, take, drop, get_or, true, refl, sym, ap, subst, ◌∙◌, append_assoc, arith}
+use Rattle.std.specs.Prelude.{None, codes, nat_lt, slice_index_or}
+use Rattle.std.proofs.lemmas.Grind.{common_steps}
+use Rattle.std.specs.List.{concat}
+use Rattle.std.proofs.lemmas.List.Elements.{All-append, All-cons, All-nil}
+use Rattle.std.proofs.lemmas.List.{get_or-map, length-map}
+use Rattle.acredact.specs.Arguments.{Given, all_given, given_of}
+use Rattle.acredact.specs.Doubts.{AreUndoubted, all_doubt_lines, doubt_lines, doubt_of, list_name}
+use Rattle.acredact.specs.Tables.{Secret, secret_of, secrets_of}
+use Rattle.acredact.specs.declared.arguments.Item.{Item}
+use Rattle.acredact.specs.declared.patterns.Rule.{Rule}
+use Rattle.acredact.proofs.Done.{concat_both}
+use Rattle.acredact.proofs.ShownNames.{rest_of}
+
+-- one more
+pub doubts_next : (given : List Given) (text done : List ℕ) (rules : List Rule) (other : Rule) → 1 ≤ length rules → text ≡ done ++ concat (all_doubt_lines given (secrets_of rules))
+    → text ≡ (done ++ concat (doubt_lines given (secret_of (get_or rules 0 other)))) ++ concat (all_doubt_lines given (secrets_of (take (length rules - 1) (drop 1 rules))))
+doubts_next given text done [] other some is = absurd (omega (arith, some))
+doubts_next given text done (rule ∷ rules) other some is =
+    is ∙ ap (λ l. done ++ l) (concat_both (doubt_lines given (secret_of rule)) (all_doubt_lines given (secrets_of rules)))
+    ∙ sym (append_assoc done (concat (doubt_lines given (secret_of rule))) (concat (all_doubt_lines given (secrets_of rules))))
+    ∙ ap (λ l. (done ++ concat (doubt_lines given (secret_of rule))) ++ concat (all_doubt_lines given (secrets_of l))) (sym (rest_of rule rules))
+
+-- one more of which there is none
+pub undoubted_next : (all front : List Secret) (rules : List Rule) (other : Rule) → 1 ≤ length rules → (all ≡ front ++ secrets_of rules) × AreUndoubted front → doubt_of (secret_of (get_or rules 0 other)) ≡ None
+    → (all ≡ (front ++ (secret_of (get_or rules 0 other) ∷ [])) ++ secrets_of (take (length rules - 1) (drop 1 rules))) × AreUndoubted (front ++ (secret_of (get_or rules 0 other) ∷ []))
+undoubted_next all front [] other some so none = absurd (omega (arith, some))
+undoubted_next all front (rule ∷ rules) other some (is, before) none = (
+  is ∙ sym (append_assoc front (secret_of rule ∷ []) (secrets_of rules)) ∙ ap (λ l. (front ++ (secret_of rule ∷ [])) ++ secrets_of l) (sym (rest_of rule rules)),
+  All-append (λ secret. doubt_of secret ≡ None) front (secret_of rule ∷ []) before (All-cons (λ secret. doubt_of secret ≡ None) (secret_of rule) [] none (All-nil (λ secret. doubt_of secret ≡ None))),
+)
+
+-- the first of some
+pub first_rule : (all front : List Secret) (rules : List Rule) (other : Rule) → 1 ≤ length rules → all ≡ front ++ secrets_of rules → all ≡ front ++ (secret_of (get_or rules 0 other) ∷ secrets_of (drop 1 rules))
+first_rule all front [] other some is = absurd (omega (arith, some))
+first_rule all front (rule ∷ rules) other some is = is
+
+-- the value of the item at a number is the name there
+pub name_there : (items : List Item) (number : ℕ) (item d : Item) → true ≡ nat_lt number (length items) → item ≡ slice_index_or items number d → item.value.now ≡ list_name (all_given items) number
+name_there items number item d within found =
+    let lt : number < length items = grind (arith, common_steps, within) in
+    let among : number < length (all_given items) = subst (λ (n : ℕ). number < n) (sym (length-map items given_of)) lt in
+    ap (λ (it : Item). it.value.now) found
+    ∙ sym (get_or-map (λ (it : Given). it.value) (all_given items) number (given_of d) (codes "-") among ∙ ap (λ (it : Given). it.value) (get_or-map given_of items number d (given_of d) lt))

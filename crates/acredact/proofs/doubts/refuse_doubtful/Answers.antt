@@ -1,0 +1,45 @@
+-- The next is, or is not.
+use Rattle.std.proofs.Common.{rules, arith, ◌≡◌, ◌≤◌, List, [], ◌∷◌, ◌++◌, length, drop, get_or, refl, sym, ap, subst, ◌∙◌, append-nil}
+use Rattle.std.specs.Prelude.{None, Some}
+use Rattle.std.proofs.lemmas.List.Elements.{All-nil}
+use Rattle.std.proofs.lemmas.Grind.{common_steps}
+use Rattle.acredact.specs.Arguments.{all_given}
+use Rattle.acredact.specs.Doubts.{AreUndoubted, RefusesDoubt, doubt_of}
+use Rattle.acredact.specs.Tables.{Secret, secret_of, secrets_of}
+use Rattle.acredact.specs.declared.patterns.Rule.{Rule}
+use Rattle.acredact.proofs.Doubting.{first_rule, undoubted_next}
+use Rattle.acredact.proofs.ShownNames.{nil_of}
+use Rattle.acredact.proofs.doubts.refuse_doubtful.Goals as goal
+
+pub loop-rest-init : goal.loop-rest-init
+loop-rest-init c = ([], refl, All-nil _)
+
+pub loop-rest-preserved : goal.loop-rest-preserved
+loop-rest-preserved c =
+    let (front, is, before) = c.loop-rest.invariant in
+    let some : 1 ≤ length c.loop-rest.rest.now = search rules in
+    let rule = get_or c.loop-rest.rest.now 0 c.index-rest-0.result in
+    let none : doubt_of (secret_of rule) ≡ None = subst (λ (r : Rule). doubt_of (secret_of r) ≡ None) c.index-rest-0.is c.in-Ok.ensures.none in
+    let next = undoubted_next _ front c.loop-rest.rest.now c.index-rest-0.result some (is, before) none in
+    (front ++ (secret_of rule ∷ []), next.0, next.1)
+
+pub returns-in-Err-clause-refused : goal.returns-in-Err-clause-refused
+returns-in-Err-clause-refused c =
+    let (front, is, before) = c.loop-rest.invariant in
+    let some : 1 ≤ length c.loop-rest.rest.now = grind (arith, common_steps, c.is_empty.ensures, c.loop-rest-test.true) in
+    let rule = get_or c.loop-rest.rest.now 0 c.index-rest-0.result in
+    record {
+      asked = refl;
+      front = front;
+      secret = secret_of rule;
+      rest = secrets_of (drop 1 c.loop-rest.rest.now);
+      are = first_rule _ front c.loop-rest.rest.now c.index-rest-0.result some is;
+      before = before;
+      of = subst (λ (r : Rule). RefusesDoubt (all_given c.args.given.now) (secret_of r) c.in-Err.failure) c.index-rest-0.is c.in-Err.ensures.refused;
+    }
+
+pub returns : goal.returns
+returns c =
+    let (front, is, before) = c.loop-rest.invariant in
+    let none : length c.loop-rest.rest.now ≡ 0 = search rules in
+    record { none = subst AreUndoubted (sym (is ∙ ap (λ l. front ++ secrets_of l) (nil_of c.loop-rest.rest.now none) ∙ append-nil front)) before; refused = tt }

@@ -1,0 +1,32 @@
+-- Of one more it is told.
+use Rattle.std.proofs.Common.{rules, ◌≡◌, ℕ, ◌≤◌, List, [], ◌++◌, length, refl, sym, ap, subst, ◌∙◌, append-nil}
+use Rattle.std.specs.List.{concat}
+use Rattle.programs.specs.Telling.{TellsBytes}
+use Rattle.programs.proofs.Tellings.{tells-later}
+use Rattle.acredact.specs.Arguments.{all_given}
+use Rattle.acredact.specs.Doubts.{all_doubt_lines, doubt_lines}
+use Rattle.acredact.specs.Tables.{secret_of, secrets_of}
+use Rattle.acredact.specs.declared.patterns.Rule.{Rule}
+use Rattle.acredact.proofs.Done.{tells_none}
+use Rattle.acredact.proofs.Doubting.{doubts_next}
+use Rattle.acredact.proofs.ShownNames.{nil_of}
+use Rattle.acredact.proofs.doubts.tell_doubtful.Goals as goal
+
+pub loop-rest-init : goal.loop-rest-init
+loop-rest-init g c = ([], refl, tells_none g.E.Sink _)
+
+pub loop-rest-preserved : goal.loop-rest-preserved
+loop-rest-preserved g c =
+    let (done, is, told) = c.loop-rest.invariant in
+    let some : 1 ≤ length c.loop-rest.rest.now = search rules in
+    let lines = λ (rule : Rule). concat (doubt_lines (all_given c.args.given.now) (secret_of rule)) in (
+      _,
+      doubts_next _ _ done c.loop-rest.rest.now c.index-rest-0.result some is,
+      subst (λ (rule : Rule). TellsBytes g.E.Sink c.args.errors.now c.tell_doubt.new.errors (done ++ lines rule)) c.index-rest-0.is (tells-later g.E.Sink told c.tell_doubt.ensures.told),
+    )
+
+pub returns : goal.returns
+returns g c =
+    let (done, is, told) = c.loop-rest.invariant in
+    let none : length c.loop-rest.rest.now ≡ 0 = search rules in
+    record { told = subst (TellsBytes g.E.Sink _ _) (sym (is ∙ ap (λ l. done ++ concat (all_doubt_lines (all_given c.args.given.now) (secrets_of l))) (nil_of c.loop-rest.rest.now none) ∙ append-nil done)) told }

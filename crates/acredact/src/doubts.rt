@@ -1,0 +1,139 @@
+//! Lines of lists that may be meant otherwise than they stand there: with a blank at an end, or with quotes around them.
+
+ghost use Rattle.std.specs.Prelude.{◌≡◌, IfErr, None, OnErr, OnOk, true};
+ghost use Rattle.std.specs.List.{concat};
+ghost use Rattle.programs.specs.Telling.{TellsBytes};
+ghost use Rattle.acredact.specs.Doubts.{AreUndoubted, IsDoubtFailure, RefusesDoubt, TellsDoubts, all_doubt_lines, doubt_in, doubt_lines, doubt_of, is_blank, is_quote, list_name};
+ghost use Rattle.acredact.specs.Arguments.{all_given};
+ghost use Rattle.acredact.specs.Tables.{secret_of, secrets_of};
+
+use crate::arguments::Item;
+use crate::failure::{Failure, tell_line};
+use crate::patterns::{BadLine, LineFault, Rule};
+use aho_devices::device::Sink;
+use programs::errors::Errors;
+
+/// Tells of each pattern of a list that is doubtful, by file and line, or refuses the first of them.
+pub fn warn_of_lists<'a, E: Sink>(
+    errors: &mut Errors<'_, E>,
+    given: &[Item<'a>],
+    rules: &[Rule],
+    strict: bool,
+) -> Result<(), Failure<'a>>
+    ensures told { OnOk result (TellsDoubts E.Sink strict (all_given given.now) (secrets_of rules.now) errors.old errors.new) }
+    ensures refused { IfErr result (IsDoubtFailure strict (all_given given.now) (secrets_of rules.now)) }
+    ensures untold { OnErr result (errors.new ≡ errors.old) }
+{
+    if strict {
+        return refuse_doubtful(given, rules);
+    }
+    tell_doubtful(errors, given, rules);
+    Ok(())
+}
+
+/// Refuses the first pattern of a list that is doubtful.
+fn refuse_doubtful<'a>(given: &[Item<'a>], rules: &[Rule]) -> Result<(), Failure<'a>>
+    ensures none { OnOk result (AreUndoubted (secrets_of rules.now)) }
+    ensures refused { IfErr result (IsDoubtFailure true (all_given given.now) (secrets_of rules.now)) }
+{
+    let mut rest = rules;
+    while !rest.is_empty() {
+        match refuse_doubt(given, &rest[0]) {
+            Ok(()) => rest = &rest[1..],
+            Err(failure) => return Err(failure),
+        }
+    }
+    Ok(())
+}
+
+/// Refuses a pattern, if it is one of a list and doubtful.
+fn refuse_doubt<'a>(given: &[Item<'a>], rule: &Rule) -> Result<(), Failure<'a>>
+    ensures none { OnOk result (doubt_of (secret_of rule.now) ≡ None) }
+    ensures refused { IfErr result (RefusesDoubt (all_given given.now) (secret_of rule.now)) }
+{
+    match doubt_of(rule) {
+        Some(fault) => {
+            let number = rule.line;
+            let name = name_of_list(given, rule.list);
+            Err(Failure::Line(name, BadLine { number, fault }))
+        }
+        None => Ok(()),
+    }
+}
+
+/// Tells of each pattern of a list that is doubtful.
+fn tell_doubtful<E: Sink>(errors: &mut Errors<'_, E>, given: &[Item<'_>], rules: &[Rule])
+    ensures told { TellsBytes E.Sink errors.old errors.new (concat (all_doubt_lines (all_given given.now) (secrets_of rules.now))) }
+{
+    let mut rest = rules;
+    while !rest.is_empty() {
+        tell_doubt(errors, given, &rest[0]);
+        rest = &rest[1..];
+    }
+}
+
+/// Tells of a pattern, if it is one of a list and doubtful.
+fn tell_doubt<E: Sink>(errors: &mut Errors<'_, E>, given: &[Item<'_>], rule: &Rule)
+    ensures told { TellsBytes E.Sink errors.old errors.new (concat (doubt_lines (all_given given.now) (secret_of rule.now))) }
+{
+    match doubt_of(rule) {
+        Some(fault) => {
+            let number = rule.line;
+            let name = name_of_list(given, rule.list);
+            tell_line(errors, name, BadLine { number, fault })
+        }
+        None => errors.write(&[]),
+    }
+}
+
+/// The file of the option of this number.
+fn name_of_list<'a>(given: &[Item<'a>], number: usize) -> &'a str
+    ensures name { result.now ≡ list_name (all_given given.now) number }
+{
+    match given.get(number) {
+        Some(item) => item.value,
+        None => "-",
+    }
+}
+
+/// What is doubtful of a pattern, if it is one of a list.
+fn doubt_of(rule: &Rule) -> Option<LineFault>
+    ensures doubt { result ≡ doubt_of (secret_of rule.now) }
+{
+    if rule.line == 0 {
+        return None;
+    }
+    doubt_in(rule.pattern.as_slice())
+}
+
+/// What is doubtful of a line.
+fn doubt_in(line: &[u8]) -> Option<LineFault>
+    ensures doubt { result ≡ doubt_in line.now }
+{
+    if line.is_empty() {
+        return None;
+    }
+    let first = line[0];
+    let last = line[line.len() - 1];
+    if is_blank(first) || is_blank(last) {
+        return Some(LineFault::Blank);
+    }
+    if line.len() > 1 && first == last && is_quote(first) {
+        return Some(LineFault::Quotes);
+    }
+    None
+}
+
+/// Whether a byte is a space or a TAB.
+fn is_blank(byte: u8) -> bool
+    ensures blank { result ≡ is_blank byte }
+{
+    byte == b' ' || byte == b'\t'
+}
+
+/// Whether a byte is a quote of one kind.
+fn is_quote(byte: u8) -> bool
+    ensures quote { result ≡ is_quote byte }
+{
+    byte == b'"' || byte == b'\'' || byte == b'`'
+}
