@@ -3,7 +3,7 @@ use Rattle.std.specs.Prelude.{Bool, true, false, Option, Some, None, Result, Ok,
 use Rattle.aho_core.specs.declared.error.stream.StreamError.{StreamError}
 use Rattle.aho_core.specs.declared.error.stream.StreamError.TheVariants.{Match, Read, Write, WriteZero, Memory, PositionLimit}
 use Rattle.programs.specs.declared.reason.Reason.{Reason}
-use Rattle.programs.specs.declared.reason.Reason.TheVariants.{NotFound, Denied, Directory, Irregular, NoDirectory, Links, LongName, Invalid, Full, TooLarge, Quota, Interrupted, Unavailable, Closed, OutOfMemory, PositionLimit as TooLong, ReadFault, Fault}
+use Rattle.programs.specs.declared.reason.Reason.TheVariants.{NotFound, Denied, Directory, Irregular, NoDirectory, Links, LongName, Invalid, Full, TooLarge, Quota, Interrupted, Unavailable, Locked, NoLock, Changed, Owner, Closed, OutOfMemory, PositionLimit as TooLong, ReadFault, Fault}
 
 -- a stream's: a device fails, it is too long, or memory runs out
 abbrev pub IsStreamEnd : StreamError → Type 0
@@ -48,6 +48,10 @@ IsReadReason TooLarge = ⊥
 IsReadReason Quota = ⊥
 IsReadReason Interrupted = ⊥
 IsReadReason Unavailable = ⊥
+IsReadReason Locked = ⊥
+IsReadReason NoLock = ⊥
+IsReadReason Changed = ⊥
+IsReadReason Owner = ⊥
 IsReadReason Closed = ⊥
 IsReadReason OutOfMemory = ⊥
 IsReadReason TooLong = Unit {0}
@@ -70,6 +74,10 @@ is_unread (Ok (Some TooLarge)) = false
 is_unread (Ok (Some Quota)) = false
 is_unread (Ok (Some Interrupted)) = false
 is_unread (Ok (Some Unavailable)) = false
+is_unread (Ok (Some Locked)) = false
+is_unread (Ok (Some NoLock)) = false
+is_unread (Ok (Some Changed)) = false
+is_unread (Ok (Some Owner)) = false
 is_unread (Ok (Some Closed)) = false
 is_unread (Ok (Some OutOfMemory)) = false
 is_unread (Ok (Some TooLong)) = false

@@ -1,7 +1,7 @@
 -- A message on standard error: `PROGRAM: NAME: line N: CAUSE` and a line end.
 use Rattle.std.specs.Prelude.{ℕ, List, [], ◌++◌, Option, Some, None, codes, decimal}
 use Rattle.programs.specs.declared.reason.Reason.{Reason}
-use Rattle.programs.specs.declared.reason.Reason.TheVariants.{NotFound, Denied, Directory, Irregular, NoDirectory, Links, LongName, Invalid, Full, TooLarge, Quota, Interrupted, Unavailable, Closed, OutOfMemory, PositionLimit, ReadFault, Fault}
+use Rattle.programs.specs.declared.reason.Reason.TheVariants.{NotFound, Denied, Directory, Irregular, NoDirectory, Links, LongName, Invalid, Full, TooLarge, Quota, Interrupted, Unavailable, Locked, NoLock, Changed, Owner, Closed, OutOfMemory, PositionLimit, ReadFault, Fault}
 
 -- what a message tells: of what and of which line of it, where it says that, and why something was not done
 pub record Message : Type 0 where
@@ -44,6 +44,10 @@ reason_text TooLarge = codes "File too large"
 reason_text Quota = codes "Disk quota exceeded"
 reason_text Interrupted = codes "Interrupted system call"
 reason_text Unavailable = codes "Resource temporarily unavailable"
+reason_text Locked = codes "locked by another program"
+reason_text NoLock = codes "cannot be locked"
+reason_text Changed = codes "changed meanwhile"
+reason_text Owner = codes "owner or group cannot be kept"
 reason_text Closed = codes "Broken pipe"
 reason_text OutOfMemory = codes "out of memory"
 reason_text PositionLimit = codes "position limit reached"

@@ -37,6 +37,14 @@ pub enum Reason {
     Interrupted,
     /// It gives or takes nothing now.
     Unavailable,
+    /// Another program holds its lock.
+    Locked,
+    /// The system gives no lock of it.
+    NoLock,
+    /// It is not what it was, or another one has its name.
+    Changed,
+    /// A new file does not get its owner and its group.
+    Owner,
     /// Nobody reads it any more.
     Closed,
     /// Memory runs out.
@@ -91,6 +99,10 @@ impl Reason {
             Reason::Quota => "Disk quota exceeded",
             Reason::Interrupted => "Interrupted system call",
             Reason::Unavailable => "Resource temporarily unavailable",
+            Reason::Locked => "locked by another program",
+            Reason::NoLock => "cannot be locked",
+            Reason::Changed => "changed meanwhile",
+            Reason::Owner => "owner or group cannot be kept",
             Reason::Closed => "Broken pipe",
             Reason::OutOfMemory => "out of memory",
             Reason::PositionLimit => "position limit reached",
