@@ -7,7 +7,7 @@ use Rattle.aho_devices.specs.declared.adapters.FromRead.{FromRead}
 use Rattle.programs.specs.Names.{is_input}
 use Rattle.programs.specs.Streams.{bytes_left}
 use Rattle.programs.specs.declared.reason.Reason.{Reason}
-use Rattle.programs.specs.declared.reason.Reason.TheVariants.{NotFound, Denied, Directory, Irregular, NoDirectory, Links, LongName, Invalid, Full, TooLarge, Quota, Interrupted, Unavailable, Closed, OutOfMemory, PositionLimit, ReadFault, Fault}
+use Rattle.programs.specs.declared.reason.Reason.TheVariants.{NotFound, Denied, Directory, Irregular, NoDirectory, Links, LongName, Invalid, Full, TooLarge, Quota, Interrupted, Unavailable, Locked, NoLock, Changed, Owner, Closed, OutOfMemory, PositionLimit, ReadFault, Fault}
 use Rattle.acredact.specs.Arguments.{Given, last_value}
 use Rattle.acredact.specs.LineFaults.{IsLineFault, IsListFault, mark_in}
 use Rattle.acredact.specs.Parts.{GivesPattern}
@@ -182,6 +182,10 @@ is_failed_text (Err TooLarge) = false
 is_failed_text (Err Quota) = false
 is_failed_text (Err Interrupted) = false
 is_failed_text (Err Unavailable) = false
+is_failed_text (Err Locked) = false
+is_failed_text (Err NoLock) = false
+is_failed_text (Err Changed) = false
+is_failed_text (Err Owner) = false
 is_failed_text (Err Closed) = false
 is_failed_text (Err OutOfMemory) = false
 is_failed_text (Err PositionLimit) = false

@@ -5,8 +5,9 @@ ghost use Rattle.std.specs.Io.KnownBytes.{Keeps};
 ghost use Rattle.programs.specs.declared.reason.Reason.{Reason};
 
 use programs::reason::Reason;
+use std::cell::Cell;
 use std::fs;
-use std::fs::OpenFile;
+use std::fs::{Metadata, OpenFile};
 use std::io::Read;
 use std::os::unix::fs::MetadataExt;
 use std::rt::Files;
@@ -43,21 +44,50 @@ pub struct Place {
     number: u64,
 }
 
-/// The files of the process.
-#[derive(Clone, Copy)]
-pub struct Host<'r, R> {
-    /// Its runtime.
-    pub rt: &'r R,
-    /// The regular file that standard output goes to, if it goes to one.
-    pub output: Option<Place>,
+impl Place {
+    /// The place of the file of which this is told.
+    pub fn of(metadata: &Metadata) -> Place {
+        Place {
+            device: metadata.dev(),
+            number: metadata.ino(),
+        }
+    }
 }
 
-impl<'r, R: Files> Host<'r, R> {
-    /// The files of this process, and where its standard output goes.
-    pub fn new(rt: &'r R) -> Host<'r, R> {
+/// The files of the process.
+#[derive(Clone, Copy)]
+pub struct Host<'c, 'n, 'r, R> {
+    /// Its runtime.
+    rt: &'r R,
+    /// The regular file that standard output goes to, if it goes to one.
+    output: Option<Place>,
+    /// Which file is to be replaced, once that is noted.
+    looked: &'c Cell<Option<Place>>,
+    /// The only name that it has, where each other one leads to another file.
+    replaced: Option<&'n str>,
+}
+
+impl<'c, 'n, 'r, R: Files> Host<'c, 'n, 'r, R> {
+    /// The files of this process, and where its standard output goes. What is noted as to be replaced is all that is opened then, by the
+    /// name for that, if one is given.
+    pub fn new(
+        rt: &'r R,
+        looked: &'c Cell<Option<Place>>,
+        replaced: Option<&'n str>,
+    ) -> Host<'c, 'n, 'r, R> {
         Host {
             rt,
             output: place_of(rt, "/dev/stdout"),
+            looked,
+            replaced,
+        }
+    }
+
+    /// Where the file of this name has to be, if that is noted.
+    fn place_noted(&self, name: &str) -> Option<Place> {
+        match self.replaced {
+            Some(replaced) if replaced != name => None,
+            _ => self.looked.get(),
         }
     }
 }
@@ -65,15 +95,12 @@ impl<'r, R: Files> Host<'r, R> {
 /// The regular file that a name leads to, if it does.
 fn place_of<R: Files>(rt: &R, name: &str) -> Option<Place> {
     match fs::metadata(rt, name) {
-        Ok(metadata) if metadata.is_file() => Some(Place {
-            device: metadata.dev(),
-            number: metadata.ino(),
-        }),
+        Ok(metadata) if metadata.is_file() => Some(Place::of(&metadata)),
         _ => None,
     }
 }
 
-impl<R: Files> Folder for Host<'_, R> {
+impl<R: Files> Folder for Host<'_, '_, '_, R> {
     type File = R::File;
 
     // What the process can read is told by nothing, and neither is what it cannot.
@@ -91,7 +118,10 @@ impl<R: Files> Folder for Host<'_, R> {
         // A directory can be opened, and only reading it would fail.
         match file.metadata() {
             Ok(metadata) if metadata.is_dir() => Err(Reason::Directory),
-            Ok(_) => Ok(file),
+            Ok(metadata) => match self.place_noted(name) {
+                Some(place) if place != Place::of(&metadata) => Err(Reason::Changed),
+                _ => Ok(file),
+            },
             Err(error) => Err(Reason::of(&error)),
         }
     }

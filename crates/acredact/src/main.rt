@@ -10,6 +10,7 @@
 
 mod arguments;
 mod back;
+mod beside;
 mod check;
 mod clean;
 mod counts;
@@ -17,8 +18,10 @@ mod doubts;
 mod failure;
 mod files;
 mod folder;
+mod held;
 mod in_place;
 mod into;
+mod left;
 mod load;
 mod long;
 mod look;
@@ -29,6 +32,7 @@ mod patterns;
 mod redact;
 mod rows;
 mod run;
+mod seen;
 mod shown;
 mod spelled;
 mod streams;
@@ -44,11 +48,11 @@ ghost use Rattle.acredact.specs.Checks.{MatchedAsked, UnmatchedAsked};
 
 use aho_devices::adapters::{FromRead, FromWrite};
 use aho_devices::device::Sink;
+use beside::Beside;
 use failure::Failure::Unread;
 use folder::{Folder, Host};
 use in_place::{asks_in_place, replace_in_place};
 use into::{make_and_run, named_output};
-use outputs::Beside;
 use programs::arguments::arguments;
 use programs::closed::{Noted, Quiet};
 use programs::errors::Errors;
@@ -58,6 +62,7 @@ use run::{refuse, report, run};
 use std::alloc::Global;
 use std::cell::Cell;
 use std::io::{BufWriter, Read, Write};
+use std::process;
 use std::process::ExitCode;
 use streams::Streams;
 
@@ -68,17 +73,19 @@ fn main(rt: HostRuntime) -> ExitCode {
     let filled = fill_closed(&rt, &rt.stdin(), &rt.stdout(), &rt.stderr());
     let given = arguments(&rt);
     let reason = Cell::new(None);
+    let looked = Cell::new(None);
     let mut errors = Errors::new(FromWrite::new(Quiet::new(rt.stderr(), &reason)), &reason);
     if let Err(reason) = filled {
         return ExitCode::from(report(&Unread(DEVICE, reason), &mut errors));
     }
     if let Ok(arguments) = &given {
         let arguments = arguments.as_slice();
-        let folder = Host::new(&rt);
-        let mut outputs = Beside::new(rt.alloc(), &rt, &reason);
+        let number = process::id(rt.process());
+        let mut outputs = Beside::new(rt.alloc(), &rt, number, &reason, &looked);
         match asks_in_place(rt.alloc(), arguments) {
             Ok(false) => {}
             Ok(true) => {
+                let folder = Host::new(&rt, &looked, None);
                 return ExitCode::from(replace_in_place(
                     rt.alloc(),
                     arguments,
@@ -93,6 +100,7 @@ fn main(rt: HostRuntime) -> ExitCode {
         match named_output(rt.alloc(), arguments) {
             Ok(None) => {}
             Ok(Some(name)) => {
+                let folder = Host::new(&rt, &looked, Some(name));
                 return ExitCode::from(make_and_run(
                     rt.alloc(),
                     arguments,
@@ -114,7 +122,12 @@ fn main(rt: HostRuntime) -> ExitCode {
                 output: FromWrite::new(output),
                 errors,
             };
-            exit_code(rt.alloc(), given, &Host::new(&rt), &mut streams)
+            exit_code(
+                rt.alloc(),
+                given,
+                &Host::new(&rt, &looked, None),
+                &mut streams,
+            )
         }
         Err(_) => ExitCode::from(refuse(Failure::OutOfMemory, &mut errors)),
     }

@@ -1,0 +1,292 @@
+//! New files of the process, each in the folder of the one whose place it is to take.
+
+ghost use Rattle.std.specs.Prelude.{◌≡◌, None, OnOk, is_some, true, ⊤};
+
+use crate::folder::Place;
+use crate::held::{Held, lock};
+use crate::left::{folder_of, name_beside, remove_left};
+use crate::outputs::Outputs;
+use crate::seen::{Seen, known, stays_at};
+use aho_devices::adapters::FromWrite;
+use programs::closed::Noted;
+use programs::reason::Reason;
+use std::alloc::{AllocError, Global};
+use std::cell::Cell;
+use std::fs::{File, Files, OpenOptions, Permissions};
+use std::io::{BufWriter, ErrorKind, Write};
+use std::os::unix::fs::{OpenOptionsExt, PermissionsExt, fchown};
+use std::{fs, io};
+
+/// How many bytes of a new file are kept before they are written.
+const FILE_CAPACITY: usize = 64 * 1024;
+
+/// How many names are tried for a new file.
+const MOST_NAMES: usize = 100;
+
+/// Until a new file takes the place of another one, its owner alone may read and write it.
+const PRIVATE: u32 = 0o600;
+
+/// What the system lets of these is given to a new file that takes no other one's place.
+const USUAL: u32 = 0o666;
+
+/// A file that is written, if there is one.
+#[derive(Drop)]
+pub struct Slot<W> {
+    file: Option<W>,
+}
+
+impl<W: Write> Write for Slot<W> {
+    // What the process did to files is told by nothing.
+    ghost contents = { λ slot. None };
+
+    fn write(&mut self, buf: &[u8]) -> io::Result<usize> {
+        match &mut self.file {
+            Some(file) => file.write(buf),
+            None => Err(io::Error::from(ErrorKind::BrokenPipe)),
+        }
+    }
+
+    fn flush(&mut self) -> io::Result<()> {
+        match &mut self.file {
+            Some(file) => file.flush(),
+            None => Ok(()),
+        }
+    }
+}
+
+/// A new file.
+#[derive(Drop)]
+struct Made {
+    /// Its name.
+    name: String,
+    /// Another handle of it.
+    file: File,
+    /// What was looked at of it when it was made.
+    seen: Seen,
+}
+
+/// New files of the process, each in the folder of the one whose place it is to take.
+#[derive(Drop)]
+pub struct Beside<'c, 'l, 'r, R> {
+    /// What memory is taken from.
+    alloc: Global,
+    /// The runtime of the process.
+    rt: &'r R,
+    /// The number of the process.
+    process: u32,
+    /// Where it is noted why a file cannot be written.
+    reason: &'c Cell<Option<Reason>>,
+    /// Where it is noted which file is to be replaced.
+    looked: &'l Cell<Option<Place>>,
+    /// The folder from which what others left was removed.
+    cleared: Option<String>,
+    /// The file that is to be replaced, where there is one.
+    held: Option<Held>,
+    /// The new file, where there is one.
+    made: Option<Made>,
+}
+
+impl<'c, 'l, 'r, R: Files<File = File>> Beside<'c, 'l, 'r, R> {
+    /// No file is made yet.
+    pub fn new(
+        alloc: Global,
+        rt: &'r R,
+        process: u32,
+        reason: &'c Cell<Option<Reason>>,
+        looked: &'l Cell<Option<Place>>,
+    ) -> Beside<'c, 'l, 'r, R>
+        ensures process { result.process ≡ process }
+        ensures uncleared { result.cleared ≡ None }
+        ensures unheld { result.held ≡ None }
+        ensures unmade { result.made ≡ None }
+    {
+        Beside {
+            alloc,
+            rt,
+            process,
+            reason,
+            looked,
+            cleared: None,
+            held: None,
+            made: None,
+        }
+    }
+
+    /// Takes the file of this name, if there is one, and makes a new one beside it.
+    fn begin(&mut self, name: &str) -> Result<BufWriter<Noted<'c, File>>, Reason>
+        ensures made { OnOk result (is_some self.new.made ≡ true) }
+    {
+        self.held = Held::new(self.rt, name)?;
+        self.looked
+            .set(self.held.as_ref().map(|held| held.seen.place));
+        if self.clear(name).is_err() {
+            return Err(Reason::OutOfMemory);
+        }
+        let file = self.create(name)?;
+        match BufWriter::with_capacity(self.alloc, FILE_CAPACITY, Noted::new(file, self.reason)) {
+            Ok(file) => Ok(file),
+            Err(_) => Err(Reason::OutOfMemory),
+        }
+    }
+
+    /// Removes what others left in the folder of this file, unless that was done for the file before.
+    fn clear(&mut self, name: &str) -> Result<(), AllocError>
+        ensures held { self.new.held ≡ self.old.held }
+        ensures made { self.new.made ≡ self.old.made }
+    {
+        let folder = folder_of(name);
+        if let Some(cleared) = &self.cleared {
+            if cleared.as_str() == folder {
+                return Ok(());
+            }
+        }
+        self.cleared = Some(String::from_str(self.alloc, folder)?);
+        remove_left(self.alloc, self.rt, folder, self.process);
+        Ok(())
+    }
+
+    /// Makes a file of the first name that no file has.
+    fn create(&mut self, name: &str) -> Result<File, Reason>
+        ensures made { OnOk result (is_some self.new.made ≡ true) }
+        ensures held { self.new.held ≡ self.old.held }
+    {
+        let mode = if self.held.is_some() { PRIVATE } else { USUAL };
+        for number in 0..MOST_NAMES {
+            let Ok(beside) = name_beside(self.alloc, name, self.process, number) else {
+                return Err(Reason::OutOfMemory);
+            };
+            let mut options = OpenOptions::new();
+            options.write(true).create_new(true).mode(mode);
+            match options.open(self.rt, beside.as_str()) {
+                Ok(file) => return self.keep(file, beside),
+                Err(error) => {
+                    if error.kind() != ErrorKind::AlreadyExists {
+                        return Err(Reason::of(&error));
+                    }
+                }
+            }
+        }
+        Err(Reason::Unavailable)
+    }
+
+    /// Keeps a handle of the new file, which is locked where the system gives locks.
+    fn keep(&mut self, file: File, name: String) -> Result<File, Reason>
+        ensures made { OnOk result (is_some self.new.made ≡ true) }
+        ensures held { self.new.held ≡ self.old.held }
+    {
+        let _locked = lock(&file);
+        let other = known(file.try_clone())?;
+        let seen = Seen::of(&known(file.metadata())?);
+        self.made = Some(Made {
+            name,
+            file: other,
+            seen,
+        });
+        Ok(file)
+    }
+
+    /// Has the new file take the place of the one of this name.
+    fn replace(&self, made: &Made, name: &str) -> Result<(), Reason> {
+        if let Some(held) = &self.held {
+            give(&made.file, &made.seen, &held.seen)?;
+        }
+        known(made.file.sync_all())?;
+        match &self.held {
+            Some(held) => held.stays(self.rt, name)?,
+            None => stays_at(self.rt, name, None)?,
+        }
+        stays_at(self.rt, made.name.as_str(), Some(made.seen.place))?;
+        known(fs::rename(self.rt, made.name.as_str(), name))?;
+        // It is written still by a handle that is not closed yet.
+        let _unlocked = made.file.unlock();
+        Ok(())
+    }
+
+    /// Has the system write down which file has the name, where it lets that be done.
+    fn sync_folder(&self, name: &str) {
+        if let Ok(folder) = fs::open(self.rt, folder_of(name)) {
+            let _synced = folder.sync_all();
+        }
+    }
+
+    /// Removes the new file, if there is one, and lets go of the other. Where the system does not remove it, it stays.
+    fn end(&mut self)
+        ensures unmade { self.new.made ≡ None }
+        ensures unheld { self.new.held ≡ None }
+    {
+        if let Some(made) = self.made.take() {
+            let _removed = fs::remove_file(self.rt, made.name.as_str());
+        }
+        self.looked.set(None);
+        self.held = None;
+    }
+}
+
+/// Gives a new file the owner and the group of another one, and then its permissions.
+fn give(file: &File, made: &Seen, old: &Seen) -> Result<(), Reason> {
+    if made.owner != old.owner || made.group != old.group {
+        if fchown(file, Some(old.owner), Some(old.group)).is_err() {
+            return Err(Reason::Owner);
+        }
+    }
+    known(file.set_permissions(Permissions::from_mode(old.permissions())))
+}
+
+impl<'c, R: Files<File = File>> Outputs for Beside<'c, '_, '_, R> {
+    type File = Slot<BufWriter<Noted<'c, File>>>;
+
+    // What the process did to files is told by nothing.
+    ghost makes = { λ before after name held. ⊤ };
+
+    ghost makes_none = { λ before after name reason. ⊤ };
+
+    ghost puts = { λ before after name held. ⊤ };
+
+    ghost puts_none = { λ before after name reason. ⊤ };
+
+    ghost removes = { λ before after name. ⊤ };
+
+    fn idle(&self) -> Slot<BufWriter<Noted<'c, File>>> {
+        Slot { file: None }
+    }
+
+    fn make(&mut self, name: &str) -> Result<Slot<BufWriter<Noted<'c, File>>>, Reason> {
+        match self.begin(name) {
+            Ok(file) => Ok(Slot { file: Some(file) }),
+            Err(reason) => {
+                self.end();
+                Err(reason)
+            }
+        }
+    }
+
+    fn put(
+        &mut self,
+        name: &str,
+        _file: &FromWrite<Slot<BufWriter<Noted<'c, File>>>>,
+    ) -> Result<(), Reason> {
+        let Some(made) = &self.made else {
+            return Err(Reason::NotFound);
+        };
+        match self.replace(made, name) {
+            Ok(()) => {
+                self.sync_folder(name);
+                self.made = None;
+                self.end();
+                Ok(())
+            }
+            Err(reason) => Err(reason),
+        }
+    }
+
+    fn unwritten(&self) -> Reason {
+        match self.reason.get() {
+            Some(reason) => reason,
+            None => Reason::Fault,
+        }
+    }
+
+    fn remove(&mut self, _name: &str) {
+        self.end();
+    }
+}
