@@ -17,8 +17,13 @@
 extern "C" {
 #endif
 
-/* The version of this header: 102 is 0.1.2. cs_version tells that of the library. */
+/* The version of this header: 10000 for each major version, 100 for each minor one, and the patch; 102 is 0.1.2. cs_version tells that of
+ * the library. Before 1.0 a minor version may change what a program calls, a patch does not. The number in libchromesquid.so.0 is raised
+ * where a program has to be compiled anew. */
 #define CS_VERSION 100
+#define CS_VERSION_MAJOR (CS_VERSION / 10000)
+#define CS_VERSION_MINOR (CS_VERSION / 100 % 100)
+#define CS_VERSION_PATCH (CS_VERSION % 100)
 
 /* The form of cs_options: 2 is the one with an automaton and limits. */
 #define CS_OPTIONS_FORM 2
@@ -198,14 +203,15 @@ uint32_t cs_info(cs_searcher *searcher, cs_facts *out);
 uint32_t cs_stream_new(cs_searcher *searcher, cs_stream *out);
 
 /* Pushes bytes behind those that were pushed, from the front as many as there is room for: CS_DONE, and in `taken` how many. After a
- * cs_stream_next, or cs_stream_replace, that answered CS_DONE it takes one at least; else it may take none. Push the rest once that
- * answers CS_DONE again.
+ * cs_stream_next, or cs_stream_replace, that answered CS_DONE there is room for one at least; else it may take none. Push the rest once
+ * that answers CS_DONE again.
  * Else CS_NO_SEARCHER, CS_ENDED, CS_TOO_MANY_BYTES: `taken` is as it was. */
 uint32_t cs_stream_push(cs_stream *stream, const uint8_t *bytes, size_t bytes_len, size_t *taken);
 
 /* The next match of all bytes pushed so far, searched for from the end of the one before: CS_FOUND, and the match by its place in the
  * stream. CS_DONE where no match is certain yet, or none is left: `found` is as it was.
- * A match is certain where no byte that follows can change it: with CS_STANDARD once it ends, else once no longer one can follow.
+ * With CS_STANDARD a match is certain with its last byte. Else it is so with the first byte behind it with which nothing goes on that
+ * could take its place, or at the end: it waits for one byte more even where nothing could.
  * Else CS_NO_SEARCHER. */
 uint32_t cs_stream_next(cs_stream *stream, cs_match *found);
 
