@@ -36,7 +36,7 @@ use Rattle.acredact.proofs.Done.{concat_both}
 use Rattle.acredact.proofs.Free.{free_of}
 
 -- where they are to be refused, nothing is told and they are clean
-clean_of : {E : Type 0} (K : SinkGhosts E) (strict : Bool) (r : Redactor) (old new : Errors E) → strict ≡ true → TellsOfPieces K strict r old new → r.covers ≡ true → AreCleanBy (is_some r.key) r.patterns r.pieces
+pub clean_of : {E : Type 0} (K : SinkGhosts E) (strict : Bool) (r : Redactor) (old new : Errors E) → strict ≡ true → TellsOfPieces K strict r old new → r.covers ≡ true → AreCleanBy (is_some r.key) r.patterns r.pieces
 clean_of K strict r old new is (None, judged, same) = judged
 clean_of K strict r old new is (Some unclean, judged, (lax, told)) = let clash : true ≡ false = sym is ∙ lax in absurd (cc)
 
@@ -56,14 +56,14 @@ judged_as p false named key pieces pieces' (Some unclean) is same (clash, judged
 
 -- lines behind lines
 module _ {E : Type 0} (K : SinkGhosts E) (IsLine : List ℕ → Type 0) (old mid new : Errors E) (first : Tells K IsLine old mid) where
-  tells_both : Tells K IsLine mid new → Tells K IsLine old new
+  pub tells_both : Tells K IsLine mid new → Tells K IsLine old new
   tells_both later = record {
     told = first.told ++ later.told;
     are_lines = All-append IsLine first.told later.told first.are_lines later.are_lines;
     written = subst (TellsBytes K old new) (sym (concat_both first.told later.told)) (tells-later K first.written later.written);
   }
 
-  some_behind : TellsSome K IsLine mid new → TellsSome K IsLine old new
+  pub some_behind : TellsSome K IsLine mid new → TellsSome K IsLine old new
   some_behind later = behind first.told first.are_lines (tells-later K first.written later.written)
     where
       behind : (lines : List (List ℕ)) → All IsLine lines → TellsBytes K old new (concat lines ++ concat (later.first ∷ later.more)) → TellsSome K IsLine old new
@@ -77,7 +77,7 @@ module _ {E : Type 0} (K : SinkGhosts E) (IsLine : List ℕ → Type 0) (old mid
       }
 
 -- what is told of pieces may be told
-piece_tells : {E : Type 0} (K : SinkGhosts E) (call : Call) (fails : Type 0) (load : Loaded) (old new : Errors E) → TellsOfPieces K (has Strict call.given) (redactor_by_given call.given load) old new → Tells K (IsLineOf call fails) old new
+pub piece_tells : {E : Type 0} (K : SinkGhosts E) (call : Call) (fails : Type 0) (load : Loaded) (old new : Errors E) → TellsOfPieces K (has Strict call.given) (redactor_by_given call.given load) old new → Tells K (IsLineOf call fails) old new
 piece_tells K call fails load old new (None, judged, same) = tells_same K (IsLineOf call fails) old new same
 piece_tells K call fails load old new (Some unclean, judged, (lax, told)) = record {
   told = unclean_line unclean ∷ [];

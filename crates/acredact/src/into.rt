@@ -3,17 +3,21 @@
 ghost use Rattle.std.specs.Prelude.{◌≡◌, IfErr, IfOk, false, option_map, true};
 ghost use Rattle.programs.specs.Arguments.{texts};
 ghost use Rattle.programs.specs.Streams.{output_bytes};
+ghost use Rattle.programs.specs.Telling.{TellsBytes, TellsSome};
+ghost use Rattle.programs.specs.declared.reason.Reason.{Reason};
 ghost use Rattle.acredact.specs.Arguments.{IfAsked, IfNoCheck, NamesOutput, RefusesUnclean, counts_asked};
-ghost use Rattle.acredact.specs.Calls.{CountsAsked, IsWrongFailure, LeavesNoneAsked, RedactsAsked, WarnsAsked};
-ghost use Rattle.acredact.specs.Into.{IsKept, LeavesOld, WritesNew};
+ghost use Rattle.acredact.specs.Calls.{CountsAsked, IsWrongFailure, LeavesNoneAsked, OutputFails, RedactsAsked, WarnsAsked, call_of};
+ghost use Rattle.acredact.specs.Files.{unread_line};
+ghost use Rattle.acredact.specs.Into.{IsKept, IsOutputLine, IsSpared, TellsNew, WritesNew};
 
 use crate::arguments::{items, output_of};
-use crate::failure::{Failure, tell_unread};
+use crate::failure::{Failure, tell_no_output, tell_unread};
+use crate::files::is_input;
 use crate::folder::Folder;
 use crate::outputs::Outputs;
 use crate::run::{FAILED, run};
 use crate::streams::Streams;
-use aho_devices::adapters::{FromRead, FromWrite};
+use aho_devices::adapters::FromWrite;
 use aho_devices::device::Sink;
 use programs::errors::Errors;
 use std::alloc::Global;
@@ -40,33 +44,33 @@ pub fn named_output<'a>(
 
 /// Makes a new file, and does what the arguments ask for with that for the output. Where all was done it takes the place of the file
 /// of this name, and else it is removed. Answers the exit status.
-pub fn make_and_run<F: Folder, O: Outputs, I: Read + Drop, E: Sink + Drop>(
+pub fn make_and_run<F: Folder, O: Outputs, I: Read, E: Sink>(
     alloc: Global,
     arguments: &[String],
     name: &str,
     folder: &F,
     outputs: &mut O,
-    input: I,
-    errors: Errors<'_, E>,
+    streams: &mut Streams<'_, I, O::File, E>,
 ) -> u8
-    // A new file was made, all was written to it, and then it took that place.
-    ensures writes { IfAsked arguments.now (λ given. result ≡ 0
-        → WritesNew I.Read O.File.Write E.Sink F.Folder O.Outputs folder.now given name.now outputs.old outputs.new) }
-    // Or none was made, or it was removed: what has the name is as it was.
-    ensures leaves { (result ≡ 0 → ⊥) → LeavesOld O.Outputs name.now outputs.old outputs.new }
+    // A new file was made, all was written to it, and then it took that place. What was told is what `run` tells.
+    ensures writes { IfAsked arguments.now (λ given. result ≡ 0 → WritesNew O.File.Write E.Sink F.Folder
+        O.Outputs folder.now given name.now outputs.old outputs.new streams.old streams.new) }
+    // Or none was made, or it was removed: what has the name is as it was, and it is told why.
+    ensures leaves { (result ≡ 0 → ⊥) → IsSpared O.Outputs name.now outputs.old outputs.new }
+    ensures tells { IfAsked arguments.now (λ given. (result ≡ 0 → ⊥) → TellsNew O.File.Write E.Sink F.Folder
+        O.Outputs folder.now given name.now outputs.old outputs.new streams.old streams.new) }
 {
-    let mut errors = errors;
+    if is_input(name) {
+        tell_no_output(&mut streams.errors, name);
+        return FAILED;
+    }
     match outputs.make(name) {
         Ok(file) => {
-            let mut streams = Streams {
-                input: FromRead::new(input),
-                output: FromWrite::new(file),
-                errors,
-            };
-            run_into(alloc, arguments, name, folder, outputs, &mut streams)
+            streams.output = FromWrite::new(file);
+            run_into(alloc, arguments, name, folder, outputs, streams)
         }
         Err(reason) => {
-            tell_unread(&mut errors, name, reason);
+            tell_unread(&mut streams.errors, name, reason);
             FAILED
         }
     }
@@ -95,8 +99,11 @@ pub fn run_into<F: Folder, O: Outputs, I: Read, E: Sink>(
         → streams.new.output.device.flushed ≡ true) }
     ensures puts { result ≡ 0 → O.puts outputs.old outputs.new name.now
         (output_bytes O.File.Write streams.new.output) }
-    // At any other it did not, and was removed.
+    // At any other it did not, and was removed, and it is told why.
     ensures kept { (result ≡ 0 → ⊥) → IsKept O.Outputs name.now outputs.old outputs.new }
+    ensures tells { IfAsked arguments.now (λ given. (result ≡ 0 → ⊥) → TellsSome E.Sink
+        (IsOutputLine (call_of F.Folder folder.now given) (OutputFails streams.old.output streams.new.output)
+        name.now) streams.old.errors streams.new.errors) }
 {
     let done = run(alloc, arguments, folder, streams);
     finish(outputs, name, done, streams)
@@ -114,6 +121,11 @@ fn finish<O: Outputs, I: Read, E: Sink>(
     ensures puts { result ≡ 0 → O.puts outputs.old outputs.new name.now
         (output_bytes O.File.Write streams.old.output) }
     ensures kept { (result ≡ 0 → ⊥) → IsKept O.Outputs name.now outputs.old outputs.new }
+    // What was not done was told, and nothing is told twice.
+    ensures failed { (done ≡ 0 → ⊥) → (streams.new ≡ streams.old) × (result ≡ done) }
+    ensures output { streams.new.output ≡ streams.old.output }
+    ensures told { done ≡ 0 → (result ≡ 0 → ⊥) → (reason : Reason) × TellsBytes E.Sink
+        streams.old.errors streams.new.errors (unread_line name.now reason) }
 {
     if done != 0 {
         return discard(outputs, name, done);
