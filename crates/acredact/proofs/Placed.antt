@@ -73,23 +73,33 @@ pub told_of_one : {R W E : Type 0} {Reads : Readers R} (Writes : Writers W) (K :
     → FilesOutcome Writes K work done old mid → ToldOfOne K name done old.errors mid.errors
 told_of_one Writes K work name one (Ok all) old mid files =
     let (lines, is_all, (done, told)) = files.done in
-    let done : AreDone work (name ∷ []) lines (bytes_left old.input) (bytes_left mid.input) (output_bytes Writes old.output) (output_bytes Writes mid.output) =
+    let all_done : AreDone work (name ∷ []) lines (bytes_left old.input) (bytes_left mid.input) (output_bytes Writes old.output) (output_bytes Writes mid.output) =
     subst (λ (l : List (List ℕ)). AreDone work l lines (bytes_left old.input) (bytes_left mid.input) (output_bytes Writes old.output) (output_bytes Writes mid.output)) one done in
     record {
-      whole = (lines, is_all, cut_spared work name lines _ _ _ _ (cut_of work (name ∷ []) lines _ _ _ _ done), told);
+      whole = (lines, is_all, cut_spared work name lines _ _ _ _ (cut_of work (name ∷ []) lines _ _ _ _ all_done), told);
       cut = tt;
       quiet = files.quiet;
     }
 told_of_one Writes K work name one (Err error) old mid files =
     let (lines, (cut, told)) = files.cut in
-    let cut : AreCut work (name ∷ []) lines (bytes_left old.input) (bytes_left mid.input) (output_bytes Writes old.output) (output_bytes Writes mid.output) =
+    let all_cut : AreCut work (name ∷ []) lines (bytes_left old.input) (bytes_left mid.input) (output_bytes Writes old.output) (output_bytes Writes mid.output) =
     subst (λ (l : List (List ℕ)). AreCut work l lines (bytes_left old.input) (bytes_left mid.input) (output_bytes Writes old.output) (output_bytes Writes mid.output)) one cut in
-    record { whole = tt; cut = (lines, cut_spared work name lines _ _ _ _ cut, told); quiet = files.quiet }
+    record { whole = tt; cut = (lines, cut_spared work name lines _ _ _ _ all_cut, told); quiet = files.quiet }
 
 -- a line behind others
 one_more : (lines : List (List ℕ)) (line : List ℕ) → are_none (lines ++ (line ∷ [])) ≡ false
 one_more [] line = refl
 one_more (first ∷ lines) line = refl
+
+-- each line is told of one of the files
+abbrev pub IsOfOne : List (List ℕ) → List ℕ → Type 0
+IsOfOne names line = (name : List ℕ) × IsOneOf name names × IsSparedLine name line
+
+of_first : (name : List ℕ) (names lines : List (List ℕ)) → All (IsSparedLine name) lines → All (IsOfOne (name ∷ names)) lines
+of_first name names lines = All-weaker (IsSparedLine name) (IsOfOne (name ∷ names)) (λ line is. (name, inl refl, is)) lines
+
+of_others : (name : List ℕ) (names lines : List (List ℕ)) → All (IsOfOne names) lines → All (IsOfOne (name ∷ names)) lines
+of_others name names lines = All-weaker (IsOfOne names) (IsOfOne (name ∷ names)) (λ line is. (is.0, inr is.1, is.2)) lines
 
 module _ {O Z E : Type 0} (Writes : Writers Z) (K : SinkGhosts E) (U : Places O Z) (work : Work) where
   -- what comes of a file that was not come to be replaced: it is told by a line
@@ -222,22 +232,13 @@ module _ {O Z E : Type 0} (Writes : Writers Z) (K : SinkGhosts E) (U : Places O 
       left' = is.left';
       meanwhile = is.meanwhile;
       made = is.made;
+      empty = is.empty;
       redacted = free_of work covers clean (name ∷ []) is.left is.left' _ _ is.redacted;
       flushed = is.flushed;
       puts = is.puts;
     },
     freed_all covers clean names mid outputs' others,
   )
-
-  -- each line is told of one of the files
-  abbrev pub IsOfOne : List (List ℕ) → List ℕ → Type 0
-  IsOfOne names line = (name : List ℕ) × IsOneOf name names × IsSparedLine name line
-
-  of_first : (name : List ℕ) (names lines : List (List ℕ)) → All (IsSparedLine name) lines → All (IsOfOne (name ∷ names)) lines
-  of_first name names lines = All-weaker (IsSparedLine name) (IsOfOne (name ∷ names)) (λ line is. (name, inl refl, is)) lines
-
-  of_others : (name : List ℕ) (names lines : List (List ℕ)) → All (IsOfOne names) lines → All (IsOfOne (name ∷ names)) lines
-  of_others name names lines = All-weaker (IsOfOne names) (IsOfOne (name ∷ names)) (λ line is. (is.0, inr is.1, is.2)) lines
 
   of_placed : (name : List ℕ) (names lines : List (List ℕ)) (outputs outputs' : O) → IsPlaced Writes U work name lines outputs outputs' → All (IsOfOne (name ∷ names)) lines
   of_placed name names lines outputs outputs' (inl is) = subst (All (IsOfOne (name ∷ names))) (sym is.0) (All-nil (IsOfOne (name ∷ names)))

@@ -67,8 +67,8 @@ module _ {O Z E : Type 0} (Writes : Writers Z) (K : SinkGhosts E) (U : Places O 
     pieces_tell : (mid : Errors E) → TellsOfPieces K (has Strict call.given) (redactor_by_given call.given load) old mid → Tells K (IsPlaceLine call) old mid
     pieces_tell mid pieces = tells_weaker K (IsLineOf call ⊥) (IsPlaceLine call) old mid (λ line is. inl is) (piece_tells K call ⊥ load old mid pieces)
 
-    files_lines : (lines : List (List ℕ)) → All (IsOfOne Writes K U (work_by call load) (names_asked call.given)) lines → All (IsPlaceLine call) lines
-    files_lines lines are = All-weaker (IsOfOne Writes K U (work_by call load) (names_asked call.given)) (IsPlaceLine call) (λ line is. inr is) lines are
+    files_lines : (lines : List (List ℕ)) → All (IsOfOne (names_asked call.given)) lines → All (IsPlaceLine call) lines
+    files_lines lines are = All-weaker (IsOfOne (names_asked call.given)) (IsPlaceLine call) (λ line is. inr is) lines are
 
     -- no file was made, or memory ran out at one
     pub places_cut : (failure : Failure) (new : Errors E) → WarnedPlaces Writes U (work_by call load) K (has Strict call.given) (Err failure) outputs outputs' old new

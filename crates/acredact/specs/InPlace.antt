@@ -1,5 +1,5 @@
 -- What becomes of files that are replaced in place: of each a new one is filled, and takes its place where all was done.
-use Rattle.std.specs.Prelude.{◌≡◌, ◌⊎◌, ℕ, Bool, true, false, List, [], ◌∷◌, ◌++◌, Option, Result, Ok, Err, IfErr, IfOk, OnErr, OnOk}
+use Rattle.std.specs.Prelude.{◌≡◌, ◌⊎◌, ℕ, Bool, true, false, List, [], ◌∷◌, ◌++◌, Option, Result, Ok, Err, IfErr, IfOk, IfSome, OnErr}
 use Rattle.std.specs.Borrow.{Bor}
 use Rattle.std.specs.List.{All, concat}
 use Rattle.std.specs.declared.io.traits.Read.{Ghosts as Readers}
@@ -8,7 +8,6 @@ use Rattle.aho_core.specs.Occurrence.{Occurrence}
 use Rattle.aho_core.specs.Patterns.{Patterns}
 use Rattle.aho_core.specs.declared.error.stream.StreamError.{StreamError}
 use Rattle.aho_core.specs.declared.error.stream.StreamError.TheVariants.{Memory}
-use Rattle.aho_devices.specs.declared.adapters.FromRead.{FromRead}
 use Rattle.aho_devices.specs.declared.adapters.FromWrite.{FromWrite}
 use Rattle.aho_devices.specs.declared.device.Sink.{Ghosts as SinkGhosts}
 use Rattle.programs.specs.Names.{IsOneOf, is_input, name_bytes}
@@ -27,7 +26,7 @@ use Rattle.acredact.specs.Messages.{no_file_line, output_line}
 use Rattle.acredact.specs.Pieces.{TellsOfPieces}
 use Rattle.acredact.specs.Summaries.{no_volume}
 use Rattle.acredact.specs.Tables.{secrets_of}
-use Rattle.acredact.specs.Totals.{CountsOfName, NamesHaveRanges}
+use Rattle.acredact.specs.Totals.{CountsOfName, CountsWork, NamesHaveRanges}
 use Rattle.acredact.specs.Volumes.{ReadsVolume}
 use Rattle.acredact.specs.declared.arguments.Item.{Item}
 use Rattle.acredact.specs.declared.arguments.Word.TheVariants.{Strict}
@@ -50,7 +49,7 @@ pub record TellsSpared (name : List ℕ) (lines : List (List ℕ)) : Type 0 wher
   pub are : All (IsSparedLine name) lines
 
 module _ {O Z : Type 0} (Writes : Writers Z) (U : Places O Z) (work : Work) where
-  -- a new file was made, this of the file of this name was written into it and flushed, and then it took its place
+  -- a new file was made, which was empty, this of the file of this name was written into it and flushed, and then it took its place
   pub record IsFilled (Written : (left left' held held' : Option (List ℕ)) → Type 0) (name : List ℕ) (outputs outputs' : O) : Type 0 where
     pub named : is_input name ≡ false
     pub file : FromWrite Z
@@ -59,6 +58,7 @@ module _ {O Z : Type 0} (Writes : Writers Z) (U : Places O Z) (work : Work) wher
     pub left' : Option (List ℕ)
     pub meanwhile : O
     pub made : U.makes outputs meanwhile name (output_bytes Writes file)
+    pub empty : IfSome (output_bytes Writes file) (λ held. held ≡ [])
     pub redacted : Written left left' (output_bytes Writes file) (output_bytes Writes file')
     pub flushed : file'.device.flushed ≡ true
     pub puts : U.puts meanwhile outputs' name (output_bytes Writes file')
@@ -127,21 +127,24 @@ module _ {O Z : Type 0} (Writes : Writers Z) (U : Places O Z) (work : Work) wher
         × (IsStrictFailure strict work.redactor failure ⊎ (IsBuildRefusal work.redactor.patterns failure ⊎ (failure ≡ Other OutOfMemory))))
         ⊎ ((mid : Errors E) × TellsOfPieces K strict work.redactor errors mid × PlacesOutcome (Other OutOfMemory) result outputs outputs' mid errors')
 
-module _ {F X O Z E : Type 0} (Writes : Writers Z) (K : SinkGhosts E) (D : Folders F X) (U : Places O Z) where
+module _ {F X R O Z E : Type 0} {Reads : Readers R} (Writes : Writers Z) (K : SinkGhosts E) (D : Folders F X) (U : Places O Z) where
   -- the same of a job, where files are redacted by these patterns
-  abbrev pub PlaceJob : Job F → List ℕ → Result Bool StreamError → (outputs outputs' : O) → (errors errors' : Errors E) → Patterns → Type 0
-  PlaceJob job name result outputs outputs' errors errors' p = PlaceOutcome Writes U (work_of D job (redactor_of job p)) K name result outputs outputs' errors errors'
+  abbrev pub PlaceJob : Job F → List ℕ → Result Bool StreamError → (outputs outputs' : O) → (streams streams' : Streams R Z E Reads) → Patterns → Type 0
+  PlaceJob job name result outputs outputs' streams streams' p =
+      PlaceOutcome Writes U (work_of D job (redactor_of job p)) K name result outputs outputs' streams.errors streams'.errors
 
-  abbrev pub PlacesJob : Job F → Result Bool StreamError → (outputs outputs' : O) → (errors errors' : Errors E) → Patterns → Type 0
-  PlacesJob job result outputs outputs' errors errors' p = PlacesOutcome Writes U (work_of D job (redactor_of job p)) K Memory result outputs outputs' errors errors'
+  abbrev pub PlacesJob : Job F → Result Bool StreamError → (outputs outputs' : O) → (streams streams' : Streams R Z E Reads) → Patterns → Type 0
+  PlacesJob job result outputs outputs' streams streams' p =
+      PlacesOutcome Writes U (work_of D job (redactor_of job p)) K Memory result outputs outputs' streams.errors streams'.errors
 
-  abbrev pub WarnedPlacesJob : (strict : Bool) → Job F → Result Bool Failure → (outputs outputs' : O) → (errors errors' : Errors E) → Patterns → Type 0
-  WarnedPlacesJob strict job result outputs outputs' errors errors' p = WarnedPlaces Writes U (work_of D job (redactor_of job p)) K strict result outputs outputs' errors errors'
+  abbrev pub WarnedPlacesJob : (strict : Bool) → Job F → Result Bool Failure → (outputs outputs' : O) → (streams streams' : Streams R Z E Reads) → Patterns → Type 0
+  WarnedPlacesJob strict job result outputs outputs' streams streams' p =
+      WarnedPlaces Writes U (work_of D job (redactor_of job p)) K strict result outputs outputs' streams.errors streams'.errors
 
-  -- that of a call, where the failure that ends it says why
-  abbrev pub CallPlaces : Call → Loaded → Result Bool Failure → (outputs outputs' : O) → (errors errors' : Errors E) → Type 0
-  CallPlaces call load result outputs outputs' errors errors' =
-      WarnedPlaces Writes U (work_by call load) K (has Strict call.given) result outputs outputs' errors errors'
+  -- that of a call whose patterns and key were loaded, where the failure that ends it says why
+  abbrev pub CallPlaces : F → List Item → List Rule → Option (Bor (List ℕ)) → Result Bool Failure → (outputs outputs' : O) → (streams streams' : Streams R Z E Reads) → Type 0
+  CallPlaces folder items rules key result outputs outputs' streams streams' =
+      WarnedPlaces Writes U (work_by (call_of D folder (all_given items)) (loaded_as rules (key_lent key))) K (has Strict (all_given items)) result outputs outputs' streams.errors streams'.errors
 
 module _ {F X R W E : Type 0} {Reads : Readers R} (D : Folders F X) (job : Job F) (name : List ℕ) (result : Result Bool StreamError) where
   -- a file that was replaced was counted, by these patterns
@@ -154,50 +157,55 @@ module _ {F X R W E : Type 0} {Reads : Readers R} (D : Folders F X) (job : Job F
   NameVolume volume volume' streams streams' = result ≡ Ok true
       → ReadsVolume (D.holds job.folder.now) (name ∷ []) volume volume' (bytes_left streams.input) (bytes_left streams'.input)
 
+-- what is counted of a call whose patterns and key were loaded
+abbrev pub CallCounts : {F X R W E : Type 0} {Reads : Readers R} → Folders F X → F → List Item → List Rule → Option (Bor (List ℕ)) → Result Bool Failure → (streams streams' : Streams R W E Reads) → (counts counts' : List ℕ) → Type 0
+CallCounts D folder items rules key result streams streams' counts counts' =
+    CountsWork (work_by (call_of D folder (all_given items)) (loaded_as rules (key_lent key))) result streams streams' counts counts'
+
 -- what may be told of a call: what is told of a redaction that writes nothing to standard output, and that standard input is no file
 abbrev pub IsPlaceLine : Call → List ℕ → Type 0
 IsPlaceLine call line = IsLineOf call ⊥ line ⊎ ((name : List ℕ) × IsOneOf name (names_asked call.given) × IsSparedLine name line)
 
-module _ {O Z E : Type 0} (Writes : Writers Z) (K : SinkGhosts E) (U : Places O Z) (call : Call) (left : Option (List ℕ)) where
-  module _ (outputs outputs' : O) where
-    -- the patterns and the key were loaded, of the input with so many bytes left, and each file was replaced
-    pub record ReplacesCall : Type 0 where
-      pub load : Loaded
-      pub between : Option (List ℕ)
-      pub loaded : AreLoaded (reading_by call) call.given load left between
-      pub replaced : AreReplacedAll Writes U (work_by call load) (names_asked call.given) outputs outputs'
+module _ {O Z : Type 0} (Writes : Writers Z) (U : Places O Z) (call : Call) (left : Option (List ℕ)) (outputs outputs' : O) where
+  -- the patterns and the key were loaded, of the input with so many bytes left, and each file was replaced
+  pub record ReplacesCall : Type 0 where
+    pub load : Loaded
+    pub between : Option (List ℕ)
+    pub loaded : AreLoaded (reading_by call) call.given load left between
+    pub replaced : AreReplacedAll Writes U (work_by call load) (names_asked call.given) outputs outputs'
 
-    -- the same, and no pattern is left in any
-    pub record FreesCall : Type 0 where
-      pub load : Loaded
-      pub between : Option (List ℕ)
-      pub loaded : AreLoaded (reading_by call) call.given load left between
-      pub freed : AreFreedAll Writes U (work_by call load) (names_asked call.given) outputs outputs'
+  -- the same, and no pattern is left in any
+  pub record FreesCall : Type 0 where
+    pub load : Loaded
+    pub between : Option (List ℕ)
+    pub loaded : AreLoaded (reading_by call) call.given load left between
+    pub freed : AreFreedAll Writes U (work_by call load) (names_asked call.given) outputs outputs'
 
-    -- they were, and each file was replaced or spared, up to one that was not come to
-    pub record SparesCall : Type 0 where
-      pub load : Loaded
-      pub between : Option (List ℕ)
-      pub loaded : AreLoaded (reading_by call) call.given load left between
-      pub whole : AreWhole Writes U (work_by call load) (names_asked call.given) outputs outputs'
+  -- they were, and each file was replaced or spared, up to one that was not come to
+  pub record SparesCall : Type 0 where
+    pub load : Loaded
+    pub between : Option (List ℕ)
+    pub loaded : AreLoaded (reading_by call) call.given load left between
+    pub whole : AreWhole Writes U (work_by call load) (names_asked call.given) outputs outputs'
 
-    -- or each was, up to the last
-    pub record ReachesCall : Type 0 where
-      pub load : Loaded
-      pub between : Option (List ℕ)
-      pub loaded : AreLoaded (reading_by call) call.given load left between
-      pub lines : List (List ℕ)
-      pub placed : ArePlaced Writes U (work_by call load) (names_asked call.given) lines outputs outputs'
+  -- or each was, up to the last
+  pub record ReachesCall : Type 0 where
+    pub load : Loaded
+    pub between : Option (List ℕ)
+    pub loaded : AreLoaded (reading_by call) call.given load left between
+    pub lines : List (List ℕ)
+    pub placed : ArePlaced Writes U (work_by call load) (names_asked call.given) lines outputs outputs'
 
-    -- or no file was made
-    abbrev pub KeepsCall : Type 0
-    KeepsCall = (outputs' ≡ outputs) ⊎ SparesCall
+  -- or no file was made
+  abbrev pub KeepsCall : Type 0
+  KeepsCall = (outputs' ≡ outputs) ⊎ SparesCall
 
-    -- a failure ends a call before a file is made, or behind all files, or where memory runs out
-    pub record EndsCall (failure : Failure) : Type 0 where
-      pub may : MayFail call ⊥ failure
-      pub ends : (outputs' ≡ outputs) ⊎ (ReachesCall ⊎ ((failure ≡ Other OutOfMemory) × SparesCall))
+  -- a failure ends a call before a file is made, or behind all files, or where memory runs out
+  pub record EndsCall (failure : Failure) : Type 0 where
+    pub may : MayFail call ⊥ failure
+    pub ends : (outputs' ≡ outputs) ⊎ (ReachesCall ⊎ ((failure ≡ Other OutOfMemory) × SparesCall))
 
+module _ {E : Type 0} (K : SinkGhosts E) (call : Call) (left : Option (List ℕ)) where
   -- each file was replaced, and it is told whole how often the text of each pattern was written
   pub record CountsPlaces (errors errors' : Errors E) : Type 0 where
     pub load : Loaded
@@ -212,21 +220,22 @@ module _ {O Z E : Type 0} (Writes : Writers Z) (K : SinkGhosts E) (U : Places O 
     pub read : ReadsVolume call.holds (names_asked call.given) no_volume volume between after
     pub counted : TellsTotals K call.given load.secrets ranges volume meanwhile errors'
 
+module _ {O Z E : Type 0} (Writes : Writers Z) (K : SinkGhosts E) (U : Places O Z) (call : Call) (left : Option (List ℕ)) where
   -- what comes of a call
   pub record CalledPlaces (result : Result Bool Failure) (outputs outputs' : O) (errors errors' : Errors E) : Type 0 where
-    pub replaces : result ≡ Ok true → ReplacesCall outputs outputs'
-    pub strict : RefusesUnclean call.given → result ≡ Ok true → FreesCall outputs outputs'
-    pub keeps : KeepsCall outputs outputs'
+    pub replaces : result ≡ Ok true → ReplacesCall Writes U call left outputs outputs'
+    pub strict : RefusesUnclean call.given → result ≡ Ok true → FreesCall Writes U call left outputs outputs'
+    pub keeps : KeepsCall Writes U call left outputs outputs'
     pub quiet : counts_asked call.given ≡ false → result ≡ Ok true → WarnsCall K call left errors errors'
-    pub counts : counts_asked call.given ≡ true → result ≡ Ok true → CountsPlaces errors errors'
-    pub partly : result ≡ Ok false → ReachesCall outputs outputs' × TellsSome K (IsPlaceLine call) errors errors'
-    pub fails : IfErr result (EndsCall outputs outputs')
+    pub counts : counts_asked call.given ≡ true → result ≡ Ok true → CountsPlaces K call left errors errors'
+    pub partly : result ≡ Ok false → ReachesCall Writes U call left outputs outputs' × TellsSome K (IsPlaceLine call) errors errors'
+    pub fails : IfErr result (EndsCall Writes U call left outputs outputs')
     pub told : OnErr result (Tells K (IsPlaceLine call) errors errors')
 
   -- a failure ended it, which is told last
   pub record TellsEnd (outputs outputs' : O) (errors errors' : Errors E) : Type 0 where
     pub failure : Failure
-    pub ends : EndsCall outputs outputs' failure
+    pub ends : EndsCall Writes U call left outputs outputs' failure
     pub meanwhile : Errors E
     pub told : Tells K (IsPlaceLine call) errors meanwhile
     pub line : List ℕ
@@ -236,53 +245,60 @@ module _ {O Z E : Type 0} (Writes : Writers Z) (K : SinkGhosts E) (U : Places O 
   -- what its exit status says: where it is 0, each file was replaced, and nothing is told but of pieces, and counts. Else something is told,
   -- and each file was replaced or spared, but where the call ended
   pub record PlacesStatus (status : ℕ) (outputs outputs' : O) (errors errors' : Errors E) : Type 0 where
-    pub replaces : status ≡ 0 → ReplacesCall outputs outputs'
-    pub strict : RefusesUnclean call.given → status ≡ 0 → FreesCall outputs outputs'
-    pub keeps : KeepsCall outputs outputs'
+    pub replaces : status ≡ 0 → ReplacesCall Writes U call left outputs outputs'
+    pub strict : RefusesUnclean call.given → status ≡ 0 → FreesCall Writes U call left outputs outputs'
+    pub keeps : KeepsCall Writes U call left outputs outputs'
     pub quiet : counts_asked call.given ≡ false → status ≡ 0 → WarnsCall K call left errors errors'
-    pub counts : counts_asked call.given ≡ true → status ≡ 0 → CountsPlaces errors errors'
+    pub counts : counts_asked call.given ≡ true → status ≡ 0 → CountsPlaces K call left errors errors'
     pub tells : (status ≡ 0 → ⊥) → TellsSome K (IsPlaceLine call) errors errors'
-    pub reaches : (status ≡ 0 → ⊥) → ReachesCall outputs outputs' ⊎ TellsEnd outputs outputs' errors errors'
+    pub reaches : (status ≡ 0 → ⊥) → ReachesCall Writes U call left outputs outputs' ⊎ TellsEnd outputs outputs' errors errors'
 
-module _ {F X O Z E R : Type 0} {Reads : Readers R} (Writes : Writers Z) (K : SinkGhosts E) (D : Folders F X) (U : Places O Z) (folder : F) (given : List Given) where
-  module _ (input : FromRead R Reads) (outputs outputs' : O) where
-    -- what these options and files ask for is replaced
-    abbrev pub ReplacesAsked : Type 0
-    ReplacesAsked = ReplacesCall Writes K U (call_of D folder given) (bytes_left input) outputs outputs'
+module _ {F X O Z E R : Type 0} {Reads : Readers R} (Writes : Writers Z) (D : Folders F X) (U : Places O Z) (folder : F) where
+  -- what these options and files ask for is replaced, where the status is 0
+  abbrev pub PlacesAll : ℕ → Streams R Z E Reads → (outputs outputs' : O) → List Given → Type 0
+  PlacesAll status streams outputs outputs' given = status ≡ 0 → ReplacesCall Writes U (call_of D folder given) (bytes_left streams.input) outputs outputs'
 
-    abbrev pub FreesAsked : Type 0
-    FreesAsked = FreesCall Writes K U (call_of D folder given) (bytes_left input) outputs outputs'
+  -- and no pattern is left, where that is asked for
+  abbrev pub FreesAll : ℕ → Streams R Z E Reads → (outputs outputs' : O) → List Given → Type 0
+  FreesAll status streams outputs outputs' given =
+      RefusesUnclean given → status ≡ 0 → FreesCall Writes U (call_of D folder given) (bytes_left streams.input) outputs outputs'
 
-    abbrev pub KeepsEach : Type 0
-    KeepsEach = KeepsCall Writes K U (call_of D folder given) (bytes_left input) outputs outputs'
+  -- or each is kept
+  abbrev pub KeepsEach : Streams R Z E Reads → (outputs outputs' : O) → List Given → Type 0
+  KeepsEach streams outputs outputs' given = KeepsCall Writes U (call_of D folder given) (bytes_left streams.input) outputs outputs'
 
-    abbrev pub ReachesEach : (errors errors' : Errors E) → Type 0
-    ReachesEach errors errors' = ReachesCall Writes K U (call_of D folder given) (bytes_left input) outputs outputs'
-        ⊎ TellsEnd Writes K U (call_of D folder given) (bytes_left input) outputs outputs' errors errors'
+module _ {F X Z E R : Type 0} {Reads : Readers R} (K : SinkGhosts E) (D : Folders F X) (folder : F) (status : ℕ) (streams streams' : Streams R Z E Reads) (given : List Given) where
+  -- of files that were replaced the counts that are asked for are told
+  abbrev pub PlacesCount : Type 0
+  PlacesCount = counts_asked given ≡ true → status ≡ 0 → CountsPlaces K (call_of D folder given) (bytes_left streams.input) streams.errors streams'.errors
 
-    abbrev pub AskedPlaces : Result Bool Failure → (errors errors' : Errors E) → Type 0
-    AskedPlaces result errors errors' = CalledPlaces Writes K U (call_of D folder given) (bytes_left input) result outputs outputs' errors errors'
+  -- of others something is told
+  abbrev pub PlacesTell : Type 0
+  PlacesTell = (status ≡ 0 → ⊥) → TellsSome K (IsPlaceLine (call_of D folder given)) streams.errors streams'.errors
 
-    abbrev pub SaysOfPlaces : ℕ → (errors errors' : Errors E) → Type 0
-    SaysOfPlaces status errors errors' = PlacesStatus Writes K U (call_of D folder given) (bytes_left input) status outputs outputs' errors errors'
+module _ {F X O Z E R : Type 0} {Reads : Readers R} (Writes : Writers Z) (K : SinkGhosts E) (D : Folders F X) (U : Places O Z) (folder : F) where
+  -- each file was come to then, or it is told why the call ended
+  abbrev pub PlacesReach : ℕ → (outputs outputs' : O) → (streams streams' : Streams R Z E Reads) → List Given → Type 0
+  PlacesReach status outputs outputs' streams streams' given = (status ≡ 0 → ⊥)
+      → ReachesCall Writes U (call_of D folder given) (bytes_left streams.input) outputs outputs'
+      ⊎ TellsEnd Writes K U (call_of D folder given) (bytes_left streams.input) outputs outputs' streams.errors streams'.errors
 
-  abbrev pub PlacesWarned : FromRead R Reads → (errors errors' : Errors E) → Type 0
-  PlacesWarned input errors errors' = WarnsCall K (call_of D folder given) (bytes_left input) errors errors'
+  abbrev pub SaysOfPlaces : List Item → ℕ → (outputs outputs' : O) → (streams streams' : Streams R Z E Reads) → Type 0
+  SaysOfPlaces items status outputs outputs' streams streams' =
+      PlacesStatus Writes K U (call_of D folder (all_given items)) (bytes_left streams.input) status outputs outputs' streams.errors streams'.errors
 
-  abbrev pub PlacesCounted : FromRead R Reads → (errors errors' : Errors E) → Type 0
-  PlacesCounted input errors errors' = CountsPlaces Writes K U (call_of D folder given) (bytes_left input) errors errors'
-
-  abbrev pub TellsPlaces : (errors errors' : Errors E) → Type 0
-  TellsPlaces errors errors' = TellsSome K (IsPlaceLine (call_of D folder given)) errors errors'
+  abbrev pub AskedPlaces : List Item → Result Bool Failure → (outputs outputs' : O) → (streams streams' : Streams R Z E Reads) → Type 0
+  AskedPlaces items result outputs outputs' streams streams' =
+      CalledPlaces Writes K U (call_of D folder (all_given items)) (bytes_left streams.input) result outputs outputs' streams.errors streams'.errors
 
   -- and of one whose key is to be loaded, once its patterns were loaded as these rules
-  abbrev pub KeylessPlaces : List Rule → Result Bool Failure → FromRead R Reads → (outputs outputs' : O) → (errors errors' : Errors E) → Type 0
-  KeylessPlaces rules result input outputs outputs' errors errors' = (left : Option (List ℕ))
-      → AreGiven (reading_by (call_of D folder given)) given (secrets_of rules) left (bytes_left input)
-      → CalledPlaces Writes K U (call_of D folder given) left result outputs outputs' errors errors'
+  abbrev pub KeylessPlaces : List Item → List Rule → Result Bool Failure → (outputs outputs' : O) → (streams streams' : Streams R Z E Reads) → Type 0
+  KeylessPlaces items rules result outputs outputs' streams streams' = (left : Option (List ℕ))
+      → AreGiven (reading_by (call_of D folder (all_given items))) (all_given items) (secrets_of rules) left (bytes_left streams.input)
+      → CalledPlaces Writes K U (call_of D folder (all_given items)) left result outputs outputs' streams.errors streams'.errors
 
   -- or once that was loaded too
-  abbrev pub LoadedPlaces : List Rule → Option (Bor (List ℕ)) → Result Bool Failure → FromRead R Reads → (outputs outputs' : O) → (errors errors' : Errors E) → Type 0
-  LoadedPlaces rules key result input outputs outputs' errors errors' = (left : Option (List ℕ))
-      → AreLoaded (reading_by (call_of D folder given)) given (loaded_as rules (key_lent key)) left (bytes_left input)
-      → CalledPlaces Writes K U (call_of D folder given) left result outputs outputs' errors errors'
+  abbrev pub LoadedPlaces : List Item → List Rule → Option (Bor (List ℕ)) → Result Bool Failure → (outputs outputs' : O) → (streams streams' : Streams R Z E Reads) → Type 0
+  LoadedPlaces items rules key result outputs outputs' streams streams' = (left : Option (List ℕ))
+      → AreLoaded (reading_by (call_of D folder (all_given items))) (all_given items) (loaded_as rules (key_lent key)) left (bytes_left streams.input)
+      → CalledPlaces Writes K U (call_of D folder (all_given items)) left result outputs outputs' streams.errors streams'.errors

@@ -1,6 +1,6 @@
 //! New files of the process, each in the folder of the one whose place it is to take.
 
-ghost use Rattle.std.specs.Prelude.{None, ⊤};
+ghost use Rattle.std.specs.Prelude.{◌≡◌, None, OnOk, is_some, true, ⊤};
 
 use crate::folder::Place;
 use crate::held::{Held, lock};
@@ -94,7 +94,12 @@ impl<'c, 'l, 'r, R: Files<File = File>> Beside<'c, 'l, 'r, R> {
         process: u32,
         reason: &'c Cell<Option<Reason>>,
         looked: &'l Cell<Option<Place>>,
-    ) -> Beside<'c, 'l, 'r, R> {
+    ) -> Beside<'c, 'l, 'r, R>
+        ensures process { result.process ≡ process }
+        ensures uncleared { result.cleared ≡ None }
+        ensures unheld { result.held ≡ None }
+        ensures unmade { result.made ≡ None }
+    {
         Beside {
             alloc,
             rt,
@@ -108,7 +113,9 @@ impl<'c, 'l, 'r, R: Files<File = File>> Beside<'c, 'l, 'r, R> {
     }
 
     /// Takes the file of this name, if there is one, and makes a new one beside it.
-    fn begin(&mut self, name: &str) -> Result<BufWriter<Noted<'c, File>>, Reason> {
+    fn begin(&mut self, name: &str) -> Result<BufWriter<Noted<'c, File>>, Reason>
+        ensures made { OnOk result (is_some self.new.made ≡ true) }
+    {
         self.held = Held::new(self.rt, name)?;
         self.looked
             .set(self.held.as_ref().map(|held| held.seen.place));
@@ -123,7 +130,10 @@ impl<'c, 'l, 'r, R: Files<File = File>> Beside<'c, 'l, 'r, R> {
     }
 
     /// Removes what others left in the folder of this file, unless that was done for the file before.
-    fn clear(&mut self, name: &str) -> Result<(), AllocError> {
+    fn clear(&mut self, name: &str) -> Result<(), AllocError>
+        ensures held { self.new.held ≡ self.old.held }
+        ensures made { self.new.made ≡ self.old.made }
+    {
         let folder = folder_of(name);
         if let Some(cleared) = &self.cleared {
             if cleared.as_str() == folder {
@@ -136,7 +146,10 @@ impl<'c, 'l, 'r, R: Files<File = File>> Beside<'c, 'l, 'r, R> {
     }
 
     /// Makes a file of the first name that no file has.
-    fn create(&mut self, name: &str) -> Result<File, Reason> {
+    fn create(&mut self, name: &str) -> Result<File, Reason>
+        ensures made { OnOk result (is_some self.new.made ≡ true) }
+        ensures held { self.new.held ≡ self.old.held }
+    {
         let mode = if self.held.is_some() { PRIVATE } else { USUAL };
         for number in 0..MOST_NAMES {
             let Ok(beside) = name_beside(self.alloc, name, self.process, number) else {
@@ -157,7 +170,10 @@ impl<'c, 'l, 'r, R: Files<File = File>> Beside<'c, 'l, 'r, R> {
     }
 
     /// Keeps a handle of the new file, which is locked where the system gives locks.
-    fn keep(&mut self, file: File, name: String) -> Result<File, Reason> {
+    fn keep(&mut self, file: File, name: String) -> Result<File, Reason>
+        ensures made { OnOk result (is_some self.new.made ≡ true) }
+        ensures held { self.new.held ≡ self.old.held }
+    {
         let _locked = lock(&file);
         let other = known(file.try_clone())?;
         let seen = Seen::of(&known(file.metadata())?);
@@ -194,7 +210,10 @@ impl<'c, 'l, 'r, R: Files<File = File>> Beside<'c, 'l, 'r, R> {
     }
 
     /// Removes the new file, if there is one, and lets go of the other. Where the system does not remove it, it stays.
-    fn end(&mut self) {
+    fn end(&mut self)
+        ensures unmade { self.new.made ≡ None }
+        ensures unheld { self.new.held ≡ None }
+    {
         if let Some(made) = self.made.take() {
             let _removed = fs::remove_file(self.rt, made.name.as_str());
         }

@@ -5,20 +5,18 @@ ghost use Rattle.aho_core.specs.Replacement.{pieces_of};
 ghost use Rattle.aho_core.specs.declared.error.stream.StreamError.TheVariants.{Memory};
 ghost use Rattle.programs.specs.Arguments.{texts};
 ghost use Rattle.programs.specs.Streams.{output_bytes};
-ghost use Rattle.programs.specs.Telling.{TellsBytes, TellsSome};
-ghost use Rattle.programs.specs.declared.reason.Reason.{Reason};
-ghost use Rattle.acredact.specs.Arguments.{AreMistaken, AsksInPlace, IfAsked, RefusesUnclean, all_given, counts_asked, counts_given};
+ghost use Rattle.programs.specs.Telling.{TellsSome};
+ghost use Rattle.acredact.specs.Arguments.{AreMistaken, AsksInPlace, IfAsked, all_given, counts_given};
 ghost use Rattle.acredact.specs.Back.{AreBoth, IfBackIs};
-ghost use Rattle.acredact.specs.Calls.{IsWrongFailure, IsWrongLine, ReadsAsked, WarnsAsked, call_of, work_by};
+ghost use Rattle.acredact.specs.Calls.{IsWrongFailure, IsWrongLine, ReadsAsked};
 ghost use Rattle.acredact.specs.Counts.{zeros};
-ghost use Rattle.acredact.specs.Files.{CanDo, unread_line};
-ghost use Rattle.acredact.specs.InPlace.{AskedPlaces, CallPlaces, FreesAsked, KeepsEach, KeylessPlaces, LoadedPlaces, NameCounts, NameVolume, PlaceJob, PlacesCounted, PlacesJob, ReachesEach, ReplacesAsked, SaysOfPlaces, TellsPlaces, WarnedPlacesJob};
-ghost use Rattle.acredact.specs.Into.{IsKept};
-ghost use Rattle.acredact.specs.Loading.{key_lent, loaded_as};
+ghost use Rattle.acredact.specs.Files.{CanDo};
+ghost use Rattle.acredact.specs.InPlace.{AskedPlaces, CallCounts, CallPlaces, FreesAll, KeepsEach, KeylessPlaces, LoadedPlaces, NameCounts, NameVolume, PlaceJob, PlacesAll, PlacesCount, PlacesJob, PlacesReach, PlacesTell, SaysOfPlaces, WarnedPlacesJob};
+ghost use Rattle.acredact.specs.Into.{IsKept, TellsUnread, WarnsAll};
 ghost use Rattle.acredact.specs.Pieces.{IfOfAll, pieces_by};
 ghost use Rattle.acredact.specs.Secrets.{IfOf};
 ghost use Rattle.acredact.specs.Tables.{HaveNoEmpty, secrets_of};
-ghost use Rattle.acredact.specs.Totals.{CountsWork, JobCounts};
+ghost use Rattle.acredact.specs.Totals.{JobCounts};
 ghost use Rattle.acredact.specs.Volumes.{JobVolume};
 
 use crate::arguments::{Item, Mistake, Word, counts, covers, has, items, replaces_in_place};
@@ -78,30 +76,27 @@ pub fn replace_in_place<F: Folder, O: Outputs, I: Read, E: Sink>(
         (IsWrongLine (texts arguments.now)) streams.old.errors streams.new.errors }
 
     // Where the status is 0, each file was redacted into a new one, which was flushed and took its place.
-    ensures replaces { IfAsked arguments.now (λ given. result ≡ 0 → ReplacesAsked O.File.Write E.Sink
-        F.Folder O.Outputs folder.now given streams.old.input outputs.old outputs.new) }
+    ensures replaces { IfAsked arguments.now (PlacesAll O.File.Write F.Folder O.Outputs
+        folder.now result streams.old outputs.old outputs.new) }
 
     // Whatever it is, each file was replaced by its whole redaction, or is as it was.
-    ensures keeps { IfAsked arguments.now (λ given. KeepsEach O.File.Write E.Sink
-        F.Folder O.Outputs folder.now given streams.old.input outputs.old outputs.new) }
+    ensures keeps { IfAsked arguments.now (KeepsEach O.File.Write F.Folder O.Outputs
+        folder.now streams.old outputs.old outputs.new) }
 
     // Where pieces that are not clean are refused, no pattern occurs in a file.
-    ensures strict { IfAsked arguments.now (λ given. RefusesUnclean given → result ≡ 0 → FreesAsked O.File.Write E.Sink
-        F.Folder O.Outputs folder.now given streams.old.input outputs.old outputs.new) }
+    ensures strict { IfAsked arguments.now (FreesAll O.File.Write F.Folder O.Outputs
+        folder.now result streams.old outputs.old outputs.new) }
 
     // Where all were replaced nothing is told but a piece of a cover that is not clean, and the counts that are asked for.
-    ensures quiet { IfAsked arguments.now (λ given. counts_asked given ≡ false → result ≡ 0 → WarnsAsked E.Sink
-        F.Folder folder.now given streams.old streams.new) }
-    ensures counts { IfAsked arguments.now (λ given. counts_asked given ≡ true → result ≡ 0 → PlacesCounted O.File.Write
-        E.Sink F.Folder O.Outputs folder.now given streams.old.input streams.old.errors streams.new.errors) }
+    ensures quiet { IfAsked arguments.now (WarnsAll E.Sink F.Folder folder.now result streams.old streams.new) }
+    ensures counts { IfAsked arguments.now (PlacesCount E.Sink F.Folder folder.now result streams.old streams.new) }
 
     // Else lines say why, and hold nothing of a file's content or of a pattern.
-    ensures tells { IfAsked arguments.now (λ given. (result ≡ 0 → ⊥) → TellsPlaces O.File.Write
-        E.Sink F.Folder O.Outputs folder.now given streams.old.errors streams.new.errors) }
+    ensures tells { IfAsked arguments.now (PlacesTell E.Sink F.Folder folder.now result streams.old streams.new) }
 
     // Each file was come to then, but where a failure ended the call before the first, or memory ran out.
-    ensures reaches { IfAsked arguments.now (λ given. (result ≡ 0 → ⊥) → ReachesEach O.File.Write E.Sink F.Folder O.Outputs
-        folder.now given streams.old.input outputs.old outputs.new streams.old.errors streams.new.errors) }
+    ensures reaches { IfAsked arguments.now (PlacesReach O.File.Write E.Sink F.Folder O.Outputs
+        folder.now result outputs.old outputs.new streams.old streams.new) }
     ensures bound { result ≤ 2 }
 {
     match items(alloc, arguments) {
@@ -118,8 +113,8 @@ fn answer_places<F: Folder, O: Outputs, I: Read, E: Sink>(
     outputs: &mut O,
     streams: &mut Streams<'_, I, O::File, E>,
 ) -> u8
-    ensures says { SaysOfPlaces O.File.Write E.Sink F.Folder O.Outputs folder.now (all_given given.now)
-        streams.old.input outputs.old outputs.new result streams.old.errors streams.new.errors }
+    ensures says { SaysOfPlaces O.File.Write E.Sink F.Folder O.Outputs
+        folder.now given.now result outputs.old outputs.new streams.old streams.new }
     ensures bound { result ≤ 2 }
 {
     match load_places(alloc, given, folder, outputs, streams) {
@@ -137,8 +132,8 @@ fn load_places<'a, F: Folder, O: Outputs, I: Read, E: Sink>(
     outputs: &mut O,
     streams: &mut Streams<'_, I, O::File, E>,
 ) -> Result<bool, Failure<'a>>
-    ensures outcome { AskedPlaces O.File.Write E.Sink F.Folder O.Outputs folder.now (all_given given.now)
-        streams.old.input outputs.old outputs.new result streams.old.errors streams.new.errors }
+    ensures outcome { AskedPlaces O.File.Write E.Sink F.Folder O.Outputs
+        folder.now given.now result outputs.old outputs.new streams.old streams.new }
 {
     if !gives_pattern(given) {
         return Err(Failure::Arguments(Mistake::NoPattern));
@@ -161,8 +156,8 @@ fn load_key<'a, F: Folder, O: Outputs, I: Read, E: Sink>(
     streams: &mut Streams<'_, I, O::File, E>,
 ) -> Result<bool, Failure<'a>>
     requires some { HaveNoEmpty (secrets_of rules.now) }
-    ensures outcome { KeylessPlaces O.File.Write E.Sink F.Folder O.Outputs folder.now (all_given given.now) rules.now
-        result streams.old.input outputs.old outputs.new streams.old.errors streams.new.errors }
+    ensures outcome { KeylessPlaces O.File.Write E.Sink F.Folder O.Outputs
+        folder.now given.now rules.now result outputs.old outputs.new streams.old streams.new }
 {
     let lists = lists_of(alloc, given, folder);
     match key_of(&lists, given, &mut streams.input) {
@@ -186,8 +181,8 @@ fn place_counted<'a, F: Folder, O: Outputs, I: Read, E: Sink>(
     streams: &mut Streams<'_, I, O::File, E>,
 ) -> Result<bool, Failure<'a>>
     requires some { HaveNoEmpty (secrets_of rules.now) }
-    ensures outcome { LoadedPlaces O.File.Write E.Sink F.Folder O.Outputs folder.now (all_given given.now) rules.now key.entry
-        result streams.old.input outputs.old outputs.new streams.old.errors streams.new.errors }
+    ensures outcome { LoadedPlaces O.File.Write E.Sink F.Folder O.Outputs
+        folder.now given.now rules.now key.entry result outputs.old outputs.new streams.old streams.new }
 {
     let counted = counts(given);
     let mut tally = counts_of(alloc, rules, counted)?;
@@ -217,8 +212,8 @@ fn place_telling<'a, F: Folder, O: Outputs, I: Read, E: Sink>(
 ) -> Result<bool, Failure<'a>>
     requires some { HaveNoEmpty (secrets_of rules.now) }
     requires none { tally.old ≡ zeros (counts_given given.now) rules.now }
-    ensures outcome { LoadedPlaces O.File.Write E.Sink F.Folder O.Outputs folder.now (all_given given.now) rules.now key.entry
-        result streams.old.input outputs.old outputs.new streams.old.errors streams.new.errors }
+    ensures outcome { LoadedPlaces O.File.Write E.Sink F.Folder O.Outputs
+        folder.now given.now rules.now key.entry result outputs.old outputs.new streams.old streams.new }
 {
     let mut volume = Volume { files: 0, bytes: 0 };
     // Not by `?`: this error may hold names.
@@ -252,11 +247,9 @@ fn place_all<'a, F: Folder, O: Outputs, I: Read, E: Sink>(
 ) -> Result<bool, Failure<'a>>
     requires some { HaveNoEmpty (secrets_of rules.now) }
     ensures outcome { CallPlaces O.File.Write E.Sink F.Folder O.Outputs
-        (call_of F.Folder folder.now (all_given given.now)) (loaded_as rules.now (key_lent key.entry))
-        result outputs.old outputs.new streams.old.errors streams.new.errors }
-    ensures counted { CountsWork
-        (work_by (call_of F.Folder folder.now (all_given given.now)) (loaded_as rules.now (key_lent key.entry)))
-        result streams.old streams.new counts.old counts.new }
+        folder.now given.now rules.now key.entry result outputs.old outputs.new streams.old streams.new }
+    ensures counted { CallCounts F.Folder
+        folder.now given.now rules.now key.entry result streams.old streams.new counts.old counts.new }
     ensures read { result ≡ Ok true → ReadsAsked (F.holds folder.now) (all_given given.now)
         volume.old volume.new streams.old streams.new }
 {
@@ -327,8 +320,8 @@ fn place_warned<
     requires pieces { pieces_of job.now.replacements.now ≡ pieces_by judge.now }
     ensures outcome { IfOfAll A.Automaton B.Automaton automaton.now rows.entry judge.now
         (λ p. IfBackIs C.Automaton back.entry p
-        (WarnedPlacesJob O.File.Write E.Sink F.Folder O.Outputs strict job.now result outputs.old outputs.new
-        streams.old.errors streams.new.errors p)) }
+        (WarnedPlacesJob O.File.Write E.Sink F.Folder O.Outputs
+        strict job.now result outputs.old outputs.new streams.old streams.new p)) }
     ensures counted { IfOfAll A.Automaton B.Automaton automaton.now rows.entry judge.now
         (λ p. IfBackIs C.Automaton back.entry p
         (JobCounts F.Folder job.now result streams.old streams.new counts.old counts.new p)) }
@@ -358,7 +351,7 @@ fn place_each<A: Automaton, B: Automaton, C: Automaton, F: Folder, O: Outputs, I
     requires back { AreBoth A.Automaton C.Automaton automaton.now back }
     ensures outcome { IfOf A.Automaton automaton.now (λ p. IfSome rows.entry (λ rows. B.is_of rows.now p)
         → IfBackIs C.Automaton back.entry p (PlacesJob O.File.Write E.Sink F.Folder O.Outputs
-        job.now result outputs.old outputs.new streams.old.errors streams.new.errors p)) }
+        job.now result outputs.old outputs.new streams.old streams.new p)) }
     ensures counted { IfOf A.Automaton automaton.now (λ p. IfSome rows.entry (λ rows. B.is_of rows.now p)
         → IfBackIs C.Automaton back.entry p
         (JobCounts F.Folder job.now result streams.old streams.new counts.old counts.new p)) }
@@ -393,7 +386,7 @@ fn place_one<A: Automaton, B: Automaton, C: Automaton, F: Folder, O: Outputs, I:
     requires back { AreBoth A.Automaton C.Automaton automaton.now back }
     ensures outcome { IfOf A.Automaton automaton.now (λ p. IfSome rows.entry (λ rows. B.is_of rows.now p)
         → IfBackIs C.Automaton back.entry p (PlaceJob O.File.Write E.Sink F.Folder O.Outputs
-        job.now name.now result outputs.old outputs.new streams.old.errors streams.new.errors p)) }
+        job.now name.now result outputs.old outputs.new streams.old streams.new p)) }
     ensures counted { IfOf A.Automaton automaton.now (λ p. IfSome rows.entry (λ rows. B.is_of rows.now p)
         → IfBackIs C.Automaton back.entry p (NameCounts F.Folder
         job.now name.now result streams.old streams.new counts.old counts.new p)) }
@@ -434,8 +427,8 @@ fn settle<O: Outputs, I: Read, E: Sink>(
     // What was not replaced is told, once more where a line was told of it before.
     ensures quiet { result ≡ Ok true → streams.new.errors ≡ streams.old.errors }
     ensures untold { done ≡ Ok false → (result ≡ Ok false) × (streams.new.errors ≡ streams.old.errors) }
-    ensures told { result ≡ Ok false → (done ≡ Ok false → ⊥) → (reason : Reason) × TellsBytes E.Sink
-        streams.old.errors streams.new.errors (unread_line name.now reason) }
+    ensures told { result ≡ Ok false → (done ≡ Ok false → ⊥)
+        → TellsUnread E.Sink name.now streams.old.errors streams.new.errors }
     ensures memory { OnErr result ((result ≡ Err Memory) × (done ≡ Err Memory)
         × (streams.new.errors ≡ streams.old.errors)) }
     ensures puts { result ≡ Ok true → O.puts outputs.old outputs.new name.now
@@ -475,8 +468,7 @@ fn put_new<O: Outputs, I: Read, E: Sink>(
 ) -> bool
     ensures input { streams.new.input ≡ streams.old.input }
     ensures quiet { result ≡ true → streams.new.errors ≡ streams.old.errors }
-    ensures told { result ≡ false → (reason : Reason) × TellsBytes E.Sink
-        streams.old.errors streams.new.errors (unread_line name.now reason) }
+    ensures told { result ≡ false → TellsUnread E.Sink name.now streams.old.errors streams.new.errors }
     ensures puts { result ≡ true → O.puts outputs.old outputs.new name.now
         (output_bytes O.File.Write streams.old.output) }
     ensures kept { result ≡ false → IsKept O.Outputs name.now outputs.old outputs.new }

@@ -1,5 +1,10 @@
 //! What is looked at of a file before it is replaced, and once more at the end.
 
+ghost use Rattle.std.specs.Prelude.{◌≡◌, Err, IfErr, IfOk, Ok, bit_and};
+ghost use Rattle.std.specs.Fs.{metadata_len, metadata_mode};
+ghost use Rattle.std.specs.IoError.{error_kind};
+ghost use Rattle.programs.specs.Reasons.{reason_of};
+
 use crate::folder::Place;
 use programs::reason::Reason;
 use std::fs::{Files, Metadata};
@@ -35,7 +40,10 @@ pub struct Seen {
 
 impl Seen {
     /// What this says of a file.
-    pub fn of(metadata: &Metadata) -> Seen {
+    pub fn of(metadata: &Metadata) -> Seen
+        ensures size { result.size ≡ metadata_len metadata.now }
+        ensures mode { result.mode ≡ metadata_mode metadata.now }
+    {
         Seen {
             place: Place::of(metadata),
             owner: metadata.uid(),
@@ -50,13 +58,18 @@ impl Seen {
     }
 
     /// Who may read, write and run it. By no bit of this a program runs as another user.
-    pub fn permissions(&self) -> u32 {
+    pub fn permissions(&self) -> u32
+        ensures permissions { result ≡ bit_and self.now.mode 0o777 }
+    {
         self.mode & PERMISSIONS
     }
 }
 
 /// What the system answers, or the reason why it does not.
-pub fn known<T>(answer: io::Result<T>) -> Result<T, Reason> {
+pub fn known<T>(answer: io::Result<T>) -> Result<T, Reason>
+    ensures known { IfOk answer (λ value. result ≡ Ok value) }
+    ensures why { IfErr answer (λ error. result ≡ Err (reason_of (error_kind error))) }
+{
     match answer {
         Ok(known) => Ok(known),
         Err(error) => Err(Reason::of(&error)),

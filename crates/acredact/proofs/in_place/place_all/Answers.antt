@@ -141,8 +141,14 @@ returns-in_err-nfa-clause-outcome g c =
     let is : c.from_residual-in_err-nfa.result ≡ Err (Other (Build c.in_err-nfa.field-0.0)) = search rules in
     let words = ap pieces_of c.as_slice-words.ensures.value ∙ c.in_ok-patterns.ensures.patterns in
     subst (λ (r : Result Bool Failure). WarnedPlaces g.O.File.Write g.O.Outputs work g.E.Sink (has Strict (all_given c.args.given.now)) r c.args.outputs.now c.args.outputs.now c.args.streams.now.errors c.args.streams.now.errors) (sym is)
-    (inl (Other (Build c.in_err-nfa.field-0.0), refl, refl, refl, inr (inl
-    (c.in_err-nfa.field-0.0, refl, subst (λ (l : List (List ℕ)). RefusesPatterns (patterns_by_given (all_given c.args.given.now) l) c.in_err-nfa.field-0.0) words c.in_err-nfa.ensures.refused))))
+    (inl (
+      Other (Build c.in_err-nfa.field-0.0),
+      refl,
+      refl,
+      refl,
+      inr (inl
+          (c.in_err-nfa.field-0.0, refl, subst (λ (l : List (List ℕ)). RefusesPatterns (patterns_by_given (all_given c.args.given.now) l) c.in_err-nfa.field-0.0) words c.in_err-nfa.ensures.refused)),
+    ))
 
 pub returns-in_err-rows-clause-outcome : goal.returns-in_err-rows-clause-outcome
 returns-in_err-rows-clause-outcome g c =

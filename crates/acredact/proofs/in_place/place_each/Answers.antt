@@ -29,8 +29,7 @@ loop-rest-preserved g c =
           (names_cut c.loop-rest.rest.now _ some) (c.loop-rest.invariant.0 before)) (c.in_ok-whole.ensures.read (ap Ok whole)),
       λ p of rows back.
           let work = work_of g.F.Folder c.args.job.now (redactor_of c.args.job.now p) in
-          let (far, counted) = c.loop-rest.invariant.1 p of rows back in
-          (
+          let (far, counted) = c.loop-rest.invariant.1 p of rows back in (
             placed_next g.O.File.Write g.E.Sink g.O.Outputs work _ _ _ c.loop-rest.all _ _ _ _ _ _
                 (subst (λ (l : List (List ℕ)). PlacedSoFar g.O.File.Write g.E.Sink g.O.Outputs work (name_bytes c.args.job.now.names.now) l c.loop-rest.all c.args.outputs.now c.loop-rest.outputs c.args.streams.now.errors c.loop-rest.streams.errors)
                 (names_cut c.loop-rest.rest.now _ some) far) c.in_ok-whole.whole _ (c.in_ok-whole.ensures.outcome p of rows back) c.both-all.ensures.both,

@@ -1,6 +1,6 @@
 -- A new file is made, filled, and takes the place; or the file stays as it was.
 use Rattle.std.proofs.Common.{rules, ◌≡◌, [], ◌∷◌, inl, inr, refl, sym, subst, true, false}
-use Rattle.std.specs.Prelude.{Ok}
+use Rattle.std.specs.Prelude.{IfSome, Ok}
 use Rattle.programs.specs.Names.{is_input}
 use Rattle.programs.specs.Streams.{bytes_left}
 use Rattle.acredact.specs.Files.{redactor_of, work_of}
@@ -48,6 +48,7 @@ returns-in-Ok g c =
             left' = _;
             meanwhile = c.make.new.self;
             made = subst (λ file. g.O.Outputs.makes c.args.outputs.now c.make.new.self c.args.name.now (g.O.File.Write.contents file)) (sym c.new.ensures.writer) c.in-Ok.ensures.made;
+            empty = subst (λ file. IfSome (g.O.File.Write.contents file) (λ held. held ≡ [])) (sym c.new.ensures.writer) c.in-Ok.ensures.empty;
             redacted = all_redacted g.O.File.Write g.E.Sink _ c.redact_by-done.result _ _ files (settled.done is);
             flushed = flushed_so c.redact_by-done.result c.redact_by-done.ensures.flushed (settled.done is);
             puts = settled.puts is;

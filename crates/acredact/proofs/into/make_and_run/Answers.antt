@@ -1,5 +1,6 @@
 -- The new file is made and filled, or it is told why not.
-use Rattle.std.proofs.Common.{rules, ◌≡◌, inl, inr, sym, subst, refl, true, false, arith}
+use Rattle.std.proofs.Common.{rules, ◌≡◌, [], inl, inr, sym, subst, refl, true, false, arith}
+use Rattle.std.specs.Prelude.{IfSome}
 use Rattle.programs.specs.Names.{is_input}
 use Rattle.acredact.specs.Calls.{call_of}
 use Rattle.acredact.specs.Into.{IsOutputLine}
@@ -28,6 +29,7 @@ returns-in-Ok g c =
         file = c.new.result;
         meanwhile = c.make.new.self;
         made = made;
+        empty = subst (λ file. IfSome (g.O.File.Write.contents file) (λ held. held ≡ [])) (sym c.new.ensures.writer) c.in-Ok.ensures.empty;
         redacts = c.run_into.ensures.redacts given right asks zero;
         strict = λ refuses. c.run_into.ensures.strict given right asks refuses zero;
         quiet = λ none. c.run_into.ensures.quiet given right asks none zero;

@@ -29,12 +29,12 @@ returns g c =
           let call = call_of g.F.Folder c.args.folder.now given in
           let fails = OutputFails c.args.streams.now.output c.finish.new.streams.output in
           by_status (c.run-done.result) (λ zero.
-              let told = end.told zero failed in
-              put_told g.E.Sink call fails c.args.name.now _ _ _ told.0 (done_told g.O.File.Write g.E.Sink call fails c.args.streams.now c.run-done.new.streams
-              (λ none. ran.quiet given right asks none zero) (λ some. ran.counts given right asks some zero)) told.1)
+          let told = end.told zero failed in
+          put_told g.E.Sink call fails c.args.name.now _ _ _ told.0 (done_told g.O.File.Write g.E.Sink call fails c.args.streams.now c.run-done.new.streams
+          (λ none. ran.quiet given right asks none zero) (λ some. ran.counts given right asks some zero)) told.1)
           (λ other.
-              let same = (end.failed other).0 in
-              let two = two_of c.run-done.result ran.bound (not_one (texts c.args.arguments.now) given right asks ran.one) other in
-              subst (λ streams. TellsSome g.E.Sink (IsOutputLine call (OutputFails c.args.streams.now.output streams.output) c.args.name.now) c.args.streams.now.errors streams.errors) (sym same)
-              (some_told g.E.Sink call _ c.args.name.now _ _ (ran.tells given right asks two)));
+          let same = (end.failed other).0 in
+          let two = two_of c.run-done.result ran.bound (not_one (texts c.args.arguments.now) given right asks ran.one) other in
+          subst (λ streams. TellsSome g.E.Sink (IsOutputLine call (OutputFails c.args.streams.now.output streams.output) c.args.name.now) c.args.streams.now.errors streams.errors) (sym same)
+          (some_told g.E.Sink call _ c.args.name.now _ _ (ran.tells given right asks two)));
     }
