@@ -1,5 +1,5 @@
 -- What is told where a new file does not take a place.
-use Rattle.std.proofs.Common.{◌≡◌, inl, inr, ℕ, suc, List, refl, sym, subst, true, false, ◌∙◌, arith, ◌≤◌}
+use Rattle.std.proofs.Common.{◌≡◌, inl, inr, ℕ, zero, suc, List, refl, sym, subst, true, false, arith, ◌≤◌}
 use Rattle.std.specs.Prelude.{Bool, Some}
 use Rattle.std.specs.List.{All}
 use Rattle.std.specs.declared.io.traits.Read.{Ghosts as Readers}
@@ -11,7 +11,7 @@ use Rattle.programs.specs.Telling.{Tells, TellsBytes, TellsSome}
 use Rattle.programs.specs.declared.errors.Errors.{Errors}
 use Rattle.programs.specs.declared.reason.Reason.{Reason}
 use Rattle.acredact.specs.Arguments.{AsksToCheck, AsksToRedact, Given, all_asked, checks_asked, counts_asked, has}
-use Rattle.acredact.specs.Calls.{Call, CountsCall, IsLineOf, OutputFails, WarnsCall}
+use Rattle.acredact.specs.Calls.{Call, CountsCall, IsCountsLine, IsLineOf, OutputFails, WarnsCall}
 use Rattle.acredact.specs.Files.{unread_line}
 use Rattle.acredact.specs.Into.{IsOutputLine}
 use Rattle.acredact.specs.declared.arguments.Word.TheVariants.{Strict}
@@ -24,35 +24,26 @@ use Rattle.acredact.proofs.Warned.{piece_tells, tells_both}
 
 -- a status is 0, 1 or 2
 pub two_of : (status : ℕ) → status ≤ 2 → (status ≡ 1 → ⊥) → (status ≡ 0 → ⊥) → status ≡ 2
-two_of status bound one zero = by status bound one zero
-  where
-    by : (n : ℕ) → n ≤ 2 → (n ≡ 1 → ⊥) → (n ≡ 0 → ⊥) → n ≡ 2
-    by 0 bound one zero = absurd (zero refl)
-    by 1 bound one zero = absurd (one refl)
-    by (suc (suc n)) bound one zero = omega (arith, bound)
+two_of zero bound one none = absurd (none refl)
+two_of (suc zero) bound one none = absurd (one refl)
+two_of (suc (suc status)) bound one none = omega (arith, bound)
 
 -- it is 0 or not
 pub by_status : {P : Type 0} (status : ℕ) → (status ≡ 0 → P) → ((status ≡ 0 → ⊥) → P) → P
-by_status {P} status zero other = by status zero other
-  where
-    by : (n : ℕ) → (n ≡ 0 → P) → ((n ≡ 0 → ⊥) → P) → P
-    by 0 zero other = zero refl
-    by (suc n) zero other = other (λ (is : suc n ≡ 0). omega (arith, is))
+by_status zero none some = none refl
+by_status (suc status) none some = some (λ (is : suc status ≡ 0). omega (arith, is))
 
--- a redaction's is not 1
-pub not_one : (arguments : List (List ℕ)) (given : List Given) → all_asked arguments ≡ Some given → AsksToRedact given → {status : ℕ}
-    → (status ≡ 1 → (items : List Given) × (all_asked arguments ≡ Some items) × AsksToCheck items) → status ≡ 1 → ⊥
-not_one arguments given right asks check one =
-    let (items, mine, checks) = check one in
-    let same : items ≡ given = same_given (all_asked arguments) given items right mine in
-    no_redaction given (subst (λ (l : List Given). checks_asked l ≡ true) same (asks_check items checks)) asks
-
--- and no check
+-- a redaction is no check
 pub no_check_of : (arguments : List (List ℕ)) (given : List Given) → all_asked arguments ≡ Some given → AsksToRedact given
     → ((items : List Given) × (all_asked arguments ≡ Some items) × AsksToCheck items) → ⊥
 no_check_of arguments given right asks (items, mine, checks) =
     let same : items ≡ given = same_given (all_asked arguments) given items right mine in
     no_redaction given (subst (λ (l : List Given). checks_asked l ≡ true) same (asks_check items checks)) asks
+
+-- and its status is not 1
+pub not_one : (arguments : List (List ℕ)) (given : List Given) → all_asked arguments ≡ Some given → AsksToRedact given → {status : ℕ}
+    → (status ≡ 1 → (items : List Given) × (all_asked arguments ≡ Some items) × AsksToCheck items) → status ≡ 1 → ⊥
+not_one arguments given right asks check one = no_check_of arguments given right asks (check one)
 
 module _ {E : Type 0} (K : SinkGhosts E) (call : Call) (fails : Type 0) (name : List ℕ) where
   -- what `run` tells of a failure
@@ -81,5 +72,5 @@ module _ {R W E : Type 0} {Reads : Readers R} (Writes : Writers W) (K : SinkGhos
       by true some =
           let counted = counts some in
           tells_both K (IsLineOf call fails) old.errors counted.meanwhile new.errors (piece_tells K call fails counted.load old.errors counted.meanwhile counted.warned)
-          (tells_weaker K _ (IsLineOf call fails) counted.meanwhile new.errors (λ line is. inr (inr (inl is)))
+          (tells_weaker K (IsCountsLine call.given) (IsLineOf call fails) counted.meanwhile new.errors (λ line is. inr (inr (inl is)))
           (tells_counts K call.given counted.meanwhile new.errors counted.counted.lines counted.counted.counts counted.volume some counted.counted.told))

@@ -1,7 +1,6 @@
 -- What was all redacted is put, and else removed.
-use Rattle.std.proofs.Common.{rules, ◌≡◌, inl, refl, ap, true, false}
-use Rattle.std.specs.Prelude.{Err, Ok}
-use Rattle.aho_core.specs.declared.error.stream.StreamError.TheVariants.{Memory}
+use Rattle.std.proofs.Common.{rules, ◌≡◌, ◌∙◌, inl, refl, sym, true, false}
+use Rattle.std.specs.Prelude.{Ok}
 use Rattle.acredact.proofs.Placed.{not_true}
 use Rattle.acredact.proofs.in_place.settle.Goals as goal
 
@@ -12,7 +11,7 @@ returns-in-Ok-true g c =
       done = λ _. whole;
       input = c.put_new.ensures.input;
       quiet = λ is. c.put_new.ensures.quiet (let so = is in cc);
-      untold = λ is. let clash : Ok true ≡ Ok false = cc in absurd (cc);
+      untold = λ is. let clash = sym whole ∙ is in absurd (cc);
       told = λ is partly. c.put_new.ensures.told (let so = is in cc);
       memory = tt;
       puts = λ is. c.put_new.ensures.puts (let so = is in cc);
