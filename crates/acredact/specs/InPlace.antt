@@ -6,6 +6,7 @@ use Rattle.std.specs.declared.io.traits.Read.{Ghosts as Readers}
 use Rattle.std.specs.declared.io.traits.Write.{Ghosts as Writers}
 use Rattle.aho_core.specs.Occurrence.{Occurrence}
 use Rattle.aho_core.specs.Patterns.{Patterns}
+use Rattle.aho_core.specs.Replacement.{pieces_of}
 use Rattle.aho_core.specs.declared.error.stream.StreamError.{StreamError}
 use Rattle.aho_core.specs.declared.error.stream.StreamError.TheVariants.{Memory}
 use Rattle.aho_devices.specs.declared.adapters.FromWrite.{FromWrite}
@@ -23,13 +24,14 @@ use Rattle.acredact.specs.Files.{AreFree, AreRedacted, Work, are_none, redactor_
 use Rattle.acredact.specs.Into.{IsSpared}
 use Rattle.acredact.specs.Loading.{AreGiven, AreLoaded, Loaded, key_lent, loaded_as}
 use Rattle.acredact.specs.Messages.{no_file_line, output_line}
-use Rattle.acredact.specs.Pieces.{TellsOfPieces}
+use Rattle.acredact.specs.Pieces.{TellsOfPieces, pieces_by}
 use Rattle.acredact.specs.Summaries.{no_volume}
 use Rattle.acredact.specs.Tables.{secrets_of}
 use Rattle.acredact.specs.Totals.{CountsOfName, CountsWork, NamesHaveRanges}
 use Rattle.acredact.specs.Volumes.{ReadsVolume}
 use Rattle.acredact.specs.declared.arguments.Item.{Item}
 use Rattle.acredact.specs.declared.arguments.Word.TheVariants.{Strict}
+use Rattle.acredact.specs.declared.clean.Judge.{Judge}
 use Rattle.acredact.specs.declared.failure.Failure.{Failure}
 use Rattle.acredact.specs.declared.failure.Failure.TheVariants.{Other}
 use Rattle.acredact.specs.declared.files.Job.{Job}
@@ -137,9 +139,10 @@ module _ {F X R O Z E : Type 0} {Reads : Readers R} (Writes : Writers Z) (K : Si
   PlacesJob job result outputs outputs' streams streams' p =
       PlacesOutcome Writes U (work_of D job (redactor_of job p)) K Memory result outputs outputs' streams.errors streams'.errors
 
-  abbrev pub WarnedPlacesJob : (strict : Bool) → Job F → Result Bool Failure → (outputs outputs' : O) → (streams streams' : Streams R Z E Reads) → Patterns → Type 0
-  WarnedPlacesJob strict job result outputs outputs' streams streams' p =
-      WarnedPlaces Writes U (work_of D job (redactor_of job p)) K strict result outputs outputs' streams.errors streams'.errors
+  -- and behind what is told of the pieces, where these are those that are judged
+  abbrev pub WarnsPlaces : (strict : Bool) → Job F → Judge → Result Bool Failure → (outputs outputs' : O) → (streams streams' : Streams R Z E Reads) → Patterns → Type 0
+  WarnsPlaces strict job judge result outputs outputs' streams streams' p = pieces_of job.replacements.now ≡ pieces_by judge
+      → WarnedPlaces Writes U (work_of D job (redactor_of job p)) K strict result outputs outputs' streams.errors streams'.errors
 
   -- that of a call whose patterns and key were loaded, where the failure that ends it says why
   abbrev pub CallPlaces : F → List Item → List Rule → Option (Bor (List ℕ)) → Result Bool Failure → (outputs outputs' : O) → (streams streams' : Streams R Z E Reads) → Type 0

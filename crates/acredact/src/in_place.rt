@@ -1,7 +1,6 @@
 //! A call that replaces each file: a new one is written beside it, and takes its place where all of it was redacted.
 
 ghost use Rattle.std.specs.Prelude.{◌≡◌, ◌≤◌, Err, IfErr, IfOk, IfSome, Ok, OnErr, false, length, true};
-ghost use Rattle.aho_core.specs.Replacement.{pieces_of};
 ghost use Rattle.aho_core.specs.declared.error.stream.StreamError.TheVariants.{Memory};
 ghost use Rattle.programs.specs.Arguments.{texts};
 ghost use Rattle.programs.specs.Streams.{output_bytes};
@@ -11,9 +10,9 @@ ghost use Rattle.acredact.specs.Back.{AreBoth, IfBackIs};
 ghost use Rattle.acredact.specs.Calls.{IsWrongFailure, IsWrongLine, ReadsAsked};
 ghost use Rattle.acredact.specs.Counts.{zeros};
 ghost use Rattle.acredact.specs.Files.{CanDo};
-ghost use Rattle.acredact.specs.InPlace.{AskedPlaces, CallCounts, CallPlaces, FreesAll, KeepsEach, KeylessPlaces, LoadedPlaces, NameCounts, NameVolume, PlaceJob, PlacesAll, PlacesCount, PlacesJob, PlacesReach, PlacesTell, SaysOfPlaces, WarnedPlacesJob};
+ghost use Rattle.acredact.specs.InPlace.{AskedPlaces, CallCounts, CallPlaces, FreesAll, KeepsEach, KeylessPlaces, LoadedPlaces, NameCounts, NameVolume, PlaceJob, PlacesAll, PlacesCount, PlacesJob, PlacesReach, PlacesTell, SaysOfPlaces, WarnsPlaces};
 ghost use Rattle.acredact.specs.Into.{IsKept, TellsUnread, WarnsAll};
-ghost use Rattle.acredact.specs.Pieces.{IfOfAll, pieces_by};
+ghost use Rattle.acredact.specs.Pieces.{IfOfAll};
 ghost use Rattle.acredact.specs.Secrets.{IfOf};
 ghost use Rattle.acredact.specs.Tables.{HaveNoEmpty, secrets_of};
 ghost use Rattle.acredact.specs.Totals.{JobCounts};
@@ -317,11 +316,10 @@ fn place_warned<
     requires rows { IfSome rows (λ rows. CanDo B.Automaton rows.now job.now) }
     requires back { AreBoth A.Automaton C.Automaton automaton.now back }
     requires words { length judge.now.rules.now ≡ length judge.now.words.now }
-    requires pieces { pieces_of job.now.replacements.now ≡ pieces_by judge.now }
     ensures outcome { IfOfAll A.Automaton B.Automaton automaton.now rows.entry judge.now
         (λ p. IfBackIs C.Automaton back.entry p
-        (WarnedPlacesJob O.File.Write E.Sink F.Folder O.Outputs
-        strict job.now result outputs.old outputs.new streams.old streams.new p)) }
+        (WarnsPlaces O.File.Write E.Sink F.Folder O.Outputs
+        strict job.now judge.now result outputs.old outputs.new streams.old streams.new p)) }
     ensures counted { IfOfAll A.Automaton B.Automaton automaton.now rows.entry judge.now
         (λ p. IfBackIs C.Automaton back.entry p
         (JobCounts F.Folder job.now result streams.old streams.new counts.old counts.new p)) }

@@ -111,7 +111,6 @@ place_warned-requires g c =
       back = both_are p c.in_ok-nfa.nfa c.as_ref-2.result (nfa_is g after) (back_is (all_given c.args.given.now) _ _ c.in_ok-back.back c.as_ref-2.result (words_are g after) c.as_ref-2.ensures.value c.in_ok-back.ensures.of);
       rows = rows_ready c.as_ref.result p _ (rows_are g after) starts c.covers.result standard some one;
       words = sym (sym (length-map c.as_slice-words.result.now (λ piece. piece.now)) ∙ ap length (words_are g after) ∙ length-map (secrets_of c.args.rules.now) _ ∙ length-map c.args.rules.now secret_of);
-      pieces = ap pieces_of c.as_slice-2.ensures.value ∙ c.in_ok-replacements.ensures.pieces;
     }
 
 pub returns-in_err-patterns-clause-outcome : goal.returns-in_err-patterns-clause-outcome
@@ -180,7 +179,7 @@ returns-clause-outcome g c =
     subst (λ (b : Bool). WarnedPlaces g.O.File.Write g.O.Outputs work g.E.Sink b c.place_warned.result c.args.outputs.now c.place_warned.new.outputs c.args.streams.now.errors c.place_warned.new.streams.errors) c.has-strict.ensures.has
     (work_as (g.F.Folder.holds c.args.folder.now) (g.F.Folder.refuses c.args.folder.now) (g.F.Folder.meets c.args.folder.now) p _ _ _ _ _ _ _ _ (names_are g after) (covers_are g after) (pieces_are g after) (key_is g after)
     (λ w. WarnedPlaces g.O.File.Write g.O.Outputs w g.E.Sink c.has-strict.result c.place_warned.result c.args.outputs.now c.place_warned.new.outputs c.args.streams.now.errors c.place_warned.new.streams.errors) (c.place_warned.ensures.outcome p (nfa_is g after) (patterns_are g after) (rows_are g after)
-    (back_is (all_given c.args.given.now) _ _ c.in_ok-back.back c.as_ref-2.result (words_are g after) c.as_ref-2.ensures.value c.in_ok-back.ensures.of)))
+    (back_is (all_given c.args.given.now) _ _ c.in_ok-back.back c.as_ref-2.result (words_are g after) c.as_ref-2.ensures.value c.in_ok-back.ensures.of) (ap pieces_of c.as_slice-2.ensures.value ∙ c.in_ok-replacements.ensures.pieces)))
 
 pub returns-clause-read : goal.returns-clause-read
 returns-clause-read g c = λ whole.

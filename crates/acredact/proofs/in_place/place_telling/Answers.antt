@@ -24,8 +24,8 @@ returns-in-Ok g c = record {
       c.tell_counted.ensures.all c.tell_counted.ensures.told c.tell_counted.ensures.fails c.tell_counted.ensures.lines;
 }
 
-pub returns : goal.returns
-returns g c = record {
+pub returns-in-Err : goal.returns-in-Err
+returns-in-Err g c = record {
   outcome = λ left loaded.
       places_cut g.O.File.Write g.E.Sink g.O.Outputs (call_of g.F.Folder c.args.folder.now (all_given c.args.given.now)) left (loaded_as c.args.rules.now (key_lent c.args.key)) (bytes_left c.args.streams.now.input) loaded
       c.args.outputs.now c.place_all.new.outputs c.args.streams.now.errors c.in-Err.failure c.place_all.new.streams.errors c.in-Err.ensures.outcome;
