@@ -148,7 +148,6 @@ impl<'c, 'l, 'r, R: Files<File = File>> Beside<'c, 'l, 'r, R> {
     /// Makes a file of the first name that no file has.
     fn create(&mut self, name: &str) -> Result<File, Reason>
         ensures made { OnOk result (is_some self.new.made ≡ true) }
-        ensures held { self.new.held ≡ self.old.held }
     {
         let mode = if self.held.is_some() { PRIVATE } else { USUAL };
         for number in 0..MOST_NAMES {
