@@ -1,0 +1,4 @@
+pub mod Base64
+pub mod Hex
+pub mod Law
+pub mod Patterns
