@@ -19,6 +19,10 @@ automaton_in it = it.walk.automaton.now
 abbrev pub haystack_in : {A : Type 0} → CoverIter A → List ℕ
 haystack_in it = it.haystack.now
 
+-- the look-ups of its walk
+abbrev pub look_ups_in : {A : Type 0} → CoverIter A → ℕ
+look_ups_in it = it.walk.work
+
 abbrev pub runs_of : {A : Type 0} → CoverIter A → List Occurrence
 runs_of it = it.hand.runs.items
 

@@ -21,7 +21,7 @@ ghost use Rattle.aho_core.specs.declared.error.MatchErrorKind.{MatchErrorKind};
 ghost use Rattle.aho_core.specs.declared.search.Anchored.TheVariants.{No};
 ghost use Rattle.aho_core.specs.declared.search.MatchKind.TheVariants.{Standard};
 ghost use Rattle.aho_automaton.specs.Covering.{FirstIsOpen, RefusesCover, cover_in};
-ghost use Rattle.aho_automaton.specs.CoverIters.{CanCover, GivesRun, HasGivenRuns, IsReadyToGive, ReadsFurther, automaton_in, cover_refusal_of, haystack_in, runs_left, runs_of};
+ghost use Rattle.aho_automaton.specs.CoverIters.{CanCover, GivesRun, HasGivenRuns, IsReadyToGive, ReadsFurther, automaton_in, cover_refusal_of, haystack_in, look_ups_in, runs_left, runs_of};
 
 use crate::automaton::Automaton;
 use crate::find::{looks_at, told_at};
@@ -173,6 +173,7 @@ impl<'a, 'h, A: Automaton> CoverIter<'a, 'h, A> {
     /// The look-ups of transitions so far: at most two for each byte of the haystack.
     pub fn lookups(&self) -> u128
         requires can { CanCover A.Automaton self.now }
+        ensures told { result ≡ look_ups_in self.now }
         ensures cost { result ≤ 2 * length (haystack_in self.now) }
     {
         self.walk.lookups()

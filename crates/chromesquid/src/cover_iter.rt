@@ -1,8 +1,8 @@
 //! The runs of a cover in memory, one after another.
 
-ghost use Rattle.std.specs.Prelude.{◌*◌, ◌≤◌, IfOk, length};
+ghost use Rattle.std.specs.Prelude.{◌≡◌, ◌*◌, ◌≤◌, IfOk, length};
 ghost use Rattle.aho_automaton.specs.Covering.{RefusesCover};
-ghost use Rattle.chromesquid.specs.CoverIters.{haystack_of};
+ghost use Rattle.chromesquid.specs.CoverIters.{haystack_of, look_ups_of};
 ghost use Rattle.chromesquid.specs.Covers.{RunsFor, why_not_covered};
 ghost use Rattle.chromesquid.specs.Searcher.{StandsFor};
 ghost use Rattle.either.specs.Either.{MatchEither, either};
@@ -71,6 +71,7 @@ impl<'a, 'h> CoverIter<'a, 'h> {
     /// The look-ups of transitions so far: at most two for each byte of the haystack.
     pub fn lookups(&self) -> u128
         requires can { ⟦<CoverIter<'a, 'h> as Iterator>⟧.can_next self.now }
+        ensures told { result ≡ look_ups_of self.now }
         ensures cost { result ≤ 2 * length (haystack_of self.now) }
     {
         match &self.by {
