@@ -146,7 +146,7 @@ module _ (holds : List ℕ → Option (List ℕ)) (names : List (List ℕ)) (vol
   pub far_volume : (name : List ℕ) (rest : List (List ℕ)) (before after : Volume) (mid new : Option (List ℕ)) → VolumeSoFar holds names (name ∷ rest) volume before old mid
       → ReadsVolume holds (name ∷ []) before after mid new → VolumeSoFar holds names rest volume after old new
   far_volume name rest before after mid new far reads =
-      let (bytes, between, adds, same, left) = reads.bytes in
+      let (bytes, between, adds, (same, left)) = reads.bytes in
       far_read name rest before after bytes mid new far (subst (λ (l : Option (List ℕ)). AddsName holds name before.bytes bytes mid l) (sym left) adds) same reads.files
 
   pub all_read : (after : Volume) (new : Option (List ℕ)) → VolumeSoFar holds names [] volume after old new → ReadsVolume holds names volume after old new

@@ -20,7 +20,7 @@ use Rattle.acredact.proofs.Calls.{tells_counts, tells_last}
 use Rattle.acredact.proofs.Given.{same_given}
 use Rattle.acredact.proofs.PlacedCalls.{tells_weaker}
 use Rattle.acredact.proofs.Statuses.{asks_check, no_redaction}
-use Rattle.acredact.proofs.Warned.{piece_tells, tells_both}
+use Rattle.acredact.proofs.Warned.{tells_both, warnings_tell}
 
 -- a status is 0, 1 or 2
 pub two_of : (status : ℕ) → status ≤ 2 → (status ≡ 1 → ⊥) → (status ≡ 0 → ⊥) → status ≡ 2
@@ -68,9 +68,11 @@ module _ {R W E : Type 0} {Reads : Readers R} (Writes : Writers W) (K : SinkGhos
   done_told quiet counts = by (counts_asked call.given) refl
     where
       by : (b : Bool) → counts_asked call.given ≡ b → Tells K (IsLineOf call fails) old.errors new.errors
-      by false none = let warned = quiet none in piece_tells K call fails warned.load old.errors new.errors warned.told
+      by false none = let warned = quiet none in warnings_tell K call fails warned.load (bytes_left old.input) warned.between warned.loaded old.errors warned.told.0 new.errors warned.told.1 warned.told.2
       by true some =
           let counted = counts some in
-          tells_both K (IsLineOf call fails) old.errors counted.meanwhile new.errors (piece_tells K call fails counted.load old.errors counted.meanwhile counted.warned)
-          (tells_weaker K (IsCountsLine call.given) (IsLineOf call fails) counted.meanwhile new.errors (λ line is. inr (inr (inl is)))
-          (tells_counts K call.given counted.meanwhile new.errors counted.counted.lines counted.counted.counts counted.volume some counted.counted.told))
+          let warned = counted.warned in
+          let load = counted.load in
+          tells_both K (IsLineOf call fails) old.errors counted.meanwhile new.errors (warnings_tell K call fails load (bytes_left old.input) counted.between counted.loaded old.errors warned.0 counted.meanwhile warned.1 warned.2)
+          (tells_weaker K (IsCountsLine call.given load.secrets) (IsLineOf call fails) counted.meanwhile new.errors (λ line is. inr (inr (inl (load, bytes_left old.input, counted.between, counted.loaded, is))))
+          (tells_counts K call.given counted.meanwhile new.errors load.secrets counted.counted.counts counted.volume some counted.counted.told))

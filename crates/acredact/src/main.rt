@@ -19,6 +19,7 @@ mod failure;
 mod files;
 mod folder;
 mod held;
+mod help;
 mod in_place;
 mod into;
 mod left;
