@@ -1,17 +1,17 @@
-# The completion of acredact for bash: its options, the values of --kind, and names of files.
+# The completion of acredact for bash: its options, the values of those that have some, and names of files. bin/completions writes this.
 _acredact() {
-    local word=${COMP_WORDS[COMP_CWORD]} option=${COMP_WORDS[COMP_CWORD - 1]} words=""
+    local word=${COMP_WORDS[COMP_CWORD]} option=${COMP_WORDS[COMP_CWORD - 1]} words="" joined=""
     # bash takes `--kind=first` for three words.
     if [[ $word == = ]]; then
-        word=""
+        word="" joined=yes
     elif [[ $option == = ]]; then
-        option=${COMP_WORDS[COMP_CWORD - 2]}
+        option=${COMP_WORDS[COMP_CWORD - 2]} joined=yes
     fi
     case $option in
     --kind) words='cover first longest standard' ;;
     -e | --pattern | --with) return ;;
-    *) [[ $word != -* ]] || words='-e -f -t -i --kind --with --pseudonym --output --in-place --count --summary --check --crlf --allow-empty --strict -- --help --version' ;;
     esac
+    [[ $words || $word != -* ]] || words='-e --pattern -f --file -t --table -i --ignore-case --crlf --allow-empty --kind --with --pseudonym --strict --output --in-place --count --summary --check --help --version --'
     mapfile -t COMPREPLY < <(compgen -W "$words" -- "$word")
 }
 complete -o default -F _acredact acredact

@@ -30,7 +30,7 @@ pub concat_both : (xs ys : List (List ℕ)) → concat (xs ++ ys) ≡ concat xs 
 concat_both [] ys = refl
 concat_both (x ∷ xs) ys = ap (λ l. x ++ l) (concat_both xs ys) ∙ sym (append_assoc x (concat xs) (concat ys))
 
-none_both : (xs ys : List (List ℕ)) (first second both : Bool) → first ≡ are_none xs → second ≡ are_none ys → both ≡ first && second → both ≡ are_none (xs ++ ys)
+pub none_both : (xs ys : List (List ℕ)) (first second both : Bool) → first ≡ are_none xs → second ≡ are_none ys → both ≡ first && second → both ≡ are_none (xs ++ ys)
 none_both [] ys first second both is_first is_second is = is ∙ ap (λ (b : Bool). b && second) is_first ∙ is_second
 none_both (x ∷ xs) ys first second both is_first is_second is = is ∙ ap (λ (b : Bool). b && second) is_first
 

@@ -34,6 +34,9 @@ mod Warned
 mod Given
 -- files that are replaced in place
 mod Placed
+mod PlacedCalls
+-- and a file that is named for the output
+mod Put
 mod Statuses
 -- what is seen of files
 mod Looks

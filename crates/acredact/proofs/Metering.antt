@@ -142,5 +142,12 @@ module _ (holds : List ℕ → Option (List ℕ)) (names : List (List ℕ)) (vol
         omega (arith, so, size, files);
   }
 
+  -- or one more by itself
+  pub far_volume : (name : List ℕ) (rest : List (List ℕ)) (before after : Volume) (mid new : Option (List ℕ)) → VolumeSoFar holds names (name ∷ rest) volume before old mid
+      → ReadsVolume holds (name ∷ []) before after mid new → VolumeSoFar holds names rest volume after old new
+  far_volume name rest before after mid new far reads =
+      let (bytes, between, adds, (same, left)) = reads.bytes in
+      far_read name rest before after bytes mid new far (subst (λ (l : Option (List ℕ)). AddsName holds name before.bytes bytes mid l) (sym left) adds) same reads.files
+
   pub all_read : (after : Volume) (new : Option (List ℕ)) → VolumeSoFar holds names [] volume after old new → ReadsVolume holds names volume after old new
   all_read after new far = record { bytes = far.bytes after.bytes new (refl, refl); files = let so = far.files in omega (arith, so) }

@@ -1,5 +1,5 @@
 -- How counts grow by the ranges that are replaced, file after file.
-use Rattle.std.proofs.Common.{◌≡◌, ◌≢◌, ℕ, zero, suc, ◌<◌, true, false, List, [], ◌∷◌, ◌++◌, Option, length, refl, sym, subst, ◌∙◌, append-nil, append_assoc, arith}
+use Rattle.std.proofs.Common.{◌≡◌, ◌≢◌, ℕ, zero, suc, ◌<◌, true, false, List, [], ◌∷◌, ◌++◌, Option, length, refl, sym, ap, subst, ◌∙◌, append-nil, append_assoc, arith}
 use Rattle.std.specs.Prelude.{slice_index}
 use Rattle.std.specs.Io.KnownBytes.{Consumes, IsAtEnd, Keeps}
 use Rattle.std.proofs.lemmas.List.{length-map}
@@ -16,7 +16,7 @@ use Rattle.acredact.specs.Counts.{zeros}
 use Rattle.acredact.specs.Files.{Work}
 use Rattle.acredact.specs.Secrets.{Redactor}
 use Rattle.acredact.specs.Tables.{secret_of, secrets_of}
-use Rattle.acredact.specs.Totals.{AreTotals, CountsOfName, CountsOfNames, CountsOfStream, CountsOfText, HasRanges, NamesHaveRanges}
+use Rattle.acredact.specs.Totals.{AreTotals, CountsOfName, CountsOfNames, CountsOfStream, CountsOfText, HasRanges, NameHasRanges, NamesHaveRanges}
 use Rattle.acredact.specs.declared.patterns.Rule.{Rule}
 use Rattle.acredact.specs.declared.summary.Volume.{Volume}
 use Rattle.acredact.proofs.OneFile.{ends_by, known_read, of_folder, of_input}
@@ -52,6 +52,14 @@ module _ (work : Work) (name : List ℕ) (left left' : Option (List ℕ)) (count
       → CountsOfName left left' counts counts' work name
   opened_counts is same opened rest kept (ranges, has, counted) =
       (ranges, of_folder work.holds name (HasRanges work.redactor ranges) left left' is same rest (known_ranges work.redactor ranges (work.holds name) opened rest kept has), counted)
+
+-- the ranges of one file alone
+pub one_counts : (work : Work) (name : List ℕ) (left left' : Option (List ℕ)) (counts counts' : List ℕ) → CountsOfNames left left' counts counts' work (name ∷ []) → CountsOfName left left' counts counts' work name
+one_counts work name left left' counts counts' (ranges, (first, rest, are, between, has, (none, same)), counted) = (
+  first,
+  subst (λ (l : Option (List ℕ)). NameHasRanges work name first left l) (sym same) has,
+  subst (λ (l : List Occurrence). CountsThese l counts counts') (are ∙ ap (λ (l : List Occurrence). first ++ l) none ∙ append-nil first) counted,
+)
 
 -- some first files were counted, from one state of the input to another
 pub record CountedSoFar (work : Work) (names rest : List (List ℕ)) (old new : Option (List ℕ)) (counts counts' : List ℕ) : Type 0 where

@@ -39,7 +39,7 @@ use Rattle.acredact.proofs.Done.{concat_both}
 use Rattle.acredact.proofs.Free.{free_of}
 
 -- where they are to be refused, nothing is told and they are clean
-clean_pieces : {E : Type 0} (K : SinkGhosts E) (strict : Bool) (r : Redactor) (old new : Errors E) → strict ≡ true → TellsOfPieces K strict r old new → r.covers ≡ true → AreCleanBy (is_some r.key) r.patterns r.pieces
+pub clean_pieces : {E : Type 0} (K : SinkGhosts E) (strict : Bool) (r : Redactor) (old new : Errors E) → strict ≡ true → TellsOfPieces K strict r old new → r.covers ≡ true → AreCleanBy (is_some r.key) r.patterns r.pieces
 clean_pieces K strict r old new is (None, judged, same) = judged
 clean_pieces K strict r old new is (Some unclean, judged, (lax, told)) = let clash : true ≡ false = sym is ∙ lax in absurd (cc)
 
@@ -64,14 +64,14 @@ judged_as p false named key pieces pieces' (Some unclean) is same (clash, judged
 
 -- lines behind lines
 module _ {E : Type 0} (K : SinkGhosts E) (IsLine : List ℕ → Type 0) (old mid new : Errors E) (first : Tells K IsLine old mid) where
-  tells_both : Tells K IsLine mid new → Tells K IsLine old new
+  pub tells_both : Tells K IsLine mid new → Tells K IsLine old new
   tells_both later = record {
     told = first.told ++ later.told;
     are_lines = All-append IsLine first.told later.told first.are_lines later.are_lines;
     written = subst (TellsBytes K old new) (sym (concat_both first.told later.told)) (tells-later K first.written later.written);
   }
 
-  some_behind : TellsSome K IsLine mid new → TellsSome K IsLine old new
+  pub some_behind : TellsSome K IsLine mid new → TellsSome K IsLine old new
   some_behind later = behind first.told first.are_lines (tells-later K first.written later.written)
     where
       behind : (lines : List (List ℕ)) → All IsLine lines → TellsBytes K old new (concat lines ++ concat (later.first ∷ later.more)) → TellsSome K IsLine old new
@@ -91,7 +91,7 @@ all_members Is (line ∷ lines) each = All-cons Is line lines (each line (inl re
 
 module _ {E : Type 0} (K : SinkGhosts E) (call : Call) (fails : Type 0) (load : Loaded) (left between : Option (List ℕ)) (loaded : AreLoaded (reading_by call) call.given load left between) where
   -- what is told of patterns of lists may be told
-  doubts_tell : (strict : Bool) → has Strict call.given ≡ strict → (old new : Errors E) → TellsDoubts K strict call.given load.secrets old new → Tells K (IsLineOf call fails) old new
+  pub doubts_tell : (strict : Bool) → has Strict call.given ≡ strict → (old new : Errors E) → TellsDoubts K strict call.given load.secrets old new → Tells K (IsLineOf call fails) old new
   doubts_tell true is old new doubts = tells_same K (IsLineOf call fails) old new doubts.1
   doubts_tell false is old new doubts = record {
     told = all_doubt_lines call.given load.secrets;
@@ -109,7 +109,7 @@ module _ {E : Type 0} (K : SinkGhosts E) (call : Call) (fails : Type 0) (load : 
   }
 
   -- one after the other
-  warnings_tell : (old mid new : Errors E) → TellsDoubts K (has Strict call.given) call.given load.secrets old mid → TellsOfPieces K (has Strict call.given) (redactor_by_given call.given load) mid new
+  pub warnings_tell : (old mid new : Errors E) → TellsDoubts K (has Strict call.given) call.given load.secrets old mid → TellsOfPieces K (has Strict call.given) (redactor_by_given call.given load) mid new
       → Tells K (IsLineOf call fails) old new
   warnings_tell old mid new doubts pieces = tells_both K (IsLineOf call fails) old mid new (doubts_tell (has Strict call.given) refl old mid doubts) (piece_tells mid new pieces)
 

@@ -1,12 +1,18 @@
 -- What becomes of a file that is named for the output: a new one is filled, and takes its place where all was done.
-use Rattle.std.specs.Prelude.{◌≡◌, ◌⊎◌, ℕ, List, Option, false, true}
+use Rattle.std.specs.Prelude.{◌≡◌, ◌⊎◌, ℕ, List, [], IfSome, Option, false, true}
 use Rattle.std.specs.declared.io.traits.Read.{Ghosts as Readers}
 use Rattle.std.specs.declared.io.traits.Write.{Ghosts as Writers}
 use Rattle.aho_devices.specs.declared.device.Sink.{Ghosts as SinkGhosts}
+use Rattle.aho_devices.specs.declared.adapters.FromWrite.{FromWrite}
+use Rattle.programs.specs.Names.{is_input}
 use Rattle.programs.specs.Streams.{output_bytes}
+use Rattle.programs.specs.Telling.{TellsBytes, TellsSome}
+use Rattle.programs.specs.declared.errors.Errors.{Errors}
 use Rattle.programs.specs.declared.reason.Reason.{Reason}
-use Rattle.acredact.specs.Arguments.{Given, counts_asked}
-use Rattle.acredact.specs.Calls.{CountsAsked, RedactsAsked, WarnsAsked}
+use Rattle.acredact.specs.Arguments.{Given, RefusesUnclean, counts_asked}
+use Rattle.acredact.specs.Calls.{Call, CountsAsked, IsLineOf, LeavesNoneAsked, OutputFails, RedactsAsked, WarnsAsked, call_of}
+use Rattle.acredact.specs.Files.{unread_line}
+use Rattle.acredact.specs.Messages.{no_output_line}
 use Rattle.acredact.specs.declared.folder.Folder.{Ghosts as Folders}
 use Rattle.acredact.specs.declared.outputs.Outputs.{Ghosts as Places}
 use Rattle.acredact.specs.declared.streams.Streams.{Streams}
@@ -33,14 +39,64 @@ module _ {O Z : Type 0} (U : Places O Z) (name : List ℕ) where
   abbrev pub LeavesOld : (outputs outputs' : O) → Type 0
   LeavesOld outputs outputs' = ((reason : Reason) × U.makes_none outputs outputs' name reason) ⊎ IsDropped outputs outputs'
 
--- a new file was made, all was redacted into it, and then it took the place of the one of this name
-pub record WritesNew {R Z E F X O : Type 0} (Reads : Readers R) (Writes : Writers Z) (K : SinkGhosts E) (D : Folders F X) (U : Places O Z) (folder : F) (given : List Given) (name : List ℕ) (outputs outputs' : O) : Type 0 where
-  pub before : Streams R Z E Reads
-  pub after : Streams R Z E Reads
-  pub meanwhile : O
-  pub made : U.makes outputs meanwhile name (output_bytes Writes before.output)
-  pub redacts : RedactsAsked Writes D folder given before after
-  -- what is told is what is told of standard output
-  pub quiet : counts_asked given ≡ false → WarnsAsked K D folder given before after
-  pub counts : counts_asked given ≡ true → CountsAsked Writes K D folder given before after
-  pub puts : U.puts meanwhile outputs' name (output_bytes Writes after.output)
+  -- what has the name is as it was; standard input and output have none
+  abbrev pub IsSpared : (outputs outputs' : O) → Type 0
+  IsSpared outputs outputs' = ((is_input name ≡ true) × (outputs' ≡ outputs)) ⊎ LeavesOld outputs outputs'
+
+-- it is told why the file of a name is not read or replaced
+abbrev pub TellsUnread : {E : Type 0} → SinkGhosts E → List ℕ → (errors errors' : Errors E) → Type 0
+TellsUnread K name errors errors' = (reason : Reason) × TellsBytes K errors errors' (unread_line name reason)
+
+-- what may be told where no file is replaced: what is told of a call, or why no new file is made or none takes the place
+abbrev pub IsOutputLine : Call → (fails : Type 0) → List ℕ → List ℕ → Type 0
+IsOutputLine call fails name line =
+    IsLineOf call fails line ⊎ (((reason : Reason) × (line ≡ unread_line name reason)) ⊎ ((is_input name ≡ true) × (line ≡ no_output_line name)))
+
+module _ {R Z E F X O : Type 0} {Reads : Readers R} (Writes : Writers Z) (K : SinkGhosts E) (D : Folders F X) (U : Places O Z) (folder : F) (name : List ℕ) (outputs outputs' : O) (streams streams' : Streams R Z E Reads) (given : List Given) where
+  -- a new file was made, which was empty, all was redacted into it, and then it took the place of the one of this name
+  pub record WritesNew : Type 0 where
+    pub named : is_input name ≡ false
+    pub file : FromWrite Z
+    pub meanwhile : O
+    pub made : U.makes outputs meanwhile name (output_bytes Writes file)
+    pub empty : IfSome (output_bytes Writes file) (λ held. held ≡ [])
+    pub redacts : RedactsAsked Writes D folder given (record streams { output = file }) streams'
+    -- no pattern is left, and what is told is what is told of standard output
+    pub strict : RefusesUnclean given → LeavesNoneAsked Writes D folder given (record streams { output = file }) streams'
+    pub quiet : counts_asked given ≡ false → WarnsAsked K D folder given (record streams { output = file }) streams'
+    pub counts : counts_asked given ≡ true → CountsAsked Writes K D folder given (record streams { output = file }) streams'
+    pub flushed : streams'.output.device.flushed ≡ true
+    pub puts : U.puts meanwhile outputs' name (output_bytes Writes streams'.output)
+
+  -- or one line or more says why none did: of what was written to the new file, if one was made
+  abbrev pub TellsNew : Type 0
+  TellsNew = TellsSome K (IsOutputLine (call_of D folder given) ⊥ name) streams.errors streams'.errors
+      ⊎ ((file : FromWrite Z) × (meanwhile : O) × U.makes outputs meanwhile name (output_bytes Writes file)
+      × TellsSome K (IsOutputLine (call_of D folder given) (OutputFails file streams'.output) name) streams.errors streams'.errors)
+
+module _ {R Z E F X O : Type 0} {Reads : Readers R} (Writes : Writers Z) (K : SinkGhosts E) (D : Folders F X) (U : Places O Z) (folder : F) (name : List ℕ) (status : ℕ) (outputs outputs' : O) (streams streams' : Streams R Z E Reads) (given : List Given) where
+  -- the first where the status is 0
+  abbrev pub WritesAll : Type 0
+  WritesAll = status ≡ 0 → WritesNew Writes K D U folder name outputs outputs' streams streams' given
+
+  -- and the other where it is not
+  abbrev pub TellsNone : Type 0
+  TellsNone = (status ≡ 0 → ⊥) → TellsNew Writes K D U folder name outputs outputs' streams streams' given
+
+module _ {R Z E F X : Type 0} {Reads : Readers R} (Writes : Writers Z) (K : SinkGhosts E) (D : Folders F X) (folder : F) (status : ℕ) (streams streams' : Streams R Z E Reads) (given : List Given) where
+  -- where the status is 0, and pieces that are not clean are refused, no pattern is left
+  abbrev pub LeavesNoneAll : Type 0
+  LeavesNoneAll = RefusesUnclean given → status ≡ 0 → LeavesNoneAsked Writes D folder given streams streams'
+
+  -- and the counts that are asked for are told
+  abbrev pub CountsAll : Type 0
+  CountsAll = counts_asked given ≡ true → status ≡ 0 → CountsAsked Writes K D folder given streams streams'
+
+-- else nothing is told but the pieces that are not clean
+abbrev pub WarnsAll : {R Z E F X : Type 0} {Reads : Readers R} → SinkGhosts E → Folders F X → F → ℕ → (streams streams' : Streams R Z E Reads) → List Given → Type 0
+WarnsAll K D folder status streams streams' given = counts_asked given ≡ false → status ≡ 0 → WarnsAsked K D folder given streams streams'
+
+-- what is told where a new file does not take the place
+abbrev pub TellsUnput : {R Z E F X : Type 0} {Reads : Readers R} → SinkGhosts E → Folders F X → F → List ℕ → ℕ → (streams streams' : Streams R Z E Reads) → List Given → Type 0
+TellsUnput K D folder name status streams streams' given = (status ≡ 0 → ⊥)
+    → TellsSome K (IsOutputLine (call_of D folder given) (OutputFails streams.output streams'.output) name) streams.errors streams'.errors

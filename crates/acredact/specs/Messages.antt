@@ -49,6 +49,10 @@ output_line name = line_about name (codes "input file is also the output")
 abbrev pub no_file_line : List ℕ → List ℕ
 no_file_line name = line_about name (codes "standard input cannot be replaced")
 
+-- the line that tells that standard output is no file that can be replaced
+abbrev pub no_output_line : List ℕ → List ℕ
+no_output_line name = line_about name (codes "standard output is no file: leave out --output")
+
 -- the line that tells of which pattern the piece is not clean, and why: numbers, and no byte of a pattern or of a piece
 abbrev pub piece_line : (number why : List ℕ) → List ℕ
 piece_line number why = codes "acredact" ++ (codes ": the replacement of pattern " ++ (number ++ why))

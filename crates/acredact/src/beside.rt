@@ -131,6 +131,7 @@ impl<'c, 'l, 'r, R: Files<File = File>> Beside<'c, 'l, 'r, R> {
 
     /// Removes what others left in the folder of this file, unless that was done for the file before.
     fn clear(&mut self, name: &str) -> Result<(), AllocError>
+        ensures held { self.new.held ≡ self.old.held }
         ensures made { self.new.made ≡ self.old.made }
     {
         let folder = folder_of(name);
@@ -170,6 +171,7 @@ impl<'c, 'l, 'r, R: Files<File = File>> Beside<'c, 'l, 'r, R> {
     /// Keeps a handle of the new file, which is locked where the system gives locks.
     fn keep(&mut self, file: File, name: String) -> Result<File, Reason>
         ensures made { OnOk result (is_some self.new.made ≡ true) }
+        ensures held { self.new.held ≡ self.old.held }
     {
         let _locked = lock(&file);
         let other = known(file.try_clone())?;

@@ -5,7 +5,7 @@ ghost use Rattle.programs.specs.Messages.{reason_text};
 ghost use Rattle.programs.specs.Telling.{TellsBytes};
 ghost use Rattle.acredact.specs.Failures.{IsFailureLine, IsOtherLine, bad_line, is_of_output};
 ghost use Rattle.acredact.specs.LineFaults.{line_fault_text};
-ghost use Rattle.acredact.specs.Messages.{alone, flaw_text, line_about, no_file_line, output_line, piece_line, told_line, unclean_line};
+ghost use Rattle.acredact.specs.Messages.{alone, flaw_text, line_about, no_file_line, no_output_line, output_line, piece_line, told_line, unclean_line};
 ghost use Rattle.acredact.specs.Mistakes.{mistake_line, misuse_line, mixture_text, named_line};
 ghost use Rattle.acredact.specs.declared.clean.Flaw.TheVariants.{Empty, Pseudonym, Spells};
 
@@ -108,6 +108,17 @@ pub fn tell_no_file<E: Sink>(errors: &mut Errors<'_, E>, name: &str)
     ensures told { TellsBytes E.Sink errors.old errors.new (no_file_line name.now) }
 {
     tell_about(errors, name, "standard input cannot be replaced");
+}
+
+/// Tells as a line that standard output is no file that can be replaced.
+pub fn tell_no_output<E: Sink>(errors: &mut Errors<'_, E>, name: &str)
+    ensures told { TellsBytes E.Sink errors.old errors.new (no_output_line name.now) }
+{
+    tell_about(
+        errors,
+        name,
+        "standard output is no file: leave out --output",
+    );
 }
 
 /// Tells as a line what is wrong with something, and why.

@@ -1,16 +1,22 @@
 //! A call that replaces each file: a new one is written beside it, and takes its place where all of it was redacted.
 
-ghost use Rattle.std.specs.Prelude.{◌≡◌, ◌≤◌, IfErr, IfOk, IfSome, Ok, false, length, true};
+ghost use Rattle.std.specs.Prelude.{◌≡◌, ◌≤◌, Err, IfErr, IfOk, IfSome, Ok, OnErr, false, length, true};
+ghost use Rattle.aho_core.specs.declared.error.stream.StreamError.TheVariants.{Memory};
 ghost use Rattle.programs.specs.Arguments.{texts};
-ghost use Rattle.programs.specs.Streams.{bytes_left, output_bytes};
-ghost use Rattle.acredact.specs.Arguments.{AreMistaken, AsksInPlace, IfAsked, all_given};
+ghost use Rattle.programs.specs.Streams.{output_bytes};
+ghost use Rattle.programs.specs.Telling.{TellsSome};
+ghost use Rattle.acredact.specs.Arguments.{AreMistaken, AsksInPlace, IfAsked, all_given, counts_given};
 ghost use Rattle.acredact.specs.Back.{AreBoth, IfBackIs};
-ghost use Rattle.acredact.specs.Calls.{IsWrongFailure};
+ghost use Rattle.acredact.specs.Calls.{IsWrongFailure, IsWrongLine, ReadsAsked};
+ghost use Rattle.acredact.specs.Counts.{zeros};
 ghost use Rattle.acredact.specs.Files.{CanDo};
-ghost use Rattle.acredact.specs.InPlace.{AskedPlaces, KeepsEach, KeylessPlaces, LoadedPlaces, PlaceJob, PlacesJob, ReplacesAsked};
-ghost use Rattle.acredact.specs.Into.{IsKept};
+ghost use Rattle.acredact.specs.InPlace.{AskedPlaces, CallCounts, CallPlaces, DoubtedPlaces, FreesAll, KeepsEach, KeylessPlaces, LoadedPlaces, NameCounts, NameVolume, PlaceJob, PlacesAll, PlacesCount, PlacesJob, PlacesReach, PlacesTell, SaysOfPlaces, WarnsPlaces};
+ghost use Rattle.acredact.specs.Into.{IsKept, TellsUnread, WarnsAll};
+ghost use Rattle.acredact.specs.Pieces.{IfOfAll};
 ghost use Rattle.acredact.specs.Secrets.{IfOf};
 ghost use Rattle.acredact.specs.Tables.{HaveNoEmpty, secrets_of};
+ghost use Rattle.acredact.specs.Totals.{JobCounts};
+ghost use Rattle.acredact.specs.Volumes.{JobVolume};
 
 use crate::arguments::{Item, Mistake, Word, counts, covers, has, items, replaces_in_place};
 use crate::back::back_of;
@@ -32,7 +38,7 @@ use crate::summary::Volume;
 use aho_automaton::automaton::Automaton;
 use aho_backward::backward::Backward;
 use aho_core::error::StreamError;
-use aho_devices::adapters::{FromRead, FromWrite};
+use aho_devices::adapters::FromWrite;
 use aho_devices::device::Sink;
 use programs::errors::Errors;
 use programs::rows::rows_of;
@@ -56,36 +62,46 @@ pub fn asks_in_place<'a>(alloc: Global, arguments: &'a [String]) -> Result<bool,
 
 /// Replaces each file by its redaction, and answers the exit status: 0 where all were, and 2 where the arguments or the patterns are
 /// wrong, memory runs out, or a file cannot be read or replaced. Such a file stays as it was, and it is told why.
-pub fn replace_in_place<F: Folder, O: Outputs, I: Read + Drop, E: Sink + Drop>(
+pub fn replace_in_place<F: Folder, O: Outputs, I: Read, E: Sink>(
     alloc: Global,
     arguments: &[String],
     folder: &F,
     outputs: &mut O,
-    input: I,
-    errors: Errors<'_, E>,
+    streams: &mut Streams<'_, I, O::File, E>,
 ) -> u8
-    // Wrong arguments are found before a file is made.
+    // Wrong arguments are found and told before a file is made.
     ensures wrong { AreMistaken arguments.now → result ≡ 2 }
     ensures unmade { AreMistaken arguments.now → outputs.new ≡ outputs.old }
+    ensures tells_wrong { AreMistaken arguments.now → TellsSome E.Sink
+        (IsWrongLine (texts arguments.now)) streams.old.errors streams.new.errors }
+
     // Where the status is 0, each file was redacted into a new one, which was flushed and took its place.
-    ensures replaces { IfAsked arguments.now (λ given. result ≡ 0 → ReplacesAsked O.File.Write
-        F.Folder O.Outputs folder.now (I.remaining input) outputs.old outputs.new given) }
+    ensures replaces { IfAsked arguments.now (PlacesAll O.File.Write F.Folder O.Outputs
+        folder.now result streams.old outputs.old outputs.new) }
+
     // Whatever it is, each file was replaced by its whole redaction, or is as it was.
-    ensures keeps { IfAsked arguments.now
-        (KeepsEach O.File.Write F.Folder O.Outputs folder.now (I.remaining input) outputs.old outputs.new) }
+    ensures keeps { IfAsked arguments.now (KeepsEach O.File.Write F.Folder O.Outputs
+        folder.now streams.old outputs.old outputs.new) }
+
+    // Where pieces that are not clean are refused, no pattern occurs in a file.
+    ensures strict { IfAsked arguments.now (FreesAll O.File.Write F.Folder O.Outputs
+        folder.now result streams.old outputs.old outputs.new) }
+
+    // Where all were replaced nothing is told but a piece of a cover that is not clean, and the counts that are asked for.
+    ensures quiet { IfAsked arguments.now (WarnsAll E.Sink F.Folder folder.now result streams.old streams.new) }
+    ensures counts { IfAsked arguments.now (PlacesCount E.Sink F.Folder folder.now result streams.old streams.new) }
+
+    // Else lines say why, and hold nothing of a file's content or of a pattern.
+    ensures tells { IfAsked arguments.now (PlacesTell E.Sink F.Folder folder.now result streams.old streams.new) }
+
+    // Each file was come to then, but where a failure ended the call before the first, or memory ran out.
+    ensures reaches { IfAsked arguments.now (PlacesReach O.File.Write E.Sink F.Folder O.Outputs
+        folder.now result outputs.old outputs.new streams.old streams.new) }
     ensures bound { result ≤ 2 }
 {
-    let mut errors = errors;
     match items(alloc, arguments) {
-        Ok(given) => {
-            let mut streams = Streams {
-                input: FromRead::new(input),
-                output: FromWrite::new(outputs.idle()),
-                errors,
-            };
-            answer_places(alloc, given.as_slice(), folder, outputs, &mut streams)
-        }
-        Err(mistake) => report(&Failure::Arguments(mistake), &mut errors),
+        Ok(given) => answer_places(alloc, given.as_slice(), folder, outputs, streams),
+        Err(mistake) => report(&Failure::Arguments(mistake), &mut streams.errors),
     }
 }
 
@@ -97,10 +113,8 @@ fn answer_places<F: Folder, O: Outputs, I: Read, E: Sink>(
     outputs: &mut O,
     streams: &mut Streams<'_, I, O::File, E>,
 ) -> u8
-    ensures replaces { result ≡ 0 → ReplacesAsked O.File.Write F.Folder O.Outputs folder.now
-        (bytes_left streams.old.input) outputs.old outputs.new (all_given given.now) }
-    ensures keeps { KeepsEach O.File.Write F.Folder O.Outputs folder.now (bytes_left streams.old.input)
-        outputs.old outputs.new (all_given given.now) }
+    ensures says { SaysOfPlaces O.File.Write E.Sink F.Folder O.Outputs
+        folder.now given.now result outputs.old outputs.new streams.old streams.new }
     ensures bound { result ≤ 2 }
 {
     match load_places(alloc, given, folder, outputs, streams) {
@@ -118,8 +132,8 @@ fn load_places<'a, F: Folder, O: Outputs, I: Read, E: Sink>(
     outputs: &mut O,
     streams: &mut Streams<'_, I, O::File, E>,
 ) -> Result<bool, Failure<'a>>
-    ensures outcome { AskedPlaces O.File.Write F.Folder O.Outputs folder.now given.now result
-        streams.old.input outputs.old outputs.new }
+    ensures outcome { AskedPlaces O.File.Write E.Sink F.Folder O.Outputs
+        folder.now given.now result outputs.old outputs.new streams.old streams.new }
 {
     if !gives_pattern(given) {
         return Err(Failure::Arguments(Mistake::NoPattern));
@@ -142,8 +156,8 @@ fn load_key<'a, F: Folder, O: Outputs, I: Read, E: Sink>(
     streams: &mut Streams<'_, I, O::File, E>,
 ) -> Result<bool, Failure<'a>>
     requires some { HaveNoEmpty (secrets_of rules.now) }
-    ensures outcome { KeylessPlaces O.File.Write F.Folder O.Outputs folder.now given.now rules.now
-        result streams.old.input outputs.old outputs.new }
+    ensures outcome { KeylessPlaces O.File.Write E.Sink F.Folder O.Outputs
+        folder.now given.now rules.now result outputs.old outputs.new streams.old streams.new }
 {
     let lists = lists_of(alloc, given, folder);
     match key_of(&lists, given, &mut streams.input) {
@@ -168,8 +182,8 @@ fn place_loaded<'a, F: Folder, O: Outputs, I: Read, E: Sink>(
     streams: &mut Streams<'_, I, O::File, E>,
 ) -> Result<bool, Failure<'a>>
     requires some { HaveNoEmpty (secrets_of rules.now) }
-    ensures outcome { LoadedPlaces O.File.Write F.Folder O.Outputs
-        folder.now given.now rules.now key.entry result outputs.old outputs.new }
+    ensures outcome { LoadedPlaces O.File.Write E.Sink F.Folder O.Outputs
+        folder.now given.now rules.now key.entry result outputs.old outputs.new streams.old streams.new }
 {
     let strict = has(given, Word::Strict);
     match warn_of_lists(&mut streams.errors, given, rules, strict) {
@@ -189,12 +203,40 @@ fn place_counted<'a, F: Folder, O: Outputs, I: Read, E: Sink>(
     streams: &mut Streams<'_, I, O::File, E>,
 ) -> Result<bool, Failure<'a>>
     requires some { HaveNoEmpty (secrets_of rules.now) }
-    ensures outcome { LoadedPlaces O.File.Write F.Folder O.Outputs
-        folder.now given.now rules.now key.entry result outputs.old outputs.new }
+    ensures outcome { DoubtedPlaces O.File.Write E.Sink F.Folder O.Outputs
+        folder.now given.now rules.now key.entry result outputs.old outputs.new streams.old streams.new }
 {
     let counted = counts(given);
     let mut tally = counts_of(alloc, rules, counted)?;
-    let tally = tally.as_mut_slice();
+    place_telling(
+        alloc,
+        given,
+        rules,
+        key,
+        folder,
+        tally.as_mut_slice(),
+        outputs,
+        streams,
+    )
+}
+
+/// Replaces each file by these rules, tells what was added to the counts, where they are asked for, and answers whether all were
+/// replaced.
+fn place_telling<'a, F: Folder, O: Outputs, I: Read, E: Sink>(
+    alloc: Global,
+    given: &[Item<'_>],
+    rules: &[Rule],
+    key: Option<&[u8]>,
+    folder: &F,
+    tally: &mut [u64],
+    outputs: &mut O,
+    streams: &mut Streams<'_, I, O::File, E>,
+) -> Result<bool, Failure<'a>>
+    requires some { HaveNoEmpty (secrets_of rules.now) }
+    requires none { tally.old ≡ zeros (counts_given given.now) rules.now }
+    ensures outcome { DoubtedPlaces O.File.Write E.Sink F.Folder O.Outputs
+        folder.now given.now rules.now key.entry result outputs.old outputs.new streams.old streams.new }
+{
     let mut volume = Volume { files: 0, bytes: 0 };
     // Not by `?`: this error may hold names.
     match place_all(
@@ -226,8 +268,12 @@ fn place_all<'a, F: Folder, O: Outputs, I: Read, E: Sink>(
     streams: &mut Streams<'_, I, O::File, E>,
 ) -> Result<bool, Failure<'a>>
     requires some { HaveNoEmpty (secrets_of rules.now) }
-    ensures outcome { LoadedPlaces O.File.Write F.Folder O.Outputs
-        folder.now given.now rules.now key.entry result outputs.old outputs.new }
+    ensures outcome { CallPlaces O.File.Write E.Sink F.Folder O.Outputs
+        folder.now given.now rules.now key.entry result outputs.old outputs.new streams.old streams.new }
+    ensures counted { CallCounts F.Folder
+        folder.now given.now rules.now key.entry result streams.old streams.new counts.old counts.new }
+    ensures read { result ≡ Ok true → ReadsAsked (F.holds folder.now) (all_given given.now)
+        volume.old volume.new streams.old streams.new }
 {
     let patterns = patterns_of(alloc, rules)?;
     let text = text_of(given);
@@ -293,9 +339,14 @@ fn place_warned<
     requires rows { IfSome rows (λ rows. CanDo B.Automaton rows.now job.now) }
     requires back { AreBoth A.Automaton C.Automaton automaton.now back }
     requires words { length judge.now.rules.now ≡ length judge.now.words.now }
-    ensures outcome { IfOf A.Automaton automaton.now (λ p. IfSome rows.entry (λ rows. B.is_of rows.now p)
-        → IfBackIs C.Automaton back.entry p
-        (PlacesJob O.File.Write F.Folder O.Outputs job.now p result outputs.old outputs.new)) }
+    ensures outcome { IfOfAll A.Automaton B.Automaton automaton.now rows.entry judge.now
+        (λ p. IfBackIs C.Automaton back.entry p
+        (WarnsPlaces O.File.Write E.Sink F.Folder O.Outputs
+        strict job.now judge.now result outputs.old outputs.new streams.old streams.new p)) }
+    ensures counted { IfOfAll A.Automaton B.Automaton automaton.now rows.entry judge.now
+        (λ p. IfBackIs C.Automaton back.entry p
+        (JobCounts F.Folder job.now result streams.old streams.new counts.old counts.new p)) }
+    ensures read { JobVolume F.Folder job.now result volume.old volume.new streams.old streams.new }
 {
     let unclean = unclean_of(automaton, judge, job.covers, job.key.is_some());
     // Not by `?`: this error may hold names.
@@ -320,8 +371,12 @@ fn place_each<A: Automaton, B: Automaton, C: Automaton, F: Folder, O: Outputs, I
     requires rows { IfSome rows (λ rows. CanDo B.Automaton rows.now job.now) }
     requires back { AreBoth A.Automaton C.Automaton automaton.now back }
     ensures outcome { IfOf A.Automaton automaton.now (λ p. IfSome rows.entry (λ rows. B.is_of rows.now p)
+        → IfBackIs C.Automaton back.entry p (PlacesJob O.File.Write E.Sink F.Folder O.Outputs
+        job.now result outputs.old outputs.new streams.old streams.new p)) }
+    ensures counted { IfOf A.Automaton automaton.now (λ p. IfSome rows.entry (λ rows. B.is_of rows.now p)
         → IfBackIs C.Automaton back.entry p
-        (PlacesJob O.File.Write F.Folder O.Outputs job.now p result outputs.old outputs.new)) }
+        (JobCounts F.Folder job.now result streams.old streams.new counts.old counts.new p)) }
+    ensures read { JobVolume F.Folder job.now result volume.old volume.new streams.old streams.new }
 {
     let mut all = true;
     let mut rest = job.names;
@@ -351,8 +406,12 @@ fn place_one<A: Automaton, B: Automaton, C: Automaton, F: Folder, O: Outputs, I:
     requires rows { IfSome rows (λ rows. CanDo B.Automaton rows.now job.now) }
     requires back { AreBoth A.Automaton C.Automaton automaton.now back }
     ensures outcome { IfOf A.Automaton automaton.now (λ p. IfSome rows.entry (λ rows. B.is_of rows.now p)
-        → IfBackIs C.Automaton back.entry p
-        (PlaceJob O.File.Write F.Folder O.Outputs job.now name.now p result outputs.old outputs.new)) }
+        → IfBackIs C.Automaton back.entry p (PlaceJob O.File.Write E.Sink F.Folder O.Outputs
+        job.now name.now result outputs.old outputs.new streams.old streams.new p)) }
+    ensures counted { IfOf A.Automaton automaton.now (λ p. IfSome rows.entry (λ rows. B.is_of rows.now p)
+        → IfBackIs C.Automaton back.entry p (NameCounts F.Folder
+        job.now name.now result streams.old streams.new counts.old counts.new p)) }
+    ensures read { NameVolume F.Folder job.now name.now result volume.old volume.new streams.old streams.new }
 {
     if is_input(name) {
         tell_no_file(&mut streams.errors, name);
@@ -385,6 +444,14 @@ fn settle<O: Outputs, I: Read, E: Sink>(
     streams: &mut Streams<'_, I, O::File, E>,
 ) -> Result<bool, StreamError>
     ensures done { result ≡ Ok true → done ≡ Ok true }
+    ensures input { streams.new.input ≡ streams.old.input }
+    // What was not replaced is told, once more where a line was told of it before.
+    ensures quiet { result ≡ Ok true → streams.new.errors ≡ streams.old.errors }
+    ensures untold { done ≡ Ok false → (result ≡ Ok false) × (streams.new.errors ≡ streams.old.errors) }
+    ensures told { result ≡ Ok false → (done ≡ Ok false → ⊥)
+        → TellsUnread E.Sink name.now streams.old.errors streams.new.errors }
+    ensures memory { OnErr result ((result ≡ Err Memory) × (done ≡ Err Memory)
+        × (streams.new.errors ≡ streams.old.errors)) }
     ensures puts { result ≡ Ok true → O.puts outputs.old outputs.new name.now
         (output_bytes O.File.Write streams.old.output) }
     ensures kept { (result ≡ Ok true → ⊥) → IsKept O.Outputs name.now outputs.old outputs.new }
@@ -408,7 +475,9 @@ fn settle<O: Outputs, I: Read, E: Sink>(
 }
 
 /// Whether memory ran out.
-fn is_memory(error: StreamError) -> bool {
+fn is_memory(error: StreamError) -> bool
+    ensures memory { result ≡ true → error ≡ Memory }
+{
     matches!(error, StreamError::Memory)
 }
 
@@ -418,6 +487,9 @@ fn put_new<O: Outputs, I: Read, E: Sink>(
     name: &str,
     streams: &mut Streams<'_, I, O::File, E>,
 ) -> bool
+    ensures input { streams.new.input ≡ streams.old.input }
+    ensures quiet { result ≡ true → streams.new.errors ≡ streams.old.errors }
+    ensures told { result ≡ false → TellsUnread E.Sink name.now streams.old.errors streams.new.errors }
     ensures puts { result ≡ true → O.puts outputs.old outputs.new name.now
         (output_bytes O.File.Write streams.old.output) }
     ensures kept { result ≡ false → IsKept O.Outputs name.now outputs.old outputs.new }

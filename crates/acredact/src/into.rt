@@ -1,19 +1,20 @@
 //! A call whose output is a new file, which takes the place of another where all was done.
 
-ghost use Rattle.std.specs.Prelude.{◌≡◌, IfErr, IfOk, false, option_map, true};
+ghost use Rattle.std.specs.Prelude.{◌≡◌, IfErr, IfOk, option_map, true};
 ghost use Rattle.programs.specs.Arguments.{texts};
 ghost use Rattle.programs.specs.Streams.{output_bytes};
-ghost use Rattle.acredact.specs.Arguments.{IfAsked, IfNoCheck, NamesOutput, RefusesUnclean, counts_asked};
-ghost use Rattle.acredact.specs.Calls.{CountsAsked, IsWrongFailure, LeavesNoneAsked, RedactsAsked, WarnsAsked};
-ghost use Rattle.acredact.specs.Into.{IsKept, LeavesOld, WritesNew};
+ghost use Rattle.acredact.specs.Arguments.{IfAsked, IfNoCheck, NamesOutput};
+ghost use Rattle.acredact.specs.Calls.{IsWrongFailure, RedactsAsked};
+ghost use Rattle.acredact.specs.Into.{CountsAll, IsKept, IsSpared, LeavesNoneAll, TellsNone, TellsUnput, TellsUnread, WarnsAll, WritesAll};
 
 use crate::arguments::{items, output_of};
-use crate::failure::{Failure, tell_unread};
+use crate::failure::{Failure, tell_no_output, tell_unread};
+use crate::files::is_input;
 use crate::folder::Folder;
 use crate::outputs::Outputs;
 use crate::run::{FAILED, run};
 use crate::streams::Streams;
-use aho_devices::adapters::{FromRead, FromWrite};
+use aho_devices::adapters::FromWrite;
 use aho_devices::device::Sink;
 use programs::errors::Errors;
 use std::alloc::Global;
@@ -40,33 +41,33 @@ pub fn named_output<'a>(
 
 /// Makes a new file, and does what the arguments ask for with that for the output. Where all was done it takes the place of the file
 /// of this name, and else it is removed. Answers the exit status.
-pub fn make_and_run<F: Folder, O: Outputs, I: Read + Drop, E: Sink + Drop>(
+pub fn make_and_run<F: Folder, O: Outputs, I: Read, E: Sink>(
     alloc: Global,
     arguments: &[String],
     name: &str,
     folder: &F,
     outputs: &mut O,
-    input: I,
-    errors: Errors<'_, E>,
+    streams: &mut Streams<'_, I, O::File, E>,
 ) -> u8
-    // A new file was made, all was written to it, and then it took that place.
-    ensures writes { IfAsked arguments.now (λ given. result ≡ 0
-        → WritesNew I.Read O.File.Write E.Sink F.Folder O.Outputs folder.now given name.now outputs.old outputs.new) }
-    // Or none was made, or it was removed: what has the name is as it was.
-    ensures leaves { (result ≡ 0 → ⊥) → LeavesOld O.Outputs name.now outputs.old outputs.new }
+    // A new file was made, all was written to it, and then it took that place. What was told is what `run` tells.
+    ensures writes { IfAsked arguments.now (WritesAll O.File.Write E.Sink F.Folder O.Outputs
+        folder.now name.now result outputs.old outputs.new streams.old streams.new) }
+    // Or none was made, or it was removed: what has the name is as it was, and it is told why.
+    ensures leaves { (result ≡ 0 → ⊥) → IsSpared O.Outputs name.now outputs.old outputs.new }
+    ensures tells { IfAsked arguments.now (TellsNone O.File.Write E.Sink F.Folder O.Outputs
+        folder.now name.now result outputs.old outputs.new streams.old streams.new) }
 {
-    let mut errors = errors;
+    if is_input(name) {
+        tell_no_output(&mut streams.errors, name);
+        return FAILED;
+    }
     match outputs.make(name) {
         Ok(file) => {
-            let mut streams = Streams {
-                input: FromRead::new(input),
-                output: FromWrite::new(file),
-                errors,
-            };
-            run_into(alloc, arguments, name, folder, outputs, &mut streams)
+            streams.output = FromWrite::new(file);
+            run_into(alloc, arguments, name, folder, outputs, streams)
         }
         Err(reason) => {
-            tell_unread(&mut errors, name, reason);
+            tell_unread(&mut streams.errors, name, reason);
             FAILED
         }
     }
@@ -85,18 +86,19 @@ pub fn run_into<F: Folder, O: Outputs, I: Read, E: Sink>(
     // Where the status is 0 the new file holds all, and took that place.
     ensures redacts { IfAsked arguments.now (λ all. result ≡ 0
         → RedactsAsked O.File.Write F.Folder folder.now all streams.old streams.new) }
-    ensures strict { IfAsked arguments.now (λ given. RefusesUnclean given → result ≡ 0
-        → LeavesNoneAsked O.File.Write F.Folder folder.now given streams.old streams.new) }
-    ensures quiet { IfAsked arguments.now (λ given. counts_asked given ≡ false → result ≡ 0
-        → WarnsAsked E.Sink F.Folder folder.now given streams.old streams.new) }
-    ensures counts { IfAsked arguments.now (λ given. counts_asked given ≡ true → result ≡ 0
-        → CountsAsked O.File.Write E.Sink F.Folder folder.now given streams.old streams.new) }
+    ensures strict { IfAsked arguments.now (LeavesNoneAll O.File.Write E.Sink F.Folder
+        folder.now result streams.old streams.new) }
+    ensures quiet { IfAsked arguments.now (WarnsAll E.Sink F.Folder folder.now result streams.old streams.new) }
+    ensures counts { IfAsked arguments.now (CountsAll O.File.Write E.Sink F.Folder
+        folder.now result streams.old streams.new) }
     ensures flushed { IfNoCheck arguments.now (result ≡ 0
         → streams.new.output.device.flushed ≡ true) }
     ensures puts { result ≡ 0 → O.puts outputs.old outputs.new name.now
         (output_bytes O.File.Write streams.new.output) }
-    // At any other it did not, and was removed.
+    // At any other it did not, and was removed, and it is told why.
     ensures kept { (result ≡ 0 → ⊥) → IsKept O.Outputs name.now outputs.old outputs.new }
+    ensures tells { IfAsked arguments.now (TellsUnput E.Sink F.Folder
+        folder.now name.now result streams.old streams.new) }
 {
     let done = run(alloc, arguments, folder, streams);
     finish(outputs, name, done, streams)
@@ -114,6 +116,11 @@ fn finish<O: Outputs, I: Read, E: Sink>(
     ensures puts { result ≡ 0 → O.puts outputs.old outputs.new name.now
         (output_bytes O.File.Write streams.old.output) }
     ensures kept { (result ≡ 0 → ⊥) → IsKept O.Outputs name.now outputs.old outputs.new }
+    // What was not done was told, and nothing is told twice.
+    ensures failed { (done ≡ 0 → ⊥) → (streams.new ≡ streams.old) × (result ≡ done) }
+    ensures output { streams.new.output ≡ streams.old.output }
+    ensures told { done ≡ 0 → (result ≡ 0 → ⊥)
+        → TellsUnread E.Sink name.now streams.old.errors streams.new.errors }
 {
     if done != 0 {
         return discard(outputs, name, done);

@@ -19,6 +19,7 @@ mod failure;
 mod files;
 mod folder;
 mod held;
+mod help;
 mod in_place;
 mod into;
 mod left;
@@ -53,6 +54,7 @@ use failure::Failure::Unread;
 use folder::{Folder, Host};
 use in_place::{asks_in_place, replace_in_place};
 use into::{make_and_run, named_output};
+use outputs::Outputs;
 use programs::arguments::arguments;
 use programs::closed::{Noted, Quiet};
 use programs::errors::Errors;
@@ -86,13 +88,17 @@ fn main(rt: HostRuntime) -> ExitCode {
             Ok(false) => {}
             Ok(true) => {
                 let folder = Host::new(&rt, &looked, None);
+                let mut streams = Streams {
+                    input: FromRead::new(rt.stdin()),
+                    output: FromWrite::new(outputs.idle()),
+                    errors,
+                };
                 return ExitCode::from(replace_in_place(
                     rt.alloc(),
                     arguments,
                     &folder,
                     &mut outputs,
-                    rt.stdin(),
-                    errors,
+                    &mut streams,
                 ));
             }
             Err(failure) => return ExitCode::from(report(&failure, &mut errors)),
@@ -101,14 +107,18 @@ fn main(rt: HostRuntime) -> ExitCode {
             Ok(None) => {}
             Ok(Some(name)) => {
                 let folder = Host::new(&rt, &looked, Some(name));
+                let mut streams = Streams {
+                    input: FromRead::new(rt.stdin()),
+                    output: FromWrite::new(outputs.idle()),
+                    errors,
+                };
                 return ExitCode::from(make_and_run(
                     rt.alloc(),
                     arguments,
                     name,
                     &folder,
                     &mut outputs,
-                    rt.stdin(),
-                    errors,
+                    &mut streams,
                 ));
             }
             Err(failure) => return ExitCode::from(report(&failure, &mut errors)),

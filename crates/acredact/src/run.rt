@@ -36,6 +36,7 @@ use crate::doubts::warn_of_lists;
 use crate::failure::{Failure, tell_failure, tell_unclean};
 use crate::files::{Job, back_files, redact_files};
 use crate::folder::Folder;
+use crate::help::{HELP, VERSION};
 use crate::load::{key_of, lists_of, rules};
 use crate::patterns::{Rule, patterns_of, replacements_of};
 use crate::rows::build;
@@ -56,37 +57,6 @@ use std::io::{Read, Write};
 
 /// What is written in the place of a match, where nothing else is given.
 const REDACTED: &[u8] = b"[redacted]";
-
-/// What `--help` writes.
-const HELP: &[u8] =
-    b"usage: acredact [-i] [--kind KIND] (-e PATTERN | -f FILE | -t TABLE).. [--with TEXT | --pseudonym KEYFILE] [--output FILE | --in-place] [--count] [--summary] [--check] [FILE]..
-
-Writes each FILE with a text in the place of each run of bytes that lie in matches of the patterns. No FILE, or -, is standard input.
-
-  -e PATTERN    a pattern; also --pattern, and --file, --table and --ignore-case for -f, -t and -i
-  -f FILE       a file of patterns, one on each line; - is standard input
-  -t TABLE      a table: on each line a pattern, a TAB and its replacement; \\t, \\n and \\\\ stand for bytes
-  -i            ASCII letters are the same in both cases
-  --kind KIND   what is replaced: cover (if none is given) each byte of each match; longest, first and standard
-                one of several matches that overlap, and then a part of another can stay
-  --with TEXT   the replacement of patterns that have none of their own: [redacted] if none is given
-  --pseudonym KEYFILE
-                write [redacted: and 12 digits ]: of the run's HMAC-SHA-256 by the key in KEYFILE, so equal runs stay equal
-  --output FILE replace this FILE, if all is redacted: the output goes to a new file that takes its place at the end
-  --in-place    do the same for each FILE: it is replaced, if all of it is redacted
-  --count       write to standard error how often the text of each pattern was written
-  --summary     write to standard error how many files and bytes were read, and these counts, as an object of JSON
-  --check       write nothing: the status is 1 if something would be replaced, 0 if nothing
-  --crlf        leave out a carriage return at the end of a line of a FILE of patterns or a TABLE
-  --allow-empty allow an empty FILE of patterns or TABLE
-  --strict      refuse replacements that can spell a pattern with what stands beside them; for covers alone
-  --            only FILEs follow
-  --help        write this and end
-  --version     write the version and end
-";
-
-/// What `--version` writes.
-const VERSION: &[u8] = b"acredact 0.1.0\n";
 
 /// The exit status where not all was done.
 pub const FAILED: u8 = 2;

@@ -1,11 +1,12 @@
 -- What was loaded is what is redacted, by the key, where there is one.
-use Rattle.std.proofs.Common.{◌≡◌, inl, inr, List, ℕ, refl, sym, subst, true}
-use Rattle.std.specs.Prelude.{Err, None, Ok, Option, Some}
+use Rattle.std.proofs.Common.{inl, inr, List, ℕ, sym, subst}
+use Rattle.std.specs.Prelude.{None, Option, Some}
 use Rattle.programs.specs.Streams.{bytes_left}
 use Rattle.acredact.specs.Arguments.{all_given, last_value}
 use Rattle.acredact.specs.Calls.{call_of, reading_by, rules_asked}
-use Rattle.acredact.specs.Loading.{IsKeyGiven, key_in, reading_of_lists}
+use Rattle.acredact.specs.Loading.{CannotLoadKey, IsKeyGiven, key_in, reading_of_lists}
 use Rattle.acredact.specs.declared.arguments.Word.TheVariants.{Pseudonym}
+use Rattle.acredact.proofs.PlacedCalls.{places_refused}
 use Rattle.acredact.proofs.Ready.{reading_from}
 use Rattle.acredact.proofs.in_place.load_key.Goals as goal
 
@@ -22,10 +23,7 @@ returns-in-Ok-Some g c = record {
       (λ r. IsKeyGiven r asked (Some c.in-Ok-Some.key.items) old new) of_lists in
       let key : IsKeyGiven (reading_by call) asked (Some c.as_slice.result.now) old new =
       subst (λ (l : List ℕ). IsKeyGiven (reading_by call) asked (Some l) old new) (sym c.as_slice.ensures.value) of_call in
-      record {
-        replaces = λ is. record { load = _; between = _; loaded = record { between = old; secrets = given; key = key }; replaced = c.place_loaded.ensures.outcome.all is };
-        keeps = inr (record { load = _; between = _; loaded = record { between = old; secrets = given; key = key }; whole = c.place_loaded.ensures.outcome.whole });
-      };
+      c.place_loaded.ensures.outcome left (record { between = old; secrets = given; key = key });
 }
 
 pub returns-in-Ok-None : goal.returns-in-Ok-None
@@ -40,11 +38,13 @@ returns-in-Ok-None g c = record {
       let key : IsKeyGiven (reading_by call) asked None old new =
       reading_from g.F.Folder c.lists_of-lists.result c.args.folder.now (rules_asked (all_given c.args.given.now)) c.lists_of-lists.ensures.folder c.lists_of-lists.ensures.rules
       (λ r. IsKeyGiven r asked None old new) of_lists in
-      record {
-        replaces = λ is. record { load = _; between = _; loaded = record { between = old; secrets = given; key = key }; replaced = c.place_loaded-in-Ok-None.ensures.outcome.all is };
-        keeps = inr (record { load = _; between = _; loaded = record { between = old; secrets = given; key = key }; whole = c.place_loaded-in-Ok-None.ensures.outcome.whole });
-      };
+      c.place_loaded-in-Ok-None.ensures.outcome left (record { between = old; secrets = given; key = key });
 }
 
 pub returns-in-Err : goal.returns-in-Err
-returns-in-Err g c = record { outcome = λ left given. record { replaces = λ (is : Err c.in-Err.failure ≡ Ok true). absurd (cc); keeps = inl refl } }
+returns-in-Err g c = record {
+  outcome = λ left given.
+      places_refused g.O.File.Write g.E.Sink g.O.Outputs (call_of g.F.Folder c.args.folder.now (all_given c.args.given.now)) left c.in-Err.failure _ _
+      (inr (inl (inr (reading_from g.F.Folder c.lists_of-lists.result c.args.folder.now (rules_asked (all_given c.args.given.now)) c.lists_of-lists.ensures.folder c.lists_of-lists.ensures.rules
+      (λ r. CannotLoadKey r (all_given c.args.given.now) c.in-Err.failure) c.in-Err.ensures.fails))));
+}

@@ -1,14 +1,12 @@
 -- What was loaded is what is redacted.
-use Rattle.std.proofs.Common.{◌≡◌, inl, List, ap, refl, sym, subst, true}
-use Rattle.std.specs.Prelude.{Err, Ok}
+use Rattle.std.proofs.Common.{rules, ◌≡◌, inl, inr, List, ap, refl, sym, subst, false}
 use Rattle.programs.specs.Streams.{bytes_left}
 use Rattle.acredact.specs.Arguments.{all_given}
-use Rattle.acredact.specs.Calls.{call_of, reading_by, rules_asked}
-use Rattle.acredact.specs.Loading.{AreGiven}
+use Rattle.acredact.specs.Calls.{call_of, gives_pattern, reading_by, rules_asked}
+use Rattle.acredact.specs.Loading.{AreGiven, CannotLoadOne}
 use Rattle.acredact.specs.Tables.{HaveNoEmpty, Secret, secrets_of}
-use Rattle.acredact.specs.declared.arguments.Mistake.TheVariants.{NoPattern}
-use Rattle.acredact.specs.declared.failure.Failure.TheVariants.{Arguments}
-use Rattle.acredact.proofs.Ready.{given_some, reading_from}
+use Rattle.acredact.proofs.PlacedCalls.{places_refused}
+use Rattle.acredact.proofs.Ready.{given_some, gives_none, reading_from}
 use Rattle.acredact.proofs.in_place.load_places.Goals as goal
 
 pub load_key-requires : goal.load_key-requires
@@ -27,7 +25,13 @@ returns-in-Ok g c = record {
 }
 
 pub returns-then-not-gives_pattern : goal.returns-then-not-gives_pattern
-returns-then-not-gives_pattern g c = record { outcome = record { replaces = λ (is : Err (Arguments NoPattern) ≡ Ok true). absurd (cc); keeps = inl refl } }
+returns-then-not-gives_pattern g c =
+    let none : gives_pattern (all_given c.args.given.now) ≡ false = search rules in
+    record { outcome = places_refused g.O.File.Write g.E.Sink g.O.Outputs (call_of g.F.Folder c.args.folder.now (all_given c.args.given.now)) _ _ _ _ (inl (inr (refl, gives_none _ none))) }
 
 pub returns-in-Err : goal.returns-in-Err
-returns-in-Err g c = record { outcome = record { replaces = λ (is : Err c.in-Err.failure ≡ Ok true). absurd (cc); keeps = inl refl } }
+returns-in-Err g c = record {
+  outcome = places_refused g.O.File.Write g.E.Sink g.O.Outputs (call_of g.F.Folder c.args.folder.now (all_given c.args.given.now)) _ c.in-Err.failure _ _
+      (inr (inl (inl (reading_from g.F.Folder c.lists_of-lists.result c.args.folder.now (rules_asked (all_given c.args.given.now)) c.lists_of-lists.ensures.folder c.lists_of-lists.ensures.rules
+      (λ r. CannotLoadOne r (all_given c.args.given.now) c.in-Err.failure) c.in-Err.ensures.fails))));
+}

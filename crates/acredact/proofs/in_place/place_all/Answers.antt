@@ -1,5 +1,5 @@
 -- Both automata are of the patterns that are asked for, and there is a replacement for each.
-use Rattle.std.proofs.Common.{rules, ◌≡◌, ◌≤◌, ◌∙◌, ap, sym, subst, length, map, true, List, ℕ}
+use Rattle.std.proofs.Common.{rules, inl, inr, refl, ◌≡◌, ◌≤◌, ◌∙◌, ap, sym, subst, length, map, true, List, ℕ}
 use Rattle.std.specs.Option.{option_map}
 use Rattle.std.specs.Prelude.{Bool, IfSome, IsOk, None, Option, Some, Ok, Err, Result}
 use Rattle.std.specs.Result.{IsErr, IsErrAnd}
@@ -18,23 +18,27 @@ use Rattle.aho_hybrid.specs.declared.hybrid.Hybrid.{Hybrid}
 use Rattle.aho_corasick.specs.declared.noncontiguous.NFA.{NFA}
 use Rattle.aho_backward.specs.Searcher.{IsBackwardOf}
 use Rattle.aho_backward.specs.declared.backward.Backward.{Backward}
+use Rattle.programs.specs.Asked.{ArePatterns}
 use Rattle.programs.specs.Names.{name_bytes}
-use Rattle.acredact.specs.Arguments.{Given, all_given, covers_asked}
+use Rattle.programs.specs.Streams.{bytes_left}
+use Rattle.acredact.specs.Arguments.{Given, all_given, covers_asked, has}
 use Rattle.acredact.specs.Back.{AreBoth, IsBackAsked}
-use Rattle.acredact.specs.Builds.{patterns_by_given}
+use Rattle.acredact.specs.Builds.{RefusesPatterns, patterns_by_given}
 use Rattle.acredact.specs.Calls.{call_of, key_asked, keyed_as, names_asked, pieces_asked, work_by}
 use Rattle.acredact.specs.Files.{key_for}
-use Rattle.acredact.specs.InPlace.{PlacesOutcome}
+use Rattle.acredact.specs.InPlace.{WarnedPlaces}
 use Rattle.acredact.specs.Loading.{key_lent, loaded_as}
 use Rattle.acredact.specs.Secrets.{CanRedact, key_of_cover}
 use Rattle.acredact.specs.Tables.{patterns_in, piece_by, secret_of, secrets_of}
+use Rattle.acredact.specs.Totals.{CountsWork}
+use Rattle.acredact.specs.Volumes.{ReadsVolume}
 use Rattle.acredact.specs.declared.failure.Failure.{Failure}
+use Rattle.acredact.specs.declared.arguments.Word.TheVariants.{Strict}
 use Rattle.acredact.specs.declared.failure.Failure.TheVariants.{Other}
 use Rattle.programs.specs.declared.failure.Failure.TheVariants.{Build, OutOfMemory}
 use Rattle.programs.proofs.Lent.{lent}
 use Rattle.acredact.proofs.Ready.{covers_standard, ready_of, some_shortest}
 use Rattle.acredact.proofs.Calls.{work_as}
-use Rattle.acredact.proofs.Placed.{places_none}
 use Rattle.acredact.proofs.in_place.place_all.Goals.{After-as_ref}
 use Rattle.acredact.proofs.in_place.place_all.Given.{Over}
 use Rattle.acredact.proofs.in_place.place_all.Goals as goal
@@ -89,6 +93,9 @@ rows_ready (Some rows) p replacements of starts covers standard some one =
     let laws = rows-laws rows.now p of in
     ready_of HybridGhosts rows.now p covers replacements of laws.lengths_are laws.kind_is standard starts some one
 
+patterns_are : (g : Over) (c : After-as_ref g) → ArePatterns (patterns_by_given (all_given c.args.given.now) (patterns_in (secrets_of c.args.rules.now))) c.has-ignore_case.result (pieces_of c.as_slice-words.result.now)
+patterns_are g c = record { words_are = sym (words_are g c); rule = sym c.has-ignore_case.ensures.has }
+
 pub place_warned-requires : goal.place_warned-requires
 place_warned-requires g c =
     let p = patterns_by_given (all_given c.args.given.now) (patterns_in (secrets_of c.args.rules.now)) in
@@ -106,49 +113,76 @@ place_warned-requires g c =
       words = sym (sym (length-map c.as_slice-words.result.now (λ piece. piece.now)) ∙ ap length (words_are g after) ∙ length-map (secrets_of c.args.rules.now) _ ∙ length-map c.args.rules.now secret_of);
     }
 
-pub returns-in_err-patterns : goal.returns-in_err-patterns
-returns-in_err-patterns g c =
+pub returns-in_err-patterns-clause-outcome : goal.returns-in_err-patterns-clause-outcome
+returns-in_err-patterns-clause-outcome g c =
     let work = work_by (call_of g.F.Folder c.args.folder.now (all_given c.args.given.now)) (loaded_as c.args.rules.now (key_lent c.args.key)) in
     let is : c.from_residual.result ≡ Err (Other OutOfMemory) = search rules in
-    record { outcome = subst (λ (r : Result Bool Failure). PlacesOutcome g.O.File.Write g.O.Outputs work r c.args.outputs.now c.args.outputs.now) (sym is) (places_none g.O.File.Write g.O.Outputs work _ _) }
+    subst (λ (r : Result Bool Failure). WarnedPlaces g.O.File.Write g.O.Outputs work g.E.Sink (has Strict (all_given c.args.given.now)) r c.args.outputs.now c.args.outputs.now c.args.streams.now.errors c.args.streams.now.errors) (sym is)
+    (inl (Other OutOfMemory, refl, refl, refl, inr (inr refl)))
 
-pub returns-in_err-replacements : goal.returns-in_err-replacements
-returns-in_err-replacements g c =
+pub returns-in_err-replacements-clause-outcome : goal.returns-in_err-replacements-clause-outcome
+returns-in_err-replacements-clause-outcome g c =
     let work = work_by (call_of g.F.Folder c.args.folder.now (all_given c.args.given.now)) (loaded_as c.args.rules.now (key_lent c.args.key)) in
     let is : c.from_residual-in_err-replacements.result ≡ Err (Other OutOfMemory) = search rules in
-    record { outcome = subst (λ (r : Result Bool Failure). PlacesOutcome g.O.File.Write g.O.Outputs work r c.args.outputs.now c.args.outputs.now) (sym is) (places_none g.O.File.Write g.O.Outputs work _ _) }
+    subst (λ (r : Result Bool Failure). WarnedPlaces g.O.File.Write g.O.Outputs work g.E.Sink (has Strict (all_given c.args.given.now)) r c.args.outputs.now c.args.outputs.now c.args.streams.now.errors c.args.streams.now.errors) (sym is)
+    (inl (Other OutOfMemory, refl, refl, refl, inr (inr refl)))
 
-pub returns-in_err-names : goal.returns-in_err-names
-returns-in_err-names g c =
+pub returns-in_err-names-clause-outcome : goal.returns-in_err-names-clause-outcome
+returns-in_err-names-clause-outcome g c =
     let work = work_by (call_of g.F.Folder c.args.folder.now (all_given c.args.given.now)) (loaded_as c.args.rules.now (key_lent c.args.key)) in
     let is : c.from_residual-in_err-names.result ≡ Err (Other OutOfMemory) = search rules in
-    record { outcome = subst (λ (r : Result Bool Failure). PlacesOutcome g.O.File.Write g.O.Outputs work r c.args.outputs.now c.args.outputs.now) (sym is) (places_none g.O.File.Write g.O.Outputs work _ _) }
+    subst (λ (r : Result Bool Failure). WarnedPlaces g.O.File.Write g.O.Outputs work g.E.Sink (has Strict (all_given c.args.given.now)) r c.args.outputs.now c.args.outputs.now c.args.streams.now.errors c.args.streams.now.errors) (sym is)
+    (inl (Other OutOfMemory, refl, refl, refl, inr (inr refl)))
 
-pub returns-in_err-nfa : goal.returns-in_err-nfa
-returns-in_err-nfa g c =
+pub returns-in_err-nfa-clause-outcome : goal.returns-in_err-nfa-clause-outcome
+returns-in_err-nfa-clause-outcome g c =
     let work = work_by (call_of g.F.Folder c.args.folder.now (all_given c.args.given.now)) (loaded_as c.args.rules.now (key_lent c.args.key)) in
     let is : c.from_residual-in_err-nfa.result ≡ Err (Other (Build c.in_err-nfa.field-0.0)) = search rules in
-    record { outcome = subst (λ (r : Result Bool Failure). PlacesOutcome g.O.File.Write g.O.Outputs work r c.args.outputs.now c.args.outputs.now) (sym is) (places_none g.O.File.Write g.O.Outputs work _ _) }
+    let words = ap pieces_of c.as_slice-words.ensures.value ∙ c.in_ok-patterns.ensures.patterns in
+    subst (λ (r : Result Bool Failure). WarnedPlaces g.O.File.Write g.O.Outputs work g.E.Sink (has Strict (all_given c.args.given.now)) r c.args.outputs.now c.args.outputs.now c.args.streams.now.errors c.args.streams.now.errors) (sym is)
+    (inl (
+      Other (Build c.in_err-nfa.field-0.0),
+      refl,
+      refl,
+      refl,
+      inr (inl
+          (c.in_err-nfa.field-0.0, refl, subst (λ (l : List (List ℕ)). RefusesPatterns (patterns_by_given (all_given c.args.given.now) l) c.in_err-nfa.field-0.0) words c.in_err-nfa.ensures.refused)),
+    ))
 
-pub returns-in_err-rows : goal.returns-in_err-rows
-returns-in_err-rows g c =
+pub returns-in_err-rows-clause-outcome : goal.returns-in_err-rows-clause-outcome
+returns-in_err-rows-clause-outcome g c =
     let work = work_by (call_of g.F.Folder c.args.folder.now (all_given c.args.given.now)) (loaded_as c.args.rules.now (key_lent c.args.key)) in
-    let is = err_is c.from_residual-in_err-rows.result (Other OutOfMemory) c.from_residual-in_err-rows.ensures.0 c.from_residual-in_err-rows.ensures.1 in
-    record { outcome = subst (λ (r : Result Bool Failure). PlacesOutcome g.O.File.Write g.O.Outputs work r c.args.outputs.now c.args.outputs.now) (sym is) (places_none g.O.File.Write g.O.Outputs work _ _) }
+    let is : c.from_residual-in_err-rows.result ≡ Err (Other OutOfMemory) = err_is c.from_residual-in_err-rows.result (Other OutOfMemory) c.from_residual-in_err-rows.ensures.0 c.from_residual-in_err-rows.ensures.1 in
+    subst (λ (r : Result Bool Failure). WarnedPlaces g.O.File.Write g.O.Outputs work g.E.Sink (has Strict (all_given c.args.given.now)) r c.args.outputs.now c.args.outputs.now c.args.streams.now.errors c.args.streams.now.errors) (sym is)
+    (inl (Other OutOfMemory, refl, refl, refl, inr (inr refl)))
 
-pub returns-in_err-back : goal.returns-in_err-back
-returns-in_err-back g c =
+pub returns-in_err-back-clause-outcome : goal.returns-in_err-back-clause-outcome
+returns-in_err-back-clause-outcome g c =
     let work = work_by (call_of g.F.Folder c.args.folder.now (all_given c.args.given.now)) (loaded_as c.args.rules.now (key_lent c.args.key)) in
-    let is = err_is c.from_residual-in_err-back.result (Other OutOfMemory) c.from_residual-in_err-back.ensures.0 c.from_residual-in_err-back.ensures.1 in
-    record { outcome = subst (λ (r : Result Bool Failure). PlacesOutcome g.O.File.Write g.O.Outputs work r c.args.outputs.now c.args.outputs.now) (sym is) (places_none g.O.File.Write g.O.Outputs work _ _) }
+    let is : c.from_residual-in_err-back.result ≡ Err (Other OutOfMemory) = err_is c.from_residual-in_err-back.result (Other OutOfMemory) c.from_residual-in_err-back.ensures.0 c.from_residual-in_err-back.ensures.1 in
+    subst (λ (r : Result Bool Failure). WarnedPlaces g.O.File.Write g.O.Outputs work g.E.Sink (has Strict (all_given c.args.given.now)) r c.args.outputs.now c.args.outputs.now c.args.streams.now.errors c.args.streams.now.errors) (sym is)
+    (inl (Other OutOfMemory, refl, refl, refl, inr (inr refl)))
 
-pub returns : goal.returns
-returns g c =
+pub returns-clause-counted : goal.returns-clause-counted
+returns-clause-counted g c =
     let p = patterns_by_given (all_given c.args.given.now) (patterns_in (secrets_of c.args.rules.now)) in
-    let after = (goal.at.returns g c).After-as_ref in
-    record {
-      outcome =
-          work_as (g.F.Folder.holds c.args.folder.now) (g.F.Folder.refuses c.args.folder.now) (g.F.Folder.meets c.args.folder.now) p _ _ _ _ _ _ _ _ (names_are g after) (covers_are g after) (pieces_are g after) (key_is g after)
-          (λ w. PlacesOutcome g.O.File.Write g.O.Outputs w c.place_warned.result c.args.outputs.now c.place_warned.new.outputs) (c.place_warned.ensures.outcome p (nfa_is g after) (rows_are g after)
-          (back_is (all_given c.args.given.now) _ _ c.in_ok-back.back c.as_ref-2.result (words_are g after) c.as_ref-2.ensures.value c.in_ok-back.ensures.of));
-    }
+    let after = (goal.at.returns-clause-counted g c).After-as_ref in
+    work_as (g.F.Folder.holds c.args.folder.now) (g.F.Folder.refuses c.args.folder.now) (g.F.Folder.meets c.args.folder.now) p _ _ _ _ _ _ _ _ (names_are g after) (covers_are g after) (pieces_are g after) (key_is g after)
+    (λ w. CountsWork w c.place_warned.result c.args.streams.now c.place_warned.new.streams c.args.counts.now c.place_warned.new.counts) (c.place_warned.ensures.counted p (nfa_is g after) (patterns_are g after) (rows_are g after)
+    (back_is (all_given c.args.given.now) _ _ c.in_ok-back.back c.as_ref-2.result (words_are g after) c.as_ref-2.ensures.value c.in_ok-back.ensures.of))
+
+pub returns-clause-outcome : goal.returns-clause-outcome
+returns-clause-outcome g c =
+    let p = patterns_by_given (all_given c.args.given.now) (patterns_in (secrets_of c.args.rules.now)) in
+    let after = (goal.at.returns-clause-outcome g c).After-as_ref in
+    let work = work_by (call_of g.F.Folder c.args.folder.now (all_given c.args.given.now)) (loaded_as c.args.rules.now (key_lent c.args.key)) in
+    subst (λ (b : Bool). WarnedPlaces g.O.File.Write g.O.Outputs work g.E.Sink b c.place_warned.result c.args.outputs.now c.place_warned.new.outputs c.args.streams.now.errors c.place_warned.new.streams.errors) c.has-strict.ensures.has
+    (work_as (g.F.Folder.holds c.args.folder.now) (g.F.Folder.refuses c.args.folder.now) (g.F.Folder.meets c.args.folder.now) p _ _ _ _ _ _ _ _ (names_are g after) (covers_are g after) (pieces_are g after) (key_is g after)
+    (λ w. WarnedPlaces g.O.File.Write g.O.Outputs w g.E.Sink c.has-strict.result c.place_warned.result c.args.outputs.now c.place_warned.new.outputs c.args.streams.now.errors c.place_warned.new.streams.errors) (c.place_warned.ensures.outcome p (nfa_is g after) (patterns_are g after) (rows_are g after)
+    (back_is (all_given c.args.given.now) _ _ c.in_ok-back.back c.as_ref-2.result (words_are g after) c.as_ref-2.ensures.value c.in_ok-back.ensures.of) (ap pieces_of c.as_slice-2.ensures.value ∙ c.in_ok-replacements.ensures.pieces)))
+
+pub returns-clause-read : goal.returns-clause-read
+returns-clause-read g c = λ whole.
+    let after = (goal.at.returns-clause-read g c).After-as_ref in
+    subst (λ (l : List (List ℕ)). ReadsVolume (g.F.Folder.holds c.args.folder.now) l c.args.volume.now c.place_warned.new.volume (bytes_left c.args.streams.now.input) (bytes_left c.place_warned.new.streams.input)) (names_are g after)
+    (c.place_warned.ensures.read whole)

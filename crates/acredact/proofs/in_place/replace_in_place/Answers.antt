@@ -1,35 +1,57 @@
 -- The arguments are right or wrong.
-use Rattle.std.proofs.Common.{◌≡◌, inl, ℕ, List, Option, ap, refl, sym, subst, ◌∙◌, arith}
+use Rattle.std.proofs.Common.{◌≡◌, inl, ℕ, List, ap, refl, sym, subst, ◌∙◌, arith}
 use Rattle.std.specs.Prelude.{None, Some}
 use Rattle.programs.specs.Arguments.{texts}
+use Rattle.programs.specs.Streams.{bytes_left}
 use Rattle.acredact.specs.Arguments.{Given, all_asked, all_given}
-use Rattle.acredact.specs.InPlace.{KeepsEach, ReplacesAsked}
-use Rattle.acredact.proofs.Given.{same_given}
+use Rattle.acredact.specs.Calls.{IsWrongLine, call_of}
+use Rattle.acredact.specs.InPlace.{PlacesStatus}
+use Rattle.acredact.specs.declared.failure.Failure.TheVariants.{Arguments}
+use Rattle.acredact.proofs.Given.{memory_alone, same_given}
+use Rattle.acredact.proofs.PlacedCalls.{places_failed, places_refused}
+use Rattle.acredact.proofs.Statuses.{tells_one}
 use Rattle.acredact.proofs.in_place.replace_in_place.Goals as goal
 
 pub returns-in-Ok : goal.returns-in-Ok
 returns-in-Ok g c =
     let items = all_given c.as_slice.result.now in
     let mine : all_asked (texts c.args.arguments.now) ≡ Some items = c.in-Ok.ensures.given ∙ ap (λ l. Some (all_given l)) (sym c.as_slice.ensures.value) in
-    let same = λ (given : List Given) (right : all_asked (texts c.args.arguments.now) ≡ Some given). same_given (all_asked (texts c.args.arguments.now)) given items right mine in
-    let left = ap g.I.Read.remaining c.new.ensures.reader in
+    let says = λ (given : List Given) (right : all_asked (texts c.args.arguments.now) ≡ Some given).
+    subst (λ (l : List Given). PlacesStatus g.O.File.Write g.E.Sink g.O.Outputs (call_of g.F.Folder c.args.folder.now l) (bytes_left c.args.streams.now.input) c.answer_places.result c.args.outputs.now c.answer_places.new.outputs c.args.streams.now.errors c.answer_places.new.streams.errors)
+    (same_given (all_asked (texts c.args.arguments.now)) given items right mine) c.answer_places.ensures.says in
     record {
       wrong = λ wrong. let clash : None ≡ Some items = sym wrong ∙ mine in absurd (cc);
       unmade = λ wrong. let clash : None ≡ Some items = sym wrong ∙ mine in absurd (cc);
-      replaces = λ given right asks zero.
-          subst (λ (l : List Given). ReplacesAsked g.O.File.Write g.F.Folder g.O.Outputs c.args.folder.now (g.I.Read.remaining c.args.input) c.args.outputs.now c.answer_places.new.outputs l) (same given right)
-          (subst (λ (bytes : Option (List ℕ)). ReplacesAsked g.O.File.Write g.F.Folder g.O.Outputs c.args.folder.now bytes c.args.outputs.now c.answer_places.new.outputs items) left (c.answer_places.ensures.replaces zero));
-      keeps = λ given right asks.
-          subst (λ (l : List Given). KeepsEach g.O.File.Write g.F.Folder g.O.Outputs c.args.folder.now (g.I.Read.remaining c.args.input) c.args.outputs.now c.answer_places.new.outputs l) (same given right)
-          (subst (λ (bytes : Option (List ℕ)). KeepsEach g.O.File.Write g.F.Folder g.O.Outputs c.args.folder.now bytes c.args.outputs.now c.answer_places.new.outputs items) left c.answer_places.ensures.keeps);
+      tells_wrong = λ wrong. let clash : None ≡ Some items = sym wrong ∙ mine in absurd (cc);
+      replaces = λ given right asks. (says given right).replaces;
+      keeps = λ given right asks. (says given right).keeps;
+      strict = λ given right asks. (says given right).strict;
+      quiet = λ given right asks. (says given right).quiet;
+      counts = λ given right asks. (says given right).counts;
+      tells = λ given right asks. (says given right).tells;
+      reaches = λ given right asks. (says given right).reaches;
       bound = c.answer_places.ensures.bound;
     }
 
 pub returns-in-Err : goal.returns-in-Err
-returns-in-Err g c = record {
-  wrong = λ wrong. c.report.ensures.failed;
-  unmade = λ wrong. refl;
-  replaces = λ given right asks (zero : c.report.result ≡ 0). absurd (omega (arith, zero, c.report.ensures.failed));
-  keeps = λ given right asks. inl refl;
-  bound = omega (arith, c.report.ensures.failed);
-}
+returns-in-Err g c =
+    let told = c.report.ensures.told in
+    let says = λ (given : List Given) (right : all_asked (texts c.args.arguments.now) ≡ Some given).
+    let call = call_of g.F.Folder c.args.folder.now given in
+    let memory = ap Arguments (memory_alone (texts c.args.arguments.now) given c.in-Err.mistake right c.in-Err.ensures.wrong) in
+    subst (λ (status : ℕ). PlacesStatus g.O.File.Write g.E.Sink g.O.Outputs call (bytes_left c.args.streams.now.input) status c.args.outputs.now c.args.outputs.now c.args.streams.now.errors c.report.new.errors) (sym c.report.ensures.failed)
+    (places_failed g.O.File.Write g.E.Sink g.O.Outputs call _ (Arguments c.in-Err.mistake) _ _ _ _ _ told.0
+    (places_refused g.O.File.Write g.E.Sink g.O.Outputs call (bytes_left c.args.streams.now.input) (Arguments c.in-Err.mistake) c.args.outputs.now c.args.streams.now.errors (inl (inl memory))) told.1 told.2) in
+    record {
+      wrong = λ wrong. c.report.ensures.failed;
+      unmade = λ wrong. refl;
+      tells_wrong = λ wrong. tells_one g.E.Sink (IsWrongLine (texts c.args.arguments.now)) _ _ told.0 (Arguments c.in-Err.mistake, (c.in-Err.mistake, refl, c.in-Err.ensures.wrong), told.1) told.2;
+      replaces = λ given right asks. (says given right).replaces;
+      keeps = λ given right asks. (says given right).keeps;
+      strict = λ given right asks. (says given right).strict;
+      quiet = λ given right asks. (says given right).quiet;
+      counts = λ given right asks. (says given right).counts;
+      tells = λ given right asks. (says given right).tells;
+      reaches = λ given right asks. (says given right).reaches;
+      bound = omega (arith, c.report.ensures.failed);
+    }

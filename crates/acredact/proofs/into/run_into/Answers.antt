@@ -1,7 +1,11 @@
 -- What the call says of its output, and what became of that.
 use Rattle.std.proofs.Common.{◌≡◌, sym, subst, true}
 use Rattle.programs.specs.Streams.{output_bytes}
-use Rattle.acredact.specs.Calls.{CountsAsked, LeavesNoneAsked, RedactsAsked, WarnsAsked}
+use Rattle.programs.specs.Arguments.{texts}
+use Rattle.programs.specs.Telling.{TellsSome}
+use Rattle.acredact.specs.Calls.{CountsAsked, LeavesNoneAsked, OutputFails, RedactsAsked, WarnsAsked, call_of}
+use Rattle.acredact.specs.Into.{IsOutputLine}
+use Rattle.acredact.proofs.Put.{by_status, done_told, not_one, put_told, some_told, two_of}
 use Rattle.acredact.proofs.into.run_into.Goals as goal
 
 pub returns : goal.returns
@@ -21,4 +25,16 @@ returns g c =
       puts = λ zero.
           subst (λ streams. g.O.Outputs.puts c.args.outputs.now c.finish.new.outputs c.args.name.now (output_bytes g.O.File.Write streams.output)) (sym (end.same zero)) (end.puts zero);
       kept = end.kept;
+      tells = λ given right asks failed.
+          let call = call_of g.F.Folder c.args.folder.now given in
+          let fails = OutputFails c.args.streams.now.output c.finish.new.streams.output in
+          by_status (c.run-done.result) (λ zero.
+          let told = end.told zero failed in
+          put_told g.E.Sink call fails c.args.name.now _ _ _ told.0 (done_told g.O.File.Write g.E.Sink call fails c.args.streams.now c.run-done.new.streams
+          (λ none. ran.quiet given right asks none zero) (λ some. ran.counts given right asks some zero)) told.1)
+          (λ other.
+          let same = (end.failed other).0 in
+          let two = two_of c.run-done.result ran.bound (not_one (texts c.args.arguments.now) given right asks ran.one) other in
+          subst (λ streams. TellsSome g.E.Sink (IsOutputLine call (OutputFails c.args.streams.now.output streams.output) c.args.name.now) c.args.streams.now.errors streams.errors) (sym same)
+          (some_told g.E.Sink call _ c.args.name.now _ _ (ran.tells given right asks two)));
     }

@@ -1,0 +1,78 @@
+-- What is told where a new file does not take a place.
+use Rattle.std.proofs.Common.{◌≡◌, inl, inr, ℕ, zero, suc, List, refl, sym, subst, true, false, arith, ◌≤◌}
+use Rattle.std.specs.Prelude.{Bool, Some}
+use Rattle.std.specs.List.{All}
+use Rattle.std.specs.declared.io.traits.Read.{Ghosts as Readers}
+use Rattle.std.specs.declared.io.traits.Write.{Ghosts as Writers}
+use Rattle.std.proofs.lemmas.List.Elements.{All-weaker}
+use Rattle.aho_devices.specs.declared.device.Sink.{Ghosts as SinkGhosts}
+use Rattle.programs.specs.Streams.{bytes_left}
+use Rattle.programs.specs.Telling.{Tells, TellsBytes, TellsSome}
+use Rattle.programs.specs.declared.errors.Errors.{Errors}
+use Rattle.programs.specs.declared.reason.Reason.{Reason}
+use Rattle.acredact.specs.Arguments.{AsksToCheck, AsksToRedact, Given, all_asked, checks_asked, counts_asked, has}
+use Rattle.acredact.specs.Calls.{Call, CountsCall, IsCountsLine, IsLineOf, OutputFails, WarnsCall}
+use Rattle.acredact.specs.Files.{unread_line}
+use Rattle.acredact.specs.Into.{IsOutputLine}
+use Rattle.acredact.specs.declared.arguments.Word.TheVariants.{Strict}
+use Rattle.acredact.specs.declared.streams.Streams.{Streams}
+use Rattle.acredact.proofs.Calls.{tells_counts, tells_last}
+use Rattle.acredact.proofs.Given.{same_given}
+use Rattle.acredact.proofs.PlacedCalls.{tells_weaker}
+use Rattle.acredact.proofs.Statuses.{asks_check, no_redaction}
+use Rattle.acredact.proofs.Warned.{tells_both, warnings_tell}
+
+-- a status is 0, 1 or 2
+pub two_of : (status : ℕ) → status ≤ 2 → (status ≡ 1 → ⊥) → (status ≡ 0 → ⊥) → status ≡ 2
+two_of zero bound one none = absurd (none refl)
+two_of (suc zero) bound one none = absurd (one refl)
+two_of (suc (suc status)) bound one none = omega (arith, bound)
+
+-- it is 0 or not
+pub by_status : {P : Type 0} (status : ℕ) → (status ≡ 0 → P) → ((status ≡ 0 → ⊥) → P) → P
+by_status zero none some = none refl
+by_status (suc status) none some = some (λ (is : suc status ≡ 0). omega (arith, is))
+
+-- a redaction is no check
+pub no_check_of : (arguments : List (List ℕ)) (given : List Given) → all_asked arguments ≡ Some given → AsksToRedact given
+    → ((items : List Given) × (all_asked arguments ≡ Some items) × AsksToCheck items) → ⊥
+no_check_of arguments given right asks (items, mine, checks) =
+    let same : items ≡ given = same_given (all_asked arguments) given items right mine in
+    no_redaction given (subst (λ (l : List Given). checks_asked l ≡ true) same (asks_check items checks)) asks
+
+-- and its status is not 1
+pub not_one : (arguments : List (List ℕ)) (given : List Given) → all_asked arguments ≡ Some given → AsksToRedact given → {status : ℕ}
+    → (status ≡ 1 → (items : List Given) × (all_asked arguments ≡ Some items) × AsksToCheck items) → status ≡ 1 → ⊥
+not_one arguments given right asks check one = no_check_of arguments given right asks (check one)
+
+module _ {E : Type 0} (K : SinkGhosts E) (call : Call) (fails : Type 0) (name : List ℕ) where
+  -- what `run` tells of a failure
+  pub some_told : (old new : Errors E) → TellsSome K (IsLineOf call fails) old new → TellsSome K (IsOutputLine call fails name) old new
+  some_told old new some = record {
+    first = some.first;
+    is_line = inl some.is_line;
+    more = some.more;
+    are_lines = All-weaker (IsLineOf call fails) (IsOutputLine call fails name) (λ line is. inl is) some.more some.are_lines;
+    written = some.written;
+  }
+
+  -- or what it tells where all was done, and then why the new file does not take the place
+  pub put_told : (old mid new : Errors E) (reason : Reason) → Tells K (IsLineOf call fails) old mid → TellsBytes K mid new (unread_line name reason) → TellsSome K (IsOutputLine call fails name) old new
+  put_told old mid new reason first last =
+      tells_last K (IsOutputLine call fails name) old mid new (unread_line name reason) (tells_weaker K (IsLineOf call fails) (IsOutputLine call fails name) old mid (λ line is. inl is) first) (inr (inl (reason, refl))) last
+
+module _ {R W E : Type 0} {Reads : Readers R} (Writes : Writers W) (K : SinkGhosts E) (call : Call) (fails : Type 0) (old new : Streams R W E Reads) where
+  -- what is told where all was done
+  pub done_told : (counts_asked call.given ≡ false → WarnsCall K call (bytes_left old.input) old.errors new.errors) → (counts_asked call.given ≡ true → CountsCall Writes K call (bytes_left old.input) old new)
+      → Tells K (IsLineOf call fails) old.errors new.errors
+  done_told quiet counts = by (counts_asked call.given) refl
+    where
+      by : (b : Bool) → counts_asked call.given ≡ b → Tells K (IsLineOf call fails) old.errors new.errors
+      by false none = let warned = quiet none in warnings_tell K call fails warned.load (bytes_left old.input) warned.between warned.loaded old.errors warned.told.0 new.errors warned.told.1 warned.told.2
+      by true some =
+          let counted = counts some in
+          let warned = counted.warned in
+          let load = counted.load in
+          tells_both K (IsLineOf call fails) old.errors counted.meanwhile new.errors (warnings_tell K call fails load (bytes_left old.input) counted.between counted.loaded old.errors warned.0 counted.meanwhile warned.1 warned.2)
+          (tells_weaker K (IsCountsLine call.given load.secrets) (IsLineOf call fails) counted.meanwhile new.errors (λ line is. inr (inr (inl (load, bytes_left old.input, counted.between, counted.loaded, is))))
+          (tells_counts K call.given counted.meanwhile new.errors load.secrets counted.counted.counts counted.volume some counted.counted.told))

@@ -1,0 +1,48 @@
+//! The texts of `--help` and `--version`.
+
+/// What `--version` writes.
+pub const VERSION: &[u8] = b"acredact 0.1.0\n";
+
+/// What `--help` writes.
+pub const HELP: &[u8] = b"usage: acredact [OPTIONS] [FILE..]
+Writes each FILE with a text in the place of each run of bytes that lie in
+matches of the patterns. FILE '-' is standard input, which is read too where no
+FILE is given.
+
+Patterns, one at least:
+  -e, --pattern PATTERN redact PATTERN
+  -f, --file FILE       redact each line of FILE
+  -t, --table TABLE     redact by TABLE: each line is a pattern, a TAB and its
+                        replacement, where \\t, \\n and \\\\ stand for bytes
+  -i, --ignore-case     ASCII letters are the same in both cases
+  --crlf                a carriage return at the end of a line of FILE or TABLE
+                        is no part of it
+  --allow-empty         FILE and TABLE may have no line
+
+Replacements:
+  --kind KIND           what is replaced: cover (the default), each byte of each
+                        match; longest, first or standard, one of several that
+                        overlap, and then a part of another can stay
+  --with TEXT           the replacement of patterns that have none of their own,
+                        not '[redacted]'
+  --pseudonym KEYFILE   replace each run by 12 digits, which are the same for
+                        equal runs: HMAC-SHA-256 by the key in KEYFILE
+  --strict              refuse replacements that can spell a pattern with what
+                        stands beside them, and doubtful lines of lists
+
+Output:
+  --output FILE         write a new file, which takes the place of FILE if all
+                        was redacted
+  --in-place            do so with each FILE
+  --count               write to standard error how often the text of each
+                        pattern was written
+  --summary             write there how many files and bytes were read, and
+                        these counts, as a JSON object
+  --check               write nothing: the status is 1 if something would be
+                        replaced, and 0 if nothing
+
+Others:
+  --                    what follows is no option
+  --help                write this text
+  --version             write the version
+";
