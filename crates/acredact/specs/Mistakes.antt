@@ -38,9 +38,9 @@ named_line before name behind = codes "acredact" ++ (codes ": " ++ (before ++ (s
 abbrev pub misuse_line : Misuse → List ℕ → List ℕ
 misuse_line misuse name = named_line (text_before misuse) name (text_behind misuse)
 
--- no option has this letter
+-- no option has this letter, as `-h` for help
 abbrev pub letter_line : ℕ → List ℕ
-letter_line letter = misuse_line NoLetter (letter ∷ [])
+letter_line letter = named_line (text_before NoLetter) (letter ∷ []) (codes "': --help lists all")
 
 -- there is no such kind: the value is not told
 abbrev pub kind_line : List ℕ

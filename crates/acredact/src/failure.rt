@@ -223,7 +223,10 @@ fn tell_mistake<E: Sink>(errors: &mut Errors<'_, E>, mistake: Mistake<'_>)
     ensures told { TellsBytes E.Sink errors.old errors.new (mistake_line mistake.entry) }
 {
     match mistake {
-        Mistake::UnknownLetter(letter) => tell_misuse(errors, Misuse::UnknownLetter, &[letter]),
+        Mistake::UnknownLetter(letter) => {
+            let before = Misuse::UnknownLetter.before();
+            tell_named(errors, before, &[letter], b"': --help lists all");
+        }
         Mistake::NotFound(why, name) => tell_misuse(errors, Misuse::NotFound(why), name),
         Mistake::NoValue(word) => tell_misuse(errors, Misuse::NoArgument, name_of(word).as_bytes()),
         Mistake::TakesNone(name) => tell_misuse(errors, Misuse::TakesNone, name),

@@ -1,15 +1,22 @@
 -- Each mistake by its message.
-use Rattle.std.proofs.Common.{List, ℕ, sym, subst, ◌∙◌}
+use Rattle.std.proofs.Common.{List, ℕ, [], ◌∷◌, sym, subst, ◌∙◌}
+use Rattle.std.specs.Prelude.{codes}
 use Rattle.programs.specs.Telling.{TellsBytes}
 use Rattle.acredact.specs.Messages.{alone, told_line}
 use Rattle.call_options.specs.declared.misuse.Misuse.TheVariants.{NoArgument}
-use Rattle.acredact.specs.Mistakes.{mistake_line, misuse_line}
+use Rattle.acredact.specs.Mistakes.{mistake_line, misuse_line, named_line}
 use Rattle.acredact.specs.declared.arguments.Mistake.{Mistake}
 use Rattle.acredact.proofs.failure.tell_mistake.Goals as goal
 
+pub returns-in-UnknownLetter : goal.returns-in-UnknownLetter
+returns-in-UnknownLetter g c = record {
+  told = subst (λ (m : Mistake). TellsBytes g.E.Sink c.args.errors.now c.tell_named.new.errors (mistake_line m)) (sym c.in-UnknownLetter.is)
+      (subst (λ (before : List ℕ). TellsBytes g.E.Sink c.args.errors.now c.tell_named.new.errors (named_line before (c.in-UnknownLetter.letter ∷ []) (codes "': --help lists all"))) c.before-before.ensures.text c.tell_named.ensures.told);
+}
+
 pub returns-in-NotFound : goal.returns-in-NotFound
 returns-in-NotFound g c = record {
-  told = subst (λ (m : Mistake). TellsBytes g.E.Sink c.args.errors.now c.tell_misuse-in-NotFound.new.errors (mistake_line m)) (sym c.in-NotFound.is) c.tell_misuse-in-NotFound.ensures.told;
+  told = subst (λ (m : Mistake). TellsBytes g.E.Sink c.args.errors.now c.tell_misuse.new.errors (mistake_line m)) (sym c.in-NotFound.is) c.tell_misuse.ensures.told;
 }
 
 pub returns-in-TakesNone : goal.returns-in-TakesNone
