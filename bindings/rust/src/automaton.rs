@@ -59,7 +59,7 @@ pub trait Automaton: Sealed {
 
     /// Whether a state is dead, a match, or a start: all that a walk has to look at.
     fn is_special(&self, sid: StateID) -> bool {
-        self.is_dead(sid) || self.is_match(sid) || self.is_start(sid)
+        self.inner().walk.is_special(sid)
     }
 
     /// Whether nothing is found any more from a state on.

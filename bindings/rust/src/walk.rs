@@ -31,6 +31,8 @@ struct Node {
 pub(crate) struct Walk {
     /// One more than there are, so that each has a next.
     nodes: Vec<Node>,
+    /// Where each byte leads from the root in a search that is not anchored: to a child, or else where it fails to.
+    root: Vec<u32>,
     patterns: Vec<PatternID>,
     lens: Vec<usize>,
     match_kind: MatchKind,
@@ -65,7 +67,7 @@ impl Walk {
         let folded = |pattern: &B| if ignore_case { pattern.as_ref().to_ascii_lowercase() } else { pattern.as_ref().to_vec() };
         let patterns: Vec<Vec<u8>> = patterns.iter().map(folded).collect();
         let lens = patterns.iter().map(Vec::len).collect();
-        let mut walk = Walk { nodes: Vec::new(), patterns: Vec::new(), lens, match_kind, ignore_case };
+        let mut walk = Walk { nodes: Vec::new(), root: Vec::new(), patterns: Vec::new(), lens, match_kind, ignore_case };
         let parents = walk.add_nodes(&patterns)?;
         walk.link(&parents);
         Some(walk)
@@ -130,6 +132,9 @@ impl Walk {
             };
             let matches = self.own(node).len() as u32 + self.nodes[shorter].matches;
             self.nodes[node] = Node { fail: fail as u32, shorter: shorter as u32, matches, ..self.nodes[node] };
+            if node == ROOT {
+                self.root = (0..=255).map(|byte| self.child(ROOT, byte).unwrap_or(fail) as u32).collect();
+            }
         }
     }
 
@@ -150,12 +155,16 @@ impl Walk {
 
     /// Where a byte leads in a search that is not anchored.
     fn step(&self, mut node: usize, byte: u8) -> usize {
-        loop {
-            match (self.child(node, byte), node) {
-                (Some(child), _) => return child,
-                (None, DEAD | ROOT) => return self.fail(node),
-                (None, _) => node = self.fail(node),
+        while node != DEAD && node != ROOT {
+            match self.child(node, byte) {
+                Some(child) => return child,
+                None => node = self.fail(node),
             }
+        }
+        if node == ROOT {
+            self.root[usize::from(byte)] as usize
+        } else {
+            DEAD
         }
     }
 
@@ -183,6 +192,11 @@ impl Walk {
         } else {
             Walk::state(self.step(node, byte), Anchored::No)
         }
+    }
+
+    pub(crate) fn is_special(&self, state: StateID) -> bool {
+        let (node, _) = self.node(state);
+        node <= ROOT || self.match_len(state) > 0
     }
 
     pub(crate) fn is_dead(&self, state: StateID) -> bool {
@@ -218,6 +232,9 @@ impl Walk {
     }
 
     pub(crate) fn memory_usage(&self) -> usize {
-        self.nodes.len() * size_of::<Node>() + self.patterns.len() * size_of::<PatternID>() + self.lens.len() * size_of::<usize>()
+        self.nodes.len() * size_of::<Node>()
+            + self.root.len() * size_of::<u32>()
+            + self.patterns.len() * size_of::<PatternID>()
+            + self.lens.len() * size_of::<usize>()
     }
 }
