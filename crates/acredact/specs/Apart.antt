@@ -21,12 +21,12 @@ abbrev pub bytes_of : {Z : Type 0} → List (Vec ℕ Z) → List (List ℕ)
 bytes_of names = map (λ name. name.items) names
 
 -- what is expected behind an argument; behind one that is wrong that does not matter
-abbrev pub next_by : Option ItemsSoFar → Expects
-next_by None = Any
-next_by (Some read) = read.next
+abbrev pub expected_by : Option ItemsSoFar → Expects
+expected_by None = Any
+expected_by (Some read) = read.next
 
 abbrev pub next_behind : Expects → List ℕ → Expects
-next_behind expects argument = next_by (by_argument expects argument [])
+next_behind expects argument = expected_by (by_argument expects argument [])
 
 -- no option
 abbrev pub is_plain : Form → Bool
