@@ -104,10 +104,10 @@ told_by given none =
     else if has Output given || not (has File given) then EachAlone
     else Each
 
-abbrev pub is_nothing : Told → Bool
-is_nothing Nothing = true
-is_nothing Each = false
-is_nothing EachAlone = false
+abbrev pub tells_nothing : Told → Bool
+tells_nothing Nothing = true
+tells_nothing Each = false
+tells_nothing EachAlone = false
 
 abbrev pub has_none : List (List ℕ) → Bool
 has_none [] = true
@@ -119,7 +119,7 @@ IsToldOf apart told = (given : List Given) × (all_asked (texts apart.arguments.
 
 -- the lines of that
 abbrev pub told_lines : Told → List (List ℕ) → List ℕ
-told_lines told names = if is_nothing told then [] else unnamed_lines names
+told_lines told names = if tells_nothing told then [] else unnamed_lines names
 
 -- the status of a call of which this was told, by that of its rest
 abbrev pub status_behind : Told → ℕ → ℕ
