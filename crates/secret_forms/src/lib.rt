@@ -12,3 +12,6 @@ mod listed;
 pub use base64_form::base64_forms;
 pub use error::FormError;
 pub use hex_form::hex_forms;
+
+#[cfg(test)]
+mod tests;
