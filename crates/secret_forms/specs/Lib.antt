@@ -2,3 +2,4 @@ pub mod Base64
 pub mod Hex
 pub mod Law
 pub mod Patterns
+pub mod Spelling

@@ -8,10 +8,14 @@ mod base64_form;
 mod error;
 mod hex_form;
 mod listed;
+mod spelled_forms;
+mod spelling;
 
 pub use base64_form::base64_forms;
 pub use error::FormError;
 pub use hex_form::hex_forms;
+pub use spelled_forms::{shell_forms, spelled_forms, url_forms, xml_forms};
+pub use spelling::{Digits, Kept, Quotes, Quoting, Space, Spelling};
 
 #[cfg(test)]
 mod tests;
