@@ -1,19 +1,22 @@
 -- How encoders that work byte by byte write each byte.
-use Rattle.std.specs.Prelude.{ℕ, ◌+◌, ◌<◌, ◌≤◌, not, length, ◌/◌, ◌%◌, ◌==◌, ◌||◌, Bool, true, false, codes, List, [], ◌∷◌, ◌++◌, map, nat_lt, if◌then◌else◌}
+use Rattle.std.specs.Prelude.{ℕ, ◌+◌, not, ◌/◌, ◌%◌, ◌==◌, ◌&&◌, ◌||◌, Bool, true, false, codes, List, [], ◌∷◌, ◌++◌, map, nat_lt, if◌then◌else◌}
 use Rattle.std.specs.List.{flat_map, list_any}
-use Rattle.secret_forms.specs.Law.{IsHidden}
-use Rattle.secret_forms.specs.declared.spelling.Kept.{Kept}
-use Rattle.secret_forms.specs.declared.spelling.Kept.TheVariants.{Nothing, Unreserved, Slash, Component, Uri}
-use Rattle.secret_forms.specs.declared.spelling.Space.{Space}
-use Rattle.secret_forms.specs.declared.spelling.Space.TheVariants.{Encoded, Plus}
-use Rattle.secret_forms.specs.declared.spelling.Digits.{Digits}
-use Rattle.secret_forms.specs.declared.spelling.Digits.TheVariants.{Upper, Lower}
-use Rattle.secret_forms.specs.declared.spelling.Quotes.{Quotes}
-use Rattle.secret_forms.specs.declared.spelling.Quotes.TheVariants.{Kept as KeptQuotes, Mixed, Named, Decimal, Hexadecimal}
-use Rattle.secret_forms.specs.declared.spelling.Quoting.{Quoting}
-use Rattle.secret_forms.specs.declared.spelling.Quoting.TheVariants.{Single, SingleByDouble, Double, Backslashes}
-use Rattle.secret_forms.specs.declared.spelling.Spelling.{Spelling}
-use Rattle.secret_forms.specs.declared.spelling.Spelling.TheVariants.{Url, Xml, Shell}
+use Rattle.secret_forms.specs.Law.{HidesEach}
+use Rattle.secret_forms.specs.declared.bytewise.Kept.{Kept}
+use Rattle.secret_forms.specs.declared.bytewise.Kept.TheVariants.{Nothing, Unreserved, Slash, Component, Uri}
+use Rattle.secret_forms.specs.declared.bytewise.Space.{Space}
+use Rattle.secret_forms.specs.declared.bytewise.Space.TheVariants.{Encoded, Plus}
+use Rattle.secret_forms.specs.declared.bytewise.Digits.{Digits}
+use Rattle.secret_forms.specs.declared.bytewise.Digits.TheVariants.{Upper, Lower}
+use Rattle.secret_forms.specs.declared.bytewise.Marks.{Marks}
+use Rattle.secret_forms.specs.declared.bytewise.Marks.TheVariants.{Kept as KeptMarks, Slash as SlashMark, Markup, SlashAndMarkup}
+use Rattle.secret_forms.specs.declared.bytewise.Json.{Json}
+use Rattle.secret_forms.specs.declared.bytewise.Quotes.{Quotes}
+use Rattle.secret_forms.specs.declared.bytewise.Quotes.TheVariants.{Kept as KeptQuotes, Mixed, Named, Decimal, Hexadecimal}
+use Rattle.secret_forms.specs.declared.bytewise.Quoting.{Quoting}
+use Rattle.secret_forms.specs.declared.bytewise.Quoting.TheVariants.{Single, SingleByDouble, Double, Backslashes}
+use Rattle.secret_forms.specs.declared.bytewise.Spelling.{Spelling}
+use Rattle.secret_forms.specs.declared.bytewise.Spelling.TheVariants.{Url, Json as JsonString, Xml, Shell}
 
 -- letters, digits, `-`, `.`, `_` and `~`
 abbrev pub unreserved_text : List ℕ
@@ -47,6 +50,46 @@ url_byte kept space digits byte =
     else if is_plus space byte then 43 ∷ []
     else 37 ∷ digit digits (byte / 16) ∷ digit digits (byte % 16) ∷ []
 
+-- a character, or half of a pair, by its number: `\u` and four digits
+abbrev pub json_unit : Digits → ℕ → List ℕ
+json_unit digits unit =
+    92 ∷ 117 ∷ digit digits (unit / 4096) ∷ digit digits (unit / 256 % 16) ∷ digit digits (unit / 16 % 16) ∷ digit digits (unit % 16) ∷ []
+
+-- whether `/` is escaped
+abbrev pub escapes_slash : Marks → Bool
+escapes_slash KeptMarks = false
+escapes_slash SlashMark = true
+escapes_slash Markup = false
+escapes_slash SlashAndMarkup = true
+
+-- whether `<`, `>` and `&` are escaped
+abbrev pub escapes_markup : Marks → Bool
+escapes_markup KeptMarks = false
+escapes_markup SlashMark = false
+escapes_markup Markup = true
+escapes_markup SlashAndMarkup = true
+
+-- whether JSON writes a byte by its number: a control character, or a mark that is escaped
+abbrev pub is_numbered : Marks → ℕ → Bool
+is_numbered marks byte = nat_lt byte 32 || (escapes_markup marks && list_any (λ one. one == byte) (codes "<>&"))
+
+-- a byte with a backslash before it, unless it stands as it is
+abbrev pub escaped_unless : Bool → ℕ → List ℕ
+escaped_unless is_kept byte = if is_kept then byte ∷ [] else 92 ∷ byte ∷ []
+
+-- a byte of a JSON string for which there is no letter
+unfoldable pub json_no_letter : Json → ℕ → List ℕ
+json_no_letter json byte =
+    if is_numbered json.marks byte then json_unit json.digits byte
+    else escaped_unless (not (byte == 47) || not (escapes_slash json.marks)) byte
+
+-- a byte of a JSON string: `\"`, `\\`, `\b`, `\t`, `\n`, `\f` and `\r`, or by its number, or as it is
+unfoldable pub json_byte : Json → ℕ → List ℕ
+json_byte json byte =
+    if byte == 34 then 92 ∷ 34 ∷ [] else if byte == 92 then 92 ∷ 92 ∷ [] else if byte == 8 then 92 ∷ 98 ∷ []
+    else if byte == 9 then 92 ∷ 116 ∷ [] else if byte == 10 then 92 ∷ 110 ∷ [] else if byte == 12 then 92 ∷ 102 ∷ []
+    else if byte == 13 then 92 ∷ 114 ∷ [] else json_no_letter json byte
+
 -- a double quote as XML and HTML write it
 abbrev pub double_quote : Quotes → List ℕ
 double_quote KeptQuotes = 34 ∷ []
@@ -73,10 +116,6 @@ xml_byte quotes byte =
 abbrev pub is_plain : ℕ → Bool
 is_plain byte = nat_lt 127 byte || list_any (λ one. one == byte) (codes "ABCDEFGHIJKLMNOPQRSTUVWXYZabcdefghijklmnopqrstuvwxyz0123456789@%+=:,./-_")
 
--- a byte with a backslash before it, unless it stands as it is
-abbrev pub escaped_unless : Bool → ℕ → List ℕ
-escaped_unless is_kept byte = if is_kept then byte ∷ [] else 92 ∷ byte ∷ []
-
 -- a byte within single quotes, of which one is written so
 abbrev pub single_byte : List ℕ → ℕ → List ℕ
 single_byte quote byte = if byte == 39 then quote else byte ∷ []
@@ -91,6 +130,7 @@ shell_byte Backslashes byte = escaped_unless (is_plain byte) byte
 -- a byte as an encoder writes it
 abbrev pub spelled_byte : Spelling → ℕ → List ℕ
 spelled_byte (Url kept space digits) byte = url_byte kept space digits byte
+spelled_byte (JsonString json) byte = json_byte json byte
 spelled_byte (Xml quotes) byte = xml_byte quotes byte
 spelled_byte (Shell quoting) byte = shell_byte quoting byte
 
@@ -119,9 +159,6 @@ xml_spellings = Xml KeptQuotes ∷ Xml Mixed ∷ Xml Named ∷ Xml Decimal ∷ X
 abbrev pub shell_spellings : List Spelling
 shell_spellings = Shell Single ∷ Shell SingleByDouble ∷ Shell Double ∷ Shell Backslashes ∷ []
 
--- wherever the encoding of `before`, the secret and `after` stands in a text, each character of the secret's is hidden
+-- no character that belongs to the secret is outside the patterns
 abbrev pub HidesSpelled : List (List ℕ) → List ℕ → Spelling → Type 0
-HidesSpelled patterns secret spelling =
-    (before after ahead behind : List ℕ) (place : ℕ) → length (spelled spelling before) ≤ place
-    → place < length (spelled spelling before) + length (spelled spelling secret)
-    → IsHidden patterns (ahead ++ (spelled spelling (before ++ (secret ++ after)) ++ behind)) (length ahead + place)
+HidesSpelled patterns secret spelling = HidesEach (spelled_byte spelling) patterns secret

@@ -1,6 +1,10 @@
-//! Rows of Python's own encoders: `bytes.hex`, and `base64.b64encode` of the secret with each byte that can stand beside it.
+//! Rows of Python's own encoders: `bytes.hex`, `base64.b64encode` of the secret with each byte that can stand beside it,
+//! `urllib.parse.quote`, `json.dumps`, `xml.sax.saxutils.escape` and `shlex.quote`.
 
-use crate::{FormError, base64_forms, hex_forms};
+use crate::{
+    Form, FormError, base64_forms, forms, hex_forms, json_forms, lines_forms, shell_forms,
+    url_forms, xml_forms,
+};
 use std::alloc::Global;
 
 /// The patterns of a form, each with a space behind it.
@@ -42,6 +46,104 @@ fn base64_where_the_alphabets_differ(rt: HostRuntime) {
 }
 
 #[test]
+fn url_by_each_encoder(rt: HostRuntime) {
+    let text = shown(rt.alloc(), url_forms(rt.alloc(), b"a b/'?\xff")).expect(&rt, "memory");
+    let row: &[u8] =
+        b"a%20b%2F%27%3F%FF a%20b%2f%27%3f%ff a+b%2F%27%3F%FF a+b%2f%27%3f%ff a%20b/%27%3F%FF a%20b/%27%3f%ff a+b/%27%3F%FF a+b/%27%3f%ff a%20b%2F'%3F%FF a%20b%2f'%3f%ff a+b%2F'%3F%FF a+b%2f'%3f%ff a%20b/'?%FF a%20b/'?%ff a+b/'?%FF a+b/'?%ff %61%20%62%2F%27%3F%FF %61%20%62%2f%27%3f%ff ";
+    assert_eq!(rt; text.as_slice(), row);
+}
+
+#[test]
+fn url_of_bytes_that_are_kept(rt: HostRuntime) {
+    let text = shown(rt.alloc(), url_forms(rt.alloc(), b"key-1.2")).expect(&rt, "memory");
+    let row: &[u8] = b"key-1.2 %6B%65%79%2D%31%2E%32 %6b%65%79%2d%31%2e%32 ";
+    assert_eq!(rt; text.as_slice(), row);
+}
+
+#[test]
+fn json_by_each_encoder(rt: HostRuntime) {
+    let text = shown(rt.alloc(), json_forms(rt.alloc(), b"\xc3\xa9/\"\\<\x01")).expect(
+        &rt, "memory",
+    );
+    let row: &[u8] =
+        b"\xc3\xa9/\\\"\\\\<\\u0001 \xc3\xa9\\/\\\"\\\\<\\u0001 \xc3\xa9/\\\"\\\\\\u003c\\u0001 \xc3\xa9/\\\"\\\\\\u003C\\u0001 \xc3\xa9\\/\\\"\\\\\\u003c\\u0001 \xc3\xa9\\/\\\"\\\\\\u003C\\u0001 \\u00e9/\\\"\\\\<\\u0001 \\u00E9/\\\"\\\\<\\u0001 \\u00e9\\/\\\"\\\\<\\u0001 \\u00E9\\/\\\"\\\\<\\u0001 \\u00e9/\\\"\\\\\\u003c\\u0001 \\u00E9/\\\"\\\\\\u003C\\u0001 \\u00e9\\/\\\"\\\\\\u003c\\u0001 \\u00E9\\/\\\"\\\\\\u003C\\u0001 ";
+    assert_eq!(rt; text.as_slice(), row);
+}
+
+#[test]
+fn json_of_a_surrogate_pair(rt: HostRuntime) {
+    let text = shown(
+        rt.alloc(),
+        json_forms(rt.alloc(), b"key\xf0\x9f\x98\x80\x7f"),
+    )
+    .expect(&rt, "memory");
+    let row: &[u8] = b"key\xf0\x9f\x98\x80\x7f key\\ud83d\\ude00\\u007f key\\uD83D\\uDE00\\u007F ";
+    assert_eq!(rt; text.as_slice(), row);
+}
+
+#[test]
+fn json_with_letters(rt: HostRuntime) {
+    let text = shown(rt.alloc(), json_forms(rt.alloc(), b"k\x08\x09\n\x0c\r")).expect(
+        &rt, "memory",
+    );
+    let row: &[u8] = b"k\\b\\t\\n\\f\\r ";
+    assert_eq!(rt; text.as_slice(), row);
+}
+
+#[test]
+fn xml_by_each_encoder(rt: HostRuntime) {
+    let text = shown(rt.alloc(), xml_forms(rt.alloc(), b"<\"&'>")).expect(&rt, "memory");
+    let row: &[u8] =
+        b"&lt;\"&amp;'&gt; &lt;&quot;&amp;&#39;&gt; &lt;&quot;&amp;&apos;&gt; &lt;&#34;&amp;&#39;&gt; &lt;&quot;&amp;&#x27;&gt; ";
+    assert_eq!(rt; text.as_slice(), row);
+}
+
+#[test]
+fn shell_by_each_way(rt: HostRuntime) {
+    let text = shown(rt.alloc(), shell_forms(rt.alloc(), b"a'b\"$ \\")).expect(&rt, "memory");
+    let row: &[u8] = b"a'\\''b\"$ \\ a'\"'\"'b\"$ \\ a'b\\\"\\$ \\\\ a\\'b\\\"\\$\\ \\\\ ";
+    assert_eq!(rt; text.as_slice(), row);
+}
+
+#[test]
+fn lines_of_eight_bytes(rt: HostRuntime) {
+    let text = shown(
+        rt.alloc(),
+        lines_forms(rt.alloc(), b"-----BEGIN\r\nAAAABBBB\nshort\n12345678"),
+    )
+    .expect(&rt, "memory");
+    let row: &[u8] = b"-----BEGIN AAAABBBB 12345678 ";
+    assert_eq!(rt; text.as_slice(), row);
+}
+
+#[test]
+fn lines_of_one_line(rt: HostRuntime) {
+    let text = shown(rt.alloc(), lines_forms(rt.alloc(), b"one line alone")).expect(&rt, "memory");
+    let row: &[u8] = b"";
+    assert_eq!(rt; text.as_slice(), row);
+}
+
+#[test]
+fn json_of_no_text(rt: HostRuntime) {
+    let text = shown(rt.alloc(), json_forms(rt.alloc(), b"\xa9key")).expect(&rt, "memory");
+    assert_eq!(rt; text.as_slice(), b"\xa9key ".as_slice());
+}
+
+#[test]
+fn forms_in_their_order(rt: HostRuntime) {
+    let chosen = [Form::Hex, Form::Url, Form::Hex, Form::Shell];
+    let text = shown(rt.alloc(), forms(rt.alloc(), b"key.", &chosen)).expect(&rt, "memory");
+    let row: &[u8] = b"6b65792e 6B65792E key. %6B%65%79%2E %6b%65%79%2e ";
+    assert_eq!(rt; text.as_slice(), row);
+}
+
+#[test]
+fn forms_of_none(rt: HostRuntime) {
+    let text = shown(rt.alloc(), forms(rt.alloc(), b"key.", &[])).expect(&rt, "memory");
+    assert_eq!(rt; text.as_slice(), b"".as_slice());
+}
+
+#[test]
 fn three_bytes_are_too_short(rt: HostRuntime) {
     let text = format!(in rt.alloc(); "{}", FormError::TooShort).expect(&rt, "memory");
     assert_eq!(rt;
@@ -50,4 +152,13 @@ fn three_bytes_are_too_short(rt: HostRuntime) {
     );
     assert!(rt; matches!(hex_forms(rt.alloc(), b"key"), Err(FormError::TooShort)));
     assert!(rt; matches!(base64_forms(rt.alloc(), b"key"), Err(FormError::TooShort)));
+    assert!(rt; matches!(url_forms(rt.alloc(), b"key"), Err(FormError::TooShort)));
+    assert!(rt; matches!(json_forms(rt.alloc(), b"key"), Err(FormError::TooShort)));
+    assert!(rt; matches!(lines_forms(rt.alloc(), b"k\ny"), Err(FormError::TooShort)));
+    assert!(rt;
+        matches!(
+            forms(rt.alloc(), b"key", &[Form::Hex]),
+            Err(FormError::TooShort)
+        )
+    );
 }

@@ -68,11 +68,35 @@ pub enum Quoting {
     Backslashes,
 }
 
+/// What JSON escapes beside quotes, backslashes and control characters.
+#[derive(Clone, Copy, Debug, PartialEq, Eq)]
+pub enum Marks {
+    /// Nothing.
+    Kept,
+    /// `/`.
+    Slash,
+    /// `<`, `>` and `&`, by their numbers.
+    Markup,
+    /// All four.
+    SlashAndMarkup,
+}
+
+/// How an encoder of JSON writes what it escapes.
+#[derive(Clone, Copy, Debug, PartialEq, Eq)]
+pub struct Json {
+    /// What it escapes beside what it has to.
+    pub marks: Marks,
+    /// The digits of a number.
+    pub digits: Digits,
+}
+
 /// How an encoder writes each byte.
 #[derive(Clone, Copy, Debug, PartialEq, Eq)]
 pub enum Spelling {
     /// Percent-encoded.
     Url(Kept, Space, Digits),
+    /// Within a JSON string, where characters beyond ASCII stand as they are.
+    Json(Json),
     /// With references.
     Xml(Quotes),
     /// Quoted for a shell.
@@ -139,6 +163,70 @@ fn push_url(
     out.extend_from_slice(&[b'%', digit(digits, byte / 16), digit(digits, byte % 16)])
 }
 
+/// Writes a character, or half of a pair, by its number: `\u` and four digits.
+pub(crate) fn push_unit(out: &mut Vec<u8>, digits: Digits, unit: u16) -> Result<(), AllocError>
+    ensures unit { OnOk result (out.new.items ≡ out.old.items ++ spec.json_unit digits unit) }
+{
+    let high = digit(digits, (unit / 4096) as u8);
+    let second = digit(digits, (unit / 256 % 16) as u8);
+    let third = digit(digits, (unit / 16 % 16) as u8);
+    let low = digit(digits, (unit % 16) as u8);
+    out.extend_from_slice(&[b'\\', b'u', high, second, third, low])
+}
+
+/// Whether `/` is escaped.
+fn escapes_slash(marks: Marks) -> bool
+    ensures { result ≡ spec.escapes_slash marks }
+{
+    match marks {
+        Marks::Kept | Marks::Markup => false,
+        Marks::Slash | Marks::SlashAndMarkup => true,
+    }
+}
+
+/// Whether `<`, `>` and `&` are escaped.
+fn escapes_markup(marks: Marks) -> bool
+    ensures { result ≡ spec.escapes_markup marks }
+{
+    match marks {
+        Marks::Kept | Marks::Slash => false,
+        Marks::Markup | Marks::SlashAndMarkup => true,
+    }
+}
+
+/// Whether JSON writes a byte by its number.
+fn is_numbered(marks: Marks, byte: u8) -> bool
+    ensures { result ≡ spec.is_numbered marks byte }
+{
+    byte < 32 || escapes_markup(marks) && b"<>&".contains(&byte)
+}
+
+/// Writes a byte of a JSON string for which there is no letter.
+fn push_no_letter(out: &mut Vec<u8>, json: Json, byte: u8) -> Result<(), AllocError>
+    ensures json { OnOk result (out.new.items ≡ out.old.items ++ spec.json_no_letter json byte) }
+{
+    if is_numbered(json.marks, byte) {
+        return push_unit(out, json.digits, u16::from(byte));
+    }
+    push_escaped(out, byte != b'/' || !escapes_slash(json.marks), byte)
+}
+
+/// Writes a byte of a JSON string.
+pub(crate) fn push_json(out: &mut Vec<u8>, json: Json, byte: u8) -> Result<(), AllocError>
+    ensures json { OnOk result (out.new.items ≡ out.old.items ++ spec.json_byte json byte) }
+{
+    match byte {
+        b'"' => out.extend_from_slice(b"\\\""),
+        b'\\' => out.extend_from_slice(b"\\\\"),
+        8 => out.extend_from_slice(b"\\b"),
+        9 => out.extend_from_slice(b"\\t"),
+        10 => out.extend_from_slice(b"\\n"),
+        12 => out.extend_from_slice(b"\\f"),
+        13 => out.extend_from_slice(b"\\r"),
+        _ => push_no_letter(out, json, byte),
+    }
+}
+
 /// A double quote as XML and HTML write it.
 fn double_quote(quotes: Quotes) -> &'static [u8]
     ensures { result.now ≡ spec.double_quote quotes }
@@ -181,7 +269,9 @@ fn is_plain(byte: u8) -> bool
     ensures { result ≡ spec.is_plain byte }
 {
     byte > 127
-        || b"ABCDEFGHIJKLMNOPQRSTUVWXYZabcdefghijklmnopqrstuvwxyz0123456789@%+=:,./-_".contains(&byte)
+        || b"ABCDEFGHIJKLMNOPQRSTUVWXYZabcdefghijklmnopqrstuvwxyz0123456789@%+=:,./-_".contains(
+            &byte,
+        )
 }
 
 /// Writes a byte with a backslash before it, unless it stands as it is.
@@ -222,6 +312,7 @@ fn push_spelled(out: &mut Vec<u8>, spelling: Spelling, byte: u8) -> Result<(), A
 {
     match spelling {
         Spelling::Url(kept, space, digits) => push_url(out, kept, space, digits, byte),
+        Spelling::Json(json) => push_json(out, json, byte),
         Spelling::Xml(quotes) => push_xml(out, quotes, byte),
         Spelling::Shell(quoting) => push_shell(out, quoting, byte),
     }

@@ -8,8 +8,8 @@ ghost use Rattle.secret_forms.specs.Patterns.{added_all, pattern_bytes};
 ghost use Rattle.secret_forms.specs.Spelling.{HidesSpelled, shell_spellings, spelled_by, url_spellings, xml_spellings};
 ghost use Rattle.secret_forms.specs.declared.error.FormError.TheVariants.{TooShort};
 
+use crate::bytewise::{Digits, Kept, Quotes, Quoting, Space, Spelling, add_spelled};
 use crate::error::{FormError, SHORTEST};
-use crate::spelling::{Digits, Kept, Quotes, Quoting, Space, Spelling, add_spelled};
 use std::alloc::Global;
 
 /// A secret as each of some encoders writes it.
@@ -35,7 +35,7 @@ pub fn spelled_forms(
 
 /// The encoders of URLs: with the unreserved bytes left, with `/` too, `encodeURIComponent` and `encodeURI`, each with a space as any
 /// other byte and as `+`, and each byte encoded; with digits in both cases.
-fn url_encoders() -> [Spelling; 18]
+pub(crate) fn url_encoders() -> [Spelling; 18]
     ensures { result ≡ url_spellings }
 {
     let (encoded, plus) = (Space::Encoded, Space::Plus);
@@ -72,6 +72,19 @@ pub fn url_forms(alloc: Global, secret: &[u8]) -> Result<Vec<Vec<u8>>, FormError
     spelled_forms(alloc, secret, &url_encoders())
 }
 
+/// The encoders of XML and HTML: with quotes as they are, and as named, decimal and hexadecimal references.
+pub(crate) fn xml_encoders() -> [Spelling; 5]
+    ensures { result ≡ xml_spellings }
+{
+    [
+        Spelling::Xml(Quotes::Kept),
+        Spelling::Xml(Quotes::Mixed),
+        Spelling::Xml(Quotes::Named),
+        Spelling::Xml(Quotes::Decimal),
+        Spelling::Xml(Quotes::Hexadecimal),
+    ]
+}
+
 /// A secret as XML and HTML show it, with named, decimal or hexadecimal references.
 pub fn xml_forms(alloc: Global, secret: &[u8]) -> Result<Vec<Vec<u8>>, FormError>
     ensures short { length secret.now < 4 → result ≡ Err TooShort }
@@ -79,14 +92,19 @@ pub fn xml_forms(alloc: Global, secret: &[u8]) -> Result<Vec<Vec<u8>>, FormError
     ensures value { IfOk result (λ v. pattern_bytes v.items ≡ added_all [] (spelled_by xml_spellings secret.now)) }
     ensures law { IfOk result (λ v. All (HidesSpelled (pattern_bytes v.items) secret.now) xml_spellings) }
 {
-    let encoders = [
-        Spelling::Xml(Quotes::Kept),
-        Spelling::Xml(Quotes::Mixed),
-        Spelling::Xml(Quotes::Named),
-        Spelling::Xml(Quotes::Decimal),
-        Spelling::Xml(Quotes::Hexadecimal),
-    ];
-    spelled_forms(alloc, secret, &encoders)
+    spelled_forms(alloc, secret, &xml_encoders())
+}
+
+/// The ways to quote a shell's word.
+pub(crate) fn shell_encoders() -> [Spelling; 4]
+    ensures { result ≡ shell_spellings }
+{
+    [
+        Spelling::Shell(Quoting::Single),
+        Spelling::Shell(Quoting::SingleByDouble),
+        Spelling::Shell(Quoting::Double),
+        Spelling::Shell(Quoting::Backslashes),
+    ]
 }
 
 /// A secret as it is quoted for a shell: within single quotes, within double quotes, or by backslashes.
@@ -96,11 +114,5 @@ pub fn shell_forms(alloc: Global, secret: &[u8]) -> Result<Vec<Vec<u8>>, FormErr
     ensures value { IfOk result (λ v. pattern_bytes v.items ≡ added_all [] (spelled_by shell_spellings secret.now)) }
     ensures law { IfOk result (λ v. All (HidesSpelled (pattern_bytes v.items) secret.now) shell_spellings) }
 {
-    let encoders = [
-        Spelling::Shell(Quoting::Single),
-        Spelling::Shell(Quoting::SingleByDouble),
-        Spelling::Shell(Quoting::Double),
-        Spelling::Shell(Quoting::Backslashes),
-    ];
-    spelled_forms(alloc, secret, &encoders)
+    spelled_forms(alloc, secret, &shell_encoders())
 }
