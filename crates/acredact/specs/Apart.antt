@@ -29,16 +29,16 @@ abbrev pub next_behind : Expects → List ℕ → Expects
 next_behind expects argument = expected_by (by_argument expects argument [])
 
 -- no option
-abbrev pub is_plain : Form → Bool
-is_plain no_more = false
-is_plain (long_name name) = false
-is_plain (long_with name value) = false
-is_plain (joined_letters letters) = false
-is_plain no_option = true
+abbrev pub is_no_option : Form → Bool
+is_no_option no_more = false
+is_no_option (long_name name) = false
+is_no_option (long_with name value) = false
+is_no_option (joined_letters letters) = false
+is_no_option no_option = true
 
 -- an argument that is not UTF-8 names a file: no option takes it for its value, and it begins as one only behind '--'
 abbrev pub names_file : Expects → List ℕ → Bool
-names_file Any argument = is_plain (argument_form argument)
+names_file Any argument = is_no_option (argument_form argument)
 names_file (Value word) argument = false
 names_file Name argument = true
 
