@@ -84,6 +84,7 @@ class _Slice(ctypes.Structure):
 
 class _Options(ctypes.Structure):
     _fields_ = [
+        ("size", ctypes.c_uint32),
         ("match_kind", ctypes.c_uint32),
         ("start_kind", ctypes.c_uint32),
         ("ignore_case", ctypes.c_bool),
@@ -283,6 +284,12 @@ class AhoCorasick:
     greatest index of a table, number of a pattern and length of a pattern are at most 2^31 - 2, and less where `max_index`,
     `max_pattern` and `max_len` say so.
 
+    With `items`, a list with one value for each pattern, or a mapping from each pattern to its own, `items[match.pattern]` is that of a match:
+
+        >>> searcher = AhoCorasick(["he", "hers"], items=[3.5, None])
+        >>> [(match.end - 1, searcher.items[match.pattern]) for match in searcher.find_overlapping_iter("hers")]
+        [(1, 3.5), (3, None)]
+
     A haystack is a str, if the patterns are, or bytes or another buffer, where patterns of type str stand for their UTF-8. A buffer
     must not change while a call runs. Any threads may search by one searcher at the same time. It is pickled as its patterns, and
     built anew from them.
@@ -301,6 +308,7 @@ class AhoCorasick:
         max_index: Optional[int] = None,
         max_pattern: Optional[int] = None,
         max_len: Optional[int] = None,
+        items: Union[Sequence[Any], Mapping[Any, Any], None] = None,
     ) -> None:
         given = _patterns_of(patterns)
         if isinstance(ignore_case, str) or isinstance(prefilter, str):
@@ -315,6 +323,7 @@ class AhoCorasick:
         words = [_pattern_bytes(it) for it in given]
         self._patterns: Tuple[Union[str, bytes], ...] = tuple(given if texts else words)
         self._of_texts = texts > 0 or not given
+        self._items = None if items is None else _items_of(items, self._patterns)
         self._kind, self._ignore_case, self._prefilter = kind, bool(ignore_case), bool(prefilter)
         self._longest = max(map(len, words), default=0)
         self._handle = _Handle()
@@ -322,7 +331,8 @@ class AhoCorasick:
         _searchers.add(self)
         self._rest = automaton, max_index, max_pattern, max_len
         limits = [_limit(it) for it in self._rest[1:]]
-        options, error = _Options(_KINDS[kind], 0, self._ignore_case, self._prefilter, _AUTOMATA[automaton], *limits), _Error()
+        size, number = ctypes.sizeof(_Options), _AUTOMATA[automaton]
+        options, error = _Options(size, _KINDS[kind], 0, self._ignore_case, self._prefilter, number, *limits), _Error()
         status = _build(_slices(words), len(words), ctypes.byref(options), ctypes.byref(self._handle), ctypes.byref(error))
         if status in (_TOO_MANY_STATES, _TOO_MANY_PATTERNS, _TOO_LONG):
             raise _build_error(error)
@@ -334,6 +344,11 @@ class AhoCorasick:
     def patterns(self) -> Tuple[Union[str, bytes], ...]:
         """The patterns by their numbers."""
         return self._patterns
+
+    @property
+    def items(self) -> Tuple[Any, ...]:
+        """The values that were given for the patterns, by their numbers; the patterns where none were."""
+        return self._patterns if self._items is None else self._items
 
     @property
     def kind(self) -> str:
@@ -494,7 +509,8 @@ class AhoCorasick:
         return self._written(_cover_all, haystack, pieces)
 
     def __reduce__(self) -> Tuple[Any, ...]:
-        return _rebuilt, (self._patterns, self._kind, self._ignore_case, self._prefilter, *self._rest)
+        made = _rebuilt, (self._patterns, self._kind, self._ignore_case, self._prefilter, *self._rest)
+        return made if self._items is None else (*made, {"_items": self._items})
 
     def __repr__(self) -> str:
         return f"<AhoCorasick of {len(self._patterns)} patterns, {self._kind}>"
@@ -673,6 +689,20 @@ def _patterns_of(patterns: Iterable[Haystack]) -> List[Haystack]:
     if hasattr(patterns, "read"):
         raise TypeError("the patterns are a list, and no reader, whose lines would keep their ends")
     return list(patterns)
+
+
+def _items_of(items: Union[Sequence[Any], Mapping[Any, Any]], patterns: Sequence[Union[str, bytes]]) -> Tuple[Any, ...]:
+    if isinstance(items, Mapping):
+        for number, pattern in enumerate(patterns):
+            if pattern not in items:
+                raise ValueError(f"the mapping has no item for pattern {number}")
+        return tuple(items[it] for it in patterns)
+    if isinstance(items, (str, bytes, bytearray, memoryview, set, frozenset)):
+        raise TypeError(f"the items are a list, or a mapping from each pattern to its own, and no {type(items).__name__}")
+    given = tuple(items)
+    if len(given) != len(patterns):
+        raise ValueError(f"there are {len(given)} items for {len(patterns)} patterns")
+    return given
 
 
 def _pieces_of(reader: Any) -> Iterator[Haystack]:

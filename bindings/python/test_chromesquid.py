@@ -292,6 +292,21 @@ class Rows(unittest.TestCase):
         self.assertEqual(pickle.loads(pickle.dumps(searcher)).memory_usage(), searcher.memory_usage())
         self.assertNotEqual(AhoCorasick(["a", "bc"], automaton="rows").memory_usage(), searcher.memory_usage())
 
+    def test_items(self):
+        items = [("h", 1), None]
+        for given in (items, tuple(items), dict(zip(["he", "hers"], items)), {"hers": None, "he": ("h", 1), "x": 0}):
+            searcher = AhoCorasick(["he", "hers"], items=given)
+            for other in (searcher, pickle.loads(pickle.dumps(searcher)), copy.copy(searcher), copy.deepcopy(searcher)):
+                self.assertEqual([other.items[it.pattern] for it in other.find_overlapping_iter("hers")], items)
+        self.assertEqual(AhoCorasick([b"a", b"b"], items=iter(range(2))).items, (0, 1))
+        for searcher in (AhoCorasick(["a", "b"]), AhoCorasick(["a", "b"], items=["a", "b"])):
+            self.assertEqual(pickle.loads(pickle.dumps(searcher)).items, ("a", "b"))
+        self.assertEqual((AhoCorasick([], items=[]).items, AhoCorasick([]).items), ((), ()))
+        for error, refused in ((ValueError, ([1], [1, 2, 3], {"a": 1})), (TypeError, ({1, 2}, "xy", 5))):
+            for wrong in refused:
+                with self.assertRaises(error):
+                    AhoCorasick(["a", "b"], items=wrong)
+
     def test_what_is_told(self):
         searcher = AhoCorasick(["b", "a"], kind="leftmost-longest")
         self.assertEqual((searcher.patterns, searcher.kind), (("b", "a"), "leftmost-longest"))

@@ -1,4 +1,5 @@
 //! Why a searcher is not built, and why a search is refused.
+use crate::primitives::StateID;
 use crate::search::MatchKind;
 use std::{error::Error, fmt};
 
@@ -11,6 +12,12 @@ pub struct BuildError {
 impl BuildError {
     pub(crate) fn of(text: String) -> BuildError {
         BuildError { text }
+    }
+
+    /// That the states of an automaton have no numbers: the one above the greatest would be the first without.
+    pub(crate) fn too_many_states() -> BuildError {
+        let (limit, max) = (StateID::LIMIT, StateID::MAX.as_usize());
+        BuildError::of(format!("state identifier overflow: failed to create state ID from {limit}, which exceeds the max of {max}"))
     }
 }
 
@@ -30,7 +37,7 @@ pub struct MatchError(Box<MatchErrorKind>);
 #[derive(Clone, Debug, PartialEq, Eq)]
 #[non_exhaustive]
 pub enum MatchErrorKind {
-    /// An anchored search, which the searcher was not built for, or which overlaps.
+    /// An anchored search, which the searcher was not built for.
     InvalidInputAnchored,
     /// An unanchored search, which the searcher was not built for.
     InvalidInputUnanchored,

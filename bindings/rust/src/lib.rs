@@ -17,17 +17,21 @@
 //! A kind of automaton, `dense_depth` and `byte_classes` are taken as hints. Streams of the leftmost kinds, which `aho-corasick` refuses, are
 //! those of `AhoCorasick::streams`. `packed` has that module's types over the same searcher.
 //!
-//! Left out: the trait `Automaton` with the modules `nfa` and `dfa`, and overlapping searches of a searcher that is anchored alone.
+//! The automata of `nfa` and `dfa` search by the library too. The states that the trait `Automaton` walks are in Rust, and not proved.
 //!
 //! The environment names the folder of `libchromesquid.a` as CHROMESQUID_LIBRARY while it is built. A call takes a share of the searcher and gives
 //! it back: there are as many as calls and iterators have run at the same time.
 #![deny(unsafe_code)]
 #![warn(missing_docs)]
 
+pub mod automaton;
+pub mod dfa;
 mod error;
+mod inner;
 mod kinds;
 #[allow(unsafe_code)]
 mod library;
+pub mod nfa;
 mod overlapping;
 pub mod packed;
 mod primitives;
@@ -35,6 +39,7 @@ mod search;
 mod searcher;
 mod shares;
 mod stream;
+mod walk;
 
 pub use error::{BuildError, MatchError, MatchErrorKind};
 pub use kinds::AhoCorasickKind;
@@ -43,12 +48,6 @@ pub use primitives::{PatternID, PatternIDError};
 pub use search::{Anchored, Input, Match, MatchKind, Span, StartKind};
 pub use searcher::{AhoCorasick, AhoCorasickBuilder, FindIter};
 pub use stream::{StreamFindIter, Streams};
-
-/// What overlapping searches and states are named by.
-pub mod automaton {
-    pub use crate::overlapping::OverlappingState;
-    pub use crate::primitives::{StateID, StateIDError};
-}
 
 /// The version of the library: 102 is 0.1.2.
 pub fn version() -> u32 {

@@ -61,14 +61,12 @@ impl AhoCorasick {
         Ok(FindOverlappingIter { searcher: self, input, state: OverlappingState::start() })
     }
 
-    /// Refuses what is not answered: other kinds, what the searcher was not built for, and searches of one that is anchored alone.
+    /// Refuses what is not answered: other kinds, and what the searcher was not built for.
     fn overlapping_refusal(&self, input: &Input<'_>) -> Result<(), MatchError> {
         if self.match_kind() != MatchKind::Standard {
             return Err(MatchError::unsupported_overlapping(self.match_kind()));
         }
-        self.refusal(input)?;
-        // The library lists what overlaps by unanchored searches.
-        self.refusal(&Input::new("")).map_err(|_| MatchError::invalid_input_anchored())
+        self.refusal(input)
     }
 
     fn next_overlapping(&self, input: &Input<'_>, state: &mut OverlappingState) {

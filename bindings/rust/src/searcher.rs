@@ -53,9 +53,11 @@ impl AhoCorasickBuilder {
     }
 
     fn wishes(&self) -> Wishes {
+        // The library lists what overlaps by unanchored searches: one that answers both is the same automaton, and answers the rest alike.
+        let start_kind = if self.start_kind == StartKind::Anchored { StartKind::Both } else { self.start_kind };
         Wishes {
             match_kind: self.match_kind,
-            start_kind: self.start_kind,
+            start_kind,
             ignore_case: self.ascii_case_insensitive,
             prefilter: self.prefilter,
             kind: self.kind,
@@ -279,11 +281,30 @@ impl AhoCorasick {
 
     /// Refuses what the searcher was not built for.
     pub(crate) fn refusal(&self, input: &Input<'_>) -> Result<(), MatchError> {
-        match (self.start_kind, input.get_anchored()) {
+        self.allows(input.get_anchored())
+    }
+
+    pub(crate) fn allows(&self, anchored: Anchored) -> Result<(), MatchError> {
+        match (self.start_kind, anchored) {
             (StartKind::Unanchored, Anchored::Yes) => Err(MatchError::invalid_input_anchored()),
             (StartKind::Anchored, Anchored::No) => Err(MatchError::invalid_input_unanchored()),
             _ => Ok(()),
         }
+    }
+
+    /// The same searcher, which was built for all searches, for some and by another kind's name.
+    pub(crate) fn of_kind(&self, kind: AhoCorasickKind, start_kind: StartKind) -> AhoCorasick {
+        AhoCorasick { kind, start_kind, ..self.clone() }
+    }
+
+    /// Prints a type that is this searcher.
+    pub(crate) fn print(&self, name: &str, memory_usage: usize, to: &mut fmt::Formatter<'_>) -> fmt::Result {
+        to.debug_struct(name)
+            .field("patterns_len", &self.facts.patterns)
+            .field("match_kind", &self.match_kind)
+            .field("start_kind", &self.start_kind)
+            .field("memory_usage", &memory_usage)
+            .finish()
     }
 
     /// All matches in a part of a haystack, those that overlap too, each moved on by where the part begins.
@@ -304,12 +325,7 @@ impl AhoCorasick {
 
 impl fmt::Debug for AhoCorasick {
     fn fmt(&self, to: &mut fmt::Formatter<'_>) -> fmt::Result {
-        to.debug_struct("AhoCorasick")
-            .field("patterns_len", &self.facts.patterns)
-            .field("match_kind", &self.match_kind)
-            .field("start_kind", &self.start_kind)
-            .field("memory_usage", &self.facts.memory)
-            .finish()
+        self.print("AhoCorasick", self.facts.memory, to)
     }
 }
 

@@ -4,17 +4,19 @@ use Rattle.std.specs.Prelude.{Bool, ◌⊎◌, ◌<◌, ◌||◌, ◌&&◌, not,
 use Rattle.std.specs.Io.KnownBytes.{Keeps}
 use Rattle.std.specs.List.{All, concat}
 use Rattle.std.proofs.KnownBytes.{Consumes-nil}
-use Rattle.std.proofs.lemmas.List.Elements.{All-append, All-cons, All-nil}
+use Rattle.std.proofs.lemmas.List.Elements.{All-append, All-cons, All-nil, All-weaker}
 use Rattle.aho_core.specs.Patterns.{Patterns}
 use Rattle.aho_devices.specs.declared.device.Sink.{Ghosts as SinkGhosts}
 use Rattle.programs.specs.Names.{IsOneOf, is_input}
-use Rattle.programs.specs.Telling.{TellsBytes}
+use Rattle.programs.specs.Telling.{Tells, TellsBytes}
 use Rattle.programs.specs.declared.errors.Errors.{Errors}
 use Rattle.programs.specs.declared.reason.Reason.{Reason}
 use Rattle.programs.proofs.Tellings.{tells-later}
 use Rattle.acredact.specs.Builds.{patterns_by_given}
+use Rattle.acredact.specs.Arguments.{has}
 use Rattle.acredact.specs.Calls.{Call, IsUnreadLine, gives_pattern, names_asked, reading_by}
-use Rattle.acredact.specs.Checks.{AreSeen, AreUnmatched, CheckFails, CheckOutcome, CheckStatus, IsBuildFailure, IsLookOf, IsUnmatchedCall, Quest, SeesCall, SeesFiles, look_lines, quest_by}
+use Rattle.acredact.specs.Checks.{AreSeen, AreUnmatched, CheckFails, CheckOutcome, CheckStatus, IsBuildFailure, IsCheckLine, IsLookOf, IsUnmatchedCall, Quest, SeesCall, SeesFiles, look_lines, quest_by}
+use Rattle.acredact.specs.Doubts.{TellsDoubts, all_doubt_lines}
 use Rattle.acredact.specs.Failures.{IsFailureLine}
 use Rattle.acredact.specs.Faults.{IsReadReason}
 use Rattle.acredact.specs.Files.{are_none, unread_line}
@@ -23,6 +25,7 @@ use Rattle.acredact.specs.Looks.{IsLook, HoldsNoMatch, is_found, is_unread_look,
 use Rattle.acredact.specs.Reads.{OfName}
 use Rattle.acredact.specs.Statuses.{check_status}
 use Rattle.acredact.specs.Tables.{Secret, patterns_in}
+use Rattle.acredact.specs.declared.arguments.Word.TheVariants.{Strict}
 use Rattle.acredact.specs.declared.failure.Failure.{Failure}
 use Rattle.acredact.specs.declared.look.Look.{Look}
 use Rattle.acredact.specs.declared.look.Look.TheVariants.{Clean, Found, Unread}
@@ -30,6 +33,7 @@ use Rattle.acredact.specs.declared.look.Verdict.{Verdict}
 use Rattle.acredact.proofs.Calls.{tells_same}
 use Rattle.acredact.proofs.Done.{concat_both, tells_none}
 use Rattle.acredact.proofs.OneFile.{known_read, of_folder, of_input}
+use Rattle.acredact.proofs.Warned.{all_members, tells_both}
 
 -- a look at what is known of a file, for reasons that may be more
 known_look : (p : Patterns) (Few Many : Reason → Type 0) (told left left' : Option (List ℕ)) → Keeps told left → ((reason : Reason) → Few reason → Many reason) → (look : Look) → IsLook p Few look left left' → IsLook p Many look told left'
@@ -197,40 +201,60 @@ are_nothing [] none = refl
 are_nothing (line ∷ lines) none = absurd (cc)
 
 module _ {E : Type 0} (K : SinkGhosts E) (call : Call) (left left' : Option (List ℕ)) (old : Errors E) where
+  -- what is told of patterns of lists is one line of a check after another
+  lists_tell : (secrets : List Secret) (between : Option (List ℕ)) (new : Errors E) → AreGiven (reading_by call) call.given secrets left between → (strict : Bool) → has Strict call.given ≡ strict
+      → TellsDoubts K strict call.given secrets old new → Tells K (IsCheckLine call) old new
+  lists_tell secrets between new loaded true is doubts = tells_same K (IsCheckLine call) old new doubts.1
+  lists_tell secrets between new loaded false is doubts = record {
+    told = all_doubt_lines call.given secrets;
+    are_lines = all_members (IsCheckLine call) (all_doubt_lines call.given secrets) (λ line member. inr (is, secrets, left, between, loaded, member));
+    written = doubts;
+  }
+
   -- what comes of a check whose patterns were loaded
-  pub check_seen : (secrets : List Secret) (between : Option (List ℕ)) (new : Errors E) (result : Result Verdict Failure) → gives_pattern call.given ≡ true → AreGiven (reading_by call) call.given secrets left between
-      → SeesFiles K (quest_by call secrets) (names_asked call.given) result between left' old new → IfErr result (IsBuildFailure (patterns_by_given call.given (patterns_in secrets))) → CheckOutcome K call result left left' old new
-  check_seen secrets between new (Ok verdict) some loaded sees fails =
+  pub check_seen : (secrets : List Secret) (between : Option (List ℕ)) (mid new : Errors E) (result : Result Verdict Failure) → gives_pattern call.given ≡ true → AreGiven (reading_by call) call.given secrets left between
+      → TellsDoubts K (has Strict call.given) call.given secrets old mid → SeesFiles K (quest_by call secrets) (names_asked call.given) result between left' mid new
+      → IfErr result (IsBuildFailure (patterns_by_given call.given (patterns_in secrets))) → CheckOutcome K call result left left' old new
+  check_seen secrets between mid new (Ok verdict) some loaded doubts sees fails =
       let (lines, is_all, seen, told) = sees.seen in
-      record { seen = (lines, is_all, record { some = some; secrets = secrets; between = between; loaded = loaded; seen = seen }, told); quiet = sees.quiet; told = tt; fails = tt }
-  check_seen secrets between new (Err failure) some loaded sees fails = record {
+      record {
+        seen = (lines, is_all, record { sees = record { some = some; secrets = secrets; between = between; loaded = loaded; seen = seen }; between = mid; doubts = doubts; told = told });
+        quiet = λ all. record { secrets = secrets; between = between; loaded = loaded; doubts = subst (λ (e : Errors E). TellsDoubts K (has Strict call.given) call.given secrets old e) (sym (sees.quiet all)) doubts };
+        told = tt;
+        fails = tt;
+      }
+  check_seen secrets between mid new (Err failure) some loaded doubts sees fails = record {
     seen = tt;
     quiet = tt;
-    told = sees.told;
+    told = tells_both K (IsCheckLine call) old mid new (lists_tell secrets between mid loaded (has Strict call.given) refl doubts) (record {
+      told = sees.told.told;
+      are_lines = All-weaker (IsUnreadLine (names_asked call.given)) (IsCheckLine call) (λ line is. inl is) sees.told.told sees.told.are_lines;
+      written = sees.told.written;
+    });
     fails = inr (inr (elim fails [
       | inl refused ↦ inl (secrets, left, between, loaded, refused)
-      | inr memory ↦ inr memory
+      | inr memory ↦ inr (inl memory)
     ]));
   }
 
   -- and of one that ends before
   pub check_refused : (failure : Failure) → CheckFails call failure → CheckOutcome K call (Err failure) left left' old old
-  check_refused failure fails = record { seen = tt; quiet = tt; told = tells_same K (IsUnreadLine (names_asked call.given)) old old refl; fails = fails }
+  check_refused failure fails = record { seen = tt; quiet = tt; told = tells_same K (IsCheckLine call) old old refl; fails = fails }
 
   status_whole : (found : Bool) (new : Errors E) → CheckOutcome K call (Ok (record { found = found; all = true })) left left' old new → CheckStatus K call (check_status (record { found = found; all = true })) left left' old new
   status_whole true new of =
-      let (lines, is_all, sees, told) = of.seen in
+      let (lines, is_all, looks) = of.seen in
       record {
         unmatched = λ (is : 1 ≡ 0). absurd (omega arith);
-        matched = λ is. subst (λ (l : List (List ℕ)). SeesCall call true l left left') (are_nothing lines is_all) sees;
+        matched = λ is. subst (λ (l : List (List ℕ)). SeesCall call true l left left') (are_nothing lines is_all) looks.sees;
         quiet = λ less. of.quiet refl;
         tells = λ (is : 1 ≡ 2). absurd (omega arith);
         bound = omega arith;
       }
   status_whole false new of =
-      let (lines, is_all, sees, told) = of.seen in
+      let (lines, is_all, looks) = of.seen in
       record {
-        unmatched = λ is. unmatched_call call left left' (subst (λ (l : List (List ℕ)). SeesCall call false l left left') (are_nothing lines is_all) sees);
+        unmatched = λ is. unmatched_call call left left' (subst (λ (l : List (List ℕ)). SeesCall call false l left left') (are_nothing lines is_all) looks.sees);
         matched = λ (is : 0 ≡ 1). absurd (omega arith);
         quiet = λ less. of.quiet refl;
         tells = λ (is : 0 ≡ 2). absurd (omega arith);
@@ -244,12 +268,12 @@ module _ {E : Type 0} (K : SinkGhosts E) (call : Call) (left left' : Option (Lis
       by : (found all : Bool) → CheckOutcome K call (Ok (record { found = found; all = all })) left left' old new → CheckStatus K call (check_status (record { found = found; all = all })) left left' old new
       by found true of = status_whole found new of
       by found false of =
-          let (lines, is_all, sees, told) = of.seen in
+          let (lines, is_all, looks) = of.seen in
           record {
             unmatched = λ (is : 2 ≡ 0). absurd (omega arith);
             matched = λ (is : 2 ≡ 1). absurd (omega arith);
             quiet = λ (less : 2 < 2). absurd (omega arith);
-            tells = λ is. inl (record { found = found; lines = lines; some = sym is_all; seen = sees; told = told });
+            tells = λ is. inl (record { found = found; lines = lines; some = sym is_all; seen = looks });
             bound = omega arith;
           }
 
@@ -259,6 +283,6 @@ module _ {E : Type 0} (K : SinkGhosts E) (call : Call) (left left' : Option (Lis
     unmatched = λ (is : 2 ≡ 0). absurd (omega arith);
     matched = λ (is : 2 ≡ 1). absurd (omega arith);
     quiet = λ (less : 2 < 2). absurd (omega arith);
-    tells = λ two. inr (record { lines = of.told.told; are_unread = of.told.are_lines; failure = failure; fails = of.fails; line = line; is_line = is; told = tells-later K of.told.written told });
+    tells = λ two. inr (record { lines = of.told.told; are_told = of.told.are_lines; failure = failure; fails = of.fails; line = line; is_line = is; told = tells-later K of.told.written told });
     bound = omega arith;
   }

@@ -42,5 +42,7 @@ mod Statuses
 mod Looks
 mod Checks
 mod LongNames
+-- files whose names are not UTF-8
+mod SetApart
 mod Readings
 mod Ready

@@ -85,7 +85,7 @@ module _ {E : Type 0} (K : SinkGhosts E) (IsLine : List ℕ → Type 0) (old mid
       }
 
 -- what holds of each member holds of all
-all_members : (Is : List ℕ → Type 0) (lines : List (List ℕ)) → ((line : List ℕ) → IsMember lines line → Is line) → All Is lines
+pub all_members : (Is : List ℕ → Type 0) (lines : List (List ℕ)) → ((line : List ℕ) → IsMember lines line → Is line) → All Is lines
 all_members Is [] each = All-nil Is
 all_members Is (line ∷ lines) each = All-cons Is line lines (each line (inl refl)) (all_members Is lines (λ other is. each other (inr is)))
 

@@ -2,6 +2,7 @@
 use Rattle.std.specs.Prelude.{◌≡◌, ◌⊎◌, ℕ, ◌<◌, ◌≤◌, ◌||◌, Bool, true, false, List, [], ◌∷◌, ◌++◌, Option, Result, IfErr, IfOk, OnErr}
 use Rattle.std.specs.List.{All, concat}
 use Rattle.std.specs.declared.io.traits.Read.{Ghosts as Readers}
+use Rattle.aho_core.specs.Listing.{IsMember}
 use Rattle.aho_core.specs.Patterns.{Patterns}
 use Rattle.aho_devices.specs.declared.adapters.FromRead.{FromRead}
 use Rattle.aho_devices.specs.declared.device.Sink.{Ghosts as SinkGhosts}
@@ -11,9 +12,10 @@ use Rattle.programs.specs.Telling.{Tells, TellsBytes}
 use Rattle.programs.specs.declared.errors.Errors.{Errors}
 use Rattle.programs.specs.declared.failure.Failure.TheVariants.{OutOfMemory}
 use Rattle.programs.specs.declared.reason.Reason.{Reason}
-use Rattle.acredact.specs.Arguments.{AsksToCheck, Given, GivesNoPattern}
+use Rattle.acredact.specs.Arguments.{AsksToCheck, Given, GivesNoPattern, has}
 use Rattle.acredact.specs.Builds.{patterns_by_given}
 use Rattle.acredact.specs.Calls.{Call, IsBuildRefusal, IsRefusedCall, IsUnreadLine, call_of, gives_pattern, names_asked, reading_by}
+use Rattle.acredact.specs.Doubts.{IsDoubtFailure, TellsDoubts, all_doubt_lines}
 use Rattle.acredact.specs.Failures.{IsFailureLine}
 use Rattle.acredact.specs.Faults.{IsReadReason}
 use Rattle.acredact.specs.Files.{are_none, unread_line}
@@ -22,6 +24,7 @@ use Rattle.acredact.specs.Looks.{IsLook, HoldsNoMatch, is_found}
 use Rattle.acredact.specs.Reads.{OfName}
 use Rattle.acredact.specs.Tables.{Secret, patterns_in, secrets_of}
 use Rattle.acredact.specs.declared.arguments.Mistake.TheVariants.{NoPattern, OutOfMemory as NoRoom}
+use Rattle.acredact.specs.declared.arguments.Word.TheVariants.{Strict}
 use Rattle.acredact.specs.declared.failure.Failure.{Failure}
 use Rattle.acredact.specs.declared.failure.Failure.TheVariants.{Arguments, Other}
 use Rattle.acredact.specs.declared.folder.Folder.{Ghosts as Folders}
@@ -87,13 +90,42 @@ pub record IsUnmatchedCall (call : Call) (left left' : Option (List ℕ)) : Type
 abbrev pub IsBuildFailure : Patterns → Failure → Type 0
 IsBuildFailure p failure = IsBuildRefusal p failure ⊎ (failure ≡ Other OutOfMemory)
 
--- why a check ends early: there is no pattern, one of the options cannot be loaded, the patterns are refused, or memory runs out
+-- a pattern of a list that may be meant otherwise is refused
+abbrev pub IsDoubtedCheck : Call → Failure → Type 0
+IsDoubtedCheck call failure = (secrets : List Secret) × (left : Option (List ℕ)) × (between : Option (List ℕ))
+    × AreGiven (reading_by call) call.given secrets left between × IsDoubtFailure (has Strict call.given) call.given secrets failure
+
+-- why a check ends early: there is no pattern, one of the options cannot be loaded, the patterns are refused, memory runs out, or a
+-- pattern of a list is refused
 abbrev pub CheckFails : Call → Failure → Type 0
 CheckFails call failure =
     ((failure ≡ Arguments NoRoom) ⊎ ((failure ≡ Arguments NoPattern) × GivesNoPattern call.given))
-    ⊎ (CannotLoadOne (reading_by call) call.given failure ⊎ (IsRefusedCall call failure ⊎ (failure ≡ Other OutOfMemory)))
+    ⊎ (CannotLoadOne (reading_by call) call.given failure ⊎ (IsRefusedCall call failure ⊎ ((failure ≡ Other OutOfMemory) ⊎ IsDoubtedCheck call failure)))
+
+-- a line that warns of a pattern of a list that was loaded, where such a one is not refused
+abbrev pub WarnsOfList : Call → List ℕ → Type 0
+WarnsOfList call line = (has Strict call.given ≡ false) × (secrets : List Secret) × (left : Option (List ℕ)) × (between : Option (List ℕ))
+    × AreGiven (reading_by call) call.given secrets left between × IsMember (all_doubt_lines call.given secrets) line
+
+-- what may be told of a check before it ends: of a file that cannot be read, or such a warning
+abbrev pub IsCheckLine : Call → List ℕ → Type 0
+IsCheckLine call line = IsUnreadLine (names_asked call.given) line ⊎ WarnsOfList call line
 
 module _ {E : Type 0} (K : SinkGhosts E) where
+  -- of a call whose patterns were loaded each file was looked at, and these lines were told, behind what is told of patterns of lists
+  pub record LooksBehind (call : Call) (found : Bool) (lines : List (List ℕ)) (left left' : Option (List ℕ)) (errors errors' : Errors E) : Type 0 where
+    pub sees : SeesCall call found lines left left'
+    pub between : Errors E
+    pub doubts : TellsDoubts K (has Strict call.given) call.given sees.secrets errors between
+    pub told : TellsBytes K between errors' (concat lines)
+
+  -- nothing was told but of the patterns of the lists that were loaded
+  pub record TellsListsAlone (call : Call) (left : Option (List ℕ)) (errors errors' : Errors E) : Type 0 where
+    pub secrets : List Secret
+    pub between : Option (List ℕ)
+    pub loaded : AreGiven (reading_by call) call.given secrets left between
+    pub doubts : TellsDoubts K (has Strict call.given) call.given secrets errors errors'
+
   -- what comes of looking at files by these names, where the error says why not all were looked at
   pub record SeesFiles {X : Type 0} (quest : Quest) (names : List (List ℕ)) (result : Result Verdict X) (left left' : Option (List ℕ)) (errors errors' : Errors E) : Type 0 where
     pub seen : IfOk result (λ verdict. (lines : List (List ℕ)) × (verdict.all ≡ are_none lines) × AreSeen quest names verdict.found lines left left' × TellsBytes K errors errors' (concat lines))
@@ -102,9 +134,9 @@ module _ {E : Type 0} (K : SinkGhosts E) where
 
   -- what comes of a check
   pub record CheckOutcome (call : Call) (result : Result Verdict Failure) (left left' : Option (List ℕ)) (errors errors' : Errors E) : Type 0 where
-    pub seen : IfOk result (λ verdict. (lines : List (List ℕ)) × (verdict.all ≡ are_none lines) × SeesCall call verdict.found lines left left' × TellsBytes K errors errors' (concat lines))
-    pub quiet : IfOk result (λ verdict. verdict.all ≡ true → errors' ≡ errors)
-    pub told : OnErr result (Tells K (IsUnreadLine (names_asked call.given)) errors errors')
+    pub seen : IfOk result (λ verdict. (lines : List (List ℕ)) × (verdict.all ≡ are_none lines) × LooksBehind call verdict.found lines left left' errors errors')
+    pub quiet : IfOk result (λ verdict. verdict.all ≡ true → TellsListsAlone call left errors errors')
+    pub told : OnErr result (Tells K (IsCheckLine call) errors errors')
     pub fails : IfErr result (CheckFails call)
 
   -- each file was looked at, and each that cannot be read is told: there is one
@@ -112,13 +144,12 @@ module _ {E : Type 0} (K : SinkGhosts E) where
     pub found : Bool
     pub lines : List (List ℕ)
     pub some : are_none lines ≡ false
-    pub seen : SeesCall call found lines left left'
-    pub told : TellsBytes K errors errors' (concat lines)
+    pub seen : LooksBehind call found lines left left' errors errors'
 
-  -- it is told why the check ends early, behind what was told of files
+  -- it is told why the check ends early, behind what was told of patterns of lists and of files
   pub record TellsCheckEnd (call : Call) (errors errors' : Errors E) : Type 0 where
     pub lines : List (List ℕ)
-    pub are_unread : All (IsUnreadLine (names_asked call.given)) lines
+    pub are_told : All (IsCheckLine call) lines
     pub failure : Failure
     pub fails : CheckFails call failure
     pub line : List ℕ
@@ -129,7 +160,7 @@ module _ {E : Type 0} (K : SinkGhosts E) where
   pub record CheckStatus (call : Call) (status : ℕ) (left left' : Option (List ℕ)) (errors errors' : Errors E) : Type 0 where
     pub unmatched : status ≡ 0 → IsUnmatchedCall call left left'
     pub matched : status ≡ 1 → SeesCall call true [] left left'
-    pub quiet : status < 2 → errors' ≡ errors
+    pub quiet : status < 2 → TellsListsAlone call left errors errors'
     pub tells : status ≡ 2 → TellsUnread call left left' errors errors' ⊎ TellsCheckEnd call errors errors'
     pub bound : status ≤ 2
 
@@ -145,6 +176,12 @@ module _ {E F Y R : Type 0} {Reads : Readers R} (K : SinkGhosts E) (D : Folders 
   SeesRules folder given rules result input input' errors errors' =
       SeesFiles K (quest_by (call_of D folder given) (secrets_of rules)) (names_asked given) result (bytes_left input) (bytes_left input') errors errors'
 
+  -- and for those that were loaded as these rules, with the bytes that the input has left since
+  abbrev pub ChecksLoaded : F → List Given → List Rule → Result Verdict Failure → (input input' : FromRead R Reads) → (errors errors' : Errors E) → Type 0
+  ChecksLoaded folder given rules result input input' errors errors' = (left : Option (List ℕ))
+      → gives_pattern given ≡ true → AreGiven (reading_by (call_of D folder given)) given (secrets_of rules) left (bytes_left input)
+      → CheckOutcome K (call_of D folder given) result left (bytes_left input') errors errors'
+
   abbrev pub ChecksGiven : F → List Given → Result Verdict Failure → (input input' : FromRead R Reads) → (errors errors' : Errors E) → Type 0
   ChecksGiven folder given result input input' errors errors' = CheckOutcome K (call_of D folder given) result (bytes_left input) (bytes_left input') errors errors'
 
@@ -153,6 +190,8 @@ module _ {E F Y R : Type 0} {Reads : Readers R} (K : SinkGhosts E) (D : Folders 
 
 -- the same of a call, which writes nothing
 pub record ChecksAlone {R W E : Type 0} {Reads : Readers R} (K : SinkGhosts E) (call : Call) (status : ℕ) (streams streams' : Streams R W E Reads) : Type 0 where
+  pub patternless : GivesNoPattern call.given → status ≡ 2
+  pub unread : GivesNoPattern call.given → streams'.input ≡ streams.input
   pub says : CheckStatus K call status (bytes_left streams.input) (bytes_left streams'.input) streams.errors streams'.errors
   pub unwritten : streams'.output ≡ streams.output
 
@@ -168,6 +207,10 @@ module _ {R W E F X : Type 0} {Reads : Readers R} (D : Folders F X) (folder : F)
   -- each file was read to its end or to a match, and there is one
   abbrev pub MatchedAsked : Type 0
   MatchedAsked = SeesCall (call_of D folder given) true [] (bytes_left streams.input) (bytes_left streams'.input)
+
+  -- nothing was told but of patterns of lists
+  abbrev pub TellsListsAsked : SinkGhosts E → Type 0
+  TellsListsAsked K = TellsListsAlone K (call_of D folder given) (bytes_left streams.input) streams.errors streams'.errors
 
   -- a line or more tell why not
   abbrev pub TellsUncheckedAsked : SinkGhosts E → Type 0

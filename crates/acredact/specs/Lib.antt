@@ -38,6 +38,8 @@ pub mod Doubts
 pub mod Calls
 pub mod Checks
 pub mod Statuses
+-- files whose names are not UTF-8
+pub mod Apart
 -- by what a walk backward redacts
 pub mod Back
 -- files for the output

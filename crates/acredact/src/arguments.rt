@@ -244,7 +244,7 @@ fn read_items(alloc: Global, arguments: &[String]) -> Result<Vec<Item<'_>>, Mist
 }
 
 /// Reads an argument, where this is expected, and answers what is expected of the next.
-fn read<'a>(
+pub fn read<'a>(
     items: &mut Vec<Item<'a>>,
     expects: Expects,
     argument: &'a String,

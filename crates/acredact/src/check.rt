@@ -1,15 +1,16 @@
-//! A check: whether something would be replaced in files. It writes nothing but failures.
+//! A check: whether something would be replaced in files. It writes nothing but warnings and failures.
 
-ghost use Rattle.std.specs.Prelude.{◌≡◌, IfErr, IfSome};
-ghost use Rattle.acredact.specs.Arguments.{all_given};
+ghost use Rattle.std.specs.Prelude.{◌≡◌, IfErr, IfSome, OnOk};
+ghost use Rattle.acredact.specs.Arguments.{GivesNoPattern, all_given};
 ghost use Rattle.acredact.specs.Builds.{patterns_by_given};
-ghost use Rattle.acredact.specs.Checks.{ChecksGiven, EndsCheck, IsBuildFailure, SeesRules, SeesSearched};
+ghost use Rattle.acredact.specs.Checks.{ChecksGiven, ChecksLoaded, EndsCheck, IsBuildFailure, SeesRules, SeesSearched};
 ghost use Rattle.acredact.specs.Looks.{CanLook};
 ghost use Rattle.acredact.specs.Secrets.{IfOf};
 ghost use Rattle.acredact.specs.Statuses.{check_status};
 ghost use Rattle.acredact.specs.Tables.{HaveNoEmpty, patterns_in, secrets_of};
 
 use crate::arguments::{Item, Mistake, Word, has};
+use crate::doubts::warn_of_lists;
 use crate::failure::Failure;
 use crate::folder::Folder;
 use crate::load::{lists_of, rules};
@@ -28,7 +29,7 @@ use std::io::Read;
 /// The exit status where something would be replaced.
 const FOUND: u8 = 1;
 
-/// Looks for the patterns in each file, tells those that cannot be read, and answers the exit status: 1 where a pattern occurs in
+/// Tells of doubtful patterns of lists, looks for the patterns in each file, tells those that cannot be read, and answers the exit status: 1 where a pattern occurs in
 /// one, 0 where none does, and 2 where not each was read to its end or up to a match.
 pub fn check<F: Folder, I: Read, E: Sink>(
     alloc: Global,
@@ -37,6 +38,8 @@ pub fn check<F: Folder, I: Read, E: Sink>(
     input: &mut FromRead<I>,
     errors: &mut Errors<'_, E>,
 ) -> u8
+    ensures patternless { GivesNoPattern (all_given given.now) → result ≡ 2 }
+    ensures unread { GivesNoPattern (all_given given.now) → input.new ≡ input.old }
     ensures says { EndsCheck E.Sink F.Folder folder.now (all_given given.now) result
         input.old input.new errors.old errors.new }
 {
@@ -64,6 +67,8 @@ fn check_given<'a, F: Folder, I: Read, E: Sink>(
     input: &mut FromRead<I>,
     errors: &mut Errors<'_, E>,
 ) -> Result<Verdict, Failure<'a>>
+    ensures patternless { GivesNoPattern (all_given given.now) → OnOk result ⊥ }
+    ensures unread { GivesNoPattern (all_given given.now) → input.new ≡ input.old }
     ensures outcome { ChecksGiven E.Sink F.Folder folder.now (all_given given.now) result
         input.old input.new errors.old errors.new }
 {
@@ -72,7 +77,27 @@ fn check_given<'a, F: Folder, I: Read, E: Sink>(
     }
     let lists = lists_of(alloc, given, folder);
     match rules(&lists, given, input) {
-        Ok(rules) => check_rules(alloc, given, rules.as_slice(), folder, input, errors),
+        Ok(rules) => check_loaded(alloc, given, rules.as_slice(), folder, input, errors),
+        Err(failure) => Err(failure),
+    }
+}
+
+/// Tells of doubtful patterns of lists, or refuses the first, and looks for the patterns of these rules in each file.
+fn check_loaded<'a, F: Folder, I: Read, E: Sink>(
+    alloc: Global,
+    given: &[Item<'a>],
+    rules: &[Rule],
+    folder: &F,
+    input: &mut FromRead<I>,
+    errors: &mut Errors<'_, E>,
+) -> Result<Verdict, Failure<'a>>
+    requires some { HaveNoEmpty (secrets_of rules.now) }
+    ensures outcome { ChecksLoaded E.Sink F.Folder folder.now (all_given given.now) rules.now result
+        input.old input.new errors.old errors.new }
+{
+    let strict = has(given, Word::Strict);
+    match warn_of_lists(errors, given, rules, strict) {
+        Ok(()) => check_rules(alloc, given, rules, folder, input, errors),
         Err(failure) => Err(failure),
     }
 }

@@ -8,6 +8,7 @@
 //! standard error says why.
 #![tactic(auto)]
 
+mod apart;
 mod arguments;
 mod back;
 mod beside;
@@ -40,27 +41,28 @@ mod streams;
 mod summary;
 mod ways;
 
-ghost use Rattle.std.specs.Prelude.{◌≡◌, ◌≤◌, IfErr, IfOk, true};
+ghost use Rattle.std.specs.Prelude.{◌≡◌, ◌≤◌, IfErr, IfOk, false, true};
 ghost use Rattle.std.specs.Process.{exit_status};
 ghost use Rattle.programs.specs.Telling.{TellsSome};
+ghost use Rattle.acredact.specs.Apart.{tells_nothing};
 ghost use Rattle.acredact.specs.Arguments.{AreMistaken, IfAsked, IfChecking, IfNoCheck, IsCheck, RefusesUnclean};
 ghost use Rattle.acredact.specs.Calls.{BeginsAsked, IsRefusedLine, LeavesNoneAsked, RedactsAsked};
 ghost use Rattle.acredact.specs.Checks.{MatchedAsked, UnmatchedAsked};
 
 use aho_devices::adapters::{FromRead, FromWrite};
 use aho_devices::device::Sink;
+use apart::{Apart, Told, arguments, status_behind, tell_apart};
 use beside::Beside;
 use failure::Failure::Unread;
 use folder::{Folder, Host};
 use in_place::{asks_in_place, replace_in_place};
 use into::{make_and_run, named_output};
 use outputs::Outputs;
-use programs::arguments::arguments;
 use programs::closed::{Noted, Quiet};
 use programs::errors::Errors;
 use programs::failure::Failure;
 use programs::unopened::{DEVICE, fill_closed};
-use run::{refuse, report, run};
+use run::{FAILED, refuse, report, run};
 use std::alloc::Global;
 use std::cell::Cell;
 use std::io::{BufWriter, Read, Write};
@@ -80,8 +82,14 @@ fn main(rt: HostRuntime) -> ExitCode {
     if let Err(reason) = filled {
         return ExitCode::from(report(&Unread(DEVICE, reason), &mut errors));
     }
-    if let Ok(arguments) = &given {
-        let arguments = arguments.as_slice();
+    let mut told = Told::Nothing;
+    if let Ok(apart) = &given {
+        match tell_apart(rt.alloc(), apart, &mut errors) {
+            Ok(Told::EachAlone) => return ExitCode::from(FAILED),
+            Ok(found) => told = found,
+            Err(failure) => return ExitCode::from(report(&failure, &mut errors)),
+        }
+        let arguments = apart.arguments.as_slice();
         let number = process::id(rt.process());
         let mut outputs = Beside::new(rt.alloc(), &rt, number, &reason, &looked);
         match asks_in_place(rt.alloc(), arguments) {
@@ -93,13 +101,14 @@ fn main(rt: HostRuntime) -> ExitCode {
                     output: FromWrite::new(outputs.idle()),
                     errors,
                 };
-                return ExitCode::from(replace_in_place(
+                let status = replace_in_place(
                     rt.alloc(),
                     arguments,
                     &folder,
                     &mut outputs,
                     &mut streams,
-                ));
+                );
+                return ExitCode::from(status_behind(told, status));
             }
             Err(failure) => return ExitCode::from(report(&failure, &mut errors)),
         }
@@ -135,6 +144,7 @@ fn main(rt: HostRuntime) -> ExitCode {
             exit_code(
                 rt.alloc(),
                 given,
+                told,
                 &Host::new(&rt, &looked, None),
                 &mut streams,
             )
@@ -143,36 +153,41 @@ fn main(rt: HostRuntime) -> ExitCode {
     }
 }
 
-/// Runs on the arguments, or tells why there are none, and ends with the status.
+/// Runs on the arguments, or tells why there are none, and ends with the status: with 2, where a file was told whose name is not UTF-8.
 fn exit_code<F: Folder, I: Read, W: Write, E: Sink>(
     alloc: Global,
-    given: Result<Vec<String>, Failure>,
+    given: Result<Apart, Failure>,
+    told: Told,
     folder: &F,
     streams: &mut Streams<'_, I, W, E>,
 ) -> ExitCode
     ensures faulty { IfErr given (λ _. exit_status result ≡ 2) }
     ensures refused { IfErr given (λ failure. TellsSome E.Sink (IsRefusedLine failure)
         streams.old.errors streams.new.errors) }
-    ensures wrong { IfOk given (λ arguments.
-        AreMistaken arguments.items → exit_status result ≡ 2) }
-    ensures redacts { IfOk given (λ arguments. IfAsked arguments.items (λ given.
+    ensures wrong { IfOk given (λ apart.
+        AreMistaken apart.arguments.items → exit_status result ≡ 2) }
+    ensures redacts { IfOk given (λ apart. IfAsked apart.arguments.items (λ given.
         exit_status result ≡ 0 → RedactsAsked W.Write F.Folder folder.now given streams.old streams.new)) }
-    ensures strict { IfOk given (λ arguments. IfAsked arguments.items (λ given.
+    ensures strict { IfOk given (λ apart. IfAsked apart.arguments.items (λ given.
         RefusesUnclean given → exit_status result ≡ 0
         → LeavesNoneAsked W.Write F.Folder folder.now given streams.old streams.new)) }
-    ensures begins { IfOk given (λ words. IfAsked words.items (λ all.
+    ensures begins { IfOk given (λ apart. IfAsked apart.arguments.items (λ all.
         BeginsAsked W.Write F.Folder folder.now all streams.old streams.new)) }
-    ensures unmatched { IfOk given (λ arguments. IfChecking arguments.items (λ given.
+    ensures unmatched { IfOk given (λ apart. IfChecking apart.arguments.items (λ given.
         exit_status result ≡ 0 → UnmatchedAsked F.Folder folder.now given streams.old streams.new)) }
-    ensures matched { IfOk given (λ arguments. IfChecking arguments.items (λ given.
+    ensures matched { IfOk given (λ apart. IfChecking apart.arguments.items (λ given.
         exit_status result ≡ 1 → MatchedAsked F.Folder folder.now given streams.old streams.new)) }
-    ensures flushed { IfOk given (λ arguments. IfNoCheck arguments.items (exit_status result ≡ 0
+    ensures flushed { IfOk given (λ apart. IfNoCheck apart.arguments.items (exit_status result ≡ 0
         → streams.new.output.device.flushed ≡ true)) }
     ensures bound { exit_status result ≤ 2 }
-    ensures one { exit_status result ≡ 1 → IfOk given (λ arguments. IsCheck arguments.items) }
+    ensures told { tells_nothing told ≡ false → IfOk given (λ _. exit_status result ≡ 2) }
+    ensures one { exit_status result ≡ 1 → IfOk given (λ apart. IsCheck apart.arguments.items) }
 {
     match given {
-        Ok(arguments) => ExitCode::from(run(alloc, arguments.as_slice(), folder, streams)),
+        Ok(apart) => {
+            let status = run(alloc, apart.arguments.as_slice(), folder, streams);
+            ExitCode::from(status_behind(told, status))
+        }
         Err(failure) => ExitCode::from(refuse(failure, &mut streams.errors)),
     }
 }

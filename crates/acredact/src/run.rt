@@ -9,7 +9,7 @@ ghost use Rattle.programs.specs.Telling.{Tells, TellsBytes, TellsSome};
 ghost use Rattle.acredact.specs.Arguments.{AreMistaken, AsksToRedact, GivesNoPattern, IfAsked, IfChecking, IfNoCheck, IsCheck, RefusesUnclean, all_given, checks_asked, counts_asked, counts_given, has};
 ghost use Rattle.acredact.specs.Back.{AreBoth, FilesJob, IfBackIs, RowsCounts, RowsOutcome};
 ghost use Rattle.acredact.specs.Calls.{AskedOutcome, BeginsAsked, CountsAsked, DoubtedOutcome, IsCountsFailure, IsCountsLine, IsPrintFailure, IsRefusedLine, IsWrongLine, KeylessOutcome, LeavesNoneAsked, LoadOutcome, OutputFails, ReadsAsked, RedactsAsked, TellsAsked, TellsAnyCounts, WarnedJob, WarnedOutcome, WarnsAsked, call_of, gives_pattern, keyed_as, names_asked, text_asked, work_by};
-ghost use Rattle.acredact.specs.Checks.{MatchedAsked, SaysOfCheck, TellsUncheckedAsked, UnmatchedAsked};
+ghost use Rattle.acredact.specs.Checks.{MatchedAsked, SaysOfCheck, TellsListsAsked, TellsUncheckedAsked, UnmatchedAsked};
 ghost use Rattle.acredact.specs.Counts.{PutsText, lines_of_rules, zeros};
 ghost use Rattle.acredact.specs.Failures.{IsFailureLine};
 ghost use Rattle.acredact.specs.Files.{CanDo, keyed_of};
@@ -81,6 +81,9 @@ pub fn run<F: Folder, I: Read, W: Write, E: Sink>(
     ensures patternless { IfAsked arguments.now (λ given. GivesNoPattern given → result ≡ 2) }
     ensures idle { IfAsked arguments.now (λ given.
         GivesNoPattern given → IsIdle streams.old streams.new) }
+    ensures check_patternless { IfChecking arguments.now (λ given. GivesNoPattern given → result ≡ 2) }
+    ensures check_idle { IfChecking arguments.now (λ given.
+        GivesNoPattern given → IsIdle streams.old streams.new) }
 
     // Where the status is 0, the files were redacted, one after another, and no secret is left.
     ensures redacts { IfAsked arguments.now (λ given. result ≡ 0
@@ -111,11 +114,12 @@ pub fn run<F: Folder, I: Read, W: Write, E: Sink>(
     ensures matched { IfChecking arguments.now (λ given. result ≡ 1
         → MatchedAsked F.Folder folder.now given streams.old streams.new) }
 
-    // At any other each file that cannot be read is told, and each other was looked at; or it is told why the check ends.
+    // At any other each file that cannot be read is told, and each other was looked at; or it is told why the check ends. At status 0
+    // or 1 nothing is told but of patterns of lists that may be meant otherwise, and where these are refused there is none.
     ensures unchecked { IfChecking arguments.now (λ given. result ≡ 2
         → TellsUncheckedAsked F.Folder folder.now given streams.old streams.new E.Sink) }
-    ensures check_quiet { IfChecking arguments.now (λ _. result < 2
-        → streams.new.errors ≡ streams.old.errors) }
+    ensures check_quiet { IfChecking arguments.now (λ given. result < 2
+        → TellsListsAsked F.Folder folder.now given streams.old streams.new E.Sink) }
     ensures check_unwritten { IfChecking arguments.now (λ _.
         streams.new.output ≡ streams.old.output) }
 

@@ -1,22 +1,40 @@
--- The status is that of the call.
-use Rattle.std.proofs.Common.{◌≡◌, IfOk, true, sym, subst, ◌∙◌}
+-- The status is that of the call, but for what was told of names.
+use Rattle.std.proofs.Common.{◌≡◌, ℕ, IfOk, true, sym, subst, ◌∙◌}
 use Rattle.std.specs.Process.{exit_status}
-use Rattle.acredact.specs.Arguments.{AreMistaken, IfChecking, IfNoCheck}
-use Rattle.acredact.specs.Checks.{UnmatchedAsked}
+use Rattle.acredact.specs.Apart.{status_behind}
+use Rattle.acredact.specs.Arguments.{AreMistaken, IfAsked, IfChecking, IfNoCheck, RefusesUnclean}
+use Rattle.acredact.specs.Calls.{LeavesNoneAsked}
+use Rattle.acredact.specs.Checks.{MatchedAsked, UnmatchedAsked}
+use Rattle.acredact.proofs.SetApart.{behind_one, behind_two, behind_zero}
 use Rattle.acredact.proofs.exit_code.Goals as goal
 
 pub returns-in-Ok-clause-flushed : goal.returns-in-Ok-clause-flushed
 returns-in-Ok-clause-flushed g c =
-    subst (λ given. IfOk given (λ arguments. IfNoCheck arguments.items (exit_status c.from.result ≡ 0 → c.run.new.streams.output.device.flushed ≡ true))) (sym c.in-Ok.is)
-    (λ unchecked zero. subst (λ l. IfNoCheck l (c.run.result ≡ 0 → c.run.new.streams.output.device.flushed ≡ true)) c.as_slice.ensures.value c.run.ensures.flushed unchecked (sym c.from.ensures ∙ zero))
+    subst (λ given. IfOk given (λ apart. IfNoCheck apart.arguments.items (exit_status c.from.result ≡ 0 → c.run-status.new.streams.output.device.flushed ≡ true))) (sym c.in-Ok.is)
+    (λ unchecked zero. subst (λ l. IfNoCheck l (c.run-status.result ≡ 0 → c.run-status.new.streams.output.device.flushed ≡ true)) c.as_slice.ensures.value c.run-status.ensures.flushed unchecked
+    (behind_zero c.args.told c.run-status.result (sym c.status_behind.ensures.status ∙ (sym c.from.ensures ∙ zero))))
 
 pub returns-in-Ok-clause-wrong : goal.returns-in-Ok-clause-wrong
 returns-in-Ok-clause-wrong g c =
-    subst (λ given. IfOk given (λ arguments. AreMistaken arguments.items → exit_status c.from.result ≡ 2)) (sym c.in-Ok.is)
-    (λ mistaken. c.from.ensures ∙ subst (λ l. AreMistaken l → c.run.result ≡ 2) c.as_slice.ensures.value c.run.ensures.wrong mistaken)
+    subst (λ given. IfOk given (λ apart. AreMistaken apart.arguments.items → exit_status c.from.result ≡ 2)) (sym c.in-Ok.is)
+    (λ mistaken. c.from.ensures ∙ (c.status_behind.ensures.status ∙ behind_two c.args.told c.run-status.result (subst (λ l. AreMistaken l → c.run-status.result ≡ 2) c.as_slice.ensures.value c.run-status.ensures.wrong mistaken)))
+
+pub returns-in-Ok-clause-strict : goal.returns-in-Ok-clause-strict
+returns-in-Ok-clause-strict g c =
+    subst (λ given. IfOk given (λ apart. IfAsked apart.arguments.items (λ asked. RefusesUnclean asked → exit_status c.from.result ≡ 0
+    → LeavesNoneAsked g.W.Write g.F.Folder c.args.folder.now asked c.args.streams.now c.run-status.new.streams))) (sym c.in-Ok.is)
+    (λ asked is redacts refuses zero. subst (λ l. IfAsked l (λ asked. RefusesUnclean asked → c.run-status.result ≡ 0
+    → LeavesNoneAsked g.W.Write g.F.Folder c.args.folder.now asked c.args.streams.now c.run-status.new.streams)) c.as_slice.ensures.value
+    c.run-status.ensures.strict asked is redacts refuses (behind_zero c.args.told c.run-status.result (sym c.status_behind.ensures.status ∙ (sym c.from.ensures ∙ zero))))
 
 pub returns-in-Ok-clause-unmatched : goal.returns-in-Ok-clause-unmatched
 returns-in-Ok-clause-unmatched g c =
-    subst (λ given. IfOk given (λ arguments. IfChecking arguments.items (λ asked. exit_status c.from.result ≡ 0 → UnmatchedAsked g.F.Folder c.args.folder.now asked c.args.streams.now c.run.new.streams))) (sym c.in-Ok.is)
-    (λ asked is checks zero. subst (λ l. IfChecking l (λ asked. c.run.result ≡ 0 → UnmatchedAsked g.F.Folder c.args.folder.now asked c.args.streams.now c.run.new.streams)) c.as_slice.ensures.value
-    c.run.ensures.unmatched asked is checks (sym c.from.ensures ∙ zero))
+    subst (λ given. IfOk given (λ apart. IfChecking apart.arguments.items (λ asked. exit_status c.from.result ≡ 0 → UnmatchedAsked g.F.Folder c.args.folder.now asked c.args.streams.now c.run-status.new.streams))) (sym c.in-Ok.is)
+    (λ asked is checks zero. subst (λ l. IfChecking l (λ asked. c.run-status.result ≡ 0 → UnmatchedAsked g.F.Folder c.args.folder.now asked c.args.streams.now c.run-status.new.streams)) c.as_slice.ensures.value
+    c.run-status.ensures.unmatched asked is checks (behind_zero c.args.told c.run-status.result (sym c.status_behind.ensures.status ∙ (sym c.from.ensures ∙ zero))))
+
+pub returns-in-Ok-clause-matched : goal.returns-in-Ok-clause-matched
+returns-in-Ok-clause-matched g c =
+    subst (λ given. IfOk given (λ apart. IfChecking apart.arguments.items (λ asked. exit_status c.from.result ≡ 1 → MatchedAsked g.F.Folder c.args.folder.now asked c.args.streams.now c.run-status.new.streams))) (sym c.in-Ok.is)
+    (λ asked is checks one. subst (λ l. IfChecking l (λ asked. c.run-status.result ≡ 1 → MatchedAsked g.F.Folder c.args.folder.now asked c.args.streams.now c.run-status.new.streams)) c.as_slice.ensures.value
+    c.run-status.ensures.matched asked is checks (behind_one c.args.told c.run-status.result (sym c.status_behind.ensures.status ∙ (sym c.from.ensures ∙ one))))

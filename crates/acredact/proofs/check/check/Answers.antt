@@ -9,12 +9,16 @@ use Rattle.acredact.proofs.check.check.Goals as goal
 
 pub returns-in-Ok : goal.returns-in-Ok
 returns-in-Ok g c = record {
+  patternless = λ none. absurd (c.in-Ok.ensures.patternless none);
+  unread = c.in-Ok.ensures.unread;
   says = subst (λ (status : ℕ). CheckStatus g.E.Sink (call_of g.F.Folder c.args.folder.now (all_given c.args.given.now)) status (bytes_left c.args.input.now) (bytes_left c.check_given.new.input) c.args.errors.now c.check_given.new.errors) (sym c.status_of.ensures.status)
       (status_seen g.E.Sink (call_of g.F.Folder c.args.folder.now (all_given c.args.given.now)) (bytes_left c.args.input.now) (bytes_left c.check_given.new.input) c.args.errors.now c.in-Ok.verdict c.check_given.new.errors c.in-Ok.ensures.outcome);
 }
 
 pub returns-in-Err : goal.returns-in-Err
 returns-in-Err g c = record {
+  patternless = λ none. c.report.ensures.failed;
+  unread = c.in-Err.ensures.unread;
   says =
       (let told = c.report.ensures.told in
       subst (λ (status : ℕ). CheckStatus g.E.Sink (call_of g.F.Folder c.args.folder.now (all_given c.args.given.now)) status (bytes_left c.args.input.now) (bytes_left c.check_given.new.input) c.args.errors.now c.report.new.errors) (sym c.report.ensures.failed)

@@ -14,7 +14,7 @@ returns-then-checks g c =
     let is : checks_asked (all_given c.args.given.now) ≡ true = sym c.checks.ensures.checks ∙ c.if-checks.true in
     record {
       redacted = λ asks. absurd (no_redaction (all_given c.args.given.now) is asks);
-      checked = λ asks. record { says = c.check.ensures.says; unwritten = refl };
+      checked = λ asks. record { patternless = c.check.ensures.patternless; unread = c.check.ensures.unread; says = c.check.ensures.says; unwritten = refl };
       flushed = λ none. let clash : true ≡ false = sym is ∙ none in absurd (cc);
       bound = λ none. let clash : true ≡ false = sym is ∙ none in absurd (cc);
     }

@@ -33,6 +33,8 @@ returns-in-Ok g c =
       tells_wrong = λ wrong. let clash : None ≡ Some items = sym wrong ∙ mine in absurd (cc);
       patternless = λ given right asks. (redacted given right asks).patternless;
       idle = λ given right asks. (redacted given right asks).idle;
+      check_patternless = λ given right asks. (checked given right asks).patternless;
+      check_idle = λ given right asks none. record { unread = (checked given right asks).unread none; unwritten = (checked given right asks).unwritten };
       redacts = λ given right asks. (redacted given right asks).redacts;
       begins = λ given right asks. (redacted given right asks).begins;
       strict = λ given right asks. (redacted given right asks).strict;
@@ -70,6 +72,8 @@ returns-in-Err g c =
       tells_wrong = λ wrong. tells_one g.E.Sink (IsWrongLine (texts c.args.arguments.now)) _ _ told.0 (Arguments c.in-Err.mistake, (c.in-Err.mistake, refl, c.in-Err.ensures.wrong), told.1) told.2;
       patternless = λ given right asks. (redacted given right).patternless;
       idle = λ given right asks. (redacted given right).idle;
+      check_patternless = λ given right asks none. c.report.ensures.failed;
+      check_idle = λ given right asks none. record { unread = refl; unwritten = refl };
       redacts = λ given right asks. (redacted given right).redacts;
       begins = λ given right asks. (redacted given right).begins;
       strict = λ given right asks. (redacted given right).strict;

@@ -1,0 +1,128 @@
+-- Arguments that are not UTF-8: which of them name files, and what is told of these.
+use Rattle.std.specs.Prelude.{◌≡◌, ◌⊎◌, ℕ, ◌++◌, ◌||◌, not, Bool, true, false, List, [], ◌∷◌, Option, Some, None, Result, IfOk, String, Vec, codes, map, if◌then◌else◌}
+use Rattle.std.specs.List.{concat}
+use Rattle.std.specs.Str.{IsUtf8}
+use Rattle.call_options.specs.Forms.{Form, argument_form, joined_letters, long_name, long_with, no_more, no_option}
+use Rattle.programs.specs.Arguments.{texts}
+use Rattle.programs.specs.declared.failure.Failure.{Failure as OtherFailure}
+use Rattle.programs.specs.declared.failure.Failure.TheVariants.{OutOfMemory, Usage}
+use Rattle.acredact.specs.Arguments.{Given, ItemsSoFar, all_asked, by_argument, has}
+use Rattle.acredact.specs.Calls.{gives_pattern}
+use Rattle.acredact.specs.Messages.{line_about}
+use Rattle.acredact.specs.declared.apart.Apart.{Apart}
+use Rattle.acredact.specs.declared.apart.Told.{Told}
+use Rattle.acredact.specs.declared.apart.Told.TheVariants.{Nothing, Each, EachAlone}
+use Rattle.acredact.specs.declared.arguments.Expects.{Expects}
+use Rattle.acredact.specs.declared.arguments.Expects.TheVariants.{Any, Value, Name}
+use Rattle.acredact.specs.declared.arguments.Word.TheVariants.{File, Help, Output, Version}
+
+-- the bytes of each name
+abbrev pub bytes_of_names : {Z : Type 0} → List (Vec ℕ Z) → List (List ℕ)
+bytes_of_names names = map (λ name. name.items) names
+
+-- what is expected behind an argument; behind one that is wrong that does not matter
+abbrev pub expected_by : Option ItemsSoFar → Expects
+expected_by None = Any
+expected_by (Some read) = read.next
+
+abbrev pub next_behind : Expects → List ℕ → Expects
+next_behind expects argument = expected_by (by_argument expects argument [])
+
+-- no option
+abbrev pub is_no_option : Form → Bool
+is_no_option no_more = false
+is_no_option (long_name name) = false
+is_no_option (long_with name value) = false
+is_no_option (joined_letters letters) = false
+is_no_option no_option = true
+
+-- an argument that is not UTF-8 names a file: no option takes it for its value, and it begins as one only behind '--'
+abbrev pub names_file : Expects → List ℕ → Bool
+names_file Any argument = is_no_option (argument_form argument)
+names_file (Value word) argument = false
+names_file Name argument = true
+
+-- each of these arguments is UTF-8 or names a file: those that are, and the others, in order
+abbrev pub AreSetApart : Expects → List (List ℕ) → (arguments names : List (List ℕ)) → Type 0
+AreSetApart expects [] arguments names = (arguments ≡ []) × (names ≡ [])
+AreSetApart expects (one ∷ rest) arguments names =
+    (IsUtf8 one × (others : List (List ℕ)) × (arguments ≡ one ∷ others) × AreSetApart (next_behind expects one) rest others names)
+    ⊎ ((IsUtf8 one → ⊥) × (names_file expects one ≡ true) × (others : List (List ℕ)) × (names ≡ one ∷ others) × AreSetApart expects rest arguments others)
+
+-- one of them is not UTF-8, and names no file
+abbrev pub HaveNoName : Expects → List (List ℕ) → Type 0
+HaveNoName expects [] = ⊥
+HaveNoName expects (one ∷ rest) =
+    (IsUtf8 one × HaveNoName (next_behind expects one) rest)
+    ⊎ ((IsUtf8 one → ⊥) × ((names_file expects one ≡ false) ⊎ ((names_file expects one ≡ true) × HaveNoName expects rest)))
+
+-- so all arguments of a call were set apart
+abbrev pub IsSetApart : Expects → List (List ℕ) → Apart → Type 0
+IsSetApart expects given apart = AreSetApart expects given (texts apart.arguments.items) (bytes_of_names apart.names.items)
+
+-- or they were not, since memory ran out or one of them is wrong
+abbrev pub IsNotApart : List (List ℕ) → OtherFailure → Type 0
+IsNotApart given failure = (failure ≡ OutOfMemory) ⊎ ((failure ≡ Usage) × HaveNoName Any given)
+
+-- one argument more was put to those that are UTF-8
+pub record PutsText (expects : Expects) (argument : List ℕ) (next : Option Expects) (apart apart' : Apart) : Type 0 where
+  pub text : IsUtf8 argument
+  pub next_is : next ≡ Some (next_behind expects argument)
+  pub put : texts apart'.arguments.items ≡ texts apart.arguments.items ++ (argument ∷ [])
+  pub names : apart'.names ≡ apart.names
+
+-- or to the names
+pub record PutsName (expects : Expects) (argument : List ℕ) (next : Option Expects) (apart apart' : Apart) : Type 0 where
+  pub no_text : IsUtf8 argument → ⊥
+  pub is_name : names_file expects argument ≡ true
+  pub next_is : next ≡ Some expects
+  pub put : bytes_of_names apart'.names.items ≡ bytes_of_names apart.names.items ++ (argument ∷ [])
+  pub arguments : apart'.arguments ≡ apart.arguments
+
+-- or it is wrong
+pub record IsWrong (expects : Expects) (argument : List ℕ) (next : Option Expects) : Type 0 where
+  pub no_text : IsUtf8 argument → ⊥
+  pub no_name : names_file expects argument ≡ false
+  pub next_is : next ≡ None
+
+abbrev pub Puts : {X : Type 0} → Expects → List ℕ → Result (Option Expects) X → (apart apart' : Apart) → Type 0
+Puts expects argument result apart apart' =
+    IfOk result (λ next. PutsText expects argument next apart apart' ⊎ (PutsName expects argument next apart apart' ⊎ IsWrong expects argument next))
+
+-- the line that tells that such a file cannot be opened
+abbrev pub unnamed_line : List ℕ → List ℕ
+unnamed_line name = line_about name (codes "its name is not UTF-8, so it cannot be opened")
+
+abbrev pub unnamed_lines : List (List ℕ) → List ℕ
+unnamed_lines names = concat (map unnamed_line names)
+
+-- what is to be told of such files, by what else is given: where no file is read, nothing. Where no other file is given, and where all
+-- files have one output, nothing else is to be done
+abbrev pub told_by : List Given → (none : Bool) → Told
+told_by given none =
+    if none || has Help given || has Version given || not (gives_pattern given) then Nothing
+    else if has Output given || not (has File given) then EachAlone
+    else Each
+
+abbrev pub tells_nothing : Told → Bool
+tells_nothing Nothing = true
+tells_nothing Each = false
+tells_nothing EachAlone = false
+
+abbrev pub has_none : List (List ℕ) → Bool
+has_none [] = true
+has_none (name ∷ names) = false
+
+-- it is so of the arguments of a call
+abbrev pub IsToldOf : Apart → Told → Type 0
+IsToldOf apart told = (given : List Given) × (all_asked (texts apart.arguments.items) ≡ Some given) × (told ≡ told_by given (has_none (bytes_of_names apart.names.items)))
+
+-- the lines of that
+abbrev pub told_lines : Told → List (List ℕ) → List ℕ
+told_lines told names = if tells_nothing told then [] else unnamed_lines names
+
+-- the status of a call of which this was told, by that of its rest
+abbrev pub status_behind : Told → ℕ → ℕ
+status_behind Nothing status = status
+status_behind Each status = 2
+status_behind EachAlone status = 2
