@@ -3,7 +3,7 @@
 ghost use Rattle.std.specs.Prelude.{◌≡◌, ◌++◌, ◌∷◌, [], IfOk, IfSome, IsErr, IsNone, IsSome, OnOk, false, true};
 ghost use Rattle.acgrep.specs.Listed.{listed_bytes};
 ghost use Rattle.acgrep.specs.Loading.{AddsRuleText, ReadsText, ReadsTexts};
-ghost use Rattle.acgrep.specs.Rules.{expanded, is_from_file, is_space, rule_before, rule_said, rules_by, rules_in, rules_said, trimmed};
+ghost use Rattle.acgrep.specs.Rules.{expanded, glob_of_line, is_from_file, is_space, rule_before, rule_said, rules_by, rules_in, rules_said};
 ghost use Rattle.acgrep.specs.Told.{TellsCause, TellsOfRule, TellsOfRules};
 
 use crate::arguments::Source;
@@ -174,7 +174,7 @@ fn add_glob<'a>(all: &mut Vec<Rule<'a>>, glob: &'a [u8]) -> Result<(), AllocErro
 
 /// A line without the white space at its end.
 fn trimmed(line: &[u8]) -> &[u8]
-    ensures cut { result.now ≡ trimmed line.now }
+    ensures cut { result.now ≡ glob_of_line line.now }
 {
     let mut rest = line;
     while let Some((last, before)) = rest.split_last() {
