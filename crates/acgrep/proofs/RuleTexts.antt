@@ -6,7 +6,7 @@ use Rattle.std.proofs.lemmas.Bool.{cases_Bool}
 use Rattle.std.proofs.lemmas.List.{map-append, take_all}
 use Rattle.programs.specs.Names.{IsOneOf}
 use Rattle.acgrep.specs.Loading.{AddsText, AreTexts, IsTextOfRule}
-use Rattle.acgrep.specs.Rules.{RuleSaid, expanded, is_from_file, is_space, kept_in_front, rule_before, rule_said, rules_by, rules_said, trimmed_line}
+use Rattle.acgrep.specs.Rules.{RuleSaid, expanded, is_from_file, is_space, glob_before, rule_before, rule_said, rules_by, rules_said, glob_of_line}
 use Rattle.acgrep.specs.Runs.{AreRules, AreRulesOf, AreRulesOfFile, IsTextOf}
 use Rattle.acgrep.specs.Told.{rule_files}
 use Rattle.acgrep.specs.declared.rules.Rule.{Rule}
@@ -124,15 +124,15 @@ rule_front [] rules = refl
 rule_front (byte ∷ bytes) rules = refl
 
 -- white space at the end of a line is passed over
-pub trimmed_space : (line : List ℕ) (byte : ℕ) → is_space byte ≡ true → trimmed_line (line ++ (byte ∷ [])) ≡ trimmed_line line
+pub trimmed_space : (line : List ℕ) (byte : ℕ) → is_space byte ≡ true → glob_of_line (line ++ (byte ∷ [])) ≡ glob_of_line line
 trimmed_space [] byte space = rw space refl
-trimmed_space (first ∷ line) byte space = ap (kept_in_front first) (trimmed_space line byte space)
+trimmed_space (first ∷ line) byte space = ap (glob_before first) (trimmed_space line byte space)
 
 -- and any other byte ends it
-pub trimmed_end : (line : List ℕ) (byte : ℕ) → is_space byte ≡ false → trimmed_line (line ++ (byte ∷ [])) ≡ line ++ (byte ∷ [])
+pub trimmed_end : (line : List ℕ) (byte : ℕ) → is_space byte ≡ false → glob_of_line (line ++ (byte ∷ [])) ≡ line ++ (byte ∷ [])
 trimmed_end [] byte other = rw other refl
-trimmed_end (first ∷ line) byte other = ap (kept_in_front first) (trimmed_end line byte other) ∙ kept_some first line byte
+trimmed_end (first ∷ line) byte other = ap (glob_before first) (trimmed_end line byte other) ∙ kept_some first line byte
   where
-    kept_some : (first : ℕ) (line : List ℕ) (byte : ℕ) → kept_in_front first (line ++ (byte ∷ [])) ≡ first ∷ (line ++ (byte ∷ []))
+    kept_some : (first : ℕ) (line : List ℕ) (byte : ℕ) → glob_before first (line ++ (byte ∷ [])) ≡ first ∷ (line ++ (byte ∷ []))
     kept_some first [] byte = refl
     kept_some first (next ∷ line) byte = refl

@@ -86,14 +86,14 @@ abbrev pub is_space : ℕ → Bool
 is_space byte = byte == 32 || (nat_le 9 byte && nat_le byte 13)
 
 -- a byte before what is kept of those behind it: where nothing is, it is not kept if it is white space
-abbrev pub kept_in_front : ℕ → List ℕ → List ℕ
-kept_in_front byte [] = if is_space byte then [] else byte ∷ []
-kept_in_front byte (next ∷ rest) = byte ∷ next ∷ rest
+abbrev pub glob_before : ℕ → List ℕ → List ℕ
+glob_before byte [] = if is_space byte then [] else byte ∷ []
+glob_before byte (next ∷ rest) = byte ∷ next ∷ rest
 
 -- a line without the white space at its end
-abbrev pub trimmed_line : List ℕ → List ℕ
-trimmed_line [] = []
-trimmed_line (byte ∷ rest) = kept_in_front byte (trimmed_line rest)
+abbrev pub glob_of_line : List ℕ → List ℕ
+glob_of_line [] = []
+glob_of_line (byte ∷ rest) = glob_before byte (glob_of_line rest)
 
 -- a glob is a rule by which files are not searched, if it is not empty
 abbrev pub rule_before : List ℕ → List RuleSaid → List RuleSaid
@@ -103,7 +103,7 @@ rule_before (byte ∷ bytes) rules = record { sense = Exclude; glob = byte ∷ b
 -- the rules of these lines: each is a glob, without the white space at its end
 abbrev pub rules_of_lines : List (List ℕ) → List RuleSaid
 rules_of_lines [] = []
-rules_of_lines (line ∷ rest) = rule_before (trimmed_line line) (rules_of_lines rest)
+rules_of_lines (line ∷ rest) = rule_before (glob_of_line line) (rules_of_lines rest)
 
 -- those of the text of a file
 abbrev pub rules_in : List ℕ → List RuleSaid

@@ -182,8 +182,8 @@ abbrev pub guards_by : Flags → Bool → Bool
 guards_by flags terminal = writes_lines (shown_by flags) && (terminal && (not flags.text && (not flags.text_alone && not flags.null_data)))
 
 -- under `-I` only the lines before the first with a zero byte are searched, unless `-z` is given
-abbrev pub text_said_by : Flags → Bool
-text_said_by flags = flags.text_alone && not flags.null_data
+abbrev pub alone_by : Flags → Bool
+alone_by flags = flags.text_alone && not flags.null_data
 
 -- how a match is written with its fields: by these pieces, or as an object
 abbrev pub form_said : Form → Option (List Piece)
@@ -231,7 +231,7 @@ pub record IsJob (given : Said) (screen : Screen) (several : Bool) (job : Job) :
   -- whether lines from the first on that holds a zero byte are kept from the output
   pub guards : is_guarded job ≡ guards_by given.flags screen.terminal
   -- whether only the lines before it are searched
-  pub text : takes_text job ≡ text_said_by given.flags
+  pub text : takes_text job ≡ alone_by given.flags
 
 -- whether there are rules of which files are searched
 abbrev pub has_rules : List RuleSaid → Bool

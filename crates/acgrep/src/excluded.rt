@@ -3,7 +3,7 @@
 ghost use Rattle.std.specs.Prelude.{◌≡◌, ◌++◌, ◌∷◌, [], IfOk, IfSome, IsErr, IsNone, IsSome, OnOk, false, true};
 ghost use Rattle.acgrep.specs.Listed.{listed_bytes};
 ghost use Rattle.acgrep.specs.Loading.{AddsRuleText, ReadsText, ReadsTexts};
-ghost use Rattle.acgrep.specs.Rules.{expanded, is_from_file, is_space, rule_before, rule_said, rules_by, rules_in, rules_said, trimmed_line};
+ghost use Rattle.acgrep.specs.Rules.{expanded, glob_of_line, is_from_file, is_space, rule_before, rule_said, rules_by, rules_in, rules_said};
 ghost use Rattle.acgrep.specs.Told.{TellsCause, TellsOfRule, TellsOfRules};
 
 use crate::arguments::Source;
@@ -153,7 +153,7 @@ fn add_globs<'a>(all: &mut Vec<Rule<'a>>, text: &'a [u8]) -> Result<(), AllocErr
     let mut rest = text;
     while !rest.is_empty() {
         let end = line_end(rest, b'\n');
-        add_glob(all, trimmed_line(&rest[..end]))?;
+        add_glob(all, trimmed(&rest[..end]))?;
         rest = behind(rest, end);
     }
     Ok(())
@@ -173,8 +173,8 @@ fn add_glob<'a>(all: &mut Vec<Rule<'a>>, glob: &'a [u8]) -> Result<(), AllocErro
 }
 
 /// A line without the white space at its end.
-fn trimmed_line(line: &[u8]) -> &[u8]
-    ensures cut { result.now ≡ trimmed_line line.now }
+fn trimmed(line: &[u8]) -> &[u8]
+    ensures cut { result.now ≡ glob_of_line line.now }
 {
     let mut rest = line;
     while let Some((last, before)) = rest.split_last() {
