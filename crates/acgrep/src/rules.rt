@@ -1,5 +1,5 @@
-//! Which names are searched, by the rules of `--include`, `--exclude` and `--exclude-dir`. `--exclude-from` gives a file of them, of which
-//! nothing is left out before it is read.
+//! Which names are searched, by the rules of `--include`, `--exclude` and `--exclude-dir`. One of `--exclude-from` leaves nothing out itself:
+//! the globs of its file take its place before the search.
 
 ghost use Rattle.std.specs.Prelude.{◌≡◌, ◌≤◌, ◌+◌, length};
 ghost use Rattle.acgrep.specs.Rules.{after_rule, begins_by_including, is_of_folders, kept_len, leaves_file, leaves_folder, is_left_out, name_fits, rule_said, rules_said, without_slashes};
@@ -13,7 +13,7 @@ pub enum Sense {
     Include,
     /// `--exclude`: it is not.
     Exclude,
-    /// `--exclude-from`: a file of such names is not, where this is the name of a file that holds their globs.
+    /// `--exclude-from`: each line of the file of this name is the glob of an `--exclude`.
     ExcludeFrom,
     /// `--exclude-dir`: what is in a folder of such a name is not.
     ExcludeFolder,

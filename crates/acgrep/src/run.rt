@@ -69,7 +69,8 @@ pub fn run<F: Open + Folders, R: Read, W: Sink, E: Sink>(
     ensures lacking { IfSaid arguments.now (λ said. AsksToSearch said.flags → GivesNone said
         → TellsLacking E.Sink errors.old errors.new) }
 
-    // Where the status tells of no error, the patterns were searched for in the files, one after another.
+    // Where the status tells of no error, the globs in files and then the patterns were read, and these searched for in the files that
+    // the globs do not leave out, one after another.
     ensures searches { IfSaid arguments.now (λ said. AsksToSearch said.flags → result < 2
         → Searches (known_by F.Open F.Folders files.now) screen.now said
         (R.remaining input.old) (R.remaining input.new)
