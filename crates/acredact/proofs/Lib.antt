@@ -23,6 +23,7 @@ mod Backed
 mod Loaded
 -- how many bytes a source gives
 mod Metering
+mod Bounded
 -- why patterns are refused
 mod Refused
 -- which pieces are clean, and what follows

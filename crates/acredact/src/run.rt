@@ -8,6 +8,7 @@ ghost use Rattle.programs.specs.Streams.{WritesBytes, bytes_left};
 ghost use Rattle.programs.specs.Telling.{Tells, TellsBytes, TellsSome};
 ghost use Rattle.acredact.specs.Arguments.{AreMistaken, AsksToRedact, GivesNoPattern, IfAsked, IfChecking, IfNoCheck, IsCheck, RefusesUnclean, all_given, checks_asked, counts_asked, counts_given, has};
 ghost use Rattle.acredact.specs.Back.{AreBoth, FilesJob, IfBackIs, RowsCounts, RowsOutcome};
+ghost use Rattle.acredact.specs.Bounds.{JobNumbers, NumbersAsked};
 ghost use Rattle.acredact.specs.Calls.{AskedOutcome, BeginsAsked, CountsAsked, DoubtedOutcome, IsCountsFailure, IsCountsLine, IsPrintFailure, IsRefusedLine, IsWrongLine, KeylessOutcome, LeavesNoneAsked, LoadOutcome, OutputFails, ReadsAsked, RedactsAsked, TellsAsked, TellsAnyCounts, WarnedJob, WarnedOutcome, WarnsAsked, call_of, gives_pattern, keyed_as, names_asked, text_asked, work_by};
 ghost use Rattle.acredact.specs.Checks.{MatchedAsked, SaysOfCheck, TellsListsAsked, TellsUncheckedAsked, UnmatchedAsked};
 ghost use Rattle.acredact.specs.Counts.{PutsText, lines_of_rules, zeros};
@@ -508,6 +509,8 @@ fn redact_all<'a, F: Folder, I: Read, W: Write, E: Sink>(
         result streams.old streams.new counts.old counts.new }
     ensures read { result ≡ Ok true → ReadsAsked (F.holds folder.now) (all_given given.now)
         volume.old volume.new streams.old streams.new }
+    ensures most { OnOk result (NumbersAsked (F.holds folder.now) (all_given given.now)
+        counts.old counts.new volume.old volume.new streams.old streams.new) }
     ensures flushed { OnOk result (streams.new.output.device.flushed ≡ true) }
 {
     let patterns = patterns_of(alloc, rules)?;
@@ -580,6 +583,8 @@ fn redact_warned<
         (λ p. IfBackIs C.Automaton back.entry p
         (JobCounts F.Folder job.now result streams.old streams.new counts.old counts.new p)) }
     ensures read { JobVolume F.Folder job.now result volume.old volume.new streams.old streams.new }
+    ensures most { OnOk result (JobNumbers F.Folder job.now counts.old counts.new
+        volume.old volume.new streams.old streams.new) }
     ensures flushed { OnOk result (streams.new.output.device.flushed ≡ true) }
 {
     let unclean = unclean_of(automaton, judge, job.covers, job.key.is_some());
@@ -633,6 +638,8 @@ pub fn redact_by<A: Automaton, B: Automaton, C: Automaton, F: Folder, I: Read, W
         → IfBackIs C.Automaton back.entry p
         (JobCounts F.Folder job.now result streams.old streams.new counts.old counts.new p)) }
     ensures read { JobVolume F.Folder job.now result volume.old volume.new streams.old streams.new }
+    ensures most { OnOk result (JobNumbers F.Folder job.now counts.old counts.new
+        volume.old volume.new streams.old streams.new) }
     ensures flushed { OnOk result (streams.new.output.device.flushed ≡ true) }
 {
     match back {
@@ -657,6 +664,8 @@ fn redact_forward<A: Automaton, B: Automaton, F: Folder, I: Read, W: Write, E: S
     ensures counted { RowsCounts A.Automaton B.Automaton F.Folder automaton.now rows.entry job.now
         result streams.old streams.new counts.old counts.new }
     ensures read { JobVolume F.Folder job.now result volume.old volume.new streams.old streams.new }
+    ensures most { OnOk result (JobNumbers F.Folder job.now counts.old counts.new
+        volume.old volume.new streams.old streams.new) }
     ensures flushed { OnOk result (streams.new.output.device.flushed ≡ true) }
 {
     match rows {
