@@ -7,8 +7,6 @@ use Rattle.aho_devices.specs.declared.device.Source.{Ghosts as SourceGhosts}
 use Rattle.aho_stream.specs.Replacing.{SourceGave}
 use Rattle.programs.specs.Names.{name_bytes}
 use Rattle.programs.specs.Streams.{bytes_left}
-use Rattle.acredact.specs.Arguments.{Given}
-use Rattle.acredact.specs.Calls.{names_asked}
 use Rattle.acredact.specs.Reads.{OfName}
 use Rattle.acredact.specs.declared.files.Job.{Job}
 use Rattle.acredact.specs.declared.folder.Folder.{Ghosts as Folders}
@@ -89,8 +87,3 @@ module _ {F X : Type 0} (D : Folders F X) (job : Job F) {R : Type 0} {Reads : Re
   abbrev pub JobNumbers : {W E : Type 0} → (counts counts' : List ℕ) → (volume volume' : Volume) → (streams streams' : Streams R W E Reads) → Type 0
   JobNumbers counts counts' volume volume' streams streams' =
       NumbersOfAll (D.holds job.folder.now) (name_bytes job.names.now) counts counts' volume volume' (bytes_left streams.input) (bytes_left streams'.input)
-
--- and of all files that are given
-abbrev pub NumbersAsked : {R W E : Type 0} {Reads : Readers R} → (List ℕ → Option (List ℕ)) → List Given → (counts counts' : List ℕ) → (volume volume' : Volume) → (streams streams' : Streams R W E Reads) → Type 0
-NumbersAsked holds given counts counts' volume volume' streams streams' =
-    NumbersOfAll holds (names_asked given) counts counts' volume volume' (bytes_left streams.input) (bytes_left streams'.input)

@@ -8,10 +8,10 @@ ghost use Rattle.programs.specs.Streams.{WritesBytes, bytes_left};
 ghost use Rattle.programs.specs.Telling.{Tells, TellsBytes, TellsSome};
 ghost use Rattle.acredact.specs.Arguments.{AreMistaken, AsksToRedact, GivesNoPattern, IfAsked, IfChecking, IfNoCheck, IsCheck, RefusesUnclean, all_given, checks_asked, counts_asked, counts_given, has};
 ghost use Rattle.acredact.specs.Back.{AreBoth, FilesJob, IfBackIs, RowsCounts, RowsOutcome};
-ghost use Rattle.acredact.specs.Bounds.{JobNumbers, NumbersAsked};
-ghost use Rattle.acredact.specs.Calls.{AskedOutcome, BeginsAsked, CountsAsked, DoubtedOutcome, IsCountsFailure, IsCountsLine, IsPrintFailure, IsRefusedLine, IsWrongLine, KeylessOutcome, LeavesNoneAsked, LoadOutcome, OutputFails, ReadsAsked, RedactsAsked, TellsAsked, TellsAnyCounts, WarnedJob, WarnedOutcome, WarnsAsked, call_of, gives_pattern, keyed_as, names_asked, text_asked, work_by};
+ghost use Rattle.acredact.specs.Bounds.{JobNumbers};
+ghost use Rattle.acredact.specs.Calls.{AskedOutcome, BeginsAsked, CountsAsked, DoubtedOutcome, IsCountsFailure, IsCountsLine, IsPrintFailure, IsRefusedLine, IsWrongLine, KeylessOutcome, LeavesNoneAsked, LoadOutcome, NumbersAsked, NumbersToldAsked, OutputFails, ReadsAsked, RedactsAsked, TellsAsked, TellsAnyCounts, WarnedJob, WarnedOutcome, WarnsAsked, call_of, gives_pattern, keyed_as, names_asked, text_asked, work_by};
 ghost use Rattle.acredact.specs.Checks.{MatchedAsked, SaysOfCheck, TellsListsAsked, TellsUncheckedAsked, UnmatchedAsked};
-ghost use Rattle.acredact.specs.Counts.{PutsText, lines_of_rules, zeros};
+ghost use Rattle.acredact.specs.Counts.{PutsText, lines_of_rules, secret_lines, zeros};
 ghost use Rattle.acredact.specs.Failures.{IsFailureLine};
 ghost use Rattle.acredact.specs.Files.{CanDo, keyed_of};
 ghost use Rattle.acredact.specs.Loading.{key_lent, loaded_as};
@@ -139,6 +139,11 @@ pub fn run<F: Folder, I: Read, W: Write, E: Sink>(
     // Else lines say why, and hold nothing of a file's content or of a pattern.
     ensures tells { IfAsked arguments.now (λ given. result ≡ 2
         → TellsAsked E.Sink F.Folder folder.now given streams.old streams.new) }
+
+    // Whatever the status is: lines without a counted number are told, then at most such with numbers, none of them greater than the
+    // bytes that were read, and then at most why the call ends early.
+    ensures numbers { IfAsked arguments.now (λ given.
+        NumbersToldAsked E.Sink F.Folder folder.now given streams.old streams.new) }
 
     // A check: at status 0 each file was read to its end, and no pattern occurs in any. At status 1 one does, in some file.
     ensures unmatched { IfChecking arguments.now (λ given. result ≡ 0
@@ -401,6 +406,8 @@ pub fn tell_counted<'a, E: Sink>(
         errors.old errors.new) }
     ensures lines { Tells E.Sink (IsCountsLine (all_given given.now) (secrets_of rules.now))
         errors.old errors.new }
+    ensures these { Tells E.Sink (λ line. line ≡ totals_text (all_given given.now)
+        (secret_lines (secrets_of rules.now)) tally.now volume) errors.old errors.new }
     ensures fails { IfErr result (IsCountsFailure (counts_given given.now)) }
 {
     if !counts(given) {

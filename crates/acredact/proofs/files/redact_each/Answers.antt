@@ -14,8 +14,11 @@ use Rattle.acredact.proofs.Totals.{CountedSoFar, all_counted, far_counted, far_u
 use Rattle.acredact.proofs.files.redact_each.Goals as goal
 
 pub loop-rest-init : goal.loop-rest-init
-loop-rest-init g c = (λ _. far_unread (g.F.Folder.holds c.args.job.now.folder.now) _ _ _, λ red by. (by, far_none g.W.Write g.E.Sink (work_of g.F.Folder c.args.job.now red) _ _, λ _. far_uncounted (work_of g.F.Folder c.args.job.now red) _ _ _),
-  none_numbered (g.F.Folder.holds c.args.job.now.folder.now) _ _ _ _)
+loop-rest-init g c = (
+  λ _. far_unread (g.F.Folder.holds c.args.job.now.folder.now) _ _ _,
+  λ red by. (by, far_none g.W.Write g.E.Sink (work_of g.F.Folder c.args.job.now red) _ _, λ _. far_uncounted (work_of g.F.Folder c.args.job.now red) _ _ _),
+  none_numbered (g.F.Folder.holds c.args.job.now.folder.now) _ _ _ _,
+)
 
 pub loop-rest-preserved : goal.loop-rest-preserved
 loop-rest-preserved g c = (
@@ -41,11 +44,11 @@ loop-rest-preserved g c = (
             far_counted (work_of g.F.Folder c.args.job.now red) _ _ _ _ _ _ _ _ _ counted (c.in_ok-whole.ensures.counted red now (ap Ok both.1)),
       ),
   (let some : 1 ≤ length c.loop-rest.rest.now = search rules in
-  more_numbered (g.F.Folder.holds c.args.job.now.folder.now) _ _ _ _ _ _ c.loop-rest.volume _ _ _ _ _ _
-  (subst (λ (l : List (List ℕ)). NumbersSoFar (g.F.Folder.holds c.args.job.now.folder.now) (name_bytes c.args.job.now.names.now) l c.args.counts.now c.loop-rest.counts c.args.volume.now c.loop-rest.volume (bytes_left c.args.streams.now.input) (bytes_left c.loop-rest.streams.input))
-  (names_cut c.loop-rest.rest.now _ some) c.loop-rest.invariant.2)
-  c.in_ok-whole.ensures.most c.add_file.ensures.bytes
-  (omega (arith, c.add_file.ensures.files, c.in_ok-whole.ensures.files, one_file c.in_ok-whole.whole c.redact_told.new.volume.files))),
+      more_numbered (g.F.Folder.holds c.args.job.now.folder.now) _ _ _ _ _ _ c.loop-rest.volume _ _ _ _ _ _
+      (subst (λ (l : List (List ℕ)). NumbersSoFar (g.F.Folder.holds c.args.job.now.folder.now) (name_bytes c.args.job.now.names.now) l c.args.counts.now c.loop-rest.counts c.args.volume.now c.loop-rest.volume (bytes_left c.args.streams.now.input) (bytes_left c.loop-rest.streams.input))
+      (names_cut c.loop-rest.rest.now _ some) c.loop-rest.invariant.2)
+      c.in_ok-whole.ensures.most c.add_file.ensures.bytes
+      (omega (arith, c.add_file.ensures.files, c.in_ok-whole.ensures.files, one_file c.in_ok-whole.whole c.redact_told.new.volume.files))),
 )
 
 pub returns-in_err-whole : goal.returns-in_err-whole
