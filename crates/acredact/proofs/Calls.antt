@@ -18,7 +18,7 @@ use Rattle.programs.specs.declared.failure.Failure.TheVariants.{Build, OutOfMemo
 use Rattle.programs.specs.declared.reason.Reason.{Reason}
 use Rattle.programs.proofs.Tellings.{tells-later}
 use Rattle.acredact.specs.Arguments.{Given, counts_asked}
-use Rattle.acredact.specs.Calls.{BeginsCall, Call, CallOutcome, IsBuildRefusal, IsCountsFailure, IsCountsLine, IsLineOf, IsRunFailure, IsUnreadLine, IsUntouched, MayFail, OutputFails, RestOutcome, RunOutcome, TellsCounts, names_asked, reading_by, work_by}
+use Rattle.acredact.specs.Calls.{AreBounded, BeginsCall, Call, CallOutcome, IsBuildRefusal, IsCountsFailure, IsCountsLine, IsLineOf, IsRunFailure, IsUnreadLine, IsUntouched, IsWordLine, MayFail, OutputFails, RestOutcome, RunOutcome, TellsCounts, TellsNumbers, names_asked, reading_by, work_by}
 use Rattle.acredact.specs.Counts.{secret_lines, zeros}
 use Rattle.acredact.specs.Files.{AreCut, FilesOutcome, IsDone, Work, are_none, unread_line}
 use Rattle.acredact.specs.Messages.{output_line}
@@ -64,6 +64,10 @@ module _ (work : Work) where
 -- nothing was told, where nothing has changed
 pub tells_same : {E : Type 0} (K : SinkGhosts E) (IsLine : List ℕ → Type 0) (old new : Errors E) → new ≡ old → Tells K IsLine old new
 tells_same K IsLine old new same = record { told = []; are_lines = All-nil IsLine; written = subst (λ (e : Errors _). TellsBytes K old e []) (sym same) (tells_none K old) }
+
+-- one line was
+pub tells_line : {E : Type 0} (K : SinkGhosts E) (old new : Errors E) (line : List ℕ) → TellsBytes K old new line → Tells K (λ other. other ≡ line) old new
+tells_line K old new line told = record { told = line ∷ []; are_lines = All-cons (λ other. other ≡ line) line [] refl (All-nil (λ other. other ≡ line)); written = subst (TellsBytes K old new) (sym (append-nil line)) told }
 
 -- the text of the counts was
 pub tells_counts : {E : Type 0} (K : SinkGhosts E) (given : List Given) (old new : Errors E) (secrets : List Secret) (counts : List ℕ) (volume : Volume) → counts_asked given ≡ true
@@ -116,6 +120,7 @@ module _ {R : Type 0} {Reads : Readers R} {W E : Type 0} (Writes : Writers W) (K
     partly = λ (is : Err failure ≡ Ok false). absurd (cc);
     fails = fails;
     told = record { told = []; are_lines = All-nil _; written = tells_none K old.errors };
+    numbers = inl (tells_same K (IsWordLine call) old.errors old.errors refl);
   }
 
 -- why a run fails, and that it is no piece
@@ -142,6 +147,14 @@ module _ {R : Type 0} {Reads : Readers R} {W E : Type 0} (Writes : Writers W) (K
     lines_cut : (fails : Type 0) (lines : List (List ℕ)) (left' held held' : Option (List ℕ)) → AreCut (work_by call load) (work_by call load).names lines (bytes_left old.input) left' held held' → All (IsLineOf call fails) lines
     lines_cut fails lines left' held held' cut = All-weaker (IsUnreadLine (names_asked call.given)) (IsLineOf call fails) (λ line is. inl is) lines (unread_of (work_by call load) (work_by call load).names lines (bytes_left old.input) left' held held' cut)
 
+    words_told : (lines : List (List ℕ)) (left' held held' : Option (List ℕ)) → AreCut (work_by call load) (work_by call load).names lines (bytes_left old.input) left' held held' → (errors : Errors E) → TellsBytes K old.errors errors (concat lines)
+        → Tells K (IsWordLine call) old.errors errors
+    words_told lines left' held held' cut errors told = record {
+      told = lines;
+      are_lines = All-weaker (IsUnreadLine (names_asked call.given)) (IsWordLine call) (λ line is. inl is) lines (unread_of (work_by call load) (work_by call load).names lines (bytes_left old.input) left' held held' cut);
+      written = told;
+    }
+
     -- the files' redaction fails
     pub rest_cut : (failure : Failure) → RunOutcome Writes K (work_by call load) (Err failure) old mid → RestOutcome Writes K call load (Err failure) old mid
     rest_cut failure run = record {
@@ -155,6 +168,10 @@ module _ {R : Type 0} {Reads : Readers R} {W E : Type 0} (Writes : Writers W) (K
       partly = λ (is : Err failure ≡ Ok false). absurd (cc);
       fails = may_fail call _ failure run.fails;
       other = λ unclean is. run_other _ failure unclean run.fails is;
+      numbers = inl (elim run.cut [
+        | inl same ↦ tells_same K (IsWordLine call) old.errors mid.errors (ap (λ (s : Streams R W E Reads). s.errors) same)
+        | inr cut ↦ words_told cut.0 _ _ _ cut.1.0 mid.errors cut.1.1
+      ]);
       told = elim run.cut [
         | inl same ↦ record { told = []; are_lines = All-nil _; written = subst (λ (s : Streams R W E Reads). TellsBytes K old.errors s.errors []) (sym same) (tells_none K old.errors) }
         | inr cut ↦ record { told = cut.0; are_lines = lines_cut _ cut.0 _ _ _ cut.1.0; written = cut.1.1 }
@@ -183,15 +200,33 @@ module _ {R : Type 0} {Reads : Readers R} {W E : Type 0} (Writes : Writers W) (K
 
   -- those whose patterns were loaded as these rules, where all was done
   module _ (rules : List Rule) (key : Option (List ℕ)) (left between : Option (List ℕ)) (loaded : AreLoaded (reading_by call) call.given (loaded_as rules key) left between) (counts : List ℕ) (volume : Volume) (old mid : Streams R W E Reads) where
+    -- the numbers, whatever becomes of them
+    abbrev Bounded : Type 0
+    Bounded = AreBounded call.holds (names_asked call.given) counts volume (bytes_left old.input) (bytes_left mid.input)
+
+    abbrev IsTotals : List ℕ → Type 0
+    IsTotals line = line ≡ totals_text call.given (secret_lines (secrets_of rules)) counts volume
+
+    numbers_behind : (lines : List (List ℕ)) (held held' : Option (List ℕ)) → AreCut (work_by call (loaded_as rules key)) (work_by call (loaded_as rules key)).names lines (bytes_left old.input) (bytes_left mid.input) held held'
+        → TellsBytes K old.errors mid.errors (concat lines) → Bounded → (errors : Errors E) → Tells K IsTotals mid.errors errors → TellsNumbers K call (secrets_of rules) (bytes_left old.input) (bytes_left mid.input) old.errors errors
+    numbers_behind lines held held' cut first bounded errors told = record {
+      counts = counts;
+      volume = volume;
+      bounded = bounded;
+      meanwhile = mid.errors;
+      words = words_told (loaded_as rules key) old mid lines (bytes_left mid.input) held held' cut mid.errors first;
+      told = told;
+    }
+
     abbrev Counted : Bool → Bool → Type 0
     Counted counted all = all ≡ true → CountsOfNames (bytes_left old.input) (bytes_left mid.input) (zeros counted rules) counts (work_by call (loaded_as rules key)) (names_asked call.given)
         × ReadsVolume call.holds (names_asked call.given) no_volume volume (bytes_left old.input) (bytes_left mid.input)
 
     -- the counts are told
     rest_done : (all : Bool) (errors : Errors E) → RunOutcome Writes K (work_by call (loaded_as rules key)) (Ok all) old mid → Counted (counts_asked call.given) all
-        → MatchBool (counts_asked call.given) (TellsCounts K call.given rules counts volume mid.errors errors) (errors ≡ mid.errors) → Tells K (IsCountsLine call.given (secrets_of rules)) mid.errors errors
+        → MatchBool (counts_asked call.given) (TellsCounts K call.given rules counts volume mid.errors errors) (errors ≡ mid.errors) → Tells K (IsCountsLine call.given (secrets_of rules)) mid.errors errors → Bounded → Tells K IsTotals mid.errors errors
         → RestOutcome Writes K call (loaded_as rules key) (Ok all) old (record mid { errors = errors })
-    rest_done all errors run grown are_told told =
+    rest_done all errors run grown are_told told bounded totals =
         let (lines, is_all, (done, first)) = run.done in
         let cut = cut_of (work_by call (loaded_as rules key)) _ lines _ _ _ _ done in
         let are = λ (fails : Type 0). lines_cut (loaded_as rules key) old mid fails lines _ _ _ cut in
@@ -218,13 +253,14 @@ module _ {R : Type 0} {Reads : Readers R} {W E : Type 0} (Writes : Writers W) (K
           fails = tt;
           told = tt;
           other = tt;
+          numbers = inr (numbers_behind lines _ _ cut first bounded errors totals);
         }
 
     -- or they are not
     rest_untold : (all : Bool) (errors : Errors E) (failure : Failure) → RunOutcome Writes K (work_by call (loaded_as rules key)) (Ok all) old mid
-        → IsCountsFailure (counts_asked call.given) failure → Tells K (IsCountsLine call.given (secrets_of rules)) mid.errors errors
+        → IsCountsFailure (counts_asked call.given) failure → Tells K (IsCountsLine call.given (secrets_of rules)) mid.errors errors → Bounded → Tells K IsTotals mid.errors errors
         → RestOutcome Writes K call (loaded_as rules key) (Err failure) old (record mid { errors = errors })
-    rest_untold all errors failure run fails told =
+    rest_untold all errors failure run fails told bounded totals =
         let (lines, is_all, (done, first)) = run.done in
         let cut = cut_of (work_by call (loaded_as rules key)) _ lines _ _ _ _ done in
         record {
@@ -238,19 +274,20 @@ module _ {R : Type 0} {Reads : Readers R} {W E : Type 0} (Writes : Writers W) (K
             | inr memory ↦ may_fail call _ failure (inl memory)
           ];
           other = λ unclean is. counts_other (counts_asked call.given) failure unclean fails is;
+          numbers = inr (numbers_behind lines _ _ cut first bounded errors totals);
           told = lines_both (loaded_as rules key) old mid left between loaded _ lines told.told errors (lines_cut (loaded_as rules key) old mid _ lines _ _ _ cut) told.are_lines first told.written;
         }
 
     -- by what is answered of that
     pub rest_told : (all counted : Bool) (result : Result Bool Failure) (errors : Errors E) → counted ≡ counts_asked call.given → RunOutcome Writes K (work_by call (loaded_as rules key)) (Ok all) old mid
         → Counted counted all → IfOk result (λ done. done ≡ all) → OnOk result (MatchBool counted (TellsCounts K call.given rules counts volume mid.errors errors) (errors ≡ mid.errors))
-        → IfErr result (IsCountsFailure counted) → Tells K (IsCountsLine call.given (secrets_of rules)) mid.errors errors → RestOutcome Writes K call (loaded_as rules key) result old (record mid { errors = errors })
-    rest_told all counted (Ok done) errors is run grown same are_told fails told =
+        → IfErr result (IsCountsFailure counted) → Tells K (IsCountsLine call.given (secrets_of rules)) mid.errors errors → Bounded → Tells K IsTotals mid.errors errors → RestOutcome Writes K call (loaded_as rules key) result old (record mid { errors = errors })
+    rest_told all counted (Ok done) errors is run grown same are_told fails told bounded totals =
         subst (λ (b : Bool). RestOutcome Writes K call (loaded_as rules key) (Ok b) old (record mid { errors = errors })) (sym same)
         (rest_done all errors run (subst (λ (b : Bool). Counted b all) is grown) (subst (λ (b : Bool). MatchBool b (TellsCounts K call.given rules counts volume mid.errors errors) (errors ≡ mid.errors)) is are_told)
-        told)
-    rest_told all counted (Err failure) errors is run grown same are_told fails told =
-        rest_untold all errors failure run (subst (λ (b : Bool). IsCountsFailure b failure) is fails) told
+        told bounded totals)
+    rest_told all counted (Err failure) errors is run grown same are_told fails told bounded totals =
+        rest_untold all errors failure run (subst (λ (b : Bool). IsCountsFailure b failure) is fails) told bounded totals
 
 -- what holds of some work holds of the same with the same names, pieces, key and way
 pub work_as : (holds : List ℕ → Option (List ℕ)) (refuses : List ℕ → Reason → Type 0) (meets : List ℕ → Bool → Type 0) (p : Patterns) (names names' pieces pieces' : List (List ℕ)) (covers covers' : Bool) (key key' : Option Keyed) → names ≡ names' → covers ≡ covers' → pieces ≡ pieces' → key ≡ key'
@@ -296,6 +333,7 @@ module _ {R : Type 0} {Reads : Readers R} {W E : Type 0} (Writes : Writers W) (K
     partly = of.partly;
     fails = of.fails;
     told = of.told;
+    numbers = of.numbers;
   }
 
   -- and to one in which more was told

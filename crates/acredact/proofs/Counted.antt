@@ -198,7 +198,7 @@ over_lent {last = last} over = record {
 }
 
 -- none may follow what was given
-no_more : (given : List ℕ) (ended : Bool) → MayBe given ended given
+pub no_more : (given : List ℕ) (ended : Bool) → MayBe given ended given
 no_more given true = ([], sym (append-nil given), refl)
 no_more given false = ([], sym (append-nil given), tt)
 

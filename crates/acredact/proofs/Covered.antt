@@ -1,5 +1,5 @@
 -- Each occurrence of a pattern shares a byte with a find, where no pattern is empty.
-use Rattle.std.proofs.Common.{◌≡◌, inl, inr, ℕ, ◌≤◌, ◌<◌, Bool, false, List, [], ◌∷◌, length, map, Option, Some, None, refl, sym, subst, ap, arith, le_refl}
+use Rattle.std.proofs.Common.{◌≡◌, inl, inr, ℕ, ◌+◌, ◌≤◌, ◌<◌, Bool, false, List, [], ◌∷◌, length, map, Option, Some, None, refl, sym, subst, ap, arith, le_refl}
 use Rattle.std.specs.Prelude.{nat_eq, ◌&&◌, slice_index_or, zero, suc}
 use Rattle.std.proofs.lemmas.Bool.{MatchBool-at_false, cases_lt, ne_eqb}
 use Rattle.aho_core.specs.Answer.{IsAnswer}
@@ -91,6 +91,13 @@ module _ (p : Patterns) (no_empty : 1 ≤ shortest (map length p.words)) (bytes 
             (let rest = touched_from ms m.end (Some m.end) finds.1 o (later from m.end o occurs late) in
             (rest.0, inr rest.1, rest.2))
       ]
+
+  -- each find has a byte of its own
+  pub few_from : (ms : List Occurrence) (from : ℕ) (last : Option ℕ) → AreFinds p (search_from from bytes) last ms → from ≤ length bytes → from + length ms ≤ length bytes
+  few_from [] from last finds within = omega (arith, within)
+  few_from (m ∷ ms) from last finds within =
+      let best = answer_of_find from last (Some m) finds.0 in
+      omega (arith, occurs_some from m best.0, best.0.after_start, few_from ms m.end (Some m.end) finds.1 best.0.before_end)
 
   pub none_left : (ms : List Occurrence) → AreFinds p (plain_search bytes) None ms → NoneIsWhole p bytes ms
   none_left ms finds = record { touched = λ o occurs. touched_from ms 0 None finds o occurs }

@@ -23,6 +23,8 @@ mod Backed
 mod Loaded
 -- how many bytes a source gives
 mod Metering
+mod Bounded
+mod Limits
 -- why patterns are refused
 mod Refused
 -- which pieces are clean, and what follows

@@ -1,6 +1,6 @@
 -- What comes of a call whose pieces were looked at.
 use Rattle.std.proofs.Common.{◌≡◌, inl, inr, ℕ, List, [], ◌∷◌, ◌++◌, Option, true, false, refl, sym, ap, subst, ◌∙◌, append-nil}
-use Rattle.std.specs.Prelude.{Bool, MatchBool, None, Some, Result, Ok, Err, IfErr, IfOk, OnErr, OnOk, is_some, option_map}
+use Rattle.std.specs.Prelude.{◌⊎◌, Bool, MatchBool, None, Some, Result, Ok, Err, IfErr, IfOk, OnErr, OnOk, is_some, option_map}
 use Rattle.std.specs.List.{All, concat}
 use Rattle.std.specs.declared.io.traits.Read.{Ghosts as Readers}
 use Rattle.std.specs.declared.io.traits.Write.{Ghosts as Writers}
@@ -14,15 +14,15 @@ use Rattle.programs.specs.declared.errors.Errors.{Errors}
 use Rattle.programs.specs.declared.failure.Failure.TheVariants.{OutOfMemory}
 use Rattle.programs.proofs.Tellings.{tells-later}
 use Rattle.acredact.specs.Arguments.{Given, counts_asked, has}
-use Rattle.acredact.specs.Calls.{Call, CallOutcome, IsBuildRefusal, IsCountsFailure, IsCountsLine, IsLineOf, IsRunFailure, IsUntouched, MayFail, OutputFails, RestOutcome, RunOutcome, TellsCounts, WarnedOutcome, names_asked, reading_by, redactor_by_given, work_by}
-use Rattle.acredact.specs.Counts.{zeros}
+use Rattle.acredact.specs.Calls.{AreBounded, Call, CallOutcome, IsBuildRefusal, IsCountsFailure, IsCountsLine, IsLineOf, IsRunFailure, IsUntouched, IsWordLine, MayFail, OutputFails, RestOutcome, RunOutcome, TellsAnyNumbers, TellsCounts, TellsNumbers, WarnedOutcome, names_asked, reading_by, redactor_by_given, work_by}
+use Rattle.acredact.specs.Counts.{secret_lines, zeros}
 use Rattle.acredact.specs.Doubts.{TellsDoubts, all_doubt_lines}
 use Rattle.acredact.specs.Files.{Work, key_for, keyed_of}
 use Rattle.acredact.specs.Loading.{AreLoaded, Loaded, loaded_as}
 use Rattle.acredact.specs.Messages.{unclean_line}
 use Rattle.acredact.specs.Pieces.{IsJudged, IsJudgedBy, TellsOfPieces, TellsUnclean}
 use Rattle.acredact.specs.Secrets.{AreCleanBy, Redactor}
-use Rattle.acredact.specs.Summaries.{no_volume}
+use Rattle.acredact.specs.Summaries.{no_volume, totals_text}
 use Rattle.acredact.specs.Tables.{Secret, secrets_of}
 use Rattle.acredact.specs.Totals.{CountsOfNames}
 use Rattle.acredact.specs.Volumes.{ReadsVolume}
@@ -118,6 +118,45 @@ told_behind : {E : Type 0} (K : SinkGhosts E) (call : Call) (old mid new : Error
 told_behind K call old mid new fails (Ok all) first told = tt
 told_behind K call old mid new fails (Err failure) first told = tells_both K (IsLineOf call fails) old mid new first told
 
+-- these lines hold no number that was counted
+module _ {E : Type 0} (K : SinkGhosts E) (call : Call) (load : Loaded) (left between : Option (List ℕ)) (loaded : AreLoaded (reading_by call) call.given load left between) where
+  doubt_words : (strict : Bool) → has Strict call.given ≡ strict → (old new : Errors E) → TellsDoubts K strict call.given load.secrets old new → Tells K (IsWordLine call) old new
+  doubt_words true is old new doubts = tells_same K (IsWordLine call) old new doubts.1
+  doubt_words false is old new doubts = record {
+    told = all_doubt_lines call.given load.secrets;
+    are_lines = all_members (IsWordLine call) (all_doubt_lines call.given load.secrets) (λ line member. inr (is, load, left, between, loaded, inl member));
+    written = doubts;
+  }
+
+  piece_words : (old new : Errors E) → TellsOfPieces K (has Strict call.given) (redactor_by_given call.given load) old new → Tells K (IsWordLine call) old new
+  piece_words old new (None, judged, same) = tells_same K (IsWordLine call) old new same
+  piece_words old new (Some unclean, judged, (lax, told)) = record {
+    told = unclean_line unclean ∷ [];
+    are_lines = All-cons (IsWordLine call) (unclean_line unclean) [] (inr (lax, load, left, between, loaded, inr (unclean, judged.0, judged.1, refl))) (All-nil (IsWordLine call));
+    written = subst (TellsBytes K old new) (sym (append-nil (unclean_line unclean))) told;
+  }
+
+  warning_words : (old mid new : Errors E) → TellsDoubts K (has Strict call.given) call.given load.secrets old mid → TellsOfPieces K (has Strict call.given) (redactor_by_given call.given load) mid new
+      → Tells K (IsWordLine call) old new
+  warning_words old mid new doubts pieces = tells_both K (IsWordLine call) old mid new (doubt_words (has Strict call.given) refl old mid doubts) (piece_words mid new pieces)
+
+  -- numbers behind them
+  numbers_warned : (left' : Option (List ℕ)) (old mid new : Errors E) → Tells K (IsWordLine call) old mid → Tells K (IsWordLine call) mid new ⊎ TellsNumbers K call load.secrets between left' mid new → TellsAnyNumbers K call left left' old new
+  numbers_warned left' old mid new first (inl words) = inl (tells_both K (IsWordLine call) old mid new first words)
+  numbers_warned left' old mid new first (inr numbers) = inr (record {
+    load = load;
+    between = between;
+    loaded = loaded;
+    numbers = record {
+      counts = numbers.counts;
+      volume = numbers.volume;
+      bounded = numbers.bounded;
+      meanwhile = numbers.meanwhile;
+      words = tells_both K (IsWordLine call) old mid numbers.meanwhile first numbers.words;
+      told = numbers.told;
+    };
+  })
+
 -- no file was read
 module _ {R : Type 0} {Reads : Readers R} {W E : Type 0} (Writes : Writers W) (K : SinkGhosts E) (strict : Bool) (work : Work) where
   pub warned_refused : (streams : Streams R W E Reads) (failure : Failure) → IsRunFailure (OutputFails streams.output streams.output) failure → WarnedOutcome Writes K strict work (Err failure) streams streams
@@ -163,6 +202,7 @@ module _ {R : Type 0} {Reads : Readers R} {W E : Type 0} (Writes : Writers W) (K
       partly = λ (is : Err failure ≡ Ok false). absurd (cc);
       fails = fails;
       told = doubts_tell K call (OutputFails old.output old.output) load left (bytes_left old.input) loaded (has Strict call.given) refl first old.errors doubts;
+      numbers = inl (doubt_words K call load left (bytes_left old.input) loaded (has Strict call.given) refl first old.errors doubts);
     }
 
     -- what comes of the files comes behind what is told of the pieces
@@ -204,6 +244,7 @@ module _ {R : Type 0} {Reads : Readers R} {W E : Type 0} (Writes : Writers W) (K
           };
           partly = λ is. some_behind K (IsLineOf call (OutputFails old.output new.output)) first errors new.errors (warns _) (rest.partly is);
           fails = rest.fails;
+          numbers = numbers_warned K call load left (bytes_left old.input) loaded (bytes_left new.input) first errors new.errors (warning_words K call load left (bytes_left old.input) loaded first old.errors errors doubts told) rest.numbers;
           told = told_behind K call first errors new.errors (OutputFails old.output new.output) result (warns _) rest.told;
         }
 
@@ -227,8 +268,10 @@ module _ {R : Type 0} {Reads : Readers R} {W E : Type 0} (Writes : Writers W) (K
       → (all ≡ true → CountsOfNames (bytes_left old.input) (bytes_left mid.input) (zeros counted rules) numbers (work_by call (loaded_as rules key)) (names_asked call.given)
       × ReadsVolume call.holds (names_asked call.given) no_volume volume (bytes_left old.input) (bytes_left mid.input))
       → IfOk result (λ done. done ≡ all) → OnOk result (MatchBool counted (TellsCounts K call.given rules numbers volume mid.errors errors) (errors ≡ mid.errors))
-      → IfErr result (IsCountsFailure counted) → Tells K (IsCountsLine call.given (secrets_of rules)) mid.errors errors → CallOutcome Writes K call left result (record old { errors = first }) (record mid { errors = errors })
-  call_told rules key numbers volume old mid loaded first doubts all counted result errors is (inl (why, fails, same, of)) grown done counts untold told = let clash : Ok all ≡ Err why = fails in absurd (cc)
-  call_told rules key numbers volume old mid loaded first doubts all counted result errors is (inr (warned, pieces, run)) grown done counts untold told =
+      → IfErr result (IsCountsFailure counted) → Tells K (IsCountsLine call.given (secrets_of rules)) mid.errors errors
+      → AreBounded call.holds (names_asked call.given) numbers volume (bytes_left old.input) (bytes_left mid.input) → Tells K (λ line. line ≡ totals_text call.given (secret_lines (secrets_of rules)) numbers volume) mid.errors errors
+      → CallOutcome Writes K call left result (record old { errors = first }) (record mid { errors = errors })
+  call_told rules key numbers volume old mid loaded first doubts all counted result errors is (inl (why, fails, same, of)) grown done counts untold told bounded totals = let clash : Ok all ≡ Err why = fails in absurd (cc)
+  call_told rules key numbers volume old mid loaded first doubts all counted result errors is (inr (warned, pieces, run)) grown done counts untold told bounded totals =
       call_warned (loaded_as rules key) old mid loaded first doubts (record mid { errors = errors }) warned result pieces
-      (rest_told Writes K call rules key left (bytes_left old.input) loaded numbers volume (record old { errors = warned }) mid all counted result errors is run grown done counts untold told)
+      (rest_told Writes K call rules key left (bytes_left old.input) loaded numbers volume (record old { errors = warned }) mid all counted result errors is run grown done counts untold told bounded totals)

@@ -1,5 +1,5 @@
 -- What a call does, by what its arguments ask for, and what it tells.
-use Rattle.std.specs.Prelude.{◌≡◌, ◌⊎◌, ℕ, ◌||◌, Bool, MatchBool, true, false, List, [], ◌∷◌, Option, Result, Ok, Err, IfErr, IfOk, OnErr, codes, is_some, length, map, option_map, unwrap_or, if◌then◌else◌}
+use Rattle.std.specs.Prelude.{◌≡◌, ◌⊎◌, ℕ, ◌<◌, ◌≤◌, slice_index, ◌||◌, Bool, MatchBool, true, false, List, [], ◌∷◌, Option, Result, Ok, Err, IfErr, IfOk, OnErr, codes, is_some, length, map, option_map, unwrap_or, if◌then◌else◌}
 use Rattle.std.specs.Borrow.{Bor}
 use Rattle.std.specs.declared.io.traits.Read.{Ghosts as Readers}
 use Rattle.std.specs.declared.io.traits.Write.{Ghosts as Writers}
@@ -18,6 +18,7 @@ use Rattle.programs.specs.declared.failure.Failure.{Failure as OtherFailure}
 use Rattle.programs.specs.declared.failure.Failure.TheVariants.{Build, OutOfMemory, Write, WriteZero}
 use Rattle.programs.specs.declared.reason.Reason.{Reason}
 use Rattle.acredact.specs.Arguments.{Given, GivesNoPattern, RefusesUnclean, counts_asked, covers_asked, has, is_same, last_value}
+use Rattle.acredact.specs.Bounds.{NumbersOfAll, ReadInAll}
 use Rattle.acredact.specs.Builds.{RefusesPatterns, patterns_by_given}
 use Rattle.acredact.specs.Counts.{secret_lines, lines_of_rules}
 use Rattle.acredact.specs.Doubts.{IsDoubtFailure, TellsDoubts, TellsWarnings, all_doubt_lines}
@@ -76,6 +77,11 @@ names_asked given = or_input (names_given given)
 abbrev pub ReadsAsked : {R W E : Type 0} {Reads : Readers R} → (List ℕ → Option (List ℕ)) → List Given → (volume volume' : Volume) → (streams streams' : Streams R W E Reads) → Type 0
 ReadsAsked holds given volume volume' streams streams' =
     ReadsVolume holds (names_asked given) volume volume' (bytes_left streams.input) (bytes_left streams'.input)
+
+-- no number has grown by more than was read of them
+abbrev pub NumbersAsked : {R W E : Type 0} {Reads : Readers R} → (List ℕ → Option (List ℕ)) → List Given → (counts counts' : List ℕ) → (volume volume' : Volume) → (streams streams' : Streams R W E Reads) → Type 0
+NumbersAsked holds given counts counts' volume volume' streams streams' =
+    NumbersOfAll holds (names_asked given) counts counts' volume volume' (bytes_left streams.input) (bytes_left streams'.input)
 
 -- what is written for a pattern that has no replacement of its own
 abbrev pub text_asked : List Given → List ℕ
@@ -193,6 +199,19 @@ abbrev pub IsWarningLine : Call → List ℕ → Type 0
 IsWarningLine call line = (has Strict call.given ≡ false) × (load : Loaded) × (left : Option (List ℕ)) × (between : Option (List ℕ))
     × AreLoaded (reading_by call) call.given load left between × Warns call.given load.secrets (redactor_by_given call.given load) line
 
+-- a line without a number that was counted: of a file that is not read to its end, or such a warning
+abbrev pub IsWordLine : Call → List ℕ → Type 0
+IsWordLine call line = IsUnreadLine (names_asked call.given) line ⊎ IsWarningLine call line
+
+-- the numbers that are told of a call: no count and no number of bytes is greater than what was read of its files, and that of files not
+-- greater than there are
+pub record AreBounded (holds : List ℕ → Option (List ℕ)) (names : List (List ℕ)) (counts : List ℕ) (volume : Volume) (left left' : Option (List ℕ)) : Type 0 where
+  pub size : ℕ
+  pub read : ReadInAll holds names size left left'
+  pub each : (number : ℕ) → number < length counts → slice_index counts number ≤ size
+  pub bytes : volume.bytes ≤ size
+  pub files : volume.files ≤ length names
+
 -- what may be told of a call: a piece that is not clean, a file that is not read to its end, why it ends early, and the counts where
 -- they are asked for
 abbrev pub IsLineOf : Call → (fails : Type 0) → List ℕ → Type 0
@@ -235,6 +254,31 @@ pub record WarnsCall {E : Type 0} (K : SinkGhosts E) (call : Call) (left : Optio
   pub between : Option (List ℕ)
   pub loaded : AreLoaded (reading_by call) call.given load left between
   pub told : TellsWarnings K (has Strict call.given) call.given load.secrets (redactor_by_given call.given load) errors errors'
+
+-- such lines are told, and behind them such numbers
+pub record TellsNumbers {E : Type 0} (K : SinkGhosts E) (call : Call) (secrets : List Secret) (left left' : Option (List ℕ)) (errors errors' : Errors E) : Type 0 where
+  pub counts : List ℕ
+  pub volume : Volume
+  pub bounded : AreBounded call.holds (names_asked call.given) counts volume left left'
+  pub meanwhile : Errors E
+  pub words : Tells K (IsWordLine call) errors meanwhile
+  pub told : Tells K (λ line. line ≡ totals_text call.given (secret_lines secrets) counts volume) meanwhile errors'
+
+-- the numbers of the patterns that were loaded
+pub record TellsCallNumbers {E : Type 0} (K : SinkGhosts E) (call : Call) (left left' : Option (List ℕ)) (errors errors' : Errors E) : Type 0 where
+  pub load : Loaded
+  pub between : Option (List ℕ)
+  pub loaded : AreLoaded (reading_by call) call.given load left between
+  pub numbers : TellsNumbers K call load.secrets between left' errors errors'
+
+-- or no number is told
+abbrev pub TellsAnyNumbers : {E : Type 0} → SinkGhosts E → Call → (left left' : Option (List ℕ)) → (errors errors' : Errors E) → Type 0
+TellsAnyNumbers K call left left' errors errors' = Tells K (IsWordLine call) errors errors' ⊎ TellsCallNumbers K call left left' errors errors'
+
+-- and then at most why the call ends early
+abbrev pub TellsUpToEnd : {E : Type 0} → SinkGhosts E → Call → (fails : Type 0) → (left left' : Option (List ℕ)) → (errors errors' : Errors E) → Type 0
+TellsUpToEnd K call fails left left' errors errors' = (meanwhile : Errors _) × TellsAnyNumbers K call left left' errors meanwhile
+    × ((errors' ≡ meanwhile) ⊎ ((failure : Failure) × MayFail call fails failure × (line : List ℕ) × IsFailureLine failure line × TellsBytes K meanwhile errors' line))
 
 module _ {R : Type 0} {Reads : Readers R} {W : Type 0} (Writes : Writers W) where
   module _ {E : Type 0} (call : Call) (left : Option (List ℕ)) (streams streams' : Streams R W E Reads) where
@@ -301,6 +345,7 @@ module _ {R : Type 0} {Reads : Readers R} {W : Type 0} (Writes : Writers W) wher
           → TellsSome K (IsLineOf call (OutputFails streams.output streams'.output)) streams.errors streams'.errors
       pub fails : IfErr result (MayFail call (OutputFails streams.output streams'.output))
       pub told : OnErr result (Tells K (IsLineOf call (OutputFails streams.output streams'.output)) streams.errors streams'.errors)
+      pub numbers : TellsAnyNumbers K call left (bytes_left streams'.input) streams.errors streams'.errors
 
     -- of the files of a call it is told how often the text of each pattern was written
     abbrev pub CountsRest : Call → Loaded → (streams streams' : Streams R W E Reads) → Type 0
@@ -322,6 +367,7 @@ module _ {R : Type 0} {Reads : Readers R} {W : Type 0} (Writes : Writers W) wher
       pub fails : IfErr result (MayFail call (OutputFails streams.output streams'.output))
       pub told : OnErr result (Tells K (IsLineOf call (OutputFails streams.output streams'.output)) streams.errors streams'.errors)
       pub other : IfErr result (λ failure. (unclean : Unclean) → failure ≡ UncleanPiece unclean → ⊥)
+      pub numbers : Tells K (IsWordLine call) streams.errors streams'.errors ⊎ TellsNumbers K call load.secrets (bytes_left streams.input) (bytes_left streams'.input) streams.errors streams'.errors
 
     -- what comes of the files, where the failure says why they are not redacted
     pub record RunOutcome (work : Work) (result : Result Bool Failure) (streams streams' : Streams R W E Reads) : Type 0 where
@@ -388,3 +434,8 @@ TellsAsked K D folder given streams streams' =
 -- the pieces of a call that asks for this are told, where they are not clean
 abbrev pub WarnsAsked : {R W E F X : Type 0} {Reads : Readers R} → SinkGhosts E → Folders F X → F → List Given → (streams streams' : Streams R W E Reads) → Type 0
 WarnsAsked K D folder given streams streams' = WarnsCall K (call_of D folder given) (bytes_left streams.input) streams.errors streams'.errors
+
+-- numbers that a call that asks for this tells are no greater than what was read
+abbrev pub NumbersToldAsked : {R W E F X : Type 0} {Reads : Readers R} → SinkGhosts E → Folders F X → F → List Given → (streams streams' : Streams R W E Reads) → Type 0
+NumbersToldAsked K D folder given streams streams' =
+    TellsUpToEnd K (call_of D folder given) (OutputFails streams.output streams'.output) (bytes_left streams.input) (bytes_left streams'.input) streams.errors streams'.errors

@@ -25,6 +25,7 @@ pub mod Totals
 -- how much was read, and a summary
 pub mod Metering
 pub mod Volumes
+pub mod Bounds
 pub mod Summaries
 -- what the options add to the patterns
 pub mod Loading

@@ -7,6 +7,7 @@ ghost use Rattle.aho_devices.specs.Counts.{counted};
 ghost use Rattle.programs.specs.Names.{is_input};
 ghost use Rattle.programs.specs.Streams.{bytes_left};
 ghost use Rattle.acredact.specs.Back.{BackCounts, BackOutcome};
+ghost use Rattle.acredact.specs.Bounds.{JobNumbers, NumbersGiven, NumbersOfFile, NumbersOfInput, NumbersOpened, NumbersTold};
 ghost use Rattle.acredact.specs.Faults.{is_unread, reading_of};
 ghost use Rattle.acredact.specs.Files.{CanDo, FileJob, FilesOutcome, InputOutcome, JobOutcome, OpenedOutcome, ToldJob, work_of};
 ghost use Rattle.acredact.specs.Secrets.{IfOf, Redactor};
@@ -70,6 +71,8 @@ pub fn redact_files<A: Automaton, F: Folder, I: Read, W: Write, E: Sink>(
     ensures counted { IfOf A.Automaton automaton.now (JobCounts F.Folder job.now
         result streams.old streams.new counts.old counts.new) }
     ensures read { JobVolume F.Folder job.now result volume.old volume.new streams.old streams.new }
+    ensures most { OnOk result (JobNumbers F.Folder job.now counts.old counts.new
+        volume.old volume.new streams.old streams.new) }
     ensures flushed { OnOk result (streams.new.output.device.flushed ≡ true) }
 {
     if job.covers {
@@ -93,6 +96,8 @@ fn cover_files<A: Automaton, F: Folder, I: Read, W: Write, E: Sink>(
     ensures counted { IfOf A.Automaton automaton.now (JobCounts F.Folder job.now
         result streams.old streams.new counts.old counts.new) }
     ensures read { JobVolume F.Folder job.now result volume.old volume.new streams.old streams.new }
+    ensures most { OnOk result (JobNumbers F.Folder job.now counts.old counts.new
+        volume.old volume.new streams.old streams.new) }
     ensures flushed { OnOk result (streams.new.output.device.flushed ≡ true) }
 {
     match job.key {
@@ -117,6 +122,8 @@ fn cover_alike<A: Automaton, F: Folder, I: Read, W: Write, E: Sink>(
     ensures counted { IfOf A.Automaton automaton.now (JobCounts F.Folder job.now
         result streams.old streams.new counts.old counts.new) }
     ensures read { JobVolume F.Folder job.now result volume.old volume.new streams.old streams.new }
+    ensures most { OnOk result (JobNumbers F.Folder job.now counts.old counts.new
+        volume.old volume.new streams.old streams.new) }
     ensures flushed { OnOk result (streams.new.output.device.flushed ≡ true) }
 {
     let start = StreamCoverStart::new(job.alloc, automaton)?;
@@ -144,6 +151,8 @@ fn name_files<A: Automaton, F: Folder, I: Read, W: Write, E: Sink>(
     ensures counted { IfOf A.Automaton automaton.now (JobCounts F.Folder job.now
         result streams.old streams.new counts.old counts.new) }
     ensures read { JobVolume F.Folder job.now result volume.old volume.new streams.old streams.new }
+    ensures most { OnOk result (JobNumbers F.Folder job.now counts.old counts.new
+        volume.old volume.new streams.old streams.new) }
     ensures flushed { OnOk result (streams.new.output.device.flushed ≡ true) }
 {
     let start = StreamCoverStart::new(job.alloc, automaton)?;
@@ -167,6 +176,8 @@ fn replace_files<A: Automaton, F: Folder, I: Read, W: Write, E: Sink>(
     ensures counted { IfOf A.Automaton automaton.now (JobCounts F.Folder job.now
         result streams.old streams.new counts.old counts.new) }
     ensures read { JobVolume F.Folder job.now result volume.old volume.new streams.old streams.new }
+    ensures most { OnOk result (JobNumbers F.Folder job.now counts.old counts.new
+        volume.old volume.new streams.old streams.new) }
     ensures flushed { OnOk result (streams.new.output.device.flushed ≡ true) }
 {
     let mut way = Replacing {
@@ -193,6 +204,8 @@ pub fn back_files<A: Automaton, B: Automaton, F: Folder, I: Read, W: Write, E: S
     ensures counted { BackCounts A.Automaton B.Automaton F.Folder automaton.now searcher.now job.now
         result streams.old streams.new counts.old counts.new }
     ensures read { JobVolume F.Folder job.now result volume.old volume.new streams.old streams.new }
+    ensures most { OnOk result (JobNumbers F.Folder job.now counts.old counts.new
+        volume.old volume.new streams.old streams.new) }
     ensures flushed { OnOk result (streams.new.output.device.flushed ≡ true) }
 {
     if job.covers {
@@ -224,6 +237,8 @@ fn redact_flushed<X: Way, F: Folder, I: Read, W: Write, E: Sink>(
     ensures counted { IfBy X.Way way.old (CountsJob F.Folder job.now
         result streams.old streams.new counts.old counts.new) }
     ensures read { JobVolume F.Folder job.now result volume.old volume.new streams.old streams.new }
+    ensures most { OnOk result (JobNumbers F.Folder job.now counts.old counts.new
+        volume.old volume.new streams.old streams.new) }
     ensures flushed { OnOk result (streams.new.output.device.flushed ≡ true) }
 {
     let all = redact_each(way, job, counts, volume, streams)?;
@@ -245,6 +260,8 @@ fn redact_each<X: Way, F: Folder, I: Read, W: Write, E: Sink>(
     ensures counted { IfBy X.Way way.old (CountsJob F.Folder job.now
         result streams.old streams.new counts.old counts.new) }
     ensures read { JobVolume F.Folder job.now result volume.old volume.new streams.old streams.new }
+    ensures most { OnOk result (JobNumbers F.Folder job.now counts.old counts.new
+        volume.old volume.new streams.old streams.new) }
 {
     let mut all = true;
     let mut rest = job.names;
@@ -280,6 +297,8 @@ fn redact_told<X: Way, F: Folder, I: Read, W: Write, E: Sink>(
     ensures counted { IfBy X.Way way.old (CountsTold F.Folder job.now name.now
         result streams.old streams.new counts.old counts.new) }
     ensures read { FileVolume F.Folder job.now name.now result volume.old volume.new streams.old streams.new }
+    ensures most { NumbersTold F.Folder job.now name.now counts.old counts.new
+        volume.old volume.new streams.old streams.new }
     ensures files { volume.new.files ≡ volume.old.files }
     ensures still { IfBy X.Way way.old (Redacts X.Way way.new) }
 {
@@ -306,6 +325,8 @@ fn redact_apart<X: Way, F: Folder, I: Read, W: Write, E: Sink>(
     ensures counted { IfBy X.Way way.old (CountsTold F.Folder job.now name.now
         result streams.old streams.new counts.old counts.new) }
     ensures read { FileVolume F.Folder job.now name.now result volume.old volume.new streams.old streams.new }
+    ensures most { NumbersTold F.Folder job.now name.now counts.old counts.new
+        volume.old volume.new streams.old streams.new }
     ensures files { volume.new.files ≡ volume.old.files }
     ensures still { IfBy X.Way way.old (Redacts X.Way way.new) }
 {
@@ -343,6 +364,8 @@ fn redact_file<X: Way, F: Folder, I: Read, W: Write>(
         result input.old input.new counts.old counts.new) }
     ensures read { result ≡ Ok None → AddsFile (F.holds job.now.folder.now) name.now
         volume.old volume.new input.old input.new }
+    ensures most { NumbersOfFile F.Folder job.now name.now counts.old counts.new
+        volume.old volume.new input.old input.new }
     ensures files { volume.new.files ≡ volume.old.files }
     ensures still { IfBy X.Way way.old (Redacts X.Way way.new) }
 {
@@ -376,6 +399,7 @@ fn redact_opened<X: Way, I: Read + Drop, W: Write>(
     ensures counted { result ≡ Ok None → IfBy X.Way way.old
         (CountsOpened (I.remaining reader) counts.old counts.new) }
     ensures read { result ≡ Ok None → AddsOpened volume.old.bytes volume.new.bytes (I.remaining reader) }
+    ensures most { NumbersOpened counts.old counts.new volume.old.bytes volume.new.bytes (I.remaining reader) }
     ensures files { volume.new.files ≡ volume.old.files }
     ensures still { IfBy X.Way way.old (Redacts X.Way way.new) }
 {
@@ -397,6 +421,7 @@ fn redact_input<X: Way, I: Read, W: Write>(
     ensures counted { result ≡ Ok None → IfBy X.Way way.old
         (CountsOfText (bytes_left input.old) (bytes_left input.new) counts.old counts.new) }
     ensures read { result ≡ Ok None → AddsText volume.old volume.new input.old input.new }
+    ensures most { NumbersOfInput counts.old counts.new volume.old volume.new input.old input.new }
     ensures files { volume.new.files ≡ volume.old.files }
     ensures still { IfBy X.Way way.old (Redacts X.Way way.new) }
     ensures failed { input.new.failures ≡ counted (is_unread result) input.old.failures }
@@ -434,6 +459,8 @@ fn redact_with<'s, K: Known, X: Way, S: Source, W: Sink>(
         lent.entry.source.now result.lent.source.now counts.old counts.new)) }
     ensures read { OnOk result.done (AddsStream S.Source
         lent.entry.source.now result.lent.source.now bytes result.bytes) }
+    ensures most { NumbersGiven S.Source lent.entry.source.now result.lent.source.now
+        counts.old counts.new bytes result.bytes }
     ensures still { IfBy X.Way way.old (Redacts X.Way way.new) }
     ensures same { result.lent.source.ghost_name ≡ lent.entry.source.ghost_name }
 {
@@ -463,6 +490,8 @@ fn redact_metered<X: Way, I: Read, W: Write>(
         input.old input.new counts.old counts.new)) }
     ensures read { OnOk result (AddsStream ⟦<FromRead<I> as Source>⟧ input.old input.new
         volume.old.bytes volume.new.bytes) }
+    ensures most { NumbersGiven ⟦<FromRead<I> as Source>⟧ input.old input.new
+        counts.old counts.new volume.old.bytes volume.new.bytes }
     ensures files { volume.new.files ≡ volume.old.files }
     ensures still { IfBy X.Way way.old (Redacts X.Way way.new) }
 {

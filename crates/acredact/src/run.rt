@@ -8,9 +8,10 @@ ghost use Rattle.programs.specs.Streams.{WritesBytes, bytes_left};
 ghost use Rattle.programs.specs.Telling.{Tells, TellsBytes, TellsSome};
 ghost use Rattle.acredact.specs.Arguments.{AreMistaken, AsksToRedact, GivesNoPattern, IfAsked, IfChecking, IfNoCheck, IsCheck, RefusesUnclean, all_given, checks_asked, counts_asked, counts_given, has};
 ghost use Rattle.acredact.specs.Back.{AreBoth, FilesJob, IfBackIs, RowsCounts, RowsOutcome};
-ghost use Rattle.acredact.specs.Calls.{AskedOutcome, BeginsAsked, CountsAsked, DoubtedOutcome, IsCountsFailure, IsCountsLine, IsPrintFailure, IsRefusedLine, IsWrongLine, KeylessOutcome, LeavesNoneAsked, LoadOutcome, OutputFails, ReadsAsked, RedactsAsked, TellsAsked, TellsAnyCounts, WarnedJob, WarnedOutcome, WarnsAsked, call_of, gives_pattern, keyed_as, names_asked, text_asked, work_by};
+ghost use Rattle.acredact.specs.Bounds.{JobNumbers};
+ghost use Rattle.acredact.specs.Calls.{AskedOutcome, BeginsAsked, CountsAsked, DoubtedOutcome, IsCountsFailure, IsCountsLine, IsPrintFailure, IsRefusedLine, IsWrongLine, KeylessOutcome, LeavesNoneAsked, LoadOutcome, NumbersAsked, NumbersToldAsked, OutputFails, ReadsAsked, RedactsAsked, TellsAsked, TellsAnyCounts, WarnedJob, WarnedOutcome, WarnsAsked, call_of, gives_pattern, keyed_as, names_asked, text_asked, work_by};
 ghost use Rattle.acredact.specs.Checks.{MatchedAsked, SaysOfCheck, TellsListsAsked, TellsUncheckedAsked, UnmatchedAsked};
-ghost use Rattle.acredact.specs.Counts.{PutsText, lines_of_rules, zeros};
+ghost use Rattle.acredact.specs.Counts.{PutsText, lines_of_rules, secret_lines, zeros};
 ghost use Rattle.acredact.specs.Failures.{IsFailureLine};
 ghost use Rattle.acredact.specs.Files.{CanDo, keyed_of};
 ghost use Rattle.acredact.specs.Loading.{key_lent, loaded_as};
@@ -108,6 +109,11 @@ pub fn run<F: Folder, I: Read, W: Write, E: Sink>(
     // Else lines say why, and hold nothing of a file's content or of a pattern.
     ensures tells { IfAsked arguments.now (λ given. result ≡ 2
         → TellsAsked E.Sink F.Folder folder.now given streams.old streams.new) }
+
+    // Whatever the status is: lines without a counted number are told, then at most such with numbers, none of them greater than the
+    // bytes that were read, and then at most why the call ends early.
+    ensures numbers { IfAsked arguments.now (λ given.
+        NumbersToldAsked E.Sink F.Folder folder.now given streams.old streams.new) }
 
     // A check: at status 0 each file was read to its end, and no pattern occurs in any. At status 1 one does, in some file.
     ensures unmatched { IfChecking arguments.now (λ given. result ≡ 0
@@ -370,6 +376,8 @@ pub fn tell_counted<'a, E: Sink>(
         errors.old errors.new) }
     ensures lines { Tells E.Sink (IsCountsLine (all_given given.now) (secrets_of rules.now))
         errors.old errors.new }
+    ensures these { Tells E.Sink (λ line. line ≡ totals_text (all_given given.now)
+        (secret_lines (secrets_of rules.now)) tally.now volume) errors.old errors.new }
     ensures fails { IfErr result (IsCountsFailure (counts_given given.now)) }
 {
     if !counts(given) {
@@ -478,6 +486,8 @@ fn redact_all<'a, F: Folder, I: Read, W: Write, E: Sink>(
         result streams.old streams.new counts.old counts.new }
     ensures read { result ≡ Ok true → ReadsAsked (F.holds folder.now) (all_given given.now)
         volume.old volume.new streams.old streams.new }
+    ensures most { OnOk result (NumbersAsked (F.holds folder.now) (all_given given.now)
+        counts.old counts.new volume.old volume.new streams.old streams.new) }
     ensures flushed { OnOk result (streams.new.output.device.flushed ≡ true) }
 {
     let patterns = patterns_of(alloc, rules)?;
@@ -550,6 +560,8 @@ fn redact_warned<
         (λ p. IfBackIs C.Automaton back.entry p
         (JobCounts F.Folder job.now result streams.old streams.new counts.old counts.new p)) }
     ensures read { JobVolume F.Folder job.now result volume.old volume.new streams.old streams.new }
+    ensures most { OnOk result (JobNumbers F.Folder job.now counts.old counts.new
+        volume.old volume.new streams.old streams.new) }
     ensures flushed { OnOk result (streams.new.output.device.flushed ≡ true) }
 {
     let unclean = unclean_of(automaton, judge, job.covers, job.key.is_some());
@@ -603,6 +615,8 @@ pub fn redact_by<A: Automaton, B: Automaton, C: Automaton, F: Folder, I: Read, W
         → IfBackIs C.Automaton back.entry p
         (JobCounts F.Folder job.now result streams.old streams.new counts.old counts.new p)) }
     ensures read { JobVolume F.Folder job.now result volume.old volume.new streams.old streams.new }
+    ensures most { OnOk result (JobNumbers F.Folder job.now counts.old counts.new
+        volume.old volume.new streams.old streams.new) }
     ensures flushed { OnOk result (streams.new.output.device.flushed ≡ true) }
 {
     match back {
@@ -627,6 +641,8 @@ fn redact_forward<A: Automaton, B: Automaton, F: Folder, I: Read, W: Write, E: S
     ensures counted { RowsCounts A.Automaton B.Automaton F.Folder automaton.now rows.entry job.now
         result streams.old streams.new counts.old counts.new }
     ensures read { JobVolume F.Folder job.now result volume.old volume.new streams.old streams.new }
+    ensures most { OnOk result (JobNumbers F.Folder job.now counts.old counts.new
+        volume.old volume.new streams.old streams.new) }
     ensures flushed { OnOk result (streams.new.output.device.flushed ≡ true) }
 {
     match rows {

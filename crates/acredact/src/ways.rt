@@ -1,6 +1,7 @@
 //! How streams are redacted, one after another.
 
 ghost use Rattle.std.specs.Prelude.{OnOk};
+ghost use Rattle.acredact.specs.Bounds.{CountsGiven};
 ghost use Rattle.acredact.specs.Secrets.{Redactor};
 ghost use Rattle.acredact.specs.Streams.{StreamOutcome};
 ghost use Rattle.acredact.specs.Totals.{CountsOfStream};
@@ -20,7 +21,7 @@ pub trait Way {
     ghost by: { Self → Redactor → Type 0 };
 
     /// Writes what the source gives to the sink, with a text in the place of each range that is replaced, and counts those of
-    /// each pattern that has a count.
+    /// each pattern that has a count. No count grows by more than the bytes that the source gave.
     ///
     /// # Errors
     ///
@@ -37,6 +38,7 @@ pub trait Way {
             result source.old source.new sink.old sink.new }
         ensures counted { (r : Redactor) → by self.old r → OnOk result (CountsOfStream R.Source r
             source.old source.new counts.old counts.new) }
+        ensures most { CountsGiven R.Source source.old source.new counts.old counts.new }
         ensures still { (r : Redactor) → by self.old r → by self.new r };
 }
 

@@ -3,7 +3,7 @@ use Rattle.std.proofs.Common.{◌≡◌, ℕ, IfOk, true, sym, subst, ◌∙◌}
 use Rattle.std.specs.Process.{exit_status}
 use Rattle.acredact.specs.Apart.{status_behind}
 use Rattle.acredact.specs.Arguments.{AreMistaken, IfAsked, IfChecking, IfNoCheck, RefusesUnclean}
-use Rattle.acredact.specs.Calls.{LeavesNoneAsked}
+use Rattle.acredact.specs.Calls.{LeavesNoneAsked, RedactsAsked}
 use Rattle.acredact.specs.Checks.{MatchedAsked, UnmatchedAsked}
 use Rattle.acredact.proofs.SetApart.{behind_one, behind_two, behind_zero}
 use Rattle.acredact.proofs.exit_code.Goals as goal
@@ -18,6 +18,14 @@ pub returns-in-Ok-clause-wrong : goal.returns-in-Ok-clause-wrong
 returns-in-Ok-clause-wrong g c =
     subst (λ given. IfOk given (λ apart. AreMistaken apart.arguments.items → exit_status c.from.result ≡ 2)) (sym c.in-Ok.is)
     (λ mistaken. c.from.ensures ∙ (c.status_behind.ensures.status ∙ behind_two c.args.told c.run-status.result (subst (λ l. AreMistaken l → c.run-status.result ≡ 2) c.as_slice.ensures.value c.run-status.ensures.wrong mistaken)))
+
+pub returns-in-Ok-clause-redacts : goal.returns-in-Ok-clause-redacts
+returns-in-Ok-clause-redacts g c =
+    subst (λ given. IfOk given (λ apart. IfAsked apart.arguments.items (λ asked. exit_status c.from.result ≡ 0
+    → RedactsAsked g.W.Write g.F.Folder c.args.folder.now asked c.args.streams.now c.run-status.new.streams))) (sym c.in-Ok.is)
+    (λ asked is redacts zero. subst (λ l. IfAsked l (λ asked. c.run-status.result ≡ 0
+    → RedactsAsked g.W.Write g.F.Folder c.args.folder.now asked c.args.streams.now c.run-status.new.streams)) c.as_slice.ensures.value
+    c.run-status.ensures.redacts asked is redacts (behind_zero c.args.told c.run-status.result (sym c.status_behind.ensures.status ∙ (sym c.from.ensures ∙ zero))))
 
 pub returns-in-Ok-clause-strict : goal.returns-in-Ok-clause-strict
 returns-in-Ok-clause-strict g c =

@@ -1,6 +1,7 @@
 -- The file is that of the input, or of the folder.
 use Rattle.std.proofs.Common.{◌∙◌, sym, refl}
 use Rattle.acredact.specs.Files.{work_of}
+use Rattle.acredact.proofs.Bounded.{input_numbers, no_numbers, opened_numbers}
 use Rattle.acredact.proofs.OneFile.{file_input, file_opened, file_refused}
 use Rattle.acredact.proofs.Metering.{input_bytes, opened_bytes}
 use Rattle.acredact.proofs.Totals.{input_counts, opened_counts}
@@ -35,3 +36,15 @@ pub returns-in-Ok-clause-read : goal.returns-in-Ok-clause-read
 returns-in-Ok-clause-read g c = λ whole.
     let opened = c.redact_opened.ensures.read whole in
     opened_bytes (g.F.Folder.holds c.args.job.now.folder.now) c.args.name.now _ _ _ _ (sym c.is_input.ensures.is ∙ c.if-is_input.false) refl _ opened.0 c.in-Ok.ensures.told opened.1
+
+pub returns-then-is_input-clause-most : goal.returns-then-is_input-clause-most
+returns-then-is_input-clause-most g c =
+    input_numbers (g.F.Folder.holds c.args.job.now.folder.now) c.args.name.now _ _ _ _ _ _ (sym c.is_input.ensures.is ∙ c.if-is_input.true) c.redact_input.ensures.most
+
+pub returns-in-Ok-clause-most : goal.returns-in-Ok-clause-most
+returns-in-Ok-clause-most g c =
+    let opened = c.redact_opened.ensures.most in
+    opened_numbers (g.F.Folder.holds c.args.job.now.folder.now) c.args.name.now _ _ _ _ _ _ (sym c.is_input.ensures.is ∙ c.if-is_input.false) refl _ opened.0 c.in-Ok.ensures.told opened.1
+
+pub returns-in-Err-clause-most : goal.returns-in-Err-clause-most
+returns-in-Err-clause-most g c = no_numbers (g.F.Folder.holds c.args.job.now.folder.now) c.args.name.now _ c.args.counts.now _

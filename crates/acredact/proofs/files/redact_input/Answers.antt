@@ -9,6 +9,7 @@ use Rattle.programs.proofs.Ends.{at_end}
 use Rattle.programs.specs.declared.reason.Reason.{Reason}
 use Rattle.acredact.specs.Faults.{is_unread}
 use Rattle.acredact.specs.Files.{TextOutcome}
+use Rattle.acredact.proofs.Bounded.{numbers_text}
 use Rattle.acredact.proofs.OneFile.{at_ok, begins_of, outcome_by, reaches_of, reading_unread, reading_whole, text_of}
 use Rattle.acredact.proofs.Metering.{text_bytes}
 use Rattle.acredact.proofs.Totals.{text_counts}
@@ -45,3 +46,8 @@ returns-clause-read g c = λ whole.
     let ends = λ (some : c.redact_metered.new.input.empty_reads ≢ 0). at_end _ (λ bytes known. c.redact_metered.new.input.ended bytes some known) in
     text_bytes _ _ _ _ _ _ left c.restart.ensures.empty_reads ends
     (at_ok c.redact_metered.result (reading_whole c.redact_metered.result (sym c.reading_of.ensures.reading ∙ whole)) c.redact_metered.ensures.read)
+
+pub returns-clause-most : goal.returns-clause-most
+returns-clause-most g c =
+    let left = ap (λ device. g.I.Read.remaining device.reader) c.restart.ensures.device in
+    numbers_text _ _ _ _ _ _ _ _ left c.redact_metered.ensures.most

@@ -4,6 +4,7 @@ use Rattle.programs.specs.Streams.{bytes_left}
 use Rattle.acredact.specs.Files.{TextOutcome}
 use Rattle.acredact.specs.Totals.{CountsOfText}
 use Rattle.acredact.specs.Volumes.{AddsBytes}
+use Rattle.acredact.specs.Bounds.{NumbersRead}
 use Rattle.acredact.proofs.files.redact_opened.Goals as goal
 
 pub returns-clause-outcome : goal.returns-clause-outcome
@@ -25,4 +26,11 @@ returns-clause-read g c = λ whole. (
   bytes_left c.redact_input.new.input,
   subst (λ (left : Option (List ℕ)). AddsBytes c.args.volume.now.bytes c.redact_input.new.volume.bytes left (bytes_left c.redact_input.new.input))
       (ap g.I.Read.remaining c.new-source.ensures.reader) (c.redact_input.ensures.read whole),
+)
+
+pub returns-clause-most : goal.returns-clause-most
+returns-clause-most g c = (
+  bytes_left c.redact_input.new.input,
+  subst (λ (left : Option (List ℕ)). NumbersRead c.args.counts.now c.redact_input.new.counts c.args.volume.now.bytes c.redact_input.new.volume.bytes left (bytes_left c.redact_input.new.input))
+      (ap g.I.Read.remaining c.new-source.ensures.reader) c.redact_input.ensures.most,
 )

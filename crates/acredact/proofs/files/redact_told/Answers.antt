@@ -2,6 +2,7 @@
 use Rattle.std.proofs.Common.{subst}
 use Rattle.std.specs.Prelude.{Bool}
 use Rattle.acredact.specs.Files.{work_of}
+use Rattle.acredact.proofs.Bounded.{no_numbers}
 use Rattle.acredact.proofs.Done.{told_output}
 use Rattle.acredact.proofs.files.redact_told.Goals as goal
 
@@ -15,3 +16,6 @@ redact_apart-requires g c = record {
   ready = c.requires.ready;
   apart = subst (λ (b : Bool). g.F.Folder.meets c.args.job.now.folder.now c.args.name.now b) c.if-is_output.false c.is_output.ensures;
 }
+
+pub returns-then-is_output-clause-most : goal.returns-then-is_output-clause-most
+returns-then-is_output-clause-most g c = no_numbers (g.F.Folder.holds c.args.job.now.folder.now) c.args.name.now _ c.args.counts.now _

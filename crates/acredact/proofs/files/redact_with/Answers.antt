@@ -1,6 +1,7 @@
 -- What is known of the metered source is known of the source.
 use Rattle.std.proofs.Common.{◌∙◌, arith, refl, sym}
 use Rattle.std.proofs.lemmas.Result.{on_ok_weaker}
+use Rattle.acredact.proofs.Bounded.{numbers_of}
 use Rattle.acredact.proofs.Metering.{consumes_settled, counts_as, gave_as, metered_added, metered_first, outcome_as}
 use Rattle.acredact.proofs.files.redact_with.Goals as goal
 
@@ -45,3 +46,10 @@ returns-clause-still g c = λ red by. record { by = c.redact-done.ensures.still 
 
 pub returns-clause-same : goal.returns-clause-same
 returns-clause-same g c = c.redact-done.new.source.same ∙ c.requires.name
+
+pub returns-clause-most : goal.returns-clause-most
+returns-clause-most g c =
+    let meter = c.redact-done.new.source in
+    let most = c.redact-done.ensures.most in
+    numbers_of g.S.Source c.args.lent.source.now meter.lent.source.now c.args.counts.now c.redact-done.new.counts meter.settled g.K.Known.whole g.K.Known.start c.args.bytes meter.bytes most.given most.ended
+    c.requires.whole c.requires.start most.gives.bytes most.gives.end meter.metered most.counted

@@ -3,6 +3,7 @@ use Rattle.std.proofs.Common.{sym, subst}
 use Rattle.std.proofs.lemmas.Result.{on_ok_weaker}
 use Rattle.aho_cover.specs.Covers.{LeavesCoveredBy}
 use Rattle.aho_cover.specs.Pieces.{PieceRule}
+use Rattle.acredact.proofs.Bounded.{cover_given}
 use Rattle.acredact.proofs.Redactions.{counts_of_cover, outcome_of_cover, some_cover}
 use Rattle.acredact.proofs.redact.cover_by_pieces.Goals as goal
 
@@ -17,3 +18,8 @@ returns-clause-outcome g c = λ r is.
 pub returns-clause-counted : goal.returns-clause-counted
 returns-clause-counted g c = λ r is.
     on_ok_weaker c.cover_made.result (λ whole. counts_of_cover g.R.Source r is.covers (g.A.Automaton.is_of c.args.start.now.automaton.now) is.of _ _ _ _ whole) c.cover_made.ensures.counted.counted
+
+pub returns-clause-most : goal.returns-clause-most
+returns-clause-most g c =
+    let call = c.cover_made in
+    cover_given g.R.Source g.W.Sink (g.A.Automaton.is_of c.args.start.now.automaton.now) c.requires.of.0 c.requires.of.1 _ _ _ _ _ _ _ call.result call.ensures.counted

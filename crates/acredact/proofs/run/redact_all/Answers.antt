@@ -24,6 +24,8 @@ use Rattle.acredact.specs.Arguments.{Given, all_given, covers_asked, has}
 use Rattle.acredact.specs.Back.{AreBoth, IsBackAsked}
 use Rattle.acredact.specs.Builds.{RefusesPatterns, patterns_by_given}
 use Rattle.acredact.specs.Calls.{WarnedOutcome, call_of, key_asked, keyed_as, names_asked, pieces_asked, work_by}
+use Rattle.std.proofs.lemmas.Result.{on_ok_weaker}
+use Rattle.acredact.specs.Bounds.{NumbersOfAll}
 use Rattle.acredact.specs.Files.{key_for}
 use Rattle.acredact.specs.Loading.{key_lent, loaded_as}
 use Rattle.acredact.specs.Secrets.{CanRedact, key_of_cover}
@@ -154,3 +156,9 @@ returns-clause-read g c = λ whole.
     let after = (goal.at.returns-clause-read g c).After-as_ref in
     subst (λ (l : List (List ℕ)). ReadsVolume (g.F.Folder.holds c.args.folder.now) l c.args.volume.now c.redact_warned.new.volume (bytes_left c.args.streams.now.input) (bytes_left c.redact_warned.new.streams.input)) (names_are g after)
     (c.redact_warned.ensures.read whole)
+
+pub returns-clause-most : goal.returns-clause-most
+returns-clause-most g c =
+    let after = (goal.at.returns-clause-most g c).After-as_ref in
+    on_ok_weaker c.redact_warned.result (λ numbers. subst (λ (l : List (List ℕ)). NumbersOfAll (g.F.Folder.holds c.args.folder.now) l c.args.counts.now c.redact_warned.new.counts c.args.volume.now c.redact_warned.new.volume (bytes_left c.args.streams.now.input) (bytes_left c.redact_warned.new.streams.input)) (names_are g after) numbers)
+    c.redact_warned.ensures.most

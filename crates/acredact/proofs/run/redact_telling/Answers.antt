@@ -6,6 +6,9 @@ use Rattle.acredact.specs.Arguments.{all_given, counts_asked}
 use Rattle.acredact.specs.Calls.{call_of, names_asked, work_by}
 use Rattle.acredact.specs.Loading.{key_lent, loaded_as}
 use Rattle.acredact.specs.Totals.{CountsOfNames}
+use Rattle.acredact.specs.Bounds.{NumbersOfAll}
+use Rattle.acredact.specs.Summaries.{no_volume}
+use Rattle.acredact.proofs.Limits.{bounded_from}
 use Rattle.acredact.proofs.Warned.{call_cut, call_told}
 use Rattle.acredact.proofs.run.redact_telling.Goals as goal
 
@@ -20,6 +23,9 @@ returns-in-Ok-clause-outcome g c = λ first doubts left loaded.
       c.in-Ok.ensures.read (ap Ok whole),
     ))
     c.tell_counted.ensures.all c.tell_counted.ensures.told c.tell_counted.ensures.fails c.tell_counted.ensures.lines
+    (bounded_from (call.holds) (names_asked call.given) (counts_asked call.given) c.args.rules.now c.redact_all.new.counts c.redact_all.new.volume _ _
+    (subst (λ (l : List ℕ). NumbersOfAll call.holds (names_asked call.given) l c.redact_all.new.counts no_volume c.redact_all.new.volume (bytes_left c.args.streams.now.input) (bytes_left c.redact_all.new.streams.input)) c.requires.none c.in-Ok.ensures.most))
+    c.tell_counted.ensures.these
 
 pub returns-in-Err-clause-outcome : goal.returns-in-Err-clause-outcome
 returns-in-Err-clause-outcome g c = λ first doubts left loaded.

@@ -5,6 +5,7 @@ use Rattle.std.proofs.lemmas.Result.{on_ok_weaker}
 use Rattle.acredact.specs.Secrets.{Redactor}
 use Rattle.acredact.specs.Streams.{RedactsStream, StreamOutcome}
 use Rattle.acredact.specs.Totals.{CountsOfStream}
+use Rattle.acredact.proofs.Bounded.{ungrown}
 use Rattle.acredact.proofs.Redactions.{uncounted}
 use Rattle.acredact.proofs.ways.ReplacingWay.redact.Goals as goal
 
@@ -35,3 +36,6 @@ pub returns-clause-counted : goal.returns-clause-counted
 returns-clause-counted g c = λ red by.
     subst (λ (q : Redactor). OnOk c.redact_counting.result (CountsOfStream g.R.Source q c.args.source.now c.redact_counting.new.source c.args.counts.now c.redact_counting.new.counts)) (sym by.is)
     (c.redact_counting.ensures.counted red.patterns by.of)
+
+pub returns-then-is_empty-clause-most : goal.returns-then-is_empty-clause-most
+returns-then-is_empty-clause-most g c = ungrown g.R.Source _ _ _ _ c.args.counts.now (c.redact.ensures.outcome c.requires.ready.0.patterns c.requires.ready.1.of).begun

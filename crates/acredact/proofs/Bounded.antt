@@ -1,0 +1,258 @@
+-- No number grows by more than was read.
+use Rattle.std.proofs.Common.{◌≡◌, inl, inr, ℕ, ◌+◌, ◌-◌, ◌<◌, ◌≤◌, Bool, List, [], ◌∷◌, ◌++◌, Option, true, false, length, map, refl, sym, ap, subst, ◌∙◌, arith, length-append, le_refl}
+use Rattle.std.specs.Prelude.{None, Some, Ok, Err, Result, MatchBool, nat_eq, not, ◌^◌, min, slice_range, drop, is_some, replicate}
+use Rattle.std.specs.List.{filter}
+use Rattle.std.specs.Io.KnownBytes.{Consumes, Keeps}
+use Rattle.std.proofs.lemmas.List.{length-replicate}
+use Rattle.std.proofs.lemmas.List.Filters.{length-filter_both}
+use Rattle.std.specs.Fn.{Mut}
+use Rattle.aho_core.specs.ClosureRun.{CalledOn, ClosureRun}
+use Rattle.aho_core.specs.Cover.{AreRuns}
+use Rattle.aho_core.specs.Laws.{shortest}
+use Rattle.aho_core.specs.Occurrence.{Occurrence}
+use Rattle.aho_core.specs.Patterns.{Patterns}
+use Rattle.aho_core.specs.declared.error.stream.StreamError.{StreamError}
+use Rattle.aho_core.specs.declared.error.stream.StreamError.TheVariants.{Memory}
+use Rattle.aho_core.specs.Search.{plain_search}
+use Rattle.aho_automaton.specs.declared.automaton.Automaton.{Ghosts}
+use Rattle.aho_cover.proofs.Counted.{counts_none, counts_then}
+use Rattle.aho_devices.specs.Counts.{counted}
+use Rattle.std.specs.Borrow.{Bor, MutBor}
+use Rattle.std.proofs.KnownBytes.{Consumes-nil}
+use Rattle.aho_laws.specs.CoverLaws.{AreInOrder, runs_upto}
+use Rattle.aho_laws.proofs.Iterations.{finds-exist}
+use Rattle.aho_laws.proofs.SettledRuns.{few-open}
+use Rattle.aho_laws.proofs.TextRuns.{runs-made, upto-covers}
+use Rattle.aho_cover.specs.Counting.{CountsThese, runs_named}
+use Rattle.aho_cover.specs.Covers.{CountsRuns, CountsWritten, LeavesCounted}
+use Rattle.aho_cover.specs.Pieces.{PieceRule}
+use Rattle.aho_devices.specs.declared.device.Sink.{Ghosts as SinkGhosts}
+use Rattle.aho_devices.specs.declared.device.Source.{Ghosts as SourceGhosts}
+use Rattle.aho_stream.specs.Replacing.{SourceGave}
+use Rattle.aho_stream.specs.StreamRun.{CallsOn, CanBegin, RefusesAllUntouched, RunsAndLeaves, RunsLent, SinkTakes}
+use Rattle.programs.specs.Names.{is_input}
+use Rattle.acredact.specs.Bounds.{CountsGiven, GrowAtMost, NumbersGiven, NumbersOfAll, NumbersOfName, NumbersRead, ReadInAll, ReadsSome}
+use Rattle.acredact.specs.Metering.{IsMetered, settled_left}
+use Rattle.acredact.specs.Secrets.{Redactor}
+use Rattle.acredact.specs.Streams.{StartsStream}
+use Rattle.acredact.specs.Volumes.{files_with}
+use Rattle.acredact.specs.declared.summary.Volume.{Volume}
+use Rattle.acredact.proofs.Counted.{no_more}
+use Rattle.acredact.proofs.Covered.{few_from}
+use Rattle.acredact.proofs.Metering.{consumes_settled, metered_added}
+use Rattle.acredact.proofs.OneFile.{known_read, of_folder, of_input}
+use Rattle.acredact.proofs.Redactions.{some_of}
+
+-- runs of one pattern are no more than all
+named_few : (number : ℕ) (runs : List Occurrence) → runs_named number runs ≤ length runs
+named_few number runs = omega (arith, length-filter_both (λ (run : Occurrence). nat_eq run.pattern number) (λ (run : Occurrence). not (nat_eq run.pattern number)) (λ x. refl) runs)
+
+-- so counts grow by no more than there are runs
+pub grow_few : (runs : List Occurrence) (counts counts' : List ℕ) (most : ℕ) → CountsThese runs counts counts' → length runs ≤ most → GrowAtMost most counts counts'
+grow_few runs counts counts' most counted few = record {
+  as_many = counted.as_many;
+  each = λ number within. omega (arith, counted.grown number within, named_few number runs, few);
+}
+
+-- nothing has grown
+pub grow_none : (counts : List ℕ) (most : ℕ) → GrowAtMost most counts counts
+grow_none counts most = record { as_many = refl; each = λ number within. omega arith }
+
+-- a text has no more runs than bytes
+runs_few : (p : Patterns) (text : List ℕ) → length (runs_upto p text (length text)) ≤ length text
+runs_few p text =
+    let ordered : AreInOrder (runs_upto p text (length text)) (length text) = (upto-covers p text (length text) (le_refl (length text))).ordered in
+    omega (arith, few-open (runs_upto p text (length text)) 1 (length text) ordered (λ x there. omega (arith, ordered.full x there)))
+
+-- so a cover counts no more than were given
+module _ {R W : Type 0} (S : SourceGhosts R) (K : SinkGhosts W) (AreSearched : Patterns → Type 0) (p : Patterns) (of : AreSearched p) (rule : PieceRule) (source source' : R) (sink sink' : W) (counts counts' : List ℕ) where
+  runs_given : CountsRuns S AreSearched source source' counts counts' → CountsGiven S source source' counts counts'
+  runs_given whole = record {
+    given = whole.given;
+    ended = true;
+    gives = whole.gives;
+    counted = grow_few (runs_upto p whole.given (length whole.given)) counts counts' (length whole.given) (whole.counted p (runs_upto p whole.given (length whole.given)) of (runs-made p whole.given)) (runs_few p whole.given);
+  }
+
+  written_given : CountsWritten S K AreSearched rule source source' sink sink' counts counts' → CountsGiven S source source' counts counts'
+  written_given some =
+      let parts = some.beginning p some.given (runs_upto p some.given (length some.given)) of (no_more some.given some.ended) (runs-made p some.given) in
+      let sizes : length (runs_upto p some.given (length some.given)) ≡ length some.first + length parts.0 = ap length parts.1 ∙ length-append some.first parts.0 in
+      record {
+        given = some.given;
+        ended = some.ended;
+        gives = some.gives;
+        counted = grow_few some.first counts counts' (length some.given) some.counted (omega (arith, sizes, runs_few p some.given));
+      }
+
+  pub cover_given : (result : Result (Unit {0}) StreamError) → LeavesCounted S K AreSearched rule source source' sink sink' counts counts' result → CountsGiven S source source' counts counts'
+  cover_given (Ok x) leaves = runs_given leaves.counted
+  cover_given (Err error) leaves = written_given leaves.begun
+
+-- where nothing is counted nothing has grown
+pub ungrown : {R W : Type 0} (S : SourceGhosts R) {K : SinkGhosts W} {r : Redactor} (source source' : R) (sink sink' : W) (counts : List ℕ) → StartsStream S K r source source' sink sink' → CountsGiven S source source' counts counts
+ungrown S source source' sink sink' counts begun = record { given = begun.given; ended = begun.ended; gives = begun.gives; counted = grow_none counts (length begun.given) }
+
+-- a run counts no more than it is called on
+module _ {F W : Type 0} (K : SinkGhosts W) (calls : F → Occurrence → List ℕ → W → Result Bool StreamError → F → W → Type 0) (stopped : Bool) (haystack : List ℕ) (name_of : F → ℕ) (counts_of : F → List ℕ)
+    (counts : (f : F) (m : Occurrence) (matched : List ℕ) (old : W) (answer : Result Bool StreamError) (next : F) (new : W) → calls f m matched old answer next new
+    → (name_of next ≡ name_of f) × CountsThese (m ∷ []) (counts_of f) (counts_of next)) where
+  abbrev SomeCounted : List Occurrence → F → F → Type 0
+  SomeCounted ms f last = (first : List Occurrence) × (length first ≤ length ms) × (name_of last ≡ name_of f) × CountsThese first (counts_of f) (counts_of last)
+
+  none_counted : (ms : List Occurrence) (f last : F) → last ≡ f → SomeCounted ms f last
+  none_counted ms f last same = subst (SomeCounted ms f) (sym same) ([], omega arith, refl, counts_none (counts_of f))
+
+  one_counted : (m : Occurrence) (ms : List Occurrence) (f next last : F) → last ≡ next → (name_of next ≡ name_of f) × CountsThese (m ∷ []) (counts_of f) (counts_of next) → SomeCounted (m ∷ ms) f last
+  one_counted m ms f next last same step = subst (SomeCounted (m ∷ ms) f) (sym same) (m ∷ [], omega arith, step.0, step.1)
+
+  pub run_most : (ms : List Occurrence) (at : ℕ) (f : F) (old : W) (result : Result (Unit {0}) StreamError) (last : F) (new : W) → ClosureRun (SinkTakes K stopped) calls haystack at ms f old result last new → SomeCounted ms f last
+  run_most [] at f old result last new run = none_counted [] f last run.0
+  run_most (m ∷ ms) at f old result last new (inl refused) = none_counted (m ∷ ms) f last refused.2
+  run_most (m ∷ ms) at f old result last new (inr (lent, gap, (Err reason, next, left, called, ends))) =
+      one_counted m ms f next last ends.1 (counts f m (slice_range haystack m.start m.end) lent (Err reason) next left called)
+  run_most (m ∷ ms) at f old result last new (inr (lent, gap, (Ok true, next, left, called, ends))) =
+      let step = counts f m (slice_range haystack m.start m.end) lent (Ok true) next left called in
+      let rest = run_most ms m.end next left result last new ends in
+      (m ∷ rest.0, omega (arith, rest.1), rest.2 ∙ step.0, counts_then (m ∷ []) rest.0 (counts_of f) (counts_of next) (counts_of last) step.1 rest.3)
+  run_most (m ∷ ms) at f old result last new (inr (lent, gap, (Ok false, next, left, called, ends))) =
+      one_counted m ms f next last ends.0 (counts f m (slice_range haystack m.start m.end) lent (Ok false) next left called)
+
+module _ {A R W F : Type 0} (G : Ghosts A) (S : SourceGhosts R) (K : SinkGhosts W) (automaton : A) (p : Patterns) (of : G.is_of automaton p) (are : G.lengths automaton ≡ map length p.words) (can : CanBegin G automaton)
+    (calls : Mut F (Bor Occurrence × (Bor (List ℕ) × (MutBor W × Unit {0}))) (Result (Unit {0}) StreamError × (MutBor W × Unit {0})))
+    (source source' : R) (closure : F) (sink sink' : W) (last : F) (name_of : F → ℕ) (counts_of : F → List ℕ)
+    (counts : (f : F) (m : Occurrence) (matched : List ℕ) (old : W) (answer : Result (Unit {0}) StreamError) (next : F) (new : W) → CalledOn calls f m matched old answer next new
+    → (name_of next ≡ name_of f) × CountsThese (m ∷ []) (counts_of f) (counts_of next)) where
+  by_answer : (f : F) (m : Occurrence) (matched : List ℕ) (old : W) (answer : Result Bool StreamError) (next : F) (new : W) → CallsOn calls f m matched old answer next new
+      → (name_of next ≡ name_of f) × CountsThese (m ∷ []) (counts_of f) (counts_of next)
+  by_answer f m matched old (Ok goes) next new called = counts f m matched old (Ok tt) next new called.1
+  by_answer f m matched old (Err reason) next new called = counts f m matched old (Err reason) next new called
+
+  abbrev LentMost : F → Type 0
+  LentMost left = (name_of left ≡ name_of closure) × CountsGiven S source source' (counts_of closure) (counts_of left)
+
+  over_most : (result : Result (Unit {0}) StreamError) → RunsAndLeaves S K (G.is_of automaton) calls source source' closure sink result last sink' → LentMost last
+  over_most result over =
+      let finds = finds-exist p (plain_search over.given) None (le_refl (length over.given)) in
+      let run = over.run p over.given finds.0 of (no_more over.given over.ended) finds.1 in
+      let counted = run_most K (CallsOn calls) over.stopped over.given name_of counts_of by_answer finds.0 0 closure sink result last sink' run in
+      let few = few_from p (some_of G automaton p are can) over.given finds.0 0 None finds.1 (omega arith) in (
+        counted.2,
+        record { given = over.given; ended = over.ended; gives = over.gives; counted = grow_few counted.0 (counts_of closure) (counts_of last) (length over.given) counted.3 (omega (arith, counted.1, few)) },
+      )
+
+  no_run : (result : Result (Unit {0}) StreamError) → RefusesAllUntouched result Memory source source' closure last sink sink' → LentMost last
+  no_run result refused =
+      subst LentMost (sym refused.1) (
+        refl,
+        record {
+          given = [];
+          ended = false;
+          gives = record { bytes = subst (λ (s : R). Consumes (S.remaining source) (S.remaining s) []) (sym refused.0.1) (Consumes-nil (S.remaining source)); end = ap (λ (s : R). S.empty_reads s) refused.0.1 };
+          counted = grow_none (counts_of closure) 0;
+        },
+      )
+
+  pub lent_most : (result : Result (Unit {0}) StreamError) → (CanBegin G automaton → RunsLent S K (G.is_of automaton) calls source source' closure sink result last sink') → LentMost last
+  lent_most result runs =
+      elim (runs can) [
+        | inl memory ↦ no_run result memory
+        | inr over ↦ over_most result over
+      ]
+
+-- a number of bytes grows by no more than was given, where that is known; and else anything may have been
+longer_of : (settled : Bool) (whole left left' : Option (List ℕ)) (start bytes bytes' : ℕ) (given : List ℕ) → whole ≡ left → start ≡ bytes → Consumes left (settled_left settled left') given
+    → (settled ≡ true → IsMetered whole left' start bytes') → (longer : List ℕ) × (length given ≤ length longer) × Consumes left left' longer × (bytes' ≤ bytes + length longer)
+longer_of settled whole None left' start bytes bytes' given same is read metered =
+    let sized : length (given ++ replicate bytes' 0) ≡ length given + bytes' = length-append given (replicate bytes' 0) ∙ ap (λ (n : ℕ). length given + n) (length-replicate bytes' 0) in
+    (given ++ replicate bytes' 0, omega (arith, sized), tt, omega (arith, sized))
+longer_of settled whole (Some xs) left' start bytes bytes' given same is read metered =
+    (given, le_refl (length given), consumes_settled settled (Some xs) left' given read, omega (arith, metered_added settled whole (Some xs) left' start bytes bytes' given same is read metered refl))
+
+grow_more : (few most : ℕ) (counts counts' : List ℕ) → few ≤ most → GrowAtMost few counts counts' → GrowAtMost most counts counts'
+grow_more few most counts counts' less grow = record { as_many = grow.as_many; each = λ number within. omega (arith, grow.each number within, less) }
+
+pub numbers_of : {R : Type 0} (S : SourceGhosts R) (source source' : R) (counts counts' : List ℕ) (settled : Bool) (whole : Option (List ℕ)) (start bytes bytes' : ℕ) (given : List ℕ) (ended : Bool)
+    → whole ≡ S.remaining source → start ≡ bytes → Consumes (S.remaining source) (settled_left settled (S.remaining source')) given → S.empty_reads source' ≡ counted ended (S.empty_reads source)
+    → (settled ≡ true → IsMetered whole (S.remaining source') start bytes') → GrowAtMost (length given) counts counts' → NumbersGiven S source source' counts counts' bytes bytes'
+numbers_of S source source' counts counts' settled whole start bytes bytes' given ended same is read end metered grow =
+    let longer = longer_of settled whole (S.remaining source) (S.remaining source') start bytes bytes' given same is read metered in
+    record { given = longer.0; ended = ended; gives = record { bytes = longer.2; end = end }; counted = grow_more (length given) (length longer.0) counts counts' longer.1 grow; added = longer.3 }
+
+pub numbers_there : {R : Type 0} (S : SourceGhosts R) (source there there' : R) (counts counts' : List ℕ) (bytes bytes' : ℕ) → there ≡ there' → NumbersGiven S source there counts counts' bytes bytes' → NumbersGiven S source there' counts counts' bytes bytes'
+numbers_there S source there there' counts counts' bytes bytes' same numbers = subst (λ s. NumbersGiven S source s counts counts' bytes bytes') same numbers
+
+pub numbers_text : {R : Type 0} (S : SourceGhosts R) (source source' : R) (before : Option (List ℕ)) (counts counts' : List ℕ) (bytes bytes' : ℕ) → S.remaining source ≡ before
+    → NumbersGiven S source source' counts counts' bytes bytes' → NumbersRead counts counts' bytes bytes' before (S.remaining source')
+numbers_text S source source' before counts counts' bytes bytes' left numbers = record {
+  given = numbers.given;
+  read = subst (λ l. Consumes l (S.remaining source') numbers.given) left numbers.gives.bytes;
+  counted = numbers.counted;
+  added = numbers.added;
+}
+
+module _ (holds : List ℕ → Option (List ℕ)) (name : List ℕ) (left left' : Option (List ℕ)) (counts counts' : List ℕ) (bytes bytes' : ℕ) where
+  pub input_numbers : is_input name ≡ true → NumbersRead counts counts' bytes bytes' left left' → NumbersOfName counts counts' bytes bytes' holds name left left'
+  input_numbers is numbers = of_input holds name (NumbersRead counts counts' bytes bytes') left left' is numbers
+
+  pub opened_numbers : is_input name ≡ false → left' ≡ left → (opened rest : Option (List ℕ)) → Keeps (holds name) opened → NumbersRead counts counts' bytes bytes' opened rest → NumbersOfName counts counts' bytes bytes' holds name left left'
+  opened_numbers is same opened rest kept numbers = of_folder holds name (NumbersRead counts counts' bytes bytes') left left' is same rest
+      (record { given = numbers.given; read = known_read (holds name) opened rest numbers.given kept numbers.read; counted = numbers.counted; added = numbers.added })
+
+-- nothing was read and nothing has grown
+read_nothing : (counts : List ℕ) (bytes : ℕ) (left : Option (List ℕ)) → NumbersRead counts counts bytes bytes left left
+read_nothing counts bytes left = record { given = []; read = Consumes-nil left; counted = grow_none counts 0; added = omega arith }
+
+pub no_numbers : (holds : List ℕ → Option (List ℕ)) (name : List ℕ) (left : Option (List ℕ)) (counts : List ℕ) (bytes : ℕ) → NumbersOfName counts counts bytes bytes holds name left left
+no_numbers holds name left counts bytes = by_test (is_input name) refl
+  where
+    by_test : (b : Bool) → is_input name ≡ b → NumbersOfName counts counts bytes bytes holds name left left
+    by_test true is = of_input holds name (NumbersRead counts counts bytes bytes) left left is (read_nothing counts bytes left)
+    by_test false is = of_folder holds name (NumbersRead counts counts bytes bytes) left left is refl (holds name) (read_nothing counts bytes (holds name))
+
+-- the size of what was read of the file of a name
+size_of : (holds : List ℕ → Option (List ℕ)) (name : List ℕ) (left left' : Option (List ℕ)) (counts counts' : List ℕ) (bytes bytes' : ℕ) → NumbersOfName counts counts' bytes bytes' holds name left left'
+    → (size : ℕ) × ReadsSome holds name size left left' × GrowAtMost size counts counts' × (bytes' ≤ bytes + size)
+size_of holds name left left' counts counts' bytes bytes' = by_test (is_input name)
+  where
+    by_test : (b : Bool) → MatchBool b (NumbersRead counts counts' bytes bytes' left left') ((left' ≡ left) × (rest : Option (List ℕ)) × NumbersRead counts counts' bytes bytes' (holds name) rest)
+        → (size : ℕ) × MatchBool b ((given : List ℕ) × Consumes left left' given × (length given ≡ size)) ((left' ≡ left) × (rest : Option (List ℕ)) × ((given : List ℕ) × Consumes (holds name) rest given × (length given ≡ size)))
+        × GrowAtMost size counts counts' × (bytes' ≤ bytes + size)
+    by_test true numbers = (length numbers.given, (numbers.given, numbers.read, refl), numbers.counted, numbers.added)
+    by_test false (same, rest, numbers) = (length numbers.given, (same, rest, (numbers.given, numbers.read, refl)), numbers.counted, numbers.added)
+
+-- of some first files
+pub record NumbersSoFar (holds : List ℕ → Option (List ℕ)) (names rest : List (List ℕ)) (counts counts' : List ℕ) (volume volume' : Volume) (old new : Option (List ℕ)) : Type 0 where
+  pub size : ℕ
+  pub read : (more : ℕ) (left : Option (List ℕ)) → ReadInAll holds rest more new left → ReadInAll holds names (size + more) old left
+  pub counted : GrowAtMost size counts counts'
+  pub bytes : volume'.bytes ≤ volume.bytes + size
+  pub files : volume'.files + length rest ≤ volume.files + length names
+
+module _ (holds : List ℕ → Option (List ℕ)) (names : List (List ℕ)) (counts : List ℕ) (volume : Volume) (old : Option (List ℕ)) where
+  pub none_numbered : NumbersSoFar holds names names counts counts volume volume old old
+  none_numbered = record { size = 0; read = λ more left rest. let same : more ≡ 0 + more = omega arith in subst (λ (n : ℕ). ReadInAll holds names n old left) same rest; counted = grow_none counts 0; bytes = omega arith; files = omega arith }
+
+  pub more_numbered : (name : List ℕ) (rest : List (List ℕ)) (before after : Volume) (mid_counts counts' : List ℕ) (bytes : ℕ) (mid new : Option (List ℕ)) → NumbersSoFar holds names (name ∷ rest) counts mid_counts volume before old mid
+      → NumbersOfName mid_counts counts' before.bytes bytes holds name mid new → after.bytes ≡ bytes → after.files ≤ before.files + 1 → NumbersSoFar holds names rest counts counts' volume after old new
+  more_numbered name rest before after mid_counts counts' bytes mid new far numbers same files =
+      let one = size_of holds name mid new mid_counts counts' before.bytes bytes numbers in
+      record {
+        size = far.size + one.0;
+        read = λ more left rests.
+            let both : (far.size + one.0) + more ≡ far.size + (one.0 + more) = omega arith in
+            subst (λ (n : ℕ). ReadInAll holds names n old left) (sym both) (far.read (one.0 + more) left (one.0, more, refl, new, one.1, rests));
+        counted = record { as_many = one.2.as_many ∙ far.counted.as_many; each = λ number within. omega (arith, one.2.each number (subst (λ (n : ℕ). number < n) (sym far.counted.as_many) within), far.counted.each number within) };
+        bytes = omega (arith, far.bytes, one.3, same);
+        files = let size : length (name ∷ rest) ≡ length rest + 1 = omega arith in omega (arith, far.files, size, files);
+      }
+
+  pub all_numbered : (counts' : List ℕ) (after : Volume) (new : Option (List ℕ)) → NumbersSoFar holds names [] counts counts' volume after old new → NumbersOfAll holds names counts counts' volume after old new
+  all_numbered counts' after new far =
+      let same : far.size + 0 ≡ far.size = omega arith in
+      record { size = far.size; read = subst (λ (n : ℕ). ReadInAll holds names n old new) same (far.read 0 new (refl, refl)); counted = far.counted; bytes = far.bytes; files = omega (arith, far.files) }
+
+-- one file more at most
+pub one_file : (whole : Bool) (files : ℕ) → files_with whole files ≤ files + 1
+one_file true files = omega arith
+one_file false files = omega arith
