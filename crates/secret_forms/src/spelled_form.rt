@@ -62,7 +62,7 @@ pub(crate) fn url_encoders() -> [Spelling; 18]
     ]
 }
 
-/// A secret as a URL shows it, percent-encoded.
+/// A secret as a URL shows it, percent-encoded, and as a form that is sent does, where `+` stands for a space.
 pub fn url_forms(alloc: Global, secret: &[u8]) -> Result<Vec<Vec<u8>>, FormError>
     ensures short { length secret.now < 4 → result ≡ Err TooShort }
     ensures long { IfErr result (λ e. e ≡ TooShort → length secret.now < 4) }
