@@ -177,6 +177,15 @@ fn urls_of_digits(rt: HostRuntime) {
 }
 
 #[test]
+fn names_of_forms(rt: HostRuntime) {
+    assert!(rt; matches!(Form::of_name("base64"), Some(Form::Base64)));
+    assert!(rt; matches!(Form::of_name("lines"), Some(Form::Lines)));
+    assert!(rt; Form::of_name("Base64").is_none());
+    assert!(rt; Form::of_name("line").is_none());
+    assert_eq!(rt; Form::Shell.name(), "shell");
+}
+
+#[test]
 fn three_bytes_are_too_short(rt: HostRuntime) {
     let text = format!(in rt.alloc(); "{}", FormError::TooShort).expect(&rt, "memory");
     assert_eq!(rt;
