@@ -1,6 +1,6 @@
 -- No pattern of a form is empty.
-use Rattle.std.proofs.Common.{◌≡◌, ℕ, zero, suc, ◌+◌, ◌-◌, ◌<◌, ◌≤◌, Bool, true, false, cond, List, [], ◌∷◌, ◌++◌, length, map, nat_lt, drop, refl, ap, ◌∙◌, sym, arith}
-use Rattle.std.specs.Prelude.{◌==◌, All, IsUtf8, chars, encode_utf8_all, flat_map, slice_range}
+use Rattle.std.proofs.Common.{◌≡◌, ℕ, zero, suc, ◌-◌, ◌≤◌, Bool, true, false, cond, List, [], ◌∷◌, ◌++◌, length, nat_lt, drop, refl, ap, ◌∙◌, arith}
+use Rattle.std.specs.Prelude.{◌==◌, All, IsUtf8, chars, encode_utf8_all, flat_map}
 use Rattle.std.specs.List.{list_any, range_with_len, slice_split}
 use Rattle.std.specs.Str.{is_utf8}
 use Rattle.std.specs.Str.Lines.{strip_carriage_return}
@@ -17,10 +17,9 @@ use Rattle.hex.specs.Hex.{encode_with, lower_digits, upper_digits}
 use Rattle.hex.proofs.HexLemmas.{length-encode_with}
 use Rattle.secret_forms.specs.Base64.{secret_within, trimmed, front_of, rest_of, back_of, byte_behind, values_ahead, values_behind, core_of, with_ahead, with_behind, all_ahead, all_behind, shift_patterns, alphabet_patterns, base64_patterns}
 use Rattle.secret_forms.specs.Forms.{form_patterns}
-use Rattle.secret_forms.specs.Hex.{hex_patterns}
-use Rattle.secret_forms.specs.Json.{json_char, json_pair, json_patterns, json_spellings, json_ways, numbered, numbered_by}
-use Rattle.secret_forms.specs.Lines.{ends_line, line_patterns, long_line}
-use Rattle.secret_forms.specs.Spelling.{double_quote, is_by_number, json_byte, json_no_letter, json_unit, shell_byte, shell_spellings, single_quote, spelled, spelled_by, spelled_byte, url_byte, url_spellings, xml_byte, xml_spellings}
+use Rattle.secret_forms.specs.Json.{json_char, json_patterns, json_spellings, json_ways, numbered, numbered_by}
+use Rattle.secret_forms.specs.Lines.{ends_line, long_line}
+use Rattle.secret_forms.specs.Spelling.{double_quote, json_byte, json_no_letter, shell_byte, shell_spellings, single_quote, spelled, spelled_by, spelled_byte, url_byte, url_spellings, xml_byte, xml_spellings}
 use Rattle.secret_forms.specs.declared.bytewise.Json.{Json}
 use Rattle.secret_forms.specs.declared.bytewise.Kept.{Kept}
 use Rattle.secret_forms.specs.declared.bytewise.Space.{Space}

@@ -1,6 +1,6 @@
 -- Patterns that hold those of a form hide what the form shows.
-use Rattle.std.proofs.Common.{◌≡◌, ℕ, ◌+◌, ◌<◌, ◌≤◌, Bool, true, false, List, [], ◌∷◌, ◌++◌, length, map, refl, arith}
-use Rattle.std.specs.Prelude.{All, Contains, IsUtf8, chars, cond, flat_map}
+use Rattle.std.proofs.Common.{◌≡◌, ℕ, ◌≤◌, Bool, true, false, List, [], ◌∷◌, length, map, refl, sym, subst, arith}
+use Rattle.std.specs.Prelude.{All, Contains, chars, cond, flat_map}
 use Rattle.std.specs.Str.{is_utf8}
 use Rattle.std.proofs.lemmas.List.{append-nil, map-id}
 use Rattle.std.proofs.lemmas.List.Concat.{flat_map_single}
@@ -11,10 +11,10 @@ use Rattle.base64.specs.Rfc4648.{encode, encode_symbols}
 use Rattle.hex.specs.Hex.{lower_digits, upper_digits}
 use Rattle.secret_forms.specs.Base64.{alphabet_patterns, base64_patterns}
 use Rattle.secret_forms.specs.Forms.{HidesForm, HidesBase64, HidesJson, form_patterns}
-use Rattle.secret_forms.specs.Hex.{hex_patterns}
 use Rattle.secret_forms.specs.Json.{HidesCharacters, json_char, json_patterns, json_spellings, json_ways, numbered, numbered_by}
 use Rattle.secret_forms.specs.Law.{HidesBits}
 use Rattle.secret_forms.specs.Lines.{HidesLine, line_patterns}
+use Rattle.secret_forms.specs.Patterns.{added_all}
 use Rattle.secret_forms.specs.Spelling.{HidesSpelled, shell_spellings, spelled, spelled_by, spelled_byte, url_spellings, xml_spellings}
 use Rattle.secret_forms.specs.declared.bytewise.Json.{Json}
 use Rattle.secret_forms.specs.declared.bytewise.Spelling.{Spelling}
@@ -24,6 +24,7 @@ use Rattle.secret_forms.proofs.Alphabets.{HasShifts-alphabet}
 use Rattle.secret_forms.proofs.Base64Law.{HidesBits-base64, HasShifts}
 use Rattle.secret_forms.proofs.EachLaw.{All-held, Contains-flat_map, Contains-map, HidesEach-listed}
 use Rattle.secret_forms.proofs.HexLaw.{HidesBits-hex}
+use Rattle.secret_forms.proofs.Members.{Contains-added_all_new}
 
 -- each of some patterns is among others
 abbrev pub Has : (patterns some : List (List ℕ)) → Type 0
@@ -97,3 +98,10 @@ pub HidesForm-all : (patterns : List (List ℕ)) (s : List ℕ) (forms : List Fo
     → Has patterns (flat_map (form_patterns s) forms) → All (HidesForm patterns s) forms
 HidesForm-all patterns s forms some has = All-held (HidesForm patterns s) forms
     (λ form there. HidesForm-held patterns s form some (λ x held. has x (Contains-flat_map (form_patterns s) forms form x there held)))
+
+-- the same of what a call made
+pub HidesForm-made : (made start : List (List ℕ)) (s : List ℕ) (form : Form) → 1 ≤ length s → made ≡ added_all start (form_patterns s form)
+    → HidesForm made s form
+HidesForm-made made start s form some is =
+    let Hides : List (List ℕ) → Type 0 = λ patterns. HidesForm patterns s form in
+    subst Hides (sym is) (HidesForm-held (added_all start (form_patterns s form)) s form some (Contains-added_all_new (form_patterns s form) start))

@@ -1,6 +1,6 @@
 -- What an inner form makes of a secret is hidden, each pattern as a secret of the outer form.
-use Rattle.std.proofs.Common.{◌≡◌, ℕ, ◌≤◌, List, length, sym, subst, arith}
-use Rattle.std.specs.Prelude.{All, Contains, flat_map}
+use Rattle.std.proofs.Common.{◌≡◌, ℕ, ◌≤◌, List, length, sym, subst}
+use Rattle.std.specs.Prelude.{All, Contains}
 use Rattle.std.proofs.lemmas.List.Elements.{All-contains}
 use Rattle.secret_forms.specs.Forms.{HidesNested, form_patterns, nested_patterns}
 use Rattle.secret_forms.specs.declared.form.Form.{Form}

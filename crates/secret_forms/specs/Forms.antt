@@ -1,5 +1,5 @@
 -- Forms by their names, and several at once.
-use Rattle.std.specs.Prelude.{ℕ, All, IsUtf8, List, [], flat_map}
+use Rattle.std.specs.Prelude.{ℕ, All, IsUtf8, List, [], None, Option, Some, bytes_eq, codes, flat_map, if◌then◌else◌}
 use Rattle.base64.specs.Engines.{standard, standard_no_pad, url_safe, url_safe_no_pad}
 use Rattle.base64.specs.GeneralPurpose.{encode_of}
 use Rattle.hex.specs.Hex.{encode_lower, encode_upper}
@@ -12,6 +12,24 @@ use Rattle.secret_forms.specs.Patterns.{added_all}
 use Rattle.secret_forms.specs.Spelling.{HidesSpelled, shell_spellings, spelled_by, url_spellings, xml_spellings}
 use Rattle.secret_forms.specs.declared.form.Form.{Form}
 use Rattle.secret_forms.specs.declared.form.Form.TheVariants.{Base64, Hex, Url, Json, Xml, Shell, Lines}
+
+-- the name of a form
+abbrev pub form_name : Form → List ℕ
+form_name Base64 = codes "base64"
+form_name Hex = codes "hex"
+form_name Url = codes "url"
+form_name Json = codes "json"
+form_name Xml = codes "xml"
+form_name Shell = codes "shell"
+form_name Lines = codes "lines"
+
+-- the form of a name
+abbrev pub form_of_name : List ℕ → Option Form
+form_of_name name =
+    if bytes_eq name (codes "base64") then Some Base64 else if bytes_eq name (codes "hex") then Some Hex
+    else if bytes_eq name (codes "url") then Some Url else if bytes_eq name (codes "json") then Some Json
+    else if bytes_eq name (codes "xml") then Some Xml else if bytes_eq name (codes "shell") then Some Shell
+    else if bytes_eq name (codes "lines") then Some Lines else None
 
 -- the patterns of a secret by a form
 abbrev pub form_patterns : List ℕ → Form → List (List ℕ)

@@ -1,5 +1,6 @@
 -- How encoders that work byte by byte write each byte.
 use Rattle.std.specs.Prelude.{ℕ, ◌+◌, not, ◌/◌, ◌%◌, ◌==◌, ◌&&◌, ◌||◌, Bool, true, false, codes, List, [], ◌∷◌, ◌++◌, map, nat_lt, if◌then◌else◌}
+use Rattle.std.specs.Char.{is_ascii_alphanumeric}
 use Rattle.std.specs.List.{flat_map, list_any}
 use Rattle.secret_forms.specs.Law.{HidesEach}
 use Rattle.secret_forms.specs.declared.bytewise.Kept.{Kept}
@@ -18,17 +19,25 @@ use Rattle.secret_forms.specs.declared.bytewise.Quoting.TheVariants.{Single, Sin
 use Rattle.secret_forms.specs.declared.bytewise.Spelling.{Spelling}
 use Rattle.secret_forms.specs.declared.bytewise.Spelling.TheVariants.{Url, Json as JsonString, Xml, Shell}
 
--- letters, digits, `-`, `.`, `_` and `~`
-abbrev pub unreserved_text : List ℕ
-unreserved_text = codes "ABCDEFGHIJKLMNOPQRSTUVWXYZabcdefghijklmnopqrstuvwxyz0123456789-._~"
+-- the marks that stand in a URL as they are
+abbrev pub kept_marks : Kept → List ℕ
+kept_marks Nothing = []
+kept_marks Unreserved = codes "-._~"
+kept_marks Slash = codes "-._~/"
+kept_marks Component = codes "-._~!'()*"
+kept_marks Uri = codes "-._~!'()*;,/?:@&=+$#"
 
--- the bytes that stand in a URL as they are
-abbrev pub kept_bytes : Kept → List ℕ
-kept_bytes Nothing = []
-kept_bytes Unreserved = unreserved_text
-kept_bytes Slash = unreserved_text ++ codes "/"
-kept_bytes Component = unreserved_text ++ codes "!'()*"
-kept_bytes Uri = unreserved_text ++ codes "!'()*;,/?:@&=+$#"
+-- whether letters and digits stand in a URL as they are
+abbrev pub keeps_letters : Kept → Bool
+keeps_letters Nothing = false
+keeps_letters Unreserved = true
+keeps_letters Slash = true
+keeps_letters Component = true
+keeps_letters Uri = true
+
+-- whether a byte stands in a URL as it is
+abbrev pub is_unencoded : Kept → ℕ → Bool
+is_unencoded kept byte = (keeps_letters kept && is_ascii_alphanumeric byte) || list_any (λ one. one == byte) (kept_marks kept)
 
 -- a hexadecimal digit
 abbrev pub letter_base : Digits → ℕ
@@ -46,7 +55,7 @@ is_plus Plus byte = byte == 32
 -- a byte of a URL
 unfoldable pub url_byte : Kept → Space → Digits → ℕ → List ℕ
 url_byte kept space digits byte =
-    if list_any (λ one. one == byte) (kept_bytes kept) then byte ∷ []
+    if is_unencoded kept byte then byte ∷ []
     else if is_plus space byte then 43 ∷ []
     else 37 ∷ digit digits (byte / 16) ∷ digit digits (byte % 16) ∷ []
 
@@ -114,7 +123,7 @@ xml_byte quotes byte =
 
 -- whether a byte stands as it is in a word that is quoted by backslashes alone
 abbrev pub is_plain : ℕ → Bool
-is_plain byte = nat_lt 127 byte || list_any (λ one. one == byte) (codes "ABCDEFGHIJKLMNOPQRSTUVWXYZabcdefghijklmnopqrstuvwxyz0123456789@%+=:,./-_")
+is_plain byte = nat_lt 127 byte || is_ascii_alphanumeric byte || list_any (λ one. one == byte) (codes "@%+=:,./-_")
 
 -- a byte within single quotes, of which one is written so
 abbrev pub single_byte : List ℕ → ℕ → List ℕ

@@ -103,21 +103,34 @@ pub enum Spelling {
     Shell(Quoting),
 }
 
-/// The bytes that stand in a URL as they are.
-fn kept_bytes(kept: Kept) -> &'static [u8]
-    ensures { result.now ≡ spec.kept_bytes kept }
+/// The marks that stand in a URL as they are.
+fn kept_marks(kept: Kept) -> &'static [u8]
+    ensures { result.now ≡ spec.kept_marks kept }
 {
     match kept {
         Kept::Nothing => b"",
-        Kept::Unreserved => b"ABCDEFGHIJKLMNOPQRSTUVWXYZabcdefghijklmnopqrstuvwxyz0123456789-._~",
-        Kept::Slash => b"ABCDEFGHIJKLMNOPQRSTUVWXYZabcdefghijklmnopqrstuvwxyz0123456789-._~/",
-        Kept::Component => {
-            b"ABCDEFGHIJKLMNOPQRSTUVWXYZabcdefghijklmnopqrstuvwxyz0123456789-._~!'()*"
-        }
-        Kept::Uri => {
-            b"ABCDEFGHIJKLMNOPQRSTUVWXYZabcdefghijklmnopqrstuvwxyz0123456789-._~!'()*;,/?:@&=+$#"
-        }
+        Kept::Unreserved => b"-._~",
+        Kept::Slash => b"-._~/",
+        Kept::Component => b"-._~!'()*",
+        Kept::Uri => b"-._~!'()*;,/?:@&=+$#",
     }
+}
+
+/// Whether letters and digits stand in a URL as they are.
+fn keeps_letters(kept: Kept) -> bool
+    ensures { result ≡ spec.keeps_letters kept }
+{
+    match kept {
+        Kept::Nothing => false,
+        Kept::Unreserved | Kept::Slash | Kept::Component | Kept::Uri => true,
+    }
+}
+
+/// Whether a byte stands in a URL as it is.
+fn is_unencoded(kept: Kept, byte: u8) -> bool
+    ensures { result ≡ spec.is_unencoded kept byte }
+{
+    keeps_letters(kept) && byte.is_ascii_alphanumeric() || kept_marks(kept).contains(&byte)
 }
 
 /// A hexadecimal digit.
@@ -154,7 +167,7 @@ fn push_url(
 ) -> Result<(), AllocError>
     ensures url { Writes result out.old out.new (spec.url_byte kept space digits byte) }
 {
-    if kept_bytes(kept).contains(&byte) {
+    if is_unencoded(kept, byte) {
         return out.extend_from_slice(&[byte]);
     }
     if is_plus(space, byte) {
@@ -268,10 +281,7 @@ fn push_xml(out: &mut Vec<u8>, quotes: Quotes, byte: u8) -> Result<(), AllocErro
 fn is_plain(byte: u8) -> bool
     ensures { result ≡ spec.is_plain byte }
 {
-    byte > 127
-        || b"ABCDEFGHIJKLMNOPQRSTUVWXYZabcdefghijklmnopqrstuvwxyz0123456789@%+=:,./-_".contains(
-            &byte,
-        )
+    byte > 127 || byte.is_ascii_alphanumeric() || b"@%+=:,./-_".contains(&byte)
 }
 
 /// Writes a byte with a backslash before it, unless it stands as it is.

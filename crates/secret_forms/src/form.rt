@@ -1,7 +1,7 @@
 //! Forms by their names, and several at once.
 
-ghost use Rattle.std.specs.Prelude.{◌≡◌, ◌<◌, All, Err, IfErr, IfOk, OnOk, length};
-ghost use Rattle.secret_forms.specs.Forms.{HidesForm, HidesNested, form_patterns, forms_patterns, inner_patterns, nested_patterns};
+ghost use Rattle.std.specs.Prelude.{◌≡◌, ◌<◌, All, Err, IfErr, IfOk, OnOk, Some, length};
+ghost use Rattle.secret_forms.specs.Forms.{HidesForm, HidesNested, form_name, form_of_name, form_patterns, forms_patterns, inner_patterns, nested_patterns};
 ghost use Rattle.secret_forms.specs.Patterns.{AddsPatterns, ListsPatterns, pattern_bytes};
 ghost use Rattle.secret_forms.specs.declared.error.FormError.TheVariants.{TooShort};
 
@@ -31,6 +31,40 @@ pub enum Form {
     Shell,
     /// Line by line: `lines_forms`.
     Lines,
+}
+
+impl Form {
+    /// The form's name.
+    pub fn name(self) -> &'static str
+        ensures value { result.now ≡ form_name self }
+        ensures back { form_of_name result.now ≡ Some self }
+    {
+        match self {
+            Form::Base64 => "base64",
+            Form::Hex => "hex",
+            Form::Url => "url",
+            Form::Json => "json",
+            Form::Xml => "xml",
+            Form::Shell => "shell",
+            Form::Lines => "lines",
+        }
+    }
+
+    /// The form of a name.
+    pub fn of_name(name: &str) -> Option<Form>
+        ensures { result ≡ form_of_name name.now }
+    {
+        match name {
+            "base64" => Some(Form::Base64),
+            "hex" => Some(Form::Hex),
+            "url" => Some(Form::Url),
+            "json" => Some(Form::Json),
+            "xml" => Some(Form::Xml),
+            "shell" => Some(Form::Shell),
+            "lines" => Some(Form::Lines),
+            _ => None,
+        }
+    }
 }
 
 /// Adds the patterns of a form.

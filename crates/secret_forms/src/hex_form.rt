@@ -1,6 +1,6 @@
 //! A secret as hexadecimal digits.
 
-ghost use Rattle.std.specs.Prelude.{◌≡◌, ◌<◌, Err, IfErr, IfOk, OnOk, [], length};
+ghost use Rattle.std.specs.Prelude.{◌≡◌, ◌<◌, Err, IfErr, IfOk, OnOk, length};
 ghost use Rattle.hex.specs.Hex.{encode_lower, encode_upper};
 ghost use Rattle.secret_forms.specs.Hex.{hex_patterns};
 ghost use Rattle.secret_forms.specs.Law.{HidesBits};

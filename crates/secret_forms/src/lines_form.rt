@@ -2,7 +2,7 @@
 //!
 //! What writes a secret line by line, with something ahead of each line, does not show it whole.
 
-ghost use Rattle.std.specs.Prelude.{◌≡◌, ◌<◌, All, Err, IfErr, IfOk, OnOk, [], flat_map, length};
+ghost use Rattle.std.specs.Prelude.{◌≡◌, ◌<◌, All, Err, IfErr, IfOk, OnOk, flat_map, length};
 ghost use Rattle.std.specs.List.{slice_split};
 ghost use Rattle.std.specs.Str.Lines.{strip_carriage_return};
 ghost use Rattle.secret_forms.specs.Lines.{HidesLine, ends_line, line_patterns, long_line};

@@ -3,7 +3,7 @@
 //! The encoding of some bytes is that of the first ones, and then that of the others. So that of a secret stands whole wherever the
 //! secret does, also where a character is cut in two: an encoder that works by bytes does not see characters.
 
-ghost use Rattle.std.specs.Prelude.{◌≡◌, ◌<◌, All, Err, IfErr, IfOk, [], length};
+ghost use Rattle.std.specs.Prelude.{◌≡◌, ◌<◌, All, Err, IfErr, IfOk, length};
 ghost use Rattle.secret_forms.specs.Patterns.{ListsPatterns, pattern_bytes};
 ghost use Rattle.secret_forms.specs.Spelling.{HidesSpelled, shell_spellings, spelled_by, url_spellings, xml_spellings};
 ghost use Rattle.secret_forms.specs.declared.error.FormError.TheVariants.{TooShort};
@@ -62,7 +62,7 @@ pub(crate) fn url_encoders() -> [Spelling; 18]
     ]
 }
 
-/// A secret as a URL shows it, percent-encoded.
+/// A secret as a URL shows it, percent-encoded, and as a form that is sent does, where `+` stands for a space.
 pub fn url_forms(alloc: Global, secret: &[u8]) -> Result<Vec<Vec<u8>>, FormError>
     ensures short { length secret.now < 4 → result ≡ Err TooShort }
     ensures long { IfErr result (λ e. e ≡ TooShort → length secret.now < 4) }

@@ -31,24 +31,34 @@ fn hex_of_digits_alone(rt: HostRuntime) {
 #[test]
 fn base64_where_the_alphabets_agree(rt: HostRuntime) {
     let text = shown(rt.alloc(), base64_forms(rt.alloc(), b"key=")).expect(&rt, "memory");
-    let row: &[u8] =
-        b"a2V5P a2V5PQ a2V5PR a2V5PS a2V5PT a2V5PU a2V5PV a2V5PW a2V5PX a2V5PY a2V5PZ a2V5Pa a2V5Pb a2V5Pc a2V5Pd a2V5Pe a2V5Pf tleT GtleT WtleT mtleT 2tleT tleT0 tleT1 tleT2 tleT3 rZXk9 BrZXk9 FrZXk9 JrZXk9 NrZXk9 RrZXk9 VrZXk9 ZrZXk9 drZXk9 hrZXk9 lrZXk9 prZXk9 trZXk9 xrZXk9 1rZXk9 5rZXk9 9rZXk9 ";
+    let row: &[u8] = b"\
+        a2V5P a2V5PQ a2V5PR a2V5PS a2V5PT a2V5PU a2V5PV a2V5PW a2V5PX a2V5PY a2V5PZ a2V5Pa a2V5Pb a2V5Pc \
+        a2V5Pd a2V5Pe a2V5Pf tleT GtleT WtleT mtleT 2tleT tleT0 tleT1 tleT2 tleT3 rZXk9 BrZXk9 FrZXk9 \
+        JrZXk9 NrZXk9 RrZXk9 VrZXk9 ZrZXk9 drZXk9 hrZXk9 lrZXk9 prZXk9 trZXk9 xrZXk9 1rZXk9 5rZXk9 9rZXk9 ";
     assert_eq!(rt; text.as_slice(), row);
 }
 
 #[test]
 fn base64_where_the_alphabets_differ(rt: HostRuntime) {
     let text = shown(rt.alloc(), base64_forms(rt.alloc(), b"a?>\xff")).expect(&rt, "memory");
-    let row: &[u8] =
-        b"YT8+/ YT8+/w YT8+/x YT8+/y YT8+/z YT8+/0 YT8+/1 YT8+/2 YT8+/3 YT8+/4 YT8+/5 YT8+/6 YT8+/7 YT8+/8 YT8+/9 YT8+/+ YT8+// E/Pv GE/Pv WE/Pv mE/Pv 2E/Pv E/Pv8 E/Pv9 E/Pv+ E/Pv/ hPz7/ BhPz7/ FhPz7/ JhPz7/ NhPz7/ RhPz7/ VhPz7/ ZhPz7/ dhPz7/ hhPz7/ lhPz7/ phPz7/ thPz7/ xhPz7/ 1hPz7/ 5hPz7/ 9hPz7/ YT8-_ YT8-_w YT8-_x YT8-_y YT8-_z YT8-_0 YT8-_1 YT8-_2 YT8-_3 YT8-_4 YT8-_5 YT8-_6 YT8-_7 YT8-_8 YT8-_9 YT8-_- YT8-__ E_Pv GE_Pv WE_Pv mE_Pv 2E_Pv E_Pv8 E_Pv9 E_Pv- E_Pv_ hPz7_ BhPz7_ FhPz7_ JhPz7_ NhPz7_ RhPz7_ VhPz7_ ZhPz7_ dhPz7_ hhPz7_ lhPz7_ phPz7_ thPz7_ xhPz7_ 1hPz7_ 5hPz7_ 9hPz7_ ";
+    let row: &[u8] = b"\
+        YT8+/ YT8+/w YT8+/x YT8+/y YT8+/z YT8+/0 YT8+/1 YT8+/2 YT8+/3 YT8+/4 YT8+/5 YT8+/6 YT8+/7 YT8+/8 \
+        YT8+/9 YT8+/+ YT8+// E/Pv GE/Pv WE/Pv mE/Pv 2E/Pv E/Pv8 E/Pv9 E/Pv+ E/Pv/ hPz7/ BhPz7/ FhPz7/ \
+        JhPz7/ NhPz7/ RhPz7/ VhPz7/ ZhPz7/ dhPz7/ hhPz7/ lhPz7/ phPz7/ thPz7/ xhPz7/ 1hPz7/ 5hPz7/ 9hPz7/ \
+        YT8-_ YT8-_w YT8-_x YT8-_y YT8-_z YT8-_0 YT8-_1 YT8-_2 YT8-_3 YT8-_4 YT8-_5 YT8-_6 YT8-_7 YT8-_8 \
+        YT8-_9 YT8-_- YT8-__ E_Pv GE_Pv WE_Pv mE_Pv 2E_Pv E_Pv8 E_Pv9 E_Pv- E_Pv_ hPz7_ BhPz7_ FhPz7_ \
+        JhPz7_ NhPz7_ RhPz7_ VhPz7_ ZhPz7_ dhPz7_ hhPz7_ lhPz7_ phPz7_ thPz7_ xhPz7_ 1hPz7_ 5hPz7_ 9hPz7_ ";
     assert_eq!(rt; text.as_slice(), row);
 }
 
 #[test]
 fn url_by_each_encoder(rt: HostRuntime) {
     let text = shown(rt.alloc(), url_forms(rt.alloc(), b"a b/'?\xff")).expect(&rt, "memory");
-    let row: &[u8] =
-        b"a%20b%2F%27%3F%FF a%20b%2f%27%3f%ff a+b%2F%27%3F%FF a+b%2f%27%3f%ff a%20b/%27%3F%FF a%20b/%27%3f%ff a+b/%27%3F%FF a+b/%27%3f%ff a%20b%2F'%3F%FF a%20b%2f'%3f%ff a+b%2F'%3F%FF a+b%2f'%3f%ff a%20b/'?%FF a%20b/'?%ff a+b/'?%FF a+b/'?%ff %61%20%62%2F%27%3F%FF %61%20%62%2f%27%3f%ff ";
+    let row: &[u8] = b"\
+        a%20b%2F%27%3F%FF a%20b%2f%27%3f%ff a+b%2F%27%3F%FF a+b%2f%27%3f%ff a%20b/%27%3F%FF \
+        a%20b/%27%3f%ff a+b/%27%3F%FF a+b/%27%3f%ff a%20b%2F'%3F%FF a%20b%2f'%3f%ff a+b%2F'%3F%FF \
+        a+b%2f'%3f%ff a%20b/'?%FF a%20b/'?%ff a+b/'?%FF a+b/'?%ff %61%20%62%2F%27%3F%FF \
+        %61%20%62%2f%27%3f%ff ";
     assert_eq!(rt; text.as_slice(), row);
 }
 
@@ -64,8 +74,12 @@ fn json_by_each_encoder(rt: HostRuntime) {
     let text = shown(rt.alloc(), json_forms(rt.alloc(), b"\xc3\xa9/\"\\<\x01")).expect(
         &rt, "memory",
     );
-    let row: &[u8] =
-        b"\xc3\xa9/\\\"\\\\<\\u0001 \xc3\xa9\\/\\\"\\\\<\\u0001 \xc3\xa9/\\\"\\\\\\u003c\\u0001 \xc3\xa9/\\\"\\\\\\u003C\\u0001 \xc3\xa9\\/\\\"\\\\\\u003c\\u0001 \xc3\xa9\\/\\\"\\\\\\u003C\\u0001 \\u00e9/\\\"\\\\<\\u0001 \\u00E9/\\\"\\\\<\\u0001 \\u00e9\\/\\\"\\\\<\\u0001 \\u00E9\\/\\\"\\\\<\\u0001 \\u00e9/\\\"\\\\\\u003c\\u0001 \\u00E9/\\\"\\\\\\u003C\\u0001 \\u00e9\\/\\\"\\\\\\u003c\\u0001 \\u00E9\\/\\\"\\\\\\u003C\\u0001 ";
+    let row: &[u8] = b"\
+        \xc3\xa9/\\\"\\\\<\\u0001 \xc3\xa9\\/\\\"\\\\<\\u0001 \xc3\xa9/\\\"\\\\\\u003c\\u0001 \
+        \xc3\xa9/\\\"\\\\\\u003C\\u0001 \xc3\xa9\\/\\\"\\\\\\u003c\\u0001 \
+        \xc3\xa9\\/\\\"\\\\\\u003C\\u0001 \\u00e9/\\\"\\\\<\\u0001 \\u00E9/\\\"\\\\<\\u0001 \
+        \\u00e9\\/\\\"\\\\<\\u0001 \\u00E9\\/\\\"\\\\<\\u0001 \\u00e9/\\\"\\\\\\u003c\\u0001 \
+        \\u00E9/\\\"\\\\\\u003C\\u0001 \\u00e9\\/\\\"\\\\\\u003c\\u0001 \\u00E9\\/\\\"\\\\\\u003C\\u0001 ";
     assert_eq!(rt; text.as_slice(), row);
 }
 
@@ -146,8 +160,11 @@ fn forms_of_none(rt: HostRuntime) {
 fn base64_of_json(rt: HostRuntime) {
     let patterns = nested_forms(rt.alloc(), b"k\"ey", Form::Json, Form::Base64);
     let text = shown(rt.alloc(), patterns).expect(&rt, "memory");
-    let row: &[u8] =
-        b"a1wiZX a1wiZXk a1wiZXl a1wiZXm a1wiZXn tcImV5 GtcImV5 WtcImV5 mtcImV5 2tcImV5 rXCJle BrXCJle FrXCJle JrXCJle NrXCJle RrXCJle VrXCJle ZrXCJle drXCJle hrXCJle lrXCJle prXCJle trXCJle xrXCJle 1rXCJle 5rXCJle 9rXCJle rXCJleQ rXCJleR rXCJleS rXCJleT rXCJleU rXCJleV rXCJleW rXCJleX rXCJleY rXCJleZ rXCJlea rXCJleb rXCJlec rXCJled rXCJlee rXCJlef ";
+    let row: &[u8] = b"\
+        a1wiZX a1wiZXk a1wiZXl a1wiZXm a1wiZXn tcImV5 GtcImV5 WtcImV5 mtcImV5 2tcImV5 rXCJle BrXCJle \
+        FrXCJle JrXCJle NrXCJle RrXCJle VrXCJle ZrXCJle drXCJle hrXCJle lrXCJle prXCJle trXCJle xrXCJle \
+        1rXCJle 5rXCJle 9rXCJle rXCJleQ rXCJleR rXCJleS rXCJleT rXCJleU rXCJleV rXCJleW rXCJleX rXCJleY \
+        rXCJleZ rXCJlea rXCJleb rXCJlec rXCJled rXCJlee rXCJlef ";
     assert_eq!(rt; text.as_slice(), row);
 }
 
@@ -157,6 +174,15 @@ fn urls_of_digits(rt: HostRuntime) {
     let text = shown(rt.alloc(), patterns).expect(&rt, "memory");
     let row: &[u8] = b"612f622e %36%31%32%66%36%32%32%65 612F622E %36%31%32%46%36%32%32%45 ";
     assert_eq!(rt; text.as_slice(), row);
+}
+
+#[test]
+fn names_of_forms(rt: HostRuntime) {
+    assert!(rt; matches!(Form::of_name("base64"), Some(Form::Base64)));
+    assert!(rt; matches!(Form::of_name("lines"), Some(Form::Lines)));
+    assert!(rt; Form::of_name("Base64").is_none());
+    assert!(rt; Form::of_name("line").is_none());
+    assert_eq!(rt; Form::Shell.name(), "shell");
 }
 
 #[test]

@@ -3,9 +3,9 @@ use Rattle.std.proofs.Common.{rules}
 use Rattle.secret_forms.specs.Spelling.{url_byte}
 use Rattle.secret_forms.proofs.bytewise.push_url.Goals as goal
 
-pub returns-then-contains : goal.returns-then-contains
+pub returns-then-is_unencoded : goal.returns-then-is_unencoded
 unfolding url_byte
-returns-then-contains c = search rules
+returns-then-is_unencoded c = search rules
 
 pub returns-then-is_plus : goal.returns-then-is_plus
 unfolding url_byte

@@ -1,5 +1,5 @@
 -- What the inner form makes is among what was encoded again.
-use Rattle.std.proofs.Common.{◌∙◌, ap, arith, map}
+use Rattle.std.proofs.Common.{◌∙◌, ap, arith}
 use Rattle.secret_forms.specs.Patterns.{pattern_bytes}
 use Rattle.secret_forms.proofs.NestedLaw.{HidesNested-made}
 use Rattle.secret_forms.proofs.form.nested_forms.Goals as goal

@@ -2,7 +2,7 @@
 use Rattle.secret_forms.proofs.JsonAdds.{added-bytes, added-characters}
 use Rattle.secret_forms.proofs.Members.{OnOk-then}
 use Rattle.secret_forms.proofs.json_form.add_json.Goals as goal
-use Rattle.std.proofs.Common.{◌∙◌, ap, List, ℕ}
+use Rattle.std.proofs.Common.{◌∙◌, ap, List}
 use Rattle.secret_forms.specs.Patterns.{added_all, pattern_bytes}
 use Rattle.secret_forms.specs.Spelling.{spelled_by}
 use Rattle.secret_forms.specs.declared.bytewise.Spelling.{Spelling}

@@ -1,5 +1,5 @@
 -- At the end all lines are there.
-use Rattle.std.proofs.Common.{◌≡◌, ◌∙◌, ℕ, List, sym, ap, rules, tests}
+use Rattle.std.proofs.Common.{◌∙◌, sym, ap, rules, tests}
 use Rattle.std.specs.Prelude.{flat_map}
 use Rattle.std.proofs.lemmas.Iterator.Consumers.{YieldsList-end}
 use Rattle.std.proofs.lemmas.Iterator.Splits.{YieldsList-from_slice_split}

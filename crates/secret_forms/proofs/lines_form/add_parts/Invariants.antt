@@ -1,5 +1,5 @@
 -- The lines so far are there.
-use Rattle.std.proofs.Common.{◌≡◌, map}
+use Rattle.std.proofs.Common.{◌≡◌}
 use Rattle.std.specs.Prelude.{flat_map}
 use Rattle.secret_forms.specs.Lines.{long_line}
 use Rattle.secret_forms.specs.Patterns.{added_all, pattern_bytes}
