@@ -53,7 +53,7 @@ pub enum Told {
 /// `OutOfMemory` where memory runs out, and `Usage` where another argument is not UTF-8.
 pub fn arguments<R: Env + Alloc<A = Global>>(rt: &R) -> Result<Apart, failure::Failure>
     ensures set { IfOk result (λ apart. (given : List (List ℕ)) × IsSetApart Any given apart) }
-    ensures fails { IfErr result (λ failure. (failure ≡ OutOfMemory) ⊎ (failure ≡ Usage)) }
+    ensures fails { IfErr result (λ e. (e ≡ OutOfMemory) ⊎ (e ≡ Usage)) }
 {
     let Ok(given) = given(rt) else {
         return Err(failure::Failure::OutOfMemory);

@@ -52,7 +52,7 @@ use std::io::Read;
 /// As `items`: the arguments are wrong, or memory runs out.
 pub fn asks_in_place<'a>(alloc: Global, arguments: &'a [String]) -> Result<bool, Failure<'a>>
     ensures asked { IfOk result (AsksInPlace arguments.now) }
-    ensures wrong { IfErr result (λ failure. IsWrongFailure (texts arguments.now) failure) }
+    ensures wrong { IfErr result (IsWrongFailure (texts arguments.now)) }
 {
     match items(alloc, arguments) {
         Ok(given) => Ok(replaces_in_place(given.as_slice())),

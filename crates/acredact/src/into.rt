@@ -31,7 +31,7 @@ pub fn named_output<'a>(
 ) -> Result<Option<&'a str>, Failure<'a>>
     ensures named { IfOk result (λ name. NamesOutput arguments.now
         (option_map (λ name. name.now) name)) }
-    ensures wrong { IfErr result (λ failure. IsWrongFailure (texts arguments.now) failure) }
+    ensures wrong { IfErr result (IsWrongFailure (texts arguments.now)) }
 {
     match items(alloc, arguments) {
         Ok(given) => Ok(output_of(given.as_slice())),

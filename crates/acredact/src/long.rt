@@ -12,7 +12,7 @@ use call_options::found::Found;
 pub fn option_of(name: &[u8]) -> Result<Word, Mistake<'_>>
     ensures found { IfOk result (λ word. word_by_name name.now ≡ Some word) }
     ensures refused { IfErr result (λ mistake. word_by_name name.now ≡ None) }
-    ensures wrong { IfErr result (λ mistake. mistake_line mistake ≡ line_of_name name.now) }
+    ensures wrong { IfErr result (λ m. mistake_line m ≡ line_of_name name.now) }
 {
     match found_of(name).option() {
         Ok(word) => Ok(word),

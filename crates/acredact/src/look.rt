@@ -5,7 +5,7 @@ ghost use Rattle.std.specs.List.{concat};
 ghost use Rattle.aho_core.specs.Patterns.{Patterns};
 ghost use Rattle.aho_devices.specs.Counts.{counted};
 ghost use Rattle.aho_stream.specs.FindRuns.{FindsAlong};
-ghost use Rattle.aho_stream.specs.Iterators.{automaton_of};
+ghost use Rattle.aho_stream.specs.Iterators.{CanGoOn, automaton_of};
 ghost use Rattle.programs.specs.Streams.{bytes_left};
 ghost use Rattle.programs.specs.Telling.{TellsBytes};
 ghost use Rattle.acredact.specs.Checks.{IsLookOf, SeesSearched, look_lines, quest_of};
@@ -206,7 +206,7 @@ fn occurs_in<A: Automaton, R: Source>(
 fn has_next<'a, 'r, A: Automaton, R: Source>(
     finds: &mut StreamFindIter<'a, 'r, A, R>,
 ) -> Result<bool, StreamError>
-    requires ready { ⟦<StreamFindIter<'a, 'r, A, R> as Iterator>⟧.can_next finds.old }
+    requires ready { CanGoOn A.Automaton finds.old.chunks }
     requires along { (p : Patterns) → A.is_of (automaton_of finds.old.chunks) p → FindsAlong R.Source
         ⟦<StreamFindIter<'a, 'r, A, R> as Iterator>⟧.next_gives p finds.old }
     ensures same_source { finds.new.chunks.source.ghost_name ≡ finds.old.chunks.source.ghost_name }

@@ -20,7 +20,7 @@ use std::alloc::Global;
 pub fn build(alloc: Global, given: &[Item<'_>], patterns: &[&[u8]]) -> Result<NFA, BuildError>
     ensures of { IfOk result (λ nfa. ⟦<NFA as Automaton>⟧.is_of nfa
         (patterns_by_given (all_given given.now) (pieces_of patterns.now))) }
-    ensures starts { IfOk result (λ nfa. IsOk (⟦<NFA as Automaton>⟧.start nfa No)) }
+    ensures starts { IfOk result (λ n. IsOk (⟦<NFA as Automaton>⟧.start n No)) }
     ensures refused { IfErr result (RefusesPatterns
         (patterns_by_given (all_given given.now) (pieces_of patterns.now))) }
 {

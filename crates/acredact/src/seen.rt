@@ -68,7 +68,7 @@ impl Seen {
 /// What the system answers, or the reason why it does not.
 pub fn known<T>(answer: io::Result<T>) -> Result<T, Reason>
     ensures known { IfOk answer (λ value. result ≡ Ok value) }
-    ensures why { IfErr answer (λ error. result ≡ Err (reason_of (error_kind error))) }
+    ensures why { IfErr answer (λ e. result ≡ Err (reason_of (error_kind e))) }
 {
     match answer {
         Ok(known) => Ok(known),
