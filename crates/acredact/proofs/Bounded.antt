@@ -31,7 +31,7 @@ use Rattle.aho_devices.specs.declared.device.Source.{Ghosts as SourceGhosts}
 use Rattle.aho_stream.specs.Replacing.{SourceGave}
 use Rattle.aho_stream.specs.StreamRun.{CallsOn, CanBegin, RefusesAllUntouched, RunsAndLeaves, RunsLent, SinkTakes}
 use Rattle.programs.specs.Names.{is_input}
-use Rattle.acredact.specs.Bounds.{CountsGiven, GrowAtMost, NumbersGiven, NumbersOfAll, NumbersOfName, NumbersRead, ReadInAll, ReadsSome}
+use Rattle.acredact.specs.Bounds.{GrowFew, GrowAtMost, NumbersGiven, NumbersOfAll, NumbersOfName, NumbersRead, ReadInAll, ReadsSome}
 use Rattle.acredact.specs.Metering.{IsMetered, settled_left}
 use Rattle.acredact.specs.Secrets.{Redactor}
 use Rattle.acredact.specs.Streams.{StartsStream}
@@ -66,7 +66,7 @@ runs_few p text =
 
 -- so a cover counts no more than were given
 module _ {R W : Type 0} (S : SourceGhosts R) (K : SinkGhosts W) (AreSearched : Patterns → Type 0) (p : Patterns) (of : AreSearched p) (rule : PieceRule) (source source' : R) (sink sink' : W) (counts counts' : List ℕ) where
-  runs_given : CountsRuns S AreSearched source source' counts counts' → CountsGiven S source source' counts counts'
+  runs_given : CountsRuns S AreSearched source source' counts counts' → GrowFew S source source' counts counts'
   runs_given whole = record {
     given = whole.given;
     ended = true;
@@ -74,7 +74,7 @@ module _ {R W : Type 0} (S : SourceGhosts R) (K : SinkGhosts W) (AreSearched : P
     counted = grow_few (runs_upto p whole.given (length whole.given)) counts counts' (length whole.given) (whole.counted p (runs_upto p whole.given (length whole.given)) of (runs-made p whole.given)) (runs_few p whole.given);
   }
 
-  written_given : CountsWritten S K AreSearched rule source source' sink sink' counts counts' → CountsGiven S source source' counts counts'
+  written_given : CountsWritten S K AreSearched rule source source' sink sink' counts counts' → GrowFew S source source' counts counts'
   written_given some =
       let parts = some.beginning p some.given (runs_upto p some.given (length some.given)) of (no_more some.given some.ended) (runs-made p some.given) in
       let sizes : length (runs_upto p some.given (length some.given)) ≡ length some.first + length parts.0 = ap length parts.1 ∙ length-append some.first parts.0 in
@@ -85,12 +85,12 @@ module _ {R W : Type 0} (S : SourceGhosts R) (K : SinkGhosts W) (AreSearched : P
         counted = grow_few some.first counts counts' (length some.given) some.counted (omega (arith, sizes, runs_few p some.given));
       }
 
-  pub cover_given : (result : Result (Unit {0}) StreamError) → LeavesCounted S K AreSearched rule source source' sink sink' counts counts' result → CountsGiven S source source' counts counts'
+  pub cover_given : (result : Result (Unit {0}) StreamError) → LeavesCounted S K AreSearched rule source source' sink sink' counts counts' result → GrowFew S source source' counts counts'
   cover_given (Ok x) leaves = runs_given leaves.counted
   cover_given (Err error) leaves = written_given leaves.begun
 
 -- where nothing is counted nothing has grown
-pub ungrown : {R W : Type 0} (S : SourceGhosts R) {K : SinkGhosts W} {r : Redactor} (source source' : R) (sink sink' : W) (counts : List ℕ) → StartsStream S K r source source' sink sink' → CountsGiven S source source' counts counts
+pub ungrown : {R W : Type 0} (S : SourceGhosts R) {K : SinkGhosts W} {r : Redactor} (source source' : R) (sink sink' : W) (counts : List ℕ) → StartsStream S K r source source' sink sink' → GrowFew S source source' counts counts
 ungrown S source source' sink sink' counts begun = record { given = begun.given; ended = begun.ended; gives = begun.gives; counted = grow_none counts (length begun.given) }
 
 -- a run counts no more than it is called on
@@ -129,7 +129,7 @@ module _ {A R W F : Type 0} (G : Ghosts A) (S : SourceGhosts R) (K : SinkGhosts 
   by_answer f m matched old (Err reason) next new called = counts f m matched old (Err reason) next new called
 
   abbrev LentMost : F → Type 0
-  LentMost left = (name_of left ≡ name_of closure) × CountsGiven S source source' (counts_of closure) (counts_of left)
+  LentMost left = (name_of left ≡ name_of closure) × GrowFew S source source' (counts_of closure) (counts_of left)
 
   over_most : (result : Result (Unit {0}) StreamError) → RunsAndLeaves S K (G.is_of automaton) calls source source' closure sink result last sink' → LentMost last
   over_most result over =

@@ -7,7 +7,7 @@ use Rattle.programs.specs.Arguments.{texts}
 use Rattle.programs.specs.declared.failure.Failure.{Failure as OtherFailure}
 use Rattle.programs.specs.declared.failure.Failure.TheVariants.{OutOfMemory, Usage}
 use Rattle.acredact.specs.Arguments.{Given, ItemsSoFar, all_asked, by_argument, has}
-use Rattle.acredact.specs.Calls.{gives_pattern}
+use Rattle.acredact.specs.Calls.{IsWrongFailure, gives_pattern}
 use Rattle.acredact.specs.Messages.{line_about}
 use Rattle.acredact.specs.declared.apart.Apart.{Apart}
 use Rattle.acredact.specs.declared.apart.Told.{Told}
@@ -15,18 +15,23 @@ use Rattle.acredact.specs.declared.apart.Told.TheVariants.{Nothing, Each, EachAl
 use Rattle.acredact.specs.declared.arguments.Expects.{Expects}
 use Rattle.acredact.specs.declared.arguments.Expects.TheVariants.{Any, Value, Name}
 use Rattle.acredact.specs.declared.arguments.Word.TheVariants.{File, Help, Output, Version}
+use Rattle.acredact.specs.declared.failure.Failure.{Failure}
 
 -- the bytes of each name
-abbrev pub bytes_of : {Z : Type 0} → List (Vec ℕ Z) → List (List ℕ)
-bytes_of names = map (λ name. name.items) names
+abbrev pub texts_of : {Z : Type 0} → List (Vec ℕ Z) → List (List ℕ)
+texts_of names = map (λ name. name.items) names
 
 -- what is expected behind an argument; behind one that is wrong that does not matter
-abbrev pub next_by : Option ItemsSoFar → Expects
-next_by None = Any
-next_by (Some read) = read.next
+abbrev pub expected_by : Option ItemsSoFar → Expects
+expected_by None = Any
+expected_by (Some read) = read.next
 
 abbrev pub next_behind : Expects → List ℕ → Expects
-next_behind expects argument = next_by (by_argument expects argument [])
+next_behind expects argument = expected_by (by_argument expects argument [])
+
+-- that is answered
+abbrev pub IsBehind : Expects → List ℕ → Expects → Type 0
+IsBehind expects argument next = next ≡ next_behind expects argument
 
 -- no option
 abbrev pub is_plain : Form → Bool
@@ -43,11 +48,11 @@ names_file (Value word) argument = false
 names_file Name argument = true
 
 -- each of these arguments is UTF-8 or names a file: those that are, and the others, in order
-abbrev pub AreApart : Expects → List (List ℕ) → (arguments names : List (List ℕ)) → Type 0
-AreApart expects [] arguments names = (arguments ≡ []) × (names ≡ [])
-AreApart expects (one ∷ rest) arguments names =
-    (IsUtf8 one × (others : List (List ℕ)) × (arguments ≡ one ∷ others) × AreApart (next_behind expects one) rest others names)
-    ⊎ ((IsUtf8 one → ⊥) × (names_file expects one ≡ true) × (others : List (List ℕ)) × (names ≡ one ∷ others) × AreApart expects rest arguments others)
+abbrev pub AreSetApart : Expects → List (List ℕ) → (arguments names : List (List ℕ)) → Type 0
+AreSetApart expects [] arguments names = (arguments ≡ []) × (names ≡ [])
+AreSetApart expects (one ∷ rest) arguments names =
+    (IsUtf8 one × (others : List (List ℕ)) × (arguments ≡ one ∷ others) × AreSetApart (next_behind expects one) rest others names)
+    ⊎ ((IsUtf8 one → ⊥) × (names_file expects one ≡ true) × (others : List (List ℕ)) × (names ≡ one ∷ others) × AreSetApart expects rest arguments others)
 
 -- one of them is not UTF-8, and names no file
 abbrev pub HaveNoName : Expects → List (List ℕ) → Type 0
@@ -57,12 +62,24 @@ HaveNoName expects (one ∷ rest) =
     ⊎ ((IsUtf8 one → ⊥) × ((names_file expects one ≡ false) ⊎ ((names_file expects one ≡ true) × HaveNoName expects rest)))
 
 -- so all arguments of a call were set apart
-abbrev pub IsApart : Expects → List (List ℕ) → Apart → Type 0
-IsApart expects given apart = AreApart expects given (texts apart.arguments.items) (bytes_of apart.names.items)
+abbrev pub IsSetApart : Expects → List (List ℕ) → Apart → Type 0
+IsSetApart expects given apart = AreSetApart expects given (texts apart.arguments.items) (texts_of apart.names.items)
+
+-- those of some call
+abbrev pub IsFromCall : Apart → Type 0
+IsFromCall apart = (given : List (List ℕ)) × IsSetApart Any given apart
+
+-- why there are none: memory runs out, or one is wrong
+abbrev pub AreNone : OtherFailure → Type 0
+AreNone failure = (failure ≡ OutOfMemory) ⊎ (failure ≡ Usage)
 
 -- or they were not, since memory ran out or one of them is wrong
-abbrev pub IsNotApart : List (List ℕ) → OtherFailure → Type 0
-IsNotApart given failure = (failure ≡ OutOfMemory) ⊎ ((failure ≡ Usage) × HaveNoName Any given)
+abbrev pub IsNotSetApart : List (List ℕ) → OtherFailure → Type 0
+IsNotSetApart given failure = (failure ≡ OutOfMemory) ⊎ ((failure ≡ Usage) × HaveNoName Any given)
+
+-- those that are UTF-8 are wrong for this reason
+abbrev pub IsWrongApart : Apart → Failure → Type 0
+IsWrongApart apart failure = IsWrongFailure (texts apart.arguments.items) failure
 
 -- one argument more was put to those that are UTF-8
 pub record PutsText (expects : Expects) (argument : List ℕ) (next : Option Expects) (apart apart' : Apart) : Type 0 where
@@ -76,7 +93,7 @@ pub record PutsName (expects : Expects) (argument : List ℕ) (next : Option Exp
   pub no_text : IsUtf8 argument → ⊥
   pub is_name : names_file expects argument ≡ true
   pub next_is : next ≡ Some expects
-  pub put : bytes_of apart'.names.items ≡ bytes_of apart.names.items ++ (argument ∷ [])
+  pub put : texts_of apart'.names.items ≡ texts_of apart.names.items ++ (argument ∷ [])
   pub arguments : apart'.arguments ≡ apart.arguments
 
 -- or it is wrong
@@ -104,10 +121,10 @@ told_by given none =
     else if has Output given || not (has File given) then EachAlone
     else Each
 
-abbrev pub is_nothing : Told → Bool
-is_nothing Nothing = true
-is_nothing Each = false
-is_nothing EachAlone = false
+abbrev pub is_untold : Told → Bool
+is_untold Nothing = true
+is_untold Each = false
+is_untold EachAlone = false
 
 abbrev pub has_none : List (List ℕ) → Bool
 has_none [] = true
@@ -115,11 +132,11 @@ has_none (name ∷ names) = false
 
 -- it is so of the arguments of a call
 abbrev pub IsToldOf : Apart → Told → Type 0
-IsToldOf apart told = (given : List Given) × (all_asked (texts apart.arguments.items) ≡ Some given) × (told ≡ told_by given (has_none (bytes_of apart.names.items)))
+IsToldOf apart told = (given : List Given) × (all_asked (texts apart.arguments.items) ≡ Some given) × (told ≡ told_by given (has_none (texts_of apart.names.items)))
 
 -- the lines of that
 abbrev pub told_lines : Told → List (List ℕ) → List ℕ
-told_lines told names = if is_nothing told then [] else unnamed_lines names
+told_lines told names = if is_untold told then [] else unnamed_lines names
 
 -- the status of a call of which this was told, by that of its rest
 abbrev pub status_behind : Told → ℕ → ℕ

@@ -301,6 +301,10 @@ pub record GivesNoPattern (given : List Given) : Type 0 where
   pub no_patterns : has Patterns given ≡ false
   pub no_table : has Table given ≡ false
 
+-- what holds where it is so
+abbrev pub IfNoPattern : Type 0 → List Given → Type 0
+IfNoPattern Holds given = GivesNoPattern given → Holds
+
 -- what holds of the options and files that are given, where they ask for a redaction
 abbrev pub IfAsked : {Z : Type 0} → List (String Z) → (List Given → Type 0) → Type 0
 IfAsked arguments Holds = (given : List Given) → all_asked (texts arguments) ≡ Some given → AsksToRedact given → Holds given

@@ -20,7 +20,7 @@ pub record GrowAtMost (most : ℕ) (counts counts' : List ℕ) : Type 0 where
 
 module _ {R : Type 0} (S : SourceGhosts R) (source source' : R) (counts counts' : List ℕ) where
   -- no count has grown by more than a source gave
-  pub record CountsGiven : Type 0 where
+  pub record GrowFew : Type 0 where
     pub given : List ℕ
     pub ended : Bool
     pub gives : SourceGave S source source' given ended

@@ -21,7 +21,7 @@ use Rattle.programs.specs.declared.reason.Reason.{Reason}
 use Rattle.acredact.specs.Faults.{IsOutputEnd, IsReadReason}
 use Rattle.acredact.specs.Messages.{line_about, output_line}
 use Rattle.acredact.specs.Reads.{OfName, ReadsText}
-use Rattle.acredact.specs.Secrets.{BeginsRedaction, IfOf, IsPrompt, IsRedaction, IsWrittenUpTo, CanRedact, Keyed, NoneOccurs, Redactor, key_of_cover}
+use Rattle.acredact.specs.Secrets.{BeginsRedaction, IfOf, IsHeldBack, IsRedaction, IsWrittenUpTo, CanRedact, Keyed, NoneOccurs, Redactor, key_of_cover}
 use Rattle.acredact.specs.declared.files.Job.{Job}
 use Rattle.acredact.specs.declared.folder.Folder.{Ghosts as Folders}
 use Rattle.acredact.specs.declared.ways.Key.{Key}
@@ -97,7 +97,7 @@ pub record ReachesText (r : Redactor) (left left' held held' : Option (List ℕ)
   pub at_end : ended ≡ true → IsAtEnd left'
   pub place : ℕ
   pub within : place ≤ length given
-  pub prompt : IsPrompt r given place
+  pub prompt : IsHeldBack r given place
   pub written : IsWrittenUpTo r given ended place held held'
 
 -- the redaction of the file of this name was written

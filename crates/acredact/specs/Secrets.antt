@@ -104,8 +104,8 @@ BeginsRedaction r given ended part =
     (text : List ℕ) → MayBe given ended text → (redaction : List ℕ) × IsRedaction r text redaction × StartsWith redaction part
 
 -- each byte given from a place on lies in a match, or is among the last ones, that begin a pattern
-abbrev pub IsPrompt : Redactor → List ℕ → ℕ → Type 0
-IsPrompt r given place = (at : ℕ) → place ≤ at → at < length given → (IsCovered (OccursIn r.patterns (plain_search given)) at → ⊥) → MayGoOn r.patterns given at
+abbrev pub IsHeldBack : Redactor → List ℕ → ℕ → Type 0
+IsHeldBack r given place = (at : ℕ) → place ≤ at → at < length given → (IsCovered (OccursIn r.patterns (plain_search given)) at → ⊥) → MayGoOn r.patterns given at
 
 -- the redaction was written up to a place of all texts that begin with the bytes given
 abbrev pub IsWrittenUpTo : Redactor → List ℕ → Bool → ℕ → (held held' : Option (List ℕ)) → Type 0

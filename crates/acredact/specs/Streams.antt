@@ -11,7 +11,7 @@ use Rattle.aho_automaton.specs.declared.automaton.Automaton.{Ghosts}
 use Rattle.aho_stream.specs.After.{greatest_position}
 use Rattle.aho_stream.specs.Refills.{is_limit}
 use Rattle.aho_stream.specs.Replacing.{GaveAsMany, SourceGave}
-use Rattle.acredact.specs.Secrets.{BeginsRedaction, IfOf, IsPrompt, IsRedaction, IsWrittenUpTo, Redactor, redactor_by}
+use Rattle.acredact.specs.Secrets.{BeginsRedaction, IfOf, IsHeldBack, IsRedaction, IsWrittenUpTo, Redactor, redactor_by}
 use Rattle.acredact.specs.Faults.{IsStreamEnd}
 
 -- a piece was written, or a beginning of it where a write failed or took nothing
@@ -48,7 +48,7 @@ module _ {R W : Type 0} (S : SourceGhosts R) (K : SinkGhosts W) where
     pub gives : SourceGave S source source' given ended
     pub place : ℕ
     pub within : place ≤ length given
-    pub prompt : IsPrompt r given place
+    pub prompt : IsHeldBack r given place
     pub written : IsWrittenUpTo r given ended place (K.taken sink) (K.taken sink')
 
   -- what comes of a stream: a fault of a device is answered exactly where its count rose, and the limit where it was met

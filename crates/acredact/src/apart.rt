@@ -1,12 +1,9 @@
 //! Arguments that are not UTF-8. Those that name files are set apart and told, and the others are wrong.
 
-ghost use Rattle.std.specs.Prelude.{◌≡◌, ◌⊎◌, ℕ, List, IfErr, IfOk, OnErr, string_bytes};
-ghost use Rattle.programs.specs.Arguments.{texts};
+ghost use Rattle.std.specs.Prelude.{◌≡◌, IfErr, IfOk, OnErr, string_bytes};
 ghost use Rattle.programs.specs.Telling.{TellsBytes};
-ghost use Rattle.programs.specs.declared.failure.Failure.TheVariants.{OutOfMemory, Usage};
-ghost use Rattle.acredact.specs.Apart.{IsApart, IsNotApart, IsToldOf, Puts, bytes_of, names_file, next_behind, status_behind, told_by, told_lines, unnamed_lines};
+ghost use Rattle.acredact.specs.Apart.{AreNone, IsBehind, IsFromCall, IsNotSetApart, IsSetApart, IsToldOf, IsWrongApart, Puts, names_file, status_behind, texts_of, told_by, told_lines, unnamed_lines};
 ghost use Rattle.acredact.specs.Arguments.{all_given};
-ghost use Rattle.acredact.specs.Calls.{IsWrongFailure};
 ghost use Rattle.acredact.specs.declared.arguments.Expects.TheVariants.{Any};
 
 use crate::arguments::{Expects, Item, Mistake, Word, has, items, read};
@@ -52,8 +49,8 @@ pub enum Told {
 ///
 /// `OutOfMemory` where memory runs out, and `Usage` where another argument is not UTF-8.
 pub fn arguments<R: Env + Alloc<A = Global>>(rt: &R) -> Result<Apart, failure::Failure>
-    ensures set { IfOk result (λ apart. (given : List (List ℕ)) × IsApart Any given apart) }
-    ensures fails { IfErr result (λ failure. (failure ≡ OutOfMemory) ⊎ (failure ≡ Usage)) }
+    ensures set { IfOk result IsFromCall }
+    ensures fails { IfErr result AreNone }
 {
     let Ok(given) = given(rt) else {
         return Err(failure::Failure::OutOfMemory);
@@ -103,8 +100,8 @@ fn push_argument<R: Env + Alloc<A = Global>>(
 ///
 /// As `arguments`.
 fn set_apart(alloc: Global, given: &[Vec<u8>]) -> Result<Apart, failure::Failure>
-    ensures set { IfOk result (IsApart Any (bytes_of given.now)) }
-    ensures wrong { IfErr result (IsNotApart (bytes_of given.now)) }
+    ensures set { IfOk result (IsSetApart Any (texts_of given.now)) }
+    ensures wrong { IfErr result (IsNotSetApart (texts_of given.now)) }
 {
     let mut apart = Apart {
         arguments: Vec::new(alloc),
@@ -155,7 +152,7 @@ fn expected_behind(
     expects: Expects,
     argument: &String,
 ) -> Result<Expects, AllocError>
-    ensures next { IfOk result (λ next. next ≡ next_behind expects (string_bytes argument.now)) }
+    ensures next { IfOk result (IsBehind expects (string_bytes argument.now)) }
 {
     let mut items = Vec::new(alloc);
     match read(&mut items, expects, argument) {
@@ -188,8 +185,8 @@ pub fn tell_apart<'a, E: Sink>(
 ) -> Result<Told, Failure<'a>>
     ensures which { IfOk result (IsToldOf apart.now) }
     ensures told { IfOk result (λ told. TellsBytes E.Sink errors.old errors.new
-        (told_lines told (bytes_of apart.now.names.items))) }
-    ensures wrong { IfErr result (IsWrongFailure (texts apart.now.arguments.items)) }
+        (told_lines told (texts_of apart.now.names.items))) }
+    ensures wrong { IfErr result (IsWrongApart apart.now) }
     ensures untold { OnErr result (errors.new ≡ errors.old) }
 {
     match items(alloc, apart.arguments.as_slice()) {
@@ -218,7 +215,7 @@ fn told_by(given: &[Item<'_>], none: bool) -> Told
 
 /// Tells each of these files, where that is to be done.
 fn tell_names_by<E: Sink>(errors: &mut Errors<'_, E>, told: Told, names: &[Vec<u8>])
-    ensures told { TellsBytes E.Sink errors.old errors.new (told_lines told (bytes_of names.now)) }
+    ensures told { TellsBytes E.Sink errors.old errors.new (told_lines told (texts_of names.now)) }
 {
     match told {
         Told::Nothing => errors.write(&[]),
@@ -228,7 +225,7 @@ fn tell_names_by<E: Sink>(errors: &mut Errors<'_, E>, told: Told, names: &[Vec<u
 
 /// Tells each of these files.
 fn tell_names<E: Sink>(errors: &mut Errors<'_, E>, names: &[Vec<u8>])
-    ensures told { TellsBytes E.Sink errors.old errors.new (unnamed_lines (bytes_of names.now)) }
+    ensures told { TellsBytes E.Sink errors.old errors.new (unnamed_lines (texts_of names.now)) }
 {
     let mut rest = names;
     while let Some((name, behind)) = rest.split_first() {

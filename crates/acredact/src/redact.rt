@@ -5,7 +5,7 @@ ghost use Rattle.aho_core.specs.Patterns.{Patterns};
 ghost use Rattle.aho_core.specs.Replacement.{pieces_of};
 ghost use Rattle.aho_cover.specs.Counting.{CountsThese};
 ghost use Rattle.aho_cover.specs.Covers.{IsUnbegunCover};
-ghost use Rattle.acredact.specs.Bounds.{CountsGiven};
+ghost use Rattle.acredact.specs.Bounds.{GrowFew};
 ghost use Rattle.acredact.specs.Secrets.{CanRedact};
 ghost use Rattle.acredact.specs.Streams.{ComesOf, StreamOutcome, WritesPiece};
 ghost use Rattle.acredact.specs.Totals.{CountsBy, CountsOfStream};
@@ -43,7 +43,7 @@ pub fn cover<A: Automaton, R: Source, W: Sink>(
         replacements.now result source.old source.new sink.old sink.new }
     ensures counted { CountsBy A.Automaton R.Source start.old.automaton.now true replacements.now
         result source.old source.new counts.old counts.new }
-    ensures most { CountsGiven R.Source source.old source.new counts.old counts.new }
+    ensures most { GrowFew R.Source source.old source.new counts.old counts.new }
     ensures same { start.new.automaton.now ≡ start.old.automaton.now }
     ensures unbegun { IsUnbegunCover A.Automaton start.new.automaton.now start.new.progress }
 {
@@ -68,7 +68,7 @@ pub fn cover_by_pieces<A: Automaton, R: Source, W: Sink, P: Pieces>(
         (λ r. StreamOutcome R.Source W.Sink r result source.old source.new sink.old sink.new) }
     ensures counted { IfCoverer A.Automaton start.old.automaton.now (P.rule pieces.old)
         (λ r. OnOk result (CountsOfStream R.Source r source.old source.new counts.old counts.new)) }
-    ensures most { CountsGiven R.Source source.old source.new counts.old counts.new }
+    ensures most { GrowFew R.Source source.old source.new counts.old counts.new }
     ensures same { start.new.automaton.now ≡ start.old.automaton.now }
     ensures unbegun { IsUnbegunCover A.Automaton start.new.automaton.now start.new.progress }
     ensures rule { P.rule pieces.new ≡ P.rule pieces.old }
@@ -110,7 +110,7 @@ pub fn redact_counting<A: Automaton, R: Source, W: Sink>(
         result source.old source.new sink.old sink.new }
     ensures counted { CountsBy A.Automaton R.Source automaton.now false replacements.now
         result source.old source.new counts.old counts.new }
-    ensures most { CountsGiven R.Source source.old source.new counts.old counts.new }
+    ensures most { GrowFew R.Source source.old source.new counts.old counts.new }
 {
     let mut put = |found: &Match, _matched: &[u8], sink: &mut W| {
         put_counted(counts, replacements, found, sink)

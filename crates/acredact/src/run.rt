@@ -6,7 +6,7 @@ ghost use Rattle.programs.specs.Arguments.{texts};
 ghost use Rattle.programs.specs.Names.{name_bytes};
 ghost use Rattle.programs.specs.Streams.{WritesBytes, bytes_left};
 ghost use Rattle.programs.specs.Telling.{Tells, TellsBytes, TellsSome};
-ghost use Rattle.acredact.specs.Arguments.{AreMistaken, AsksToRedact, GivesNoPattern, IfAsked, IfChecking, IfNoCheck, IsCheck, RefusesUnclean, all_given, checks_asked, counts_asked, counts_given, has};
+ghost use Rattle.acredact.specs.Arguments.{AreMistaken, AsksToRedact, GivesNoPattern, IfAsked, IfChecking, IfNoCheck, IfNoPattern, IsCheck, RefusesUnclean, all_given, checks_asked, counts_asked, counts_given, has};
 ghost use Rattle.acredact.specs.Back.{AreBoth, FilesJob, IfBackIs, RowsCounts, RowsOutcome};
 ghost use Rattle.acredact.specs.Bounds.{JobNumbers};
 ghost use Rattle.acredact.specs.Calls.{AskedOutcome, BeginsAsked, CountsAsked, DoubtedOutcome, IsCountsFailure, IsCountsLine, IsPrintFailure, IsRefusedLine, IsWrongLine, KeylessOutcome, LeavesNoneAsked, LoadOutcome, NumbersAsked, NumbersToldAsked, OutputFails, ReadsAsked, RedactsAsked, TellsAsked, TellsAnyCounts, WarnedJob, WarnedOutcome, WarnsAsked, call_of, gives_pattern, keyed_as, names_asked, text_asked, work_by};
@@ -109,10 +109,10 @@ pub fn run<F: Folder, I: Read, W: Write, E: Sink>(
         → streams.new.output ≡ streams.old.output }
     ensures tells_wrong { AreMistaken arguments.now → TellsSome E.Sink
         (IsWrongLine (texts arguments.now)) streams.old.errors streams.new.errors }
-    ensures patternless { IfAsked arguments.now (λ given. GivesNoPattern given → result ≡ 2) }
+    ensures patternless { IfAsked arguments.now (IfNoPattern (result ≡ 2)) }
     ensures idle { IfAsked arguments.now (λ given.
         GivesNoPattern given → IsIdle streams.old streams.new) }
-    ensures check_patternless { IfChecking arguments.now (λ given. GivesNoPattern given → result ≡ 2) }
+    ensures check_patternless { IfChecking arguments.now (IfNoPattern (result ≡ 2)) }
     ensures check_idle { IfChecking arguments.now (λ given.
         GivesNoPattern given → IsIdle streams.old streams.new) }
 

@@ -1,7 +1,7 @@
 //! How streams are redacted, one after another.
 
 ghost use Rattle.std.specs.Prelude.{OnOk};
-ghost use Rattle.acredact.specs.Bounds.{CountsGiven};
+ghost use Rattle.acredact.specs.Bounds.{GrowFew};
 ghost use Rattle.acredact.specs.Secrets.{Redactor};
 ghost use Rattle.acredact.specs.Streams.{StreamOutcome};
 ghost use Rattle.acredact.specs.Totals.{CountsOfStream};
@@ -38,7 +38,7 @@ pub trait Way {
             result source.old source.new sink.old sink.new }
         ensures counted { (r : Redactor) → by self.old r → OnOk result (CountsOfStream R.Source r
             source.old source.new counts.old counts.new) }
-        ensures most { CountsGiven R.Source source.old source.new counts.old counts.new }
+        ensures most { GrowFew R.Source source.old source.new counts.old counts.new }
         ensures still { (r : Redactor) → by self.old r → by self.new r };
 }
 
