@@ -1,6 +1,9 @@
 pub mod Members
 pub mod Hiding
+pub mod EachLaw
 pub mod HexLaw
 pub mod Sextets
 pub mod Base64Law
 pub mod Alphabets
+pub mod FormLaw
+pub mod JsonAdds

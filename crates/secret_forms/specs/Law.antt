@@ -1,5 +1,5 @@
 -- What a form of a secret promises: of what was encoded with the secret within, no character that holds a bit of the secret is outside the patterns.
-use Rattle.std.specs.Prelude.{◌≡◌, ℕ, ◌+◌, ◌*◌, ◌<◌, ◌≤◌, Contains, List, ◌++◌, length, slice_index}
+use Rattle.std.specs.Prelude.{◌≡◌, ℕ, ◌+◌, ◌*◌, ◌<◌, ◌≤◌, Contains, List, ◌++◌, flat_map, length, slice_index}
 
 -- in an encoding by characters of `width` bits each, the character at a place holds a bit of the `size` bytes behind the first `before` ones
 pub record HoldsBit (width before size place : ℕ) : Type 0 where
@@ -25,3 +25,10 @@ abbrev pub HidesBits : ℕ → (List ℕ → List ℕ) → List (List ℕ) → L
 HidesBits width encode patterns secret =
     (before after ahead behind : List ℕ) (place : ℕ) → IsOfBytes after → HoldsBit width (length before) (length secret) place
     → IsHidden patterns (ahead ++ (encode (before ++ (secret ++ after)) ++ behind)) (length ahead + place)
+
+-- the same where each byte, or each character, is written on its own: no character that belongs to the secret is outside the patterns
+abbrev pub HidesEach : (ℕ → List ℕ) → List (List ℕ) → List ℕ → Type 0
+HidesEach write patterns secret =
+    (before after ahead behind : List ℕ) (place : ℕ) → length (flat_map write before) ≤ place
+    → place < length (flat_map write before) + length (flat_map write secret)
+    → IsHidden patterns (ahead ++ (flat_map write (before ++ (secret ++ after)) ++ behind)) (length ahead + place)

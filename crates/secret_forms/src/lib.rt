@@ -5,10 +5,23 @@
 #![tactic(auto)]
 
 mod base64_form;
+mod bytewise;
 mod error;
+mod form;
 mod hex_form;
+mod json_form;
+mod lines_form;
 mod listed;
+mod spelled_form;
 
 pub use base64_form::base64_forms;
+pub use bytewise::{Digits, Json, Kept, Marks, Quotes, Quoting, Space, Spelling};
 pub use error::FormError;
+pub use form::{Form, forms};
 pub use hex_form::hex_forms;
+pub use json_form::json_forms;
+pub use lines_form::lines_forms;
+pub use spelled_form::{shell_forms, spelled_forms, url_forms, xml_forms};
+
+#[cfg(test)]
+mod tests;

@@ -1,0 +1,20 @@
+-- Each way writes the byte as its words say.
+use Rattle.std.proofs.Common.{rules}
+use Rattle.secret_forms.specs.Spelling.{shell_byte}
+use Rattle.secret_forms.proofs.bytewise.push_shell.Goals as goal
+
+pub returns-in-Single : goal.returns-in-Single
+unfolding shell_byte
+returns-in-Single c = search rules
+
+pub returns-in-SingleByDouble : goal.returns-in-SingleByDouble
+unfolding shell_byte
+returns-in-SingleByDouble c = search rules
+
+pub returns-in-Double : goal.returns-in-Double
+unfolding shell_byte
+returns-in-Double c = search rules
+
+pub returns-in-Backslashes : goal.returns-in-Backslashes
+unfolding shell_byte
+returns-in-Backslashes c = search rules

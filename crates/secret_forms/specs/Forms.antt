@@ -1,0 +1,52 @@
+-- Forms by their names, and several at once.
+use Rattle.std.specs.Prelude.{ℕ, All, IsUtf8, List, flat_map}
+use Rattle.base64.specs.Engines.{standard, standard_no_pad, url_safe, url_safe_no_pad}
+use Rattle.base64.specs.GeneralPurpose.{encode_of}
+use Rattle.hex.specs.Hex.{encode_lower, encode_upper}
+use Rattle.secret_forms.specs.Base64.{base64_patterns}
+use Rattle.secret_forms.specs.Hex.{hex_patterns}
+use Rattle.secret_forms.specs.Json.{HidesCharacters, json_patterns, json_spellings, json_ways}
+use Rattle.secret_forms.specs.Law.{HidesBits}
+use Rattle.secret_forms.specs.Lines.{HidesLine, line_patterns}
+use Rattle.secret_forms.specs.Spelling.{HidesSpelled, shell_spellings, spelled_by, url_spellings, xml_spellings}
+use Rattle.secret_forms.specs.declared.form.Form.{Form}
+use Rattle.secret_forms.specs.declared.form.Form.TheVariants.{Base64, Hex, Url, Json, Xml, Shell, Lines}
+
+-- the patterns of a secret by a form
+abbrev pub form_patterns : List ℕ → Form → List (List ℕ)
+form_patterns secret Base64 = base64_patterns secret
+form_patterns secret Hex = hex_patterns secret
+form_patterns secret Url = spelled_by url_spellings secret
+form_patterns secret Json = json_patterns secret
+form_patterns secret Xml = spelled_by xml_spellings secret
+form_patterns secret Shell = spelled_by shell_spellings secret
+form_patterns secret Lines = line_patterns secret
+
+-- the patterns of a secret by each of some forms
+abbrev pub patterns_of : List Form → List ℕ → List (List ℕ)
+patterns_of forms secret = flat_map (form_patterns secret) forms
+
+-- the patterns of some patterns, each of them as a secret
+abbrev pub patterns_within : List Form → List (List ℕ) → List (List ℕ)
+patterns_within forms patterns = flat_map (patterns_of forms) patterns
+
+-- base64 with padding or without, of either alphabet
+abbrev pub HidesBase64 : List (List ℕ) → List ℕ → Type 0
+HidesBase64 patterns secret =
+    HidesBits 6 (encode_of standard) patterns secret × HidesBits 6 (encode_of standard_no_pad) patterns secret
+    × HidesBits 6 (encode_of url_safe) patterns secret × HidesBits 6 (encode_of url_safe_no_pad) patterns secret
+
+-- JSON strings of a text's own encoding, and those of ASCII alone where the secret is of whole characters
+abbrev pub HidesJson : List (List ℕ) → List ℕ → Type 0
+HidesJson patterns secret =
+    All (HidesSpelled patterns secret) json_spellings × (IsUtf8 secret → All (HidesCharacters patterns secret) json_ways)
+
+-- a form shows no character that holds a bit of the secret outside the patterns
+abbrev pub HidesForm : List (List ℕ) → List ℕ → Form → Type 0
+HidesForm patterns secret Base64 = HidesBase64 patterns secret
+HidesForm patterns secret Hex = HidesBits 4 encode_lower patterns secret × HidesBits 4 encode_upper patterns secret
+HidesForm patterns secret Url = All (HidesSpelled patterns secret) url_spellings
+HidesForm patterns secret Json = HidesJson patterns secret
+HidesForm patterns secret Xml = All (HidesSpelled patterns secret) xml_spellings
+HidesForm patterns secret Shell = All (HidesSpelled patterns secret) shell_spellings
+HidesForm patterns secret Lines = All (HidesLine patterns) (line_patterns secret)

@@ -1,0 +1,164 @@
+-- How encoders that work byte by byte write each byte.
+use Rattle.std.specs.Prelude.{ℕ, ◌+◌, not, ◌/◌, ◌%◌, ◌==◌, ◌&&◌, ◌||◌, Bool, true, false, codes, List, [], ◌∷◌, ◌++◌, map, nat_lt, if◌then◌else◌}
+use Rattle.std.specs.List.{flat_map, list_any}
+use Rattle.secret_forms.specs.Law.{HidesEach}
+use Rattle.secret_forms.specs.declared.bytewise.Kept.{Kept}
+use Rattle.secret_forms.specs.declared.bytewise.Kept.TheVariants.{Nothing, Unreserved, Slash, Component, Uri}
+use Rattle.secret_forms.specs.declared.bytewise.Space.{Space}
+use Rattle.secret_forms.specs.declared.bytewise.Space.TheVariants.{Encoded, Plus}
+use Rattle.secret_forms.specs.declared.bytewise.Digits.{Digits}
+use Rattle.secret_forms.specs.declared.bytewise.Digits.TheVariants.{Upper, Lower}
+use Rattle.secret_forms.specs.declared.bytewise.Marks.{Marks}
+use Rattle.secret_forms.specs.declared.bytewise.Marks.TheVariants.{Kept as KeptMarks, Slash as SlashMark, Markup, SlashAndMarkup}
+use Rattle.secret_forms.specs.declared.bytewise.Json.{Json}
+use Rattle.secret_forms.specs.declared.bytewise.Quotes.{Quotes}
+use Rattle.secret_forms.specs.declared.bytewise.Quotes.TheVariants.{Kept as KeptQuotes, Mixed, Named, Decimal, Hexadecimal}
+use Rattle.secret_forms.specs.declared.bytewise.Quoting.{Quoting}
+use Rattle.secret_forms.specs.declared.bytewise.Quoting.TheVariants.{Single, SingleByDouble, Double, Backslashes}
+use Rattle.secret_forms.specs.declared.bytewise.Spelling.{Spelling}
+use Rattle.secret_forms.specs.declared.bytewise.Spelling.TheVariants.{Url, Json as JsonString, Xml, Shell}
+
+-- letters, digits, `-`, `.`, `_` and `~`
+abbrev pub unreserved_text : List ℕ
+unreserved_text = codes "ABCDEFGHIJKLMNOPQRSTUVWXYZabcdefghijklmnopqrstuvwxyz0123456789-._~"
+
+-- the bytes that stand in a URL as they are
+abbrev pub kept_bytes : Kept → List ℕ
+kept_bytes Nothing = []
+kept_bytes Unreserved = unreserved_text
+kept_bytes Slash = unreserved_text ++ codes "/"
+kept_bytes Component = unreserved_text ++ codes "!'()*"
+kept_bytes Uri = unreserved_text ++ codes "!'()*;,/?:@&=+$#"
+
+-- a hexadecimal digit
+abbrev pub letter_base : Digits → ℕ
+letter_base Upper = 55
+letter_base Lower = 87
+
+abbrev pub digit : Digits → ℕ → ℕ
+digit digits value = if nat_lt value 10 then 48 + value else letter_base digits + value
+
+-- whether a space is written as `+`
+abbrev pub is_plus : Space → ℕ → Bool
+is_plus Encoded byte = false
+is_plus Plus byte = byte == 32
+
+-- a byte of a URL
+unfoldable pub url_byte : Kept → Space → Digits → ℕ → List ℕ
+url_byte kept space digits byte =
+    if list_any (λ one. one == byte) (kept_bytes kept) then byte ∷ []
+    else if is_plus space byte then 43 ∷ []
+    else 37 ∷ digit digits (byte / 16) ∷ digit digits (byte % 16) ∷ []
+
+-- a character, or half of a pair, by its number: `\u` and four digits
+abbrev pub json_unit : Digits → ℕ → List ℕ
+json_unit digits unit =
+    92 ∷ 117 ∷ digit digits (unit / 4096) ∷ digit digits (unit / 256 % 16) ∷ digit digits (unit / 16 % 16) ∷ digit digits (unit % 16) ∷ []
+
+-- whether `/` is escaped
+abbrev pub escapes_slash : Marks → Bool
+escapes_slash KeptMarks = false
+escapes_slash SlashMark = true
+escapes_slash Markup = false
+escapes_slash SlashAndMarkup = true
+
+-- whether `<`, `>` and `&` are escaped
+abbrev pub escapes_markup : Marks → Bool
+escapes_markup KeptMarks = false
+escapes_markup SlashMark = false
+escapes_markup Markup = true
+escapes_markup SlashAndMarkup = true
+
+-- whether JSON writes a byte by its number: a control character, or a mark that is escaped
+abbrev pub is_numbered : Marks → ℕ → Bool
+is_numbered marks byte = nat_lt byte 32 || (escapes_markup marks && list_any (λ one. one == byte) (codes "<>&"))
+
+-- a byte with a backslash before it, unless it stands as it is
+abbrev pub escaped_unless : Bool → ℕ → List ℕ
+escaped_unless is_kept byte = if is_kept then byte ∷ [] else 92 ∷ byte ∷ []
+
+-- a byte of a JSON string for which there is no letter
+unfoldable pub json_no_letter : Json → ℕ → List ℕ
+json_no_letter json byte =
+    if is_numbered json.marks byte then json_unit json.digits byte
+    else escaped_unless (not (byte == 47) || not (escapes_slash json.marks)) byte
+
+-- a byte of a JSON string: `\"`, `\\`, `\b`, `\t`, `\n`, `\f` and `\r`, or by its number, or as it is
+unfoldable pub json_byte : Json → ℕ → List ℕ
+json_byte json byte =
+    if byte == 34 then 92 ∷ 34 ∷ [] else if byte == 92 then 92 ∷ 92 ∷ [] else if byte == 8 then 92 ∷ 98 ∷ []
+    else if byte == 9 then 92 ∷ 116 ∷ [] else if byte == 10 then 92 ∷ 110 ∷ [] else if byte == 12 then 92 ∷ 102 ∷ []
+    else if byte == 13 then 92 ∷ 114 ∷ [] else json_no_letter json byte
+
+-- a double quote as XML and HTML write it
+abbrev pub double_quote : Quotes → List ℕ
+double_quote KeptQuotes = 34 ∷ []
+double_quote Mixed = codes "&quot;"
+double_quote Named = codes "&quot;"
+double_quote Decimal = codes "&#34;"
+double_quote Hexadecimal = codes "&quot;"
+
+-- a single quote as XML and HTML write it
+abbrev pub single_quote : Quotes → List ℕ
+single_quote KeptQuotes = 39 ∷ []
+single_quote Mixed = codes "&#39;"
+single_quote Named = codes "&apos;"
+single_quote Decimal = codes "&#39;"
+single_quote Hexadecimal = codes "&#x27;"
+
+-- a byte of XML or HTML: of `&`, `<`, `>` and the quotes a reference
+unfoldable pub xml_byte : Quotes → ℕ → List ℕ
+xml_byte quotes byte =
+    if byte == 38 then codes "&amp;" else if byte == 60 then codes "&lt;" else if byte == 62 then codes "&gt;"
+    else if byte == 34 then double_quote quotes else if byte == 39 then single_quote quotes else byte ∷ []
+
+-- whether a byte stands as it is in a word that is quoted by backslashes alone
+abbrev pub is_plain : ℕ → Bool
+is_plain byte = nat_lt 127 byte || list_any (λ one. one == byte) (codes "ABCDEFGHIJKLMNOPQRSTUVWXYZabcdefghijklmnopqrstuvwxyz0123456789@%+=:,./-_")
+
+-- a byte within single quotes, of which one is written so
+abbrev pub single_byte : List ℕ → ℕ → List ℕ
+single_byte quote byte = if byte == 39 then quote else byte ∷ []
+
+-- a byte of a shell's word
+unfoldable pub shell_byte : Quoting → ℕ → List ℕ
+shell_byte Single byte = single_byte (39 ∷ 92 ∷ 39 ∷ 39 ∷ []) byte
+shell_byte SingleByDouble byte = single_byte (39 ∷ 34 ∷ 39 ∷ 34 ∷ 39 ∷ []) byte
+shell_byte Double byte = escaped_unless (not (list_any (λ one. one == byte) (36 ∷ 96 ∷ 34 ∷ 92 ∷ []))) byte
+shell_byte Backslashes byte = escaped_unless (is_plain byte) byte
+
+-- a byte as an encoder writes it
+abbrev pub spelled_byte : Spelling → ℕ → List ℕ
+spelled_byte (Url kept space digits) byte = url_byte kept space digits byte
+spelled_byte (JsonString json) byte = json_byte json byte
+spelled_byte (Xml quotes) byte = xml_byte quotes byte
+spelled_byte (Shell quoting) byte = shell_byte quoting byte
+
+-- bytes as an encoder writes them
+abbrev pub spelled : Spelling → List ℕ → List ℕ
+spelled spelling bytes = flat_map (spelled_byte spelling) bytes
+
+-- a secret as each of some encoders writes it
+abbrev pub spelled_by : List Spelling → List ℕ → List (List ℕ)
+spelled_by spellings secret = map (λ spelling. spelled spelling secret) spellings
+
+-- with a space as any other byte and as `+`, and with digits in both cases
+abbrev pub url_of : Kept → List Spelling
+url_of kept = Url kept Encoded Upper ∷ Url kept Encoded Lower ∷ Url kept Plus Upper ∷ Url kept Plus Lower ∷ []
+
+-- the encoders of URLs
+abbrev pub url_spellings : List Spelling
+url_spellings =
+    url_of Unreserved ++ (url_of Slash ++ (url_of Component ++ (url_of Uri ++ (Url Nothing Encoded Upper ∷ Url Nothing Encoded Lower ∷ []))))
+
+-- the encoders of XML and HTML
+abbrev pub xml_spellings : List Spelling
+xml_spellings = Xml KeptQuotes ∷ Xml Mixed ∷ Xml Named ∷ Xml Decimal ∷ Xml Hexadecimal ∷ []
+
+-- the ways to quote a shell's word
+abbrev pub shell_spellings : List Spelling
+shell_spellings = Shell Single ∷ Shell SingleByDouble ∷ Shell Double ∷ Shell Backslashes ∷ []
+
+-- no character that belongs to the secret is outside the patterns
+abbrev pub HidesSpelled : List (List ℕ) → List ℕ → Spelling → Type 0
+HidesSpelled patterns secret spelling = HidesEach (spelled_byte spelling) patterns secret

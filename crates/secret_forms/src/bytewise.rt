@@ -1,0 +1,357 @@
+//! How encoders that work byte by byte write each byte.
+
+ghost use Rattle.std.specs.Prelude.{◌≡◌, ◌++◌, ◌<◌, IfOk, OnOk, [], ◌∷◌};
+ghost use Rattle.secret_forms.specs.Patterns.{AddsPatterns};
+ghost use Rattle.secret_forms.specs.Spelling as spec;
+
+use crate::listed::push_new;
+use std::alloc::{AllocError, Global};
+
+/// The bytes that stand in a URL as they are.
+#[derive(Clone, Copy, Debug, PartialEq, Eq)]
+pub enum Kept {
+    /// None: each byte is encoded.
+    Nothing,
+    /// The unreserved ones: letters, digits, `-`, `.`, `_` and `~`.
+    Unreserved,
+    /// These and `/`.
+    Slash,
+    /// What `encodeURIComponent` leaves.
+    Component,
+    /// What `encodeURI` leaves.
+    Uri,
+}
+
+/// How a URL's encoder writes a space.
+#[derive(Clone, Copy, Debug, PartialEq, Eq)]
+pub enum Space {
+    /// As any other byte.
+    Encoded,
+    /// As `+`.
+    Plus,
+}
+
+/// The letters among hexadecimal digits.
+#[derive(Clone, Copy, Debug, PartialEq, Eq)]
+pub enum Digits {
+    /// `A` to `F`.
+    Upper,
+    /// `a` to `f`.
+    Lower,
+}
+
+/// How XML and HTML write quotes.
+#[derive(Clone, Copy, Debug, PartialEq, Eq)]
+pub enum Quotes {
+    /// As they are.
+    Kept,
+    /// `&quot;` and `&#39;`.
+    Mixed,
+    /// `&quot;` and `&apos;`.
+    Named,
+    /// `&#34;` and `&#39;`.
+    Decimal,
+    /// `&quot;` and `&#x27;`.
+    Hexadecimal,
+}
+
+/// How a shell's word is quoted.
+#[derive(Clone, Copy, Debug, PartialEq, Eq)]
+pub enum Quoting {
+    /// Within single quotes, with `'\''` for one.
+    Single,
+    /// Within single quotes, with `'"'"'` for one.
+    SingleByDouble,
+    /// Within double quotes, with backslashes.
+    Double,
+    /// By backslashes alone.
+    Backslashes,
+}
+
+/// What JSON escapes beside quotes, backslashes and control characters.
+#[derive(Clone, Copy, Debug, PartialEq, Eq)]
+pub enum Marks {
+    /// Nothing.
+    Kept,
+    /// `/`.
+    Slash,
+    /// `<`, `>` and `&`, by their numbers.
+    Markup,
+    /// All four.
+    SlashAndMarkup,
+}
+
+/// How an encoder of JSON writes what it escapes.
+#[derive(Clone, Copy, Debug, PartialEq, Eq)]
+pub struct Json {
+    /// What it escapes beside what it has to.
+    pub marks: Marks,
+    /// The digits of a number.
+    pub digits: Digits,
+}
+
+/// How an encoder writes each byte.
+#[derive(Clone, Copy, Debug, PartialEq, Eq)]
+pub enum Spelling {
+    /// Percent-encoded.
+    Url(Kept, Space, Digits),
+    /// Within a JSON string, where characters beyond ASCII stand as they are.
+    Json(Json),
+    /// With references.
+    Xml(Quotes),
+    /// Quoted for a shell.
+    Shell(Quoting),
+}
+
+/// The bytes that stand in a URL as they are.
+fn kept_bytes(kept: Kept) -> &'static [u8]
+    ensures { result.now ≡ spec.kept_bytes kept }
+{
+    match kept {
+        Kept::Nothing => b"",
+        Kept::Unreserved => b"ABCDEFGHIJKLMNOPQRSTUVWXYZabcdefghijklmnopqrstuvwxyz0123456789-._~",
+        Kept::Slash => b"ABCDEFGHIJKLMNOPQRSTUVWXYZabcdefghijklmnopqrstuvwxyz0123456789-._~/",
+        Kept::Component => {
+            b"ABCDEFGHIJKLMNOPQRSTUVWXYZabcdefghijklmnopqrstuvwxyz0123456789-._~!'()*"
+        }
+        Kept::Uri => {
+            b"ABCDEFGHIJKLMNOPQRSTUVWXYZabcdefghijklmnopqrstuvwxyz0123456789-._~!'()*;,/?:@&=+$#"
+        }
+    }
+}
+
+/// A hexadecimal digit.
+fn digit(digits: Digits, value: u8) -> u8
+    requires { value < 16 }
+    ensures { result ≡ spec.digit digits value }
+{
+    if value < 10 {
+        return b'0' + value;
+    }
+    match digits {
+        Digits::Upper => b'A' - 10 + value,
+        Digits::Lower => b'a' - 10 + value,
+    }
+}
+
+/// Whether a space is written as `+`.
+fn is_plus(space: Space, byte: u8) -> bool
+    ensures { result ≡ spec.is_plus space byte }
+{
+    match space {
+        Space::Encoded => false,
+        Space::Plus => byte == b' ',
+    }
+}
+
+/// Writes a byte of a URL.
+fn push_url(
+    out: &mut Vec<u8>,
+    kept: Kept,
+    space: Space,
+    digits: Digits,
+    byte: u8,
+) -> Result<(), AllocError>
+    ensures url { OnOk result (out.new.items ≡ out.old.items ++ spec.url_byte kept space digits byte) }
+{
+    if kept_bytes(kept).contains(&byte) {
+        return out.extend_from_slice(&[byte]);
+    }
+    if is_plus(space, byte) {
+        return out.extend_from_slice(b"+");
+    }
+    out.extend_from_slice(&[b'%', digit(digits, byte / 16), digit(digits, byte % 16)])
+}
+
+/// Writes a character, or half of a pair, by its number: `\u` and four digits.
+pub(crate) fn push_unit(out: &mut Vec<u8>, digits: Digits, unit: u16) -> Result<(), AllocError>
+    ensures unit { OnOk result (out.new.items ≡ out.old.items ++ spec.json_unit digits unit) }
+{
+    let high = digit(digits, (unit / 4096) as u8);
+    let second = digit(digits, (unit / 256 % 16) as u8);
+    let third = digit(digits, (unit / 16 % 16) as u8);
+    let low = digit(digits, (unit % 16) as u8);
+    out.extend_from_slice(&[b'\\', b'u', high, second, third, low])
+}
+
+/// Whether `/` is escaped.
+fn escapes_slash(marks: Marks) -> bool
+    ensures { result ≡ spec.escapes_slash marks }
+{
+    match marks {
+        Marks::Kept | Marks::Markup => false,
+        Marks::Slash | Marks::SlashAndMarkup => true,
+    }
+}
+
+/// Whether `<`, `>` and `&` are escaped.
+fn escapes_markup(marks: Marks) -> bool
+    ensures { result ≡ spec.escapes_markup marks }
+{
+    match marks {
+        Marks::Kept | Marks::Slash => false,
+        Marks::Markup | Marks::SlashAndMarkup => true,
+    }
+}
+
+/// Whether JSON writes a byte by its number.
+fn is_numbered(marks: Marks, byte: u8) -> bool
+    ensures { result ≡ spec.is_numbered marks byte }
+{
+    byte < 32 || escapes_markup(marks) && b"<>&".contains(&byte)
+}
+
+/// Writes a byte of a JSON string for which there is no letter.
+fn push_no_letter(out: &mut Vec<u8>, json: Json, byte: u8) -> Result<(), AllocError>
+    ensures json { OnOk result (out.new.items ≡ out.old.items ++ spec.json_no_letter json byte) }
+{
+    if is_numbered(json.marks, byte) {
+        return push_unit(out, json.digits, u16::from(byte));
+    }
+    push_escaped(out, byte != b'/' || !escapes_slash(json.marks), byte)
+}
+
+/// Writes a byte of a JSON string.
+pub(crate) fn push_json(out: &mut Vec<u8>, json: Json, byte: u8) -> Result<(), AllocError>
+    ensures json { OnOk result (out.new.items ≡ out.old.items ++ spec.json_byte json byte) }
+{
+    match byte {
+        b'"' => out.extend_from_slice(b"\\\""),
+        b'\\' => out.extend_from_slice(b"\\\\"),
+        8 => out.extend_from_slice(b"\\b"),
+        9 => out.extend_from_slice(b"\\t"),
+        10 => out.extend_from_slice(b"\\n"),
+        12 => out.extend_from_slice(b"\\f"),
+        13 => out.extend_from_slice(b"\\r"),
+        _ => push_no_letter(out, json, byte),
+    }
+}
+
+/// A double quote as XML and HTML write it.
+fn double_quote(quotes: Quotes) -> &'static [u8]
+    ensures { result.now ≡ spec.double_quote quotes }
+{
+    match quotes {
+        Quotes::Kept => b"\"",
+        Quotes::Mixed | Quotes::Named | Quotes::Hexadecimal => b"&quot;",
+        Quotes::Decimal => b"&#34;",
+    }
+}
+
+/// A single quote as XML and HTML write it.
+fn single_quote(quotes: Quotes) -> &'static [u8]
+    ensures { result.now ≡ spec.single_quote quotes }
+{
+    match quotes {
+        Quotes::Kept => b"'",
+        Quotes::Mixed | Quotes::Decimal => b"&#39;",
+        Quotes::Named => b"&apos;",
+        Quotes::Hexadecimal => b"&#x27;",
+    }
+}
+
+/// Writes a byte of XML or HTML.
+fn push_xml(out: &mut Vec<u8>, quotes: Quotes, byte: u8) -> Result<(), AllocError>
+    ensures xml { OnOk result (out.new.items ≡ out.old.items ++ spec.xml_byte quotes byte) }
+{
+    match byte {
+        b'&' => out.extend_from_slice(b"&amp;"),
+        b'<' => out.extend_from_slice(b"&lt;"),
+        b'>' => out.extend_from_slice(b"&gt;"),
+        b'"' => out.extend_from_slice(double_quote(quotes)),
+        b'\'' => out.extend_from_slice(single_quote(quotes)),
+        _ => out.extend_from_slice(&[byte]),
+    }
+}
+
+/// Whether a byte stands as it is in a word that is quoted by backslashes alone.
+fn is_plain(byte: u8) -> bool
+    ensures { result ≡ spec.is_plain byte }
+{
+    byte > 127
+        || b"ABCDEFGHIJKLMNOPQRSTUVWXYZabcdefghijklmnopqrstuvwxyz0123456789@%+=:,./-_".contains(
+            &byte,
+        )
+}
+
+/// Writes a byte with a backslash before it, unless it stands as it is.
+fn push_escaped(out: &mut Vec<u8>, is_kept: bool, byte: u8) -> Result<(), AllocError>
+    ensures escaped { OnOk result (out.new.items ≡ out.old.items ++ spec.escaped_unless is_kept byte) }
+{
+    if is_kept {
+        return out.extend_from_slice(&[byte]);
+    }
+    out.extend_from_slice(&[b'\\', byte])
+}
+
+/// Writes a byte within single quotes.
+fn push_single(out: &mut Vec<u8>, quote: &[u8], byte: u8) -> Result<(), AllocError>
+    ensures single { OnOk result (out.new.items ≡ out.old.items ++ spec.single_byte quote.now byte) }
+{
+    if byte == b'\'' {
+        return out.extend_from_slice(quote);
+    }
+    out.extend_from_slice(&[byte])
+}
+
+/// Writes a byte of a shell's word.
+fn push_shell(out: &mut Vec<u8>, quoting: Quoting, byte: u8) -> Result<(), AllocError>
+    ensures shell { OnOk result (out.new.items ≡ out.old.items ++ spec.shell_byte quoting byte) }
+{
+    match quoting {
+        Quoting::Single => push_single(out, b"'\\''", byte),
+        Quoting::SingleByDouble => push_single(out, b"'\"'\"'", byte),
+        Quoting::Double => push_escaped(out, !b"$`\"\\".contains(&byte), byte),
+        Quoting::Backslashes => push_escaped(out, is_plain(byte), byte),
+    }
+}
+
+/// Writes a byte as an encoder does.
+fn push_spelled(out: &mut Vec<u8>, spelling: Spelling, byte: u8) -> Result<(), AllocError>
+    ensures byte { OnOk result (out.new.items ≡ out.old.items ++ spec.spelled_byte spelling byte) }
+{
+    match spelling {
+        Spelling::Url(kept, space, digits) => push_url(out, kept, space, digits, byte),
+        Spelling::Json(json) => push_json(out, json, byte),
+        Spelling::Xml(quotes) => push_xml(out, quotes, byte),
+        Spelling::Shell(quoting) => push_shell(out, quoting, byte),
+    }
+}
+
+/// A secret as an encoder writes it.
+fn spelled(alloc: Global, secret: &[u8], spelling: Spelling) -> Result<Vec<u8>, AllocError>
+    ensures whole { IfOk result (λ v. v.items ≡ spec.spelled spelling secret.now) }
+{
+    let mut out = Vec::new(alloc);
+    for byte in secret {
+        push_spelled(&mut out, spelling, *byte)?;
+    }
+    Ok(out)
+}
+
+/// Adds a secret as an encoder writes it.
+fn add_one(
+    alloc: Global,
+    secret: &[u8],
+    spelling: Spelling,
+    patterns: &mut Vec<Vec<u8>>,
+) -> Result<(), AllocError>
+    ensures one { OnOk result (AddsPatterns patterns.old patterns.new (spec.spelled spelling secret.now ∷ [])) }
+{
+    push_new(patterns, spelled(alloc, secret, spelling)?)
+}
+
+/// Adds a secret as each of some encoders writes it.
+pub(crate) fn add_spelled(
+    alloc: Global,
+    secret: &[u8],
+    spellings: &[Spelling],
+    patterns: &mut Vec<Vec<u8>>,
+) -> Result<(), AllocError>
+    ensures all { OnOk result (AddsPatterns patterns.old patterns.new (spec.spelled_by spellings.now secret.now)) }
+{
+    for spelling in spellings {
+        add_one(alloc, secret, *spelling, patterns)?;
+    }
+    Ok(())
+}

@@ -1,0 +1,118 @@
+//! A secret as encoders write it that work byte by byte.
+//!
+//! The encoding of some bytes is that of the first ones, and then that of the others. So that of a secret stands whole wherever the
+//! secret does, also where a character is cut in two: an encoder that works by bytes does not see characters.
+
+ghost use Rattle.std.specs.Prelude.{◌≡◌, ◌<◌, All, Err, IfErr, IfOk, [], length};
+ghost use Rattle.secret_forms.specs.Patterns.{added_all, pattern_bytes};
+ghost use Rattle.secret_forms.specs.Spelling.{HidesSpelled, shell_spellings, spelled_by, url_spellings, xml_spellings};
+ghost use Rattle.secret_forms.specs.declared.error.FormError.TheVariants.{TooShort};
+
+use crate::bytewise::{Digits, Kept, Quotes, Quoting, Space, Spelling, add_spelled};
+use crate::error::{FormError, SHORTEST};
+use std::alloc::Global;
+
+/// A secret as each of some encoders writes it.
+///
+/// Of bytes with the secret within, such an encoder shows no character of the secret outside these patterns.
+pub fn spelled_forms(
+    alloc: Global,
+    secret: &[u8],
+    spellings: &[Spelling],
+) -> Result<Vec<Vec<u8>>, FormError>
+    ensures short { length secret.now < 4 → result ≡ Err TooShort }
+    ensures long { IfErr result (λ e. e ≡ TooShort → length secret.now < 4) }
+    ensures value { IfOk result (λ v. pattern_bytes v.items ≡ added_all [] (spelled_by spellings.now secret.now)) }
+    ensures law { IfOk result (λ v. All (HidesSpelled (pattern_bytes v.items) secret.now) spellings.now) }
+{
+    if secret.len() < SHORTEST {
+        return Err(FormError::TooShort);
+    }
+    let mut patterns = Vec::new(alloc);
+    add_spelled(alloc, secret, spellings, &mut patterns)?;
+    Ok(patterns)
+}
+
+/// The encoders of URLs: with the unreserved bytes left, with `/` too, `encodeURIComponent` and `encodeURI`, each with a space as any
+/// other byte and as `+`, and each byte encoded; with digits in both cases.
+pub(crate) fn url_encoders() -> [Spelling; 18]
+    ensures { result ≡ url_spellings }
+{
+    let (encoded, plus) = (Space::Encoded, Space::Plus);
+    let (upper, lower) = (Digits::Upper, Digits::Lower);
+    [
+        Spelling::Url(Kept::Unreserved, encoded, upper),
+        Spelling::Url(Kept::Unreserved, encoded, lower),
+        Spelling::Url(Kept::Unreserved, plus, upper),
+        Spelling::Url(Kept::Unreserved, plus, lower),
+        Spelling::Url(Kept::Slash, encoded, upper),
+        Spelling::Url(Kept::Slash, encoded, lower),
+        Spelling::Url(Kept::Slash, plus, upper),
+        Spelling::Url(Kept::Slash, plus, lower),
+        Spelling::Url(Kept::Component, encoded, upper),
+        Spelling::Url(Kept::Component, encoded, lower),
+        Spelling::Url(Kept::Component, plus, upper),
+        Spelling::Url(Kept::Component, plus, lower),
+        Spelling::Url(Kept::Uri, encoded, upper),
+        Spelling::Url(Kept::Uri, encoded, lower),
+        Spelling::Url(Kept::Uri, plus, upper),
+        Spelling::Url(Kept::Uri, plus, lower),
+        Spelling::Url(Kept::Nothing, encoded, upper),
+        Spelling::Url(Kept::Nothing, encoded, lower),
+    ]
+}
+
+/// A secret as a URL shows it, percent-encoded.
+pub fn url_forms(alloc: Global, secret: &[u8]) -> Result<Vec<Vec<u8>>, FormError>
+    ensures short { length secret.now < 4 → result ≡ Err TooShort }
+    ensures long { IfErr result (λ e. e ≡ TooShort → length secret.now < 4) }
+    ensures value { IfOk result (λ v. pattern_bytes v.items ≡ added_all [] (spelled_by url_spellings secret.now)) }
+    ensures law { IfOk result (λ v. All (HidesSpelled (pattern_bytes v.items) secret.now) url_spellings) }
+{
+    spelled_forms(alloc, secret, &url_encoders())
+}
+
+/// The encoders of XML and HTML: with quotes as they are, and as named, decimal and hexadecimal references.
+pub(crate) fn xml_encoders() -> [Spelling; 5]
+    ensures { result ≡ xml_spellings }
+{
+    [
+        Spelling::Xml(Quotes::Kept),
+        Spelling::Xml(Quotes::Mixed),
+        Spelling::Xml(Quotes::Named),
+        Spelling::Xml(Quotes::Decimal),
+        Spelling::Xml(Quotes::Hexadecimal),
+    ]
+}
+
+/// A secret as XML and HTML show it, with named, decimal or hexadecimal references.
+pub fn xml_forms(alloc: Global, secret: &[u8]) -> Result<Vec<Vec<u8>>, FormError>
+    ensures short { length secret.now < 4 → result ≡ Err TooShort }
+    ensures long { IfErr result (λ e. e ≡ TooShort → length secret.now < 4) }
+    ensures value { IfOk result (λ v. pattern_bytes v.items ≡ added_all [] (spelled_by xml_spellings secret.now)) }
+    ensures law { IfOk result (λ v. All (HidesSpelled (pattern_bytes v.items) secret.now) xml_spellings) }
+{
+    spelled_forms(alloc, secret, &xml_encoders())
+}
+
+/// The ways to quote a shell's word.
+pub(crate) fn shell_encoders() -> [Spelling; 4]
+    ensures { result ≡ shell_spellings }
+{
+    [
+        Spelling::Shell(Quoting::Single),
+        Spelling::Shell(Quoting::SingleByDouble),
+        Spelling::Shell(Quoting::Double),
+        Spelling::Shell(Quoting::Backslashes),
+    ]
+}
+
+/// A secret as it is quoted for a shell: within single quotes, within double quotes, or by backslashes.
+pub fn shell_forms(alloc: Global, secret: &[u8]) -> Result<Vec<Vec<u8>>, FormError>
+    ensures short { length secret.now < 4 → result ≡ Err TooShort }
+    ensures long { IfErr result (λ e. e ≡ TooShort → length secret.now < 4) }
+    ensures value { IfOk result (λ v. pattern_bytes v.items ≡ added_all [] (spelled_by shell_spellings secret.now)) }
+    ensures law { IfOk result (λ v. All (HidesSpelled (pattern_bytes v.items) secret.now) shell_spellings) }
+{
+    spelled_forms(alloc, secret, &shell_encoders())
+}

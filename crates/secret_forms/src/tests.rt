@@ -1,0 +1,164 @@
+//! Rows of Python's own encoders: `bytes.hex`, `base64.b64encode` of the secret with each byte that can stand beside it,
+//! `urllib.parse.quote`, `json.dumps`, `xml.sax.saxutils.escape` and `shlex.quote`.
+
+use crate::{
+    Form, FormError, base64_forms, forms, hex_forms, json_forms, lines_forms, shell_forms,
+    url_forms, xml_forms,
+};
+use std::alloc::Global;
+
+/// The patterns of a form, each with a space behind it.
+fn shown(alloc: Global, forms: Result<Vec<Vec<u8>>, FormError>) -> Result<Vec<u8>, FormError> {
+    let mut text = Vec::new(alloc);
+    for pattern in &forms? {
+        text.extend_from_slice(pattern)?;
+        text.extend_from_slice(b" ")?;
+    }
+    Ok(text)
+}
+
+#[test]
+fn hex_in_both_cases(rt: HostRuntime) {
+    let text = shown(rt.alloc(), hex_forms(rt.alloc(), b"key=\xff")).expect(&rt, "memory");
+    assert_eq!(rt; text.as_slice(), b"6b65793dff 6B65793DFF ".as_slice());
+}
+
+#[test]
+fn hex_of_digits_alone(rt: HostRuntime) {
+    let text = shown(rt.alloc(), hex_forms(rt.alloc(), b"1234")).expect(&rt, "memory");
+    assert_eq!(rt; text.as_slice(), b"31323334 ".as_slice());
+}
+
+#[test]
+fn base64_where_the_alphabets_agree(rt: HostRuntime) {
+    let text = shown(rt.alloc(), base64_forms(rt.alloc(), b"key=")).expect(&rt, "memory");
+    let row: &[u8] =
+        b"a2V5P a2V5PQ a2V5PR a2V5PS a2V5PT a2V5PU a2V5PV a2V5PW a2V5PX a2V5PY a2V5PZ a2V5Pa a2V5Pb a2V5Pc a2V5Pd a2V5Pe a2V5Pf tleT GtleT WtleT mtleT 2tleT tleT0 tleT1 tleT2 tleT3 rZXk9 BrZXk9 FrZXk9 JrZXk9 NrZXk9 RrZXk9 VrZXk9 ZrZXk9 drZXk9 hrZXk9 lrZXk9 prZXk9 trZXk9 xrZXk9 1rZXk9 5rZXk9 9rZXk9 ";
+    assert_eq!(rt; text.as_slice(), row);
+}
+
+#[test]
+fn base64_where_the_alphabets_differ(rt: HostRuntime) {
+    let text = shown(rt.alloc(), base64_forms(rt.alloc(), b"a?>\xff")).expect(&rt, "memory");
+    let row: &[u8] =
+        b"YT8+/ YT8+/w YT8+/x YT8+/y YT8+/z YT8+/0 YT8+/1 YT8+/2 YT8+/3 YT8+/4 YT8+/5 YT8+/6 YT8+/7 YT8+/8 YT8+/9 YT8+/+ YT8+// E/Pv GE/Pv WE/Pv mE/Pv 2E/Pv E/Pv8 E/Pv9 E/Pv+ E/Pv/ hPz7/ BhPz7/ FhPz7/ JhPz7/ NhPz7/ RhPz7/ VhPz7/ ZhPz7/ dhPz7/ hhPz7/ lhPz7/ phPz7/ thPz7/ xhPz7/ 1hPz7/ 5hPz7/ 9hPz7/ YT8-_ YT8-_w YT8-_x YT8-_y YT8-_z YT8-_0 YT8-_1 YT8-_2 YT8-_3 YT8-_4 YT8-_5 YT8-_6 YT8-_7 YT8-_8 YT8-_9 YT8-_- YT8-__ E_Pv GE_Pv WE_Pv mE_Pv 2E_Pv E_Pv8 E_Pv9 E_Pv- E_Pv_ hPz7_ BhPz7_ FhPz7_ JhPz7_ NhPz7_ RhPz7_ VhPz7_ ZhPz7_ dhPz7_ hhPz7_ lhPz7_ phPz7_ thPz7_ xhPz7_ 1hPz7_ 5hPz7_ 9hPz7_ ";
+    assert_eq!(rt; text.as_slice(), row);
+}
+
+#[test]
+fn url_by_each_encoder(rt: HostRuntime) {
+    let text = shown(rt.alloc(), url_forms(rt.alloc(), b"a b/'?\xff")).expect(&rt, "memory");
+    let row: &[u8] =
+        b"a%20b%2F%27%3F%FF a%20b%2f%27%3f%ff a+b%2F%27%3F%FF a+b%2f%27%3f%ff a%20b/%27%3F%FF a%20b/%27%3f%ff a+b/%27%3F%FF a+b/%27%3f%ff a%20b%2F'%3F%FF a%20b%2f'%3f%ff a+b%2F'%3F%FF a+b%2f'%3f%ff a%20b/'?%FF a%20b/'?%ff a+b/'?%FF a+b/'?%ff %61%20%62%2F%27%3F%FF %61%20%62%2f%27%3f%ff ";
+    assert_eq!(rt; text.as_slice(), row);
+}
+
+#[test]
+fn url_of_bytes_that_are_kept(rt: HostRuntime) {
+    let text = shown(rt.alloc(), url_forms(rt.alloc(), b"key-1.2")).expect(&rt, "memory");
+    let row: &[u8] = b"key-1.2 %6B%65%79%2D%31%2E%32 %6b%65%79%2d%31%2e%32 ";
+    assert_eq!(rt; text.as_slice(), row);
+}
+
+#[test]
+fn json_by_each_encoder(rt: HostRuntime) {
+    let text = shown(rt.alloc(), json_forms(rt.alloc(), b"\xc3\xa9/\"\\<\x01")).expect(
+        &rt, "memory",
+    );
+    let row: &[u8] =
+        b"\xc3\xa9/\\\"\\\\<\\u0001 \xc3\xa9\\/\\\"\\\\<\\u0001 \xc3\xa9/\\\"\\\\\\u003c\\u0001 \xc3\xa9/\\\"\\\\\\u003C\\u0001 \xc3\xa9\\/\\\"\\\\\\u003c\\u0001 \xc3\xa9\\/\\\"\\\\\\u003C\\u0001 \\u00e9/\\\"\\\\<\\u0001 \\u00E9/\\\"\\\\<\\u0001 \\u00e9\\/\\\"\\\\<\\u0001 \\u00E9\\/\\\"\\\\<\\u0001 \\u00e9/\\\"\\\\\\u003c\\u0001 \\u00E9/\\\"\\\\\\u003C\\u0001 \\u00e9\\/\\\"\\\\\\u003c\\u0001 \\u00E9\\/\\\"\\\\\\u003C\\u0001 ";
+    assert_eq!(rt; text.as_slice(), row);
+}
+
+#[test]
+fn json_of_a_surrogate_pair(rt: HostRuntime) {
+    let text = shown(
+        rt.alloc(),
+        json_forms(rt.alloc(), b"key\xf0\x9f\x98\x80\x7f"),
+    )
+    .expect(&rt, "memory");
+    let row: &[u8] = b"key\xf0\x9f\x98\x80\x7f key\\ud83d\\ude00\\u007f key\\uD83D\\uDE00\\u007F ";
+    assert_eq!(rt; text.as_slice(), row);
+}
+
+#[test]
+fn json_with_letters(rt: HostRuntime) {
+    let text = shown(rt.alloc(), json_forms(rt.alloc(), b"k\x08\x09\n\x0c\r")).expect(
+        &rt, "memory",
+    );
+    let row: &[u8] = b"k\\b\\t\\n\\f\\r ";
+    assert_eq!(rt; text.as_slice(), row);
+}
+
+#[test]
+fn xml_by_each_encoder(rt: HostRuntime) {
+    let text = shown(rt.alloc(), xml_forms(rt.alloc(), b"<\"&'>")).expect(&rt, "memory");
+    let row: &[u8] =
+        b"&lt;\"&amp;'&gt; &lt;&quot;&amp;&#39;&gt; &lt;&quot;&amp;&apos;&gt; &lt;&#34;&amp;&#39;&gt; &lt;&quot;&amp;&#x27;&gt; ";
+    assert_eq!(rt; text.as_slice(), row);
+}
+
+#[test]
+fn shell_by_each_way(rt: HostRuntime) {
+    let text = shown(rt.alloc(), shell_forms(rt.alloc(), b"a'b\"$ \\")).expect(&rt, "memory");
+    let row: &[u8] = b"a'\\''b\"$ \\ a'\"'\"'b\"$ \\ a'b\\\"\\$ \\\\ a\\'b\\\"\\$\\ \\\\ ";
+    assert_eq!(rt; text.as_slice(), row);
+}
+
+#[test]
+fn lines_of_eight_bytes(rt: HostRuntime) {
+    let text = shown(
+        rt.alloc(),
+        lines_forms(rt.alloc(), b"-----BEGIN\r\nAAAABBBB\nshort\n12345678"),
+    )
+    .expect(&rt, "memory");
+    let row: &[u8] = b"-----BEGIN AAAABBBB 12345678 ";
+    assert_eq!(rt; text.as_slice(), row);
+}
+
+#[test]
+fn lines_of_one_line(rt: HostRuntime) {
+    let text = shown(rt.alloc(), lines_forms(rt.alloc(), b"one line alone")).expect(&rt, "memory");
+    let row: &[u8] = b"";
+    assert_eq!(rt; text.as_slice(), row);
+}
+
+#[test]
+fn json_of_no_text(rt: HostRuntime) {
+    let text = shown(rt.alloc(), json_forms(rt.alloc(), b"\xa9key")).expect(&rt, "memory");
+    assert_eq!(rt; text.as_slice(), b"\xa9key ".as_slice());
+}
+
+#[test]
+fn forms_in_their_order(rt: HostRuntime) {
+    let chosen = [Form::Hex, Form::Url, Form::Hex, Form::Shell];
+    let text = shown(rt.alloc(), forms(rt.alloc(), b"key.", &chosen)).expect(&rt, "memory");
+    let row: &[u8] = b"6b65792e 6B65792E key. %6B%65%79%2E %6b%65%79%2e ";
+    assert_eq!(rt; text.as_slice(), row);
+}
+
+#[test]
+fn forms_of_none(rt: HostRuntime) {
+    let text = shown(rt.alloc(), forms(rt.alloc(), b"key.", &[])).expect(&rt, "memory");
+    assert_eq!(rt; text.as_slice(), b"".as_slice());
+}
+
+#[test]
+fn three_bytes_are_too_short(rt: HostRuntime) {
+    let text = format!(in rt.alloc(); "{}", FormError::TooShort).expect(&rt, "memory");
+    assert_eq!(rt;
+        text.as_str(),
+        "a secret of fewer than four bytes has no forms"
+    );
+    assert!(rt; matches!(hex_forms(rt.alloc(), b"key"), Err(FormError::TooShort)));
+    assert!(rt; matches!(base64_forms(rt.alloc(), b"key"), Err(FormError::TooShort)));
+    assert!(rt; matches!(url_forms(rt.alloc(), b"key"), Err(FormError::TooShort)));
+    assert!(rt; matches!(json_forms(rt.alloc(), b"key"), Err(FormError::TooShort)));
+    assert!(rt; matches!(lines_forms(rt.alloc(), b"k\ny"), Err(FormError::TooShort)));
+    assert!(rt;
+        matches!(
+            forms(rt.alloc(), b"key", &[Form::Hex]),
+            Err(FormError::TooShort)
+        )
+    );
+}
