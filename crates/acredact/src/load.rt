@@ -15,10 +15,12 @@ use crate::arguments::{Item, Word, covers, has, last_value};
 use crate::failure::Failure;
 use crate::files::is_input;
 use crate::folder::Folder;
+use crate::forms::add_forms;
 use crate::parts::add_parts;
 use crate::patterns::{BadLine, Form, LineFault, Place, Rule, add_line, add_lines, mark_of};
 use aho_devices::adapters::FromRead;
 use aho_devices::device::Source;
+use programs::failure;
 use programs::reason::Reason;
 use std::alloc::Global;
 use std::io::Read;
@@ -42,10 +44,12 @@ pub struct Lists<'f, F> {
     pub allow_empty: bool,
     /// Whether long lines of a pattern that has line ends are patterns too.
     pub parts: bool,
+    /// Which forms of patterns are patterns too, by the names that are given.
+    pub forms: Option<&'f str>,
 }
 
 /// How the files of patterns and tables are read that are given.
-pub fn lists_of<'f, F>(alloc: Global, given: &[Item<'_>], folder: &'f F) -> Lists<'f, F>
+pub fn lists_of<'f, F>(alloc: Global, given: &[Item<'f>], folder: &'f F) -> Lists<'f, F>
     ensures folder { result.folder.now ≡ folder.now }
     ensures rules { rules_for result ≡ rules_asked (all_given given.now) }
 {
@@ -55,7 +59,35 @@ pub fn lists_of<'f, F>(alloc: Global, given: &[Item<'_>], folder: &'f F) -> List
         crlf: has(given, Word::Crlf),
         allow_empty: has(given, Word::AllowEmpty),
         parts: covers(given),
+        forms: last_value(given, Word::Forms),
     }
+}
+
+/// The rules of all patterns, files of patterns and tables that are given, in order, and then of their forms.
+///
+/// # Errors
+///
+/// The first pattern, file or line that gives no rule, with the reason; or memory runs out.
+pub fn rules<'a, F: Folder, I: Read>(
+    lists: &Lists<'_, F>,
+    items: &[Item<'a>],
+    input: &mut FromRead<I>,
+) -> Result<Vec<Rule>, Failure<'a>> {
+    match read_rules(lists, items, input) {
+        Ok(rules) => with_forms(lists, rules),
+        Err(failure) => Err(failure),
+    }
+}
+
+/// These rules, and behind them those of their forms.
+fn with_forms<'a, F>(lists: &Lists<'_, F>, rules: Vec<Rule>) -> Result<Vec<Rule>, Failure<'a>> {
+    let mut rules = rules;
+    if let Some(forms) = lists.forms {
+        let Ok(()) = add_forms(lists.alloc, &mut rules, forms) else {
+            return Err(Failure::Other(failure::Failure::OutOfMemory));
+        };
+    }
+    Ok(rules)
 }
 
 /// The rules of all patterns, files of patterns and tables that are given, in order.
@@ -63,7 +95,7 @@ pub fn lists_of<'f, F>(alloc: Global, given: &[Item<'_>], folder: &'f F) -> List
 /// # Errors
 ///
 /// The first pattern, file or line that gives no rule, with the reason.
-pub fn rules<'a, F: Folder, I: Read>(
+fn read_rules<'a, F: Folder, I: Read>(
     lists: &Lists<'_, F>,
     items: &[Item<'a>],
     input: &mut FromRead<I>,
