@@ -102,7 +102,8 @@ static void errors(void) {
     cs_searcher it = CS_SEARCHER_INIT;
     cs_options options = CS_OPTIONS_INIT;
     cs_error error = { 1, 2, 3, 4, 5 };
-    HAS(CS_OPTIONS_FORM == 2 && cs_try_build(names, 4, &options, &it, &error) == CS_DONE && is_error(error, 1, 2, 3, 4, 5));
+    HAS(CS_OPTIONS_FORM == 3 && sizeof options == CS_OPTIONS_SIZE && options.size == CS_OPTIONS_SIZE);
+    HAS(cs_try_build(names, 4, &options, &it, &error) == CS_DONE && is_error(error, 1, 2, 3, 4, 5));
     HAS(cs_is_match(&it, BYTES("sam")) == CS_FOUND && tells_error(error, ""));
     options.match_kind = 3, options.start_kind = 4, options.automaton = 5;
     HAS(cs_try_build(names, 4, &options, &it, &error) == CS_NO_OPTION && is_error(error, CS_NO_OPTION, CS_MATCH_KIND, 0, 3, 0));
@@ -113,7 +114,17 @@ static void errors(void) {
     options.start_kind = CS_UNANCHORED;
     HAS(cs_try_build(names, 4, &options, &it, &error) == CS_NO_OPTION && is_error(error, CS_NO_OPTION, CS_AUTOMATON, 0, 5, 0));
     HAS(cs_build(names, 4, &options, &it) == CS_NO_OPTION && it.full && tells_error(error, "automaton 5 means nothing"));
+    options.size = 0; /* it is told before the others */
+    HAS(cs_try_build(names, 4, &options, &it, &error) == CS_NO_OPTION && is_error(error, CS_NO_OPTION, CS_SIZE, 0, 0, 0));
     options.automaton = CS_BY_RULE;
+    for (options.size = 0; options.size < 100; options.size++) {
+        if (options.size == CS_OPTIONS_SIZE)
+            continue;
+        HAS(cs_try_build(names, 4, &options, &it, &error) == CS_NO_OPTION && is_error(error, CS_NO_OPTION, CS_SIZE, 0, options.size, 0));
+        HAS(cs_build(names, 4, &options, &it) == CS_NO_OPTION && it.full);
+    }
+    HAS(tells_error(error, "size 99 means nothing"));
+    options.size = CS_OPTIONS_SIZE;
     options.max_len = 6;
     HAS(cs_try_build(names, 4, &options, &it, &error) == CS_TOO_LONG && is_error(error, CS_TOO_LONG, 0, 0, 7, 6));
     HAS(it.full && tells_error(error, "pattern 0 with length 7 exceeds the maximum pattern length of 6"));

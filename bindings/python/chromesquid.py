@@ -84,6 +84,7 @@ class _Slice(ctypes.Structure):
 
 class _Options(ctypes.Structure):
     _fields_ = [
+        ("size", ctypes.c_uint32),
         ("match_kind", ctypes.c_uint32),
         ("start_kind", ctypes.c_uint32),
         ("ignore_case", ctypes.c_bool),
@@ -330,7 +331,8 @@ class AhoCorasick:
         _searchers.add(self)
         self._rest = automaton, max_index, max_pattern, max_len
         limits = [_limit(it) for it in self._rest[1:]]
-        options, error = _Options(_KINDS[kind], 0, self._ignore_case, self._prefilter, _AUTOMATA[automaton], *limits), _Error()
+        size, number = ctypes.sizeof(_Options), _AUTOMATA[automaton]
+        options, error = _Options(size, _KINDS[kind], 0, self._ignore_case, self._prefilter, number, *limits), _Error()
         status = _build(_slices(words), len(words), ctypes.byref(options), ctypes.byref(self._handle), ctypes.byref(error))
         if status in (_TOO_MANY_STATES, _TOO_MANY_PATTERNS, _TOO_LONG):
             raise _build_error(error)

@@ -24,6 +24,7 @@ struct CsSlice {
 
 #[repr(C)]
 struct CsOptions {
+    size: u32,
     match_kind: u32,
     start_kind: u32,
     ignore_case: bool,
@@ -175,8 +176,9 @@ impl Handle {
             Some(AhoCorasickKind::ContiguousNFA | AhoCorasickKind::DFA) => 2,
         };
         let (ignore_case, prefilter, limit) = (wishes.ignore_case, wishes.prefilter, usize::MAX);
-        let options =
-            CsOptions { match_kind, start_kind, ignore_case, prefilter, automaton, max_index: limit, max_pattern: limit, max_len: limit };
+        let size = std::mem::size_of::<CsOptions>() as u32;
+        let (max_index, max_pattern, max_len) = (limit, limit, limit);
+        let options = CsOptions { size, match_kind, start_kind, ignore_case, prefilter, automaton, max_index, max_pattern, max_len };
         let (mut handle, mut error) = (Handle::none(), CsError::default());
         // SAFETY: the slices are lent for the call, which keeps none of them; the handle is one that was started.
         match unsafe { cs_try_build(patterns.as_ptr(), patterns.len(), &options, &mut handle.0, &mut error) } {

@@ -17,8 +17,8 @@ use Rattle.acredact.specs.declared.arguments.Expects.TheVariants.{Any, Value, Na
 use Rattle.acredact.specs.declared.arguments.Word.TheVariants.{File, Help, Output, Version}
 
 -- the bytes of each name
-abbrev pub bytes_of : {Z : Type 0} → List (Vec ℕ Z) → List (List ℕ)
-bytes_of names = map (λ name. name.items) names
+abbrev pub bytes_of_names : {Z : Type 0} → List (Vec ℕ Z) → List (List ℕ)
+bytes_of_names names = map (λ name. name.items) names
 
 -- what is expected behind an argument; behind one that is wrong that does not matter
 abbrev pub expected_by : Option ItemsSoFar → Expects
@@ -29,25 +29,25 @@ abbrev pub next_behind : Expects → List ℕ → Expects
 next_behind expects argument = expected_by (by_argument expects argument [])
 
 -- no option
-abbrev pub is_plain : Form → Bool
-is_plain no_more = false
-is_plain (long_name name) = false
-is_plain (long_with name value) = false
-is_plain (joined_letters letters) = false
-is_plain no_option = true
+abbrev pub is_no_option : Form → Bool
+is_no_option no_more = false
+is_no_option (long_name name) = false
+is_no_option (long_with name value) = false
+is_no_option (joined_letters letters) = false
+is_no_option no_option = true
 
 -- an argument that is not UTF-8 names a file: no option takes it for its value, and it begins as one only behind '--'
 abbrev pub names_file : Expects → List ℕ → Bool
-names_file Any argument = is_plain (argument_form argument)
+names_file Any argument = is_no_option (argument_form argument)
 names_file (Value word) argument = false
 names_file Name argument = true
 
 -- each of these arguments is UTF-8 or names a file: those that are, and the others, in order
-abbrev pub AreApart : Expects → List (List ℕ) → (arguments names : List (List ℕ)) → Type 0
-AreApart expects [] arguments names = (arguments ≡ []) × (names ≡ [])
-AreApart expects (one ∷ rest) arguments names =
-    (IsUtf8 one × (others : List (List ℕ)) × (arguments ≡ one ∷ others) × AreApart (next_behind expects one) rest others names)
-    ⊎ ((IsUtf8 one → ⊥) × (names_file expects one ≡ true) × (others : List (List ℕ)) × (names ≡ one ∷ others) × AreApart expects rest arguments others)
+abbrev pub AreSetApart : Expects → List (List ℕ) → (arguments names : List (List ℕ)) → Type 0
+AreSetApart expects [] arguments names = (arguments ≡ []) × (names ≡ [])
+AreSetApart expects (one ∷ rest) arguments names =
+    (IsUtf8 one × (others : List (List ℕ)) × (arguments ≡ one ∷ others) × AreSetApart (next_behind expects one) rest others names)
+    ⊎ ((IsUtf8 one → ⊥) × (names_file expects one ≡ true) × (others : List (List ℕ)) × (names ≡ one ∷ others) × AreSetApart expects rest arguments others)
 
 -- one of them is not UTF-8, and names no file
 abbrev pub HaveNoName : Expects → List (List ℕ) → Type 0
@@ -57,8 +57,8 @@ HaveNoName expects (one ∷ rest) =
     ⊎ ((IsUtf8 one → ⊥) × ((names_file expects one ≡ false) ⊎ ((names_file expects one ≡ true) × HaveNoName expects rest)))
 
 -- so all arguments of a call were set apart
-abbrev pub IsApart : Expects → List (List ℕ) → Apart → Type 0
-IsApart expects given apart = AreApart expects given (texts apart.arguments.items) (bytes_of apart.names.items)
+abbrev pub IsSetApart : Expects → List (List ℕ) → Apart → Type 0
+IsSetApart expects given apart = AreSetApart expects given (texts apart.arguments.items) (bytes_of_names apart.names.items)
 
 -- or they were not, since memory ran out or one of them is wrong
 abbrev pub IsNotApart : List (List ℕ) → OtherFailure → Type 0
@@ -76,7 +76,7 @@ pub record PutsName (expects : Expects) (argument : List ℕ) (next : Option Exp
   pub no_text : IsUtf8 argument → ⊥
   pub is_name : names_file expects argument ≡ true
   pub next_is : next ≡ Some expects
-  pub put : bytes_of apart'.names.items ≡ bytes_of apart.names.items ++ (argument ∷ [])
+  pub put : bytes_of_names apart'.names.items ≡ bytes_of_names apart.names.items ++ (argument ∷ [])
   pub arguments : apart'.arguments ≡ apart.arguments
 
 -- or it is wrong
@@ -104,10 +104,10 @@ told_by given none =
     else if has Output given || not (has File given) then EachAlone
     else Each
 
-abbrev pub is_nothing : Told → Bool
-is_nothing Nothing = true
-is_nothing Each = false
-is_nothing EachAlone = false
+abbrev pub tells_nothing : Told → Bool
+tells_nothing Nothing = true
+tells_nothing Each = false
+tells_nothing EachAlone = false
 
 abbrev pub has_none : List (List ℕ) → Bool
 has_none [] = true
@@ -115,11 +115,11 @@ has_none (name ∷ names) = false
 
 -- it is so of the arguments of a call
 abbrev pub IsToldOf : Apart → Told → Type 0
-IsToldOf apart told = (given : List Given) × (all_asked (texts apart.arguments.items) ≡ Some given) × (told ≡ told_by given (has_none (bytes_of apart.names.items)))
+IsToldOf apart told = (given : List Given) × (all_asked (texts apart.arguments.items) ≡ Some given) × (told ≡ told_by given (has_none (bytes_of_names apart.names.items)))
 
 -- the lines of that
 abbrev pub told_lines : Told → List (List ℕ) → List ℕ
-told_lines told names = if is_nothing told then [] else unnamed_lines names
+told_lines told names = if tells_nothing told then [] else unnamed_lines names
 
 -- the status of a call of which this was told, by that of its rest
 abbrev pub status_behind : Told → ℕ → ℕ

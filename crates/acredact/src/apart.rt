@@ -4,7 +4,7 @@ ghost use Rattle.std.specs.Prelude.{◌≡◌, ◌⊎◌, ℕ, List, IfErr, IfOk
 ghost use Rattle.programs.specs.Arguments.{texts};
 ghost use Rattle.programs.specs.Telling.{TellsBytes};
 ghost use Rattle.programs.specs.declared.failure.Failure.TheVariants.{OutOfMemory, Usage};
-ghost use Rattle.acredact.specs.Apart.{IsApart, IsNotApart, IsToldOf, Puts, bytes_of, names_file, next_behind, status_behind, told_by, told_lines, unnamed_lines};
+ghost use Rattle.acredact.specs.Apart.{IsSetApart, IsNotApart, IsToldOf, Puts, bytes_of_names, names_file, next_behind, status_behind, told_by, told_lines, unnamed_lines};
 ghost use Rattle.acredact.specs.Arguments.{all_given};
 ghost use Rattle.acredact.specs.Calls.{IsWrongFailure};
 ghost use Rattle.acredact.specs.declared.arguments.Expects.TheVariants.{Any};
@@ -52,7 +52,7 @@ pub enum Told {
 ///
 /// `OutOfMemory` where memory runs out, and `Usage` where another argument is not UTF-8.
 pub fn arguments<R: Env + Alloc<A = Global>>(rt: &R) -> Result<Apart, failure::Failure>
-    ensures set { IfOk result (λ apart. (given : List (List ℕ)) × IsApart Any given apart) }
+    ensures set { IfOk result (λ apart. (given : List (List ℕ)) × IsSetApart Any given apart) }
     ensures fails { IfErr result (λ failure. (failure ≡ OutOfMemory) ⊎ (failure ≡ Usage)) }
 {
     let Ok(given) = given(rt) else {
@@ -103,8 +103,8 @@ fn push_argument<R: Env + Alloc<A = Global>>(
 ///
 /// As `arguments`.
 fn set_apart(alloc: Global, given: &[Vec<u8>]) -> Result<Apart, failure::Failure>
-    ensures set { IfOk result (IsApart Any (bytes_of given.now)) }
-    ensures wrong { IfErr result (IsNotApart (bytes_of given.now)) }
+    ensures set { IfOk result (IsSetApart Any (bytes_of_names given.now)) }
+    ensures wrong { IfErr result (IsNotApart (bytes_of_names given.now)) }
 {
     let mut apart = Apart {
         arguments: Vec::new(alloc),
@@ -188,7 +188,7 @@ pub fn tell_apart<'a, E: Sink>(
 ) -> Result<Told, Failure<'a>>
     ensures which { IfOk result (IsToldOf apart.now) }
     ensures told { IfOk result (λ told. TellsBytes E.Sink errors.old errors.new
-        (told_lines told (bytes_of apart.now.names.items))) }
+        (told_lines told (bytes_of_names apart.now.names.items))) }
     ensures wrong { IfErr result (IsWrongFailure (texts apart.now.arguments.items)) }
     ensures untold { OnErr result (errors.new ≡ errors.old) }
 {
@@ -218,7 +218,7 @@ fn told_by(given: &[Item<'_>], none: bool) -> Told
 
 /// Tells each of these files, where that is to be done.
 fn tell_names_by<E: Sink>(errors: &mut Errors<'_, E>, told: Told, names: &[Vec<u8>])
-    ensures told { TellsBytes E.Sink errors.old errors.new (told_lines told (bytes_of names.now)) }
+    ensures told { TellsBytes E.Sink errors.old errors.new (told_lines told (bytes_of_names names.now)) }
 {
     match told {
         Told::Nothing => errors.write(&[]),
@@ -228,7 +228,7 @@ fn tell_names_by<E: Sink>(errors: &mut Errors<'_, E>, told: Told, names: &[Vec<u
 
 /// Tells each of these files.
 fn tell_names<E: Sink>(errors: &mut Errors<'_, E>, names: &[Vec<u8>])
-    ensures told { TellsBytes E.Sink errors.old errors.new (unnamed_lines (bytes_of names.now)) }
+    ensures told { TellsBytes E.Sink errors.old errors.new (unnamed_lines (bytes_of_names names.now)) }
 {
     let mut rest = names;
     while let Some((name, behind)) = rest.split_first() {

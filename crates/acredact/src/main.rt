@@ -45,7 +45,7 @@ mod ways;
 ghost use Rattle.std.specs.Prelude.{◌≡◌, ◌≤◌, IfErr, IfOk, false, true};
 ghost use Rattle.std.specs.Process.{exit_status};
 ghost use Rattle.programs.specs.Telling.{TellsSome};
-ghost use Rattle.acredact.specs.Apart.{is_nothing};
+ghost use Rattle.acredact.specs.Apart.{tells_nothing};
 ghost use Rattle.acredact.specs.Arguments.{AreMistaken, IfAsked, IfChecking, IfNoCheck, IsCheck, RefusesUnclean};
 ghost use Rattle.acredact.specs.Calls.{BeginsAsked, IsRefusedLine, LeavesNoneAsked, RedactsAsked};
 ghost use Rattle.acredact.specs.Checks.{MatchedAsked, UnmatchedAsked};
@@ -181,7 +181,7 @@ fn exit_code<F: Folder, I: Read, W: Write, E: Sink>(
     ensures flushed { IfOk given (λ apart. IfNoCheck apart.arguments.items (exit_status result ≡ 0
         → streams.new.output.device.flushed ≡ true)) }
     ensures bound { exit_status result ≤ 2 }
-    ensures told { is_nothing told ≡ false → IfOk given (λ _. exit_status result ≡ 2) }
+    ensures told { tells_nothing told ≡ false → IfOk given (λ _. exit_status result ≡ 2) }
     ensures one { exit_status result ≡ 1 → IfOk given (λ apart. IsCheck apart.arguments.items) }
 {
     match given {

@@ -25,8 +25,11 @@ extern "C" {
 #define CS_VERSION_MINOR (CS_VERSION / 100 % 100)
 #define CS_VERSION_PATCH (CS_VERSION % 100)
 
-/* The form of cs_options: 2 is the one with an automaton and limits. */
-#define CS_OPTIONS_FORM 2
+/* The form of cs_options: 3 is the one that begins with its size. */
+#define CS_OPTIONS_FORM 3
+
+/* How many bytes cs_options has. */
+#define CS_OPTIONS_SIZE 48
 
 /* What the functions answer. */
 enum {
@@ -72,7 +75,8 @@ enum {
 enum {
     CS_MATCH_KIND = 1,
     CS_START_KIND = 2,
-    CS_AUTOMATON = 3
+    CS_AUTOMATON = 3,
+    CS_SIZE = 4 /* the options are those of another version */
 };
 
 typedef struct cs_searcher {
@@ -96,6 +100,7 @@ typedef struct cs_slice {
 } cs_slice;
 
 typedef struct cs_options {
+    uint32_t size;       /* CS_OPTIONS_SIZE: another size is refused */
     uint32_t match_kind; /* CS_STANDARD and so on */
     uint32_t start_kind; /* CS_UNANCHORED and so on */
     bool ignore_case;    /* whether ASCII letters are the same in both cases */
@@ -107,7 +112,7 @@ typedef struct cs_options {
 } cs_options;
 
 /* Start each with it: further fields may follow. */
-#define CS_OPTIONS_INIT { CS_STANDARD, CS_UNANCHORED, false, true, CS_BY_RULE, SIZE_MAX, SIZE_MAX, SIZE_MAX }
+#define CS_OPTIONS_INIT { CS_OPTIONS_SIZE, CS_STANDARD, CS_UNANCHORED, false, true, CS_BY_RULE, SIZE_MAX, SIZE_MAX, SIZE_MAX }
 
 /* Why a build failed. What nothing is said of here is 0. */
 typedef struct cs_error {

@@ -1,5 +1,5 @@
 -- What the numbers of the options mean, and why a build fails.
-use Rattle.std.specs.Prelude.{◌≡◌, ℕ, zero, suc, List, Option, None, Some}
+use Rattle.std.specs.Prelude.{◌≡◌, ℕ, zero, suc, List, Option, None, Some, if◌then◌else◌, nat_eq}
 use Rattle.std.specs.Borrow.{Bor}
 use Rattle.aho_core.specs.declared.error.BuildError.{BuildError}
 use Rattle.aho_core.specs.declared.error.BuildError.TheVariants.{OutOfMemory, PatternIDOverflow, PatternTooLong, StateIDOverflow}
@@ -19,6 +19,7 @@ use Rattle.chromesquid_c.specs.Holding.{HoldsSearcher}
 use Rattle.chromesquid_c.specs.declared.status.TheConstants.{NO_MEMORY, TOO_LONG, TOO_MANY_PATTERNS, TOO_MANY_STATES}
 use Rattle.chromesquid_c.specs.declared.handle.CsSearcher.{CsSearcher}
 use Rattle.chromesquid_c.specs.declared.options.CsOptions.{CsOptions}
+use Rattle.chromesquid_c.specs.declared.options.TheConstants.{OPTIONS_SIZE}
 
 -- ---- the options
 
@@ -58,10 +59,12 @@ building_for (Some kind) (Some start) (Some automaton) options = Some (record {
   kind = automaton;
 })
 
--- how a searcher is built by the options, if each of their numbers means something
+-- how a searcher is built by the options, if they have the size of options and each of their numbers means something
 abbrev pub building_by : CsOptions → Option Building
 building_by options =
-    building_for (kind_numbered options.match_kind) (start_numbered options.start_kind) (automaton_numbered options.automaton) options
+    if nat_eq options.size OPTIONS_SIZE
+    then building_for (kind_numbered options.match_kind) (start_numbered options.start_kind) (automaton_numbered options.automaton) options
+    else None
 
 -- if they mean something, this is so of what they mean
 abbrev pub ForOptions : CsOptions → (Building → Type 0) → Type 0

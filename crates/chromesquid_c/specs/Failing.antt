@@ -12,7 +12,8 @@ use Rattle.chromesquid.specs.declared.kinds.StartKind.{StartKind}
 use Rattle.chromesquid_c.specs.Building.{build_status, kind_numbered, start_numbered}
 use Rattle.chromesquid_c.specs.declared.options.CsError.{CsError}
 use Rattle.chromesquid_c.specs.declared.options.CsOptions.{CsOptions}
-use Rattle.chromesquid_c.specs.declared.status.TheConstants.{AUTOMATON, MATCH_KIND, NO_MEMORY, NO_OPTION, START_KIND, TOO_LONG, TOO_MANY_PATTERNS, TOO_MANY_STATES}
+use Rattle.chromesquid_c.specs.declared.options.TheConstants.{OPTIONS_SIZE}
+use Rattle.chromesquid_c.specs.declared.status.TheConstants.{AUTOMATON, MATCH_KIND, NO_MEMORY, NO_OPTION, SIZE, START_KIND, TOO_LONG, TOO_MANY_PATTERNS, TOO_MANY_STATES}
 
 -- ---- its numbers
 
@@ -26,8 +27,12 @@ error_among None start options = option_error MATCH_KIND options.match_kind
 error_among (Some kind) None options = option_error START_KIND options.start_kind
 error_among (Some kind) (Some start) options = option_error AUTOMATON options.automaton
 
+-- what is told of options that mean nothing: of their size, where that is another one
 abbrev pub error_of_options : CsOptions → CsError
-error_of_options options = error_among (kind_numbered options.match_kind) (start_numbered options.start_kind) options
+error_of_options options =
+    if nat_eq options.size OPTIONS_SIZE
+    then error_among (kind_numbered options.match_kind) (start_numbered options.start_kind) options
+    else option_error SIZE options.size
 
 -- what is told of a build's error
 abbrev pub error_told : BuildError → CsError
@@ -47,7 +52,7 @@ pub record FailsTelling (settings : Settings) (items : List (Bor (List ℕ))) (s
 
 -- what an option is called
 abbrev pub error_option_name : ℕ → List ℕ
-error_option_name option = if nat_eq option MATCH_KIND then codes "match kind" else (if nat_eq option START_KIND then codes "start kind" else codes "automaton")
+error_option_name option = if nat_eq option MATCH_KIND then codes "match kind" else (if nat_eq option START_KIND then codes "start kind" else (if nat_eq option SIZE then codes "size" else codes "automaton"))
 
 -- the text of an error of this status: as a build's error is printed, or that a number of an option means nothing; none of another
 abbrev pub text_by : ℕ → CsError → List ℕ

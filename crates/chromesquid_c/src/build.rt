@@ -7,7 +7,7 @@ ghost use Rattle.chromesquid_c.specs.Evidence.{IsOfSome};
 ghost use Rattle.chromesquid_c.specs.Holding.{HoldsSearcher, HoldsSame, IfHeld, IsEmpty};
 
 use crate::handle::CsSearcher;
-use crate::options::CsOptions;
+use crate::options::{CsOptions, OPTIONS_SIZE};
 use crate::status::{
     DONE, NO_MEMORY, NO_OPTION, NO_SEARCHER, TOO_LONG, TOO_MANY_PATTERNS, TOO_MANY_STATES,
 };
@@ -57,6 +57,9 @@ fn automaton_of(number: u32) -> Option<Option<AhoCorasickKind>>
 pub(crate) fn builder_of(options: &CsOptions) -> Option<AhoCorasickBuilder>
     ensures asked { result ≡ building_by options.now }
 {
+    if options.size != OPTIONS_SIZE {
+        return None;
+    }
     let Some(kind) = match_kind_of(options.match_kind) else {
         return None;
     };

@@ -8,10 +8,10 @@ ghost use Rattle.chromesquid_c.specs.Replacing.{EndsReplacing, FitsInto};
 
 use crate::build::{build_status, builder_of, handle_for, match_kind_of, start_kind_of};
 use crate::handle::CsSearcher;
-use crate::options::{CsError, CsOptions};
+use crate::options::{CsError, CsOptions, OPTIONS_SIZE};
 use crate::replace::put_bytes;
 use crate::status::{
-    AUTOMATON, DONE, MATCH_KIND, NO_MEMORY, NO_OPTION, NO_ROOM, START_KIND, TOO_LONG,
+    AUTOMATON, DONE, MATCH_KIND, NO_MEMORY, NO_OPTION, NO_ROOM, SIZE, START_KIND, TOO_LONG,
     TOO_MANY_PATTERNS, TOO_MANY_STATES,
 };
 use chromesquid::BuildError;
@@ -35,6 +35,9 @@ fn option_error(option: u32, number: u32) -> CsError
 fn error_of_options(options: &CsOptions) -> CsError
     ensures told { result ≡ error_of_options options.now }
 {
+    if options.size != OPTIONS_SIZE {
+        return option_error(SIZE, options.size);
+    }
     let Some(_) = match_kind_of(options.match_kind) else {
         return option_error(MATCH_KIND, options.match_kind);
     };
@@ -121,6 +124,8 @@ fn error_option_name(option: u32) -> &'static str
         "match kind"
     } else if option == START_KIND {
         "start kind"
+    } else if option == SIZE {
+        "size"
     } else {
         "automaton"
     }

@@ -1,12 +1,17 @@
 //! What C passes and gets as a struct.
 
-/// The form of `CsOptions`: 2 is the one with an automaton and limits.
-pub const OPTIONS_FORM: u32 = 2;
+/// The form of `CsOptions`: 3 is the one that begins with its size.
+pub const OPTIONS_FORM: u32 = 3;
+
+/// How many bytes `CsOptions` has.
+pub const OPTIONS_SIZE: u32 = 48;
 
 /// How a searcher is built. A number that is not named here means nothing.
 #[repr(C)]
 #[derive(Clone, Copy)]
 pub struct CsOptions {
+    /// How many bytes these options have, as their caller knows them: `OPTIONS_SIZE`, and another number in those of another version.
+    pub size: u32,
     /// Which of several matches is found: 0 Standard, 1 leftmost-first, 2 leftmost-longest.
     pub match_kind: u32,
     /// Which searches are answered: 0 those that are not anchored, 1 anchored ones, 2 both.
@@ -31,7 +36,7 @@ pub struct CsOptions {
 pub struct CsError {
     /// What the build answered: 5, 6, 7, 8 or 9.
     pub status: u32,
-    /// With 6, whose number means nothing: 1 the match kind's, 2 the start kind's, 3 the automaton's.
+    /// With 6, whose number means nothing: 1 the match kind's, 2 the start kind's, 3 the automaton's, 4 the size.
     pub option: u32,
     /// With 8 and 9, the number of the pattern.
     pub pattern: usize,

@@ -53,3 +53,6 @@ pub const START_KIND: u32 = 2;
 
 /// The option of the automaton.
 pub const AUTOMATON: u32 = 3;
+
+/// The size of the options.
+pub const SIZE: u32 = 4;

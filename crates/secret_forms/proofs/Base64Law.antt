@@ -160,7 +160,7 @@ part_is patterns t text w front back b et eb held =
     let now : Held (length (encode_symbols t w)) (encode_symbols t w) = rw et at held in
     rw (length-encode_symbols t w, eb) at now
 
-length_within : (k h : ℕ) (s v : List ℕ) → k ≤ 2 → length (secret_within k h s v) ≡ k + (length s + length v)
+pub length_within : (k h : ℕ) (s v : List ℕ) → k ≤ 2 → length (secret_within k h s v) ≡ k + (length s + length v)
 length_within k h s v small =
     length-append (drop (2 - k) (0 ∷ h ∷ [])) (s ++ v) ∙ ap (λ (n : ℕ). n + length (s ++ v)) (length_ahead k h small)
     ∙ ap (λ (n : ℕ). k + n) (length-append s v)

@@ -7,3 +7,5 @@ pub mod Base64Law
 pub mod Alphabets
 pub mod FormLaw
 pub mod JsonAdds
+pub mod Filled
+pub mod NestedLaw

@@ -1,5 +1,5 @@
 -- Forms by their names, and several at once.
-use Rattle.std.specs.Prelude.{ℕ, All, IsUtf8, List, flat_map}
+use Rattle.std.specs.Prelude.{ℕ, All, IsUtf8, List, [], flat_map}
 use Rattle.base64.specs.Engines.{standard, standard_no_pad, url_safe, url_safe_no_pad}
 use Rattle.base64.specs.GeneralPurpose.{encode_of}
 use Rattle.hex.specs.Hex.{encode_lower, encode_upper}
@@ -8,6 +8,7 @@ use Rattle.secret_forms.specs.Hex.{hex_patterns}
 use Rattle.secret_forms.specs.Json.{HidesCharacters, json_patterns, json_spellings, json_ways}
 use Rattle.secret_forms.specs.Law.{HidesBits}
 use Rattle.secret_forms.specs.Lines.{HidesLine, line_patterns}
+use Rattle.secret_forms.specs.Patterns.{added_all}
 use Rattle.secret_forms.specs.Spelling.{HidesSpelled, shell_spellings, spelled_by, url_spellings, xml_spellings}
 use Rattle.secret_forms.specs.declared.form.Form.{Form}
 use Rattle.secret_forms.specs.declared.form.Form.TheVariants.{Base64, Hex, Url, Json, Xml, Shell, Lines}
@@ -23,12 +24,16 @@ form_patterns secret Shell = spelled_by shell_spellings secret
 form_patterns secret Lines = line_patterns secret
 
 -- the patterns of a secret by each of some forms
-abbrev pub patterns_of : List Form → List ℕ → List (List ℕ)
-patterns_of forms secret = flat_map (form_patterns secret) forms
+abbrev pub forms_patterns : List Form → List ℕ → List (List ℕ)
+forms_patterns forms secret = flat_map (form_patterns secret) forms
+
+-- the patterns that an inner form makes of a secret, each once
+abbrev pub inner_patterns : List ℕ → Form → List (List ℕ)
+inner_patterns secret inner = added_all [] (form_patterns secret inner)
 
 -- the patterns of some patterns, each of them as a secret
-abbrev pub patterns_within : List Form → List (List ℕ) → List (List ℕ)
-patterns_within forms patterns = flat_map (patterns_of forms) patterns
+abbrev pub nested_patterns : List (List ℕ) → Form → List (List ℕ)
+nested_patterns inner outer = flat_map (λ one. form_patterns one outer) inner
 
 -- base64 with padding or without, of either alphabet
 abbrev pub HidesBase64 : List (List ℕ) → List ℕ → Type 0
@@ -50,3 +55,7 @@ HidesForm patterns secret Json = HidesJson patterns secret
 HidesForm patterns secret Xml = All (HidesSpelled patterns secret) xml_spellings
 HidesForm patterns secret Shell = All (HidesSpelled patterns secret) shell_spellings
 HidesForm patterns secret Lines = All (HidesLine patterns) (line_patterns secret)
+
+-- what an inner form makes of a secret is hidden as a secret of the outer form is
+abbrev pub HidesNested : List (List ℕ) → Form → List ℕ → Type 0
+HidesNested patterns outer inner = HidesForm patterns inner outer

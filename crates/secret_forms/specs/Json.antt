@@ -18,12 +18,16 @@ high_half above = 55296 + above / 1024
 abbrev pub low_half : ℕ → ℕ
 low_half above = 56320 + above % 1024
 
+-- such a character
+abbrev pub json_pair : Digits → ℕ → List ℕ
+json_pair digits above = json_unit digits (high_half above) ++ json_unit digits (low_half above)
+
 -- a character of a JSON string of ASCII alone
 unfoldable pub json_char : Json → ℕ → List ℕ
 json_char json character =
     if nat_lt character 127 then json_byte json character
     else if nat_lt character 65536 then json_unit json.digits character
-    else json_unit json.digits (high_half (character - 65536)) ++ json_unit json.digits (low_half (character - 65536))
+    else json_pair json.digits (character - 65536)
 
 -- characters within a JSON string of ASCII alone
 abbrev pub numbered : Json → List ℕ → List ℕ

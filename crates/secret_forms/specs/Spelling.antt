@@ -70,8 +70,8 @@ escapes_markup Markup = true
 escapes_markup SlashAndMarkup = true
 
 -- whether JSON writes a byte by its number: a control character, or a mark that is escaped
-abbrev pub is_numbered : Marks → ℕ → Bool
-is_numbered marks byte = nat_lt byte 32 || (escapes_markup marks && list_any (λ one. one == byte) (codes "<>&"))
+abbrev pub is_by_number : Marks → ℕ → Bool
+is_by_number marks byte = nat_lt byte 32 || (escapes_markup marks && list_any (λ one. one == byte) (codes "<>&"))
 
 -- a byte with a backslash before it, unless it stands as it is
 abbrev pub escaped_unless : Bool → ℕ → List ℕ
@@ -80,7 +80,7 @@ escaped_unless is_kept byte = if is_kept then byte ∷ [] else 92 ∷ byte ∷ [
 -- a byte of a JSON string for which there is no letter
 unfoldable pub json_no_letter : Json → ℕ → List ℕ
 json_no_letter json byte =
-    if is_numbered json.marks byte then json_unit json.digits byte
+    if is_by_number json.marks byte then json_unit json.digits byte
     else escaped_unless (not (byte == 47) || not (escapes_slash json.marks)) byte
 
 -- a byte of a JSON string: `\"`, `\\`, `\b`, `\t`, `\n`, `\f` and `\r`, or by its number, or as it is

@@ -9,7 +9,7 @@ ghost use Rattle.base64.specs.GeneralPurpose.{encode_of};
 ghost use Rattle.secret_forms.specs.Base64.{all_ahead, all_behind, alphabet_patterns, base64_patterns, core_of, secret_within, shift_patterns, with_ahead, with_behind};
 ghost use Rattle.secret_forms.specs.Base64 as spec;
 ghost use Rattle.secret_forms.specs.Law.{HidesBits};
-ghost use Rattle.secret_forms.specs.Patterns.{AddsPatterns, added_all, pattern_bytes};
+ghost use Rattle.secret_forms.specs.Patterns.{AddsPatterns, ListsPatterns, pattern_bytes};
 ghost use Rattle.secret_forms.specs.declared.error.FormError.TheVariants.{TooShort};
 
 use crate::error::{FormError, SHORTEST};
@@ -263,7 +263,7 @@ pub(crate) fn add_base64(
 pub fn base64_forms(alloc: Global, secret: &[u8]) -> Result<Vec<Vec<u8>>, FormError>
     ensures short { length secret.now < 4 → result ≡ Err TooShort }
     ensures long { IfErr result (λ e. e ≡ TooShort → length secret.now < 4) }
-    ensures value { IfOk result (λ v. pattern_bytes v.items ≡ added_all [] (base64_patterns secret.now)) }
+    ensures value { ListsPatterns result (base64_patterns secret.now) }
     ensures standard { IfOk result (λ v. HidesBits 6 (encode_of standard) (pattern_bytes v.items) secret.now) }
     ensures standard_no_pad { IfOk result (λ v. HidesBits 6 (encode_of standard_no_pad) (pattern_bytes v.items) secret.now) }
     ensures url_safe { IfOk result (λ v. HidesBits 6 (encode_of url_safe) (pattern_bytes v.items) secret.now) }

@@ -1,7 +1,7 @@
 //! How encoders that work byte by byte write each byte.
 
-ghost use Rattle.std.specs.Prelude.{◌≡◌, ◌++◌, ◌<◌, IfOk, OnOk, [], ◌∷◌};
-ghost use Rattle.secret_forms.specs.Patterns.{AddsPatterns};
+ghost use Rattle.std.specs.Prelude.{◌≡◌, ◌<◌, IfOk, OnOk, [], ◌∷◌};
+ghost use Rattle.secret_forms.specs.Patterns.{AddsPatterns, Writes};
 ghost use Rattle.secret_forms.specs.Spelling as spec;
 
 use crate::listed::push_new;
@@ -16,9 +16,9 @@ pub enum Kept {
     Unreserved,
     /// These and `/`.
     Slash,
-    /// What `encodeURIComponent` leaves.
+    /// What JavaScript leaves in a part of a URL: these without `/`, and `!'()*`.
     Component,
-    /// What `encodeURI` leaves.
+    /// What JavaScript leaves in a whole URL: these, `/` and `;,?:@&=+$#`.
     Uri,
 }
 
@@ -152,7 +152,7 @@ fn push_url(
     digits: Digits,
     byte: u8,
 ) -> Result<(), AllocError>
-    ensures url { OnOk result (out.new.items ≡ out.old.items ++ spec.url_byte kept space digits byte) }
+    ensures url { Writes result out.old out.new (spec.url_byte kept space digits byte) }
 {
     if kept_bytes(kept).contains(&byte) {
         return out.extend_from_slice(&[byte]);
@@ -165,7 +165,7 @@ fn push_url(
 
 /// Writes a character, or half of a pair, by its number: `\u` and four digits.
 pub(crate) fn push_unit(out: &mut Vec<u8>, digits: Digits, unit: u16) -> Result<(), AllocError>
-    ensures unit { OnOk result (out.new.items ≡ out.old.items ++ spec.json_unit digits unit) }
+    ensures unit { Writes result out.old out.new (spec.json_unit digits unit) }
 {
     let high = digit(digits, (unit / 4096) as u8);
     let second = digit(digits, (unit / 256 % 16) as u8);
@@ -195,17 +195,17 @@ fn escapes_markup(marks: Marks) -> bool
 }
 
 /// Whether JSON writes a byte by its number.
-fn is_numbered(marks: Marks, byte: u8) -> bool
-    ensures { result ≡ spec.is_numbered marks byte }
+fn is_by_number(marks: Marks, byte: u8) -> bool
+    ensures { result ≡ spec.is_by_number marks byte }
 {
     byte < 32 || escapes_markup(marks) && b"<>&".contains(&byte)
 }
 
 /// Writes a byte of a JSON string for which there is no letter.
 fn push_no_letter(out: &mut Vec<u8>, json: Json, byte: u8) -> Result<(), AllocError>
-    ensures json { OnOk result (out.new.items ≡ out.old.items ++ spec.json_no_letter json byte) }
+    ensures json { Writes result out.old out.new (spec.json_no_letter json byte) }
 {
-    if is_numbered(json.marks, byte) {
+    if is_by_number(json.marks, byte) {
         return push_unit(out, json.digits, u16::from(byte));
     }
     push_escaped(out, byte != b'/' || !escapes_slash(json.marks), byte)
@@ -213,7 +213,7 @@ fn push_no_letter(out: &mut Vec<u8>, json: Json, byte: u8) -> Result<(), AllocEr
 
 /// Writes a byte of a JSON string.
 pub(crate) fn push_json(out: &mut Vec<u8>, json: Json, byte: u8) -> Result<(), AllocError>
-    ensures json { OnOk result (out.new.items ≡ out.old.items ++ spec.json_byte json byte) }
+    ensures json { Writes result out.old out.new (spec.json_byte json byte) }
 {
     match byte {
         b'"' => out.extend_from_slice(b"\\\""),
@@ -252,7 +252,7 @@ fn single_quote(quotes: Quotes) -> &'static [u8]
 
 /// Writes a byte of XML or HTML.
 fn push_xml(out: &mut Vec<u8>, quotes: Quotes, byte: u8) -> Result<(), AllocError>
-    ensures xml { OnOk result (out.new.items ≡ out.old.items ++ spec.xml_byte quotes byte) }
+    ensures xml { Writes result out.old out.new (spec.xml_byte quotes byte) }
 {
     match byte {
         b'&' => out.extend_from_slice(b"&amp;"),
@@ -276,7 +276,7 @@ fn is_plain(byte: u8) -> bool
 
 /// Writes a byte with a backslash before it, unless it stands as it is.
 fn push_escaped(out: &mut Vec<u8>, is_kept: bool, byte: u8) -> Result<(), AllocError>
-    ensures escaped { OnOk result (out.new.items ≡ out.old.items ++ spec.escaped_unless is_kept byte) }
+    ensures escaped { Writes result out.old out.new (spec.escaped_unless is_kept byte) }
 {
     if is_kept {
         return out.extend_from_slice(&[byte]);
@@ -286,7 +286,7 @@ fn push_escaped(out: &mut Vec<u8>, is_kept: bool, byte: u8) -> Result<(), AllocE
 
 /// Writes a byte within single quotes.
 fn push_single(out: &mut Vec<u8>, quote: &[u8], byte: u8) -> Result<(), AllocError>
-    ensures single { OnOk result (out.new.items ≡ out.old.items ++ spec.single_byte quote.now byte) }
+    ensures single { Writes result out.old out.new (spec.single_byte quote.now byte) }
 {
     if byte == b'\'' {
         return out.extend_from_slice(quote);
@@ -296,7 +296,7 @@ fn push_single(out: &mut Vec<u8>, quote: &[u8], byte: u8) -> Result<(), AllocErr
 
 /// Writes a byte of a shell's word.
 fn push_shell(out: &mut Vec<u8>, quoting: Quoting, byte: u8) -> Result<(), AllocError>
-    ensures shell { OnOk result (out.new.items ≡ out.old.items ++ spec.shell_byte quoting byte) }
+    ensures shell { Writes result out.old out.new (spec.shell_byte quoting byte) }
 {
     match quoting {
         Quoting::Single => push_single(out, b"'\\''", byte),
@@ -308,7 +308,7 @@ fn push_shell(out: &mut Vec<u8>, quoting: Quoting, byte: u8) -> Result<(), Alloc
 
 /// Writes a byte as an encoder does.
 fn push_spelled(out: &mut Vec<u8>, spelling: Spelling, byte: u8) -> Result<(), AllocError>
-    ensures byte { OnOk result (out.new.items ≡ out.old.items ++ spec.spelled_byte spelling byte) }
+    ensures byte { Writes result out.old out.new (spec.spelled_byte spelling byte) }
 {
     match spelling {
         Spelling::Url(kept, space, digits) => push_url(out, kept, space, digits, byte),

@@ -1,8 +1,8 @@
 //! Forms by their names, and several at once.
 
-ghost use Rattle.std.specs.Prelude.{◌≡◌, ◌<◌, ◌≤◌, All, Err, IfErr, IfOk, OnOk, [], flat_map, length};
-ghost use Rattle.secret_forms.specs.Forms.{HidesForm, form_patterns, patterns_of, patterns_within};
-ghost use Rattle.secret_forms.specs.Patterns.{AddsPatterns, added_all, pattern_bytes};
+ghost use Rattle.std.specs.Prelude.{◌≡◌, ◌<◌, All, Err, IfErr, IfOk, OnOk, length};
+ghost use Rattle.secret_forms.specs.Forms.{HidesForm, HidesNested, form_patterns, forms_patterns, inner_patterns, nested_patterns};
+ghost use Rattle.secret_forms.specs.Patterns.{AddsPatterns, ListsPatterns, pattern_bytes};
 ghost use Rattle.secret_forms.specs.declared.error.FormError.TheVariants.{TooShort};
 
 use crate::base64_form::add_base64;
@@ -60,7 +60,7 @@ fn add_forms(
     forms: &[Form],
     patterns: &mut Vec<Vec<u8>>,
 ) -> Result<(), AllocError>
-    ensures all { OnOk result (AddsPatterns patterns.old patterns.new (patterns_of forms.now secret.now)) }
+    ensures all { OnOk result (AddsPatterns patterns.old patterns.new (forms_patterns forms.now secret.now)) }
 {
     for form in forms {
         add_form(alloc, secret, *form, patterns)?;
@@ -74,7 +74,7 @@ fn add_forms(
 pub fn forms(alloc: Global, secret: &[u8], forms: &[Form]) -> Result<Vec<Vec<u8>>, FormError>
     ensures short { length secret.now < 4 → result ≡ Err TooShort }
     ensures long { IfErr result (λ e. e ≡ TooShort → length secret.now < 4) }
-    ensures value { IfOk result (λ v. pattern_bytes v.items ≡ added_all [] (patterns_of forms.now secret.now)) }
+    ensures value { ListsPatterns result (forms_patterns forms.now secret.now) }
     ensures law { IfOk result (λ v. All (HidesForm (pattern_bytes v.items) secret.now) forms.now) }
 {
     if secret.len() < SHORTEST {
@@ -82,5 +82,45 @@ pub fn forms(alloc: Global, secret: &[u8], forms: &[Form]) -> Result<Vec<Vec<u8>
     }
     let mut patterns = Vec::new(alloc);
     add_forms(alloc, secret, forms, &mut patterns)?;
+    Ok(patterns)
+}
+
+/// Adds the patterns of each of some patterns, which a form encodes as it does a secret.
+fn add_each(
+    alloc: Global,
+    inner: &[Vec<u8>],
+    outer: Form,
+    patterns: &mut Vec<Vec<u8>>,
+) -> Result<(), AllocError>
+    ensures all { OnOk result (AddsPatterns patterns.old patterns.new (nested_patterns (pattern_bytes inner.now) outer)) }
+{
+    for pattern in inner {
+        add_form(alloc, pattern, outer, patterns)?;
+    }
+    Ok(())
+}
+
+/// The patterns of a secret that is encoded twice, as within base64 of JSON: by the inner form, and what that makes by the outer one.
+///
+/// The last clause says that the outer form shows no character that holds a bit of what the inner one makes of the secret outside the
+/// patterns.
+pub fn nested_forms(
+    alloc: Global,
+    secret: &[u8],
+    inner: Form,
+    outer: Form,
+) -> Result<Vec<Vec<u8>>, FormError>
+    ensures short { length secret.now < 4 → result ≡ Err TooShort }
+    ensures long { IfErr result (λ e. e ≡ TooShort → length secret.now < 4) }
+    ensures value { ListsPatterns result (nested_patterns (inner_patterns secret.now inner) outer) }
+    ensures law { IfOk result (λ v. All (HidesNested (pattern_bytes v.items) outer) (form_patterns secret.now inner)) }
+{
+    if secret.len() < SHORTEST {
+        return Err(FormError::TooShort);
+    }
+    let mut within = Vec::new(alloc);
+    add_form(alloc, secret, inner, &mut within)?;
+    let mut patterns = Vec::new(alloc);
+    add_each(alloc, &within, outer, &mut patterns)?;
     Ok(patterns)
 }

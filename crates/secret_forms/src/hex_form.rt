@@ -4,7 +4,7 @@ ghost use Rattle.std.specs.Prelude.{◌≡◌, ◌<◌, Err, IfErr, IfOk, OnOk, 
 ghost use Rattle.hex.specs.Hex.{encode_lower, encode_upper};
 ghost use Rattle.secret_forms.specs.Hex.{hex_patterns};
 ghost use Rattle.secret_forms.specs.Law.{HidesBits};
-ghost use Rattle.secret_forms.specs.Patterns.{AddsPatterns, added_all, pattern_bytes};
+ghost use Rattle.secret_forms.specs.Patterns.{AddsPatterns, ListsPatterns, pattern_bytes};
 ghost use Rattle.secret_forms.specs.declared.error.FormError.TheVariants.{TooShort};
 
 use crate::error::{FormError, SHORTEST};
@@ -29,7 +29,7 @@ pub(crate) fn add_hex(
 pub fn hex_forms(alloc: Global, secret: &[u8]) -> Result<Vec<Vec<u8>>, FormError>
     ensures short { length secret.now < 4 → result ≡ Err TooShort }
     ensures long { IfErr result (λ e. e ≡ TooShort → length secret.now < 4) }
-    ensures value { IfOk result (λ v. pattern_bytes v.items ≡ added_all [] (hex_patterns secret.now)) }
+    ensures value { ListsPatterns result (hex_patterns secret.now) }
     ensures lower { IfOk result (λ v. HidesBits 4 encode_lower (pattern_bytes v.items) secret.now) }
     ensures upper { IfOk result (λ v. HidesBits 4 encode_upper (pattern_bytes v.items) secret.now) }
 {

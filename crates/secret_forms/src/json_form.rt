@@ -3,11 +3,11 @@
 //! An encoder that leaves characters beyond ASCII as they are works byte by byte. One that writes these by their numbers works
 //! character by character: a secret that is no UTF-8, as one that begins or ends within a character, has no form of this kind.
 
-ghost use Rattle.std.specs.Prelude.{◌≡◌, ◌++◌, ◌<◌, All, Err, IfErr, IfOk, IsUtf8, OnOk, [], ◌∷◌, chars, length};
+ghost use Rattle.std.specs.Prelude.{◌≡◌, ◌<◌, All, Err, IfErr, IfOk, IsUtf8, OnOk, [], ◌∷◌, chars, length};
 ghost use Rattle.secret_forms.specs.Json as spec;
 ghost use Rattle.secret_forms.specs.Json.{HidesCharacters, json_patterns, json_spellings, json_ways};
-ghost use Rattle.secret_forms.specs.Patterns.{AddsPatterns, added_all, pattern_bytes};
-ghost use Rattle.secret_forms.specs.Spelling.{HidesSpelled, json_unit};
+ghost use Rattle.secret_forms.specs.Patterns.{AddsPatterns, ListsPatterns, Writes, pattern_bytes};
+ghost use Rattle.secret_forms.specs.Spelling.{HidesSpelled};
 ghost use Rattle.secret_forms.specs.declared.error.FormError.TheVariants.{TooShort};
 
 use crate::bytewise::{Digits, Json, Marks, Spelling, add_spelled, push_json, push_unit};
@@ -18,7 +18,7 @@ use std::alloc::{AllocError, Global};
 /// Writes a character beyond the first 65,536 as a pair of numbers.
 fn push_pair(out: &mut Vec<u8>, digits: Digits, above: u32) -> Result<(), AllocError>
     requires { above < 1048576 }
-    ensures pair { OnOk result (out.new.items ≡ out.old.items ++ (json_unit digits (spec.high_half above) ++ json_unit digits (spec.low_half above))) }
+    ensures pair { Writes result out.old out.new (spec.json_pair digits above) }
 {
     push_unit(out, digits, (0xD800 + above / 1024) as u16)?;
     push_unit(out, digits, (0xDC00 + above % 1024) as u16)
@@ -26,7 +26,7 @@ fn push_pair(out: &mut Vec<u8>, digits: Digits, above: u32) -> Result<(), AllocE
 
 /// Writes a character of a JSON string that is of ASCII alone.
 fn push_char(out: &mut Vec<u8>, json: Json, character: char) -> Result<(), AllocError>
-    ensures character { OnOk result (out.new.items ≡ out.old.items ++ spec.json_char json character) }
+    ensures character { Writes result out.old out.new (spec.json_char json character) }
 {
     let code = u32::from(character);
     if code < 127 {
@@ -152,7 +152,7 @@ pub(crate) fn add_json(
 pub fn json_forms(alloc: Global, secret: &[u8]) -> Result<Vec<Vec<u8>>, FormError>
     ensures short { length secret.now < 4 → result ≡ Err TooShort }
     ensures long { IfErr result (λ e. e ≡ TooShort → length secret.now < 4) }
-    ensures value { IfOk result (λ v. pattern_bytes v.items ≡ added_all [] (json_patterns secret.now)) }
+    ensures value { ListsPatterns result (json_patterns secret.now) }
     ensures bytes { IfOk result (λ v. All (HidesSpelled (pattern_bytes v.items) secret.now) json_spellings) }
     ensures characters { IfOk result (λ v. IsUtf8 secret.now → All (HidesCharacters (pattern_bytes v.items) secret.now) json_ways) }
 {

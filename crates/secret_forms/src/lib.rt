@@ -17,7 +17,7 @@ mod spelled_form;
 pub use base64_form::base64_forms;
 pub use bytewise::{Digits, Json, Kept, Marks, Quotes, Quoting, Space, Spelling};
 pub use error::FormError;
-pub use form::{Form, forms};
+pub use form::{Form, forms, nested_forms};
 pub use hex_form::hex_forms;
 pub use json_form::json_forms;
 pub use lines_form::lines_forms;

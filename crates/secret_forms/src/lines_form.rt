@@ -6,7 +6,7 @@ ghost use Rattle.std.specs.Prelude.{◌≡◌, ◌<◌, All, Err, IfErr, IfOk, O
 ghost use Rattle.std.specs.List.{slice_split};
 ghost use Rattle.std.specs.Str.Lines.{strip_carriage_return};
 ghost use Rattle.secret_forms.specs.Lines.{HidesLine, ends_line, line_patterns, long_line};
-ghost use Rattle.secret_forms.specs.Patterns.{AddsPatterns, added_all, pattern_bytes};
+ghost use Rattle.secret_forms.specs.Patterns.{AddsPatterns, ListsPatterns, pattern_bytes};
 ghost use Rattle.secret_forms.specs.declared.error.FormError.TheVariants.{TooShort};
 
 use crate::error::{FormError, SHORTEST};
@@ -66,7 +66,7 @@ pub(crate) fn add_lines(
 pub fn lines_forms(alloc: Global, secret: &[u8]) -> Result<Vec<Vec<u8>>, FormError>
     ensures short { length secret.now < 4 → result ≡ Err TooShort }
     ensures long { IfErr result (λ e. e ≡ TooShort → length secret.now < 4) }
-    ensures value { IfOk result (λ v. pattern_bytes v.items ≡ added_all [] (line_patterns secret.now)) }
+    ensures value { ListsPatterns result (line_patterns secret.now) }
     ensures law { IfOk result (λ v. All (HidesLine (pattern_bytes v.items)) (line_patterns secret.now)) }
 {
     if secret.len() < SHORTEST {

@@ -4,7 +4,7 @@
 //! secret does, also where a character is cut in two: an encoder that works by bytes does not see characters.
 
 ghost use Rattle.std.specs.Prelude.{◌≡◌, ◌<◌, All, Err, IfErr, IfOk, [], length};
-ghost use Rattle.secret_forms.specs.Patterns.{added_all, pattern_bytes};
+ghost use Rattle.secret_forms.specs.Patterns.{ListsPatterns, pattern_bytes};
 ghost use Rattle.secret_forms.specs.Spelling.{HidesSpelled, shell_spellings, spelled_by, url_spellings, xml_spellings};
 ghost use Rattle.secret_forms.specs.declared.error.FormError.TheVariants.{TooShort};
 
@@ -22,7 +22,7 @@ pub fn spelled_forms(
 ) -> Result<Vec<Vec<u8>>, FormError>
     ensures short { length secret.now < 4 → result ≡ Err TooShort }
     ensures long { IfErr result (λ e. e ≡ TooShort → length secret.now < 4) }
-    ensures value { IfOk result (λ v. pattern_bytes v.items ≡ added_all [] (spelled_by spellings.now secret.now)) }
+    ensures value { ListsPatterns result (spelled_by spellings.now secret.now) }
     ensures law { IfOk result (λ v. All (HidesSpelled (pattern_bytes v.items) secret.now) spellings.now) }
 {
     if secret.len() < SHORTEST {
@@ -33,8 +33,8 @@ pub fn spelled_forms(
     Ok(patterns)
 }
 
-/// The encoders of URLs: with the unreserved bytes left, with `/` too, `encodeURIComponent` and `encodeURI`, each with a space as any
-/// other byte and as `+`, and each byte encoded; with digits in both cases.
+/// The encoders of URLs: four that leave some bytes, each with a space as any other byte and as `+`, and one that encodes each byte;
+/// with digits in both cases.
 pub(crate) fn url_encoders() -> [Spelling; 18]
     ensures { result ≡ url_spellings }
 {
@@ -66,7 +66,7 @@ pub(crate) fn url_encoders() -> [Spelling; 18]
 pub fn url_forms(alloc: Global, secret: &[u8]) -> Result<Vec<Vec<u8>>, FormError>
     ensures short { length secret.now < 4 → result ≡ Err TooShort }
     ensures long { IfErr result (λ e. e ≡ TooShort → length secret.now < 4) }
-    ensures value { IfOk result (λ v. pattern_bytes v.items ≡ added_all [] (spelled_by url_spellings secret.now)) }
+    ensures value { ListsPatterns result (spelled_by url_spellings secret.now) }
     ensures law { IfOk result (λ v. All (HidesSpelled (pattern_bytes v.items) secret.now) url_spellings) }
 {
     spelled_forms(alloc, secret, &url_encoders())
@@ -89,7 +89,7 @@ pub(crate) fn xml_encoders() -> [Spelling; 5]
 pub fn xml_forms(alloc: Global, secret: &[u8]) -> Result<Vec<Vec<u8>>, FormError>
     ensures short { length secret.now < 4 → result ≡ Err TooShort }
     ensures long { IfErr result (λ e. e ≡ TooShort → length secret.now < 4) }
-    ensures value { IfOk result (λ v. pattern_bytes v.items ≡ added_all [] (spelled_by xml_spellings secret.now)) }
+    ensures value { ListsPatterns result (spelled_by xml_spellings secret.now) }
     ensures law { IfOk result (λ v. All (HidesSpelled (pattern_bytes v.items) secret.now) xml_spellings) }
 {
     spelled_forms(alloc, secret, &xml_encoders())
@@ -111,7 +111,7 @@ pub(crate) fn shell_encoders() -> [Spelling; 4]
 pub fn shell_forms(alloc: Global, secret: &[u8]) -> Result<Vec<Vec<u8>>, FormError>
     ensures short { length secret.now < 4 → result ≡ Err TooShort }
     ensures long { IfErr result (λ e. e ≡ TooShort → length secret.now < 4) }
-    ensures value { IfOk result (λ v. pattern_bytes v.items ≡ added_all [] (spelled_by shell_spellings secret.now)) }
+    ensures value { ListsPatterns result (spelled_by shell_spellings secret.now) }
     ensures law { IfOk result (λ v. All (HidesSpelled (pattern_bytes v.items) secret.now) shell_spellings) }
 {
     spelled_forms(alloc, secret, &shell_encoders())

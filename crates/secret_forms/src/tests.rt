@@ -1,9 +1,8 @@
-//! Rows of Python's own encoders: `bytes.hex`, `base64.b64encode` of the secret with each byte that can stand beside it,
-//! `urllib.parse.quote`, `json.dumps`, `xml.sax.saxutils.escape` and `shlex.quote`.
+//! Rows of Python's own encoders, of base64 of the secret with each byte that can stand beside it.
 
 use crate::{
-    Form, FormError, base64_forms, forms, hex_forms, json_forms, lines_forms, shell_forms,
-    url_forms, xml_forms,
+    Form, FormError, base64_forms, forms, hex_forms, json_forms, lines_forms, nested_forms,
+    shell_forms, url_forms, xml_forms,
 };
 use std::alloc::Global;
 
@@ -141,6 +140,23 @@ fn forms_in_their_order(rt: HostRuntime) {
 fn forms_of_none(rt: HostRuntime) {
     let text = shown(rt.alloc(), forms(rt.alloc(), b"key.", &[])).expect(&rt, "memory");
     assert_eq!(rt; text.as_slice(), b"".as_slice());
+}
+
+#[test]
+fn base64_of_json(rt: HostRuntime) {
+    let patterns = nested_forms(rt.alloc(), b"k\"ey", Form::Json, Form::Base64);
+    let text = shown(rt.alloc(), patterns).expect(&rt, "memory");
+    let row: &[u8] =
+        b"a1wiZX a1wiZXk a1wiZXl a1wiZXm a1wiZXn tcImV5 GtcImV5 WtcImV5 mtcImV5 2tcImV5 rXCJle BrXCJle FrXCJle JrXCJle NrXCJle RrXCJle VrXCJle ZrXCJle drXCJle hrXCJle lrXCJle prXCJle trXCJle xrXCJle 1rXCJle 5rXCJle 9rXCJle rXCJleQ rXCJleR rXCJleS rXCJleT rXCJleU rXCJleV rXCJleW rXCJleX rXCJleY rXCJleZ rXCJlea rXCJleb rXCJlec rXCJled rXCJlee rXCJlef ";
+    assert_eq!(rt; text.as_slice(), row);
+}
+
+#[test]
+fn urls_of_digits(rt: HostRuntime) {
+    let patterns = nested_forms(rt.alloc(), b"a/b.", Form::Hex, Form::Url);
+    let text = shown(rt.alloc(), patterns).expect(&rt, "memory");
+    let row: &[u8] = b"612f622e %36%31%32%66%36%32%32%65 612F622E %36%31%32%46%36%32%32%45 ";
+    assert_eq!(rt; text.as_slice(), row);
 }
 
 #[test]

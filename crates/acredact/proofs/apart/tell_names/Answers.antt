@@ -2,7 +2,7 @@
 use Rattle.std.proofs.Common.{rules, ◌≡◌, ℕ, List, [], ◌++◌, length, refl, sym, ap, subst, ◌∙◌, append-nil, append_assoc}
 use Rattle.programs.specs.Telling.{TellsBytes}
 use Rattle.programs.proofs.Tellings.{tells-later}
-use Rattle.acredact.specs.Apart.{bytes_of, unnamed_line, unnamed_lines}
+use Rattle.acredact.specs.Apart.{bytes_of_names, unnamed_line, unnamed_lines}
 use Rattle.acredact.proofs.Done.{tells_none}
 use Rattle.acredact.proofs.ShownNames.{nil_of}
 use Rattle.acredact.proofs.apart.tell_names.Goals as goal
@@ -14,9 +14,9 @@ pub loop-name-preserved : goal.loop-name-preserved
 loop-name-preserved g c =
     let (done, is, told) = c.loop-name.invariant in
     let name = c.in-Some.name.now.items in
-    let others = unnamed_lines (bytes_of c.in-Some.behind.now) in (
+    let others = unnamed_lines (bytes_of_names c.in-Some.behind.now) in (
       done ++ unnamed_line name,
-      is ∙ ap (λ l. done ++ unnamed_lines (bytes_of l)) c.in-Some.ensures.cases.0 ∙ sym (append_assoc done (unnamed_line name) others),
+      is ∙ ap (λ l. done ++ unnamed_lines (bytes_of_names l)) c.in-Some.ensures.cases.0 ∙ sym (append_assoc done (unnamed_line name) others),
       tells-later g.E.Sink told (subst (λ (l : List ℕ). TellsBytes g.E.Sink c.loop-name.errors c.tell_shown.new.errors (unnamed_line l)) c.as_slice.ensures.value c.tell_shown.ensures.told),
     )
 
@@ -24,4 +24,4 @@ pub returns : goal.returns
 returns g c =
     let (done, is, told) = c.loop-name.invariant in
     let none : length c.loop-name.rest.now ≡ 0 = search rules in
-    record { told = subst (TellsBytes g.E.Sink _ _) (sym (is ∙ ap (λ l. done ++ unnamed_lines (bytes_of l)) (nil_of c.loop-name.rest.now none) ∙ append-nil done)) told }
+    record { told = subst (TellsBytes g.E.Sink _ _) (sym (is ∙ ap (λ l. done ++ unnamed_lines (bytes_of_names l)) (nil_of c.loop-name.rest.now none) ∙ append-nil done)) told }

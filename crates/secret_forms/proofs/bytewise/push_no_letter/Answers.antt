@@ -3,9 +3,9 @@ use Rattle.std.proofs.Common.{rules}
 use Rattle.secret_forms.specs.Spelling.{json_no_letter}
 use Rattle.secret_forms.proofs.bytewise.push_no_letter.Goals as goal
 
-pub returns-then-is_numbered : goal.returns-then-is_numbered
+pub returns-then-is_by_number : goal.returns-then-is_by_number
 unfolding json_no_letter
-returns-then-is_numbered c = search rules
+returns-then-is_by_number c = search rules
 
 pub returns : goal.returns
 unfolding json_no_letter
