@@ -4,7 +4,7 @@ ghost use Rattle.std.specs.Prelude.{◌≡◌, ◌++◌, [], ◌∷◌, Some, No
 ghost use Rattle.programs.specs.Arguments.{kind_by, texts};
 ghost use Rattle.acredact.specs.Arguments.{ReadsAs, all_asked, all_given, by_any, by_argument, checks_asked, counts_asked, covers_asked, given, given_by, has, in_place_asked, in_place_mixture_of, is_cover, is_same, is_value_of, by_joined, kind_asked, last_value, by_letter, by_letters, mixture_of, by_name, option_name, output_asked, by_taken, takes_value, by_value};
 ghost use Rattle.acredact.specs.Long.{word_by_name};
-ghost use Rattle.acredact.specs.Mistakes.{FailsAs, IsMistake, IsMistakeOfCall, TellsAs, kind_line, line_of_any, line_of_argument, line_of_joined, line_of_letter, line_of_letters, line_of_name};
+ghost use Rattle.acredact.specs.Mistakes.{FailsAs, IsMistake, IsMistakeOfCall, TellsAs, line_of_any, line_of_argument, line_of_joined, line_of_letter, line_of_letters, line_of_name, mistake_line, value_line};
 
 use crate::forms::are_forms;
 use crate::long::option_of;
@@ -397,7 +397,7 @@ fn read_value<'a>(
 ) -> Result<Expects, Mistake<'a>>
     ensures read { ReadsAs (by_value word value.now) items.old items.new result }
     ensures refused { FailsAs (by_value word value.now) items.old result }
-    ensures wrong { TellsAs kind_line result }
+    ensures wrong { TellsAs (value_line word) result }
 {
     if !is_value_of(word, value) {
         return Err(unknown_value(word));
@@ -407,11 +407,13 @@ fn read_value<'a>(
 }
 
 /// Why an option cannot have a value.
-fn unknown_value<'a>(word: Word) -> Mistake<'a> {
-    match word {
-        Word::Forms => Mistake::UnknownForm,
-        _ => Mistake::UnknownKind,
+fn unknown_value<'a>(word: Word) -> Mistake<'a>
+    ensures line { mistake_line result ≡ value_line word }
+{
+    if is_same(Word::Forms, word) {
+        return Mistake::UnknownForm;
     }
+    Mistake::UnknownKind
 }
 
 /// Whether this is the kind that covers each byte of each match.

@@ -1,37 +1,49 @@
 //! Forms of patterns: how a secret that is encoded gets into a log. Which patterns a form has is told by `secret_forms`.
 
-ghost use Rattle.std.specs.Prelude.{◌≡◌, OnOk, IfOk, Some};
-ghost use Rattle.acredact.specs.Forms.{AddsForms, are_forms, form_by, forms_by, forms_in, is_all};
+ghost use Rattle.std.specs.Prelude.{◌≡◌, ◌<◌, ◌∷◌, ◌++◌, [], IfOk, OnOk, Some, length, map};
+ghost use Rattle.std.specs.List.{filter, list_all, list_any};
+ghost use Rattle.acredact.specs.Forms.{HaveForms, IsHidden, all_forms, are_forms, asks_for, form_secret, forms_asked, forms_of, is_all, is_called, is_name, name_of, names_in, secret_at};
+ghost use Rattle.acredact.specs.Parts.{AddsSome};
+ghost use Rattle.acredact.specs.Tables.{secret_of};
+ghost use Rattle.secret_forms.specs.Patterns.{pattern_bytes};
 
 use crate::patterns::{Rule, copy_of, split_at};
 use secret_forms::{Form, FormError, forms};
 use std::alloc::{AllocError, Global};
 
-/// All forms, in the order of their patterns.
-const ALL: [Form; 7] = [
-    Form::Base64,
-    Form::Hex,
-    Form::Url,
-    Form::Json,
-    Form::Xml,
-    Form::Shell,
-    Form::Lines,
-];
-
-/// The form of this name.
-fn form_by(name: &[u8]) -> Option<Form>
-    ensures form { result ≡ form_by name.now }
+/// How a form is called.
+fn name_of(form: Form) -> &'static [u8]
+    ensures name { result.now ≡ name_of form }
 {
-    match name {
-        b"base64" => Some(Form::Base64),
-        b"hex" => Some(Form::Hex),
-        b"url" => Some(Form::Url),
-        b"json" => Some(Form::Json),
-        b"xml" => Some(Form::Xml),
-        b"shell" => Some(Form::Shell),
-        b"lines" => Some(Form::Lines),
-        _ => None,
+    match form {
+        Form::Base64 => b"base64",
+        Form::Hex => b"hex",
+        Form::Url => b"url",
+        Form::Json => b"json",
+        Form::Xml => b"xml",
+        Form::Shell => b"shell",
+        Form::Lines => b"lines",
     }
+}
+
+/// Whether a form is called so.
+fn is_called(name: &[u8], form: Form) -> bool
+    ensures called { result ≡ is_called name.now form }
+{
+    name == name_of(form)
+}
+
+/// Whether some form is called so.
+fn is_name(name: &[u8]) -> bool
+    ensures name { result ≡ is_name name.now }
+{
+    is_called(name, Form::Base64)
+        || is_called(name, Form::Hex)
+        || is_called(name, Form::Url)
+        || is_called(name, Form::Json)
+        || is_called(name, Form::Xml)
+        || is_called(name, Form::Shell)
+        || is_called(name, Form::Lines)
 }
 
 /// Whether this names all forms.
@@ -46,43 +58,72 @@ pub fn are_forms(value: &str) -> bool
     ensures are { result ≡ are_forms value.now }
 {
     let value = value.as_bytes();
-    is_all(value) || are_named(value)
+    is_all(value) || are_names(value)
 }
 
 /// Whether a value is names of forms with commas between them.
-fn are_named(value: &[u8]) -> bool {
+fn are_names(value: &[u8]) -> bool
+    ensures are { result ≡ list_all is_name (names_in value.now) }
+{
     let mut rest = value;
     while let Some((name, behind)) = split_at(rest, b',') {
-        if form_by(name).is_none() {
+        if !is_name(name) {
             return false;
         }
         rest = behind;
     }
-    form_by(rest).is_some()
+    is_name(rest)
 }
 
-/// The forms that a value names.
-fn forms_by(alloc: Global, value: &str) -> Result<Vec<Form>, AllocError>
-    ensures forms { IfOk result (λ forms. forms_in value.now ≡ Some forms.items) }
+/// Whether a value names this form.
+fn asks_for(value: &[u8], form: Form) -> bool
+    ensures asks { result ≡ asks_for value.now form }
 {
-    let value = value.as_bytes();
-    let mut forms = Vec::new(alloc);
-    if is_all(value) {
-        forms.extend_from_slice(&ALL)?;
-        return Ok(forms);
-    }
+    is_all(value) || is_among(value, form)
+}
+
+/// Whether the name of this form stands in a value.
+fn is_among(value: &[u8], form: Form) -> bool
+    ensures among { result ≡ list_any (λ name. is_called name form) (names_in value.now) }
+{
     let mut rest = value;
     while let Some((name, behind)) = split_at(rest, b',') {
-        push_form(&mut forms, name)?;
+        if is_called(name, form) {
+            return true;
+        }
         rest = behind;
     }
-    push_form(&mut forms, rest)?;
+    is_called(rest, form)
+}
+
+/// The forms that a value names, each once.
+fn forms_by(alloc: Global, value: &[u8]) -> Result<Vec<Form>, AllocError>
+    ensures forms { IfOk result (λ forms. forms.items ≡ filter (asks_for value.now) all_forms) }
+{
+    let all = [
+        Form::Base64,
+        Form::Hex,
+        Form::Url,
+        Form::Json,
+        Form::Xml,
+        Form::Shell,
+        Form::Lines,
+    ];
+    let mut forms = Vec::new(alloc);
+    let mut rest = all.as_slice();
+    while !rest.is_empty() {
+        push_asked(&mut forms, value, rest[0])?;
+        rest = &rest[1..];
+    }
     Ok(forms)
 }
 
-/// Adds the form of this name.
-fn push_form(forms: &mut Vec<Form>, name: &[u8]) -> Result<(), AllocError> {
-    if let Some(form) = form_by(name) {
+/// Adds a form, if the value names it.
+fn push_asked(forms: &mut Vec<Form>, value: &[u8], form: Form) -> Result<(), AllocError>
+    ensures pushed { OnOk result (forms.new.items
+        ≡ forms.old.items ++ filter (asks_for value.now) (form ∷ [])) }
+{
+    if asks_for(value, form) {
         forms.push(form)?;
     }
     Ok(())
@@ -90,8 +131,10 @@ fn push_form(forms: &mut Vec<Form>, name: &[u8]) -> Result<(), AllocError> {
 
 /// Adds the patterns of the forms that a value names, for each rule in order: each is replaced as the rule's own pattern is, and
 /// counts for it. A pattern of fewer than four bytes has none.
-pub fn add_forms(alloc: Global, rules: &mut Vec<Rule>, value: &str) -> Result<(), AllocError> {
-    let forms = forms_by(alloc, value)?;
+pub fn add_forms(alloc: Global, rules: &mut Vec<Rule>, value: &str) -> Result<(), AllocError>
+    ensures formed { OnOk result (HaveForms (forms_asked (Some value.now)) rules.old.items rules.new.items) }
+{
+    let forms = forms_by(alloc, value.as_bytes())?;
     let count = rules.len();
     let mut number = 0;
     while number < count {
@@ -107,24 +150,54 @@ fn add_forms_of(
     rules: &mut Vec<Rule>,
     number: usize,
     wanted: &[Form],
-) -> Result<(), AllocError> {
-    let patterns = match forms(alloc, rules[number].pattern.as_slice(), wanted) {
-        Ok(patterns) => patterns,
-        Err(FormError::TooShort) => return Ok(()),
-        Err(FormError::OutOfMemory) => return Err(AllocError),
-    };
-    for pattern in patterns {
-        let replacement = match &rules[number].replacement {
-            Some(bytes) => Some(copy_of(alloc, bytes.as_slice())?),
-            None => None,
-        };
-        rules.push(Rule {
-            pattern,
-            replacement,
-            list: rules[number].list,
-            line: 0,
-            form_of: Some(number),
-        })?;
+) -> Result<(), AllocError>
+    requires there { number < length rules.old.items }
+    ensures added { OnOk result (AddsSome (λ more. more
+        ≡ forms_of wanted.now number (secret_at rules.old.items number)) rules.old rules.new) }
+    ensures hidden { OnOk result (IsHidden wanted.now (secret_at rules.old.items number)) }
+{
+    match forms(alloc, rules[number].pattern.as_slice(), wanted) {
+        Ok(patterns) => add_patterns(alloc, rules, number, patterns.as_slice()),
+        Err(FormError::TooShort) => Ok(()),
+        Err(FormError::OutOfMemory) => Err(AllocError),
+    }
+}
+
+/// Adds a rule for each of some patterns of forms of a rule.
+fn add_patterns(
+    alloc: Global,
+    rules: &mut Vec<Rule>,
+    number: usize,
+    patterns: &[Vec<u8>],
+) -> Result<(), AllocError>
+    requires there { number < length rules.old.items }
+    ensures added { OnOk result (AddsSome (λ more. more
+        ≡ map (form_secret number (secret_at rules.old.items number)) (pattern_bytes patterns.now))
+        rules.old rules.new) }
+{
+    let mut rest = patterns;
+    while !rest.is_empty() {
+        let made = form_of(alloc, &rules[number], number, rest[0].as_slice())?;
+        rules.push(made)?;
+        rest = &rest[1..];
     }
     Ok(())
+}
+
+/// The rule of a pattern that is one of a form of another rule.
+fn form_of(alloc: Global, rule: &Rule, number: usize, pattern: &[u8]) -> Result<Rule, AllocError>
+    ensures form { IfOk result (λ made. secret_of made
+        ≡ form_secret number (secret_of rule.now) pattern.now) }
+{
+    let replacement = match &rule.replacement {
+        Some(bytes) => Some(copy_of(alloc, bytes.as_slice())?),
+        None => None,
+    };
+    Ok(Rule {
+        pattern: copy_of(alloc, pattern)?,
+        replacement,
+        list: rule.list,
+        line: 0,
+        form_of: Some(number),
+    })
 }

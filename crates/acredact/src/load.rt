@@ -5,10 +5,12 @@ ghost use Rattle.aho_devices.specs.Counts.{counted};
 ghost use Rattle.programs.specs.Streams.{bytes_left};
 ghost use Rattle.acredact.specs.Arguments.{all_given, given_of};
 ghost use Rattle.acredact.specs.Calls.{rules_asked};
-ghost use Rattle.acredact.specs.Loading.{AddsFile, AddsItem, AddsList, CannotLoad, CannotLoadKey, CannotLoadOne, CannotRead, GivesRules, IsFileFailure, IsKeyFailure, IsPatternFailure, IsTextFailure, IsTextReason, LoadsKey, ReadsKey, ReadsList, is_failed_text, reading_of_lists, rules_for};
+ghost use Rattle.acredact.specs.Forms.{HaveForms};
+ghost use Rattle.acredact.specs.Loading.{AddsFile, AddsItem, AddsList, CannotLoad, CannotLoadAll, CannotLoadKey, CannotLoadOne, CannotRead, GivesRules, IsFileFailure, IsKeyFailure, IsPatternFailure, IsTextFailure, IsTextReason, LoadsKey, ReadsKey, ReadsList, ReadsRules, is_failed_text, reading_of_lists, rules_for};
 ghost use Rattle.acredact.specs.Parts.{AddsSome, ArePartsBy, GivesPattern};
 ghost use Rattle.acredact.specs.Reads.{ReadsText};
-ghost use Rattle.acredact.specs.declared.failure.Failure.TheVariants.{Pattern};
+ghost use Rattle.acredact.specs.declared.failure.Failure.TheVariants.{Other, Pattern};
+ghost use Rattle.programs.specs.declared.failure.Failure.TheVariants.{OutOfMemory as OutOfMemoryFailure};
 ghost use Rattle.acredact.specs.declared.patterns.LineFault.TheVariants.{OutOfMemory};
 
 use crate::arguments::{Item, Word, covers, has, last_value};
@@ -72,7 +74,11 @@ pub fn rules<'a, F: Folder, I: Read>(
     lists: &Lists<'_, F>,
     items: &[Item<'a>],
     input: &mut FromRead<I>,
-) -> Result<Vec<Rule>, Failure<'a>> {
+) -> Result<Vec<Rule>, Failure<'a>>
+    ensures given { IfOk result (λ rules.
+        GivesRules F.Folder lists.now (all_given items.now) rules input.old input.new) }
+    ensures fails { IfErr result (CannotLoadAll (reading_of_lists F.Folder lists.now) (all_given items.now)) }
+{
     match read_rules(lists, items, input) {
         Ok(rules) => with_forms(lists, rules),
         Err(failure) => Err(failure),
@@ -80,7 +86,10 @@ pub fn rules<'a, F: Folder, I: Read>(
 }
 
 /// These rules, and behind them those of their forms.
-fn with_forms<'a, F>(lists: &Lists<'_, F>, rules: Vec<Rule>) -> Result<Vec<Rule>, Failure<'a>> {
+fn with_forms<'a, F>(lists: &Lists<'_, F>, rules: Vec<Rule>) -> Result<Vec<Rule>, Failure<'a>>
+    ensures formed { IfOk result (λ made. HaveForms (rules_for lists.now).forms rules.items made.items) }
+    ensures fails { IfErr result (λ failure. failure ≡ Other OutOfMemoryFailure) }
+{
     let mut rules = rules;
     if let Some(forms) = lists.forms {
         let Ok(()) = add_forms(lists.alloc, &mut rules, forms) else {
@@ -100,8 +109,8 @@ fn read_rules<'a, F: Folder, I: Read>(
     items: &[Item<'a>],
     input: &mut FromRead<I>,
 ) -> Result<Vec<Rule>, Failure<'a>>
-    ensures given { IfOk result (λ rules.
-        GivesRules F.Folder lists.now (all_given items.now) rules input.old input.new) }
+    ensures read { IfOk result (λ rules.
+        ReadsRules F.Folder lists.now (all_given items.now) rules input.old input.new) }
     ensures fails { IfErr result (CannotLoadOne (reading_of_lists F.Folder lists.now) (all_given items.now)) }
 {
     let mut rules = Vec::new(lists.alloc);
