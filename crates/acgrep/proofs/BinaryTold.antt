@@ -6,7 +6,7 @@ use Rattle.std.proofs.KnownBytes.{Appends-trans, Consumes-trans, Keeps-refl}
 use Rattle.std.proofs.lemmas.Bool.{and_parts, lt-ltb, not-true, true≢false}
 use Rattle.aho_core.specs.Patterns.{Patterns}
 use Rattle.aho_devices.specs.Counts.{AppendsBeginning}
-use Rattle.acgrep.specs.Binary.{BeginsGuarded, TellsGuarded, binary_by, binary_lines, is_guarded, is_text, seeking, text_lines, writes_lines}
+use Rattle.acgrep.specs.Binary.{BeginsGuarded, TellsGuarded, binary_by, binary_lines, is_guarded, is_text, lines_sought, seeking, takes_text, text_lines, writes_lines}
 use Rattle.acgrep.specs.Contexts.{BeginsAsked, IsBegin, SearchesText, TellsFile, TellsIn, around_of, walk_of}
 use Rattle.acgrep.specs.Files.{BeginsFile, BeginsFileIn, BeginsTotal, SearchesFile, SearchesReader, TellsSearched, total_if}
 use Rattle.acgrep.specs.Guarded.{BeginsBinary, BeginsPast, FindsSelected, IsFirstBinary, SearchesFront, SearchesPast}
@@ -21,7 +21,7 @@ use Rattle.acgrep.specs.declared.print.Style.{Style}
 use Rattle.acgrep.specs.declared.select.Job.{Job}
 use Rattle.acgrep.specs.declared.select.State.{State}
 use Rattle.acgrep.proofs.BinaryLines.{binary_behind, first_binary, first_some, first_text, some_binary, some_text, text_behind}
-use Rattle.acgrep.proofs.FileTellings.{TextTold, shows_nothing, some_front, tells_any, tells_none, text_behind as text_read, text_told}
+use Rattle.acgrep.proofs.FileTellings.{TextTold, shows_nothing, some_front, sought_all, tells_any, tells_none, text_behind as text_read, text_told}
 use Rattle.acgrep.proofs.FilesBegun.{nil_front}
 use Rattle.acgrep.proofs.Grouped.{told_around}
 use Rattle.acgrep.proofs.LineLists.{lines_append}
@@ -35,7 +35,7 @@ pub or_false : (b : Bool) → b ≡ (b || false)
 or_false true = refl
 or_false false = refl
 
-some_behind : (P : List ℕ → Type 0) (ls ms : List (List ℕ)) → SomeLine P ms → SomeLine P (ls ++ ms)
+pub some_behind : (P : List ℕ → Type 0) (ls ms : List (List ℕ)) → SomeLine P ms → SomeLine P (ls ++ ms)
 some_behind P [] ms some = some
 some_behind P (line ∷ ls) ms some = inr (some_behind P ls ms some)
 
@@ -66,11 +66,18 @@ guarded_some p job ls false true true first others is = absurd (cc)
 guarded_some p job ls false true false first others is = some_binary (IsSelected p job.fit job.invert) ls others
 guarded_some p job ls false false full first others is = absurd (cc)
 
-pub either_some : (p : Patterns) (job : Job) (text bytes : List ℕ) (guarded : Bool) → MatchBool guarded (TellsGuarded p job text true bytes) (TellsSearched p job text true bytes)
-    → SomeLine (IsSelected p job.fit job.invert) (lines job.style.ending text)
-either_some p job text bytes true tells =
-    guarded_some p job (lines job.style.ending text) tells.some tells.more (is_full job.most tells.count) tells.selected tells.others tells.is_any
-either_some p job text bytes false tells = tells.0
+-- where lines are kept from the output all are searched
+guarded_all : (job : Job) → is_guarded job ≡ true → takes_text job ≡ false
+guarded_all job guarded =
+    let guards : job.guards ≡ true = (and_parts job.guards (not (job.style.ending == 0)) (and_parts (writes_lines job.shown) (job.guards && not (job.style.ending == 0)) guarded).1).0 in
+    ap (λ (b : Bool). not b && (job.text_alone && not (job.style.ending == 0))) guards
+
+pub either_some : (p : Patterns) (job : Job) (text bytes : List ℕ) (guarded : Bool) → is_guarded job ≡ guarded
+    → MatchBool guarded (TellsGuarded p job text true bytes) (TellsSearched p job (lines_sought job text) true bytes) → SomeLine (IsSelected p job.fit job.invert) (lines_sought job text)
+either_some p job text bytes true is tells =
+    subst (SomeLine (IsSelected p job.fit job.invert)) (sym (sought_all job text (guarded_all job is)))
+    (guarded_some p job (lines job.style.ending text) tells.some tells.more (is_full job.most tells.count) tells.selected tells.others tells.is_any)
+either_some p job text bytes false is tells = tells.0
 
 module _ (p : Patterns) (job : Job) where
   -- whether a line is selected, of those that were searched and others behind which nothing is told
@@ -259,6 +266,12 @@ module _ (p : Patterns) (job : Job) where
     written = begins.written;
   }
 
+  -- lines that were searched and those behind them
+  pub lines_cut : (came searched rest more : List ℕ) → came ≡ searched ++ rest → EndsLine job.style.ending searched
+      → lines job.style.ending (came ++ more) ≡ lines job.style.ending searched ++ lines job.style.ending (rest ++ more)
+  lines_cut came searched rest more cut whole =
+      ap (λ (l : List ℕ). lines job.style.ending (l ++ more)) cut ∙ ap (lines job.style.ending) (append_assoc searched rest more) ∙ lines_append job.style.ending searched (rest ++ more) whole
+
   module _ (guarded : is_guarded job ≡ true) where
     begins_guarded : (known held held' : Option (List ℕ)) → BeginsGuarded p job known held held' → BeginsFile p job known held held'
     begins_guarded known held held' begins =
@@ -286,7 +299,7 @@ module _ (p : Patterns) (job : Job) where
       text = text;
       of = of;
       bytes = told.bytes ++ (if more then binary_by job.style else []);
-      tells = subst (λ (b : Bool). MatchBool b (TellsGuarded p job text any (told.bytes ++ (if more then binary_by job.style else []))) (TellsSearched p job text any (told.bytes ++ (if more then binary_by job.style else []))))
+      tells = subst (λ (b : Bool). MatchBool b (TellsGuarded p job text any (told.bytes ++ (if more then binary_by job.style else []))) (TellsSearched p job (lines_sought job text) any (told.bytes ++ (if more then binary_by job.style else []))))
           (sym guarded) (record {
             told = told.bytes;
             count = count;
@@ -304,12 +317,6 @@ module _ (p : Patterns) (job : Job) where
     match_none : (full : Bool) → MatchBool full (false ≡ false) (IsAny p job.fit job.invert [] false)
     match_none true = refl
     match_none false = tt
-
-    -- lines that were searched and those behind them
-    lines_cut : (came searched rest more : List ℕ) → came ≡ searched ++ rest → EndsLine job.style.ending searched
-        → lines job.style.ending (came ++ more) ≡ lines job.style.ending searched ++ lines job.style.ending (rest ++ more)
-    lines_cut came searched rest more cut whole =
-        ap (λ (l : List ℕ). lines job.style.ending (l ++ more)) cut ∙ ap (lines job.style.ending) (append_assoc searched rest more) ∙ lines_append job.style.ending searched (rest ++ more) whole
 
     -- no line with a zero byte came, or none that is to be told of
     pub reader_past : (before state : State) (left left' held meanwhile : Option (List ℕ)) → IsBegin job before → SearchesPast p job (course before state held meanwhile left left')
@@ -479,12 +486,12 @@ module _ (p : Patterns) (job : Job) where
                 read = read;
                 ended = elim finds.ends [
                   | inl end ↦ inl end
-                  | inr seen ↦ inr (inr (inr (
+                  | inr seen ↦ inr (inr (inr (inl (
                     guarded,
                     is ∙ or_true (nat_lt 0 state.selected) found seen,
                     subst (SomeLine (λ (line : List ℕ). is_text line ≡ false)) (sym (front_cut finds.came))
                         (some_behind (λ (line : List ℕ). is_text line ≡ false) (lines job.style.ending front.some.searched) (lines job.style.ending (kept ++ finds.came)) (first_some (lines job.style.ending (kept ++ finds.came)) (front_binary finds.came))),
-                  )))
+                  ))))
                 ];
               };
             }

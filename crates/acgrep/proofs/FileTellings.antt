@@ -7,7 +7,7 @@ use Rattle.std.proofs.lemmas.Bool.{cases_Bool, lt-ltb, ltb-false, ltb-true}
 use Rattle.aho_core.specs.Patterns.{Patterns}
 use Rattle.programs.specs.Names.{is_input}
 use Rattle.acgrep.specs.Alone.{asks_alone}
-use Rattle.acgrep.specs.Binary.{TellsGuarded, is_guarded}
+use Rattle.acgrep.specs.Binary.{TellsGuarded, is_guarded, lines_by, lines_sought, takes_text, text_lines}
 use Rattle.acgrep.specs.Contexts.{IsBegin, SearchesIn, TellsFile, TellsIn, around_by, around_of, walk_of}
 use Rattle.acgrep.specs.Files.{EndsFile, IfSearched, IsNamed, IsRead, SearchesFile, SearchesName, SearchesReader, TellsBy, TellsSearched, count_if, known_of, shown_name, total_if}
 use Rattle.acgrep.specs.Lines.{EndsLine, lines}
@@ -46,6 +46,13 @@ pub some_front : (P : List ℕ → Type 0) (ls ms : List (List ℕ)) → SomeLin
 some_front P [] ms some = absurd some
 some_front P (line ∷ ls) ms (inl here) = inl here
 some_front P (line ∷ ls) ms (inr later) = inr (some_front P ls ms later)
+
+-- all lines of a text are searched, or those before the first with a zero byte
+pub sought_all : (job : Job) (text : List ℕ) → takes_text job ≡ false → lines_sought job text ≡ lines job.style.ending text
+sought_all job text wholly = ap (λ (b : Bool). lines_by b job.style.ending text) wholly
+
+pub sought_text : (job : Job) (text : List ℕ) → takes_text job ≡ true → lines_sought job text ≡ text_lines (lines job.style.ending text)
+sought_text job text alone = ap (λ (b : Bool). lines_by b job.style.ending text) alone
 
 -- the text of a reader of which some bytes were read
 pub text_behind : (left left' : Option (List ℕ)) (bytes : List ℕ) → Consumes left left' bytes
@@ -96,83 +103,95 @@ module _ (p : Patterns) (job : Job) where
         | inr none ↦ rw none (tells_each ls place 0 bytes total told (omega (arith, ltb-false 0 total none)))
       ]
 
-  -- what is written of a whole text
-  by_whole : (shown : Shown) → shown ≡ job.shown → (text told : List ℕ) (count : ℕ) → TellsIn p job (around_by shown job.context) (lines job.style.ending text) told count
-      → TellsBy p job shown text (nat_lt 0 count) (told ++ total_if shown job.style count)
-  by_whole Lines is text told count tells =
-      (told, count, subst (λ (shown : Shown). TellsIn p job (around_by shown job.context) (lines job.style.ending text) told count) is tells, ap (λ (shown : Shown). told ++ count_if shown job.style count) is)
-  by_whole Matches is text told count tells =
-      (told, count, subst (λ (shown : Shown). TellsIn p job (around_by shown job.context) (lines job.style.ending text) told count) is tells, ap (λ (shown : Shown). told ++ count_if shown job.style count) is)
-  by_whole Objects is text told count tells =
-      (told, count, subst (λ (shown : Shown). TellsIn p job (around_by shown job.context) (lines job.style.ending text) told count) is tells, ap (λ (shown : Shown). told ++ count_if shown job.style count) is)
-  by_whole Count is text told count tells =
-      (told, count, subst (λ (shown : Shown). TellsIn p job (around_by shown job.context) (lines job.style.ending text) told count) is tells, ap (λ (shown : Shown). told ++ count_if shown job.style count) is)
-  by_whole Names is text told count tells =
-      ap (λ (l : List ℕ). l ++ total_if Names job.style count) (tells_none (lines job.style.ending text) job.first 0 told count (ap needs_one (sym is)) tells)
-  by_whole Lacking is text told count tells =
-      ap (λ (l : List ℕ). l ++ total_if Lacking job.style count) (tells_none (lines job.style.ending text) job.first 0 told count (ap needs_one (sym is)) tells)
-  by_whole Nothing is text told count tells =
-      ap (λ (l : List ℕ). l ++ []) (tells_none (lines job.style.ending text) job.first 0 told count (ap needs_one (sym is)) tells)
+  -- what is written of all lines
+  by_whole : (shown : Shown) → shown ≡ job.shown → (ls : List (List ℕ)) (told : List ℕ) (count : ℕ) → TellsIn p job (around_by shown job.context) ls told count
+      → TellsBy p job shown ls (nat_lt 0 count) (told ++ total_if shown job.style count)
+  by_whole Lines is ls told count tells =
+      (told, count, subst (λ (shown : Shown). TellsIn p job (around_by shown job.context) ls told count) is tells, ap (λ (shown : Shown). told ++ count_if shown job.style count) is)
+  by_whole Matches is ls told count tells =
+      (told, count, subst (λ (shown : Shown). TellsIn p job (around_by shown job.context) ls told count) is tells, ap (λ (shown : Shown). told ++ count_if shown job.style count) is)
+  by_whole Objects is ls told count tells =
+      (told, count, subst (λ (shown : Shown). TellsIn p job (around_by shown job.context) ls told count) is tells, ap (λ (shown : Shown). told ++ count_if shown job.style count) is)
+  by_whole Count is ls told count tells =
+      (told, count, subst (λ (shown : Shown). TellsIn p job (around_by shown job.context) ls told count) is tells, ap (λ (shown : Shown). told ++ count_if shown job.style count) is)
+  by_whole Names is ls told count tells =
+      ap (λ (l : List ℕ). l ++ total_if Names job.style count) (tells_none ls job.first 0 told count (ap needs_one (sym is)) tells)
+  by_whole Lacking is ls told count tells =
+      ap (λ (l : List ℕ). l ++ total_if Lacking job.style count) (tells_none ls job.first 0 told count (ap needs_one (sym is)) tells)
+  by_whole Nothing is ls told count tells =
+      ap (λ (l : List ℕ). l ++ []) (tells_none ls job.first 0 told count (ap needs_one (sym is)) tells)
 
   -- and where one selected line told all
-  by_front : (shown : Shown) (text : List ℕ) (count : ℕ) → needs_one shown ≡ true → 0 < count → TellsBy p job shown text true (total_if shown job.style count)
-  by_front Lines text count one some = absurd (cc)
-  by_front Matches text count one some = absurd (cc)
-  by_front Objects text count one some = absurd (cc)
-  by_front Count text count one some = absurd (cc)
-  by_front Names text count one some =
+  by_front : (shown : Shown) (ls : List (List ℕ)) (count : ℕ) → needs_one shown ≡ true → 0 < count → TellsBy p job shown ls true (total_if shown job.style count)
+  by_front Lines ls count one some = absurd (cc)
+  by_front Matches ls count one some = absurd (cc)
+  by_front Objects ls count one some = absurd (cc)
+  by_front Count ls count one some = absurd (cc)
+  by_front Names ls count one some =
       let is : nat_lt 0 count ≡ true = lt-ltb 0 count some in
       ap (λ (any : Bool). if any then file_line job.style else []) is
-  by_front Lacking text count one some =
+  by_front Lacking ls count one some =
       let is : nat_lt 0 count ≡ true = lt-ltb 0 count some in
       ap (λ (any : Bool). if any then [] else file_line job.style) is
-  by_front Nothing text count one some = refl
+  by_front Nothing ls count one some = refl
 
   pub shows_nothing : (place : Place) (line bytes : List ℕ) → needs_one job.shown ≡ true → ShowsLine p job place line bytes → bytes ≡ []
   shows_nothing place line bytes one shows = shows_none p job.shown _ job.invert job.style place line bytes one shows
 
-  -- what is told where lines with a zero byte are written too
-  unguarded : is_guarded job ≡ false → (text : List ℕ) (any : Bool) (bytes : List ℕ) → IsAny p job.fit job.invert (lines job.style.ending text) any → TellsBy p job job.shown text any bytes
-      → MatchBool (is_guarded job) (TellsGuarded p job text any bytes) (TellsSearched p job text any bytes)
-  unguarded plainly text any bytes selected tells =
-      subst (λ (b : Bool). MatchBool b (TellsGuarded p job text any bytes) (TellsSearched p job text any bytes)) (sym plainly) (selected, tells)
+  -- what is told where lines with a zero byte are written too, or not searched
+  unguarded : is_guarded job ≡ false → (text : List ℕ) (any : Bool) (bytes : List ℕ) → TellsSearched p job (lines_sought job text) any bytes
+      → MatchBool (is_guarded job) (TellsGuarded p job text any bytes) (TellsSearched p job (lines_sought job text) any bytes)
+  unguarded plainly text any bytes tells =
+      subst (λ (b : Bool). MatchBool b (TellsGuarded p job text any bytes) (TellsSearched p job (lines_sought job text) any bytes)) (sym plainly) tells
 
-  -- all of a text was searched
-  file_whole : is_guarded job ≡ false → (state : State) (known held meanwhile held' : Option (List ℕ)) (text told plain : List ℕ) → IfSome known (λ (all : List ℕ). text ≡ all)
-      → TellsOfLines p job job.first 0 (lines job.style.ending text) plain state.selected → TellsFile p job (lines job.style.ending text) told state.selected → Appends held meanwhile told
-      → (any : Bool) → EndsFile job state.selected meanwhile held' any → SearchesFile p job known held held' any
-  file_whole plainly state known held meanwhile held' text told plain of selects tells written any ends =
+  -- what is asked of a file is written of which these lines are searched
+  pub record LinesSearched (held held' : Option (List ℕ)) (ls : List (List ℕ)) (any : Bool) : Type 0 where
+    pub bytes : List ℕ
+    pub tells : TellsSearched p job ls any bytes
+    pub written : Appends held held' bytes
+
+  -- all were
+  lines_whole : (state : State) (held meanwhile held' : Option (List ℕ)) (ls : List (List ℕ)) (told plain : List ℕ) → TellsOfLines p job job.first 0 ls plain state.selected
+      → TellsFile p job ls told state.selected → Appends held meanwhile told → (any : Bool) → EndsFile job state.selected meanwhile held' any → LinesSearched held held' ls any
+  lines_whole state held meanwhile held' ls told plain selects tells written any ends =
       let count = state.selected in
       record {
-        text = text;
-        of = of;
         bytes = told ++ total_if job.shown job.style count;
-        tells = unguarded plainly text any (told ++ total_if job.shown job.style count)
-            (subst (IsAny p job.fit job.invert (lines job.style.ending text)) (sym ends.is_any) (tells_any (lines job.style.ending text) job.first plain count selects))
-            (subst (λ (any : Bool). TellsBy p job job.shown text any (told ++ total_if job.shown job.style count)) (sym ends.is_any) (by_whole job.shown refl text told count tells));
+        tells = (
+          subst (IsAny p job.fit job.invert ls) (sym ends.is_any) (tells_any ls job.first plain count selects),
+          subst (λ (any : Bool). TellsBy p job job.shown ls any (told ++ total_if job.shown job.style count)) (sym ends.is_any) (by_whole job.shown refl ls told count tells),
+        );
         written = Appends-trans held meanwhile held' told (total_if job.shown job.style count) written ends.written;
       }
 
   -- a line was selected that told all
-  file_front : is_guarded job ≡ false → (state : State) (known held meanwhile held' : Option (List ℕ)) (text told : List ℕ) (ls : List (List ℕ)) → IfSome known (λ (all : List ℕ). text ≡ all)
-      → TellsOfLines p job job.first 0 ls told state.selected → needs_one job.shown ≡ true → 0 < state.selected → (SomeLine (IsSelected p job.fit job.invert) ls → SomeLine (IsSelected p job.fit job.invert) (lines job.style.ending text))
-      → Appends held meanwhile told → (any : Bool) → EndsFile job state.selected meanwhile held' any → SearchesFile p job known held held' any × (any ≡ true)
-  file_front plainly state known held meanwhile held' text told ls of tells one some front written any ends =
+  lines_front : (state : State) (held meanwhile held' : Option (List ℕ)) (ls searched : List (List ℕ)) (told : List ℕ) → TellsOfLines p job job.first 0 searched told state.selected
+      → needs_one job.shown ≡ true → 0 < state.selected → (SomeLine (IsSelected p job.fit job.invert) searched → SomeLine (IsSelected p job.fit job.invert) ls)
+      → Appends held meanwhile told → (any : Bool) → EndsFile job state.selected meanwhile held' any → LinesSearched held held' ls any
+  lines_front state held meanwhile held' ls searched told tells one some front written any ends =
       let count = state.selected in
       let is : any ≡ true = ends.is_any ∙ lt-ltb 0 count some in
-      let none : told ≡ [] = tells_none ls job.first 0 told count one tells in (
-        record {
-          text = text;
-          of = of;
-          bytes = total_if job.shown job.style count;
-          tells = unguarded plainly text any (total_if job.shown job.style count)
-              (subst (IsAny p job.fit job.invert (lines job.style.ending text)) (sym is) (front (tells_some ls job.first 0 told count tells refl some)))
-              (subst (λ (any : Bool). TellsBy p job job.shown text any (total_if job.shown job.style count)) (sym is) (by_front job.shown text count one some));
-          written = subst (λ (l : List ℕ). Appends held held' (l ++ total_if job.shown job.style count)) none
-              (Appends-trans held meanwhile held' told (total_if job.shown job.style count) written ends.written);
-        },
-        is,
-      )
+      let none : told ≡ [] = tells_none searched job.first 0 told count one tells in
+      record {
+        bytes = total_if job.shown job.style count;
+        tells = (
+          subst (IsAny p job.fit job.invert ls) (sym is) (front (tells_some searched job.first 0 told count tells refl some)),
+          subst (λ (any : Bool). TellsBy p job job.shown ls any (total_if job.shown job.style count)) (sym is) (by_front job.shown ls count one some),
+        );
+        written = subst (λ (l : List ℕ). Appends held held' (l ++ total_if job.shown job.style count)) none
+            (Appends-trans held meanwhile held' told (total_if job.shown job.style count) written ends.written);
+      }
+
+  -- a text of which these are the lines that are searched is that of the file
+  pub file_of : is_guarded job ≡ false → (known held held' : Option (List ℕ)) (text : List ℕ) (any : Bool) → IfSome known (λ (all : List ℕ). text ≡ all)
+      → LinesSearched held held' (lines_sought job text) any → SearchesFile p job known held held' any
+  file_of plainly known held held' text any of done = record {
+    text = text;
+    of = of;
+    bytes = done.bytes;
+    tells = unguarded plainly text any done.bytes done.tells;
+    written = done.written;
+  }
 
   -- what was told of the lines of a text from the begin of its file on, and of any that follow where nothing more is told
   pub record TextTold (around : Option Context) (state : State) (held meanwhile : Option (List ℕ)) (text : List ℕ) : Type 0 where
@@ -249,89 +268,89 @@ module _ (p : Patterns) (job : Job) where
   one_around Lacking context one = refl
   one_around Nothing context one = refl
 
+  -- lines that were told, and others behind which nothing more is told
+  pub lines_told : (state : State) (held meanwhile held' : Option (List ℕ)) (text : List ℕ) (told : TextTold (around_of job) state held meanwhile text) (ls later : List (List ℕ))
+      → ls ≡ told.searched ++ later → (later ≡ []) ⊎ IsSettled job state → (any : Bool) → EndsFile job state.selected meanwhile held' any → LinesSearched held held' ls any
+  lines_told state held meanwhile held' text told ls later cut (inl none) any ends =
+      let first : ls ≡ told.searched ++ [] = cut ∙ ap (λ (l : List (List ℕ)). told.searched ++ l) none in
+      lines_whole state held meanwhile held' ls told.bytes told.plain
+      (subst (λ (l : List (List ℕ)). TellsOfLines p job job.first 0 l told.plain state.selected) (sym (first ∙ append-nil told.searched)) told.tells)
+      (subst (λ (l : List (List ℕ)). TellsFile p job l told.bytes state.selected) (sym first) (told.file [] (inl refl))) told.written any ends
+  lines_told state held meanwhile held' text told ls later cut (inr (inl (one, some))) any ends =
+      lines_front state held meanwhile held' ls told.searched told.plain told.tells one some
+      (λ (is : SomeLine (IsSelected p job.fit job.invert) told.searched). subst (SomeLine (IsSelected p job.fit job.invert)) (sym cut) (some_front (IsSelected p job.fit job.invert) told.searched later is))
+      (subst (Appends held meanwhile) (told.single (one_around job.shown job.context one)) told.written) any ends
+  lines_told state held meanwhile held' text told ls later cut (inr (inr (full, past))) any ends =
+      lines_whole state held meanwhile held' ls told.bytes told.plain
+      (subst (λ (l : List (List ℕ)). TellsOfLines p job job.first 0 l told.plain state.selected) (sym cut) (tells_full p job told.searched later job.first 0 state.selected told.plain full told.tells))
+      (subst (λ (l : List (List ℕ)). TellsFile p job l told.bytes state.selected) (sym cut) (told.file later (inr (full, past)))) told.written any ends
+
+  -- up to these bytes a reader was read
+  pub settled_read : (state : State) (held meanwhile held' left left' : Option (List ℕ)) (text bytes : List ℕ) (told : TextTold (around_of job) state held meanwhile text) (later : List (List ℕ))
+      → Consumes left left' bytes → lines job.style.ending bytes ≡ told.searched ++ later → IsSettled job state → (any : Bool) → EndsFile job state.selected meanwhile held' any → IsRead p job left left' any
+  settled_read state held meanwhile held' left left' text bytes told later read cut (inl (one, some)) any ends =
+      record { bytes = bytes; read = read; ended = inr (inl (one, ends.is_any ∙ lt-ltb 0 state.selected some)) }
+  settled_read state held meanwhile held' left left' text bytes told later read cut (inr (full, past)) any ends = record {
+    bytes = bytes;
+    read = read;
+    ended = inr (inr (inl (
+      told.plain,
+      state.selected,
+      subst (λ (ls : List (List ℕ)). TellsOfLines p job job.first 0 ls told.plain state.selected) (sym cut)
+          (tells_full p job told.searched later job.first 0 state.selected told.plain full told.tells),
+      full,
+    )));
+  }
+
+  -- where a text was told to its end nothing is left
+  pub left_none : (state : State) (held meanwhile : Option (List ℕ)) (text : List ℕ) (told : TextTold (around_of job) state held meanwhile text)
+      → (lines job.style.ending told.left ≡ []) ⊎ IsSettled job state
+  left_none state held meanwhile text told = elim told.ends [ inl whole ↦ inl (ap (lines job.style.ending) whole) | inr settled ↦ inr settled ]
+
   -- what was searched of a reader, and what is asked of a file as a whole: it was read to its end
-  read_whole : is_guarded job ≡ false → (before state : State) (left left' held meanwhile held' : Option (List ℕ)) → IsBegin job before → (stream : SearchesStream p job (course before state held meanwhile left left'))
-      → stream.rest ≡ [] → IsAtEnd left' → (any : Bool) → EndsFile job state.selected meanwhile held' any → SearchesReader p job left left' held held' any
-  read_whole plainly before state left left' held meanwhile held' begin stream empty end any ends =
+  read_whole : is_guarded job ≡ false → takes_text job ≡ false → (before state : State) (left left' held meanwhile held' : Option (List ℕ)) → IsBegin job before
+      → (stream : SearchesStream p job (course before state held meanwhile left left')) → stream.rest ≡ [] → IsAtEnd left' → (any : Bool) → EndsFile job state.selected meanwhile held' any
+      → SearchesReader p job left left' held held' any
+  read_whole plainly wholly before state left left' held meanwhile held' begin stream empty end any ends =
       let (more, known, none) = text_behind left left' (stream.searched ++ stream.rest) stream.consumed in
       let text = (stream.searched ++ stream.rest) ++ more in
       let told = text_told (around_of job) before state held meanwhile stream.searched begin stream.searches in
       let all : text ≡ stream.searched = ap (λ (l : List ℕ). (stream.searched ++ stream.rest) ++ l) (none end) ∙ append-nil (stream.searched ++ stream.rest)
       ∙ ap (λ (l : List ℕ). stream.searched ++ l) empty ∙ append-nil stream.searched in
-      let same : lines job.style.ending text ≡ told.searched ++ lines job.style.ending told.left = ap (lines job.style.ending) all ∙ told.cut in
-      let read : IsRead p job left left' any = record { bytes = stream.searched ++ stream.rest; read = stream.consumed; ended = inl end } in
-      elim told.ends [
-        | inl whole ↦
-            let first : lines job.style.ending text ≡ told.searched ++ [] = same ∙ ap (λ (l : List ℕ). told.searched ++ lines job.style.ending l) whole in
-            record {
-              file = file_whole plainly state left held meanwhile held' text told.bytes told.plain known
-                  (subst (λ (ls : List (List ℕ)). TellsOfLines p job job.first 0 ls told.plain state.selected) (sym (first ∙ append-nil told.searched)) told.tells)
-                  (subst (λ (ls : List (List ℕ)). TellsFile p job ls told.bytes state.selected) (sym first) (told.file [] (inl refl))) told.written any ends;
-              reads = read;
-            }
-        | inr (inl (one, some)) ↦ record {
-          file = (file_front plainly state left held meanwhile held' text told.plain told.searched known told.tells one some
-              (λ (is : SomeLine (IsSelected p job.fit job.invert) told.searched). subst (SomeLine (IsSelected p job.fit job.invert)) (sym same) (some_front (IsSelected p job.fit job.invert) told.searched (lines job.style.ending told.left) is))
-              (subst (Appends held meanwhile) (told.single (one_around job.shown job.context one)) told.written) any ends).0;
-          reads = read;
-        }
-        | inr (inr (full, past)) ↦ record {
-          file = file_whole plainly state left held meanwhile held' text told.bytes told.plain known
-              (subst (λ (ls : List (List ℕ)). TellsOfLines p job job.first 0 ls told.plain state.selected) (sym same)
-              (tells_full p job told.searched (lines job.style.ending told.left) job.first 0 state.selected told.plain full told.tells))
-              (subst (λ (ls : List (List ℕ)). TellsFile p job ls told.bytes state.selected) (sym same) (told.file (lines job.style.ending told.left) (inr (full, past)))) told.written any ends;
-          reads = read;
-        }
-      ]
+      let same : lines_sought job text ≡ told.searched ++ lines job.style.ending told.left = sought_all job text wholly ∙ ap (lines job.style.ending) all ∙ told.cut in
+      record {
+        file = file_of plainly left held held' text any known
+            (lines_told state held meanwhile held' stream.searched told (lines_sought job text) (lines job.style.ending told.left) same (left_none state held meanwhile stream.searched told) any ends);
+        reads = record { bytes = stream.searched ++ stream.rest; read = stream.consumed; ended = inl end };
+      }
 
   -- or up to lines behind which nothing more is told
-  read_front : is_guarded job ≡ false → (before state : State) (left left' held meanwhile held' : Option (List ℕ)) → IsBegin job before → (stream : SearchesStream p job (course before state held meanwhile left left'))
-      → EndsLine job.style.ending stream.searched → IsSettled job state → (any : Bool) → EndsFile job state.selected meanwhile held' any → SearchesReader p job left left' held held' any
-  read_front plainly before state left left' held meanwhile held' begin stream whole settled any ends =
+  read_front : is_guarded job ≡ false → takes_text job ≡ false → (before state : State) (left left' held meanwhile held' : Option (List ℕ)) → IsBegin job before
+      → (stream : SearchesStream p job (course before state held meanwhile left left')) → EndsLine job.style.ending stream.searched → IsSettled job state → (any : Bool)
+      → EndsFile job state.selected meanwhile held' any → SearchesReader p job left left' held held' any
+  read_front plainly wholly before state left left' held meanwhile held' begin stream whole settled any ends =
       let (more, known, none) = text_behind left left' (stream.searched ++ stream.rest) stream.consumed in
       let text = (stream.searched ++ stream.rest) ++ more in
       let told = text_told (around_of job) before state held meanwhile stream.searched begin stream.searches in
       let later = lines job.style.ending told.left ++ lines job.style.ending (stream.rest ++ more) in
-      let same : lines job.style.ending text ≡ told.searched ++ later =
-      ap (lines job.style.ending) (append_assoc stream.searched stream.rest more) ∙ lines_append job.style.ending stream.searched (stream.rest ++ more) whole
+      let same : lines_sought job text ≡ told.searched ++ later =
+      sought_all job text wholly ∙ ap (lines job.style.ending) (append_assoc stream.searched stream.rest more) ∙ lines_append job.style.ending stream.searched (stream.rest ++ more) whole
       ∙ ap (λ (l : List (List ℕ)). l ++ lines job.style.ending (stream.rest ++ more)) told.cut ∙ append_assoc told.searched (lines job.style.ending told.left) (lines job.style.ending (stream.rest ++ more)) in
-      elim settled [
-        | inl (one, some) ↦
-            let found = file_front plainly state left held meanwhile held' text told.plain told.searched known told.tells one some
-            (λ (is : SomeLine (IsSelected p job.fit job.invert) told.searched). subst (SomeLine (IsSelected p job.fit job.invert)) (sym same) (some_front (IsSelected p job.fit job.invert) told.searched later is))
-            (subst (Appends held meanwhile) (told.single (one_around job.shown job.context one)) told.written) any ends in
-            record {
-              file = found.0;
-              reads = record { bytes = stream.searched ++ stream.rest; read = stream.consumed; ended = inr (inl (one, found.1)) };
-            }
-        | inr (full, past) ↦
-            let front : lines job.style.ending (stream.searched ++ stream.rest) ≡ told.searched ++ (lines job.style.ending told.left ++ lines job.style.ending stream.rest) =
-            lines_append job.style.ending stream.searched stream.rest whole ∙ ap (λ (l : List (List ℕ)). l ++ lines job.style.ending stream.rest) told.cut ∙ append_assoc told.searched (lines job.style.ending told.left) (lines job.style.ending stream.rest) in
-            record {
-              file = file_whole plainly state left held meanwhile held' text told.bytes told.plain known
-                  (subst (λ (ls : List (List ℕ)). TellsOfLines p job job.first 0 ls told.plain state.selected) (sym same)
-                  (tells_full p job told.searched later job.first 0 state.selected told.plain full told.tells))
-                  (subst (λ (ls : List (List ℕ)). TellsFile p job ls told.bytes state.selected) (sym same) (told.file later (inr (full, past)))) told.written any ends;
-              reads = record {
-                bytes = stream.searched ++ stream.rest;
-                read = stream.consumed;
-                ended = inr (inr (inl (
-                  told.plain,
-                  state.selected,
-                  subst (λ (ls : List (List ℕ)). TellsOfLines p job job.first 0 ls told.plain state.selected) (sym front)
-                      (tells_full p job told.searched (lines job.style.ending told.left ++ lines job.style.ending stream.rest) job.first 0 state.selected told.plain full told.tells),
-                  full,
-                )));
-              };
-            }
-      ]
+      let front : lines job.style.ending (stream.searched ++ stream.rest) ≡ told.searched ++ (lines job.style.ending told.left ++ lines job.style.ending stream.rest) =
+      lines_append job.style.ending stream.searched stream.rest whole ∙ ap (λ (l : List (List ℕ)). l ++ lines job.style.ending stream.rest) told.cut
+      ∙ append_assoc told.searched (lines job.style.ending told.left) (lines job.style.ending stream.rest) in
+      record {
+        file = file_of plainly left held held' text any known (lines_told state held meanwhile held' stream.searched told (lines_sought job text) later same (inr settled) any ends);
+        reads = settled_read state held meanwhile held' left left' stream.searched (stream.searched ++ stream.rest) told (lines job.style.ending told.left ++ lines job.style.ending stream.rest)
+            stream.consumed front settled any ends;
+      }
 
-  pub reader_searched : is_guarded job ≡ false → (before state : State) (left left' held meanwhile held' : Option (List ℕ)) → IsBegin job before → SearchesStream p job (course before state held meanwhile left left')
-      → (any : Bool) → EndsFile job state.selected meanwhile held' any → SearchesReader p job left left' held held' any
-  reader_searched plainly before state left left' held meanwhile held' begin stream any ends =
+  pub reader_searched : is_guarded job ≡ false → takes_text job ≡ false → (before state : State) (left left' held meanwhile held' : Option (List ℕ)) → IsBegin job before
+      → SearchesStream p job (course before state held meanwhile left left') → (any : Bool) → EndsFile job state.selected meanwhile held' any → SearchesReader p job left left' held held' any
+  reader_searched plainly wholly before state left left' held meanwhile held' begin stream any ends =
       elim stream.ends [
-        | inl (empty, end) ↦ read_whole plainly before state left left' held meanwhile held' begin stream empty end any ends
-        | inr (whole, settled) ↦ read_front plainly before state left left' held meanwhile held' begin stream whole settled any ends
+        | inl (empty, end) ↦ read_whole plainly wholly before state left left' held meanwhile held' begin stream empty end any ends
+        | inr (whole, settled) ↦ read_front plainly wholly before state left left' held meanwhile held' begin stream whole settled any ends
       ]
 
 -- what follows where a file was searched

@@ -6,7 +6,7 @@ use Rattle.std.specs.Io.KnownBytes.{Appends, Keeps}
 use Rattle.std.proofs.KnownBytes.{Appends-trans, Keeps-trans}
 use Rattle.aho_core.specs.Patterns.{Patterns}
 use Rattle.acgrep.specs.Alone.{asks_alone}
-use Rattle.acgrep.specs.Binary.{BeginsGuarded, is_guarded, text_lines}
+use Rattle.acgrep.specs.Binary.{BeginsGuarded, is_guarded, lines_sought, takes_text, text_lines}
 use Rattle.acgrep.specs.Contexts.{BeginsAsked, IsBegin, TellsIn, WalksBegun, around_by, around_of, walk_of}
 use Rattle.acgrep.specs.Files.{AreFilesBegun, BeginsAround, BeginsFile, BeginsFileIn, BeginsName, BeginsPlain, IsNamed, known_of, shown_name, BeginsTotal, IfBroken, total_if}
 use Rattle.acgrep.specs.Lines.{lines}
@@ -23,7 +23,7 @@ use Rattle.acgrep.specs.declared.print.Style.{Style}
 use Rattle.acgrep.specs.declared.select.Job.{Job}
 use Rattle.acgrep.specs.declared.select.State.{State}
 use Rattle.acgrep.proofs.Beginnings.{starts_more, starts_none}
-use Rattle.acgrep.proofs.FileTellings.{text_behind}
+use Rattle.acgrep.proofs.FileTellings.{sought_all, text_behind}
 use Rattle.acgrep.proofs.Grouped.{told_around}
 use Rattle.acgrep.proofs.LineLists.{lines_append}
 use Rattle.acgrep.proofs.Streams.{keeps_nil}
@@ -106,7 +106,7 @@ module _ (p : Patterns) (job : Job) where
 
   -- lines of which a beginning was told, and a beginning of what is asked of the file as a whole
   plain_begins : (before state : State) (known held meanwhile held' : Option (List ℕ)) (text : List ℕ) (ls others : List (List ℕ)) → IsBegin job before
-      → IfSome known (λ (all : List ℕ). text ≡ all) → lines job.style.ending text ≡ ls ++ others
+      → IfSome known (λ (all : List ℕ). text ≡ all) → lines_sought job text ≡ ls ++ others
       → BeginsLines p job before state.selected held meanwhile ls → BeginsTotal job state.selected meanwhile held' → BeginsPlain p job known held held'
   plain_begins before state known held meanwhile held' text ls others begin of cut begins total =
       let start = after_lines job.first begins.first in
@@ -114,7 +114,7 @@ module _ (p : Patterns) (job : Job) where
       let starts = subst (λ (at : Place). StartsNext p job at state.selected begins.left begins.begun) there begins.starts in
       let tells = subst (λ (at : Place). TellsOfLines p job at 0 begins.first begins.told state.selected) begin.place
       (subst (λ (n : ℕ). TellsOfLines p job before.place n begins.first begins.told state.selected) begin.selected begins.tells) in
-      let all : lines job.style.ending text ≡ begins.first ++ (begins.left ++ others) = cut ∙ ap (λ (l : List (List ℕ)). l ++ others) begins.cut ∙ append_assoc begins.first begins.left others in
+      let all : lines_sought job text ≡ begins.first ++ (begins.left ++ others) = cut ∙ ap (λ (l : List (List ℕ)). l ++ others) begins.cut ∙ append_assoc begins.first begins.left others in
       let written : Appends held held' ((begins.told ++ begins.begun) ++ total.begun) =
       Appends-trans held meanwhile held' (begins.told ++ begins.begun) total.begun begins.written total.written in
       elim (either_none start begins.left begins.begun state.selected total.begun total.missing starts total.cut) [
@@ -148,7 +148,7 @@ module _ (p : Patterns) (job : Job) where
 
   -- the same with lines around selected ones
   around_begins : (context : Context) (before state : State) (known held meanwhile held' : Option (List ℕ)) (text : List ℕ) (ls others : List (List ℕ)) → IsBegin job before
-      → IfSome known (λ (all : List ℕ). text ≡ all) → lines job.style.ending text ≡ ls ++ others → WalksBegun p job context (walk_of before) held meanwhile ls → Appends meanwhile held' []
+      → IfSome known (λ (all : List ℕ). text ≡ all) → lines_sought job text ≡ ls ++ others → WalksBegun p job context (walk_of before) held meanwhile ls → Appends meanwhile held' []
       → BeginsAround p job context known held held'
   around_begins context before state known held meanwhile held' text ls others begin of cut begins keeps = record {
     text = text;
@@ -175,8 +175,8 @@ module _ (p : Patterns) (job : Job) where
   no_total Lacking asked context style count is = absurd (cc)
   no_total Nothing asked context style count is = absurd (cc)
 
-  begins_in : (around : Option Context) → around_of job ≡ around → (before state : State) (known held meanwhile held' : Option (List ℕ)) (text : List ℕ) (ls others : List (List ℕ)) → IsBegin job before
-      → IfSome known (λ (all : List ℕ). text ≡ all) → lines job.style.ending text ≡ ls ++ others → BeginsAsked p job around before state.selected held meanwhile ls → BeginsTotal job state.selected meanwhile held'
+  pub begins_in : (around : Option Context) → around_of job ≡ around → (before state : State) (known held meanwhile held' : Option (List ℕ)) (text : List ℕ) (ls others : List (List ℕ)) → IsBegin job before
+      → IfSome known (λ (all : List ℕ). text ≡ all) → lines_sought job text ≡ ls ++ others → BeginsAsked p job around before state.selected held meanwhile ls → BeginsTotal job state.selected meanwhile held'
       → BeginsFileIn p job around known held held'
   begins_in None is before state known held meanwhile held' text ls others begin of cut begins total =
       plain_begins before state known held meanwhile held' text ls others begin of cut begins total
@@ -185,12 +185,12 @@ module _ (p : Patterns) (job : Job) where
       around_begins context before state known held meanwhile held' text ls others begin of cut begins (subst (Appends meanwhile held') none total.written)
 
   -- a stream that was broken off, and a beginning of what is asked of the file as a whole
-  pub file_begins : is_guarded job ≡ false → (before state : State) (left left' held meanwhile held' : Option (List ℕ)) → IsBegin job before → BeginsStream p job (course before state held meanwhile left left')
+  pub file_begins : is_guarded job ≡ false → takes_text job ≡ false → (before state : State) (left left' held meanwhile held' : Option (List ℕ)) → IsBegin job before → BeginsStream p job (course before state held meanwhile left left')
       → BeginsTotal job state.selected meanwhile held' → BeginsFile p job left held held'
-  file_begins plainly before state left left' held meanwhile held' begin stream total =
+  file_begins plainly wholly before state left left' held meanwhile held' begin stream total =
       let (text, known, others, cut) = lines_read before state left left' held meanwhile stream in
       subst (λ (b : Bool). MatchBool b (BeginsGuarded p job left held held') (BeginsFileIn p job (around_of job) left held held')) (sym plainly)
-      (begins_in (around_of job) refl before state left held meanwhile held' text (lines job.style.ending stream.searched) others begin known cut stream.begins total)
+      (begins_in (around_of job) refl before state left held meanwhile held' text (lines job.style.ending stream.searched) others begin known (sought_all job text wholly ∙ cut) stream.begins total)
 
   -- nothing is written of a file
   none_plain : (known held held' : Option (List ℕ)) → Keeps held held' → BeginsPlain p job known held held'
@@ -198,26 +198,26 @@ module _ (p : Patterns) (job : Job) where
     text = [];
     of = tt;
     first = [];
-    left = [];
+    left = lines_sought job [];
     cut = refl;
     told = [];
     count = 0;
     tells = (refl, refl);
     begun = [];
-    starts = inl refl;
+    starts = inl (starts_none p job job.first 0 (lines_sought job []));
     written = keeps_nil held held' keeps;
   }
   none_plain (Some bytes) held held' keeps = record {
     text = bytes;
     of = refl;
     first = [];
-    left = lines job.style.ending bytes;
+    left = lines_sought job bytes;
     cut = refl;
     told = [];
     count = 0;
     tells = (refl, refl);
     begun = [];
-    starts = inl (starts_none p job job.first 0 (lines job.style.ending bytes));
+    starts = inl (starts_none p job job.first 0 (lines_sought job bytes));
     written = keeps_nil held held' keeps;
   }
 
@@ -236,7 +236,7 @@ module _ (p : Patterns) (job : Job) where
     text = text;
     of = of;
     first = [];
-    left = lines job.style.ending text;
+    left = lines_sought job text;
     cut = refl;
     all = [];
     count = 0;

@@ -9,7 +9,7 @@ use Rattle.std.specs.Prelude.{◌||◌}
 use Rattle.acgrep.specs.Arguments.{Origin, Said, fit_by}
 use Rattle.acgrep.specs.Files.{AreFilesSearched, AreSearchedOr, is_enough}
 use Rattle.acgrep.specs.Folders.{Known}
-use Rattle.acgrep.specs.Runs.{AreSought, BeginsFor, BeginsOrKeeps, SelectsNoLine, SearchesFor, SearchesReached, inverts, kind_sought, knows_none, words_sought}
+use Rattle.acgrep.specs.Runs.{AreSought, BeginsFor, BeginsOrKeeps, BeginsSearch, SelectsNoLine, SearchesFor, SearchesReached, SearchesRuled, inverts, kind_sought, knows_none, names_by, ruled, sources_by, words_sought}
 use Rattle.acgrep.specs.Searchers.{patterns_asked}
 use Rattle.acgrep.specs.declared.colors.Screen.{Screen}
 use Rattle.acgrep.specs.declared.select.Job.{Job}
@@ -104,6 +104,29 @@ module _ (held' held'' : Option (List ℕ)) (kept : Keeps held' held'') where
         begins-counts-kept given.flags begins.words (λ old new. BeginsOrKeeps known screen given p names begins.between old new) held held' held'' kept
         (begun_held known screen given p names begins.between held) begins.begun;
   })
+
+-- what was done by rules that were read
+pub ruled_kept : (held' held'' : Option (List ℕ)) → Keeps held' held'' → (known : Known) (screen : Screen) (given : Said) (left left' held : Option (List ℕ)) (status : ℕ)
+    → SearchesRuled known screen given left left' held held' status → SearchesRuled known screen given left left' held held'' status
+ruled_kept held' held'' kept known screen given left left' held status done = record {
+  rules = done.rules;
+  between = done.between;
+  read = done.read;
+  searched = searches_kept held' held'' kept known screen (ruled given done.rules) (sources_by given.sources given.operands) (names_by given.sources given.operands)
+      done.between left' held status done.searched;
+}
+
+-- and what was begun
+pub search_held : (held' held'' : Option (List ℕ)) → Keeps held' held'' → (known : Known) (screen : Screen) (given : Said) (left held : Option (List ℕ))
+    → BeginsSearch known screen given left held held' → BeginsSearch known screen given left held held''
+search_held held' held'' kept known screen given left held (inl keeps) = inl (Keeps-trans held held' held'' keeps kept)
+search_held held' held'' kept known screen given left held (inr begins) = inr (record {
+  rules = begins.rules;
+  between = begins.between;
+  read = begins.read;
+  begun = begins_held held' held'' kept known screen (ruled given begins.rules) (sources_by given.sources given.operands) (names_by given.sources given.operands)
+      begins.between held begins.begun;
+})
 
 -- what was said is one thing alone
 pub same_said : (told : Option Said) (given mine : Said) → told ≡ Some given → told ≡ Some mine → mine ≡ given

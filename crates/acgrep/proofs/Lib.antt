@@ -31,12 +31,15 @@ pub mod OrCounted
 pub mod PlacesBehind
 pub mod PlainWords
 pub mod Reaching
+pub mod RuleTexts
+pub mod RuledCalls
 pub mod Statuses
 pub mod Stepped
 pub mod Streams
 pub mod StreamsBegun
 pub mod Tallied
 pub mod Tellings
+pub mod TextAlone
 pub mod Unselected
 pub mod Walked
 pub mod Walking

@@ -1,6 +1,6 @@
 -- Files that are searched one after another.
 use Rattle.std.proofs.Common.{◌≡◌, inl, inr, ◌⊎◌, ℕ, ◌-◌, ◌<◌, Bool, true, false, List, [], ◌∷◌, Option, Bor, length, take, drop, refl, sym, ◌∙◌, ap, subst, arith}
-use Rattle.std.specs.Prelude.{◌||◌, codes, if◌then◌else◌}
+use Rattle.std.specs.Prelude.{◌==◌, ◌&&◌, ◌||◌, codes, not, if◌then◌else◌}
 use Rattle.std.proofs.KnownBytes.{Keeps-refl}
 use Rattle.std.proofs.Math.ListN.{get_or}
 use Rattle.std.proofs.lemmas.Bool.{cases_Bool}
@@ -8,10 +8,9 @@ use Rattle.std.proofs.lemmas.List.{take_all}
 use Rattle.aho_core.specs.Patterns.{Patterns}
 use Rattle.programs.specs.Names.{name_bytes, or_input}
 use Rattle.programs.specs.Answers.{status_of}
-use Rattle.acgrep.specs.Binary.{is_guarded}
-use Rattle.acgrep.specs.Files.{AreFilesBegun, AreFilesSearched, AreSearchedOr, BeginsName, HasSelected, IfBroken, IfSearched, LeavesInput, OneIsSelected, SearchesName, SearchesNames, is_enough, known_of, nothing_seen, seen_after, status_by}
-use Rattle.acgrep.specs.Lines.{lines}
-use Rattle.acgrep.specs.Written.{IsAny}
+use Rattle.acgrep.specs.Binary.{is_guarded, lines_by, lines_sought}
+use Rattle.acgrep.specs.Files.{AreFilesBegun, AreFilesSearched, AreSearchedOr, BeginsName, HasSelected, IfBroken, IfSearched, IsNamed, LeavesInput, OneIsSelected, SearchesName, SearchesNames, is_enough, known_of, nothing_seen, seen_after, shown_name, status_by}
+use Rattle.acgrep.specs.Written.{IsSelected, SomeLine}
 use Rattle.acgrep.specs.declared.files.Outcome.{Outcome}
 use Rattle.acgrep.specs.declared.files.Outcome.TheVariants.{Searched, Unread, Stopped}
 use Rattle.acgrep.specs.declared.files.Seen.{Seen}
@@ -53,6 +52,13 @@ status_clean Lacking any = refl
 status_clean Nothing true = refl
 status_clean Nothing false = refl
 
+-- the same lines of a file of a name are searched
+sought_named : (job named : Job) (name : List ℕ) (follows : Bool) → IsNamed job name follows named → (text : List ℕ) → lines_sought named text ≡ lines_sought job text
+sought_named job named name follows is text =
+    ap (λ (guards : Bool). lines_by (not guards && (named.text_alone && not (named.style.ending == 0))) named.style.ending text) is.guards
+    ∙ ap (λ (alone : Bool). lines_by (not job.guards && (alone && not (named.style.ending == 0))) named.style.ending text) is.text_alone
+    ∙ ap (λ (ending : ℕ). lines_by (not job.guards && (job.text_alone && not (ending == 0))) ending text) is.ending
+
 module _ (p : Patterns) (job : Job) (holds : List ℕ → Option (List ℕ)) (names : List (List ℕ)) (begin held₀ : Option (List ℕ)) where
   -- the files before those of `rest` were searched
   pub record SoFar (rest : List (List ℕ)) (left held : Option (List ℕ)) (seen : Seen) : Type 0 where
@@ -68,10 +74,10 @@ module _ (p : Patterns) (job : Job) (holds : List ℕ → Option (List ℕ)) (na
   name_has follows name left left' held held' searched = (
     searched.file.text,
     searched.file.of,
-    subst (λ (ending : ℕ). IsAny p job.fit job.invert (lines ending searched.file.text) true) searched.is_named.ending
-        (subst (λ (invert : Bool). IsAny p job.fit invert (lines searched.named.style.ending searched.file.text) true) searched.is_named.invert
-        (subst (λ (fit : Fit). IsAny p fit searched.named.invert (lines searched.named.style.ending searched.file.text) true) searched.is_named.fit
-        (either_some p searched.named searched.file.text searched.file.bytes (is_guarded searched.named) searched.file.tells))),
+    subst (SomeLine (IsSelected p job.fit job.invert)) (sought_named job searched.named (shown_name job.label.now name) follows searched.is_named searched.file.text)
+        (subst (λ (invert : Bool). SomeLine (IsSelected p job.fit invert) (lines_sought searched.named searched.file.text)) searched.is_named.invert
+        (subst (λ (fit : Fit). SomeLine (IsSelected p fit searched.named.invert) (lines_sought searched.named searched.file.text)) searched.is_named.fit
+        (either_some p searched.named searched.file.text searched.file.bytes (is_guarded searched.named) refl searched.file.tells))),
   )
 
   -- one file more

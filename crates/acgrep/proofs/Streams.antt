@@ -222,9 +222,9 @@ module _ (p : Patterns) (job : Job) where
   text_kept a b x y z text keeps one = kept_in (around_of job) a b x y z text keeps one
 
   -- a read that gives bytes, and the search of their whole lines
-  unfoldable pub reads_some : (a b : State) (x y z l m : Option (List ℕ)) (kept_before filled kept_after : List ℕ) (count : ℕ) → Keeps x y → FillsBehind kept_before filled l m count
-      → SearchesWhole p job a b y z filled kept_after → ReadsSome p job (course a b x z l m) kept_before kept_after false
-  reads_some a b x y z l m kept_before filled kept_after count keeps fills searches = record {
+  unfoldable pub reads_some : (a b : State) (x y z l m : Option (List ℕ)) (kept_in_front filled kept_after : List ℕ) (count : ℕ) → Keeps x y → FillsBehind kept_in_front filled l m count
+      → SearchesWhole p job a b y z filled kept_after → ReadsSome p job (course a b x z l m) kept_in_front kept_after false
+  reads_some a b x y z l m kept_in_front filled kept_after count keeps fills searches = record {
     came = fills.came;
     searched = searches.searched;
     consumed = fills.read;
@@ -235,9 +235,9 @@ module _ (p : Patterns) (job : Job) where
   }
 
   -- a read that gives none
-  unfoldable pub reads_none : (a : State) (x y l m : Option (List ℕ)) (kept_before kept_after : List ℕ) (count : ℕ) → Keeps x y → FillsBehind kept_before kept_after l m count → count ≡ 0
-      → ReadsSome p job (course a a x y l m) kept_before kept_after true
-  reads_none a x y l m kept_before kept_after count keeps fills zero = record {
+  unfoldable pub reads_none : (a : State) (x y l m : Option (List ℕ)) (kept_in_front kept_after : List ℕ) (count : ℕ) → Keeps x y → FillsBehind kept_in_front kept_after l m count → count ≡ 0
+      → ReadsSome p job (course a a x y l m) kept_in_front kept_after true
+  reads_none a x y l m kept_in_front kept_after count keeps fills zero = record {
     came = fills.came;
     searched = [];
     consumed = fills.read;

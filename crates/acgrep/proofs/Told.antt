@@ -20,7 +20,7 @@ use Rattle.programs.specs.declared.reason.Reason.{Reason}
 use Rattle.programs.proofs.Lines.{some-one, some-tells, some-then, some-weaker, tells-none, tells-weaker, then-some}
 use Rattle.acgrep.specs.Arguments.{Said, origin_of}
 use Rattle.acgrep.specs.Files.{is_enough, seen_after, shown_name, status_by}
-use Rattle.acgrep.specs.Folders.{Tree}
+use Rattle.acgrep.specs.Folders.{Known}
 use Rattle.acgrep.specs.Runs.{origins_of}
 use Rattle.acgrep.specs.Told.{IsMessage, IsToldCause, IsUnopened, MayName, MaySaid, MayTell, TellsIf, TellsOutcome, TellsStatus, files_told, loop_text, no_text_text, output_text, names_said, shown_names, source_names, unopened_line, unusable_text, zero_text}
 use Rattle.acgrep.specs.declared.arguments.Source.{Source}
@@ -294,6 +294,6 @@ sources-cut (source ∷ sources) other all some within =
     (ap (λ (l : List Source). (origin_of source).bytes ∷ source_names (origins_of l)) (sym rest)) within
 
 -- what may be told of a call may be where its arguments say this
-pub told-said : (tree : Tree) (given : Option Said) (line : List ℕ) → MayTell (names_said given) line → MaySaid tree given line
-told-said tree None line is = is
-told-said tree (Some given) line is = inl is
+pub told-said : (known : Known) (left : Option (List ℕ)) (given : Option Said) (line : List ℕ) → MayTell (names_said given) line → MaySaid known left given line
+told-said known left None line is = is
+told-said known left (Some given) line is = inl is

@@ -1,4 +1,4 @@
--- What the arguments of `--color`, `-d` and `-D` name.
+-- What the arguments of `--color`, `-d`, `-D` and `--binary-files` name.
 use Rattle.std.specs.Prelude.{ℕ, ◌||◌, Bool, List, [], ◌∷◌, Option, None, Some, codes, if◌then◌else◌}
 use Rattle.std.specs.Result.{result_ok}
 use Rattle.std.specs.Str.{bytes_eq, str_eq_ignore_ascii_case}
@@ -7,7 +7,7 @@ use Rattle.call_options.specs.declared.found.Found.TheVariants.{Unknown}
 use Rattle.acgrep.specs.declared.options.Color.{Color}
 use Rattle.acgrep.specs.declared.options.Color.TheVariants.{Auto, Always, Never}
 use Rattle.acgrep.specs.declared.options.Switch.{Switch}
-use Rattle.acgrep.specs.declared.options.Switch.TheVariants.{Recursive, ReadFolders, SkipFolders, ReadDevices, SkipDevices}
+use Rattle.acgrep.specs.declared.options.Switch.TheVariants.{Recursive, ReadFolders, SkipFolders, ReadDevices, SkipDevices, Text, TextAlone, Binary}
 
 -- one of three names, in whichever case
 abbrev pub is_one_of : (first second third : List ℕ) → List ℕ → Bool
@@ -37,4 +37,13 @@ abbrev pub devices_named : List ℕ → Option Switch
 devices_named argument =
     if bytes_eq argument (codes "read") then Some ReadDevices
     else if bytes_eq argument (codes "skip") then Some SkipDevices
+    else None
+
+-- and with lines from the first on that holds a zero byte: on a terminal is told alone whether one is selected, they are lines as any
+-- other, or they are not searched
+abbrev pub binary_named : List ℕ → Option Switch
+binary_named argument =
+    if bytes_eq argument (codes "binary") then Some Binary
+    else if bytes_eq argument (codes "text") then Some Text
+    else if bytes_eq argument (codes "without-match") then Some TextAlone
     else None

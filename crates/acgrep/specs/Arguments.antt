@@ -7,21 +7,21 @@ use Rattle.std.specs.Str.Parse.{digits_value}
 use Rattle.aho_core.specs.declared.search.MatchKind.TheVariants.{LeftmostLongest}
 use Rattle.call_options.specs.Forms.{Form, argument_form, joined_letters, long_name, long_with, no_more, no_option}
 use Rattle.acgrep.specs.declared.arguments.Given.{Given}
-use Rattle.acgrep.specs.Actions.{color_named, devices_named, folders_named}
+use Rattle.acgrep.specs.Actions.{binary_named, color_named, devices_named, folders_named}
 use Rattle.acgrep.specs.Formats.{format_pieces}
 use Rattle.acgrep.specs.Long.{option_by}
 use Rattle.acgrep.specs.Rules.{RuleSaid, rules_said, without_slashes}
 use Rattle.acgrep.specs.declared.rules.Sense.{Sense}
-use Rattle.acgrep.specs.declared.rules.Sense.TheVariants.{Include, Exclude, ExcludeFolder}
+use Rattle.acgrep.specs.declared.rules.Sense.TheVariants.{Include, Exclude, ExcludeFrom, ExcludeFolder}
 use Rattle.acgrep.specs.declared.format.Piece.{Piece}
 use Rattle.acgrep.specs.declared.long.Long.{Long}
 use Rattle.acgrep.specs.declared.long.Long.TheVariants.{Plain, Takes, When}
 use Rattle.acgrep.specs.declared.long.Valued.{Valued}
-use Rattle.acgrep.specs.declared.long.Valued.TheVariants.{Regexp, PatternFile, Kind, Offset, FirstLine, MaxCount, After, Before, Around, Separator, Label, Format, Included, Excluded, ExcludedFolder, Folders, Devices}
+use Rattle.acgrep.specs.declared.long.Valued.TheVariants.{Regexp, PatternFile, Kind, Offset, FirstLine, MaxCount, After, Before, Around, Separator, Label, Format, Included, Excluded, ExcludedFrom, ExcludedFolder, Folders, Devices, BinaryFiles}
 use Rattle.acgrep.specs.declared.options.Color.{Color}
 use Rattle.acgrep.specs.declared.options.Context.{Context}
 use Rattle.acgrep.specs.declared.options.Switch.{Switch}
-use Rattle.acgrep.specs.declared.options.Switch.TheVariants.{IgnoreCase, MatchCase, Invert, WholeWords, WholeLines, Counts, Tallies, Numbers, OnlyMatching, Offsets, OnlyNames, OnlyLacking, Recursive, Follow, NullNames, NullData, Quiet, NoSeparator, InitialTab, Json, NoName, WithName, NoMatchOk, NoMessages, Help, Version, Text, ReadFolders, SkipFolders, ReadDevices, SkipDevices, Same}
+use Rattle.acgrep.specs.declared.options.Switch.TheVariants.{IgnoreCase, MatchCase, Invert, WholeWords, WholeLines, Counts, Tallies, Numbers, OnlyMatching, Offsets, OnlyNames, OnlyLacking, Recursive, Follow, NullNames, NullData, Quiet, NoSeparator, InitialTab, Json, NoName, WithName, NoMatchOk, NoMessages, Help, Version, Text, TextAlone, Binary, ReadFolders, SkipFolders, ReadDevices, SkipDevices, Same}
 use Rattle.acgrep.specs.declared.arguments.Awaited.{Awaited}
 use Rattle.acgrep.specs.declared.arguments.Awaited.TheVariants.{Fresh, Argument, Operands}
 use Rattle.acgrep.specs.declared.arguments.Refusal.{Refusal}
@@ -92,10 +92,12 @@ switch_by letter =
     else if letter == 72 then Some WithName
     else if letter == 86 then Some Version
     else if letter == 97 then Some Text
+    else if letter == 73 then Some TextAlone
     else if letter == 70 || (letter == 85 || letter == 117) then Some Same
     else None
 
--- what such an option changes; of `-h` and `-H` the last counts, of `-l` and `-L`, of `-i` and `--no-ignore-case`, and of `-r` and `-d`
+-- what such an option changes; of `-h` and `-H` the last counts, of `-l` and `-L`, of `-i` and `--no-ignore-case`, of `-r` and `-d`, and
+-- of `-a`, `-I` and `--binary-files`
 abbrev pub switched : Switch → Flags → Flags
 switched IgnoreCase flags = record flags { ignore_case = true }
 switched MatchCase flags = record flags { ignore_case = false }
@@ -123,7 +125,9 @@ switched NoMatchOk flags = record flags { no_match_ok = true }
 switched NoMessages flags = record flags { no_messages = true }
 switched Help flags = record flags { help = true }
 switched Version flags = record flags { version = true }
-switched Text flags = record flags { text = true }
+switched Text flags = record flags { text = true; text_alone = false }
+switched TextAlone flags = record flags { text = false; text_alone = true }
+switched Binary flags = record flags { text = false; text_alone = false }
 switched ReadFolders flags = record flags { recursive = false; skips_folders = false }
 switched SkipFolders flags = record flags { recursive = false; skips_folders = true }
 switched ReadDevices flags = record flags { devices = Some true }
@@ -184,9 +188,11 @@ numbered_in Label number flags = flags
 numbered_in Format number flags = flags
 numbered_in Included number flags = flags
 numbered_in Excluded number flags = flags
+numbered_in ExcludedFrom number flags = flags
 numbered_in ExcludedFolder number flags = flags
 numbered_in Folders number flags = flags
 numbered_in Devices number flags = flags
+numbered_in BinaryFiles number flags = flags
 
 abbrev pub with_number : Valued → ℕ → Said → Said
 with_number valued number s = record s { flags = numbered_in valued number s.flags }
@@ -205,16 +211,19 @@ with_pieces s pieces = record s { flags = record s.flags { formatted = true }; f
 abbrev pub with_format : List ℕ → Said → Option Said
 with_format argument s = option_map (λ pieces. with_pieces s pieces) (format_pieces argument)
 
--- a rule more of which files are searched
+-- a rule more of which files are searched, or a file of such rules
 abbrev pub with_rule : Sense → List ℕ → Said → Said
 with_rule sense glob s = record s { rules = s.rules ++ (record { sense = sense; glob = glob } ∷ []) }
 
--- what is done with folders that are operands, and with devices
+-- what is done with folders that are operands, with devices, and with lines from the first on that holds a zero byte
 abbrev pub with_folders : List ℕ → Said → Option Said
 with_folders argument s = option_map (λ switch. record s { flags = switched switch s.flags }) (folders_named argument)
 
 abbrev pub with_devices : List ℕ → Said → Option Said
 with_devices argument s = option_map (λ switch. record s { flags = switched switch s.flags }) (devices_named argument)
+
+abbrev pub with_binary : List ℕ → Said → Option Said
+with_binary argument s = option_map (λ switch. record s { flags = switched switch s.flags }) (binary_named argument)
 
 -- the argument of an option; that of `--exclude-dir` has no slashes at its end
 abbrev pub value_by : Valued → List ℕ → Said → Option ReadSoFar
@@ -232,9 +241,11 @@ value_by Label argument s = Some (said_so (record s { label = argument }))
 value_by Format argument s = option_map said_so (with_format argument s)
 value_by Included argument s = Some (said_so (with_rule Include argument s))
 value_by Excluded argument s = Some (said_so (with_rule Exclude argument s))
+value_by ExcludedFrom argument s = Some (said_so (with_rule ExcludeFrom argument s))
 value_by ExcludedFolder argument s = Some (said_so (with_rule ExcludeFolder (without_slashes argument) s))
 value_by Folders argument s = option_map said_so (with_folders argument s)
 value_by Devices argument s = option_map said_so (with_devices argument s)
+value_by BinaryFiles argument s = option_map said_so (with_binary argument s)
 
 -- the option of a letter that takes an argument, but for those that give patterns
 abbrev pub valued_letter : ℕ → Option Valued
@@ -375,6 +386,7 @@ no_flags = record {
   no_messages = false;
   most = None;
   text = false;
+  text_alone = false;
   help = false;
   version = false;
 }

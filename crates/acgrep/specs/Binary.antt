@@ -1,4 +1,4 @@
--- Lines that hold a zero byte: from the first of them on a file's lines are kept from a terminal.
+-- Lines that hold a zero byte: from the first of them on a file's lines are kept from a terminal, or not searched.
 use Rattle.std.specs.Prelude.{◌≡◌, ◌⊎◌, ℕ, ◌==◌, ◌&&◌, ◌||◌, not, Bool, MatchBool, true, false, List, [], ◌∷◌, ◌++◌, Option, IfSome, codes, if◌then◌else◌}
 use Rattle.std.specs.Io.KnownBytes.{Appends}
 use Rattle.aho_core.specs.Patterns.{Patterns}
@@ -42,6 +42,18 @@ writes_lines Nothing = false
 -- then they are kept from the output where that is asked for, and a zero byte does not end a line
 abbrev pub is_guarded : Job → Bool
 is_guarded job = writes_lines job.shown && (job.guards && not (job.style.ending == 0))
+
+-- only the lines before the first that holds one are searched where that is asked for, and again a zero byte does not end a line
+abbrev pub takes_text : Job → Bool
+takes_text job = not job.guards && (job.text_alone && not (job.style.ending == 0))
+
+abbrev pub lines_by : (text_alone : Bool) → (ending : ℕ) → List ℕ → List (List ℕ)
+lines_by true ending text = text_lines (lines ending text)
+lines_by false ending text = lines ending text
+
+-- the lines of a text that are searched
+abbrev pub lines_sought : Job → List ℕ → List (List ℕ)
+lines_sought job text = lines_by (takes_text job) job.style.ending text
 
 -- whether one of these lines is selected, whatever is written of it
 abbrev pub seeking : Job → Job

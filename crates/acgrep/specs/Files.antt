@@ -4,7 +4,7 @@ use Rattle.programs.specs.Names.{is_input, name_bytes, or_input}
 use Rattle.std.specs.Prelude.{◌≡◌, ◌⊎◌, ℕ, ◌||◌, nat_lt, Bool, true, false, List, [], ◌∷◌, ◌++◌, Option, Some, None, IfSome, MatchBool, if◌then◌else◌}
 use Rattle.std.specs.Io.KnownBytes.{Appends, Consumes, IsAtEnd, Keeps}
 use Rattle.aho_core.specs.Patterns.{Patterns}
-use Rattle.acgrep.specs.Binary.{BeginsGuarded, TellsGuarded, is_guarded, is_text}
+use Rattle.acgrep.specs.Binary.{BeginsGuarded, TellsGuarded, is_guarded, is_text, lines_sought, takes_text}
 use Rattle.acgrep.specs.Contexts.{TellsAround, TellsFile, around_of}
 use Rattle.acgrep.specs.Filled.{ReadsOn}
 use Rattle.acgrep.specs.Lines.{lines}
@@ -44,24 +44,24 @@ total_if Names style count = if nat_lt 0 count then file_line style else []
 total_if Lacking style count = if nat_lt 0 count then [] else file_line style
 total_if Nothing style count = []
 
--- what is told of each line of a text from the begin of its file on, and the count of selected lines
-abbrev pub TellsEach : Patterns → Job → List ℕ → List ℕ → Type 0
-TellsEach p job text bytes =
-    (told : List ℕ) × (count : ℕ) × TellsFile p job (lines job.style.ending text) told count × (bytes ≡ told ++ count_if job.shown job.style count)
+-- what is told of each of these lines, the first ones of their file, and the count of selected lines
+abbrev pub TellsEach : Patterns → Job → List (List ℕ) → List ℕ → Type 0
+TellsEach p job ls bytes =
+    (told : List ℕ) × (count : ℕ) × TellsFile p job ls told count × (bytes ≡ told ++ count_if job.shown job.style count)
 
--- what is written of a file with this text: of its lines, its name where one is selected, or where none is, or nothing
-abbrev pub TellsBy : Patterns → Job → Shown → List ℕ → Bool → List ℕ → Type 0
-TellsBy p job Lines text any bytes = TellsEach p job text bytes
-TellsBy p job Matches text any bytes = TellsEach p job text bytes
-TellsBy p job Objects text any bytes = TellsEach p job text bytes
-TellsBy p job Count text any bytes = TellsEach p job text bytes
-TellsBy p job Names text any bytes = bytes ≡ (if any then file_line job.style else [])
-TellsBy p job Lacking text any bytes = bytes ≡ (if any then [] else file_line job.style)
-TellsBy p job Nothing text any bytes = bytes ≡ []
+-- what is written of a file of which these lines are searched: of them, its name where one is selected, or where none is, or nothing
+abbrev pub TellsBy : Patterns → Job → Shown → List (List ℕ) → Bool → List ℕ → Type 0
+TellsBy p job Lines ls any bytes = TellsEach p job ls bytes
+TellsBy p job Matches ls any bytes = TellsEach p job ls bytes
+TellsBy p job Objects ls any bytes = TellsEach p job ls bytes
+TellsBy p job Count ls any bytes = TellsEach p job ls bytes
+TellsBy p job Names ls any bytes = bytes ≡ (if any then file_line job.style else [])
+TellsBy p job Lacking ls any bytes = bytes ≡ (if any then [] else file_line job.style)
+TellsBy p job Nothing ls any bytes = bytes ≡ []
 
 -- and whether a line of it is selected
-abbrev pub TellsSearched : Patterns → Job → List ℕ → Bool → List ℕ → Type 0
-TellsSearched p job text any bytes = IsAny p job.fit job.invert (lines job.style.ending text) any × TellsBy p job job.shown text any bytes
+abbrev pub TellsSearched : Patterns → Job → List (List ℕ) → Bool → List ℕ → Type 0
+TellsSearched p job ls any bytes = IsAny p job.fit job.invert ls any × TellsBy p job job.shown ls any bytes
 
 -- a file was searched whose bytes are these, where they are known: that is written, or what is told where lines with a zero byte are
 -- kept from the output, and nothing else
@@ -69,7 +69,7 @@ pub record SearchesFile (p : Patterns) (job : Job) (known held held' : Option (L
   pub text : List ℕ
   pub of : IfSome known (λ bytes. text ≡ bytes)
   pub bytes : List ℕ
-  pub tells : MatchBool (is_guarded job) (TellsGuarded p job text any bytes) (TellsSearched p job text any bytes)
+  pub tells : MatchBool (is_guarded job) (TellsGuarded p job text any bytes) (TellsSearched p job (lines_sought job text) any bytes)
   pub written : Appends held held' bytes
 
 -- so many lines of a text are selected as are asked for
@@ -80,11 +80,15 @@ HasAllAsked p job text = (told : List ℕ) × (count : ℕ) × TellsOfLines p jo
 abbrev pub HasTold : Job → List ℕ → Bool → Type 0
 HasTold job bytes any = (is_guarded job ≡ true) × (any ≡ true) × SomeLine (λ line. is_text line ≡ false) (lines job.style.ending bytes)
 
+-- one was read where only the lines before the first with one are searched
+abbrev pub HasZero : Job → List ℕ → Type 0
+HasZero job bytes = (takes_text job ≡ true) × SomeLine (λ line. is_text line ≡ false) (lines job.style.ending bytes)
+
 -- a reader was read to its end, or until a selected line told all, or so many lines of it are selected as are asked for
 pub record IsRead (p : Patterns) (job : Job) (left left' : Option (List ℕ)) (any : Bool) : Type 0 where
   pub bytes : List ℕ
   pub read : Consumes left left' bytes
-  pub ended : IsAtEnd left' ⊎ (((needs_one job.shown ≡ true) × (any ≡ true)) ⊎ (HasAllAsked p job bytes ⊎ HasTold job bytes any))
+  pub ended : IsAtEnd left' ⊎ (((needs_one job.shown ≡ true) × (any ≡ true)) ⊎ (HasAllAsked p job bytes ⊎ (HasTold job bytes any ⊎ HasZero job bytes)))
 
 -- all that a reader has left was searched
 pub record SearchesReader (p : Patterns) (job : Job) (left left' held held' : Option (List ℕ)) (any : Bool) : Type 0 where
@@ -115,6 +119,7 @@ pub record IsNamed (job : Job) (bytes : List ℕ) (later : Bool) (named : Job) :
   pub context : named.context ≡ job.context
   pub follows : named.follows ≡ later
   pub guards : named.guards ≡ job.guards
+  pub text_alone : named.text_alone ≡ job.text_alone
 
 -- how a file is called in what is written
 abbrev pub shown_name : (label name : List ℕ) → List ℕ
@@ -153,7 +158,7 @@ AreFilesSearched p job follows holds (name ∷ names) left left' held held' any 
 
 -- a file of these bytes, where they are known, has a selected line
 abbrev pub HasSelected : Patterns → Job → Option (List ℕ) → Type 0
-HasSelected p job known = (text : List ℕ) × IfSome known (λ bytes. text ≡ bytes) × SomeLine (IsSelected p job.fit job.invert) (lines job.style.ending text)
+HasSelected p job known = (text : List ℕ) × IfSome known (λ bytes. text ≡ bytes) × SomeLine (IsSelected p job.fit job.invert) (lines_sought job text)
 
 -- only standard input is read from the input
 abbrev pub LeavesInput : List ℕ → (left left' : Option (List ℕ)) → Type 0
@@ -216,7 +221,7 @@ pub record BeginsPlain (p : Patterns) (job : Job) (known held held' : Option (Li
   pub of : IfSome known (λ bytes. text ≡ bytes)
   pub first : List (List ℕ)
   pub left : List (List ℕ)
-  pub cut : lines job.style.ending text ≡ first ++ left
+  pub cut : lines_sought job text ≡ first ++ left
   pub told : List ℕ
   pub count : ℕ
   pub tells : TellsOfLines p job job.first 0 first told count
@@ -230,7 +235,7 @@ pub record BeginsAround (p : Patterns) (job : Job) (context : Context) (known he
   pub of : IfSome known (λ bytes. text ≡ bytes)
   pub first : List (List ℕ)
   pub left : List (List ℕ)
-  pub cut : lines job.style.ending text ≡ first ++ left
+  pub cut : lines_sought job text ≡ first ++ left
   pub all : List ℕ
   pub count : ℕ
   pub tells : TellsAround p job context first all count

@@ -37,10 +37,10 @@ IsKept Binary ending kept = BeginsBinary ending kept
 IsKept End ending kept = is_text kept ≡ true
 
 -- bytes come behind those that are kept, and the whole lines of both are searched, up to the first that holds a zero byte
-pub record ReadsFront (p : Patterns) (job : Job) (c : Course) (kept_before kept_after : List ℕ) (came : Came) : Type 0 where
-  pub some : ReadsSome p job c kept_before kept_after (is_end came)
-  pub text : is_text kept_before ≡ true → is_text some.searched ≡ true
-  pub left : is_text kept_before ≡ true → IsKept came job.style.ending kept_after
+pub record ReadsFront (p : Patterns) (job : Job) (c : Course) (kept_in_front kept_after : List ℕ) (came : Came) : Type 0 where
+  pub some : ReadsSome p job c kept_in_front kept_after (is_end came)
+  pub text : is_text kept_in_front ≡ true → is_text some.searched ≡ true
+  pub left : is_text kept_in_front ≡ true → IsKept came job.style.ending kept_after
 
 -- or their search was begun
 pub record BeginsFront (p : Patterns) (job : Job) (c : Course) (kept : List ℕ) : Type 0 where

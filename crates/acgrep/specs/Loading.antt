@@ -1,12 +1,15 @@
 -- What a source adds to the patterns that were read before.
-use Rattle.std.specs.Prelude.{◌≡◌, ℕ, true, List, ◌++◌, Option}
+use Rattle.std.specs.Prelude.{◌≡◌, ℕ, MatchBool, true, List, [], ◌∷◌, ◌++◌, Option, Vec}
 use Rattle.std.specs.declared.io.traits.Read.{Ghosts as Readers}
 use Rattle.acgrep.specs.Arguments.{Origin}
 use Rattle.acgrep.specs.Lines.{lines}
+use Rattle.acgrep.specs.Rules.{RuleSaid, is_from_file, rule_said, rules_said}
 use Rattle.acgrep.specs.Runs.{AreOf, AreWords, IsTextOf, origins_of}
 use Rattle.acgrep.specs.declared.arguments.Source.{Source}
 use Rattle.acgrep.specs.declared.open.Open.{Ghosts as Openers}
 use Rattle.acgrep.specs.declared.patterns.Keys.{Keys}
+use Rattle.acgrep.specs.declared.rules.Rule.{Rule}
+use Rattle.acgrep.specs.Listed.{listed_bytes}
 
 -- the text of a file is added to bytes
 pub record AddsText (holds : List ℕ → Option (List ℕ)) (name : List ℕ) (left left' : Option (List ℕ)) (old new : List ℕ) : Type 0 where
@@ -24,6 +27,16 @@ pub record AddsWords (holds : List ℕ → Option (List ℕ)) (source : Origin) 
 abbrev pub file_origin : List ℕ → Origin
 file_origin name = record { is_file = true; bytes = name }
 
+-- the text of the file of a rule, or none for one that is a glob
+abbrev pub IsTextOfRule : (List ℕ → Option (List ℕ)) → RuleSaid → (left left' : Option (List ℕ)) → List ℕ → Type 0
+IsTextOfRule holds rule left left' text = MatchBool (is_from_file rule.sense) (IsTextOf holds rule.glob left left' text) ((left' ≡ left) × (text ≡ []))
+
+-- those of rules, one after another
+abbrev pub AreTexts : (List ℕ → Option (List ℕ)) → List RuleSaid → (left left' : Option (List ℕ)) → (texts : List (List ℕ)) → Type 0
+AreTexts holds [] left left' texts = (left' ≡ left) × (texts ≡ [])
+AreTexts holds (rule ∷ rules) left left' texts = (between : Option (List ℕ)) × (text : List ℕ) × (others : List (List ℕ))
+    × (texts ≡ text ∷ others) × IsTextOfRule holds rule left between text × AreTexts holds rules between left' others
+
 -- files are opened by one value, and standard input is read from another
 module _ {F X R : Type 0} (openers : Openers F X) (readers : Readers R) (files : F) where
   -- the patterns of these sources are read
@@ -40,3 +53,17 @@ module _ {F X R : Type 0} (openers : Openers F X) (readers : Readers R) (files :
   abbrev pub AddsFile : List ℕ → R → R → List ℕ → List ℕ → Type 0
   AddsFile name input input' old new =
       AddsText (openers.holds files) name (readers.remaining input) (readers.remaining input') old new
+
+  -- the texts of the files of rules are read
+  abbrev pub ReadsTexts : {Z : Type 0} → List Rule → R → R → List (Vec ℕ Z) → Type 0
+  ReadsTexts rules input input' texts =
+      AreTexts (openers.holds files) (rules_said rules) (readers.remaining input) (readers.remaining input') (listed_bytes texts)
+
+  -- the text of a rule is
+  abbrev pub ReadsText : Rule → R → R → List ℕ → Type 0
+  ReadsText rule input input' text =
+      IsTextOfRule (openers.holds files) (rule_said rule) (readers.remaining input) (readers.remaining input') text
+
+  -- and stands behind those of others
+  abbrev pub AddsRuleText : {Z : Type 0} → Rule → R → R → (old new : List (Vec ℕ Z)) → Type 0
+  AddsRuleText rule input input' old new = (text : List ℕ) × (listed_bytes new ≡ listed_bytes old ++ (text ∷ [])) × ReadsText rule input input' text

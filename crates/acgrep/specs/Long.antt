@@ -6,7 +6,7 @@ use Rattle.call_options.specs.declared.found.Found.{Found}
 use Rattle.call_options.specs.declared.found.Found.TheVariants.{Unknown, Begun, Several, Whole}
 use Rattle.acgrep.specs.declared.long.Long.{Long}
 use Rattle.acgrep.specs.declared.long.Long.TheVariants.{Plain, Takes, When}
-use Rattle.acgrep.specs.declared.long.Valued.TheVariants.{Regexp, PatternFile, Kind, Offset, FirstLine, MaxCount, After, Before, Around, Separator, Label, Format, Included, Excluded, ExcludedFolder, Folders, Devices}
+use Rattle.acgrep.specs.declared.long.Valued.TheVariants.{Regexp, PatternFile, Kind, Offset, FirstLine, MaxCount, After, Before, Around, Separator, Label, Format, Included, Excluded, ExcludedFrom, ExcludedFolder, Folders, Devices, BinaryFiles}
 use Rattle.acgrep.specs.declared.options.Switch.TheVariants.{IgnoreCase, MatchCase, Invert, WholeWords, WholeLines, Counts, Tallies, Numbers, OnlyMatching, Offsets, OnlyNames, OnlyLacking, NullNames, NullData, Recursive, Follow, Quiet, NoSeparator, InitialTab, Json, NoName, WithName, NoMatchOk, NoMessages, Help, Version, Text, Same}
 
 -- the options that grep has too: those that say what is searched for
@@ -21,6 +21,7 @@ pattern_options = named (codes "regexp") (Takes Regexp)
     ∷ named_either (codes "fixed-strings") (codes "fixed-regexp") (Plain Same)
     ∷ named (codes "text") (Plain Text)
     ∷ named (codes "binary") (Plain Same)
+    ∷ named (codes "binary-files") (Takes BinaryFiles)
     ∷ []
 
 -- those that say what is written
@@ -55,6 +56,7 @@ context_options = named (codes "after-context") (Takes After)
 abbrev pub file_options : List (Named Long)
 file_options = named (codes "include") (Takes Included)
     ∷ named (codes "exclude") (Takes Excluded)
+    ∷ named (codes "exclude-from") (Takes ExcludedFrom)
     ∷ named (codes "exclude-dir") (Takes ExcludedFolder)
     ∷ named (codes "directories") (Takes Folders)
     ∷ named (codes "devices") (Takes Devices)

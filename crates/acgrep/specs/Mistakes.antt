@@ -13,7 +13,7 @@ use Rattle.call_options.specs.declared.found.NotFound.{NotFound}
 use Rattle.call_options.specs.declared.misuse.Misuse.TheVariants.{UnknownLetter, NotFound as NoName, NoArgument, TakesNone}
 use Rattle.acgrep.specs.Arguments.{ReadSoFar, Said, argument_by, nothing_said, number_by, switch_by, valued_letter}
 use Rattle.acgrep.specs.Long.{found_by, option_by}
-use Rattle.acgrep.specs.Told.{TellsWrong, color_parts, devices_parts, folders_parts, format_parts, kind_parts, misuse_parts, number_parts, valued_name, wrong_parts}
+use Rattle.acgrep.specs.Told.{TellsWrong, binary_parts, color_parts, devices_parts, folders_parts, format_parts, kind_parts, misuse_parts, number_parts, valued_name, wrong_parts}
 use Rattle.acgrep.specs.declared.arguments.Awaited.{Awaited}
 use Rattle.acgrep.specs.declared.arguments.Awaited.TheVariants.{Fresh, Argument, Operands}
 use Rattle.acgrep.specs.declared.arguments.Refusal.{Refusal}
@@ -22,7 +22,7 @@ use Rattle.acgrep.specs.declared.arguments.Wrong.TheVariants.{NoPattern}
 use Rattle.acgrep.specs.declared.long.Long.{Long}
 use Rattle.acgrep.specs.declared.long.Long.TheVariants.{Plain, Takes, When}
 use Rattle.acgrep.specs.declared.long.Valued.{Valued}
-use Rattle.acgrep.specs.declared.long.Valued.TheVariants.{Regexp, PatternFile, Kind, Offset, FirstLine, MaxCount, After, Before, Around, Separator, Label, Format, Included, Excluded, ExcludedFolder, Folders, Devices}
+use Rattle.acgrep.specs.declared.long.Valued.TheVariants.{Regexp, PatternFile, Kind, Offset, FirstLine, MaxCount, After, Before, Around, Separator, Label, Format, Included, Excluded, ExcludedFrom, ExcludedFolder, Folders, Devices, BinaryFiles}
 
 -- what is told of an argument that an option cannot have; any is a pattern, a file's name, a separator, a label or a glob
 abbrev pub wrong_value : Valued → List ℕ → List (List ℕ)
@@ -40,9 +40,11 @@ wrong_value Label argument = []
 wrong_value Format argument = format_parts argument
 wrong_value Included argument = []
 wrong_value Excluded argument = []
+wrong_value ExcludedFrom argument = []
 wrong_value ExcludedFolder argument = []
 wrong_value Folders argument = folders_parts argument
 wrong_value Devices argument = devices_parts argument
+wrong_value BinaryFiles argument = binary_parts argument
 
 -- of a long name that means no option
 abbrev pub wrong_found : Result Long NotFound → List ℕ → List (List ℕ)

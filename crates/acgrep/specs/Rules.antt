@@ -1,11 +1,13 @@
--- Which files and folders are left out, by the rules of `--include`, `--exclude` and `--exclude-dir`.
-use Rattle.std.specs.Prelude.{ℕ, ◌+◌, ◌==◌, ◌&&◌, ◌||◌, Bool, true, false, List, [], ◌∷◌, map, take, if◌then◌else◌}
+-- Which files and folders are left out, by the rules of `--include`, `--exclude` and `--exclude-dir`, and those of the files that
+-- `--exclude-from` names.
+use Rattle.std.specs.Prelude.{ℕ, ◌+◌, ◌==◌, ◌&&◌, ◌||◌, Bool, true, false, List, [], ◌∷◌, ◌++◌, map, nat_le, take, if◌then◌else◌}
 use Rattle.acgrep.specs.Globs.{base_name, fits, operand_fits}
+use Rattle.acgrep.specs.Lines.{lines}
 use Rattle.acgrep.specs.declared.rules.Rule.{Rule}
 use Rattle.acgrep.specs.declared.rules.Sense.{Sense}
-use Rattle.acgrep.specs.declared.rules.Sense.TheVariants.{Include, Exclude, ExcludeFolder}
+use Rattle.acgrep.specs.declared.rules.Sense.TheVariants.{Include, Exclude, ExcludeFrom, ExcludeFolder}
 
--- an option, and its glob
+-- an option, and its glob, or the name of its file of globs
 pub record RuleSaid : Type 0 where
   pub sense : Sense
   pub glob : List ℕ
@@ -23,6 +25,7 @@ name_fits glob given name = if given then operand_fits glob name else fits 0 glo
 abbrev pub is_of_folders : Sense → Bool
 is_of_folders Include = false
 is_of_folders Exclude = false
+is_of_folders ExcludeFrom = false
 is_of_folders ExcludeFolder = true
 
 -- a folder is left out that one of its rules fits
@@ -34,6 +37,7 @@ leaves_folder (rule ∷ rules) given name = (is_of_folders rule.sense && name_fi
 abbrev pub decided_by : Sense → Bool → Bool → Bool
 decided_by Include fit left = if fit then false else left
 decided_by Exclude fit left = if fit then true else left
+decided_by ExcludeFrom fit left = left
 decided_by ExcludeFolder fit left = left
 
 abbrev pub after_rule : RuleSaid → Bool → List ℕ → Bool → Bool
@@ -48,6 +52,7 @@ leaves_file (rule ∷ rules) given name left = leaves_file rules given name (aft
 abbrev pub begins_so : Sense → Bool → Bool
 begins_so Include others = true
 begins_so Exclude others = false
+begins_so ExcludeFrom others = others
 begins_so ExcludeFolder others = others
 
 abbrev pub begins_by_including : List RuleSaid → Bool
@@ -68,3 +73,48 @@ kept_len kept passed (byte ∷ rest) = kept_len (if byte == 47 then kept else pa
 abbrev pub without_slashes : List ℕ → List ℕ
 without_slashes [] = []
 without_slashes (first ∷ rest) = take (kept_len 1 1 rest) (first ∷ rest)
+
+-- whether the globs of a rule stand in a file
+abbrev pub is_from_file : Sense → Bool
+is_from_file Include = false
+is_from_file Exclude = false
+is_from_file ExcludeFrom = true
+is_from_file ExcludeFolder = false
+
+-- white space: a tab, a newline, a vertical tab, a form feed, a carriage return or a space
+abbrev pub is_space : ℕ → Bool
+is_space byte = byte == 32 || (nat_le 9 byte && nat_le byte 13)
+
+-- a byte before what is kept of those behind it: where nothing is, it is not kept if it is white space
+abbrev pub kept_in_front : ℕ → List ℕ → List ℕ
+kept_in_front byte [] = if is_space byte then [] else byte ∷ []
+kept_in_front byte (next ∷ rest) = byte ∷ next ∷ rest
+
+-- a line without the white space at its end
+abbrev pub trimmed_line : List ℕ → List ℕ
+trimmed_line [] = []
+trimmed_line (byte ∷ rest) = kept_in_front byte (trimmed_line rest)
+
+-- a glob is a rule by which files are not searched, if it is not empty
+abbrev pub rule_before : List ℕ → List RuleSaid → List RuleSaid
+rule_before [] rules = rules
+rule_before (byte ∷ bytes) rules = record { sense = Exclude; glob = byte ∷ bytes } ∷ rules
+
+-- the rules of these lines: each is a glob, without the white space at its end
+abbrev pub rules_of_lines : List (List ℕ) → List RuleSaid
+rules_of_lines [] = []
+rules_of_lines (line ∷ rest) = rule_before (trimmed_line line) (rules_of_lines rest)
+
+-- those of the text of a file
+abbrev pub rules_in : List ℕ → List RuleSaid
+rules_in text = rules_of_lines (lines 10 text)
+
+-- a rule, or those of the text of its file
+abbrev pub rules_by : RuleSaid → List ℕ → List RuleSaid
+rules_by rule text = if is_from_file rule.sense then rules_in text else rule ∷ []
+
+-- these rules, each with the text of its file
+abbrev pub expanded : List RuleSaid → (texts : List (List ℕ)) → List RuleSaid
+expanded [] texts = []
+expanded (rule ∷ rules) [] = []
+expanded (rule ∷ rules) (text ∷ texts) = rules_by rule text ++ expanded rules texts

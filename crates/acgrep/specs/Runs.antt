@@ -6,14 +6,14 @@ use Rattle.aho_core.specs.Patterns.{Patterns}
 use Rattle.aho_devices.specs.Counts.{AppendsBeginning}
 use Rattle.aho_core.specs.declared.search.MatchKind.{MatchKind}
 use Rattle.aho_core.specs.declared.search.MatchKind.TheVariants.{LeftmostLongest}
-use Rattle.acgrep.specs.Binary.{is_guarded, writes_lines}
+use Rattle.acgrep.specs.Binary.{is_guarded, takes_text, writes_lines}
 use Rattle.acgrep.specs.Arguments.{Origin, Said, asks_counts, context_by, ending_by, fit_by, origin_of, said_by, shown_by, ways_by}
 use Rattle.programs.specs.Names.{is_input, or_input}
 use Rattle.acgrep.specs.Files.{AreFilesBegun, AreSearchedOr}
 use Rattle.acgrep.specs.Folders.{AreBelow, AreChosen, Known, Tree, passes}
 use Rattle.acgrep.specs.Lines.{lines}
 use Rattle.acgrep.specs.Listed.{listed_bytes}
-use Rattle.acgrep.specs.Rules.{RuleSaid}
+use Rattle.acgrep.specs.Rules.{RuleSaid, is_from_file, rules_in}
 use Rattle.acgrep.specs.Searchers.{patterns_asked}
 use Rattle.acgrep.specs.Tallies.{counts_table}
 use Rattle.acgrep.specs.Written.{IsPassedOver}
@@ -88,6 +88,27 @@ AreWords holds [] left left' words = (left' ≡ left) × (words ≡ [])
 AreWords holds (source ∷ sources) left left' words = (between : Option (List ℕ)) × (first : List (List ℕ)) × (rest : List (List ℕ))
     × (words ≡ first ++ rest) × AreOf holds source left between first × AreWords holds sources between left' rest
 
+-- the rules of the file of this name: each line of it is a glob of files that are not searched
+pub record AreRulesOfFile (holds : List ℕ → Option (List ℕ)) (name : List ℕ) (left left' : Option (List ℕ)) (rules : List RuleSaid) : Type 0 where
+  pub text : List ℕ
+  pub is : IsTextOf holds name left left' text
+  pub are : rules ≡ rules_in text
+
+-- those that a rule stands for: those of its file, or itself
+abbrev pub AreRulesOf : (List ℕ → Option (List ℕ)) → RuleSaid → (left left' : Option (List ℕ)) → List RuleSaid → Type 0
+AreRulesOf holds rule left left' rules =
+    MatchBool (is_from_file rule.sense) (AreRulesOfFile holds rule.glob left left' rules) ((left' ≡ left) × (rules ≡ rule ∷ []))
+
+-- the rules of which files are searched: those that were said, with those of files in their places
+abbrev pub AreRules : (List ℕ → Option (List ℕ)) → List RuleSaid → (left left' : Option (List ℕ)) → List RuleSaid → Type 0
+AreRules holds [] left left' rules = (left' ≡ left) × (rules ≡ [])
+AreRules holds (said ∷ others) left left' rules = (between : Option (List ℕ)) × (first : List RuleSaid) × (rest : List RuleSaid)
+    × (rules ≡ first ++ rest) × AreRulesOf holds said left between first × AreRules holds others between left' rest
+
+-- what was said, by these rules
+abbrev pub ruled : Said → List RuleSaid → Said
+ruled given rules = record given { rules = rules }
+
 -- whether a word is empty
 abbrev pub is_none : List ℕ → Bool
 is_none [] = true
@@ -156,9 +177,13 @@ lists_finds flags terminal = shows_finds (shown_by flags) (is_colored flags.colo
 abbrev pub first_place : Flags → Place
 first_place flags = record { lines = (flags.first_line + (2 ^ 64 - 1)) % 2 ^ 64; bytes = flags.first }
 
--- on a terminal lines with a zero byte are kept from the output, unless `-a` or `-z` is given, where lines or matches are written
+-- on a terminal lines with a zero byte are kept from the output, unless `-a`, `-I` or `-z` is given, where lines or matches are written
 abbrev pub guards_by : Flags → Bool → Bool
-guards_by flags terminal = writes_lines (shown_by flags) && (terminal && (not flags.text && not flags.null_data))
+guards_by flags terminal = writes_lines (shown_by flags) && (terminal && (not flags.text && (not flags.text_alone && not flags.null_data)))
+
+-- under `-I` only the lines before the first with a zero byte are searched, unless `-z` is given
+abbrev pub text_said_by : Flags → Bool
+text_said_by flags = flags.text_alone && not flags.null_data
 
 -- how a match is written with its fields: by these pieces, or as an object
 abbrev pub form_said : Form → Option (List Piece)
@@ -205,6 +230,8 @@ pub record IsJob (given : Said) (screen : Screen) (several : Bool) (job : Job) :
   pub label : job.label.now ≡ given.label
   -- whether lines from the first on that holds a zero byte are kept from the output
   pub guards : is_guarded job ≡ guards_by given.flags screen.terminal
+  -- whether only the lines before it are searched
+  pub text : takes_text job ≡ text_said_by given.flags
 
 -- whether there are rules of which files are searched
 abbrev pub has_rules : List RuleSaid → Bool
@@ -340,10 +367,17 @@ SearchesSaid known screen given left left' held held' status =
 abbrev pub status_told : Bool → ℕ → ℕ
 status_told no_match_ok status = if no_match_ok && (status == 1) then 0 else status
 
+-- the rules in files were read, and then that was done
+pub record SearchesRuled (known : Known) (screen : Screen) (given : Said) (left left' held held' : Option (List ℕ)) (status : ℕ) : Type 0 where
+  pub rules : List RuleSaid
+  pub between : Option (List ℕ)
+  pub read : AreRules known.holds given.rules left between rules
+  pub searched : SearchesSaid known screen (ruled given rules) between left' held held' status
+
 -- what was said was done; `left` is what the input has left, and `held` what the output holds
 abbrev pub Searches : Known → Screen → Said → (left left' held held' : Option (List ℕ)) → ℕ → Type 0
 Searches known screen given left left' held held' status =
-    (found : ℕ) × SearchesSaid known screen given left left' held held' found × (status ≡ status_told given.flags.no_match_ok found)
+    (found : ℕ) × SearchesRuled known screen given left left' held held' found × (status ≡ status_told given.flags.no_match_ok found)
 
 -- the patterns of these sources were read, and of some first ones of the files that these operands name that is written which is
 -- asked, or a beginning of it
@@ -358,6 +392,17 @@ abbrev pub BeginsFor : Known → Screen → Said → List Origin → List (List 
 BeginsFor known screen given sources names left held held' = Keeps held held' ⊎ BeginsWords known screen given sources names left held held'
 
 -- whatever comes of what was said: what is written is a beginning of what is asked
-abbrev pub BeginsSearch : Known → Screen → Said → (left held held' : Option (List ℕ)) → Type 0
-BeginsSearch known screen given left held held' =
+abbrev pub BeginsSaid : Known → Screen → Said → (left held held' : Option (List ℕ)) → Type 0
+BeginsSaid known screen given left held held' =
     BeginsFor known screen given (sources_by given.sources given.operands) (names_by given.sources given.operands) left held held'
+
+-- the rules in files were read, and then that is
+pub record BeginsRuled (known : Known) (screen : Screen) (given : Said) (left held held' : Option (List ℕ)) : Type 0 where
+  pub rules : List RuleSaid
+  pub between : Option (List ℕ)
+  pub read : AreRules known.holds given.rules left between rules
+  pub begun : BeginsSaid known screen (ruled given rules) between held held'
+
+-- or nothing is
+abbrev pub BeginsSearch : Known → Screen → Said → (left held held' : Option (List ℕ)) → Type 0
+BeginsSearch known screen given left held held' = Keeps held held' ⊎ BeginsRuled known screen given left held held'

@@ -54,11 +54,11 @@ pub record SearchesBehind (p : Patterns) (job : Job) (c : Course) (kept : List �
   pub ends : ((rest ≡ []) × IsAtEnd c.left_after) ⊎ (EndsLine job.style.ending searched × IsSettled job c.after)
 
 -- bytes come behind those that are kept, and the whole lines of both are searched
-pub record ReadsSome (p : Patterns) (job : Job) (c : Course) (kept_before kept_after : List ℕ) (ended : Bool) : Type 0 where
+pub record ReadsSome (p : Patterns) (job : Job) (c : Course) (kept_in_front kept_after : List ℕ) (ended : Bool) : Type 0 where
   pub came : List ℕ
   pub searched : List ℕ
   pub consumed : Consumes c.left_before c.left_after came
-  pub cut : kept_before ++ came ≡ searched ++ kept_after
+  pub cut : kept_in_front ++ came ≡ searched ++ kept_after
   pub whole : EndsLine job.style.ending searched
   pub searches : SearchesText p job c.before c.after c.held_before c.held_after searched
   -- at the end nothing comes and nothing is searched

@@ -16,16 +16,17 @@ use Rattle.call_options.specs.declared.misuse.Misuse.{Misuse}
 use Rattle.call_options.specs.declared.misuse.Misuse.TheVariants.{UnknownLetter as NoLetter, NotFound as NoName, NoArgument as Unargued, TakesNone as Argued}
 use Rattle.acgrep.specs.Arguments.{Origin, Said, shown_by}
 use Rattle.acgrep.specs.Files.{shown_name}
-use Rattle.acgrep.specs.Folders.{Tree}
+use Rattle.acgrep.specs.Folders.{Known, Tree}
 use Rattle.acgrep.specs.Formats.{unknown_in}
-use Rattle.acgrep.specs.Runs.{AreReached, names_by, origins_of, sources_by}
+use Rattle.acgrep.specs.Rules.{RuleSaid, is_from_file}
+use Rattle.acgrep.specs.Runs.{AreReached, AreRules, names_by, origins_of, ruled, sources_by}
 use Rattle.acgrep.specs.declared.arguments.Source.{Source}
 use Rattle.acgrep.specs.declared.arguments.Wrong.{Wrong}
-use Rattle.acgrep.specs.declared.arguments.Wrong.TheVariants.{NoPattern, UnknownLetter, NotFound, NoArgument, TakesNone, UnknownKind, UnknownColor, UnknownFolders, UnknownDevices, UnknownField, NoNumber}
+use Rattle.acgrep.specs.declared.arguments.Wrong.TheVariants.{NoPattern, UnknownLetter, NotFound, NoArgument, TakesNone, UnknownKind, UnknownColor, UnknownFolders, UnknownDevices, UnknownBinary, UnknownField, NoNumber}
 use Rattle.acgrep.specs.declared.files.Outcome.{Outcome}
 use Rattle.acgrep.specs.declared.files.Outcome.TheVariants.{Searched, Unread, Stopped}
 use Rattle.acgrep.specs.declared.long.Valued.{Valued}
-use Rattle.acgrep.specs.declared.long.Valued.TheVariants.{Regexp, PatternFile, Kind, Offset, FirstLine, MaxCount, After, Before, Around, Separator, Label, Format, Included, Excluded, ExcludedFolder, Folders, Devices}
+use Rattle.acgrep.specs.declared.long.Valued.TheVariants.{Regexp, PatternFile, Kind, Offset, FirstLine, MaxCount, After, Before, Around, Separator, Label, Format, Included, Excluded, ExcludedFrom, ExcludedFolder, Folders, Devices, BinaryFiles}
 use Rattle.acgrep.specs.declared.options.Shown.{Shown}
 use Rattle.acgrep.specs.declared.options.Shown.TheVariants.{Nothing}
 
@@ -117,9 +118,11 @@ valued_name Label = codes "--label"
 valued_name Format = codes "--format"
 valued_name Included = codes "--include"
 valued_name Excluded = codes "--exclude"
+valued_name ExcludedFrom = codes "--exclude-from"
 valued_name ExcludedFolder = codes "--exclude-dir"
 valued_name Folders = codes "-d"
 valued_name Devices = codes "-D"
+valued_name BinaryFiles = codes "--binary-files"
 
 -- what is told of something that was given, between what stands before and behind it
 abbrev pub named_parts : (before name behind : List ℕ) → List (List ℕ)
@@ -141,12 +144,15 @@ kind_parts kind = codes "acgrep: option '--kind' takes first, longest or standar
 abbrev pub color_parts : List ℕ → List (List ℕ)
 color_parts time = codes "acgrep: option '--color' takes auto, always or never, not '" ∷ time ∷ codes "'\n" ∷ usage_text ∷ []
 
--- there is nothing like that to be done with folders, or with devices
+-- there is nothing like that to be done with folders, with devices, or with lines from the first on that holds a zero byte
 abbrev pub folders_parts : List ℕ → List (List ℕ)
 folders_parts action = codes "acgrep: option '-d' takes read, recurse or skip, not '" ∷ action ∷ codes "'\n" ∷ usage_text ∷ []
 
 abbrev pub devices_parts : List ℕ → List (List ℕ)
 devices_parts action = codes "acgrep: option '-D' takes read or skip, not '" ∷ action ∷ codes "'\n" ∷ usage_text ∷ []
+
+abbrev pub binary_parts : List ℕ → List (List ℕ)
+binary_parts type = codes "acgrep: option '--binary-files' takes binary, text or without-match, not '" ∷ type ∷ codes "'\n" ∷ usage_text ∷ []
 
 -- there is no such field, or this format has this where a field stands
 abbrev pub field_parts : List ℕ → List (List ℕ)
@@ -166,6 +172,7 @@ wrong_parts (UnknownKind name) = kind_parts name.now
 wrong_parts (UnknownColor name) = color_parts name.now
 wrong_parts (UnknownFolders action) = folders_parts action.now
 wrong_parts (UnknownDevices action) = devices_parts action.now
+wrong_parts (UnknownBinary name) = binary_parts name.now
 wrong_parts (UnknownField field) = field_parts field.now
 wrong_parts (NoNumber valued number) = number_parts (valued_name valued) number.now
 
@@ -187,9 +194,15 @@ files_told hushed label names = if hushed then [] else shown_names label names
 abbrev pub names_told : Bool → List ℕ → List Origin → List (List ℕ) → List (List ℕ)
 names_told hushed label sources names = source_names sources ++ files_told hushed label (or_input names)
 
+-- the files of rules
+abbrev pub rule_files : List RuleSaid → List (List ℕ)
+rule_files [] = []
+rule_files (rule ∷ rules) = if is_from_file rule.sense then rule.glob ∷ rule_files rules else rule_files rules
+
 abbrev pub names_said : Option Said → List (List ℕ)
 names_said None = []
-names_said (Some said) = names_told said.flags.no_messages said.label (sources_by said.sources said.operands) (names_by said.sources said.operands)
+names_said (Some said) =
+    rule_files said.rules ++ names_told said.flags.no_messages said.label (sources_by said.sources said.operands) (names_by said.sources said.operands)
 
 -- whether nothing is told of files that cannot be read
 abbrev pub is_hushed : Option Said → Bool
@@ -217,9 +230,16 @@ abbrev pub MaySay : Tree → Said → List Origin → List (List ℕ) → List �
 MaySay tree given sources names line =
     MayTell (names_told given.flags.no_messages given.label sources names) line ⊎ NamesReached tree given names line
 
-abbrev pub MaySaid : Tree → Option Said → List ℕ → Type 0
-MaySaid tree None line = MayTell [] line
-MaySaid tree (Some said) line = MaySay tree said (sources_by said.sources said.operands) (names_by said.sources said.operands) line
+-- the rules in files were read, and a line names what is so reached; `left` is what the input has left
+pub record NamesRuled (known : Known) (left : Option (List ℕ)) (given : Said) (line : List ℕ) : Type 0 where
+  pub rules : List RuleSaid
+  pub between : Option (List ℕ)
+  pub read : AreRules known.holds given.rules left between rules
+  pub named : NamesReached known.tree (ruled given rules) (names_by given.sources given.operands) line
+
+abbrev pub MaySaid : Known → (left : Option (List ℕ)) → Option Said → List ℕ → Type 0
+MaySaid known left None line = MayTell [] line
+MaySaid known left (Some said) line = MayTell (names_said (Some said)) line ⊎ NamesRuled known left said line
 
 -- where `hushed` is so nothing is told of files that cannot be read
 module _ {E : Type 0} (K : SinkGhosts E) (IsLine : List ℕ → Type 0) (hushed : Bool) where
@@ -279,6 +299,20 @@ module _ {E : Type 0} (K : SinkGhosts E) where
   TellsOfReached tree given names status old new =
       TellsStatus K (MaySay tree given [] names) given.flags.no_messages (shown_by given.flags) status old new
 
+  -- and of what was said, by rules that were read
+  abbrev pub TellsOfSaid : Tree → Said → ℕ → Errors E → Errors E → Type 0
+  TellsOfSaid tree given status old new =
+      TellsOfSearch tree given (sources_by given.sources given.operands) (names_by given.sources given.operands) status old new
+
+  -- why the rules in files are not read
+  abbrev pub TellsOfRules : List RuleSaid → Errors E → Errors E → Type 0
+  TellsOfRules rules old new = TellsSome K (IsMessage (rule_files rules)) old new
+
+  -- and why those of one are not
+  abbrev pub TellsOfRule : RuleSaid → Errors E → Errors E → Type 0
+  TellsOfRule rule old new =
+      (names : List (List ℕ)) → (is_from_file rule.sense ≡ true → IsOneOf rule.glob names) → TellsSome K (IsMessage names) old new
+
   -- and of a call whose arguments say this
-  abbrev pub TellsOfCall : Tree → Said → ℕ → Errors E → Errors E → Type 0
-  TellsOfCall tree given status old new = TellsStatus K (MaySaid tree (Some given)) given.flags.no_messages (shown_by given.flags) status old new
+  abbrev pub TellsOfCall : Known → (left : Option (List ℕ)) → Said → ℕ → Errors E → Errors E → Type 0
+  TellsOfCall known left given status old new = TellsStatus K (MaySaid known left (Some given)) given.flags.no_messages (shown_by given.flags) status old new

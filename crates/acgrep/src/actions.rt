@@ -1,7 +1,7 @@
-//! What the arguments of `--color`, `-d` and `-D` name.
+//! What the arguments of `--color`, `-d`, `-D` and `--binary-files` name.
 
 ghost use Rattle.std.specs.Prelude.{◌≡◌};
-ghost use Rattle.acgrep.specs.Actions.{color_named, devices_named, folder_actions, folders_named, is_one_of};
+ghost use Rattle.acgrep.specs.Actions.{binary_named, color_named, devices_named, folder_actions, folders_named, is_one_of};
 ghost use Rattle.call_options.specs.Names.{found_among};
 ghost use Rattle.call_options.specs.declared.found.Found.TheVariants.{Unknown};
 
@@ -12,6 +12,13 @@ use call_options::found::Found;
 const READ: &[u8] = b"read";
 
 const SKIP: &[u8] = b"skip";
+
+/// The names of what is done with lines that hold a zero byte, and those behind them.
+const BINARY: &[u8] = b"binary";
+
+const TEXT: &[u8] = b"text";
+
+const WITHOUT_MATCH: &[u8] = b"without-match";
 
 /// When matches are coloured, if bytes name that.
 pub fn color_in(bytes: &[u8]) -> Option<Color>
@@ -65,6 +72,21 @@ pub fn devices_in(bytes: &[u8]) -> Option<Switch>
         Some(Switch::ReadDevices)
     } else if bytes == SKIP {
         Some(Switch::SkipDevices)
+    } else {
+        None
+    }
+}
+
+/// What is done with lines from the first on that holds a zero byte, if bytes name that.
+pub fn binary_in(bytes: &[u8]) -> Option<Switch>
+    ensures binary { result ≡ binary_named bytes.now }
+{
+    if bytes == BINARY {
+        Some(Switch::Binary)
+    } else if bytes == TEXT {
+        Some(Switch::Text)
+    } else if bytes == WITHOUT_MATCH {
+        Some(Switch::TextAlone)
     } else {
         None
     }

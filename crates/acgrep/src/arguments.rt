@@ -5,15 +5,15 @@
 
 ghost use Rattle.std.specs.Prelude.{◌≡◌, ◌≤◌, ◌<◌, Some, IfOk, IfErr, OnOk, length};
 ghost use Rattle.programs.specs.Arguments.{kind_by};
-ghost use Rattle.acgrep.specs.Arguments.{AreDigits, FailsBy, ReadsBy, SaysMore, argument_by, behind_by, color_by, fresh_by, joined_by, letters_by, named_by, nothing_said, number_by, said, said_by, source_option, so_far, taken_by, turned_by, value_by, valued_letter, with_devices, with_folders, with_format, with_operand, with_rule, with_separator, with_source};
+ghost use Rattle.acgrep.specs.Arguments.{AreDigits, FailsBy, ReadsBy, SaysMore, argument_by, behind_by, color_by, fresh_by, joined_by, letters_by, named_by, nothing_said, number_by, said, said_by, source_option, so_far, taken_by, turned_by, value_by, valued_letter, with_binary, with_devices, with_folders, with_format, with_operand, with_rule, with_separator, with_source};
 ghost use Rattle.acgrep.specs.Listed.{listed_bytes};
 ghost use Rattle.acgrep.specs.Long.{option_by};
 ghost use Rattle.acgrep.specs.Rules.{without_slashes};
 ghost use Rattle.acgrep.specs.declared.rules.Sense.TheVariants.{ExcludeFolder};
 ghost use Rattle.acgrep.specs.Mistakes.{IsFirstMistake, TellsBy, mistake_at, wrong_behind, wrong_fresh, wrong_joined, wrong_letters, wrong_name, wrong_value};
-ghost use Rattle.acgrep.specs.Told.{color_parts, devices_parts, folders_parts, format_parts, kind_parts, number_parts, valued_name};
+ghost use Rattle.acgrep.specs.Told.{binary_parts, color_parts, devices_parts, folders_parts, format_parts, kind_parts, number_parts, valued_name};
 
-use crate::actions::{color_in, devices_in, folders_in};
+use crate::actions::{binary_in, color_in, devices_in, folders_in};
 use crate::format::{Piece, read_format};
 use crate::long::{Long, Valued, option_of};
 use crate::options::{Color, Flags, switch_of};
@@ -61,6 +61,8 @@ pub enum Wrong<'a> {
     UnknownFolders(&'a [u8]),
     /// The argument of `-D` is none of its two.
     UnknownDevices(&'a [u8]),
+    /// The argument of `--binary-files` is none of its three.
+    UnknownBinary(&'a [u8]),
     /// The argument of `--format` has this where a field stands.
     UnknownField(&'a [u8]),
     /// The argument of this option is no number below 2^64.
@@ -82,7 +84,7 @@ pub struct Given<'a> {
     pub label: &'a [u8],
     /// The pieces of the last `--format`.
     pub format: Vec<Piece>,
-    /// Each `--include`, `--exclude` and `--exclude-dir`, in order.
+    /// Each `--include`, `--exclude`, `--exclude-from` and `--exclude-dir`, in order.
     pub rules: Vec<Rule<'a>>,
 }
 
@@ -265,9 +267,11 @@ fn read_value<'a>(
         Valued::Format => set_format(given, argument)?,
         Valued::Included => add_rule(given, Sense::Include, argument)?,
         Valued::Excluded => add_rule(given, Sense::Exclude, argument)?,
+        Valued::ExcludedFrom => add_rule(given, Sense::ExcludeFrom, argument)?,
         Valued::ExcludedFolder => add_folder_rule(given, argument)?,
         Valued::Folders => set_folders(given, argument)?,
         Valued::Devices => set_devices(given, argument)?,
+        Valued::BinaryFiles => set_binary(given, argument)?,
         _ => {
             let number = read_number(valued, argument)?;
             given.flags = given.flags.numbered(valued, number);
@@ -317,6 +321,19 @@ fn set_devices<'a>(given: &mut Given<'a>, argument: &'a [u8]) -> Result<(), Refu
     match devices_in(argument) {
         Some(switch) => given.flags = given.flags.switched(switch),
         None => return Err(Refusal::Wrong(Wrong::UnknownDevices(argument))),
+    }
+    Ok(())
+}
+
+/// Takes an argument for what is done with lines from the first on that holds a zero byte.
+fn set_binary<'a>(given: &mut Given<'a>, argument: &'a [u8]) -> Result<(), Refusal<'a>>
+    ensures set { OnOk result (with_binary argument.now (said given.old) ≡ Some (said given.new)) }
+    ensures refused { FailsBy (with_binary argument.now (said given.old)) result }
+    ensures wrong { TellsBy (binary_parts argument.now) result }
+{
+    match binary_in(argument) {
+        Some(switch) => given.flags = given.flags.switched(switch),
+        None => return Err(Refusal::Wrong(Wrong::UnknownBinary(argument))),
     }
     Ok(())
 }

@@ -3,6 +3,8 @@
 ghost use Rattle.std.specs.Prelude.{◌≡◌, ◌≤◌, ◌<◌, ◌⊎◌, [], IsTrue, OnOk, false, length, true};
 ghost use Rattle.std.specs.Io.KnownBytes.{Appends};
 ghost use Rattle.aho_core.specs.Patterns.{Patterns};
+ghost use Rattle.acgrep.specs.Binary.{takes_text};
+ghost use Rattle.acgrep.specs.Contexts.{IsBegin};
 ghost use Rattle.acgrep.specs.Filled.{ReadsOn};
 ghost use Rattle.programs.specs.Names.{name_bytes};
 ghost use Rattle.acgrep.specs.Told.{IsMessage, TellsIf, TellsOfEnd, TellsOfFiles, TellsOfOutcome, files_told};
@@ -14,7 +16,7 @@ ghost use Rattle.acgrep.specs.Selected.{ForJob};
 use crate::backed::Lister;
 use crate::buffer::Buffer;
 use crate::failure::Stop;
-use crate::guarded::search_guarded;
+use crate::guarded::{search_front, search_guarded};
 use crate::keys::{INPUT, is_input, open_named};
 use crate::open::Open;
 use crate::options::Shown;
@@ -432,8 +434,39 @@ fn search_one<A: Lister, R: Read, W: Sink, E: Sink>(
         };
     }
     state.begin(job);
+    if job.takes_text() {
+        return search_front_alone(automaton, job, buffer, reader, state, page, output, errors);
+    }
     match search_stream(automaton, job, buffer, reader, state, page, output) {
         Ok(()) => end_file(job, state, page, output, errors),
+        Err(stop) => break_off(job, state, &stop, page, output, errors),
+    }
+}
+
+/// Searches the lines before the first that holds a zero byte, and writes what is asked of them.
+fn search_front_alone<A: Lister, R: Read, W: Sink, E: Sink>(
+    automaton: &A,
+    job: &Job<'_>,
+    buffer: &mut Buffer,
+    reader: &mut R,
+    state: &mut State,
+    page: &mut Vec<u8>,
+    output: &mut W,
+    errors: &mut Errors<'_, E>,
+) -> Outcome
+    requires of { (p : Patterns) × A.is_of automaton.now p }
+    requires text { takes_text job.now ≡ true }
+    requires begun { IsBegin job.now state.old }
+    ensures searched { SearchesReaderBy A.Automaton R.Read W.Sink automaton.now job.now
+        reader.old reader.new output.old output.new result }
+    ensures begun { BeginsFileBy A.Automaton W.Sink automaton.now job.now
+        (R.remaining reader.old) output.old output.new result }
+    ensures reads { ReadsOn (R.remaining reader.old) (R.remaining reader.new) }
+    ensures told { TellsOfOutcome E.Sink job.now.hushed job.now.style.name.now result
+        errors.old errors.new }
+{
+    match search_front(automaton, job, buffer, reader, state, page, output) {
+        Ok(_) => end_file(job, state, page, output, errors),
         Err(stop) => break_off(job, state, &stop, page, output, errors),
     }
 }
@@ -547,5 +580,6 @@ fn job_for<'a>(job: &Job<'a>, name: &'a [u8], follows: bool) -> Job<'a>
         follows,
         late: job.late,
         guards: job.guards,
+        text_alone: job.text_alone,
     }
 }

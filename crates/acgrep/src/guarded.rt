@@ -76,7 +76,7 @@ pub fn search_guarded<A: Lister, R: Read, W: Sink>(
 }
 
 /// Searches the lines up to the first that holds a zero byte, and answers whether there is one. The buffer then begins with it.
-fn search_front<A: Lister, R: Read, W: Sink>(
+pub fn search_front<A: Lister, R: Read, W: Sink>(
     automaton: &A,
     job: &Job<'_>,
     buffer: &mut Buffer,

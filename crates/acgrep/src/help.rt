@@ -73,12 +73,16 @@ Folders:
   -D, --devices ACTION  with devices: read or skip
   --include GLOB        search only files with a name that GLOB fits
   --exclude GLOB        do not search those: the last of both that fits decides
+  --exclude-from FILE   the same for each line of FILE
   --exclude-dir GLOB    do not search what is in folders with such a name
 
 Others:
   -s, --no-messages     do not tell of files that cannot be read
   --no-match-ok         end with 0 where no line is selected too
   -a, --text            write lines that hold a zero byte to a terminal too
+  -I                    search only the lines before the first that holds one
+  --binary-files TYPE   with such lines: text (as -a), without-match (as -I), or
+                        binary (as neither)
   -F, -U, -u, --fixed-strings, --binary, --unix-byte-offsets, --line-buffered
                         what is done without them too
   --                    what follows is no option

@@ -56,7 +56,7 @@ pub fn read_keys<F: Open, R: Read, E: Sink>(
 }
 
 /// Tells why a source cannot be read. Where it is a text, memory ran out.
-fn tell_source<E: Sink>(source: Source<'_>, error: &io::Error, errors: &mut Errors<'_, E>)
+pub fn tell_source<E: Sink>(source: Source<'_>, error: &io::Error, errors: &mut Errors<'_, E>)
     ensures told { TellsOfFile E.Sink (origin_of source.entry).bytes errors.old errors.new }
 {
     match source {
@@ -103,7 +103,7 @@ fn read_file<F: Open, R: Read>(
 }
 
 /// Adds the bytes of a file.
-fn read_text<F: Open, R: Read>(
+pub fn read_text<F: Open, R: Read>(
     text: &mut Vec<u8>,
     name: &[u8],
     files: &F,

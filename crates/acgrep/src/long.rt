@@ -42,12 +42,16 @@ pub enum Valued {
     Included,
     /// `--exclude`
     Excluded,
+    /// `--exclude-from`
+    ExcludedFrom,
     /// `--exclude-dir`
     ExcludedFolder,
     /// `-d`
     Folders,
     /// `-D`
     Devices,
+    /// `--binary-files`
+    BinaryFiles,
 }
 
 /// An option by its long name.
@@ -135,6 +139,7 @@ fn or_patterns(found: Found<Long>, name: &[u8]) -> Found<Long>
         )
         .or(name, b"text", Long::Plain(Switch::Text))
         .or(name, b"binary", Long::Plain(Switch::Same))
+        .or(name, b"binary-files", Long::Takes(Valued::BinaryFiles))
 }
 
 /// What it means with the options that say what is written.
@@ -186,6 +191,7 @@ fn or_files(found: Found<Long>, name: &[u8]) -> Found<Long>
     found
         .or(name, b"include", Long::Takes(Valued::Included))
         .or(name, b"exclude", Long::Takes(Valued::Excluded))
+        .or(name, b"exclude-from", Long::Takes(Valued::ExcludedFrom))
         .or(name, b"exclude-dir", Long::Takes(Valued::ExcludedFolder))
         .or(name, b"directories", Long::Takes(Valued::Folders))
         .or(name, b"devices", Long::Takes(Valued::Devices))

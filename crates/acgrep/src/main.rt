@@ -16,6 +16,7 @@ mod chosen;
 mod colors;
 mod context;
 mod counted;
+mod excluded;
 mod failure;
 mod fields;
 mod files;

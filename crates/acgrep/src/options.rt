@@ -116,6 +116,10 @@ pub enum Switch {
     Version,
     /// `-a`
     Text,
+    /// `-I`
+    TextAlone,
+    /// `--binary-files=binary`
+    Binary,
     /// `-d read`
     ReadFolders,
     /// `-d skip`
@@ -154,6 +158,7 @@ pub fn switch_of(letter: u8) -> Option<Switch>
         b'H' => Some(Switch::WithName),
         b'V' => Some(Switch::Version),
         b'a' => Some(Switch::Text),
+        b'I' => Some(Switch::TextAlone),
         b'F' | b'U' | b'u' => Some(Switch::Same),
         _ => None,
     }
@@ -228,8 +233,10 @@ pub struct Flags {
     pub no_messages: bool,
     /// The last `-m`: how many lines of each file are selected at most.
     pub most: Option<u64>,
-    /// `-a`: lines that hold a zero byte are written to a terminal too.
+    /// `-a`, and no `-I` or `--binary-files` behind it: lines that hold a zero byte are written to a terminal too.
     pub text: bool,
+    /// `-I`, and no `-a` or `--binary-files` behind it: only the lines before the first that holds a zero byte are searched.
+    pub text_alone: bool,
     /// `--help`.
     pub help: bool,
     /// `--version`.
@@ -278,6 +285,7 @@ impl Flags {
             no_messages: false,
             most: None,
             text: false,
+            text_alone: false,
             help: false,
             version: false,
         }
@@ -379,9 +387,11 @@ impl Flags {
             | Valued::Format
             | Valued::Included
             | Valued::Excluded
+            | Valued::ExcludedFrom
             | Valued::ExcludedFolder
             | Valued::Folders
-            | Valued::Devices => {}
+            | Valued::Devices
+            | Valued::BinaryFiles => {}
         }
         flags
     }
@@ -441,7 +451,18 @@ impl Flags {
             Switch::NoMessages => flags.no_messages = true,
             Switch::Help => flags.help = true,
             Switch::Version => flags.version = true,
-            Switch::Text => flags.text = true,
+            Switch::Text => {
+                flags.text = true;
+                flags.text_alone = false;
+            }
+            Switch::TextAlone => {
+                flags.text = false;
+                flags.text_alone = true;
+            }
+            Switch::Binary => {
+                flags.text = false;
+                flags.text_alone = false;
+            }
             Switch::Same => {}
         }
         flags

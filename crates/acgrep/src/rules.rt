@@ -1,4 +1,5 @@
-//! Which names are searched, by the rules of `--include`, `--exclude` and `--exclude-dir`.
+//! Which names are searched, by the rules of `--include`, `--exclude` and `--exclude-dir`. `--exclude-from` gives a file of them, of which
+//! nothing is left out before it is read.
 
 ghost use Rattle.std.specs.Prelude.{◌≡◌, ◌≤◌, ◌+◌, length};
 ghost use Rattle.acgrep.specs.Rules.{after_rule, begins_by_including, is_of_folders, kept_len, leaves_file, leaves_folder, is_left_out, name_fits, rule_said, rules_said, without_slashes};
@@ -12,6 +13,8 @@ pub enum Sense {
     Include,
     /// `--exclude`: it is not.
     Exclude,
+    /// `--exclude-from`: a file of such names is not, where this is the name of a file that holds their globs.
+    ExcludeFrom,
     /// `--exclude-dir`: what is in a folder of such a name is not.
     ExcludeFolder,
 }
@@ -21,7 +24,7 @@ pub enum Sense {
 pub struct Rule<'a> {
     /// Which it is.
     pub sense: Sense,
-    /// The names that it is about.
+    /// The names that it is about, or the file of them.
     pub glob: &'a [u8],
 }
 
@@ -83,7 +86,7 @@ fn begins_by_including(rules: &[Rule<'_>]) -> bool
         match rest[0].sense {
             Sense::Include => return true,
             Sense::Exclude => return false,
-            Sense::ExcludeFolder => {}
+            Sense::ExcludeFrom | Sense::ExcludeFolder => {}
         }
         rest = &rest[1..];
     }
@@ -96,7 +99,7 @@ fn is_of_folders(sense: Sense) -> bool
 {
     match sense {
         Sense::ExcludeFolder => true,
-        Sense::Include | Sense::Exclude => false,
+        Sense::Include | Sense::Exclude | Sense::ExcludeFrom => false,
     }
 }
 

@@ -1,6 +1,6 @@
 //! A call over its arguments, files and streams.
 
-ghost use Rattle.std.specs.Prelude.{◌≡◌, ◌≤◌, ◌<◌, ◌⊎◌, [], None, false, nat_lt, true, unwrap_or};
+ghost use Rattle.std.specs.Prelude.{◌≡◌, ◌≤◌, ◌<◌, ◌⊎◌, [], IsTrue, None, false, nat_lt, true, unwrap_or};
 ghost use Rattle.std.specs.Io.KnownBytes.{Appends, Keeps};
 ghost use Rattle.aho_devices.specs.Counts.{AppendsBeginning};
 ghost use Rattle.aho_core.specs.Patterns.{Patterns};
@@ -9,16 +9,18 @@ ghost use Rattle.acgrep.specs.Listed.{listed_bytes};
 ghost use Rattle.acgrep.specs.Arguments.{said, said_by};
 ghost use Rattle.programs.specs.Names.{name_bytes};
 ghost use Rattle.programs.specs.Telling.{Tells, TellsSome};
-ghost use Rattle.acgrep.specs.Told.{MaySaid, MayTell, TellsCause, TellsOfCall, TellsOfFiles, TellsOfSearch, TellsOfText, TellsRefusal, is_hushed};
+ghost use Rattle.acgrep.specs.Told.{MaySaid, MayTell, TellsCause, TellsOfCall, TellsOfFiles, TellsOfSaid, TellsOfSearch, TellsOfText, TellsRefusal, is_hushed};
 ghost use Rattle.acgrep.specs.Mistakes.{TellsLacking, TellsMistake, TellsNoPattern, TellsRefused};
 ghost use Rattle.acgrep.specs.Files.{AreFilesBegun, AreSearchedOr, files_named};
 ghost use Rattle.acgrep.specs.Folders.{known_by, tree_of};
-ghost use Rattle.acgrep.specs.Runs.{AsksToSearch, BeginsNoMatch, BeginsSearch, BeginsFor, GivesNone, IfSaid, IsJob, Searches, SearchesFor, SearchesSaid, WritesNoMatch, are_empty, asks_none, form_asked, form_said, inverts, is_colored, kind_sought, knows_none, lists_finds, origins_of, selects_none, status_told, takes_any, words_sought};
+ghost use Rattle.acgrep.specs.Runs.{AsksToSearch, BeginsNoMatch, BeginsSaid, BeginsSearch, BeginsFor, GivesNone, IfSaid, IsJob, Searches, SearchesFor, SearchesRuled, SearchesSaid, WritesNoMatch, are_empty, asks_none, form_asked, form_said, inverts, is_colored, kind_sought, knows_none, lists_finds, origins_of, ruled, selects_none, status_told, takes_any, words_sought};
+ghost use Rattle.acgrep.specs.Rules.{rules_said};
 ghost use Rattle.acgrep.specs.Searchers.{ForSearch, IsSearcherOf};
 
 use crate::arguments::{Given, Refusal, Source, Wrong, parse};
 use crate::colors::{Screen, read_colors};
 use crate::counted::{end_counts, search_or_count};
+use crate::excluded::{expanded, read_globs};
 use crate::files::{Files, search_files};
 use crate::folders::Folders;
 use crate::format::Piece;
@@ -28,6 +30,7 @@ use crate::open::Open;
 use crate::options::{Color, Fit, Flags, Shown};
 use crate::patterns::{first_holding, lines_of};
 use crate::print::{Form, Place, Style};
+use crate::rules::Rule;
 use crate::searcher::Searcher;
 use crate::select::Job;
 use crate::tell::{tell_memory, tell_write, tell_wrong};
@@ -80,19 +83,20 @@ pub fn run<F: Open + Folders, R: Read, W: Sink, E: Sink>(
 
     // Where the status tells of no error nothing is told, but under `-q` of files that cannot be read. Where it tells of one, a line
     // says why: whole, unless writing it failed. Under `-s` no line names a file that is searched, and there may be none.
-    ensures tells { Tells E.Sink (MaySaid (tree_of F.Folders files.now) (said_by (listed_bytes arguments.now))) errors.old errors.new }
+    ensures tells { Tells E.Sink (MaySaid (known_by F.Open F.Folders files.now) (R.remaining input.old)
+        (said_by (listed_bytes arguments.now))) errors.old errors.new }
     ensures silent { IfSaid arguments.now (λ said. said.flags.quiet ≡ false
         → result < 2 → errors.new ≡ errors.old) }
     ensures says_why { is_hushed (said_by (listed_bytes arguments.now)) ≡ false → result ≡ 2
-        → TellsSome E.Sink (MaySaid (tree_of F.Folders files.now) (said_by (listed_bytes arguments.now)))
-        errors.old errors.new }
+        → TellsSome E.Sink (MaySaid (known_by F.Open F.Folders files.now) (R.remaining input.old)
+        (said_by (listed_bytes arguments.now))) errors.old errors.new }
 
     // All output was flushed where the status tells of no error.
     ensures flushed { result < 2 → W.flushed output.new ≡ true }
 {
     match parse(alloc, arguments) {
         Ok(given) => {
-            let status = answer(alloc, &given, screen, files, input, output, errors);
+            let status = answer(alloc, given, screen, files, input, output, errors);
             finish(status, output, errors)
         }
         Err(refusal) => {
@@ -146,7 +150,7 @@ fn finish<W: Sink, E: Sink>(status: u8, output: &mut W, errors: &mut Errors<'_, 
 /// Does what right arguments ask for.
 fn answer<F: Open + Folders, R: Read, W: Sink, E: Sink>(
     alloc: Global,
-    given: &Given<'_>,
+    given: Given<'_>,
     screen: &Screen<'_>,
     files: &F,
     input: &mut R,
@@ -154,17 +158,18 @@ fn answer<F: Open + Folders, R: Read, W: Sink, E: Sink>(
     errors: &mut Errors<'_, E>,
 ) -> u8
     ensures bound { result ≤ 2 }
-    ensures patternless { AsksToSearch given.now.flags → GivesNone (said given.now) → result ≡ 2 }
-    ensures lacking { AsksToSearch given.now.flags → GivesNone (said given.now)
+    ensures patternless { AsksToSearch given.entry.flags → GivesNone (said given.entry) → result ≡ 2 }
+    ensures lacking { AsksToSearch given.entry.flags → GivesNone (said given.entry)
         → TellsNoPattern E.Sink errors.old errors.new }
-    ensures searches { AsksToSearch given.now.flags → result < 2
-        → Searches (known_by F.Open F.Folders files.now) screen.now (said given.now)
+    ensures searches { AsksToSearch given.entry.flags → result < 2
+        → Searches (known_by F.Open F.Folders files.now) screen.now (said given.entry)
         (R.remaining input.old) (R.remaining input.new)
         (W.taken output.old) (W.taken output.new) result }
-    ensures begins { AsksToSearch given.now.flags
-        → BeginsSearch (known_by F.Open F.Folders files.now) screen.now (said given.now)
+    ensures begins { AsksToSearch given.entry.flags
+        → BeginsSearch (known_by F.Open F.Folders files.now) screen.now (said given.entry)
         (R.remaining input.old) (W.taken output.old) (W.taken output.new) }
-    ensures told { TellsOfCall E.Sink (tree_of F.Folders files.now) (said given.now) result errors.old errors.new }
+    ensures told { TellsOfCall E.Sink (known_by F.Open F.Folders files.now) (R.remaining input.old)
+        (said given.entry) result errors.old errors.new }
 {
     if given.flags.version {
         return write_text(VERSION, output, errors);
@@ -172,8 +177,64 @@ fn answer<F: Open + Folders, R: Read, W: Sink, E: Sink>(
     if given.flags.help {
         return write_text(HELP, output, errors);
     }
-    let status = search_asked(alloc, given, screen, files, input, output, errors);
-    status_told(given.flags.no_match_ok, status)
+    let no_match_ok = given.flags.no_match_ok;
+    let status = search_ruled(alloc, given, screen, files, input, output, errors);
+    status_told(no_match_ok, status)
+}
+
+/// Searches as the arguments say, by rules of which those in files are read first.
+fn search_ruled<F: Open + Folders, R: Read, W: Sink, E: Sink>(
+    alloc: Global,
+    given: Given<'_>,
+    screen: &Screen<'_>,
+    files: &F,
+    input: &mut R,
+    output: &mut W,
+    errors: &mut Errors<'_, E>,
+) -> u8
+    ensures bound { result ≤ 2 }
+    ensures patternless { GivesNone (said given.entry) → result ≡ 2 }
+    ensures lacking { GivesNone (said given.entry)
+        → TellsNoPattern E.Sink errors.old errors.new }
+    ensures searches { result < 2 → SearchesRuled (known_by F.Open F.Folders files.now) screen.now (said given.entry)
+        (R.remaining input.old) (R.remaining input.new)
+        (W.taken output.old) (W.taken output.new) result }
+    ensures begins { BeginsSearch (known_by F.Open F.Folders files.now) screen.now (said given.entry)
+        (R.remaining input.old) (W.taken output.old) (W.taken output.new) }
+    ensures told { TellsOfCall E.Sink (known_by F.Open F.Folders files.now) (R.remaining input.old)
+        (said given.entry) result errors.old errors.new }
+{
+    if gives_none(&given) {
+        tell_wrong(errors, Wrong::NoPattern);
+        return 2;
+    }
+    let rules = given.rules.as_slice();
+    let Some(texts) = read_globs(alloc, rules, files, input, errors) else {
+        return 2;
+    };
+    let Ok(all) = expanded(alloc, rules, texts.as_slice()) else {
+        tell_memory(errors);
+        return 2;
+    };
+    let ruled = with_rules(given, all);
+    search_asked(alloc, &ruled, screen, files, input, output, errors)
+}
+
+/// What is said, by these rules.
+fn with_rules<'a>(given: Given<'a>, rules: Vec<Rule<'a>>) -> Given<'a>
+    ensures ruled { said result ≡ ruled (said given.entry) (rules_said rules.entry.items) }
+{
+    let mut ruled = given;
+    ruled.rules = rules;
+    ruled
+}
+
+/// Whether neither an option nor an operand gives a pattern.
+fn gives_none(given: &Given<'_>) -> bool
+    ensures none { IsTrue result → GivesNone (said given.now) }
+    ensures some { result ≡ false → GivesNone (said given.now) → ⊥ }
+{
+    given.sources.is_empty() && given.operands.is_empty()
 }
 
 /// The status of a search, by whether finding nothing is no failure.
@@ -203,9 +264,9 @@ fn search_asked<F: Open + Folders, R: Read, W: Sink, E: Sink>(
     ensures searches { result < 2 → SearchesSaid (known_by F.Open F.Folders files.now) screen.now (said given.now)
         (R.remaining input.old) (R.remaining input.new)
         (W.taken output.old) (W.taken output.new) result }
-    ensures begins { BeginsSearch (known_by F.Open F.Folders files.now) screen.now (said given.now)
+    ensures begins { BeginsSaid (known_by F.Open F.Folders files.now) screen.now (said given.now)
         (R.remaining input.old) (W.taken output.old) (W.taken output.new) }
-    ensures told { TellsOfCall E.Sink (tree_of F.Folders files.now) (said given.now) result errors.old errors.new }
+    ensures told { TellsOfSaid E.Sink (tree_of F.Folders files.now) (said given.now) result errors.old errors.new }
 {
     let sources = given.sources.as_slice();
     let operands = given.operands.as_slice();
@@ -475,7 +536,8 @@ pub fn job_of<'a>(given: &'a Given<'_>, screen: &Screen<'a>, several: bool) -> J
         context: flags.context(),
         follows: false,
         late: flags.asks_counts(),
-        guards: screen.terminal && !flags.text,
+        guards: screen.terminal && !flags.text && !flags.text_alone,
+        text_alone: flags.text_alone,
     }
 }
 

@@ -51,10 +51,12 @@ pub struct Job<'a> {
     pub late: bool,
     /// Whether lines and matches are kept from the output from the first line on that holds a zero byte.
     pub guards: bool,
+    /// Whether only the lines before that one are searched.
+    pub text_alone: bool,
 }
 
 impl<'a> Job<'a> {
-    ghost use Rattle.acgrep.specs.Binary.{is_guarded, seeking};
+    ghost use Rattle.acgrep.specs.Binary.{is_guarded, seeking, takes_text};
     ghost use Rattle.acgrep.specs.Contexts.{around_of, beside};
 
     /// How many lines are written around selected ones: where lines or matches are written, as many as are asked for.
@@ -124,6 +126,13 @@ impl<'a> Job<'a> {
             Shown::Lines | Shown::Matches => self.guards && self.style.ending != 0,
             _ => false,
         }
+    }
+
+    /// Whether only the lines before the first that holds a zero byte are searched: that is asked for, and a newline ends a line.
+    pub fn takes_text(&self) -> bool
+        ensures text { result ≡ takes_text self.now }
+    {
+        self.text_alone && !self.guards && self.style.ending != 0
     }
 
     /// What is sought in the lines from the first on that holds a zero byte: one that is selected, of which nothing is written.

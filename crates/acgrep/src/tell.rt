@@ -169,6 +169,12 @@ pub fn tell_wrong<E: Sink>(errors: &mut Errors<'_, E>, wrong: Wrong<'_>)
             b"'\n",
             USAGE,
         ]),
+        Wrong::UnknownBinary(name) => errors.write(&[
+            b"acgrep: option '--binary-files' takes binary, text or without-match, not '",
+            name,
+            b"'\n",
+            USAGE,
+        ]),
         Wrong::UnknownField(field) => errors.write(&[
             b"acgrep: option '--format' has no field '",
             field,
@@ -231,9 +237,11 @@ fn valued_name<'a>(valued: Valued) -> &'a [u8]
         Valued::Format => b"--format",
         Valued::Included => b"--include",
         Valued::Excluded => b"--exclude",
+        Valued::ExcludedFrom => b"--exclude-from",
         Valued::ExcludedFolder => b"--exclude-dir",
         Valued::Folders => b"-d",
         Valued::Devices => b"-D",
+        Valued::BinaryFiles => b"--binary-files",
     }
 }
 

@@ -20,7 +20,7 @@ use Rattle.acredact.specs.Back.{IsBacking}
 use Rattle.acredact.specs.Faults.{IsStreamEnd}
 use Rattle.acredact.specs.Secrets.{CanRedact, Keyed, Redactor}
 use Rattle.acredact.specs.Streams.{StreamOutcome}
-use Rattle.acredact.proofs.Redactions.{begun_by, starts_whole, whole_by}
+use Rattle.acredact.proofs.Redactions.{begun_by, no_cover, starts_whole, whole_by}
 use Rattle.acredact.proofs.Suited.{redactor_is}
 
 -- words of which none is empty
@@ -54,6 +54,7 @@ module _ {A R W : Type 0} (G : Ghosts A) (S : SourceGhosts R) (K : SinkGhosts W)
       record {
         redacted = whole;
         begun = starts_whole whole;
+        near = λ covers. tt;
         read_failed = errors.read_failed;
         write_failed = errors.write_failed;
         took_nothing = errors.took_nothing;
@@ -63,6 +64,7 @@ module _ {A R W : Type 0} (G : Ghosts A) (S : SourceGhosts R) (K : SinkGhosts W)
   outcome_back (Err error) leaves errors only = record {
     redacted = tt;
     begun = begun_by S K r plain unkeyed (IsBackwardOf G searcher) is (some_back G searcher r.patterns is) source source' sink sink' leaves.begun;
+    near = λ covers. absurd (no_cover r plain covers);
     read_failed = errors.read_failed;
     write_failed = errors.write_failed;
     took_nothing = errors.took_nothing;

@@ -32,7 +32,7 @@ use Rattle.acredact.specs.Faults.{IsStreamEnd}
 use Rattle.acredact.specs.Secrets.{BeginsRedaction, Redactor}
 use Rattle.acredact.specs.Streams.{RedactsStream, StreamOutcome, WritesPiece}
 use Rattle.acredact.specs.Totals.{CountsOfStream}
-use Rattle.acredact.proofs.Redactions.{begins_by, begins_nothing, of_finds, redacted, redacted_alike, redaction_by, some_by, starts_whole, to_finds}
+use Rattle.acredact.proofs.Redactions.{begins_by, begins_nothing, no_cover, of_finds, redacted, redacted_alike, redaction_by, some_by, starts_whole, to_finds}
 
 -- an error of a run: of the reading where it stopped, or of a write
 abbrev IsRunError : Bool → StreamError → Type 0
@@ -274,6 +274,7 @@ module _ {A R W F : Type 0} (G : Ghosts A) (S : SourceGhosts R) (K : SinkGhosts 
       record {
         redacted = whole;
         begun = starts_whole whole;
+        near = λ covers. tt;
         read_failed = over.read_failed ∙ ap (λ (b : Bool). counted b (S.failures source)) (never_stops over.stopped);
         write_failed = taken.2.write_failed;
         took_nothing = taken.2.took_nothing;
@@ -288,6 +289,7 @@ module _ {A R W F : Type 0} (G : Ghosts A) (S : SourceGhosts R) (K : SinkGhosts 
       record {
         redacted = tt;
         begun = record { given = over.given; ended = over.ended; gives = over.gives; part = begun.0; begins = begun.1; written = begun.2 };
+        near = λ covers. absurd (no_cover r plain covers);
         read_failed = over.read_failed ∙ ap (λ (b : Bool). counted b (S.failures source)) (read_stops over.stopped error taken.2.only);
         write_failed = taken.2.write_failed;
         took_nothing = taken.2.took_nothing;
@@ -311,6 +313,7 @@ module _ {A R W F : Type 0} (G : Ghosts A) (S : SourceGhosts R) (K : SinkGhosts 
       begins = begins_nothing r some_one [] false;
       written = Appends-nil (K.taken sink);
     };
+    near = λ covers. absurd (no_cover r plain covers);
     read_failed = refl;
     write_failed = refl;
     took_nothing = refl;

@@ -203,7 +203,7 @@ module _ {R W E : Type 0} {Reads : Readers R} (Writes : Writers W) (K : SinkGhos
       unread_line name reason ∷ [],
       refl,
       (
-        inr (inl (reason, refl, file.reason, file.begun)),
+        inr (inl (reason, refl, file.unread)),
         subst (λ (e : Errors E). TellsBytes K e errors (concat (unread_line name reason ∷ []))) same
             (subst (TellsBytes K mid.errors errors) (sym (append-nil (unread_line name reason))) tells),
       ),

@@ -1,19 +1,19 @@
 -- How a count of bytes goes on.
 use Rattle.std.proofs.Common.{◌≡◌, ◌≢◌, ℕ, ◌+◌, ◌≤◌, Bool, true, false, List, [], ◌∷◌, Option, length, refl, sym, ap, subst, ◌∙◌, arith, length-append}
-use Rattle.std.specs.Prelude.{◌^◌, ◌-◌, min, None, Some, Result, is_some}
+use Rattle.std.specs.Prelude.{◌^◌, ◌-◌, min, None, Some, Result, Ok, Err, IfErr, is_some}
 use Rattle.std.specs.Io.KnownBytes.{Consumes, IsAtEnd, Keeps}
 use Rattle.std.proofs.lemmas.Result.{on_ok_weaker}
 use Rattle.aho_core.specs.declared.error.stream.StreamError.{StreamError}
 use Rattle.aho_cover.specs.Counting.{grown_count}
 use Rattle.aho_devices.specs.Counts.{counted}
-use Rattle.aho_devices.specs.Refusals.{is_read_fault}
+use Rattle.aho_devices.specs.Refusals.{IsFillRefusal, is_read_fault}
 use Rattle.aho_devices.specs.declared.device.Sink.{Ghosts as SinkGhosts}
 use Rattle.aho_devices.specs.declared.device.Source.{Ghosts as SourceGhosts}
 use Rattle.aho_stream.specs.Replacing.{SourceGave}
 use Rattle.programs.specs.Names.{is_input}
 use Rattle.acredact.specs.Metering.{IsMetered, settled_left}
 use Rattle.acredact.specs.Secrets.{Redactor}
-use Rattle.acredact.specs.Streams.{RedactsStream, StreamOutcome}
+use Rattle.acredact.specs.Streams.{ReachesStream, RedactsStream, StreamOutcome}
 use Rattle.acredact.specs.Totals.{CountsOfStream}
 use Rattle.acredact.specs.Volumes.{AddsBytes, AddsName, AddsNames, AddsStream, ReadsVolume}
 use Rattle.acredact.specs.declared.summary.Volume.{Volume}
@@ -62,6 +62,11 @@ metered_added true whole (Some xs) (Some ys) start bytes bytes' text same is rea
     let sizes : length xs ≡ length text + length ys = ap length read ∙ length-append text ys in
     omega (arith, here.1, sizes, is)
 
+-- a source is as it was left
+pub outcome_there : {R W : Type 0} (S : SourceGhosts R) (K : SinkGhosts W) (r : Redactor) (result : Result (Unit {0}) StreamError) (source there there' : R) (sink sink' : W) → there ≡ there'
+    → StreamOutcome S K r result source there sink sink' → StreamOutcome S K r result source there' sink sink'
+outcome_there S K r result source there there' sink sink' same of = subst (λ s. StreamOutcome S K r result source s sink sink') same of
+
 -- one source in the place of another, of which no less is known
 module _ {Q R W : Type 0} (P : SourceGhosts Q) (S : SourceGhosts R) (K : SinkGhosts W) (r : Redactor) (other other' : Q) (source source' : R) (sink sink' : W)
     (reads : (text : List ℕ) → Consumes (P.remaining other) (P.remaining other') text → Consumes (S.remaining source) (S.remaining source') text)
@@ -72,6 +77,13 @@ module _ {Q R W : Type 0} (P : SourceGhosts Q) (S : SourceGhosts R) (K : SinkGho
 
   redacts_as : RedactsStream P K r other other' sink sink' → RedactsStream S K r source source' sink sink'
   redacts_as whole = record { text = whole.text; gives = gave_as whole.text true whole.gives; redaction = whole.redaction; redacts = whole.redacts; written = whole.written }
+
+  reaches_as : (result : Result (Unit {0}) StreamError) → IfErr result (λ error. IsFillRefusal error → ReachesStream P K r other other' sink sink')
+      → IfErr result (λ error. IsFillRefusal error → ReachesStream S K r source source' sink sink')
+  reaches_as (Ok x) near = tt
+  reaches_as (Err error) near = λ fills.
+      let up = near fills in
+      record { given = up.given; ended = up.ended; gives = gave_as up.given up.ended up.gives; place = up.place; within = up.within; prompt = up.prompt; written = up.written }
 
   pub outcome_as : (result : Result (Unit {0}) StreamError) → StreamOutcome P K r result other other' sink sink' → StreamOutcome S K r result source source' sink sink'
   outcome_as result of = record {
@@ -84,6 +96,7 @@ module _ {Q R W : Type 0} (P : SourceGhosts Q) (S : SourceGhosts R) (K : SinkGho
       begins = of.begun.begins;
       written = of.begun.written;
     };
+    near = λ covers. reaches_as result (of.near covers);
     read_failed = sym failures' ∙ of.read_failed ∙ ap (counted (is_read_fault result)) failures;
     write_failed = of.write_failed;
     took_nothing = of.took_nothing;

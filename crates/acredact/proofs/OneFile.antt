@@ -4,12 +4,12 @@ use Rattle.std.specs.Prelude.{Bool, MatchBool, None, Some, Result, Ok, Err, IfEr
 use Rattle.std.specs.Io.KnownBytes.{Consumes, IsAtEnd, Keeps}
 use Rattle.std.specs.declared.io.traits.Read.{Ghosts as Readers}
 use Rattle.std.specs.declared.io.traits.Write.{Ghosts as Writers}
-use Rattle.std.proofs.KnownBytes.{Appends-nil, Consumes-nil}
+use Rattle.std.proofs.KnownBytes.{Appends-nil, Consumes-nil, Keeps-refl}
 use Rattle.aho_core.specs.Laws.{shortest}
 use Rattle.aho_core.specs.declared.error.stream.StreamError.{StreamError}
 use Rattle.aho_core.specs.declared.error.stream.StreamError.TheVariants.{Match, Read, Write, WriteZero, Memory, PositionLimit}
 use Rattle.aho_devices.specs.Counts.{counted}
-use Rattle.aho_devices.specs.Refusals.{is_read_fault, is_write_fault, is_write_of_nothing}
+use Rattle.aho_devices.specs.Refusals.{IsFillRefusal, is_read_fault, is_write_fault, is_write_of_nothing}
 use Rattle.aho_devices.specs.declared.adapters.FromRead.{FromRead}
 use Rattle.aho_devices.specs.declared.adapters.FromWrite.{FromWrite}
 use Rattle.aho_devices.specs.declared.device.Sink.{Ghosts as SinkGhosts}
@@ -18,10 +18,10 @@ use Rattle.programs.specs.Names.{is_input}
 use Rattle.programs.specs.Streams.{output_bytes, bytes_left}
 use Rattle.programs.specs.declared.reason.Reason.{Reason}
 use Rattle.acredact.specs.Faults.{IsOutputEnd, IsReadReason, IsStreamEnd, is_unread, reading_of}
-use Rattle.acredact.specs.Files.{BeginsNamed, BeginsText, FileOutcome, MayBeUnread, RedactsText, TextOutcome, Work}
+use Rattle.acredact.specs.Files.{BeginsNamed, BeginsText, FileOutcome, IsUnread, ReachesNamed, ReachesText, RedactsText, TextOutcome, Work}
 use Rattle.acredact.specs.Reads.{OfName}
 use Rattle.acredact.specs.Secrets.{Redactor}
-use Rattle.acredact.specs.Streams.{RedactsStream, StartsStream}
+use Rattle.acredact.specs.Streams.{ReachesStream, RedactsStream, StartsStream}
 use Rattle.acredact.proofs.Redactions.{begins_nothing}
 
 -- a stream that has seen no end before is at its end where it sees one
@@ -55,6 +55,18 @@ module _ {R W : Type 0} (S : SourceGhosts R) (K : SinkGhosts W) (r : Redactor) (
     written = begun.written;
   }
 
+  pub reaches_of : ReachesStream S K r source source' sink sink' → ReachesText r before (S.remaining source') (K.taken sink) (K.taken sink')
+  reaches_of up = record {
+    given = up.given;
+    ended = up.ended;
+    read = subst (λ bytes. Consumes bytes (S.remaining source') up.given) left up.gives.bytes;
+    at_end = ends_by (S.empty_reads source) (S.empty_reads source') up.ended none ends up.gives.end;
+    place = up.place;
+    within = up.within;
+    prompt = up.prompt;
+    written = up.written;
+  }
+
 -- what an end of a stream means
 pub reading_whole : (done : Result (Unit {0}) StreamError) → reading_of done ≡ Ok None → done ≡ Ok tt
 reading_whole (Ok tt) is = refl
@@ -73,6 +85,16 @@ reading_reason (Err (Write fault)) = tt
 reading_reason (Err WriteZero) = tt
 reading_reason (Err Memory) = tt
 reading_reason (Err PositionLimit) = tt
+
+-- a read failed, or the stream is too long
+reading_fills : (P : Type 0) (done : Result (Unit {0}) StreamError) → IfErr done (λ error. IsFillRefusal error → P) → IfOk (reading_of done) (λ unread. IfSome unread (λ reason. P))
+reading_fills P (Ok x) near = tt
+reading_fills P (Err (Match cause)) near = tt
+reading_fills P (Err (Read fault)) near = near tt
+reading_fills P (Err (Write fault)) near = tt
+reading_fills P (Err WriteZero) near = tt
+reading_fills P (Err Memory) near = tt
+reading_fills P (Err PositionLimit) near = near tt
 
 reading_only : (done : Result (Unit {0}) StreamError) → IfErr done IsStreamEnd → IfErr (reading_of done) IsOutputEnd
 reading_only (Ok x) only = tt
@@ -118,12 +140,14 @@ at_ok {P} done is so = subst (λ (d : Result (Unit {0}) StreamError). OnOk d P) 
 module _ {W : Type 0} (Writes : Writers W) (r : Redactor) (done : Result (Unit {0}) StreamError) (left left' : Option (List ℕ)) (output output' : FromWrite W) where
   pub outcome_by : OnOk done (RedactsText r left left' (output_bytes Writes output) (output_bytes Writes output'))
       → BeginsText r left left' (output_bytes Writes output) (output_bytes Writes output')
+      → (r.covers ≡ true → IfErr done (λ error. IsFillRefusal error → ReachesText r left left' (output_bytes Writes output) (output_bytes Writes output')))
       → output'.failures ≡ counted (is_write_fault done) output.failures
       → output'.empty_writes ≡ counted (is_write_of_nothing done) output.empty_writes
       → IfErr done IsStreamEnd → TextOutcome Writes r (reading_of done) left left' output output'
-  outcome_by redacted begun write_failed took_nothing only = record {
+  outcome_by redacted begun near write_failed took_nothing only = record {
     redacted = λ is. at_ok done (reading_whole done is) redacted;
     begun = begun;
+    near = λ covers. reading_fills (ReachesText r left left' (output_bytes Writes output) (output_bytes Writes output')) done (near covers);
     reason = reading_reason done;
     fails = record {
       write_failed = write_failed ∙ ap (λ (b : Bool). counted b output.failures) (reading_write done);
@@ -160,6 +184,18 @@ module _ {r : Redactor} (told left left' held held' : Option (List ℕ)) (kept :
     written = begun.written;
   }
 
+  known_reaches : ReachesText r left left' held held' → ReachesText r told left' held held'
+  known_reaches up = record {
+    given = up.given;
+    ended = up.ended;
+    read = known_read told left left' up.given kept up.read;
+    at_end = up.at_end;
+    place = up.place;
+    within = up.within;
+    prompt = up.prompt;
+    written = up.written;
+  }
+
 -- before anything was read or written
 begun_none : (r : Redactor) → 1 ≤ shortest (map length r.patterns.words) → (left held : Option (List ℕ)) → BeginsText r left left held held
 begun_none r some left held = record {
@@ -183,32 +219,39 @@ pub of_folder : (holds : List ℕ → Option (List ℕ)) (name : List ℕ) (Read
 of_folder holds name Reads left left' is same rest reads =
     subst (λ (b : Bool). MatchBool b (Reads left left') ((left' ≡ left) × (rest : Option (List ℕ)) × Reads (holds name) rest)) (sym is) (same, rest, reads)
 
-may_be : (work : Work) (name : List ℕ) (result : Result (Option Reason) StreamError) → IfOk result (λ unread. IfSome unread IsReadReason)
-    → IfOk result (λ unread. IfSome unread (MayBeUnread work name))
-may_be work name (Ok None) is = tt
-may_be work name (Ok (Some reason)) is = inl is
-may_be work name (Err error) is = tt
+unread_by : {P : Type 0} (work : Work) (name : List ℕ) (left left' held held' : Option (List ℕ)) (result : Result (Option Reason) StreamError) → IfOk result (λ unread. IfSome unread IsReadReason)
+    → BeginsNamed work name left left' held held' → (work.redactor.covers ≡ true → IfOk result (λ unread. IfSome unread (λ reason. P))) → (P → ReachesNamed work name left left' held held')
+    → IfOk result (λ unread. IfSome unread (λ reason. IsUnread work name reason left left' held held'))
+unread_by work name left left' held held' (Ok None) is begun near named = tt
+unread_by work name left left' held held' (Ok (Some reason)) is begun near named = inl (is, begun, λ covers. named (near covers))
+unread_by work name left left' held held' (Err error) is begun near named = tt
 
 module _ {W R : Type 0} (Writes : Writers W) {Reads : Readers R} (work : Work) (name : List ℕ) (result : Result (Option Reason) StreamError) (input input' : FromRead R Reads) (output output' : FromWrite W) where
   pub file_input : is_input name ≡ true → TextOutcome Writes work.redactor result (bytes_left input) (bytes_left input') output output'
       → FileOutcome Writes work name result input input' output output'
-  file_input is text = record {
-    redacted = λ done. of_input work.holds name (λ l l'. RedactsText work.redactor l l' (output_bytes Writes output) (output_bytes Writes output')) (bytes_left input) (bytes_left input') is (text.redacted done);
-    begun = of_input work.holds name (λ l l'. BeginsText work.redactor l l' (output_bytes Writes output) (output_bytes Writes output')) (bytes_left input) (bytes_left input') is text.begun;
-    reason = may_be work name result text.reason;
-    fails = text.fails;
-  }
+  file_input is text =
+      let begun = of_input work.holds name (λ l l'. BeginsText work.redactor l l' (output_bytes Writes output) (output_bytes Writes output')) (bytes_left input) (bytes_left input') is text.begun in
+      record {
+        redacted = λ done. of_input work.holds name (λ l l'. RedactsText work.redactor l l' (output_bytes Writes output) (output_bytes Writes output')) (bytes_left input) (bytes_left input') is (text.redacted done);
+        begun = begun;
+        unread = unread_by work name (bytes_left input) (bytes_left input') (output_bytes Writes output) (output_bytes Writes output') result text.reason begun text.near
+            (λ up. of_input work.holds name (λ l l'. ReachesText work.redactor l l' (output_bytes Writes output) (output_bytes Writes output')) (bytes_left input) (bytes_left input') is up);
+        fails = text.fails;
+      }
 
   pub file_opened : is_input name ≡ false → input' ≡ input → (left rest : Option (List ℕ)) → Keeps (work.holds name) left
       → TextOutcome Writes work.redactor result left rest output output' → FileOutcome Writes work name result input input' output output'
   file_opened is same left rest kept text =
       let alike : bytes_left input' ≡ bytes_left input = ap (λ (i : FromRead R Reads). bytes_left i) same in
+      let begun = of_folder work.holds name (λ l l'. BeginsText work.redactor l l' (output_bytes Writes output) (output_bytes Writes output')) (bytes_left input) (bytes_left input') is alike rest
+      (known_begun (work.holds name) left rest _ _ kept text.begun) in
       record {
         redacted = λ done. of_folder work.holds name (λ l l'. RedactsText work.redactor l l' (output_bytes Writes output) (output_bytes Writes output')) (bytes_left input) (bytes_left input') is alike rest
             (known_text (work.holds name) left rest _ _ kept (text.redacted done));
-        begun = of_folder work.holds name (λ l l'. BeginsText work.redactor l l' (output_bytes Writes output) (output_bytes Writes output')) (bytes_left input) (bytes_left input') is alike rest
-            (known_begun (work.holds name) left rest _ _ kept text.begun);
-        reason = may_be work name result text.reason;
+        begun = begun;
+        unread = unread_by work name (bytes_left input) (bytes_left input') (output_bytes Writes output) (output_bytes Writes output') result text.reason begun text.near
+            (λ up. of_folder work.holds name (λ l l'. ReachesText work.redactor l l' (output_bytes Writes output) (output_bytes Writes output')) (bytes_left input) (bytes_left input') is alike rest
+            (known_reaches (work.holds name) left rest _ _ kept up));
         fails = text.fails;
       }
 
@@ -217,7 +260,7 @@ module _ {W R : Type 0} (Writes : Writers W) {Reads : Readers R} (work : Work) (
   file_refused is refused = record {
     redacted = λ (done : Ok (Some reason) ≡ Ok None). absurd (cc);
     begun = of_folder work.holds name (λ l l'. BeginsText work.redactor l l' (output_bytes Writes output) (output_bytes Writes output)) (bytes_left input) (bytes_left input) is refl (work.holds name) (begun_none work.redactor some (work.holds name) (output_bytes Writes output));
-    reason = inr refused;
+    unread = inr (refused, refl, Keeps-refl (output_bytes Writes output));
     fails = record { write_failed = refl; took_nothing = refl; only = tt };
   }
 

@@ -31,12 +31,12 @@ use Rattle.aho_stream.specs.Refills.{is_limit}
 use Rattle.aho_stream.specs.Replacing.{BeginsReplacing, GaveAsMany, IsStreamFault, MayBe, ReplacesStream}
 use Rattle.aho_stream.specs.StreamRun.{CanBegin}
 use Rattle.acredact.specs.Faults.{IsStreamEnd}
-use Rattle.aho_cover.specs.Covers.{BeginsCoveringBy, CountsRuns, CoversStreamBy, IsUnbegunCover, LeavesCoveredBy}
+use Rattle.aho_cover.specs.Covers.{BeginsCoveringBy, CountsRuns, CoversStreamBy, CoversStreamUpToBy, IsUnbegunCover, LeavesCoveredBy}
 use Rattle.aho_cover.specs.declared.progress.CoverProgress.{CoverProgress}
 use Rattle.aho_cover.specs.Pieces.{IsCoverBy, piece_in}
 use Rattle.pseudonyms.specs.Pseudonyms.{pseudonym_rule}
 use Rattle.acredact.specs.Secrets.{AreCleanBy, AreReplaced, BeginsRedaction, IsRedaction, Keyed, NoByteIsKept, NoneIsWhole, NoneOccurs, Redactor, rule_by, rule_of}
-use Rattle.acredact.specs.Streams.{RedactsStream, StartsStream, StreamOutcome}
+use Rattle.acredact.specs.Streams.{ReachesStream, RedactsStream, StartsStream, StreamOutcome}
 use Rattle.acredact.specs.Totals.{CountsOfStream}
 use Rattle.acredact.proofs.Covered.{none_left}
 use Rattle.acredact.proofs.MadeClean.{made-free}
@@ -112,6 +112,10 @@ module _ (r : Redactor) (some : 1 ≤ shortest (map length r.patterns.words)) wh
   pub begins_nothing : (given : List ℕ) (ended : Bool) → BeginsRedaction r given ended []
   begins_nothing given ended = begins_by given ended [] (λ text ranges may found. refl)
 
+-- what is no cover is none
+pub no_cover : (r : Redactor) → r.covers ≡ false → r.covers ≡ true → ⊥
+no_cover r plain covers = let clash : false ≡ true = sym plain ∙ covers in absurd (cc)
+
 -- the whole is a beginning
 pub begins_whole : (r : Redactor) (text redaction : List ℕ) → IsRedaction r text redaction → BeginsRedaction r text true redaction
 begins_whole r text redaction redacts other may =
@@ -183,6 +187,7 @@ module _ {A R W : Type 0} (G : Ghosts A) (S : SourceGhosts R) (K : SinkGhosts W)
   outcome_of (Ok x) whole begun read_failed write_failed took_nothing limit suits = record {
     redacted = whole_by S K r plain unkeyed (G.is_of automaton) of some_by source source' sink sink' whole;
     begun = starts_whole (whole_by S K r plain unkeyed (G.is_of automaton) of some_by source source' sink sink' whole);
+    near = λ covers. tt;
     read_failed = read_failed;
     write_failed = write_failed;
     took_nothing = took_nothing;
@@ -192,6 +197,7 @@ module _ {A R W : Type 0} (G : Ghosts A) (S : SourceGhosts R) (K : SinkGhosts W)
   outcome_of (Err error) whole begun read_failed write_failed took_nothing limit suits = record {
     redacted = tt;
     begun = begun_by S K r plain unkeyed (G.is_of automaton) of some_by source source' sink sink' begun;
+    near = λ covers. absurd (no_cover r plain covers);
     read_failed = read_failed;
     write_failed = write_failed;
     took_nothing = took_nothing;
@@ -238,6 +244,17 @@ module _ {R W : Type 0} (S : SourceGhosts R) (K : SinkGhosts W) (r : Redactor) (
     written = begun.writes;
   }
 
+  reaching_of : CoversStreamUpToBy S K AreSearched (rule_of r) source source' sink sink' → ReachesStream S K r source source' sink sink'
+  reaching_of up = record {
+    given = up.given;
+    ended = up.ended;
+    gives = up.gives;
+    place = up.place;
+    within = up.within;
+    prompt = λ at behind before out. up.prompt r.patterns at of behind before out;
+    written = λ text ranges may found. up.writes r.patterns text ranges of may (to_runs r covers text ranges found);
+  }
+
   pub outcome_of_cover : (result : Result (Unit {0}) StreamError) → LeavesCoveredBy S K AreSearched (rule_of r) source source' sink sink' result
       → CountsErrors S K source source' sink sink' result
       → IfErr result IsStreamFault
@@ -245,6 +262,7 @@ module _ {R W : Type 0} (S : SourceGhosts R) (K : SinkGhosts W) (r : Redactor) (
   outcome_of_cover (Ok x) leaves errors only = record {
     redacted = covered_of leaves.covered;
     begun = starts_whole (covered_of leaves.covered);
+    near = λ covering. tt;
     read_failed = errors.read_failed;
     write_failed = errors.write_failed;
     took_nothing = errors.took_nothing;
@@ -254,6 +272,7 @@ module _ {R W : Type 0} (S : SourceGhosts R) (K : SinkGhosts W) (r : Redactor) (
   outcome_of_cover (Err error) leaves errors only = record {
     redacted = tt;
     begun = covering_of leaves.begun;
+    near = λ covering fills. reaching_of (leaves.near fills);
     read_failed = errors.read_failed;
     write_failed = errors.write_failed;
     took_nothing = errors.took_nothing;

@@ -1,5 +1,5 @@
 -- What is written of files, one after another, and what is told of those that cannot be read.
-use Rattle.std.specs.Prelude.{◌≡◌, ◌⊎◌, ℕ, Bool, true, false, List, [], ◌∷◌, ◌++◌, Option, None, Result, Ok, IfErr, IfOk, IfSome, OnErr, option_map}
+use Rattle.std.specs.Prelude.{◌≡◌, ◌⊎◌, ℕ, ◌≤◌, length, Bool, true, false, List, [], ◌∷◌, ◌++◌, Option, None, Result, Ok, IfErr, IfOk, IfSome, OnErr, option_map}
 use Rattle.std.specs.Io.KnownBytes.{Appends, Consumes, IsAtEnd, Keeps}
 use Rattle.std.specs.List.{concat}
 use Rattle.std.specs.declared.io.traits.Read.{Ghosts as Readers}
@@ -21,7 +21,7 @@ use Rattle.programs.specs.declared.reason.Reason.{Reason}
 use Rattle.acredact.specs.Faults.{IsOutputEnd, IsReadReason}
 use Rattle.acredact.specs.Messages.{line_about, output_line}
 use Rattle.acredact.specs.Reads.{OfName, ReadsText}
-use Rattle.acredact.specs.Secrets.{BeginsRedaction, IfOf, IsRedaction, CanRedact, Keyed, NoneOccurs, Redactor, key_of_cover}
+use Rattle.acredact.specs.Secrets.{BeginsRedaction, IfOf, IsPromptUpTo, IsRedaction, IsWrittenUpTo, CanRedact, Keyed, NoneOccurs, Redactor, key_of_cover}
 use Rattle.acredact.specs.declared.files.Job.{Job}
 use Rattle.acredact.specs.declared.folder.Folder.{Ghosts as Folders}
 use Rattle.acredact.specs.declared.ways.Key.{Key}
@@ -89,6 +89,17 @@ pub record BeginsText (r : Redactor) (left left' held held' : Option (List ℕ))
   pub begins : BeginsRedaction r given ended part
   pub written : Appends held held' part
 
+-- some of a text was read, and its redaction was written but for what lies in a match or may
+pub record ReachesText (r : Redactor) (left left' held held' : Option (List ℕ)) : Type 0 where
+  pub given : List ℕ
+  pub ended : Bool
+  pub read : Consumes left left' given
+  pub at_end : ended ≡ true → IsAtEnd left'
+  pub place : ℕ
+  pub within : place ≤ length given
+  pub prompt : IsPromptUpTo r given place
+  pub written : IsWrittenUpTo r given ended place held held'
+
 -- the redaction of the file of this name was written
 abbrev pub RedactsName : Work → List ℕ → (left left' held held' : Option (List ℕ)) → Type 0
 RedactsName work name left left' held held' = OfName work.holds name (λ l l'. RedactsText work.redactor l l' held held') left left'
@@ -96,6 +107,10 @@ RedactsName work name left left' held held' = OfName work.holds name (λ l l'. R
 -- or a beginning of it
 abbrev pub BeginsNamed : Work → List ℕ → (left left' held held' : Option (List ℕ)) → Type 0
 BeginsNamed work name left left' held held' = OfName work.holds name (λ l l'. BeginsText work.redactor l l' held held') left left'
+
+-- or all of it but for what lies in a match or may
+abbrev pub ReachesNamed : Work → List ℕ → (left left' held held' : Option (List ℕ)) → Type 0
+ReachesNamed work name left left' held held' = OfName work.holds name (λ l l'. ReachesText work.redactor l l' held held') left left'
 
 -- and of each file, one after another: the output goes to none
 abbrev pub AreRedacted : Work → List (List ℕ) → (left left' held held' : Option (List ℕ)) → Type 0
@@ -109,20 +124,23 @@ AreFree work [] left left' held held' = (left' ≡ left) × Keeps held held'
 AreFree work (name ∷ names) left left' held held' = (between : Option (List ℕ)) × (meanwhile : Option (List ℕ))
     × OfName work.holds name (λ l l'. WritesText (IsFree work.redactor) l l' held meanwhile) left between × AreFree work names between left' meanwhile held'
 
--- a file may be told as unread for this reason: the folder may refuse it, or a read fails
-abbrev pub MayBeUnread : Work → List ℕ → Reason → Type 0
-MayBeUnread work name reason = IsReadReason reason ⊎ work.refuses name reason
+-- a file was not read to its end for this reason: a read failed, and a beginning of its redaction was written; of a cover all but for
+-- what lies in a match or may. Or the folder refuses it, and nothing was read or written
+abbrev pub IsUnread : Work → List ℕ → Reason → (left left' held held' : Option (List ℕ)) → Type 0
+IsUnread work name reason left left' held held' =
+    (IsReadReason reason × BeginsNamed work name left left' held held' × (work.redactor.covers ≡ true → ReachesNamed work name left left' held held'))
+    ⊎ (work.refuses name reason × (left' ≡ left) × Keeps held held')
 
 -- the line that tells it
 abbrev pub unread_line : List ℕ → Reason → List ℕ
 unread_line name reason = line_about name (reason_text reason)
 
--- the redaction of a file was written, and nothing is told; or a beginning of it, and why the file was not read to its end is told;
--- or it is told that the output goes to the file, which was not read
+-- the redaction of a file was written, and nothing is told; or the file was not read to its end, and it is told why; or it is told that
+-- the output goes to the file, which was not read
 abbrev pub IsDone : Work → List ℕ → (lines : List (List ℕ)) → (left left' held held' : Option (List ℕ)) → Type 0
 IsDone work name lines left left' held held' =
     ((lines ≡ []) × work.meets name false × RedactsName work name left left' held held')
-    ⊎ (((reason : Reason) × (lines ≡ unread_line name reason ∷ []) × MayBeUnread work name reason × BeginsNamed work name left left' held held')
+    ⊎ (((reason : Reason) × (lines ≡ unread_line name reason ∷ []) × IsUnread work name reason left left' held held')
     ⊎ ((lines ≡ output_line name ∷ []) × work.meets name true × (left' ≡ left) × Keeps held held'))
 
 -- that is so of each file, one after another
@@ -158,6 +176,7 @@ module _ {W : Type 0} (Writes : Writers W) where
   pub record TextOutcome (r : Redactor) (result : Result (Option Reason) StreamError) (left left' : Option (List ℕ)) (output output' : FromWrite W) : Type 0 where
     pub redacted : result ≡ Ok None → RedactsText r left left' (output_bytes Writes output) (output_bytes Writes output')
     pub begun : BeginsText r left left' (output_bytes Writes output) (output_bytes Writes output')
+    pub near : r.covers ≡ true → IfOk result (λ unread. IfSome unread (λ reason. ReachesText r left left' (output_bytes Writes output) (output_bytes Writes output')))
     pub reason : IfOk result (λ unread. IfSome unread IsReadReason)
     pub fails : FailsByOutput result output output'
 
@@ -175,7 +194,8 @@ module _ {W : Type 0} (Writes : Writers W) where
       pub redacted : result ≡ Ok None
           → RedactsName work name (bytes_left input) (bytes_left input') (output_bytes Writes output) (output_bytes Writes output')
       pub begun : BeginsNamed work name (bytes_left input) (bytes_left input') (output_bytes Writes output) (output_bytes Writes output')
-      pub reason : IfOk result (λ unread. IfSome unread (MayBeUnread work name))
+      pub unread : IfOk result (λ unread. IfSome unread (λ reason.
+          IsUnread work name reason (bytes_left input) (bytes_left input') (output_bytes Writes output) (output_bytes Writes output')))
       pub fails : FailsByOutput result output output'
 
     -- the same of a file of a job

@@ -1,7 +1,8 @@
 -- What a redaction is, and what it means that no secret is passed on.
-use Rattle.std.specs.Prelude.{◌≡◌, ℕ, ◌<◌, Bool, MatchBool, List, Option, Some, None, false, is_some, length, true}
+use Rattle.std.specs.Prelude.{◌≡◌, ℕ, ◌<◌, ◌≤◌, Bool, MatchBool, List, Option, Some, None, false, is_some, length, true}
 use Rattle.std.specs.Borrow.{Bor}
 use Rattle.std.specs.Io.{StartsWith}
+use Rattle.std.specs.Io.KnownBytes.{Appends}
 use Rattle.aho_core.specs.Cover.{AreRuns, IsCovered}
 use Rattle.aho_core.specs.Iteration.{AreFinds}
 use Rattle.aho_core.specs.Listing.{IsMember}
@@ -13,6 +14,7 @@ use Rattle.aho_core.specs.Search.{plain_search}
 use Rattle.aho_core.specs.declared.search.Anchored.TheVariants.{No}
 use Rattle.aho_core.specs.declared.search.MatchKind.TheVariants.{Standard}
 use Rattle.aho_laws.specs.CoverLaws.{AreClean, kept, uncovered}
+use Rattle.aho_cover.specs.Covers.{MayGoOn, covered_up_to}
 use Rattle.aho_cover.specs.Pieces.{PieceRule, fixed_rule, piece_in}
 use Rattle.aho_automaton.specs.declared.automaton.Automaton.{Ghosts}
 use Rattle.pseudonyms.specs.Pseudonyms.{pseudonym_rule}
@@ -100,6 +102,15 @@ pub record IsRedaction (r : Redactor) (text redaction : List ℕ) : Type 0 where
 abbrev pub BeginsRedaction : Redactor → List ℕ → Bool → List ℕ → Type 0
 BeginsRedaction r given ended part =
     (text : List ℕ) → MayBe given ended text → (redaction : List ℕ) × IsRedaction r text redaction × StartsWith redaction part
+
+-- each byte given from a place on lies in a match, or is among the last ones, that begin a pattern
+abbrev pub IsPromptUpTo : Redactor → List ℕ → ℕ → Type 0
+IsPromptUpTo r given place = (at : ℕ) → place ≤ at → at < length given → (IsCovered (OccursIn r.patterns (plain_search given)) at → ⊥) → MayGoOn r.patterns given at
+
+-- the redaction was written up to a place of all texts that begin with the bytes given
+abbrev pub IsWrittenUpTo : Redactor → List ℕ → Bool → ℕ → (held held' : Option (List ℕ)) → Type 0
+IsWrittenUpTo r given ended place held held' = (text : List ℕ) (ranges : List Occurrence) → MayBe given ended text → AreReplaced r text ranges
+    → Appends held held' (covered_up_to text place 0 ranges (piece_in (rule_of r) text))
 
 -- an automaton of some patterns can search streams, or cover them, and there are as many replacements
 pub record CanRedact {A : Type 0} (G : Ghosts A) (automaton : A) (covers : Bool) (replacements : List (Bor (List ℕ))) : Type 0 where

@@ -1,17 +1,17 @@
 -- What the redaction of one stream reads and writes.
-use Rattle.std.specs.Prelude.{◌≡◌, ℕ, Bool, List, Result, IfErr, OnErr, OnOk, true}
+use Rattle.std.specs.Prelude.{◌≡◌, ℕ, ◌≤◌, length, Bool, List, Result, IfErr, OnErr, OnOk, true}
 use Rattle.std.specs.Borrow.{Bor}
 use Rattle.std.specs.Io.KnownBytes.{Appends}
 use Rattle.aho_core.specs.declared.error.stream.StreamError.{StreamError}
 use Rattle.aho_devices.specs.Counts.{AppendsBeginning, counted}
-use Rattle.aho_devices.specs.Refusals.{IsWriteRefusal, is_read_fault, is_write_fault, is_write_of_nothing}
+use Rattle.aho_devices.specs.Refusals.{IsFillRefusal, IsWriteRefusal, is_read_fault, is_write_fault, is_write_of_nothing}
 use Rattle.aho_devices.specs.declared.device.Sink.{Ghosts as SinkGhosts}
 use Rattle.aho_devices.specs.declared.device.Source.{Ghosts as SourceGhosts}
 use Rattle.aho_automaton.specs.declared.automaton.Automaton.{Ghosts}
 use Rattle.aho_stream.specs.After.{greatest_position}
 use Rattle.aho_stream.specs.Refills.{is_limit}
 use Rattle.aho_stream.specs.Replacing.{GaveAsMany, SourceGave}
-use Rattle.acredact.specs.Secrets.{BeginsRedaction, IfOf, IsRedaction, Redactor, redactor_by}
+use Rattle.acredact.specs.Secrets.{BeginsRedaction, IfOf, IsPromptUpTo, IsRedaction, IsWrittenUpTo, Redactor, redactor_by}
 use Rattle.acredact.specs.Faults.{IsStreamEnd}
 
 -- a piece was written, or a beginning of it where a write failed or took nothing
@@ -41,10 +41,21 @@ module _ {R W : Type 0} (S : SourceGhosts R) (K : SinkGhosts W) where
     pub begins : BeginsRedaction r given ended part
     pub written : Appends (K.taken sink) (K.taken sink') part
 
+  -- some of a stream was read, and its redaction was written but for what lies in a match or may
+  pub record ReachesStream (r : Redactor) (source source' : R) (sink sink' : W) : Type 0 where
+    pub given : List ℕ
+    pub ended : Bool
+    pub gives : SourceGave S source source' given ended
+    pub place : ℕ
+    pub within : place ≤ length given
+    pub prompt : IsPromptUpTo r given place
+    pub written : IsWrittenUpTo r given ended place (K.taken sink) (K.taken sink')
+
   -- what comes of a stream: a fault of a device is answered exactly where its count rose, and the limit where it was met
   pub record StreamOutcome (r : Redactor) (result : Result (Unit {0}) StreamError) (source source' : R) (sink sink' : W) : Type 0 where
     pub redacted : OnOk result (RedactsStream r source source' sink sink')
     pub begun : StartsStream r source source' sink sink'
+    pub near : r.covers ≡ true → IfErr result (λ error. IsFillRefusal error → ReachesStream r source source' sink sink')
     pub read_failed : S.failures source' ≡ counted (is_read_fault result) (S.failures source)
     pub write_failed : K.failures sink' ≡ counted (is_write_fault result) (K.failures sink)
     pub took_nothing : K.empty_writes sink' ≡ counted (is_write_of_nothing result) (K.empty_writes sink)

@@ -89,7 +89,8 @@ pub fn run<F: Folder, I: Read, W: Write, E: Sink>(
     ensures redacts { IfAsked arguments.now (λ given. result ≡ 0
         → RedactsAsked W.Write F.Folder folder.now given streams.old streams.new) }
 
-    // Whatever the status is, each file's redaction was written or a beginning of it, one after another, and nothing else.
+    // Whatever the status is, each file's redaction was written or a beginning of it, one after another, and nothing else. Where a
+    // read failed, of a cover all was written but for what lies in a match or may.
     ensures begins { IfAsked arguments.now (λ given.
         BeginsAsked W.Write F.Folder folder.now given streams.old streams.new) }
 

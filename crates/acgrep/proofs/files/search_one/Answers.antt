@@ -1,6 +1,6 @@
 -- What was searched of the reader, and what is asked of the file as a whole.
 use Rattle.std.proofs.Common.{◌≡◌, false, sym, ◌∙◌}
-use Rattle.acgrep.specs.Binary.{is_guarded}
+use Rattle.acgrep.specs.Binary.{is_guarded, takes_text}
 use Rattle.acgrep.specs.Files.{EndsFile, SearchesReader}
 use Rattle.acgrep.specs.Streamed.{BeginsStream, SearchesStream, course}
 use Rattle.acgrep.proofs.BinaryTold.{begins_grown}
@@ -13,6 +13,7 @@ pub returns-in-Ok-search_stream-clause-searched : goal.returns-in-Ok-search_stre
 returns-in-Ok-search_stream-clause-searched g c = λ p is plain.
     let job = c.args.job.now in
     let plainly : is_guarded job ≡ false = sym c.is_guarded.ensures.guarded ∙ c.if-is_guarded.false in
+    let wholly : takes_text job ≡ false = sym c.takes_text.ensures.text ∙ c.if-takes_text.false in
     let left = g.R.Read.remaining c.args.reader.now in
     let left' = g.R.Read.remaining c.search_stream.new.input in
     let held = g.W.Sink.taken c.args.output.now in
@@ -22,12 +23,13 @@ returns-in-Ok-search_stream-clause-searched g c = λ p is plain.
     let before = c.begin.new.self in
     let stream : SearchesStream p job (course before state held meanwhile left left') = c.in-Ok-search_stream.ensures.written p is plain in
     if_searched c.end_file.result (EndsFile job state.selected meanwhile held') (SearchesReader p job left left' held held')
-    (reader_searched p job plainly before state left left' held meanwhile held' c.begin.ensures.begin stream) c.end_file.ensures.ended
+    (reader_searched p job plainly wholly before state left left' held meanwhile held' c.begin.ensures.begin stream) c.end_file.ensures.ended
 
 pub returns-in-Ok-search_stream-clause-begun : goal.returns-in-Ok-search_stream-clause-begun
 returns-in-Ok-search_stream-clause-begun g c = λ p is plain.
     let job = c.args.job.now in
     let plainly : is_guarded job ≡ false = sym c.is_guarded.ensures.guarded ∙ c.if-is_guarded.false in
+    let wholly : takes_text job ≡ false = sym c.takes_text.ensures.text ∙ c.if-takes_text.false in
     let left = g.R.Read.remaining c.args.reader.now in
     let left' = g.R.Read.remaining c.search_stream.new.input in
     let held = g.W.Sink.taken c.args.output.now in
@@ -36,13 +38,14 @@ returns-in-Ok-search_stream-clause-begun g c = λ p is plain.
     let before = c.begin.new.self in
     let stream : SearchesStream p job (course before state held meanwhile left left') = c.in-Ok-search_stream.ensures.written p is plain in
     if_broken c.end_file.result
-    (file_begins p job plainly before state left left' held meanwhile (g.W.Sink.taken c.end_file.new.output) c.begin.ensures.begin (stream_whole p job before state held meanwhile left left' stream))
+    (file_begins p job plainly wholly before state left left' held meanwhile (g.W.Sink.taken c.end_file.new.output) c.begin.ensures.begin (stream_whole p job before state held meanwhile left left' stream))
     c.end_file.ensures.begun
 
 pub returns-in-Err-search_stream-clause-begun : goal.returns-in-Err-search_stream-clause-begun
 returns-in-Err-search_stream-clause-begun g c = λ p is plain.
     let job = c.args.job.now in
     let plainly : is_guarded job ≡ false = sym c.is_guarded.ensures.guarded ∙ c.if-is_guarded.false in
+    let wholly : takes_text job ≡ false = sym c.takes_text.ensures.text ∙ c.if-takes_text.false in
     let left = g.R.Read.remaining c.args.reader.now in
     let left' = g.R.Read.remaining c.search_stream.new.input in
     let held = g.W.Sink.taken c.args.output.now in
@@ -50,7 +53,7 @@ returns-in-Err-search_stream-clause-begun g c = λ p is plain.
     let state = c.search_stream.new.state in
     let before = c.begin.new.self in
     let stream : BeginsStream p job (course before state held meanwhile left left') = c.in-Err-search_stream.ensures.begun p is plain in
-    on_broken c.break_off-in-Err-search_stream.result (file_begins p job plainly before state left left' held meanwhile (g.W.Sink.taken c.break_off-in-Err-search_stream.new.output) c.begin.ensures.begin stream c.break_off-in-Err-search_stream.ensures.begun)
+    on_broken c.break_off-in-Err-search_stream.result (file_begins p job plainly wholly before state left left' held meanwhile (g.W.Sink.taken c.break_off-in-Err-search_stream.new.output) c.begin.ensures.begin stream c.break_off-in-Err-search_stream.ensures.begun)
 
 pub returns-in-Err-clause-begun : goal.returns-in-Err-clause-begun
 returns-in-Err-clause-begun g c = λ p is plain.

@@ -9,4 +9,5 @@ returns c =
     let e2 = then_option asked _ _ _ _ _ first c.or-2.ensures.found in
     let e3 = then_option asked _ _ _ _ _ e2 c.or-3.ensures.found in
     let e4 = then_option asked _ _ _ _ _ e3 c.or-4.ensures.found in
-    record { found = then_option asked _ _ _ _ _ e4 c.or-5.ensures.found }
+    let e5 = then_option asked _ _ _ _ _ e4 c.or-5.ensures.found in
+    record { found = then_option asked _ _ _ _ _ e5 c.or-6.ensures.found }

@@ -2,7 +2,7 @@
 use Rattle.std.proofs.Common.{◌<◌, ◌∙◌, ℕ, Some, inl, subst, sym}
 use Rattle.std.proofs.lemmas.Bool.{true≢false}
 use Rattle.acgrep.specs.Arguments.{said, shown_by}
-use Rattle.acgrep.specs.Folders.{tree_of}
+use Rattle.acgrep.specs.Folders.{known_by}
 use Rattle.acgrep.specs.Told.{MaySaid, MayTell, TellsOfCall, names_said}
 use Rattle.acgrep.proofs.Statuses.{told-low, told-status}
 use Rattle.acgrep.proofs.Told.{status-weaker}
@@ -10,16 +10,18 @@ use Rattle.acgrep.proofs.run.answer.Goals as goal
 
 pub returns-then-given-clause-told : goal.returns-then-given-clause-told
 returns-then-given-clause-told g c =
-    let given = said c.args.given.now in
-    let tree = tree_of g.F.Folders c.args.files.now in
-    status-weaker g.E.Sink (MayTell (names_said (Some given))) (MaySaid tree (Some given)) given.flags.no_messages (shown_by given.flags) c.write_text.result c.args.errors.now c.write_text.new.errors
+    let given = said c.args.given in
+    let known = known_by g.F.Open g.F.Folders c.args.files.now in
+    let left = g.R.Read.remaining c.args.input.now in
+    status-weaker g.E.Sink (MayTell (names_said (Some given))) (MaySaid known left (Some given)) given.flags.no_messages (shown_by given.flags) c.write_text.result c.args.errors.now c.write_text.new.errors
     (λ line is. inl is) (c.write_text.ensures.told given.flags.no_messages (shown_by given.flags) (names_said (Some given)))
 
 pub returns-then-given-2-clause-told : goal.returns-then-given-2-clause-told
 returns-then-given-2-clause-told g c =
-    let given = said c.args.given.now in
-    let tree = tree_of g.F.Folders c.args.files.now in
-    status-weaker g.E.Sink (MayTell (names_said (Some given))) (MaySaid tree (Some given)) given.flags.no_messages (shown_by given.flags) c.write_text-then-given-2.result c.args.errors.now c.write_text-then-given-2.new.errors
+    let given = said c.args.given in
+    let known = known_by g.F.Open g.F.Folders c.args.files.now in
+    let left = g.R.Read.remaining c.args.input.now in
+    status-weaker g.E.Sink (MayTell (names_said (Some given))) (MaySaid known left (Some given)) given.flags.no_messages (shown_by given.flags) c.write_text-then-given-2.result c.args.errors.now c.write_text-then-given-2.new.errors
     (λ line is. inl is) (c.write_text-then-given-2.ensures.told given.flags.no_messages (shown_by given.flags) (names_said (Some given)))
 
 pub returns-then-given-clause-searches : goal.returns-then-given-clause-searches
@@ -30,17 +32,18 @@ returns-then-given-2-clause-searches g c = λ asks low. absurd (true≢false (sy
 
 pub returns-clause-searches : goal.returns-clause-searches
 returns-clause-searches g c = λ asks low.
-    let found = c.search_asked-status.result in
-    let ok = c.args.given.now.flags.no_match_ok in (
+    let found = c.search_ruled-status.result in
+    let ok = c.args.given.flags.no_match_ok in (
       found,
-      c.search_asked-status.ensures.searches (told-low ok found (subst (λ (n : ℕ). n < 2) c.status_told.ensures.told low)),
+      c.search_ruled-status.ensures.searches (told-low ok found (subst (λ (n : ℕ). n < 2) c.status_told.ensures.told low)),
       c.status_told.ensures.told,
     )
 
 pub returns-clause-told : goal.returns-clause-told
 returns-clause-told g c =
-    let given = said c.args.given.now in
-    let tree = tree_of g.F.Folders c.args.files.now in
-    subst (λ (n : ℕ). TellsOfCall g.E.Sink tree given n c.args.errors.now c.search_asked-status.new.errors) (sym c.status_told.ensures.told)
-    (told-status g.E.Sink (MaySaid tree (Some given)) given.flags.no_messages (shown_by given.flags) given.flags.no_match_ok c.search_asked-status.result
-    c.args.errors.now c.search_asked-status.new.errors c.search_asked-status.ensures.told)
+    let given = said c.args.given in
+    let known = known_by g.F.Open g.F.Folders c.args.files.now in
+    let left = g.R.Read.remaining c.args.input.now in
+    subst (λ (n : ℕ). TellsOfCall g.E.Sink known left given n c.args.errors.now c.search_ruled-status.new.errors) (sym c.status_told.ensures.told)
+    (told-status g.E.Sink (MaySaid known left (Some given)) given.flags.no_messages (shown_by given.flags) given.flags.no_match_ok c.search_ruled-status.result
+    c.args.errors.now c.search_ruled-status.new.errors c.search_ruled-status.ensures.told)

@@ -2,10 +2,10 @@
 use Rattle.std.proofs.Common.{false, ◌||◌, ◌≡◌, ◌<◌, ◌≤◌, ◌∙◌, Option, Some, ap, ℕ, inl, inr, arith, subst, sym}
 use Rattle.acgrep.specs.Arguments.{Said, said, said_by, shown_by}
 use Rattle.acgrep.specs.Runs.{AsksToSearch, BeginsSearch, GivesNone, Searches}
-use Rattle.acgrep.proofs.Kept.{begins_held, same_said, searches_kept}
+use Rattle.acgrep.proofs.Kept.{ruled_kept, same_said, search_held}
 use Rattle.programs.specs.Telling.{Tells, TellsSome}
 use Rattle.programs.proofs.Lines.{some-tells, some-weaker}
-use Rattle.acgrep.specs.Folders.{known_by, tree_of}
+use Rattle.acgrep.specs.Folders.{known_by}
 use Rattle.acgrep.specs.Listed.{listed_bytes}
 use Rattle.acgrep.specs.Told.{MaySaid, MayTell, is_hushed, names_said}
 use Rattle.acgrep.specs.Mistakes.{TellsLacking, TellsMistake, TellsNoPattern}
@@ -27,7 +27,7 @@ returns-in-Ok-clause-searches g c given is asks low =
     let done : Searches known screen (said c.in-Ok.given) left left' held held' c.answer-status.result =
     c.answer-status.ensures.searches (subst (λ (s : Said). AsksToSearch s.flags) (sym same) asks) (subst (λ (n : ℕ). n < 2) status low) in
     let kept : Searches known screen (said c.in-Ok.given) left left' held held'' c.answer-status.result =
-    (done.0, searches_kept held' held'' c.finish.ensures.kept known screen _ _ _ left left' held done.0 done.1, done.2) in
+    (done.0, ruled_kept held' held'' c.finish.ensures.kept known screen (said c.in-Ok.given) left left' held done.0 done.1, done.2) in
     subst (λ (n : ℕ). Searches known screen given left left' held held'' n) (sym status)
     (subst (λ (s : Said). Searches known screen s left left' held held'' c.answer-status.result) same kept)
 
@@ -44,7 +44,7 @@ returns-in-Ok-clause-begins g c given is asks =
     let held'' = g.W.Sink.taken c.finish.new.output in
     let same : said c.in-Ok.given ≡ given = same_said (said_by (listed_bytes c.args.arguments.now)) given (said c.in-Ok.given) is c.in-Ok.ensures.read in
     let done : BeginsSearch known screen (said c.in-Ok.given) left held held' = c.answer-status.ensures.begins (subst (λ (s : Said). AsksToSearch s.flags) (sym same) asks) in
-    let kept : BeginsSearch known screen (said c.in-Ok.given) left held held'' = begins_held held' held'' c.finish.ensures.kept known screen _ _ _ left held done in
+    let kept : BeginsSearch known screen (said c.in-Ok.given) left held held'' = search_held held' held'' c.finish.ensures.kept known screen (said c.in-Ok.given) left held done in
     subst (λ (s : Said). BeginsSearch known screen s left held held'') same kept
 
 pub returns-in-Err-clause-begins : goal.returns-in-Err-clause-begins
@@ -53,28 +53,31 @@ returns-in-Err-clause-begins g c given is asks = inl c.finish-in-Err.ensures.kep
 pub returns-in-Ok-clause-tells : goal.returns-in-Ok-clause-tells
 returns-in-Ok-clause-tells g c =
     let names = names_said (Some (said c.in-Ok.given)) in
-    let tree = tree_of g.F.Folders c.args.files.now in
+    let known = known_by g.F.Open g.F.Folders c.args.files.now in
+    let left = g.R.Read.remaining c.args.input.now in
     let bound : c.finish.result ≤ 2 = elim c.finish.ensures.status [ inl kept ↦ omega (arith, kept, c.answer-status.ensures.bound) | inr two ↦ omega (arith, two) ] in
-    let told = finished g.E.Sink names (MaySaid tree (Some (said c.in-Ok.given))) (λ line is. inl (inl is)) c.in-Ok.given.flags.no_messages (shown_by c.in-Ok.given.flags) c.answer-status.result c.finish.result c.args.errors.now c.answer-status.new.errors c.finish.new.errors
+    let told = finished g.E.Sink names (MaySaid known left (Some (said c.in-Ok.given))) (λ line is. inl (inl is)) c.in-Ok.given.flags.no_messages (shown_by c.in-Ok.given.flags) c.answer-status.result c.finish.result c.args.errors.now c.answer-status.new.errors c.finish.new.errors
     c.answer-status.ensures.bound bound c.finish.ensures.status c.answer-status.ensures.told c.finish.ensures.silent c.finish.ensures.told_before (λ low two. c.finish.ensures.told low two names) in
-    subst (λ (given : Option Said). Tells g.E.Sink (MaySaid tree given) c.args.errors.now c.finish.new.errors) (sym c.in-Ok.ensures.read) told.tells
+    subst (λ (given : Option Said). Tells g.E.Sink (MaySaid known left given) c.args.errors.now c.finish.new.errors) (sym c.in-Ok.ensures.read) told.tells
 
 pub returns-in-Ok-clause-says_why : goal.returns-in-Ok-clause-says_why
 returns-in-Ok-clause-says_why g c = λ asked failed.
     let names = names_said (Some (said c.in-Ok.given)) in
-    let tree = tree_of g.F.Folders c.args.files.now in
+    let known = known_by g.F.Open g.F.Folders c.args.files.now in
+    let left = g.R.Read.remaining c.args.input.now in
     let bound : c.finish.result ≤ 2 = elim c.finish.ensures.status [ inl kept ↦ omega (arith, kept, c.answer-status.ensures.bound) | inr two ↦ omega (arith, two) ] in
-    let told = finished g.E.Sink names (MaySaid tree (Some (said c.in-Ok.given))) (λ line is. inl (inl is)) c.in-Ok.given.flags.no_messages (shown_by c.in-Ok.given.flags) c.answer-status.result c.finish.result c.args.errors.now c.answer-status.new.errors c.finish.new.errors
+    let told = finished g.E.Sink names (MaySaid known left (Some (said c.in-Ok.given))) (λ line is. inl (inl is)) c.in-Ok.given.flags.no_messages (shown_by c.in-Ok.given.flags) c.answer-status.result c.finish.result c.args.errors.now c.answer-status.new.errors c.finish.new.errors
     c.answer-status.ensures.bound bound c.finish.ensures.status c.answer-status.ensures.told c.finish.ensures.silent c.finish.ensures.told_before (λ low two. c.finish.ensures.told low two names) in
-    subst (λ (given : Option Said). TellsSome g.E.Sink (MaySaid tree given) c.args.errors.now c.finish.new.errors) (sym c.in-Ok.ensures.read)
+    subst (λ (given : Option Said). TellsSome g.E.Sink (MaySaid known left given) c.args.errors.now c.finish.new.errors) (sym c.in-Ok.ensures.read)
     (told.some (subst (λ (given : Option Said). is_hushed given ≡ false) c.in-Ok.ensures.read asked) failed)
 
 pub returns-in-Ok-clause-silent : goal.returns-in-Ok-clause-silent
 returns-in-Ok-clause-silent g c given is loud low =
     let names = names_said (Some (said c.in-Ok.given)) in
-    let tree = tree_of g.F.Folders c.args.files.now in
+    let known = known_by g.F.Open g.F.Folders c.args.files.now in
+    let left = g.R.Read.remaining c.args.input.now in
     let bound : c.finish.result ≤ 2 = elim c.finish.ensures.status [ inl kept ↦ omega (arith, kept, c.answer-status.ensures.bound) | inr two ↦ omega (arith, two) ] in
-    let told = finished g.E.Sink names (MaySaid tree (Some (said c.in-Ok.given))) (λ line is. inl (inl is)) c.in-Ok.given.flags.no_messages (shown_by c.in-Ok.given.flags) c.answer-status.result c.finish.result c.args.errors.now c.answer-status.new.errors c.finish.new.errors
+    let told = finished g.E.Sink names (MaySaid known left (Some (said c.in-Ok.given))) (λ line is. inl (inl is)) c.in-Ok.given.flags.no_messages (shown_by c.in-Ok.given.flags) c.answer-status.result c.finish.result c.args.errors.now c.answer-status.new.errors c.finish.new.errors
     c.answer-status.ensures.bound bound c.finish.ensures.status c.answer-status.ensures.told c.finish.ensures.silent c.finish.ensures.told_before (λ low two. c.finish.ensures.told low two names) in
     let same : said c.in-Ok.given ≡ given = same_said (said_by (listed_bytes c.args.arguments.now)) given (said c.in-Ok.given) is c.in-Ok.ensures.read in
     let flags = c.in-Ok.given.flags in
@@ -83,17 +86,19 @@ returns-in-Ok-clause-silent g c given is loud low =
 pub returns-in-Err-clause-tells : goal.returns-in-Err-clause-tells
 returns-in-Err-clause-tells g c =
     let given = said_by (listed_bytes c.args.arguments.now) in
-    let tree = tree_of g.F.Folders c.args.files.now in
-    subst (Tells g.E.Sink (MaySaid tree given) c.args.errors.now) (sym (c.finish-in-Err.ensures.told_before (omega arith)))
-    (some-tells g.E.Sink (MaySaid tree given) c.args.errors.now c.tell_refused.new.errors
-    (some-weaker g.E.Sink (MayTell (names_said given)) (MaySaid tree given) c.args.errors.now c.tell_refused.new.errors (told-said tree given) (c.tell_refused.ensures.told (names_said given))))
+    let known = known_by g.F.Open g.F.Folders c.args.files.now in
+    let left = g.R.Read.remaining c.args.input.now in
+    subst (Tells g.E.Sink (MaySaid known left given) c.args.errors.now) (sym (c.finish-in-Err.ensures.told_before (omega arith)))
+    (some-tells g.E.Sink (MaySaid known left given) c.args.errors.now c.tell_refused.new.errors
+    (some-weaker g.E.Sink (MayTell (names_said given)) (MaySaid known left given) c.args.errors.now c.tell_refused.new.errors (told-said known left given) (c.tell_refused.ensures.told (names_said given))))
 
 pub returns-in-Err-clause-says_why : goal.returns-in-Err-clause-says_why
 returns-in-Err-clause-says_why g c = λ asked failed.
     let given = said_by (listed_bytes c.args.arguments.now) in
-    let tree = tree_of g.F.Folders c.args.files.now in
-    subst (TellsSome g.E.Sink (MaySaid tree given) c.args.errors.now) (sym (c.finish-in-Err.ensures.told_before (omega arith)))
-    (some-weaker g.E.Sink (MayTell (names_said given)) (MaySaid tree given) c.args.errors.now c.tell_refused.new.errors (told-said tree given) (c.tell_refused.ensures.told (names_said given)))
+    let known = known_by g.F.Open g.F.Folders c.args.files.now in
+    let left = g.R.Read.remaining c.args.input.now in
+    subst (TellsSome g.E.Sink (MaySaid known left given) c.args.errors.now) (sym (c.finish-in-Err.ensures.told_before (omega arith)))
+    (some-weaker g.E.Sink (MayTell (names_said given)) (MaySaid known left given) c.args.errors.now c.tell_refused.new.errors (told-said known left given) (c.tell_refused.ensures.told (names_said given)))
 
 pub returns-in-Err-clause-mistake : goal.returns-in-Err-clause-mistake
 returns-in-Err-clause-mistake g c wrong =

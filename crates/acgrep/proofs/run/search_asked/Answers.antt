@@ -9,7 +9,7 @@ use Rattle.acgrep.specs.declared.arguments.Source.{Source}
 use Rattle.programs.proofs.Lines.{some-one}
 use Rattle.acgrep.specs.Arguments.{Origin, said, shown_by}
 use Rattle.acgrep.specs.Folders.{known_by, tree_of}
-use Rattle.acgrep.specs.Told.{MaySaid, TellsOfSearch, wrong_parts}
+use Rattle.acgrep.specs.Told.{MaySay, TellsOfSearch, wrong_parts}
 use Rattle.acgrep.specs.declared.arguments.Wrong.TheVariants.{NoPattern}
 use Rattle.acgrep.proofs.Told.{status-some}
 use Rattle.acgrep.proofs.Walking.{all-gone}
@@ -21,7 +21,8 @@ returns-in-None-clause-begins g c = inl (Keeps-refl (g.W.Sink.taken c.args.outpu
 pub returns-in-None-clause-told : goal.returns-in-None-clause-told
 returns-in-None-clause-told g c =
     let tree = tree_of g.F.Folders c.args.files.now in
-    let May = MaySaid tree (Some (said c.args.given.now)) in
+    let given = said c.args.given.now in
+    let May = MaySay tree given (sources_by given.sources given.operands) (names_by given.sources given.operands) in
     status-some g.E.Sink May c.args.given.now.flags.no_messages (shown_by c.args.given.now.flags) c.args.errors.now c.tell_wrong.new.errors
     (some-one g.E.Sink May c.args.errors.now c.tell_wrong.new.errors (concat (wrong_parts NoPattern)) (inl (inr (NoPattern, refl))) c.tell_wrong.ensures.told)
 

@@ -45,6 +45,11 @@ returns-in-UnknownDevices g c = record {
   told = subst (λ (wrong : Wrong). TellsBytes g.E.Sink c.args.errors.now c.write-in-UnknownDevices.new.self (concat (wrong_parts wrong))) (sym c.in-UnknownDevices.is) c.write-in-UnknownDevices.ensures.told;
 }
 
+pub returns-in-UnknownBinary : goal.returns-in-UnknownBinary
+returns-in-UnknownBinary g c = record {
+  told = subst (λ (wrong : Wrong). TellsBytes g.E.Sink c.args.errors.now c.write-in-UnknownBinary.new.self (concat (wrong_parts wrong))) (sym c.in-UnknownBinary.is) c.write-in-UnknownBinary.ensures.told;
+}
+
 pub returns-in-UnknownField : goal.returns-in-UnknownField
 returns-in-UnknownField g c = record {
   told = subst (λ (wrong : Wrong). TellsBytes g.E.Sink c.args.errors.now c.write-in-UnknownField.new.self (concat (wrong_parts wrong))) (sym c.in-UnknownField.is) c.write-in-UnknownField.ensures.told;

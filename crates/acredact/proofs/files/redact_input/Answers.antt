@@ -1,7 +1,7 @@
 -- The input is read to its end.
 use Rattle.std.proofs.Common.{◌≢◌, ap, sym, subst, ◌∙◌, Option}
 use Rattle.std.specs.Prelude.{Bool, Result}
-use Rattle.std.proofs.lemmas.Result.{on_ok_weaker}
+use Rattle.std.proofs.lemmas.Result.{IfErr-weaker, on_ok_weaker}
 use Rattle.aho_core.specs.declared.error.stream.StreamError.{StreamError}
 use Rattle.aho_devices.specs.Counts.{counted}
 use Rattle.programs.specs.Streams.{bytes_left}
@@ -9,7 +9,7 @@ use Rattle.programs.proofs.Ends.{at_end}
 use Rattle.programs.specs.declared.reason.Reason.{Reason}
 use Rattle.acredact.specs.Faults.{is_unread}
 use Rattle.acredact.specs.Files.{TextOutcome}
-use Rattle.acredact.proofs.OneFile.{at_ok, begins_of, outcome_by, reading_unread, reading_whole, text_of}
+use Rattle.acredact.proofs.OneFile.{at_ok, begins_of, outcome_by, reaches_of, reading_unread, reading_whole, text_of}
 use Rattle.acredact.proofs.Metering.{text_bytes}
 use Rattle.acredact.proofs.Totals.{text_counts}
 use Rattle.acredact.proofs.files.redact_input.Goals as goal
@@ -23,7 +23,8 @@ returns-clause-outcome g c = λ red by.
     subst (λ (e : Result (Option Reason) StreamError). TextOutcome g.W.Write red e (bytes_left c.args.input.now) (bytes_left c.redact_metered.new.input) c.args.output.now c.redact_metered.new.output) (sym c.reading_of.ensures.reading)
     (outcome_by g.W.Write _ c.redact_metered.result _ _ c.args.output.now c.redact_metered.new.output
     (on_ok_weaker c.redact_metered.result (λ whole. text_of _ _ _ _ _ _ _ _ left none ends whole) stream.redacted)
-    (begins_of _ _ _ _ _ _ _ _ left none ends stream.begun) stream.write_failed stream.took_nothing stream.only)
+    (begins_of _ _ _ _ _ _ _ _ left none ends stream.begun)
+    (λ covers. IfErr-weaker c.redact_metered.result _ _ (λ error up fills. reaches_of _ _ _ _ _ _ _ _ left none ends (up fills)) (stream.near covers)) stream.write_failed stream.took_nothing stream.only)
 
 pub returns-clause-failed : goal.returns-clause-failed
 returns-clause-failed g c =

@@ -1,0 +1,138 @@
+-- The texts of the files of rules, one after another, and the rules that they hold.
+use Rattle.std.proofs.Common.{◌≡◌, inl, inr, ℕ, ◌-◌, ◌≤◌, ◌<◌, Bool, true, false, List, [], ◌∷◌, ◌++◌, Option, length, take, drop, refl, sym, ◌∙◌, ap, subst, arith, append-nil, append_assoc}
+use Rattle.std.specs.Prelude.{MatchBool, map}
+use Rattle.std.proofs.Math.ListN.{get_or}
+use Rattle.std.proofs.lemmas.Bool.{cases_Bool}
+use Rattle.std.proofs.lemmas.List.{map-append, take_all}
+use Rattle.programs.specs.Names.{IsOneOf}
+use Rattle.acgrep.specs.Loading.{AddsText, AreTexts, IsTextOfRule}
+use Rattle.acgrep.specs.Rules.{RuleSaid, expanded, is_from_file, is_space, kept_in_front, rule_before, rule_said, rules_by, rules_said, trimmed_line}
+use Rattle.acgrep.specs.Runs.{AreRules, AreRulesOf, AreRulesOfFile, IsTextOf}
+use Rattle.acgrep.specs.Told.{rule_files}
+use Rattle.acgrep.specs.declared.rules.Rule.{Rule}
+use Rattle.acgrep.proofs.Told.{AreWithin}
+
+module _ (holds : List ℕ → Option (List ℕ)) where
+  -- the text that was read of a file
+  pub text_of_file : (rule : RuleSaid) (left left' : Option (List ℕ)) (old new : List ℕ) → old ≡ [] → is_from_file rule.sense ≡ true → AddsText holds rule.glob left left' old new
+      → IsTextOfRule holds rule left left' new
+  text_of_file rule left left' old new none file added =
+      rw file (subst (IsTextOf holds rule.glob left left') (sym (added.grown ∙ ap (λ (l : List ℕ). l ++ added.text) none)) added.is)
+
+  -- and none of a glob
+  pub text_of_glob : (rule : RuleSaid) (left : Option (List ℕ)) (text : List ℕ) → text ≡ [] → is_from_file rule.sense ≡ false → IsTextOfRule holds rule left left text
+  text_of_glob rule left text none glob = rw glob (refl, none)
+
+  -- the rules of a text
+  rules_of_text : (rule : RuleSaid) (left left' : Option (List ℕ)) (text : List ℕ) → IsTextOfRule holds rule left left' text → AreRulesOf holds rule left left' (rules_by rule text)
+  rules_of_text rule left left' text is =
+      elim (cases_Bool (is_from_file rule.sense)) [
+        | inl file ↦
+            let read : IsTextOf holds rule.glob left left' text =
+            subst (λ (b : Bool). MatchBool b (IsTextOf holds rule.glob left left' text) ((left' ≡ left) × (text ≡ []))) file is in
+            rw file (record { text = text; is = read; are = refl })
+        | inr glob ↦
+            let none : (left' ≡ left) × (text ≡ []) =
+            subst (λ (b : Bool). MatchBool b (IsTextOf holds rule.glob left left' text) ((left' ≡ left) × (text ≡ []))) glob is in
+            rw glob (none.0, refl)
+      ]
+
+  -- and of all
+  rules_of_texts : (rules : List RuleSaid) (left left' : Option (List ℕ)) (texts : List (List ℕ)) → AreTexts holds rules left left' texts → AreRules holds rules left left' (expanded rules texts)
+  rules_of_texts [] left left' texts are = (are.0, refl)
+  rules_of_texts (rule ∷ rules) left left' texts (between, text, others, cut, is, are) =
+      subst (λ (l : List (List ℕ)). AreRules holds (rule ∷ rules) left left' (expanded (rule ∷ rules) l)) (sym cut)
+      (between, rules_by rule text, expanded rules others, refl, rules_of_text rule left between text is, rules_of_texts rules between left' others are)
+
+  -- texts that were read, and what was put together of them
+  pub rules_read : (given slice all : List RuleSaid) (texts found : List (List ℕ)) (left left' : Option (List ℕ)) → slice ≡ given → found ≡ texts → AreTexts holds slice left left' texts
+      → all ≡ expanded slice found → AreRules holds given left left' all
+  rules_read given slice all texts found left left' same alike are is =
+      subst (λ (l : List RuleSaid). AreRules holds l left left' all) same
+      (subst (AreRules holds slice left left') (ap (expanded slice) (sym alike) ∙ sym is) (rules_of_texts slice left left' texts are))
+
+  module _ (all : List RuleSaid) (begin : Option (List ℕ)) where
+    -- the texts of the rules so far, and those that are to be read of the others, are those of all
+    abbrev pub AreTextsWith : List RuleSaid → Option (List ℕ) → List (List ℕ) → Type 0
+    AreTextsWith rest left texts = (left' : Option (List ℕ)) (more : List (List ℕ)) → AreTexts holds rest left left' more → AreTexts holds all begin left' (texts ++ more)
+
+    texts_more : (rule : RuleSaid) (rest : List RuleSaid) (left left' : Option (List ℕ)) (old new : List (List ℕ)) → AreTextsWith (rule ∷ rest) left old
+        → (text : List ℕ) × (new ≡ old ++ (text ∷ [])) × IsTextOfRule holds rule left left' text → AreTextsWith rest left' new
+    texts_more rule rest left left' old new before (text, grown, is) end more are =
+        subst (AreTexts holds all begin end) (sym (append_assoc old (text ∷ []) more) ∙ ap (λ (l : List (List ℕ)). l ++ more) (sym grown))
+        (before end (text ∷ more) (left', text, more, refl, is, are))
+
+    -- the first of some rules, and then the others
+    pub texts_next : (rules : List Rule) (other : Rule) (left left' : Option (List ℕ)) (old new : List (List ℕ)) → 1 ≤ length rules → AreTextsWith (rules_said rules) left old
+        → (text : List ℕ) × (new ≡ old ++ (text ∷ [])) × IsTextOfRule holds (rule_said (get_or rules 0 other)) left left' text
+        → AreTextsWith (rules_said (take (length rules - 1) (drop 1 rules))) left' new
+    texts_next [] other left left' old new some before added = absurd (omega (arith, some))
+    texts_next (rule ∷ []) other left left' old new some before added = texts_more (rule_said rule) [] left left' old new before added
+    texts_next (rule ∷ next ∷ rules) other left left' old new some before added =
+        subst (λ (l : List Rule). AreTextsWith (rules_said l) left' new) (sym (take_all (length (rule ∷ next ∷ rules) - 1) (next ∷ rules) (omega arith)))
+        (texts_more (rule_said rule) (rules_said (next ∷ rules)) left left' old new before added)
+
+    pub texts_end : (rules : List Rule) (left : Option (List ℕ)) (texts : List (List ℕ)) → length rules ≡ 0 → AreTextsWith (rules_said rules) left texts → AreTexts holds all begin left texts
+    texts_end [] left texts none before = subst (AreTexts holds all begin left) (append-nil texts) (before left [] (refl, refl))
+    texts_end (rule ∷ rules) left texts none before = absurd (omega (arith, none))
+
+-- the file of the first rule is one of all, and so are those of the others
+files_cut : (rule : RuleSaid) (rules : List RuleSaid) (all : List (List ℕ)) → AreWithin (rule_files (rule ∷ rules)) all
+    → (is_from_file rule.sense ≡ true → IsOneOf rule.glob all) × AreWithin (rule_files rules) all
+files_cut rule rules all within = (
+  λ file. (subst (λ (l : List (List ℕ)). AreWithin l all) (file_first file) within) rule.glob (inl refl),
+  elim (cases_Bool (is_from_file rule.sense)) [
+    | inl file ↦ λ name is. (subst (λ (l : List (List ℕ)). AreWithin l all) (file_first file) within) name (inr is)
+    | inr glob ↦ λ name is. (subst (λ (l : List (List ℕ)). AreWithin l all) (no_file glob) within) name is
+  ],
+)
+  where
+    file_first : is_from_file rule.sense ≡ true → rule_files (rule ∷ rules) ≡ rule.glob ∷ rule_files rules
+    file_first file = rw file refl
+
+    no_file : is_from_file rule.sense ≡ false → rule_files (rule ∷ rules) ≡ rule_files rules
+    no_file glob = rw glob refl
+
+pub rules_cut : (rules : List Rule) (other : Rule) (all : List (List ℕ)) → 0 < length rules → AreWithin (rule_files (rules_said rules)) all
+    → (is_from_file (rule_said (get_or rules 0 other)).sense ≡ true → IsOneOf (rule_said (get_or rules 0 other)).glob all) × AreWithin (rule_files (rules_said (take (length rules - 1) (drop 1 rules)))) all
+rules_cut [] other all some within = absurd (omega (arith, some))
+rules_cut (rule ∷ rules) other all some within =
+    let rest : take (length (rule ∷ rules) - 1) rules ≡ rules = take_all (length (rule ∷ rules) - 1) rules (omega arith) in
+    let both = files_cut (rule_said rule) (rules_said rules) all within in
+    (both.0, subst (λ (l : List Rule). AreWithin (rule_files (rules_said l)) all) (sym rest) both.1)
+
+-- the first of some rules with the first of some texts, and then the others
+pub expanded_next : (rules : List Rule) (other : Rule) (text : List ℕ) (texts : List (List ℕ)) → 0 < length rules
+    → expanded (rules_said rules) (text ∷ texts) ≡ rules_by (rule_said (get_or rules 0 other)) text ++ expanded (rules_said (take (length rules - 1) (drop 1 rules))) texts
+expanded_next [] other text texts some = absurd (omega (arith, some))
+expanded_next (rule ∷ rules) other text texts some =
+    let rest : take (length (rule ∷ rules) - 1) rules ≡ rules = take_all (length (rule ∷ rules) - 1) rules (omega arith) in
+    ap (λ (l : List Rule). rules_by (rule_said rule) text ++ expanded (rules_said l) texts) (sym rest)
+
+-- no rule is left, or no text
+pub expanded_none : (rules : List RuleSaid) → expanded rules [] ≡ []
+expanded_none [] = refl
+expanded_none (rule ∷ rules) = refl
+
+-- a rule stands behind others
+pub said_more : (rules : List Rule) (rule : Rule) → rules_said (rules ++ (rule ∷ [])) ≡ rules_said rules ++ (rule_said rule ∷ [])
+said_more rules rule = map-append rule_said rules (rule ∷ [])
+
+-- that of a glob stands before others
+pub rule_front : (glob : List ℕ) (rules : List RuleSaid) → rule_before glob rules ≡ rule_before glob [] ++ rules
+rule_front [] rules = refl
+rule_front (byte ∷ bytes) rules = refl
+
+-- white space at the end of a line is passed over
+pub trimmed_space : (line : List ℕ) (byte : ℕ) → is_space byte ≡ true → trimmed_line (line ++ (byte ∷ [])) ≡ trimmed_line line
+trimmed_space [] byte space = rw space refl
+trimmed_space (first ∷ line) byte space = ap (kept_in_front first) (trimmed_space line byte space)
+
+-- and any other byte ends it
+pub trimmed_end : (line : List ℕ) (byte : ℕ) → is_space byte ≡ false → trimmed_line (line ++ (byte ∷ [])) ≡ line ++ (byte ∷ [])
+trimmed_end [] byte other = rw other refl
+trimmed_end (first ∷ line) byte other = ap (kept_in_front first) (trimmed_end line byte other) ∙ kept_some first line byte
+  where
+    kept_some : (first : ℕ) (line : List ℕ) (byte : ℕ) → kept_in_front first (line ++ (byte ∷ [])) ≡ first ∷ (line ++ (byte ∷ []))
+    kept_some first [] byte = refl
+    kept_some first (next ∷ line) byte = refl

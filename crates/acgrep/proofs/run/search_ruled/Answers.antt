@@ -1,0 +1,111 @@
+-- The rules in files were read, and what was said was done by them.
+use Rattle.std.proofs.Common.{◌≡◌, ℕ, List, Some, ap, inl, inr, refl, subst}
+use Rattle.std.proofs.KnownBytes.{Keeps-refl}
+use Rattle.std.specs.List.{concat}
+use Rattle.programs.specs.Telling.{TellsSome}
+use Rattle.programs.specs.declared.errors.Errors.{Errors}
+use Rattle.programs.proofs.Lines.{some-one, some-weaker}
+use Rattle.acgrep.specs.Arguments.{Said, said, shown_by}
+use Rattle.acgrep.specs.Folders.{known_by}
+use Rattle.acgrep.specs.Listed.{listed_bytes}
+use Rattle.acgrep.specs.Rules.{RuleSaid, rules_said}
+use Rattle.acgrep.specs.Runs.{AreRules, BeginsSaid, SearchesSaid, names_by, ruled, sources_by}
+use Rattle.acgrep.specs.Told.{IsMessage, MaySaid, MaySay, TellsOfSaid, TellsStatus, names_said, rule_files, wrong_parts}
+use Rattle.acgrep.specs.declared.arguments.Wrong.TheVariants.{NoPattern}
+use Rattle.acgrep.proofs.RuledCalls.{may-ruled, may-rules}
+use Rattle.acgrep.proofs.RuleTexts.{rules_read}
+use Rattle.acgrep.proofs.Told.{status-some, status-weaker}
+use Rattle.acgrep.proofs.run.search_ruled.Goals as goal
+
+pub returns-then-gives_none-clause-begins : goal.returns-then-gives_none-clause-begins
+returns-then-gives_none-clause-begins g c = inl (Keeps-refl (g.W.Sink.taken c.args.output.now))
+
+pub returns-in_default-clause-begins : goal.returns-in_default-clause-begins
+returns-in_default-clause-begins g c = inl (Keeps-refl (g.W.Sink.taken c.args.output.now))
+
+pub returns-in_default-expanded-clause-begins : goal.returns-in_default-expanded-clause-begins
+returns-in_default-expanded-clause-begins g c = inl (Keeps-refl (g.W.Sink.taken c.args.output.now))
+
+pub returns-then-gives_none-clause-told : goal.returns-then-gives_none-clause-told
+returns-then-gives_none-clause-told g c =
+    let given = said c.args.given in
+    let May = MaySaid (known_by g.F.Open g.F.Folders c.args.files.now) (g.R.Read.remaining c.args.input.now) (Some given) in
+    status-some g.E.Sink May given.flags.no_messages (shown_by given.flags) c.args.errors.now c.tell_wrong.new.errors
+    (some-one g.E.Sink May c.args.errors.now c.tell_wrong.new.errors (concat (wrong_parts NoPattern)) (inl (inr (NoPattern, refl))) c.tell_wrong.ensures.told)
+
+pub returns-in_default-clause-told : goal.returns-in_default-clause-told
+returns-in_default-clause-told g c =
+    let given = said c.args.given in
+    let known = known_by g.F.Open g.F.Folders c.args.files.now in
+    let left = g.R.Read.remaining c.args.input.now in
+    let May = MaySaid known left (Some given) in
+    let same : rules_said c.as_slice-rules.result.now ≡ given.rules = ap rules_said c.as_slice-rules.ensures.value in
+    status-some g.E.Sink May given.flags.no_messages (shown_by given.flags) c.args.errors.now c.read_globs.new.errors
+    (some-weaker g.E.Sink (IsMessage (rule_files given.rules)) May c.args.errors.now c.read_globs.new.errors (may-rules known left given)
+    (subst (λ (l : List RuleSaid). TellsSome g.E.Sink (IsMessage (rule_files l)) c.args.errors.now c.read_globs.new.errors) same (c.in_default.ensures.told refl)))
+
+pub returns-in_default-expanded-clause-told : goal.returns-in_default-expanded-clause-told
+returns-in_default-expanded-clause-told g c =
+    let given = said c.args.given in
+    let May = MaySaid (known_by g.F.Open g.F.Folders c.args.files.now) (g.R.Read.remaining c.args.input.now) (Some given) in
+    let names = names_said (Some given) in
+    subst (λ (e : Errors g.row.E.Denot). TellsStatus g.E.Sink May given.flags.no_messages (shown_by given.flags) 2 e c.tell_memory.new.errors) (c.in-Some.ensures.silent refl)
+    (status-some g.E.Sink May given.flags.no_messages (shown_by given.flags) c.read_globs.new.errors c.tell_memory.new.errors
+    (some-weaker g.E.Sink (IsMessage names) May c.read_globs.new.errors c.tell_memory.new.errors (λ line is. inl (inl is)) (c.tell_memory.ensures.told names)))
+
+pub returns-clause-searches : goal.returns-clause-searches
+returns-clause-searches g c = λ low.
+    let given = said c.args.given in
+    let known = known_by g.F.Open g.F.Folders c.args.files.now in
+    let left = g.R.Read.remaining c.args.input.now in
+    let between = g.R.Read.remaining c.read_globs.new.input in
+    let left' = g.R.Read.remaining c.search_asked.new.input in
+    let held = g.W.Sink.taken c.args.output.now in
+    let held' = g.W.Sink.taken c.search_asked.new.output in
+    let rules = rules_said c.in-Ok.all.items in
+    let read : AreRules known.holds given.rules left between rules =
+    rules_read known.holds given.rules (rules_said c.as_slice-rules.result.now) rules (listed_bytes c.in-Some.texts.items) (listed_bytes c.as_slice.result.now) left between
+    (ap rules_said c.as_slice-rules.ensures.value) (ap listed_bytes c.as_slice.ensures.value) c.in-Some.ensures.texts c.in-Ok.ensures.expanded in
+    record {
+      rules = rules;
+      between = between;
+      read = read;
+      searched = subst (λ (s : Said). SearchesSaid known c.args.screen.now s between left' held held' c.search_asked.result) c.with_rules-ruled.ensures.ruled (c.search_asked.ensures.searches low);
+    }
+
+pub returns-clause-begins : goal.returns-clause-begins
+returns-clause-begins g c =
+    let given = said c.args.given in
+    let known = known_by g.F.Open g.F.Folders c.args.files.now in
+    let left = g.R.Read.remaining c.args.input.now in
+    let between = g.R.Read.remaining c.read_globs.new.input in
+    let held = g.W.Sink.taken c.args.output.now in
+    let held' = g.W.Sink.taken c.search_asked.new.output in
+    let rules = rules_said c.in-Ok.all.items in
+    let read : AreRules known.holds given.rules left between rules =
+    rules_read known.holds given.rules (rules_said c.as_slice-rules.result.now) rules (listed_bytes c.in-Some.texts.items) (listed_bytes c.as_slice.result.now) left between
+    (ap rules_said c.as_slice-rules.ensures.value) (ap listed_bytes c.as_slice.ensures.value) c.in-Some.ensures.texts c.in-Ok.ensures.expanded in
+    inr (record {
+      rules = rules;
+      between = between;
+      read = read;
+      begun = subst (λ (s : Said). BeginsSaid known c.args.screen.now s between held held') c.with_rules-ruled.ensures.ruled c.search_asked.ensures.begins;
+    })
+
+pub returns-clause-told : goal.returns-clause-told
+returns-clause-told g c =
+    let given = said c.args.given in
+    let flags = given.flags in
+    let known = known_by g.F.Open g.F.Folders c.args.files.now in
+    let left = g.R.Read.remaining c.args.input.now in
+    let between = g.R.Read.remaining c.read_globs.new.input in
+    let rules = rules_said c.in-Ok.all.items in
+    let read : AreRules known.holds given.rules left between rules =
+    rules_read known.holds given.rules (rules_said c.as_slice-rules.result.now) rules (listed_bytes c.in-Some.texts.items) (listed_bytes c.as_slice.result.now) left between
+    (ap rules_said c.as_slice-rules.ensures.value) (ap listed_bytes c.as_slice.ensures.value) c.in-Some.ensures.texts c.in-Ok.ensures.expanded in
+    let May = MaySay known.tree (ruled given rules) (sources_by given.sources given.operands) (names_by given.sources given.operands) in
+    let told : TellsOfSaid g.E.Sink known.tree (ruled given rules) c.search_asked.result c.read_globs.new.errors c.search_asked.new.errors =
+    subst (λ (s : Said). TellsOfSaid g.E.Sink known.tree s c.search_asked.result c.read_globs.new.errors c.search_asked.new.errors) c.with_rules-ruled.ensures.ruled c.search_asked.ensures.told in
+    subst (λ (e : Errors g.row.E.Denot). TellsStatus g.E.Sink (MaySaid known left (Some given)) flags.no_messages (shown_by flags) c.search_asked.result e c.search_asked.new.errors) (c.in-Some.ensures.silent refl)
+    (status-weaker g.E.Sink May (MaySaid known left (Some given)) flags.no_messages (shown_by flags) c.search_asked.result c.read_globs.new.errors c.search_asked.new.errors
+    (may-ruled known left between given rules read) told)

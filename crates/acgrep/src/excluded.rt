@@ -1,0 +1,194 @@
+//! The rules of `--exclude-from`: each line of a file is a glob of files that are not searched.
+
+ghost use Rattle.std.specs.Prelude.{◌≡◌, ◌++◌, ◌∷◌, [], IfOk, IfSome, IsErr, IsNone, IsSome, OnOk, false, true};
+ghost use Rattle.acgrep.specs.Listed.{listed_bytes};
+ghost use Rattle.acgrep.specs.Loading.{AddsRuleText, ReadsText, ReadsTexts};
+ghost use Rattle.acgrep.specs.Rules.{expanded, is_from_file, is_space, rule_before, rule_said, rules_by, rules_in, rules_said, trimmed_line};
+ghost use Rattle.acgrep.specs.Told.{TellsCause, TellsOfRule, TellsOfRules};
+
+use crate::arguments::Source;
+use crate::keys::{read_text, tell_source};
+use crate::lines::{behind, line_end};
+use crate::open::Open;
+use crate::rules::{Rule, Sense};
+use crate::tell::tell_memory;
+use chromesquid::Sink;
+use programs::errors::Errors;
+use std::alloc::{AllocError, Global};
+use std::io;
+use std::io::Read;
+
+/// The texts of the files of rules, one for each rule: an empty one for a rule that is a glob. There is none where a file cannot be read,
+/// which is told.
+pub fn read_globs<F: Open, R: Read, E: Sink>(
+    alloc: Global,
+    rules: &[Rule<'_>],
+    files: &F,
+    input: &mut R,
+    errors: &mut Errors<'_, E>,
+) -> Option<Vec<Vec<u8>>>
+    ensures texts { IfSome result (λ texts.
+        ReadsTexts F.Open R.Read files.now rules.now input.old input.new texts.items) }
+    ensures silent { IsSome result → errors.new ≡ errors.old }
+    ensures told { IsNone result → TellsOfRules E.Sink (rules_said rules.now) errors.old errors.new }
+{
+    let mut texts = Vec::new(alloc);
+    let mut rest = rules;
+    while !rest.is_empty() {
+        if !read_rule(alloc, &mut texts, rest[0], files, input, errors) {
+            return None;
+        }
+        rest = &rest[1..];
+    }
+    Some(texts)
+}
+
+/// Adds the text of a rule to others, and answers whether it could be read. Where it could not that is told.
+fn read_rule<F: Open, R: Read, E: Sink>(
+    alloc: Global,
+    texts: &mut Vec<Vec<u8>>,
+    rule: Rule<'_>,
+    files: &F,
+    input: &mut R,
+    errors: &mut Errors<'_, E>,
+) -> bool
+    ensures read { result ≡ true → AddsRuleText F.Open R.Read files.now rule.entry
+        input.old input.new texts.old.items texts.new.items }
+    ensures silent { result ≡ true → errors.new ≡ errors.old }
+    ensures told { result ≡ false → TellsOfRule E.Sink (rule_said rule.entry) errors.old errors.new }
+{
+    match text_of(alloc, rule, files, input) {
+        Ok(text) => add_text(texts, text, errors),
+        Err(error) => {
+            tell_source(Source::File(rule.glob), &error, errors);
+            false
+        }
+    }
+}
+
+/// Adds a text to others, and answers whether there was memory for it. Where there was none that is told.
+fn add_text<E: Sink>(texts: &mut Vec<Vec<u8>>, text: Vec<u8>, errors: &mut Errors<'_, E>) -> bool
+    ensures added { result ≡ true
+        → listed_bytes texts.new.items ≡ listed_bytes texts.old.items ++ (text.items ∷ []) }
+    ensures silent { result ≡ true → errors.new ≡ errors.old }
+    ensures told { result ≡ false → TellsCause E.Sink errors.old errors.new }
+{
+    match texts.push(text) {
+        Ok(()) => true,
+        Err(_) => {
+            tell_memory(errors);
+            false
+        }
+    }
+}
+
+/// The text of the file of a rule.
+fn text_of<F: Open, R: Read>(
+    alloc: Global,
+    rule: Rule<'_>,
+    files: &F,
+    input: &mut R,
+) -> io::Result<Vec<u8>>
+    ensures read { IfOk result (λ text.
+        ReadsText F.Open R.Read files.now rule.entry input.old input.new text.items) }
+    ensures file { IsErr result → is_from_file rule.entry.sense ≡ true }
+{
+    let mut text = Vec::new(alloc);
+    if !is_from_file(rule.sense) {
+        return Ok(text);
+    }
+    read_text(&mut text, rule.glob, files, input)?;
+    Ok(text)
+}
+
+/// Whether the globs of a rule stand in a file.
+fn is_from_file(sense: Sense) -> bool
+    ensures file { result ≡ is_from_file sense }
+{
+    match sense {
+        Sense::ExcludeFrom => true,
+        Sense::Include | Sense::Exclude | Sense::ExcludeFolder => false,
+    }
+}
+
+/// These rules, with those that the texts of files hold in place of theirs.
+pub fn expanded<'a>(
+    alloc: Global,
+    rules: &[Rule<'a>],
+    texts: &'a [Vec<u8>],
+) -> Result<Vec<Rule<'a>>, AllocError>
+    ensures expanded { IfOk result (λ all.
+        rules_said all.items ≡ expanded (rules_said rules.now) (listed_bytes texts.now)) }
+{
+    let mut all = Vec::new(alloc);
+    let mut rest = rules;
+    let mut left = texts;
+    while let Some((text, others)) = left.split_first() {
+        if rest.is_empty() {
+            return Ok(all);
+        }
+        add_rules(&mut all, rest[0], text.as_slice())?;
+        rest = &rest[1..];
+        left = others;
+    }
+    Ok(all)
+}
+
+/// Adds a rule, or those of the text of its file.
+fn add_rules<'a>(all: &mut Vec<Rule<'a>>, rule: Rule<'a>, text: &'a [u8]) -> Result<(), AllocError>
+    ensures added { OnOk result (rules_said all.new.items
+        ≡ rules_said all.old.items ++ rules_by (rule_said rule.entry) text.now) }
+{
+    if is_from_file(rule.sense) {
+        return add_globs(all, text);
+    }
+    all.push(rule)?;
+    Ok(())
+}
+
+/// Adds a rule for each line of a text that holds more than white space.
+fn add_globs<'a>(all: &mut Vec<Rule<'a>>, text: &'a [u8]) -> Result<(), AllocError>
+    ensures added { OnOk result (rules_said all.new.items ≡ rules_said all.old.items ++ rules_in text.now) }
+{
+    let mut rest = text;
+    while !rest.is_empty() {
+        let end = line_end(rest, b'\n');
+        add_glob(all, trimmed_line(&rest[..end]))?;
+        rest = behind(rest, end);
+    }
+    Ok(())
+}
+
+/// Adds the rule of a glob that is not empty.
+fn add_glob<'a>(all: &mut Vec<Rule<'a>>, glob: &'a [u8]) -> Result<(), AllocError>
+    ensures added { OnOk result (rules_said all.new.items
+        ≡ rules_said all.old.items ++ rule_before glob.now []) }
+{
+    if glob.is_empty() {
+        return Ok(());
+    }
+    let sense = Sense::Exclude;
+    all.push(Rule { sense, glob })?;
+    Ok(())
+}
+
+/// A line without the white space at its end.
+fn trimmed_line(line: &[u8]) -> &[u8]
+    ensures cut { result.now ≡ trimmed_line line.now }
+{
+    let mut rest = line;
+    while let Some((last, before)) = rest.split_last() {
+        if !is_space(*last) {
+            return rest;
+        }
+        rest = before;
+    }
+    rest
+}
+
+/// Whether a byte is white space.
+fn is_space(byte: u8) -> bool
+    ensures space { result ≡ is_space byte }
+{
+    byte == b' ' || 9 <= byte && byte <= 13
+}
