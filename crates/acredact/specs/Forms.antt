@@ -2,7 +2,7 @@
 use Rattle.std.specs.Prelude.{◌≡◌, ℕ, ◌+◌, ◌≤◌, ◌||◌, Bool, List, [], ◌∷◌, ◌++◌, Option, Some, None, codes, length, map, nat_eq, nat_lt, slice_index, if◌then◌else◌}
 use Rattle.std.specs.List.{All, filter, list_all, list_any, slice_split}
 use Rattle.std.specs.Str.{bytes_eq}
-use Rattle.secret_forms.specs.Forms.{HidesForm, patterns_of}
+use Rattle.secret_forms.specs.Forms.{HidesForm, forms_patterns}
 use Rattle.secret_forms.specs.Patterns.{added_all}
 use Rattle.secret_forms.specs.declared.form.Form.{Form as SecretForm}
 use Rattle.secret_forms.specs.declared.form.Form.TheVariants.{Base64, Hex, Url, Json, Xml, Shell, Lines}
@@ -50,7 +50,7 @@ forms_asked (Some value) = filter (asks_for value) all_forms
 
 -- the patterns of some forms of a secret
 abbrev pub form_patterns_of : List SecretForm → List ℕ → List (List ℕ)
-form_patterns_of forms pattern = added_all [] (patterns_of forms pattern)
+form_patterns_of forms pattern = added_all [] (forms_patterns forms pattern)
 
 -- such a pattern is replaced as that of its secret is, and counts for it
 abbrev pub form_secret : ℕ → Secret → List ℕ → Secret
@@ -85,4 +85,4 @@ pub record HaveForms (forms : List SecretForm) (plain rules : List Rule) : Type 
 
 -- the secret of the rule of this number
 abbrev pub secret_at : List Rule → ℕ → Secret
-secret_at rules number = secret_of (slice_index rules number)
+secret_at rules number = secret_of (get_or rules number (record { pattern = _; replacement = None; list = 0; line = 0; form_of = None }))
