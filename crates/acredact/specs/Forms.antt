@@ -1,12 +1,12 @@
 -- Forms of patterns: which are asked for, and which patterns they are.
-use Rattle.std.specs.Prelude.{◌≡◌, ℕ, ◌+◌, ◌≤◌, ◌||◌, Bool, List, [], ◌∷◌, ◌++◌, Option, Some, None, codes, length, map, nat_eq, nat_lt, slice_index, if◌then◌else◌}
+use Rattle.std.specs.Prelude.{◌≡◌, ℕ, ◌+◌, ◌≤◌, ◌||◌, Bool, List, [], ◌∷◌, ◌++◌, Option, Some, None, codes, length, map, nat_eq, nat_lt, if◌then◌else◌}
 use Rattle.std.specs.List.{All, filter, list_all, list_any, slice_split}
 use Rattle.std.specs.Str.{bytes_eq}
 use Rattle.secret_forms.specs.Forms.{HidesForm, forms_patterns}
 use Rattle.secret_forms.specs.Patterns.{added_all}
 use Rattle.secret_forms.specs.declared.form.Form.{Form as SecretForm}
 use Rattle.secret_forms.specs.declared.form.Form.TheVariants.{Base64, Hex, Url, Json, Xml, Shell, Lines}
-use Rattle.acredact.specs.Tables.{Secret, secret_of, secrets_of}
+use Rattle.acredact.specs.Tables.{Secret, secrets_of}
 use Rattle.acredact.specs.declared.patterns.Rule.{Rule}
 
 -- how a form is called
@@ -82,7 +82,3 @@ AreHidden forms secrets = All (IsHidden forms) secrets
 pub record HaveForms (forms : List SecretForm) (plain rules : List Rule) : Type 0 where
   pub are : secrets_of rules ≡ with_forms forms (secrets_of plain)
   pub hidden : AreHidden forms (secrets_of plain)
-
--- the secret of the rule of this number
-abbrev pub secret_at : List Rule → ℕ → Secret
-secret_at rules number = secret_of (get_or rules number (record { pattern = _; replacement = None; list = 0; line = 0; form_of = None }))

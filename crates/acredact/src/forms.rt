@@ -1,10 +1,10 @@
 //! Forms of patterns: how a secret that is encoded gets into a log. Which patterns a form has is told by `secret_forms`.
 
-ghost use Rattle.std.specs.Prelude.{◌≡◌, ◌<◌, ◌∷◌, ◌++◌, [], IfOk, OnOk, Some, length, map};
+ghost use Rattle.std.specs.Prelude.{◌≡◌, ◌∷◌, ◌++◌, [], IfOk, OnOk, Some, map};
 ghost use Rattle.std.specs.List.{filter, list_all, list_any};
-ghost use Rattle.acredact.specs.Forms.{HaveForms, IsHidden, all_forms, are_forms, asks_for, form_secret, forms_asked, forms_of, is_all, is_called, is_name, name_of, names_in, secret_at};
+ghost use Rattle.acredact.specs.Forms.{AreHidden, HaveForms, IsHidden, all_forms, are_forms, asks_for, form_secret, forms_asked, forms_from, forms_of, is_all, is_called, is_name, name_of, names_in};
 ghost use Rattle.acredact.specs.Parts.{AddsSome};
-ghost use Rattle.acredact.specs.Tables.{secret_of};
+ghost use Rattle.acredact.specs.Tables.{secret_of, secrets_of};
 ghost use Rattle.secret_forms.specs.Patterns.{pattern_bytes};
 
 use crate::patterns::{Rule, copy_of, split_at};
@@ -135,50 +135,64 @@ pub fn add_forms(alloc: Global, rules: &mut Vec<Rule>, value: &str) -> Result<()
     ensures formed { OnOk result (HaveForms (forms_asked (Some value.now)) rules.old.items rules.new.items) }
 {
     let forms = forms_by(alloc, value.as_bytes())?;
-    let count = rules.len();
-    let mut number = 0;
-    while number < count {
-        add_forms_of(alloc, rules, number, forms.as_slice())?;
-        number += 1;
-    }
-    Ok(())
+    let mut more = forms_of_rules(alloc, rules.as_slice(), forms.as_slice())?;
+    rules.append(&mut more)
 }
 
-/// Adds those of one rule.
+/// Those of all these rules.
+fn forms_of_rules(
+    alloc: Global,
+    rules: &[Rule],
+    wanted: &[Form],
+) -> Result<Vec<Rule>, AllocError>
+    ensures made { IfOk result (λ more.
+        secrets_of more.items ≡ forms_from wanted.now 0 (secrets_of rules.now)) }
+    ensures hidden { OnOk result (AreHidden wanted.now (secrets_of rules.now)) }
+{
+    let mut more = Vec::new(alloc);
+    let mut number: usize = 0;
+    let mut rest = rules;
+    while !rest.is_empty() {
+        add_forms_of(alloc, &mut more, &rest[0], number, wanted)?;
+        number += 1;
+        rest = &rest[1..];
+    }
+    Ok(more)
+}
+
+/// Adds those of a rule that has this number.
 fn add_forms_of(
     alloc: Global,
-    rules: &mut Vec<Rule>,
+    more: &mut Vec<Rule>,
+    rule: &Rule,
     number: usize,
     wanted: &[Form],
 ) -> Result<(), AllocError>
-    requires there { number < length rules.old.items }
-    ensures added { OnOk result (AddsSome (λ more. more
-        ≡ forms_of wanted.now number (secret_at rules.old.items number)) rules.old rules.new) }
-    ensures hidden { OnOk result (IsHidden wanted.now (secret_at rules.old.items number)) }
+    ensures added { OnOk result (AddsSome (λ some. some
+        ≡ forms_of wanted.now number (secret_of rule.now)) more.old more.new) }
+    ensures hidden { OnOk result (IsHidden wanted.now (secret_of rule.now)) }
 {
-    match forms(alloc, rules[number].pattern.as_slice(), wanted) {
-        Ok(patterns) => add_patterns(alloc, rules, number, patterns.as_slice()),
+    match forms(alloc, rule.pattern.as_slice(), wanted) {
+        Ok(patterns) => add_patterns(alloc, more, rule, number, patterns.as_slice()),
         Err(FormError::TooShort) => Ok(()),
         Err(FormError::OutOfMemory) => Err(AllocError),
     }
 }
 
-/// Adds a rule for each of some patterns of forms of a rule.
+/// Adds a rule for each of some patterns that are forms of a rule.
 fn add_patterns(
     alloc: Global,
-    rules: &mut Vec<Rule>,
+    more: &mut Vec<Rule>,
+    rule: &Rule,
     number: usize,
     patterns: &[Vec<u8>],
 ) -> Result<(), AllocError>
-    requires there { number < length rules.old.items }
-    ensures added { OnOk result (AddsSome (λ more. more
-        ≡ map (form_secret number (secret_at rules.old.items number)) (pattern_bytes patterns.now))
-        rules.old rules.new) }
+    ensures added { OnOk result (AddsSome (λ some. some
+        ≡ map (form_secret number (secret_of rule.now)) (pattern_bytes patterns.now)) more.old more.new) }
 {
     let mut rest = patterns;
     while !rest.is_empty() {
-        let made = form_of(alloc, &rules[number], number, rest[0].as_slice())?;
-        rules.push(made)?;
+        more.push(form_of(alloc, rule, number, rest[0].as_slice())?)?;
         rest = &rest[1..];
     }
     Ok(())
