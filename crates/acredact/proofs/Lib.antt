@@ -2,6 +2,8 @@
 mod Covered
 -- lines that are added one after another
 mod Lines
+mod FormNames
+mod FormRules
 mod PartLines
 -- names in messages, and what is told of doubtful patterns
 mod ShownNames

@@ -35,7 +35,7 @@ const LEAST_KEY: usize = 16;
 
 /// How files of patterns and tables are read.
 #[derive(Clone, Copy)]
-pub struct Lists<'f, F> {
+pub struct Lists<'f, 'v, F> {
     /// What memory is taken from.
     pub alloc: Global,
     /// What opens files.
@@ -47,11 +47,15 @@ pub struct Lists<'f, F> {
     /// Whether long lines of a pattern that has line ends are patterns too.
     pub parts: bool,
     /// Which forms of patterns are patterns too, by the names that are given.
-    pub forms: Option<&'f str>,
+    pub forms: Option<&'v str>,
 }
 
 /// How the files of patterns and tables are read that are given.
-pub fn lists_of<'f, F>(alloc: Global, given: &[Item<'f>], folder: &'f F) -> Lists<'f, F>
+pub fn lists_of<'f, 'v, F>(
+    alloc: Global,
+    given: &[Item<'v>],
+    folder: &'f F,
+) -> Lists<'f, 'v, F>
     ensures folder { result.folder.now ≡ folder.now }
     ensures rules { rules_for result ≡ rules_asked (all_given given.now) }
 {
@@ -71,7 +75,7 @@ pub fn lists_of<'f, F>(alloc: Global, given: &[Item<'f>], folder: &'f F) -> List
 ///
 /// The first pattern, file or line that gives no rule, with the reason; or memory runs out.
 pub fn rules<'a, F: Folder, I: Read>(
-    lists: &Lists<'_, F>,
+    lists: &Lists<'_, '_, F>,
     items: &[Item<'a>],
     input: &mut FromRead<I>,
 ) -> Result<Vec<Rule>, Failure<'a>>
@@ -86,7 +90,7 @@ pub fn rules<'a, F: Folder, I: Read>(
 }
 
 /// These rules, and behind them those of their forms.
-fn with_forms<'a, F>(lists: &Lists<'_, F>, rules: Vec<Rule>) -> Result<Vec<Rule>, Failure<'a>>
+fn with_forms<'a, F>(lists: &Lists<'_, '_, F>, rules: Vec<Rule>) -> Result<Vec<Rule>, Failure<'a>>
     ensures formed { IfOk result (λ made. HaveForms (rules_for lists.now).forms rules.items made.items) }
     ensures fails { IfErr result (λ failure. failure ≡ Other OutOfMemoryFailure) }
 {
@@ -105,7 +109,7 @@ fn with_forms<'a, F>(lists: &Lists<'_, F>, rules: Vec<Rule>) -> Result<Vec<Rule>
 ///
 /// The first pattern, file or line that gives no rule, with the reason.
 fn read_rules<'a, F: Folder, I: Read>(
-    lists: &Lists<'_, F>,
+    lists: &Lists<'_, '_, F>,
     items: &[Item<'a>],
     input: &mut FromRead<I>,
 ) -> Result<Vec<Rule>, Failure<'a>>
@@ -134,7 +138,7 @@ fn read_rules<'a, F: Folder, I: Read>(
 ///
 /// Its file cannot be read, or is empty.
 pub fn key_of<'a, F: Folder, I: Read>(
-    lists: &Lists<'_, F>,
+    lists: &Lists<'_, '_, F>,
     items: &[Item<'a>],
     input: &mut FromRead<I>,
 ) -> Result<Option<Vec<u8>>, Failure<'a>>
@@ -150,7 +154,7 @@ pub fn key_of<'a, F: Folder, I: Read>(
 
 /// The key in the file of a name.
 fn read_key<'a, F: Folder, I: Read>(
-    lists: &Lists<'_, F>,
+    lists: &Lists<'_, '_, F>,
     name: &'a str,
     input: &mut FromRead<I>,
 ) -> Result<Option<Vec<u8>>, Failure<'a>>
@@ -171,7 +175,7 @@ fn read_key<'a, F: Folder, I: Read>(
 
 /// Adds the rules of an item, if it has any.
 fn add_item<'a, F: Folder, I: Read>(
-    lists: &Lists<'_, F>,
+    lists: &Lists<'_, '_, F>,
     rules: &mut Vec<Rule>,
     item: Item<'a>,
     number: usize,
@@ -191,7 +195,7 @@ fn add_item<'a, F: Folder, I: Read>(
 
 /// Adds the rule of a pattern among the arguments.
 fn add_pattern<'a, F>(
-    lists: &Lists<'_, F>,
+    lists: &Lists<'_, '_, F>,
     rules: &mut Vec<Rule>,
     pattern: &'a str,
     list: usize,
@@ -208,7 +212,7 @@ fn add_pattern<'a, F>(
 
 /// Adds the lines of a pattern that has line ends, where these are patterns too.
 fn add_parts_of<'a, F>(
-    lists: &Lists<'_, F>,
+    lists: &Lists<'_, '_, F>,
     rules: &mut Vec<Rule>,
     pattern: &[u8],
     list: usize,
@@ -227,7 +231,7 @@ fn add_parts_of<'a, F>(
 
 /// Adds the rules of a file: of a table, or of a file of patterns.
 fn add_file<'a, F: Folder, I: Read>(
-    lists: &Lists<'_, F>,
+    lists: &Lists<'_, '_, F>,
     rules: &mut Vec<Rule>,
     name: &'a str,
     table: bool,
@@ -246,7 +250,7 @@ fn add_file<'a, F: Folder, I: Read>(
 
 /// Adds the rules of the text of a file.
 fn add_text<'a, F>(
-    lists: &Lists<'_, F>,
+    lists: &Lists<'_, '_, F>,
     rules: &mut Vec<Rule>,
     name: &'a str,
     table: bool,
@@ -274,7 +278,7 @@ fn add_text<'a, F>(
 
 /// All bytes of a file, or of the input.
 fn read_list<F: Folder, I: Read>(
-    lists: &Lists<'_, F>,
+    lists: &Lists<'_, '_, F>,
     name: &str,
     input: &mut FromRead<I>,
 ) -> Result<Vec<u8>, Reason>

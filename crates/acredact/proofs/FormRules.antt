@@ -1,0 +1,30 @@
+-- The forms of rules, one after another.
+use Rattle.std.proofs.Common.{◌≡◌, ◌≤◌, ℕ, ◌+◌, ◌-◌, List, [], ◌∷◌, ◌++◌, length, take, drop, get_or, refl, sym, ap, subst, ◌∙◌, append_assoc, arith}
+use Rattle.std.proofs.Math.Seq.{take-length}
+use Rattle.std.proofs.lemmas.List.Elements.{All-cons}
+use Rattle.secret_forms.specs.declared.form.Form.{Form as SecretForm}
+use Rattle.acredact.specs.Forms.{AreHidden, IsHidden, forms_from, forms_of}
+use Rattle.acredact.specs.Tables.{Secret, secret_of, secrets_of}
+use Rattle.acredact.specs.declared.patterns.Rule.{Rule}
+
+-- what is left behind the first
+behind_first : (rule : Rule) (rest : List Rule) → take (length (rule ∷ rest) - 1) rest ≡ rest
+behind_first rule rest =
+    let count : length (rule ∷ rest) - 1 ≡ length rest = omega arith in
+    ap (λ n. take n rest) count ∙ take-length rest
+
+module _ (wanted : List SecretForm) where
+  -- the forms of one rule more are added
+  pub forms_next : (rest : List Rule) (other : Rule) (number : ℕ) (all old new more : List Secret) → 1 ≤ length rest → all ≡ old ++ forms_from wanted number (secrets_of rest) → new ≡ old ++ more
+      → more ≡ forms_of wanted number (secret_of (get_or rest 0 other)) → all ≡ new ++ forms_from wanted (number + 1) (secrets_of (take (length rest - 1) (drop 1 rest)))
+  forms_next [] other number all old new more some is grown are = absurd (omega (arith, some))
+  forms_next (rule ∷ rest) other number all old new more some is grown are =
+      is ∙ ap (λ l. old ++ (l ++ forms_from wanted (number + 1) (secrets_of rest))) (sym are) ∙ sym (append_assoc old more (forms_from wanted (number + 1) (secrets_of rest)))
+      ∙ ap (λ l. l ++ forms_from wanted (number + 1) (secrets_of rest)) (sym grown) ∙ ap (λ l. new ++ forms_from wanted (number + 1) (secrets_of l)) (sym (behind_first rule rest))
+
+  -- and they hide it
+  pub hidden_next : (rest all : List Rule) (other : Rule) → 1 ≤ length rest → (AreHidden wanted (secrets_of rest) → AreHidden wanted (secrets_of all)) → IsHidden wanted (secret_of (get_or rest 0 other))
+      → AreHidden wanted (secrets_of (take (length rest - 1) (drop 1 rest))) → AreHidden wanted (secrets_of all)
+  hidden_next [] all other some known one others = absurd (omega (arith, some))
+  hidden_next (rule ∷ rest) all other some known one others =
+      known (All-cons (IsHidden wanted) (secret_of rule) (secrets_of rest) one (subst (λ (l : List Rule). AreHidden wanted (secrets_of l)) (behind_first rule rest) others))
