@@ -1,9 +1,11 @@
 -- The forms of rules, one after another.
 use Rattle.std.proofs.Common.{◌≡◌, ◌≤◌, ℕ, ◌+◌, ◌-◌, List, [], ◌∷◌, ◌++◌, length, take, drop, get_or, refl, sym, ap, subst, ◌∙◌, append_assoc, arith}
+use Rattle.std.specs.Prelude.{Result, Ok, Err, OnOk, is_ok, if◌then◌else◌}
 use Rattle.std.proofs.Math.Seq.{take-length}
+use Rattle.std.proofs.lemmas.List.{map-append}
 use Rattle.std.proofs.lemmas.List.Elements.{All-cons}
 use Rattle.secret_forms.specs.declared.form.Form.{Form as SecretForm}
-use Rattle.acredact.specs.Forms.{AreHidden, IsHidden, forms_from, forms_of}
+use Rattle.acredact.specs.Forms.{AreHidden, HaveForms, IsHidden, forms_from, forms_of}
 use Rattle.acredact.specs.Tables.{Secret, secret_of, secrets_of}
 use Rattle.acredact.specs.declared.patterns.Rule.{Rule}
 
@@ -28,3 +30,12 @@ module _ (wanted : List SecretForm) where
   hidden_next [] all other some known one others = absurd (omega (arith, some))
   hidden_next (rule ∷ rest) all other some known one others =
       known (All-cons (IsHidden wanted) (secret_of rule) (secrets_of rest) one (subst (λ (l : List Rule). AreHidden wanted (secrets_of l)) (behind_first rule rest) others))
+
+-- the forms stand behind these rules
+pub have_forms : {X : Type 0} (forms asked : List SecretForm) (old more new : List Rule) (result : Result (Unit {0}) X) → forms ≡ asked → secrets_of more ≡ forms_from forms 0 (secrets_of old) → AreHidden forms (secrets_of old)
+    → new ≡ (if is_ok result then old ++ more else old) → OnOk result (HaveForms asked old new)
+have_forms forms asked old more new (Ok done) same made hidden grown = record {
+  are = ap secrets_of grown ∙ map-append secret_of old more ∙ ap (λ l. secrets_of old ++ l) (made ∙ ap (λ f. forms_from f 0 (secrets_of old)) same);
+  hidden = subst (λ (f : List SecretForm). AreHidden f (secrets_of old)) same hidden;
+}
+have_forms forms asked old more new (Err error) same made hidden grown = tt
