@@ -1,11 +1,12 @@
 -- The forms of rules, one after another.
-use Rattle.std.proofs.Common.{◌≡◌, ◌≤◌, ℕ, ◌+◌, ◌-◌, List, [], ◌∷◌, ◌++◌, length, take, drop, get_or, refl, sym, ap, subst, ◌∙◌, append_assoc, arith}
-use Rattle.std.specs.Prelude.{Result, Ok, Err, OnOk, is_ok, if◌then◌else◌}
+use Rattle.std.proofs.Common.{◌≡◌, ◌≤◌, ℕ, ◌+◌, ◌-◌, List, [], ◌∷◌, ◌++◌, length, take, drop, get_or, refl, sym, ap, subst, ◌∙◌, append-nil, append_assoc, arith}
+use Rattle.std.specs.Prelude.{Bool, true, false, nat_lt, Result, Ok, Err, OnOk, is_ok, if◌then◌else◌}
 use Rattle.std.proofs.Math.Seq.{take-length}
 use Rattle.std.proofs.lemmas.List.{map-append}
-use Rattle.std.proofs.lemmas.List.Elements.{All-cons}
+use Rattle.std.proofs.lemmas.List.Elements.{All-cons, All-nil}
 use Rattle.secret_forms.specs.declared.form.Form.{Form as SecretForm}
-use Rattle.acredact.specs.Forms.{AreHidden, HaveForms, IsHidden, forms_from, forms_of}
+use Rattle.acredact.specs.Forms.{AreHidden, HaveForms, IsHidden, form_patterns_of, forms_from, forms_of}
+use Rattle.secret_forms.specs.Forms.{HidesForm}
 use Rattle.acredact.specs.Tables.{Secret, secret_of, secrets_of}
 use Rattle.acredact.specs.declared.patterns.Rule.{Rule}
 
@@ -39,3 +40,22 @@ have_forms forms asked old more new (Ok done) same made hidden grown = record {
   hidden = subst (λ (f : List SecretForm). AreHidden f (secrets_of old)) same hidden;
 }
 have_forms forms asked old more new (Err error) same made hidden grown = tt
+
+-- where no form is asked for there is none
+same_either : {A : Type 0} (b : Bool) (x : A) → (if b then x else x) ≡ x
+same_either true x = refl
+same_either false x = refl
+
+forms_none : (number : ℕ) (secrets : List Secret) → forms_from [] number secrets ≡ []
+forms_none number [] = refl
+forms_none number (secret ∷ secrets) = ap (λ l. l ++ forms_from [] (number + 1) secrets) (same_either (nat_lt (length secret.pattern) 4) []) ∙ forms_none (number + 1) secrets
+
+hidden_none : (secrets : List Secret) → AreHidden [] secrets
+hidden_none [] = All-nil (IsHidden [])
+hidden_none (secret ∷ secrets) = All-cons (IsHidden []) secret secrets (λ long. All-nil (HidesForm (form_patterns_of [] secret.pattern) secret.pattern)) (hidden_none secrets)
+
+pub have_none : (rules : List Rule) → HaveForms [] rules rules
+have_none rules = record {
+  are = sym (ap (λ l. secrets_of rules ++ l) (forms_none 0 (secrets_of rules)) ∙ append-nil (secrets_of rules));
+  hidden = hidden_none (secrets_of rules);
+}

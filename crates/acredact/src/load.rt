@@ -1,11 +1,11 @@
 //! The rules of all patterns, files and tables that are given.
 
-ghost use Rattle.std.specs.Prelude.{◌≡◌, ℕ, List, Option, IfErr, IfOk, OnOk};
+ghost use Rattle.std.specs.Prelude.{◌≡◌, ℕ, List, Option, Some, IfErr, IfOk, OnOk};
 ghost use Rattle.aho_devices.specs.Counts.{counted};
 ghost use Rattle.programs.specs.Streams.{bytes_left};
 ghost use Rattle.acredact.specs.Arguments.{all_given, given_of};
 ghost use Rattle.acredact.specs.Calls.{rules_asked};
-ghost use Rattle.acredact.specs.Forms.{HaveForms};
+ghost use Rattle.acredact.specs.Forms.{HaveForms, forms_asked};
 ghost use Rattle.acredact.specs.Loading.{AddsFile, AddsItem, AddsList, CannotLoad, CannotLoadAll, CannotLoadKey, CannotLoadOne, CannotRead, GivesRules, IsFileFailure, IsKeyFailure, IsPatternFailure, IsTextFailure, IsTextReason, LoadsKey, ReadsKey, ReadsList, ReadsRules, is_failed_text, reading_of_lists, rules_for};
 ghost use Rattle.acredact.specs.Parts.{AddsSome, ArePartsBy, GivesPattern};
 ghost use Rattle.acredact.specs.Reads.{ReadsText};
@@ -94,13 +94,22 @@ fn with_forms<'a, F>(lists: &Lists<'_, '_, F>, rules: Vec<Rule>) -> Result<Vec<R
     ensures formed { IfOk result (λ made. HaveForms (rules_for lists.now).forms rules.items made.items) }
     ensures fails { IfErr result (λ failure. failure ≡ Other OutOfMemoryFailure) }
 {
-    let mut rules = rules;
-    if let Some(forms) = lists.forms {
-        let Ok(()) = add_forms(lists.alloc, &mut rules, forms) else {
-            return Err(Failure::Other(failure::Failure::OutOfMemory));
-        };
+    match lists.forms {
+        None => Ok(rules),
+        Some(value) => with_asked(lists.alloc, rules, value),
     }
-    Ok(rules)
+}
+
+/// These rules, and behind them those of the forms that a value names.
+fn with_asked<'a>(alloc: Global, rules: Vec<Rule>, value: &str) -> Result<Vec<Rule>, Failure<'a>>
+    ensures formed { IfOk result (λ made. HaveForms (forms_asked (Some value.now)) rules.items made.items) }
+    ensures fails { IfErr result (λ failure. failure ≡ Other OutOfMemoryFailure) }
+{
+    let mut rules = rules;
+    match add_forms(alloc, &mut rules, value) {
+        Ok(()) => Ok(rules),
+        Err(_) => Err(Failure::Other(failure::Failure::OutOfMemory)),
+    }
 }
 
 /// The rules of all patterns, files of patterns and tables that are given, in order.
