@@ -4,6 +4,7 @@ mod Covered
 mod Lines
 mod FormNames
 mod FormRules
+mod FormsSome
 mod PartLines
 -- names in messages, and what is told of doubtful patterns
 mod ShownNames
