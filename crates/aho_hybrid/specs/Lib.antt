@@ -2,4 +2,3 @@ pub mod Layout
 pub mod Reading
 pub mod Filled
 pub mod Made
-pub mod Alike

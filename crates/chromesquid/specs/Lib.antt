@@ -1,3 +1,5 @@
+-- streams that have the same matches, and replacements that write the same
+pub mod Alike
 -- of which patterns a searcher by a walk backward is
 pub mod Backward
 -- what a build makes, and why it fails

@@ -1,6 +1,7 @@
 //! Multiple-pattern search.
 #![tactic(auto)]
 
+pub mod answers;
 pub mod automaton;
 mod backward;
 pub mod builder;

@@ -3,7 +3,7 @@ use Rattle.std.specs.Prelude.{None}
 use Rattle.aho_core.specs.Iteration.{AreFinds}
 use Rattle.aho_core.specs.Search.{plain_search}
 use Rattle.aho_laws.proofs.Iterations.{finds-unique}
-use Rattle.aho_hybrid.proofs.answers.rows_do_not_change_stream_finds.Goals as goal
+use Rattle.chromesquid.proofs.answers.rows_do_not_change_stream_finds.Goals as goal
 
 pub returns-clause-alike : goal.returns-clause-alike
 returns-clause-alike g c =

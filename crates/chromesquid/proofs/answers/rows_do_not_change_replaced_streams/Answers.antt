@@ -10,8 +10,8 @@ use Rattle.aho_devices.specs.declared.device.Sink.{Ghosts as SinkGhosts}
 use Rattle.aho_devices.specs.declared.device.Source.{Ghosts as SourceGhosts}
 use Rattle.aho_laws.proofs.Iterations.{finds-exist}
 use Rattle.aho_stream.specs.Replacing.{ReplacesStream}
-use Rattle.aho_hybrid.specs.Alike.{ReplacesAlike}
-use Rattle.aho_hybrid.proofs.answers.rows_do_not_change_replaced_streams.Goals as goal
+use Rattle.chromesquid.specs.Alike.{ReplacesAlike}
+use Rattle.chromesquid.proofs.answers.rows_do_not_change_replaced_streams.Goals as goal
 
 -- two replacements for the same patterns
 both : {R W : Type 0} (S : SourceGhosts R) (K : SinkGhosts W) (Of Other : Patterns → Type 0) (pieces : List (List ℕ)) (source source' other other' : R) (sink sink' second second' : W) (p : Patterns) → Of p → Other p

@@ -4,7 +4,7 @@ use Rattle.std.specs.Iterator.{Yields}
 use Rattle.aho_stream.specs.Iterators.{CanGoOn}
 use Rattle.aho_stream.proofs.Collected.{found}
 use Rattle.aho_stream.proofs.FindRuns.{find_steps}
-use Rattle.aho_hybrid.proofs.answers.collect_matches.Given as goal
+use Rattle.chromesquid.proofs.answers.collect_matches.Given as goal
 
 -- So far calls gave these matches, and it may be called again.
 abbrev pub invariant-loop-matches : goal.invariant-loop-matches

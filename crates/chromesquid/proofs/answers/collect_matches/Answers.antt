@@ -6,7 +6,7 @@ use Rattle.aho_core.specs.declared.error.stream.StreamError.{StreamError}
 use Rattle.aho_stream.specs.Finds.{FindsNextInStream}
 use Rattle.aho_stream.proofs.Collected.{all_found, found, goes_on, less_to_find, no_limit_found, yields_more}
 use Rattle.aho_stream.proofs.FindRuns.{find_steps}
-use Rattle.aho_hybrid.proofs.answers.collect_matches.Goals as goal
+use Rattle.chromesquid.proofs.answers.collect_matches.Goals as goal
 
 pub returns-in-None-clause-finds : goal.returns-in-None-clause-finds
 returns-in-None-clause-finds g c = λ p of.
