@@ -116,10 +116,12 @@ pub fn rows_do_not_change_replaced_streams<R: Source, W: Sink>(
 ) -> Result<(), StreamError>
     requires of { (p : Patterns) × ⟦<NFA as Automaton>⟧.is_of by_nfa.automaton.now p
         × ⟦<Hybrid as Automaton>⟧.is_of by_rows.automaton.now p }
-    requires fresh { IsFreshStart ⟦<NFA as Automaton>⟧ by_nfa
-        × IsFreshStart ⟦<Hybrid as Automaton>⟧ by_rows }
-    requires open { (by_nfa.progress.ended ≡ false) × (by_rows.progress.ended ≡ false) }
-    requires below { (by_nfa.progress.refused ≡ false) × (by_rows.progress.refused ≡ false) }
+    requires fresh { IsFreshStart ⟦<NFA as Automaton>⟧ by_nfa }
+    requires open { by_nfa.progress.ended ≡ false }
+    requires below { by_nfa.progress.refused ≡ false }
+    requires rows_fresh { IsFreshStart ⟦<Hybrid as Automaton>⟧ by_rows }
+    requires rows_open { by_rows.progress.ended ≡ false }
+    requires rows_below { by_rows.progress.refused ≡ false }
     requires one_each { length replace_with.now
         ≡ length (⟦<NFA as Automaton>⟧.lengths by_nfa.automaton.now) }
     ensures alike { OnOk result (ReplacesAlike R.Source W.Sink
