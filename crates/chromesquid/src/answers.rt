@@ -4,7 +4,7 @@ ghost use Rattle.std.specs.Prelude.{◌≡◌, IfOk, None, OnOk, false, length};
 ghost use Rattle.aho_core.specs.Patterns.{Patterns};
 ghost use Rattle.aho_stream.specs.FindRuns.{FindsAlong};
 ghost use Rattle.aho_stream.specs.Finds.{FindsNextInStream};
-ghost use Rattle.aho_stream.specs.Iterators.{automaton_of};
+ghost use Rattle.aho_stream.specs.Iterators.{CanGoOn, automaton_of};
 ghost use Rattle.aho_stream.specs.Starts.{IsFreshStart};
 ghost use Rattle.chromesquid.specs.Alike.{AreFindsGiven, FindsAlike, ReplacesAlike};
 
@@ -66,7 +66,7 @@ fn collect_matches<'a, 'r, A: Automaton, R: Source>(
     alloc: Global,
     found: &mut StreamFindIter<'a, 'r, A, R>,
 ) -> Result<Vec<Match>, StreamError>
-    requires ready { ⟦<StreamFindIter<'a, 'r, A, R> as Iterator>⟧.can_next found.old }
+    requires ready { CanGoOn A.Automaton found.old.chunks }
     requires along { (p : Patterns) → A.is_of (automaton_of found.old.chunks) p → FindsAlong R.Source
         ⟦<StreamFindIter<'a, 'r, A, R> as Iterator>⟧.next_gives p found.old }
     ensures same_source { found.new.chunks.source.ghost_name ≡ found.old.chunks.source.ghost_name }
@@ -92,7 +92,7 @@ fn collect_matches<'a, 'r, A: Automaton, R: Source>(
 fn next_of<'a, 'r, A: Automaton, R: Source>(
     found: &mut StreamFindIter<'a, 'r, A, R>,
 ) -> Option<Result<Match, StreamError>>
-    requires ready { ⟦<StreamFindIter<'a, 'r, A, R> as Iterator>⟧.can_next found.old }
+    requires ready { CanGoOn A.Automaton found.old.chunks }
     ensures gives { FindsNextInStream A.Automaton R.Source found.old.chunks found.new.chunks result }
 {
     found.next()
