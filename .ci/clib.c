@@ -289,6 +289,46 @@ static void covers(void) {
     cs_free(&it);
 }
 
+/* The patterns of a secret: each in its place, where there is no room, and each refusal. */
+static void forms(void) {
+    const char *hex = "6b65792f2b6B65792F2B";
+    uint8_t room[2000];
+    size_t ends[100], len = 0, count = 0;
+    memset(room, '-', sizeof room);
+    memset(ends, 0, sizeof ends);
+    HAS(cs_forms(BYTES("key/+"), CS_FORM_HEX, room, 19, ends, 2, &len, &count) == CS_NO_ROOM && len == 20 && count == 2);
+    HAS(cs_forms(BYTES("key/+"), CS_FORM_HEX, room, 20, ends, 1, &len, &count) == CS_NO_ROOM && len == 20 && count == 2);
+    HAS(room[0] == '-' && ends[0] == 0);
+    HAS(cs_forms(BYTES("key/+"), CS_FORM_HEX, room, 20, ends, 2, &len, &count) == CS_DONE && len == 20 && count == 2);
+    HAS(!memcmp(room, hex, 20) && room[20] == '-' && ends[0] == 10 && ends[1] == 20 && ends[2] == 0);
+    HAS(cs_forms(BYTES("key/+"), CS_FORM_LINES, NULL, 0, NULL, 0, &len, &count) == CS_DONE && len == 0 && count == 0);
+    HAS(cs_forms(BYTES("key/+"), 0, NULL, 0, NULL, 0, &len, &count) == CS_DONE && len == 0 && count == 0);
+    HAS(cs_forms(BYTES("first line\nsecond line"), CS_FORM_LINES, room, 21, ends, 2, &len, &count) == CS_DONE && len == 21 && count == 2);
+    HAS(!memcmp(room, "first linesecond line", 21) && ends[0] == 10 && ends[1] == 21);
+    for (uint32_t bits = 1; bits < CS_FORMS_ALL; bits *= 2) {
+        size_t one = 0, one_count = 0;
+        HAS(cs_forms(BYTES("a \"key\"/+<&>\n"), bits, room, sizeof room, ends, 100, &one, &one_count) == CS_DONE);
+        HAS(one_count > 0 && ends[one_count - 1] == one);
+    }
+    /* The four characters that hold a bit of "key+" behind one byte, and the cover of that. */
+    cs_searcher it = CS_SEARCHER_INIT;
+    cs_slice words[100], marks[100];
+    HAS(cs_forms(BYTES("key+"), CS_FORMS_ALL, room, sizeof room, ends, 100, &len, &count) == CS_DONE && len == ends[count - 1]);
+    for (size_t at = 0, from = 0; at < count; from = ends[at++]) {
+        words[at] = (cs_slice){ room + from, ends[at] - from };
+        marks[at] = (cs_slice)SLICE("*");
+    }
+    HAS(cs_build(words, count, &(cs_options)CS_OPTIONS_INIT, &it) == CS_DONE);
+    HAS(cs_cover_all(&it, BYTES("YTprZXkr, key%2b"), marks, count, room, sizeof room, &len) == CS_DONE && len == 6 && !memcmp(room, "YT*, *", 6));
+    cs_free(&it);
+    len = 5, count = 6, ends[0] = 7, room[0] = '-';
+    HAS(cs_forms(BYTES("key"), CS_FORMS_ALL, room, sizeof room, ends, 100, &len, &count) == CS_TOO_SHORT);
+    HAS(cs_forms(NULL, 0, CS_FORMS_ALL, room, sizeof room, ends, 100, &len, &count) == CS_TOO_SHORT);
+    HAS(cs_forms(BYTES("key"), CS_FORMS_ALL + 1, room, sizeof room, ends, 100, &len, &count) == CS_NO_OPTION);
+    HAS(cs_forms(BYTES("key+"), UINT32_MAX, room, sizeof room, ends, 100, &len, &count) == CS_NO_OPTION);
+    HAS(len == 5 && count == 6 && ends[0] == 7 && room[0] == '-');
+}
+
 /* Pushes all of a piece, with what is certain told in between, and answers how many matches that were. */
 static size_t pushed(cs_stream *stream, const uint8_t *piece, size_t left, cs_match *room) {
     size_t found = 0, taken = 0;
@@ -466,6 +506,10 @@ static int refused(void) {
         uint32_t covered = cs_cover_all(&it, BYTES("frodo, samwise"), others, 4, room, 64, &len);
         HAS(covered == CS_DONE || covered == CS_NO_MEMORY);
         status = status == CS_DONE ? covered : status;
+        size_t ends[2], count = 0;
+        uint32_t formed = cs_forms(BYTES("key/+"), CS_FORM_HEX, room, 64, ends, 2, &len, &count);
+        HAS(formed == CS_DONE ? count == 2 && len == 20 : formed == CS_NO_MEMORY && count == 0);
+        status = status == CS_DONE ? formed : status;
     }
     cs_stream stream = CS_STREAM_INIT;
     if (status == CS_DONE) {
@@ -489,6 +533,7 @@ int main(int count, char **words) {
     lists();
     replaces();
     covers();
+    forms();
     streams();
     replaced_streams();
     tells();

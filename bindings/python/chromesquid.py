@@ -23,6 +23,7 @@ import codecs
 import ctypes
 import io
 import itertools
+import logging
 import os
 import struct
 import threading
@@ -35,11 +36,25 @@ try:
 except ImportError:  # it was not built: ctypes serves small calls too
     _small = None  # type: ignore[assignment]
 
-__all__ = ["AhoCorasick", "BuildError", "Match", "ReplacementError", "Replacer", "SearchError", "Stream", "version"]
+__all__ = [
+    "AhoCorasick",
+    "BuildError",
+    "FormError",
+    "LogFilter",
+    "Match",
+    "Redactor",
+    "ReplacementError",
+    "Replacer",
+    "SearchError",
+    "Stream",
+    "forms",
+    "version",
+]
 
 # bytes, bytearray, memoryview, mmap, array: whatever has a buffer.
 Haystack = Union[str, bytes, bytearray, memoryview, Any]
 Bytes = Union[bytes, bytearray, memoryview, Any]
+_Raw = bytes
 # One for each pattern, by the patterns' numbers, or by the patterns themselves as they were given.
 Replacements = Union[List[Haystack], Tuple[Haystack, ...], Mapping[Any, Haystack]]
 
@@ -72,6 +87,10 @@ class BuildError(ValueError):
 
 class SearchError(ValueError):
     """The searcher does not answer such a search."""
+
+
+class FormError(ValueError):
+    """A secret is empty, or has no forms since it has fewer than four bytes. It is told by its number, and never shown."""
 
 
 class ReplacementError(TypeError, ValueError):
@@ -167,7 +186,7 @@ class _Lent:
         ctypes.pythonapi.PyBuffer_Release(ctypes.byref(self._view))
 
 
-_DONE, _FOUND, _NO_MEMORY, _NO_ROOM = 0, 1, 5, 11
+_DONE, _FOUND, _NO_MEMORY, _NO_ROOM, _TOO_SHORT = 0, 1, 5, 11, 15
 _TOO_MANY_STATES, _TOO_MANY_PATTERNS, _TOO_LONG = 7, 8, 9
 _WHY_REFUSED = {
     3: "the searcher was not built for such a search",
@@ -177,6 +196,7 @@ _WHY_REFUSED = {
 }
 _KINDS = {"standard": 0, "leftmost-first": 1, "leftmost-longest": 2}
 _AUTOMATA = {None: 0, "noncontiguous": 1, "rows": 2}
+_FORMS = {"base64": 1, "hex": 2, "url": 4, "json": 8, "xml": 16, "shell": 32, "lines": 64}
 _ENCODING = ("utf-8", "surrogatepass")
 _MATCH = struct.Struct("NNN")
 _EACH_A_MATCH = itertools.repeat(Match)
@@ -231,6 +251,7 @@ _find_all = _function("cs_find_all", ctypes.c_uint32, _HANDLE, *_HAYSTACK, *_ROO
 _overlapping = _function("cs_overlapping", ctypes.c_uint32, _HANDLE, *_HAYSTACK, *_ROOM, _COUNT)
 _replace_all = _function("cs_replace_all", ctypes.c_uint32, _HANDLE, *_HAYSTACK, *_SLICES, *_ROOM, _COUNT)
 _cover_all = _function("cs_cover_all", ctypes.c_uint32, _HANDLE, *_HAYSTACK, *_SLICES, *_ROOM, _COUNT)
+_forms = _function("cs_forms", ctypes.c_uint32, *_HAYSTACK, ctypes.c_uint32, *_ROOM, *_ROOM, _COUNT, _COUNT)
 _info = _function("cs_info", ctypes.c_uint32, _HANDLE, ctypes.POINTER(_Facts))
 _STREAM = ctypes.POINTER(_StreamHandle)
 _stream_new = _function("cs_stream_new", ctypes.c_uint32, _HANDLE, _STREAM)
@@ -670,15 +691,17 @@ class AhoCorasick:
         return "".join([*parts, text[copied:]])
 
     def _written(self, function: Any, haystack: Haystack, replace_with: Sequence[Haystack]) -> Union[str, bytes]:
-        given, pieces = self._bytes_of(haystack), _slices([_pattern_bytes(it) for it in replace_with])
+        written = self._written_by(function, self._bytes_of(haystack), _slices([_pattern_bytes(it) for it in replace_with]))
+        return written.decode(*_ENCODING) if isinstance(haystack, str) else written
+
+    def _written_by(self, function: Any, given: Any, pieces: Any) -> bytes:
         reference, wanted = self._reference(), ctypes.c_size_t(len(given))
         while True:
             room = ctypes.create_string_buffer(max(wanted.value, 1))
             status = function(reference, given, len(given), pieces, len(pieces), room, len(room), ctypes.byref(wanted))
             if status != _NO_ROOM:
                 _check(status)
-                written = room.raw[: wanted.value]
-                return written.decode(*_ENCODING) if isinstance(haystack, str) else written
+                return room.raw[: wanted.value]
 
 
 def _patterns_of(patterns: Iterable[Haystack]) -> List[Haystack]:
@@ -928,6 +951,194 @@ class Replacer:
     def _joined(self, parts: List[bytes], last: bool) -> Union[str, bytes]:
         whole = b"".join(parts)
         return self._decoder.decode(whole, last) if self._of_text else whole
+
+
+def _form_bits(names: Union[str, Iterable[str]]) -> int:
+    given = [it for it in names.split(",") if it] if isinstance(names, str) else list(names)
+    bits = 0
+    for name in _FORMS if given == ["all"] else given:
+        if name not in _FORMS:
+            raise ValueError(f"there is no form {name!r}, but all, {', '.join(_FORMS)}")
+        bits |= _FORMS[name]
+    return bits
+
+
+def _form_patterns(secret: bytes, bits: int) -> List[bytes]:
+    size, count = ctypes.c_size_t(144 * len(secret) + 64), ctypes.c_size_t(128)  # enough for most
+    while True:
+        room, ends = ctypes.create_string_buffer(size.value), (ctypes.c_size_t * count.value)()
+        status = _forms(secret, len(secret), bits, room, len(room), ends, len(ends), ctypes.byref(size), ctypes.byref(count))
+        if status == _TOO_SHORT:
+            raise FormError("a secret of fewer than four bytes has no forms")
+        if status != _NO_ROOM:
+            _check(status)
+            places = [0, *ends[: count.value]]
+            return [room.raw[begin:end] for begin, end in zip(places, places[1:])]
+
+
+def forms(secret: Haystack, names: Union[str, Iterable[str]] = "all") -> Union[List[str], List[bytes]]:
+    """The patterns of a secret in some forms, each once: base64, hex, url, json, xml, shell, lines, as a list or with commas between
+    them, or all. Wherever the secret stands encoded so in a text, alone or within other bytes, each character that holds a bit of it
+    lies in an occurrence of a pattern. They are of type str where the secret is.
+
+        >>> forms("key/+", ["hex", "url"])
+        ['6b65792f2b', '6B65792F2B', 'key%2F%2B', 'key%2f%2b', 'key/%2B', 'key/%2b', 'key/+', '%6B%65%79%2F%2B', '%6b%65%79%2f%2b']
+
+    Raises FormError where the secret has fewer than four bytes."""
+    patterns = _form_patterns(_pattern_bytes(secret), _form_bits(names))
+    return [it.decode(*_ENCODING) for it in patterns] if isinstance(secret, str) else patterns
+
+
+class Redactor:
+    """Replaces each run of what lies in some secrets, or in their `forms`, by one `replacement`, so that nothing of them is left, whichever
+    overlap or touch. Any threads may use one at the same time.
+
+        >>> redactor = Redactor(["key/+", b"pass word"])
+        >>> redactor.text("Basic dTprZXkvKw== key%2F%2B key/+pass+word")
+        'Basic dT[redacted]== [redacted] [redacted]'
+
+    The secrets are a list; the forms are those of the function `forms`, and none where they are empty. What holds a secret otherwise, as
+    compressed, or in base64 that is broken into lines, is not found. Raises FormError where a secret is empty, or where there are forms and
+    it has fewer than four bytes."""
+
+    def __init__(
+        self,
+        secrets: Iterable[Haystack],
+        *,
+        forms: Union[str, Iterable[str]] = "all",
+        replacement: Haystack = "[redacted]",
+    ) -> None:
+        if isinstance(secrets, Mapping):
+            raise TypeError("the secrets are a list, and no mapping, whose keys they would be")
+        given, bits, patterns = _patterns_of(secrets), _form_bits(forms), {}
+        for number, secret in enumerate(given):
+            word = _pattern_bytes(secret)
+            if len(word) < (4 if bits else 1):
+                raise FormError(f"secret {number} has fewer than four bytes, and so no forms" if word else f"secret {number} is empty")
+            patterns.update(dict.fromkeys([word, *(_form_patterns(word, bits) if bits else ())]))
+        self._searcher, self._replacement, self._count = AhoCorasick(list(patterns)), _pattern_bytes(replacement), len(given)
+        self._pieces = _slices([self._replacement] * len(patterns))
+        self._longest = max(map(len, patterns), default=0)
+        # How a pattern may begin.
+        self._begins = {pattern[:count] for pattern in patterns for count in range(1, 5)}
+
+    def __repr__(self) -> str:
+        return f"<Redactor of {self._count} secrets>"
+
+    def text(self, text: str) -> str:
+        """The text with each run replaced. A character that a secret of bytes cuts in two becomes U+FFFD."""
+        if not isinstance(text, str):
+            raise TypeError(f"a text is a str, and no {type(text).__name__}: see bytes")
+        given = text.encode(*_ENCODING)
+        return _text_of(self._covered(given)) if self._searcher.is_match(given) else text
+
+    def stream(self, reader: Any, writer: Any) -> None:
+        """Writes what a reader gives with each run replaced. Reader and writer are those of `AhoCorasick.stream_replace_all`. What
+        no secret may go on with is written as soon as it came.
+
+            >>> import io
+            >>> there = io.StringIO()
+            >>> Redactor(["swordfish"]).stream(["the sword", "fish, c3dvcmRmaXNo"], there)
+            >>> there.getvalue()
+            'the [redacted], [redacted]'
+        """
+        covering, decoder, of_text = _Covering(self), codecs.getincrementaldecoder("utf-8")("chromesquid.text"), None
+        for piece in _pieces_of(reader):
+            if of_text not in (None, isinstance(piece, str)):
+                raise TypeError("the pieces of a stream are all of type str, or all of bytes")
+            of_text = isinstance(piece, str)
+            part = covering.push(_pattern_bytes(piece))
+            _write(writer, decoder.decode(part) if of_text else part)
+        part = covering.end()
+        _write(writer, decoder.decode(part, True) if of_text else part)
+
+    def _covered(self, given: Any) -> _Raw:
+        return self._searcher._written_by(_cover_all, given, self._pieces)
+
+    def bytes(self, data: Bytes) -> _Raw:
+        """The bytes, or what else has a buffer, with each run replaced."""
+        if isinstance(data, str):
+            raise TypeError("bytes are no str: see text")
+        return self._covered(_borrowed(data))
+
+
+class _Covering:
+    """The cover of a stream whose pieces are pushed. What no occurrence that is not whole yet may begin before is told; the rest is held."""
+
+    def __init__(self, redactor: Redactor) -> None:
+        # The bytes that are held; whether a run that was told goes on in them, and up to which place as far as is known.
+        self._redactor, self._held, self._is_open, self._upto = redactor, b"", False, 0
+
+    def push(self, piece: bytes) -> bytes:
+        held, begins = self._held + piece, self._redactor._begins
+        first = max(len(held) - self._redactor._longest + 1, 0)
+        return self._told(held, next((at for at in range(first, len(held)) if held[at : at + 4] in begins), len(held)))
+
+    def end(self) -> bytes:
+        return self._told(self._held, len(self._held))
+
+    def _told(self, held: bytes, settled: int) -> bytes:
+        parts: List[bytes] = []
+        is_open, upto = self._is_open, self._upto
+        for start, end in sorted((it.start, it.end) for it in self._redactor._searcher.find_overlapping_iter(held)):
+            if start >= settled:
+                break
+            if not is_open or start > upto:
+                parts += held[upto:start], self._redactor._replacement
+            is_open, upto = True, max(upto, end)
+        if upto < settled:
+            parts.append(held[upto:settled])
+            is_open, upto = False, settled
+        self._held, self._is_open, self._upto = held[settled:], is_open, upto - settled
+        return b"".join(parts)
+
+
+def _passing(error: UnicodeError) -> Tuple[Union[str, bytes], int]:
+    """Lone surrogates pass, and what is left of a character that was cut in two is U+FFFD."""
+    try:
+        return codecs.lookup_error("surrogatepass")(error)
+    except UnicodeDecodeError as cut:
+        return "\ufffd", cut.end
+
+
+codecs.register_error("chromesquid.text", _passing)
+
+
+def _text_of(covered: bytes) -> str:
+    return covered.decode("utf-8", "chromesquid.text")
+
+
+class LogFilter(logging.Filter):
+    """Covers what a record of logging says: its message with its arguments, its traceback, and each other str that it has. Add it to a
+    handler, since one of a logger is not asked about the records of the loggers below it.
+
+        >>> handler = logging.StreamHandler()
+        >>> handler.addFilter(LogFilter(Redactor(["swordfish"])))
+
+    The message takes in the arguments, and the traceback becomes text, so no handler finds them as values any more. Arguments that do not fit
+    their message are left out of it."""
+
+    def __init__(self, redactor: Redactor) -> None:
+        super().__init__()
+        self._redactor = redactor
+
+    def filter(self, record: logging.LogRecord) -> bool:
+        record.msg, record.args = self._message(record), None
+        if record.exc_info:
+            if not record.exc_text and isinstance(record.exc_info, tuple):
+                record.exc_text = logging.Formatter().formatException(record.exc_info)
+            record.exc_info = None
+        for name, value in list(vars(record).items()):
+            if isinstance(value, str):
+                setattr(record, name, self._redactor.text(value))
+        return True
+
+    def _message(self, record: logging.LogRecord) -> str:
+        try:
+            return record.getMessage()
+        except Exception:  # logging would print them as they are
+            text = record.msg if isinstance(record.msg, str) else type(record.msg).__name__
+            return f"{text} (arguments that do not fit it are left out)"
 
 
 _searchers: "weakref.WeakSet[AhoCorasick]" = weakref.WeakSet()

@@ -1,20 +1,24 @@
 """Tests of the binding, beside a slow model that looks at every place. Run them with python3 -m unittest."""
 
 import array
+import base64
 import collections
 import copy
 import ctypes
 import io
+import json
+import logging
 import mmap
 import os
 import pickle
 import random
 import threading
 import unittest
+import urllib.parse
 from unittest import mock
 
 import chromesquid
-from chromesquid import AhoCorasick, BuildError, Match, ReplacementError, Replacer, SearchError, Stream, version
+from chromesquid import AhoCorasick, BuildError, FormError, LogFilter, Match, Redactor, ReplacementError, Replacer, SearchError, Stream, forms, version
 
 KINDS = ("standard", "leftmost-first", "leftmost-longest")
 
@@ -461,6 +465,159 @@ class Copies(unittest.TestCase):
 
     def test_an_iterator_outlives_what_it_was_made_of(self):
         self.assertEqual(list(AhoCorasick(["a"]).find_iter("aéa")), [Match(0, 0, 1), Match(0, 2, 3)])
+
+
+class Forms(unittest.TestCase):
+    def test_the_patterns_of_a_secret(self):
+        self.assertEqual(forms("key/+", ["hex"]), ["6b65792f2b", "6B65792F2B"])
+        self.assertEqual(forms(b"key\xff", "hex"), [b"6b6579ff", b"6B6579FF"])
+        self.assertEqual(forms("first line\nsecond line", ["lines"]), ["first line", "second line"])
+        self.assertEqual(forms("k\xe9y+", ["json"])[:3], ["k\xe9y+", "k\\u00e9y+", "k\\u00E9y+"])
+        self.assertEqual(forms("key+", []), [])
+        self.assertEqual(forms("key+", "hex,url"), forms("key+", ["url", "hex"]))
+        self.assertEqual(set(forms("key+", "all")), {it for name in chromesquid._FORMS for it in forms("key+", [name])})
+        lines = [f"line number {it}" for it in range(300)]
+        self.assertEqual(forms("\n".join(lines), "lines"), lines)
+        long = forms("0123456789+/=" * 400)
+        self.assertEqual(len(long), len(set(long)))
+        self.assertGreater(len(long), 40)
+
+    def test_what_has_no_forms(self):
+        for names in ("hexx", ["all", "hex"], ["hex", ""], ["HEX"]):
+            with self.assertRaisesRegex(ValueError, "there is no form"):
+                forms("secret", names)
+        for secret in ("", "key", b"abc"):
+            with self.assertRaisesRegex(FormError, "fewer than four bytes has no forms"):
+                forms(secret, "hex")
+        self.assertEqual(len(forms("k\xe9y", "hex")), 2)
+
+    def test_refused_secrets_are_told_by_their_numbers(self):
+        for secrets, named, text in (
+            (["swordfish", "key"], "hex", "secret 1 has fewer than four bytes, and so no forms"),
+            ([b"swordfish", b""], "hex", "secret 1 is empty"),
+            (["", "swordfish"], [], "secret 0 is empty"),
+        ):
+            with self.assertRaises(FormError) as caught:
+                Redactor(secrets, forms=named)
+            self.assertEqual(str(caught.exception), text)
+        self.assertEqual(Redactor(["key"], forms=[]).text("a key"), "a [redacted]")
+        self.assertEqual(Redactor([]).text("a key"), "a key")
+        for secrets in ({"name": "swordfish"}, "swordfish", {"swordfish"}):
+            with self.assertRaises(TypeError):
+                Redactor(secrets)
+        self.assertNotIn("swordfish", repr(Redactor(["swordfish"])))
+
+    def test_texts_and_bytes(self):
+        redactor = Redactor(["sword/fish", b"\xc3\x28\xff\x00", b"\xa9tude"], replacement="*")
+        self.assertEqual(redactor.text("a sword/fishword/fish sword%2Ffish"), "a *word/fish *")
+        self.assertEqual(redactor.text("\xe9tude \ud800"), "\ufffd* \ud800")
+        self.assertEqual(redactor.bytes(b"a \xc3\x28\xff\x00\xc3\x28\xff\x00, c328ff00 \xff"), b"a *, * \xff")
+        self.assertEqual(redactor.bytes(memoryview(b"sword/fish")[::1]), b"*")
+        self.assertEqual(redactor.bytes(b""), b"")
+        for call, given in ((redactor.text, b"sword/fish"), (redactor.bytes, "sword/fish")):
+            with self.assertRaises(TypeError):
+                call(given)
+
+    def hidden(self, redactor, secret, before, after):
+        """No character of an encoding that holds a bit of the secret is left."""
+        whole = before + secret + after
+        encoded = base64.b64encode(whole).decode()
+        first, last = 8 * len(before) // 6, (8 * (len(before) + len(secret)) + 5) // 6
+        self.assertEqual(redactor.text(encoded), encoded[:first] + "*" + encoded[last:])
+        encoded = whole.hex()
+        self.assertEqual(redactor.text(encoded), encoded[: 2 * len(before)] + "*" + encoded[2 * (len(before) + len(secret)) :])
+        self.assertEqual(redactor.text(urllib.parse.quote(secret)), "*")
+        self.assertEqual(redactor.text(urllib.parse.quote_plus(secret)), "*")
+        if secret.isascii():
+            self.assertEqual(redactor.text(json.dumps(secret.decode())), '"*"')
+
+    def test_what_encoders_write_of_a_secret(self):
+        dice = random.Random(5)
+        for turn in range(1500):
+            secret = bytes(dice.choices(range(128 if turn % 2 else 256), k=dice.randrange(4, 20)))
+            before, after = (bytes(dice.choices(b"xyz", k=dice.randrange(7))) for _ in range(2))
+            with self.subTest(secret=secret, before=before, after=after):
+                # Bytes that are like the secret's own may make a longer run of it.
+                if not set(secret) & set(b"xyz*"):
+                    self.hidden(Redactor([secret], replacement="*"), secret, before, after)
+
+    def test_streams_are_covered_as_a_whole_is(self):
+        dice = random.Random(6)
+        for turn in range(3000):
+            secrets = [bytes(dice.choices(b"ab", k=dice.randrange(1, 6))) for _ in range(dice.randrange(4))]
+            redactor = Redactor(secrets, forms=[], replacement="-" if turn % 3 else "")
+            whole = bytes(dice.choices(b"abcd"[: dice.randrange(2, 5)], k=dice.randrange(30)))
+            cuts = sorted(dice.choices(range(len(whole) + 1), k=dice.randrange(5)))
+            pieces = [whole[begin:end] for begin, end in zip([0, *cuts], [*cuts, len(whole)])]
+            with self.subTest(secrets=secrets, pieces=pieces):
+                there = io.BytesIO()
+                redactor.stream(pieces, there)
+                self.assertEqual(there.getvalue(), redactor.bytes(whole))
+
+    def test_a_stream_is_written_as_it_comes(self):
+        covering = chromesquid._Covering(Redactor(["swordfish"], forms=[]))
+        parts = [covering.push(it) for it in (b"a line\n", b"a sw", b"orange sword", b"fish", b"swo", b"rdfish", b".")]
+        self.assertEqual(parts, [b"a line\n", b"a ", b"sworange ", b"[redacted]", b"", b"", b"."])
+        self.assertEqual(covering.end(), b"")
+        covering = chromesquid._Covering(Redactor(["aaaa"], forms=[]))
+        self.assertEqual([covering.push(b"a" * 70000) for _ in range(3)], [b"[redacted]", b"", b""])
+        self.assertLess(len(covering._held), 4)
+        there = io.StringIO()
+        Redactor(["sw\xf6rd\U0001f991"]).stream(iter(["a sw\xf6", "rd", "\U0001f991 \ud800"]), there)
+        self.assertEqual(there.getvalue(), "a [redacted] \ud800")
+        with self.assertRaises(TypeError):
+            Redactor(["swordfish"]).stream([b"a", "b"], io.BytesIO())
+
+
+class Logs(unittest.TestCase):
+    def setUp(self):
+        self.there = io.StringIO()
+        self.handler = logging.StreamHandler(self.there)
+        self.handler.setFormatter(logging.Formatter("%(name)s %(levelname)s %(message)s"))
+        self.handler.addFilter(LogFilter(Redactor(["swordfish", "pass/word", "bell\x07word"], replacement="*")))
+        self.log = logging.Logger("tests")
+        self.log.addHandler(self.handler)
+
+    def written(self):
+        text = self.there.getvalue()
+        self.there.seek(0)
+        self.there.truncate()
+        for secret in ("swordfish", "word", "c3dvcmRmaXNo"):
+            self.assertNotIn(secret, text)
+        return text
+
+    def test_messages_and_arguments(self):
+        self.log.warning("a swordfish")
+        self.log.warning("%s%s %d", "sword", "fish", 7)
+        self.log.warning("%(token)s", {"token": base64.b64encode(b"swordfish").decode()})
+        self.log.warning(["pass/word", "pass%2Fword"])
+        self.log.warning("100 % of swordfish")
+        wanted = ["a *", "* 7", "*", "['*', '*']", "100 % of *"]
+        self.assertEqual(self.written().splitlines(), [f"tests WARNING {it}" for it in wanted])
+        record = logging.makeLogRecord({"msg": "by", "user": "swordfish", "number": 7})
+        self.assertTrue(self.handler.filter(record))
+        self.assertEqual((record.getMessage(), record.user, record.number), ("by", "*", 7))
+
+    def test_arguments_that_do_not_fit(self):
+        errors = io.StringIO()
+        with mock.patch("sys.stderr", errors):
+            self.log.warning("a swordfish %d", "bell\x07word")  # as a tuple is printed, it is written otherwise than in any form
+            self.log.warning("%s %s", "swordfish")
+        self.assertEqual(errors.getvalue(), "")
+        self.assertEqual(self.written().count("(arguments that do not fit it are left out)"), 2)
+
+    def test_tracebacks(self):
+        try:
+            raise ValueError("pass/word")
+        except ValueError:
+            self.log.exception("a sword", stack_info=True)
+        text = self.there.getvalue()
+        self.assertIn("Traceback", text)
+        self.assertIn("ValueError: *\n", text)
+        self.assertNotIn("pass/word", text)
+        record = logging.LogRecord("tests", 30, "", 1, "a %s", ("swordfish",), (ValueError, ValueError("swordfish"), None))
+        self.assertTrue(self.handler.filter(record))
+        self.assertEqual((record.msg, record.args, record.exc_info, record.exc_text), ("a *", None, None, "ValueError: *"))
 
 
 class BesideTheModel(unittest.TestCase):

@@ -27,6 +27,7 @@
 pub mod automaton;
 pub mod dfa;
 mod error;
+mod forms;
 mod inner;
 mod kinds;
 #[allow(unsafe_code)]
@@ -35,6 +36,7 @@ pub mod nfa;
 mod overlapping;
 pub mod packed;
 mod primitives;
+mod redactor;
 mod search;
 mod searcher;
 mod shares;
@@ -42,9 +44,11 @@ mod stream;
 mod walk;
 
 pub use error::{BuildError, MatchError, MatchErrorKind};
+pub use forms::{secret_forms, Form, FormError};
 pub use kinds::AhoCorasickKind;
 pub use overlapping::FindOverlappingIter;
 pub use primitives::{PatternID, PatternIDError};
+pub use redactor::Redactor;
 pub use search::{Anchored, Input, Match, MatchKind, Span, StartKind};
 pub use searcher::{AhoCorasick, AhoCorasickBuilder, FindIter};
 pub use stream::{StreamFindIter, Streams};

@@ -87,6 +87,10 @@ extern "C" {
         count: *mut usize) -> u32;
     fn cs_replace_all(searcher: *mut CsSearcher, haystack: *const u8, haystack_len: usize, replace_with: *const CsSlice,
         replace_with_len: usize, room: *mut u8, room_len: usize, len: *mut usize) -> u32;
+    fn cs_cover_all(searcher: *mut CsSearcher, haystack: *const u8, haystack_len: usize, replace_with: *const CsSlice,
+        replace_with_len: usize, room: *mut u8, room_len: usize, len: *mut usize) -> u32;
+    fn cs_forms(secret: *const u8, secret_len: usize, forms: u32, room: *mut u8, room_len: usize, ends: *mut usize, ends_len: usize,
+        len: *mut usize, count: *mut usize) -> u32;
     fn cs_info(searcher: *mut CsSearcher, out: *mut Facts) -> u32;
     fn cs_stream_new(searcher: *mut CsSearcher, out: *mut CsStream) -> u32;
     fn cs_stream_push(stream: *mut CsStream, bytes: *const u8, bytes_len: usize, taken: *mut usize) -> u32;
@@ -97,14 +101,50 @@ extern "C" {
     fn cs_stream_free(stream: *mut CsStream);
 }
 
+/// What writes a haystack anew.
+type Writes = unsafe extern "C" fn(*mut CsSearcher, *const u8, usize, *const CsSlice, usize, *mut u8, usize, *mut usize) -> u32;
+
 const DONE: u32 = 0;
 const FOUND: u32 = 1;
 const NO_MEMORY: u32 = 5;
 const NO_ROOM: u32 = 11;
+const TOO_SHORT: u32 = 15;
 
 pub(crate) fn version() -> u32 {
     // SAFETY: it takes nothing.
     unsafe { cs_version() }
+}
+
+/// The patterns of a secret by the forms of these bits. None where it has fewer than four bytes.
+pub(crate) fn forms(secret: &[u8], bits: u32) -> Option<Vec<Vec<u8>>> {
+    let (mut room, mut ends) = (vec![0; 144 * secret.len() + 64], vec![0; 128]); // enough for most
+    loop {
+        let (mut len, mut count) = (0, 0);
+        // SAFETY: the secret is lent for the call; the rooms have as many places as is said.
+        let status = unsafe {
+            cs_forms(
+                secret.as_ptr(),
+                secret.len(),
+                bits,
+                room.as_mut_ptr(),
+                room.len(),
+                ends.as_mut_ptr(),
+                ends.len(),
+                &mut len,
+                &mut count,
+            )
+        };
+        match status {
+            DONE => {
+                let begins = std::iter::once(0).chain(ends.iter().copied());
+                return Some(begins.zip(&ends[..count]).map(|(begin, &end)| room[begin..end].to_vec()).collect());
+            }
+            TOO_SHORT => return None,
+            NO_ROOM => (room, ends) = (vec![0; len], vec![0; count]),
+            NO_MEMORY => panic!("out of memory"),
+            status => panic!("the library answered {status} to forms"),
+        }
+    }
 }
 
 /// The byte strings as the library takes them, as long as these are lent.
@@ -240,13 +280,24 @@ impl Handle {
     /// The haystack with each match replaced, or none where memory ran out. There is one piece for each pattern, and the searcher
     /// answers unanchored searches.
     pub(crate) fn replace_all<B: AsRef<[u8]>>(&mut self, haystack: &[u8], replace_with: &[B]) -> Option<Vec<u8>> {
+        self.written(haystack, replace_with, cs_replace_all)
+    }
+
+    /// The haystack with each run of bytes that lie in matches replaced, or none where memory ran out. There is one piece for each
+    /// pattern, of which none is empty, and the searcher is of kind Standard and answers unanchored searches.
+    pub(crate) fn cover_all<B: AsRef<[u8]>>(&mut self, haystack: &[u8], replace_with: &[B]) -> Option<Vec<u8>> {
+        self.written(haystack, replace_with, cs_cover_all)
+    }
+
+    /// What one of two functions of the library writes of the haystack.
+    fn written<B: AsRef<[u8]>>(&mut self, haystack: &[u8], replace_with: &[B], function: Writes) -> Option<Vec<u8>> {
         let pieces = slices(replace_with);
         let mut room = vec![0; haystack.len()];
         loop {
             let mut len = 0;
             // SAFETY: haystack and pieces are lent for the call; the room has as many bytes as is said.
             let status = unsafe {
-                cs_replace_all(
+                function(
                     &mut self.0,
                     haystack.as_ptr(),
                     haystack.len(),

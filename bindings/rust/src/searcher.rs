@@ -307,6 +307,13 @@ impl AhoCorasick {
             .finish()
     }
 
+    /// The haystack with each run of bytes that lie in matches replaced. There is one piece for each pattern, of which none is empty, and the
+    /// searcher is of kind Standard and answers unanchored searches.
+    pub(crate) fn cover_all<B: AsRef<[u8]>>(&self, haystack: &[u8], pieces: &[B]) -> Vec<u8> {
+        let covered = self.shares.share().with(|handle| handle.cover_all(haystack, pieces));
+        covered.unwrap_or_else(|| std::alloc::handle_alloc_error(std::alloc::Layout::for_value(haystack)))
+    }
+
     /// All matches in a part of a haystack, those that overlap too, each moved on by where the part begins.
     pub(crate) fn overlapping_in(&self, part: &[u8], begin: usize) -> Vec<Match> {
         self.shares.share().with(|handle| handle.overlapping(part, begin))

@@ -18,6 +18,7 @@ mod prefilters;
 mod push;
 pub mod replace;
 pub mod searcher;
+pub mod secret_forms;
 mod standing;
 pub mod stream;
 mod stream_iter;

@@ -47,7 +47,8 @@ enum {
     CS_NO_ROOM = 11,          /* the room is too small */
     CS_ENDED = 12,            /* the stream has ended */
     CS_TOO_MANY_BYTES = 13,   /* 2^63 - 1 bytes were pushed */
-    CS_EMPTY_PATTERN = 14     /* a pattern is empty: neither streams nor covers are answered */
+    CS_EMPTY_PATTERN = 14,    /* a pattern is empty: neither streams nor covers are answered */
+    CS_TOO_SHORT = 15         /* the secret has fewer than four bytes */
 };
 
 /* Which of several matches is found. */
@@ -77,6 +78,18 @@ enum {
     CS_START_KIND = 2,
     CS_AUTOMATON = 3,
     CS_SIZE = 4 /* the options are those of another version */
+};
+
+/* The forms in which a secret gets into a log: what is added up stands for several. */
+enum {
+    CS_FORM_BASE64 = 1, /* within base64, of the standard alphabet and of that of URLs, at each of the three shifts */
+    CS_FORM_HEX = 2,    /* as hexadecimal digits, of either case */
+    CS_FORM_URL = 4,    /* percent-encoded, by each of the usual sets of bytes that are left */
+    CS_FORM_JSON = 8,   /* within a JSON string */
+    CS_FORM_XML = 16,   /* within XML or HTML */
+    CS_FORM_SHELL = 32, /* quoted for a shell */
+    CS_FORM_LINES = 64, /* each line of eight bytes or more of a secret that has several */
+    CS_FORMS_ALL = 127
 };
 
 typedef struct cs_searcher {
@@ -198,6 +211,16 @@ uint32_t cs_replace_all(cs_searcher *searcher, const uint8_t *haystack, size_t h
  * cs_is_match; CS_NO_MEMORY: `len` is as it was. If not CS_DONE, `room` is. */
 uint32_t cs_cover_all(cs_searcher *searcher, const uint8_t *haystack, size_t haystack_len, const cs_slice *replace_with,
                       size_t replace_with_len, uint8_t *room, size_t room_len, size_t *len);
+
+/* The patterns of a secret by these forms, CS_FORM_BASE64 and so on, each once: wherever the secret stands encoded so in a text, alone or
+ * within other bytes, each character that holds a bit of it lies in an occurrence of a pattern. Cover them, and the secret itself, by
+ * cs_cover_all. CS_DONE, the patterns one behind the other in `room`, the place behind each in `ends`, how many bytes they have in `len`
+ * and how many they are in `count`. CS_NO_ROOM where `room` holds fewer bytes or `ends` fewer places: `len` and `count` are what is
+ * wanted. The patterns are made in memory of their own first.
+ * Else CS_NO_OPTION where `forms` has a bit that is of no form; CS_TOO_SHORT; CS_NO_MEMORY: `len` and `count` are as they were. If not
+ * CS_DONE, `room` and `ends` are. */
+uint32_t cs_forms(const uint8_t *secret, size_t secret_len, uint32_t forms, uint8_t *room, size_t room_len, size_t *ends,
+                  size_t ends_len, size_t *len, size_t *count);
 
 /* What is known of the searcher: CS_DONE. Else CS_NO_SEARCHER: `out` is as it was. */
 uint32_t cs_info(cs_searcher *searcher, cs_facts *out);

@@ -8,6 +8,7 @@ pub mod Lending
 pub mod Matches
 pub mod Owned
 pub mod Replacing
+pub mod SecretForms
 pub mod StreamLending
 pub mod Streaming
 pub mod Telling

@@ -4,6 +4,7 @@
 pub mod build;
 pub mod cover;
 pub mod error;
+pub mod forms;
 mod handle;
 mod held;
 mod held_stream;

@@ -45,6 +45,9 @@ pub const TOO_MANY_BYTES: u32 = 13;
 /// A pattern is empty.
 pub const EMPTY_PATTERN: u32 = 14;
 
+/// The secret has fewer than four bytes.
+pub const TOO_SHORT: u32 = 15;
+
 /// The option of the match kind.
 pub const MATCH_KIND: u32 = 1;
 

@@ -1,0 +1,141 @@
+//! Texts and streams in which nothing of some secrets is left.
+use crate::forms::{secret_forms, Form, FormError};
+use crate::searcher::AhoCorasick;
+use std::{
+    collections::HashSet,
+    fmt,
+    io::{self, ErrorKind, Read, Write},
+};
+
+const CHUNK: usize = 64 * 1024;
+
+/// Replaces each run of what lies in some secrets, or in their forms, so that nothing of them is left, whichever overlap or touch. A clone is
+/// the same one, and any threads may use it at the same time.
+///
+/// ```
+/// use chromesquid::{Form, Redactor};
+///
+/// let redactor = Redactor::new(["key/+", "pass word"], &Form::ALL).unwrap();
+/// assert_eq!(redactor.text("Basic dTprZXkvKw== key%2F%2B pass+word"), "Basic dT[redacted]== [redacted] [redacted]");
+/// ```
+///
+/// What holds a secret otherwise, as compressed, or in base64 that is broken into lines, is not found.
+#[derive(Clone)]
+pub struct Redactor {
+    searcher: AhoCorasick,
+    replacement: Vec<u8>,
+    secrets: usize,
+    /// How a pattern may begin: its first bytes, up to four.
+    begins: HashSet<Vec<u8>>,
+}
+
+impl Redactor {
+    /// It covers these secrets and their forms by `[redacted]`. A secret that is empty is refused, and one of fewer than four bytes where
+    /// there are forms.
+    pub fn new<I, S>(secrets: I, forms: &[Form]) -> Result<Redactor, FormError>
+    where
+        I: IntoIterator<Item = S>,
+        S: AsRef<[u8]>,
+    {
+        let (mut patterns, mut count) = (Vec::new(), 0);
+        for secret in secrets {
+            let secret = secret.as_ref();
+            if secret.is_empty() {
+                return Err(FormError::Empty(count));
+            }
+            patterns.push(secret.to_vec());
+            if !forms.is_empty() {
+                patterns.append(&mut secret_forms(secret, forms).map_err(|_| FormError::TooShort(count))?);
+            }
+            count += 1;
+        }
+        let begins = patterns.iter().flat_map(|it| (1..=it.len().min(4)).map(|count| it[..count].to_vec())).collect();
+        let searcher = AhoCorasick::new(&patterns).map_err(FormError::Build)?;
+        Ok(Redactor { searcher, replacement: b"[redacted]".to_vec(), secrets: count, begins })
+    }
+
+    /// Sets what stands for each run.
+    pub fn replacement<R: AsRef<[u8]>>(mut self, replacement: R) -> Redactor {
+        self.replacement = replacement.as_ref().to_vec();
+        self
+    }
+
+    /// The text with each run replaced. A character that a secret cuts in two becomes U+FFFD.
+    pub fn text(&self, text: &str) -> String {
+        match String::from_utf8(self.bytes(text.as_bytes())) {
+            Ok(covered) => covered,
+            Err(cut) => String::from_utf8_lossy(cut.as_bytes()).into_owned(),
+        }
+    }
+
+    /// The bytes with each run replaced.
+    pub fn bytes(&self, bytes: &[u8]) -> Vec<u8> {
+        if self.searcher.is_match(bytes) {
+            self.searcher.cover_all(bytes, &vec![&self.replacement; self.searcher.patterns_len()])
+        } else {
+            bytes.to_vec()
+        }
+    }
+
+    /// Writes what the reader gives with each run replaced. What no secret may go on with is written as soon as it came.
+    pub fn stream<R: Read, W: Write>(&self, mut reader: R, mut writer: W) -> io::Result<()> {
+        let mut chunk = vec![0; CHUNK];
+        let mut covering = Covering { redactor: self, held: Vec::new(), is_open: false, upto: 0 };
+        loop {
+            match reader.read(&mut chunk) {
+                Ok(0) => return covering.tell(covering.held.len(), &mut writer),
+                Ok(read) => {
+                    covering.held.extend_from_slice(&chunk[..read]);
+                    covering.tell(covering.settled(), &mut writer)?;
+                }
+                Err(error) if error.kind() == ErrorKind::Interrupted => {}
+                Err(error) => return Err(error),
+            }
+        }
+    }
+}
+
+impl fmt::Debug for Redactor {
+    fn fmt(&self, to: &mut fmt::Formatter<'_>) -> fmt::Result {
+        to.debug_struct("Redactor").field("secrets", &self.secrets).finish_non_exhaustive()
+    }
+}
+
+/// How far the cover of a stream has come.
+struct Covering<'r> {
+    redactor: &'r Redactor,
+    /// The bytes that are not told.
+    held: Vec<u8>,
+    /// Whether a run that was told goes on in them, and up to which place as far as is known.
+    is_open: bool,
+    upto: usize,
+}
+
+impl Covering<'_> {
+    /// The place before which no occurrence begins that is not whole yet.
+    fn settled(&self) -> usize {
+        let (held, redactor) = (&self.held, self.redactor);
+        let first = (held.len() + 1).saturating_sub(redactor.searcher.max_pattern_len());
+        (first..held.len()).find(|&at| redactor.begins.contains(&held[at..held.len().min(at + 4)])).unwrap_or(held.len())
+    }
+
+    /// Writes what stands before that place.
+    fn tell<W: Write>(&mut self, settled: usize, writer: &mut W) -> io::Result<()> {
+        let mut found: Vec<_> = self.redactor.searcher.overlapping_in(&self.held, 0).iter().map(|it| (it.start(), it.end())).collect();
+        found.sort_unstable();
+        for (start, end) in found.into_iter().take_while(|&(start, _)| start < settled) {
+            if !self.is_open || start > self.upto {
+                writer.write_all(&self.held[self.upto..start])?;
+                writer.write_all(&self.redactor.replacement)?;
+            }
+            (self.is_open, self.upto) = (true, self.upto.max(end));
+        }
+        if self.upto < settled {
+            writer.write_all(&self.held[self.upto..settled])?;
+            (self.is_open, self.upto) = (false, settled);
+        }
+        self.held.drain(..settled);
+        self.upto -= settled;
+        Ok(())
+    }
+}
