@@ -8,7 +8,7 @@ ghost use Rattle.chromesquid_c.specs.Replacing.{EndsReplacing};
 ghost use Rattle.chromesquid_c.specs.SecretForms.{HoldsLaid, IsMeasured, PutsForms, WantsMore, each_form, form_bit, forms_in, patterns_by_bits};
 
 use crate::status::{DONE, NO_MEMORY, NO_OPTION, NO_ROOM, TOO_SHORT};
-use chromesquid::secret_forms::{Form, FormError, forms};
+use chromesquid::forms::{Form, FormError, forms};
 use std::alloc::{AllocError, Global};
 
 /// Within base64, of the standard alphabet and of that of URLs.

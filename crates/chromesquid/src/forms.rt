@@ -1,4 +1,4 @@
-//! The forms in which a secret gets into a log, as patterns: what the crate of this name has for callers.
+//! The forms in which a secret gets into a log, as patterns: what the crate `secret_forms` has for callers.
 
 pub use secret_forms::{
     Digits, Form, FormError, Json, Kept, Marks, Quotes, Quoting, Space, Spelling, base64_forms,
