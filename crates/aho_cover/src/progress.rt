@@ -1,6 +1,6 @@
 //! How far the cover of a stream has come: numbers, the last bytes, and the runs in hand.
 
-ghost use Rattle.std.specs.Prelude.{◌≡◌, ◌+◌, ◌-◌, ◌<◌, ◌≤◌, ◌^◌, ℕ, List, [], OnErr, OnOk, Ok, length, max, slice_range, true, false};
+ghost use Rattle.std.specs.Prelude.{◌≡◌, ◌+◌, ◌-◌, ◌<◌, ◌≤◌, ◌^◌, ℕ, List, [], OnErr, OnOk, Ok, length, max, slice_index, slice_range, true, false};
 ghost use Rattle.aho_cover.specs.Hand.{FirstEndsBehind, HasItsFirst, held_runs, room_in};
 ghost use Rattle.aho_cover.specs.Progress.{BareFrom, ClearlyCovered, EndsHere, EndsNext, HasCovered, IsAll, IsBeginning, IsGiven, IsSoundCover, KeepsRoom, open_place, outside_end, unbegun_cover, walk_end};
 ghost use Rattle.aho_cover.specs.Feeds.{Feeding, HasFedFirst};
@@ -59,12 +59,12 @@ impl CoverProgress {
     }
 
     /// Begins anew, in the state of a start. The memory stays.
-    pub(crate) fn begin_anew(&mut self, sid: StateID)
+    pub(crate) fn begin_anew(&mut self, sid: StateID, words: bool)
         ensures buffer { self.new.buffer ≡ record self.old.buffer { bytes = [] } }
         ensures none { held_runs self.new.hand ≡ [] }
         ensures whole { HasItsFirst self.new.hand }
         ensures same_room { room_in self.new.hand ≡ room_in self.old.hand }
-        ensures made { self.new ≡ unbegun_cover self.new.buffer self.new.hand sid self.old.words }
+        ensures made { self.new ≡ unbegun_cover self.new.buffer self.new.hand sid words }
     {
         self.buffer.clear();
         self.hand.clear();
@@ -73,6 +73,7 @@ impl CoverProgress {
         self.copied = 0;
         self.fed = 0;
         self.sid = sid;
+        self.words = words;
         self.ended = false;
     }
 
@@ -115,6 +116,19 @@ impl CoverProgress {
         let bytes = self.buffer.buffer();
         let first = self.read - bytes.len();
         &bytes[start - first..end - first]
+    }
+
+    /// The byte at a place, of those that are held.
+    pub(crate) fn byte(&self, at: usize) -> u8
+        requires read { at < self.now.read }
+        requires held { self.now.read ≤ at + length self.now.buffer.bytes }
+        requires whole { length self.now.buffer.bytes ≤ self.now.read }
+        ensures byte { (haystack : List ℕ) → IsGiven self.now haystack
+            → result ≡ slice_index haystack at }
+    {
+        let bytes = self.buffer.buffer();
+        let first = self.read - bytes.len();
+        bytes[at - first]
     }
 
     /// The bytes from where all was written up to another place: none, where that is not behind.

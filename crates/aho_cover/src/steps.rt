@@ -183,10 +183,20 @@ pub(crate) fn walk_read<A: Automaton, W: Sink, P: Pieces>(
     ensures cheap { walk.new.work ≤ 2 * progress.old.read }
     ensures tells { TellsWrites W.Sink sink.old sink.new result }
 {
+    let end = progress.walk_end();
     let mut at = from;
     let mut patience = PATIENCE;
-    while at < progress.walk_end() {
-        at = walk_further(walk, automaton, progress, sink, pieces, counts, at, &mut patience)?;
+    while at < end {
+        at = walk_further(
+            walk,
+            automaton,
+            progress,
+            sink,
+            pieces,
+            counts,
+            at,
+            &mut patience,
+        )?;
     }
     write_walked(walk, progress, sink, pieces, counts, at)
 }

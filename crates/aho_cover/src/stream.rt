@@ -216,12 +216,12 @@ pub fn cover_with<A: Automaton, R: Source, W: Sink, P: Pieces>(
     ensures rule { P.rule pieces.new ≡ P.rule pieces.old }
 {
     pieces.begin();
-    let begin = start.progress.sid;
+    let (begin, words) = (start.progress.sid, start.progress.words);
     let automaton = start.automaton;
     let mut walk = Counted::new(automaton);
     let progress = &mut start.progress;
     let covered = cover_from(&mut walk, automaton, progress, source, sink, pieces, counts);
-    start.progress.begin_anew(begin);
+    start.progress.begin_anew(begin, words);
     covered
 }
 

@@ -30,7 +30,7 @@ fn none_before(progress: &CoverProgress, start: usize) -> bool
     if start == 0 {
         return true;
     }
-    !is_word_byte(progress.bytes(start - 1, start)[0])
+    !is_word_byte(progress.byte(start - 1))
 }
 
 /// Whether none stands behind a place up to which may be walked.
@@ -45,7 +45,7 @@ fn none_behind(progress: &CoverProgress, end: usize) -> bool
     if end >= progress.read {
         return true;
     }
-    !is_word_byte(progress.bytes(end, end + 1)[0])
+    !is_word_byte(progress.byte(end))
 }
 
 /// The longest word that ends at a place behind which no such byte stands, of the patterns that a state lists there; of equally long
@@ -97,8 +97,11 @@ pub(crate) fn longest_counted<A: Automaton>(
         → result ≡ first_listed (counted_of progress.now.words text
         (map (ended (A.lengths automaton.now) end) (A.list automaton.now reached.sid))) }
 {
-    if !progress.words || reached.found.is_none() {
+    if !progress.words {
         return reached.found;
+    }
+    if reached.found.is_none() {
+        return None;
     }
     if !none_behind(progress, end) {
         return None;
