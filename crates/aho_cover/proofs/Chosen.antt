@@ -1,6 +1,6 @@
 -- The runs of what counts: of all that occurs, or of words alone.
-use Rattle.std.proofs.Common.{◌≡◌, inl, inr, ℕ, zero, suc, ◌≤◌, Bool, true, false, List, [], ◌∷◌, length, map, refl, sym, ◌∙◌, ap, subst, arith}
-use Rattle.std.specs.Prelude.{◌⊎◌, ◌&&◌, None, Some, filter, if◌then◌else◌, nat_lt}
+use Rattle.std.proofs.Common.{◌≡◌, inl, inr, ℕ, zero, suc, ◌≤◌, Bool, true, false, List, [], ◌∷◌, length, refl, sym, ◌∙◌, ap, subst, arith}
+use Rattle.std.specs.Prelude.{◌⊎◌, ◌&&◌, None, Some, filter, nat_lt}
 use Rattle.std.proofs.lemmas.Bool.{and_from, cases_lt, cases_eq, cond-true, cond-false, lt-ltb, le-ltb}
 use Rattle.aho_core.specs.declared.search.Anchored.TheVariants.{No}
 use Rattle.aho_core.specs.declared.search.MatchKind.TheVariants.{Standard}
@@ -17,7 +17,7 @@ use Rattle.aho_laws.proofs.CoverRuns.{Covers, covers-joined, covers-same, runs-c
 use Rattle.aho_laws.proofs.Listings.{occurrences_ending-has, occurrences_ending-listed, occurrences_ending-only}
 use Rattle.aho_laws.proofs.Members.{listed-filter, member-filter, member-of_filter}
 use Rattle.aho_stream.specs.After.{kept_for}
-use Rattle.aho_cover.specs.Words.{AreRunsWith, CountsIn, IsWordIn, all_runs, counted_of, ending_with, first_listed, is_word, kept_with, none_before, none_behind, runs_with}
+use Rattle.aho_cover.specs.Words.{AreRunsWith, CountsIn, all_runs, counted_of, ending_with, first_listed, is_word, kept_with, none_before, none_behind, runs_with}
 
 -- two tests that are passed
 both-true : (x y : Bool) → (x && y) ≡ true → (x ≡ true) × (y ≡ true)

@@ -24,7 +24,7 @@ use Rattle.aho_cover.specs.Hand.{held_runs}
 use Rattle.aho_cover.specs.Pieces.{EndsAmong, PieceRule, cover_with, covered_through, piece_in}
 use Rattle.aho_cover.specs.Progress.{HasCovered, IsAll, IsBeginning, copied_to, open_place}
 use Rattle.aho_cover.specs.Walks.{NoneReaches}
-use Rattle.aho_cover.specs.Words.{all_runs, ending_with, kept_with, runs_with}
+use Rattle.aho_cover.specs.Words.{all_runs, ending_with, runs_with}
 use Rattle.aho_cover.proofs.Chosen.{all-covers, counted-member, kept-enough}
 use Rattle.aho_cover.proofs.Copied.{begins_longer, begins_shorter, begins_with, copied-more, copied-rest, copied-run, copied-through, nothing_between, covered-copied, through-run}
 

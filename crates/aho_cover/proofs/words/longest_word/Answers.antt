@@ -1,7 +1,6 @@
 -- One pattern of the list after another.
-use Rattle.std.proofs.Common.{◌≡◌, ℕ, ◌+◌, ◌-◌, ◌<◌, ◌≤◌, List, refl, sym, ◌∙◌, ap, arith}
-use Rattle.std.specs.Prelude.{Some, length, slice_get, slice_index}
-use Rattle.aho_core.specs.Laws.{longest}
+use Rattle.std.proofs.Common.{◌≡◌, ℕ, ◌-◌, ◌<◌, ◌≤◌, refl, sym, ◌∙◌, ap, arith}
+use Rattle.std.specs.Prelude.{Some, length, slice_index}
 use Rattle.aho_cover.proofs.Listed.{all-at, longest-most, no-word, word-here, word-later}
 use Rattle.aho_cover.proofs.words.longest_word.Given.{Over}
 use Rattle.aho_cover.proofs.words.longest_word.Goals.{After-match_pattern-pattern}

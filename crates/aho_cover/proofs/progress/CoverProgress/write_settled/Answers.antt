@@ -1,5 +1,5 @@
 -- The runs that are settled, and then the bytes behind them.
-use Rattle.std.proofs.Common.{◌≡◌, ℕ, ◌+◌, ◌-◌, ◌≤◌, max, Bool, List, refl, sym, ◌∙◌, ap, subst, arith}
+use Rattle.std.proofs.Common.{◌≡◌, ℕ, ◌≤◌, max, Bool, List, refl, sym, ◌∙◌, ap, subst, arith}
 use Rattle.std.specs.Prelude.{slice_range}
 use Rattle.aho_core.specs.Patterns.{Patterns}
 use Rattle.aho_cover.specs.declared.progress.CoverProgress.{CoverProgress}

@@ -1,5 +1,5 @@
 -- Nothing was given and nothing written.
-use Rattle.std.proofs.Common.{◌≡◌, ℕ, ◌+◌, ◌/◌, max, List, refl, sym, ◌∙◌, ap, subst, arith}
+use Rattle.std.proofs.Common.{ℕ, ◌+◌, ◌/◌, refl, sym, ◌∙◌, ap, subst}
 use Rattle.aho_cover.specs.declared.progress.CoverProgress.{CoverProgress}
 use Rattle.aho_cover.specs.Words.{kept_with}
 use Rattle.aho_cover.specs.Covers.{IsUnbegunWith}
