@@ -17,7 +17,7 @@ use Rattle.aho_laws.proofs.CoverRuns.{Covers, covers-joined, covers-same, runs-c
 use Rattle.aho_laws.proofs.Listings.{occurrences_ending-has, occurrences_ending-listed, occurrences_ending-only}
 use Rattle.aho_laws.proofs.Members.{listed-filter, member-filter, member-of_filter}
 use Rattle.aho_stream.specs.After.{kept_for}
-use Rattle.aho_cover.specs.Words.{AreRunsWith, CountsIn, all_runs, counted_of, ending_with, first_listed, is_word, kept_with, none_before, none_behind, runs_with}
+use Rattle.aho_cover.specs.Words.{AreRunsWith, CountsIn, all_runs, counted_of, ending_with, first_listed, stands_as_word, kept_with, none_before, none_behind, runs_with}
 
 -- two tests that are passed
 both-true : (x y : Bool) → (x && y) ≡ true → (x ≡ true) × (y ≡ true)
@@ -29,11 +29,11 @@ both-true false false e = cc
 -- of some occurrences those that count are among them, and those of no occurrence are none
 pub counted-member : (words : Bool) (text : List ℕ) (ms : List Occurrence) (m : Occurrence) → IsMember (counted_of words text ms) m → IsMember ms m
 counted-member false text ms m there = there
-counted-member true text ms m there = (member-of_filter (is_word text) ms m there).1
+counted-member true text ms m there = (member-of_filter (stands_as_word text) ms m there).1
 
 pub counted-none : (words : Bool) (text : List ℕ) (ms : List Occurrence) → ms ≡ [] → counted_of words text ms ≡ []
 counted-none false text ms none = none
-counted-none true text ms none = ap (filter (is_word text)) none
+counted-none true text ms none = ap (filter (stands_as_word text)) none
 
 -- as many bytes are kept as the longest pattern has, and as are kept where all counts
 pub kept-enough : (words : Bool) (lengths : List ℕ) → (longest lengths ≤ kept_with words lengths) × (kept_for lengths ≤ kept_with words lengths)
@@ -108,7 +108,7 @@ module _ (p : Patterns) (haystack : List ℕ) where
   -- what it takes to count
   abbrev Passes : Bool → Occurrence → Type 0
   Passes false m = Unit {0}
-  Passes true m = is_word haystack m ≡ true
+  Passes true m = stands_as_word haystack m ≡ true
 
   -- what counts up to a place
   abbrev pub CountsUpto : Bool → ℕ → Occurrence → Type 0
@@ -117,7 +117,7 @@ module _ (p : Patterns) (haystack : List ℕ) where
   ending-only : (words : Bool) (end : ℕ) (m : Occurrence) → end ≤ length haystack → IsMember (ending_with words p haystack end) m → CountsUpto words end m × (m.end ≡ end)
   ending-only false end m within there = (let one = occurrences_ending-only p haystack 0 end m within there in ((one.0, tt), one.1))
   ending-only true end m within there =
-      let passed = member-of_filter (is_word haystack) (occurrences_ending p haystack 0 end) m there in
+      let passed = member-of_filter (stands_as_word haystack) (occurrences_ending p haystack 0 end) m there in
       let one = occurrences_ending-only p haystack 0 end m within passed.1 in
       ((one.0, passed.0), one.1)
 
@@ -128,11 +128,11 @@ module _ (p : Patterns) (haystack : List ℕ) where
     where
       by_words : (words : Bool) → Passes words m → IsMember (occurrences_ending p haystack 0 end) m → IsMember (ending_with words p haystack end) m
       by_words false passes there = there
-      by_words true passes there = member-filter (is_word haystack) (occurrences_ending p haystack 0 end) m passes there
+      by_words true passes there = member-filter (stands_as_word haystack) (occurrences_ending p haystack 0 end) m passes there
 
   ending-listed : (words : Bool) (end : ℕ) → IsListedBy (IsBefore Standard) (ending_with words p haystack end)
   ending-listed false end = occurrences_ending-listed p haystack 0 end
-  ending-listed true end = listed-filter (IsBefore Standard) (is_word haystack) (occurrences_ending p haystack 0 end) (occurrences_ending-listed p haystack 0 end)
+  ending-listed true end = listed-filter (IsBefore Standard) (stands_as_word haystack) (occurrences_ending p haystack 0 end) (occurrences_ending-listed p haystack 0 end)
 
   pub counts-upto : (at : ℕ) (words : Bool) → at ≤ length haystack → Covers (CountsUpto words at) (runs_with words p haystack at) at
   counts-upto zero words within = record {

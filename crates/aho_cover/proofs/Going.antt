@@ -36,7 +36,7 @@ use Rattle.aho_cover.specs.Progress.{HasCovered, IsAll, IsBeginning, IsSoundCove
 use Rattle.aho_cover.specs.Refilling.{TakesIn}
 use Rattle.aho_cover.specs.Steps.{CoversOn, CoversToEnd, IsPrompt, KeepsBytes, MayRoll}
 use Rattle.aho_cover.specs.Walks.{StandsIn}
-use Rattle.aho_cover.specs.Words.{AreRunsWith, CountsIn, all_runs, kept_with, known_of}
+use Rattle.aho_cover.specs.Words.{AreRunsWith, CountsIn, all_runs, kept_with, decided_of}
 use Rattle.aho_cover.specs.Writes.{WritesOn}
 use Rattle.aho_cover.proofs.Back.{may-go_on}
 use Rattle.aho_cover.proofs.Chosen.{all-are, all-made, counts-further, counts-upto}
@@ -78,7 +78,7 @@ all_chosen : (words chosen : Bool) (rule : PieceRule) (p : Patterns) (haystack :
 all_chosen words chosen rule p haystack written same all = subst (λ (w : Bool). IsAll w rule p haystack written) same all
 
 -- the bytes of which it is known what ends with them, and how many they are
-known-part : (words : Bool) (given : List ℕ) → known_of words given ≡ slice_range given 0 (length given - waiting words false)
+known-part : (words : Bool) (given : List ℕ) → decided_of words given ≡ slice_range given 0 (length given - waiting words false)
 known-part false given =
     let count : (length given - 0) - 0 ≡ length given = omega arith in
     sym (ap (λ (n : ℕ). take n given) count ∙ take_all (length given) given (omega arith))
@@ -414,8 +414,8 @@ module _ {A R W : Type 0} (G : Automata A) (S : SourceGhosts R) (K : SinkGhosts 
           let covers = covers_given same p of in
           let long : s.read ≡ length given_now = sym same ∙ count_more in
           let end : walk_end s ≡ length given_now - waiting words false = ap (λ (n : ℕ). n - waiting s.words s.ended) long ∙ ap (λ (w : Bool). length given_now - waiting w s.ended) going.chosen ∙ ap (λ (e : Bool). length given_now - waiting words e) going.unended in
-          let known : slice_range given_now 0 (walk_end s) ≡ known_of words given_now = ap (slice_range given_now 0) end ∙ sym (known-part words given_now) in
-          let many : length (known_of words given_now) ≡ walk_end s = omega (arith, ap length known, length_part given_now 0 (walk_end s) (omega (arith, long))) in
+          let known : slice_range given_now 0 (walk_end s) ≡ decided_of words given_now = ap (slice_range given_now 0) end ∙ sym (known-part words given_now) in
+          let many : length (decided_of words given_now) ≡ walk_end s = omega (arith, ap length known, length_part given_now 0 (walk_end s) (omega (arith, long))) in
           subst (λ (text : List ℕ). MayGoOn p text at) known
           (may-go_on G a p given_now (standard p of) (λ word sid held. reaches p word sid of held) at s.sid (walk_end s) covers.is_held (omega (arith, inside, many)) (omega (arith, prompt at low (not_in_hand same p at of bare))));
       writes = λ p bytes runs of may are.

@@ -11,7 +11,7 @@ use Rattle.aho_core.specs.declared.search.Anchored.TheVariants.{No}
 use Rattle.aho_automaton.specs.Overlaps.{ended}
 use Rattle.aho_automaton.proofs.Places.{length_part}
 use Rattle.aho_stream.specs.After.{EndsWith}
-use Rattle.aho_cover.specs.Words.{counted_of, first_listed, is_word, is_word_byte, none_before, none_behind}
+use Rattle.aho_cover.specs.Words.{counted_of, first_listed, stands_as_word, is_word_part, none_before, none_behind}
 
 -- a byte of the last bytes is that byte of the whole
 pub byte_held : (haystack bytes : List ℕ) (read at : ℕ) → EndsWith (slice_range haystack 0 read) bytes → read ≤ length haystack → length bytes ≤ read → read ≤ at + length bytes → at < read
@@ -54,26 +54,26 @@ module _ (text lengths : List ℕ) (end : ℕ) where
   none-behind [] behind = refl
   none-behind (k ∷ ks) behind =
       let m = ended lengths end k in
-      let rest = filter (is_word text) (map (ended lengths end) ks) in
-      ap first_listed (cond-false (is_word text m) (m ∷ rest) rest (and_right (none_before text m.start) (none_behind text end) behind)) ∙ none-behind ks behind
+      let rest = filter (stands_as_word text) (map (ended lengths end) ks) in
+      ap first_listed (cond-false (stands_as_word text m) (m ∷ rest) rest (and_right (none_before text m.start) (none_behind text end) behind)) ∙ none-behind ks behind
 
   -- the first of the list that is a word
   pub word-here : (list : List ℕ) (i k : ℕ) → slice_get list i ≡ Some k → none_before text (end - slice_index lengths k) ≡ true → none_behind text end ≡ true → first_word (drop i list) ≡ Some (ended lengths end k)
   word-here list i k at before behind =
       let m = ended lengths end k in
-      let rest = filter (is_word text) (map (ended lengths end) (drop (suc i) list)) in
+      let rest = filter (stands_as_word text) (map (ended lengths end) (drop (suc i) list)) in
       ap first_word (drop-next list i k at)
-      ∙ ap first_listed (cond-true (is_word text m) (m ∷ rest) rest (and_from (none_before text m.start) (none_behind text end) before behind))
+      ∙ ap first_listed (cond-true (stands_as_word text m) (m ∷ rest) rest (and_from (none_before text m.start) (none_behind text end) before behind))
 
   -- one that is none is passed over
   pub word-later : (list : List ℕ) (i k : ℕ) → slice_get list i ≡ Some k → none_before text (end - slice_index lengths k) ≡ false → first_word (drop (i + 1) list) ≡ first_word (drop i list)
   word-later list i k at before =
       let m = ended lengths end k in
-      let rest = filter (is_word text) (map (ended lengths end) (drop (suc i) list)) in
+      let rest = filter (stands_as_word text) (map (ended lengths end) (drop (suc i) list)) in
       let next : i + 1 ≡ suc i = omega arith in
       ap (λ (n : ℕ). first_word (drop n list)) next
       ∙ sym (ap first_word (drop-next list i k at)
-      ∙ ap first_listed (cond-false (is_word text m) (m ∷ rest) rest (ap (λ b. b && none_behind text end) before)))
+      ∙ ap first_listed (cond-false (stands_as_word text m) (m ∷ rest) rest (ap (λ b. b && none_behind text end) before)))
 
   -- at the end of the list there is none
   pub no-word : (list : List ℕ) (i : ℕ) → length list ≤ i → first_word (drop i list) ≡ None
@@ -83,14 +83,14 @@ module _ (text lengths : List ℕ) (end : ℕ) where
 pub before-first : (text : List ℕ) (start : ℕ) → start ≡ 0 → none_before text start ≡ true
 before-first text start first = ap (none_before text) first
 
-pub before-later : (text : List ℕ) (start byte : ℕ) → 0 < start → byte ≡ slice_index text (start - 1) → not (is_word_byte byte) ≡ none_before text start
+pub before-later : (text : List ℕ) (start byte : ℕ) → 0 < start → byte ≡ slice_index text (start - 1) → not (is_word_part byte) ≡ none_before text start
 before-later text start byte some is =
-    ap (λ b. not (is_word_byte b)) is ∙ sym (ap (λ b. not (b && is_word_byte (slice_index text (start - 1)))) (lt-ltb 0 start some))
+    ap (λ b. not (is_word_part b)) is ∙ sym (ap (λ b. not (b && is_word_part (slice_index text (start - 1)))) (lt-ltb 0 start some))
 
 -- nor behind the last one
 pub behind-last : (text : List ℕ) (end : ℕ) → length text ≤ end → none_behind text end ≡ true
-behind-last text end past = ap (λ b. not (b && is_word_byte (slice_index text end))) (le-ltb end (length text) past)
+behind-last text end past = ap (λ b. not (b && is_word_part (slice_index text end))) (le-ltb end (length text) past)
 
-pub behind-later : (text : List ℕ) (end byte : ℕ) → end < length text → byte ≡ slice_index text end → not (is_word_byte byte) ≡ none_behind text end
+pub behind-later : (text : List ℕ) (end byte : ℕ) → end < length text → byte ≡ slice_index text end → not (is_word_part byte) ≡ none_behind text end
 behind-later text end byte within is =
-    ap (λ b. not (is_word_byte b)) is ∙ sym (ap (λ b. not (b && is_word_byte (slice_index text end))) (lt-ltb end (length text) within))
+    ap (λ b. not (is_word_part b)) is ∙ sym (ap (λ b. not (b && is_word_part (slice_index text end))) (lt-ltb end (length text) within))

@@ -23,7 +23,7 @@ use Rattle.aho_cover.specs.Counting.{CountsThese, no_output}
 use Rattle.aho_cover.specs.Pieces.{EndsAmong, IsCoverWith, PieceRule, fixed_rule, piece_in}
 use Rattle.aho_cover.specs.Progress.{IsSoundCover}
 use Rattle.aho_cover.specs.Steps.{CoversOn}
-use Rattle.aho_cover.specs.Words.{AreRunsWith, CountsIn, kept_with, known_of}
+use Rattle.aho_cover.specs.Words.{AreRunsWith, CountsIn, kept_with, decided_of}
 
 -- the bytes up to a place, with a piece in the place of each run that ends there or before
 abbrev pub covered_up_to : List ℕ → ℕ → ℕ → List Occurrence → (Occurrence → List ℕ) → List ℕ
@@ -66,7 +66,7 @@ module _ {R W : Type 0} (S : SourceGhosts R) (K : SinkGhosts W) (AreSearched : P
     pub place : ℕ
     pub within : place ≤ length given
     pub near : (p : Patterns) (at : ℕ) → AreSearched p → place ≤ at → (IsCovered (CountsIn words p given) at → ⊥) → length given ≤ at + kept_with words (map length p.words)
-    pub prompt : (p : Patterns) (at : ℕ) → AreSearched p → place ≤ at → at < length (known_of words given) → (IsCovered (CountsIn words p given) at → ⊥) → MayGoOn p (known_of words given) at
+    pub prompt : (p : Patterns) (at : ℕ) → AreSearched p → place ≤ at → at < length (decided_of words given) → (IsCovered (CountsIn words p given) at → ⊥) → MayGoOn p (decided_of words given) at
     pub writes : (p : Patterns) (bytes : List ℕ) (runs : List Occurrence) → AreSearched p → MayBe given ended bytes → AreRunsWith words p bytes runs
         → Appends (K.taken sink) (K.taken sink') (covered_up_to bytes place 0 runs (piece_in rule bytes))
 

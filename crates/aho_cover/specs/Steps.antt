@@ -22,6 +22,10 @@ pub record CoversOn {A : Type 0} (G : Automata A) (a : A) (rule : PieceRule) (s 
   pub is_held : StandsIn G a p haystack s.sid at
   pub covered : HasCovered rule s at p haystack written
 
+-- and what makes the pieces holds the bytes that were fed
+abbrev pub CoversFed : {A P : Type 0} → Automata A → PieceGhosts P → A → P → CoverProgress → ℕ → Patterns → List ℕ → Output → Type 0
+CoversFed G Q a pieces s at = Feeding (Q.holds pieces) s (CoversOn G a (Q.rule pieces) s at)
+
 -- a walk from one place to another writes and counts what settles on its way
 abbrev pub WalksAlong : {A W P : Type 0} → Automata A → SinkGhosts W → PieceGhosts P → A → P → P → W → W → List ℕ → List ℕ → CoverProgress → ℕ → CoverProgress → ℕ → Type 0
 WalksAlong G K Q a pieces pieces' sink sink' counts counts' s at s' at' = WritesOn K sink sink' counts counts'

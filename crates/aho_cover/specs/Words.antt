@@ -12,16 +12,16 @@ use Rattle.aho_laws.specs.CoverLaws.{joined_first}
 use Rattle.aho_stream.specs.After.{kept_for}
 
 -- a letter of ASCII, a digit or `_`
-abbrev pub is_word_byte : ℕ → Bool
-is_word_byte byte = is_ascii_alphanumeric byte || (byte == 95)
+abbrev pub is_word_part : ℕ → Bool
+is_word_part byte = is_ascii_alphanumeric byte || (byte == 95)
 
 -- none stands before a place of a text
 abbrev pub none_before : List ℕ → ℕ → Bool
-none_before text start = not (nat_lt 0 start && is_word_byte (slice_index text (start - 1)))
+none_before text start = not (nat_lt 0 start && is_word_part (slice_index text (start - 1)))
 
 -- none stands behind it
 abbrev pub none_behind : List ℕ → ℕ → Bool
-none_behind text end = not (nat_lt end (length text) && is_word_byte (slice_index text end))
+none_behind text end = not (nat_lt end (length text) && is_word_part (slice_index text end))
 
 -- m occurs in a text, and none stands beside it
 pub record IsWordIn (p : Patterns) (text : List ℕ) (m : Occurrence) : Type 0 where
@@ -40,9 +40,9 @@ AreRunsWith words p text runs = AreRunsOf (CountsIn words p text) runs
 
 -- the bytes of a stream of which it is known what counts that ends with them: the last of those given waits for the next, where
 -- words are asked for
-abbrev pub known_of : (words : Bool) → List ℕ → List ℕ
-known_of false given = given
-known_of true given = take (length given - 1) given
+abbrev pub decided_of : (words : Bool) → List ℕ → List ℕ
+decided_of false given = given
+decided_of true given = take (length given - 1) given
 
 -- how many bytes are kept for patterns of these lengths: one more, where words are asked for
 abbrev pub kept_with : (words : Bool) → List ℕ → ℕ
@@ -50,13 +50,13 @@ kept_with false lengths = kept_for lengths
 kept_with true lengths = max 1 (longest lengths + 1)
 
 -- as what ends at a place is computed, and the runs up to it
-abbrev pub is_word : List ℕ → Occurrence → Bool
-is_word text m = none_before text m.start && none_behind text m.end
+abbrev pub stands_as_word : List ℕ → Occurrence → Bool
+stands_as_word text m = none_before text m.start && none_behind text m.end
 
 -- of some occurrences those that count
 abbrev pub counted_of : (words : Bool) → List ℕ → List Occurrence → List Occurrence
 counted_of false text ms = ms
-counted_of true text ms = filter (is_word text) ms
+counted_of true text ms = filter (stands_as_word text) ms
 
 abbrev pub ending_with : (words : Bool) → Patterns → List ℕ → ℕ → List Occurrence
 ending_with words p text end = counted_of words text (occurrences_ending p text 0 end)

@@ -1,11 +1,11 @@
 //! One read of a stream: the walk over its bytes, and what is written of them.
 
 ghost use Rattle.std.specs.Prelude.{◌≡◌, ◌+◌, ◌-◌, ◌*◌, ◌<◌, ◌≤◌, IfOk, OnErr, OnOk, Ok, IfErr, true, false};
-ghost use Rattle.aho_cover.specs.Feeds.{Feeding, any_bytes};
+ghost use Rattle.aho_cover.specs.Feeds.{any_bytes};
 ghost use Rattle.aho_cover.specs.Hand.{held_runs};
 ghost use Rattle.aho_cover.specs.Pieces.{PieceRule};
 ghost use Rattle.aho_cover.specs.Progress.{BareFrom, IsAll, IsBeginning, IsSoundCover, KeepsRoom, walk_end};
-ghost use Rattle.aho_cover.specs.Steps.{CanWalk, CoversOn, CoversSomeToEnd, CoversToEnd, IsPrompt, MayRoll, KeepsBytes, PassesOver, WalksAlong};
+ghost use Rattle.aho_cover.specs.Steps.{CanWalk, CoversFed, CoversSomeToEnd, CoversToEnd, IsPrompt, MayRoll, KeepsBytes, PassesOver, WalksAlong};
 ghost use Rattle.aho_cover.specs.Writes.{TellsWrites, WritesOn};
 
 use crate::pieces::Pieces;
@@ -45,8 +45,7 @@ fn walk_once<A: Automaton, W: Sink, P: Pieces>(
     ensures writes { IfOk result (WalksAlong A.Automaton W.Sink P.Pieces walk.old.automaton.now
         pieces.old pieces.new sink.old sink.new counts.old counts.new progress.old at progress.new) }
     ensures begins { OnErr result (WritesOn W.Sink sink.old sink.new counts.old counts.new
-        (Feeding (P.holds pieces.old) progress.old
-        (CoversOn A.Automaton walk.old.automaton.now (P.rule pieces.old) progress.old at))
+        (CoversFed A.Automaton P.Pieces walk.old.automaton.now pieces.old progress.old at)
         (IsBeginning progress.old.words (P.rule pieces.old))) }
     ensures rule { P.rule pieces.new ≡ P.rule pieces.old }
     ensures room { KeepsRoom progress.old progress.new }
@@ -90,8 +89,7 @@ fn walk_further<A: Automaton, W: Sink, P: Pieces>(
     ensures writes { IfOk result (WalksAlong A.Automaton W.Sink P.Pieces walk.old.automaton.now
         pieces.old pieces.new sink.old sink.new counts.old counts.new progress.old at progress.new) }
     ensures begins { OnErr result (WritesOn W.Sink sink.old sink.new counts.old counts.new
-        (Feeding (P.holds pieces.old) progress.old
-        (CoversOn A.Automaton walk.old.automaton.now (P.rule pieces.old) progress.old at))
+        (CoversFed A.Automaton P.Pieces walk.old.automaton.now pieces.old progress.old at)
         (IsBeginning progress.old.words (P.rule pieces.old))) }
     ensures rule { P.rule pieces.new ≡ P.rule pieces.old }
     ensures room { KeepsRoom progress.old progress.new }
@@ -140,8 +138,7 @@ fn write_walked<A: Automaton, W: Sink, P: Pieces>(
     ensures writes { OnOk result (WalksAlong A.Automaton W.Sink P.Pieces walk.now.automaton.now
         pieces.old pieces.new sink.old sink.new counts.old counts.new progress.old at progress.new at) }
     ensures begins { OnErr result (WritesOn W.Sink sink.old sink.new counts.old counts.new
-        (Feeding (P.holds pieces.old) progress.old
-        (CoversOn A.Automaton walk.now.automaton.now (P.rule pieces.old) progress.old at))
+        (CoversFed A.Automaton P.Pieces walk.now.automaton.now pieces.old progress.old at)
         (IsBeginning progress.old.words (P.rule pieces.old))) }
     ensures rule { P.rule pieces.new ≡ P.rule pieces.old }
     ensures room { KeepsRoom progress.old progress.new }
@@ -175,8 +172,7 @@ pub(crate) fn walk_read<A: Automaton, W: Sink, P: Pieces>(
     ensures writes { OnOk result (WalksAlong A.Automaton W.Sink P.Pieces walk.old.automaton.now
         pieces.old pieces.new sink.old sink.new counts.old counts.new progress.old from progress.new (walk_end progress.new)) }
     ensures begins { OnErr result (WritesOn W.Sink sink.old sink.new counts.old counts.new
-        (Feeding (P.holds pieces.old) progress.old
-        (CoversOn A.Automaton walk.old.automaton.now (P.rule pieces.old) progress.old from))
+        (CoversFed A.Automaton P.Pieces walk.old.automaton.now pieces.old progress.old from)
         (IsBeginning progress.old.words (P.rule pieces.old))) }
     ensures rule { P.rule pieces.new ≡ P.rule pieces.old }
     ensures room { KeepsRoom progress.old progress.new }
@@ -210,18 +206,18 @@ pub(crate) fn walk_last<A: Automaton, W: Sink, P: Pieces>(
     sink: &mut W,
     pieces: &mut P,
     counts: &mut [u64],
-    from: usize,
+    at: usize,
 ) -> Result<(), StreamError>
-    requires sound { IsSoundCover progress.old from }
+    requires sound { IsSoundCover progress.old at }
     requires own { walk.old.automaton.now ≡ automaton.now }
-    requires can { CanWalk A.Automaton walk.old (P.rule pieces.old) (P.holds pieces.old) progress.old from }
+    requires can { CanWalk A.Automaton walk.old (P.rule pieces.old) (P.holds pieces.old) progress.old at }
     requires some { CoversSomeToEnd A.Automaton walk.old.automaton.now
-        (P.rule pieces.old) (P.holds pieces.old) progress.old from }
+        (P.rule pieces.old) (P.holds pieces.old) progress.old at }
     ensures covers { OnOk result (WritesOn W.Sink sink.old sink.new counts.old counts.new
-        (CoversToEnd A.Automaton walk.old.automaton.now (P.rule pieces.old) (P.holds pieces.old) progress.old from)
+        (CoversToEnd A.Automaton walk.old.automaton.now (P.rule pieces.old) (P.holds pieces.old) progress.old at)
         (IsAll progress.old.words (P.rule pieces.old))) }
     ensures begins { OnErr result (WritesOn W.Sink sink.old sink.new counts.old counts.new
-        (CoversToEnd A.Automaton walk.old.automaton.now (P.rule pieces.old) (P.holds pieces.old) progress.old from)
+        (CoversToEnd A.Automaton walk.old.automaton.now (P.rule pieces.old) (P.holds pieces.old) progress.old at)
         (IsBeginning progress.old.words (P.rule pieces.old))) }
     ensures rule { P.rule pieces.new ≡ P.rule pieces.old }
     ensures room { KeepsRoom progress.old progress.new }
@@ -229,6 +225,6 @@ pub(crate) fn walk_last<A: Automaton, W: Sink, P: Pieces>(
     ensures tells { TellsWrites W.Sink sink.old sink.new result }
 {
     progress.see_end();
-    walk_read(walk, automaton, progress, sink, pieces, counts, from)?;
+    walk_read(walk, automaton, progress, sink, pieces, counts, at)?;
     progress.finish(sink, pieces, counts)
 }

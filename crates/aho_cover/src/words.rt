@@ -5,7 +5,7 @@ ghost use Rattle.aho_core.specs.Laws.{Fits, longest, told};
 ghost use Rattle.aho_core.specs.declared.search.Anchored.TheVariants.{No};
 ghost use Rattle.aho_automaton.specs.Overlaps.{ended};
 ghost use Rattle.aho_cover.specs.Progress.{IsGiven, walk_end};
-ghost use Rattle.aho_cover.specs.Words.{counted_of, first_listed, is_word_byte, none_before, none_behind};
+ghost use Rattle.aho_cover.specs.Words.{counted_of, first_listed, is_word_part, none_before, none_behind};
 
 use crate::progress::CoverProgress;
 use crate::walk::Reached;
@@ -13,8 +13,8 @@ use aho_automaton::automaton::Automaton;
 use aho_core::search::{Match, Span, StateID};
 
 /// Whether a byte is a letter of ASCII, a digit or `_`.
-fn is_word_byte(byte: u8) -> bool
-    ensures is { result ≡ is_word_byte byte }
+fn is_word_part(byte: u8) -> bool
+    ensures is { result ≡ is_word_part byte }
 {
     byte.is_ascii_alphanumeric() || byte == b'_'
 }
@@ -30,7 +30,7 @@ fn none_before(progress: &CoverProgress, start: usize) -> bool
     if start == 0 {
         return true;
     }
-    !is_word_byte(progress.byte(start - 1))
+    !is_word_part(progress.byte(start - 1))
 }
 
 /// Whether none stands behind a place up to which may be walked.
@@ -45,7 +45,7 @@ fn none_behind(progress: &CoverProgress, end: usize) -> bool
     if end >= progress.read {
         return true;
     }
-    !is_word_byte(progress.byte(end))
+    !is_word_part(progress.byte(end))
 }
 
 /// The longest word that ends at a place behind which no such byte stands, of the patterns that a state lists there; of equally long

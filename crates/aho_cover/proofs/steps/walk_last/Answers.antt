@@ -14,17 +14,17 @@ use Rattle.aho_cover.proofs.steps.walk_last.Goals.{After-see_end, In_ok-walk_rea
 use Rattle.aho_cover.proofs.steps.walk_last.Goals as goal
 
 -- the same with the end seen
-ended : (g : Over) (c : After-see_end g) (p : Patterns) (haystack : List ℕ) (written : Output) → CoversToEnd g.A.Automaton c.args.walk.now.automaton.now (g.P.Pieces.rule c.args.pieces.now) (g.P.Pieces.holds c.args.pieces.now) c.args.progress.now c.args.from p haystack written
-    → Feeding (g.P.Pieces.holds c.args.pieces.now) c.see_end.new.self (CoversOn g.A.Automaton c.args.walk.now.automaton.now (g.P.Pieces.rule c.args.pieces.now) c.see_end.new.self c.args.from) p haystack written
+ended : (g : Over) (c : After-see_end g) (p : Patterns) (haystack : List ℕ) (written : Output) → CoversToEnd g.A.Automaton c.args.walk.now.automaton.now (g.P.Pieces.rule c.args.pieces.now) (g.P.Pieces.holds c.args.pieces.now) c.args.progress.now c.args.at p haystack written
+    → Feeding (g.P.Pieces.holds c.args.pieces.now) c.see_end.new.self (CoversOn g.A.Automaton c.args.walk.now.automaton.now (g.P.Pieces.rule c.args.pieces.now) c.see_end.new.self c.args.at) p haystack written
 ended g c p haystack written covers =
-    subst (λ (s : CoverProgress). Feeding (g.P.Pieces.holds c.args.pieces.now) s (CoversOn g.A.Automaton c.args.walk.now.automaton.now (g.P.Pieces.rule c.args.pieces.now) s c.args.from) p haystack written) (sym c.see_end.ensures.only)
-    (covers-ended g.A.Automaton c.args.walk.now.automaton.now (g.P.Pieces.rule c.args.pieces.now) c.args.progress.now c.args.from p haystack written covers.0.0 covers.1, covers.0.1)
+    subst (λ (s : CoverProgress). Feeding (g.P.Pieces.holds c.args.pieces.now) s (CoversOn g.A.Automaton c.args.walk.now.automaton.now (g.P.Pieces.rule c.args.pieces.now) s c.args.at) p haystack written) (sym c.see_end.ensures.only)
+    (covers-ended g.A.Automaton c.args.walk.now.automaton.now (g.P.Pieces.rule c.args.pieces.now) c.args.progress.now c.args.at p haystack written covers.0.0 covers.1, covers.0.1)
 
 seen : (g : Over) (c : After-see_end g) → c.see_end.new.self.ended ≡ true
 seen g c = ap (λ (s : CoverProgress). s.ended) c.see_end.ensures.only
 
 pub walk_read-requires-clause-sound : goal.walk_read-requires-clause-sound
-walk_read-requires-clause-sound g c = subst (λ (s : CoverProgress). IsSoundCover s c.args.from) (sym c.see_end.ensures.only) (sound-ended c.args.progress.now c.args.from c.requires.sound)
+walk_read-requires-clause-sound g c = subst (λ (s : CoverProgress). IsSoundCover s c.args.at) (sym c.see_end.ensures.only) (sound-ended c.args.progress.now c.args.at c.requires.sound)
 
 pub walk_read-requires-clause-within : goal.walk_read-requires-clause-within
 walk_read-requires-clause-within g c =
@@ -41,7 +41,7 @@ walk_read-requires-clause-can g c =
       standard = can.standard;
       no_empty = can.no_empty;
       is_state = subst (a.valid automaton) sid can.is_state;
-      cheap = subst (λ (n : ℕ). c.args.walk.now.work + a.depth automaton n ≤ 2 * c.args.from) sid can.cheap;
+      cheap = subst (λ (n : ℕ). c.args.walk.now.work + a.depth automaton n ≤ 2 * c.args.at) sid can.cheap;
       stands = (p, haystack, written, ended g (goal.at.walk_read-requires-clause-can g c).After-see_end p haystack written covers);
     }
 
@@ -63,19 +63,19 @@ returns-in_err-walk_read-clause-begins g c =
     let d = (goal.at.returns-in_err-walk_read-clause-begins g c).After-see_end in
     let rule = g.P.Pieces.rule c.args.pieces.now in
     on_err c.from_residual.result _
-    (writes_still (CoversToEnd g.A.Automaton c.args.walk.now.automaton.now rule (g.P.Pieces.holds c.args.pieces.now) c.args.progress.now c.args.from) (IsBeginning c.args.progress.now.words rule) (ended g d)
+    (writes_still (CoversToEnd g.A.Automaton c.args.walk.now.automaton.now rule (g.P.Pieces.holds c.args.pieces.now) c.args.progress.now c.args.at) (IsBeginning c.args.progress.now.words rule) (ended g d)
     (λ p haystack written begins. subst (λ (w : Bool). IsBeginning w rule p haystack written) (ap (λ (s : CoverProgress). s.words) c.see_end.ensures.only) begins) c.in_err-walk_read.ensures.begins)
 
 -- what was written on the way
 walked : (g : Over) (c : In_ok-walk_read g)
-    → ((p : Patterns) (haystack : List ℕ) (written : Output) → CoversToEnd g.A.Automaton c.args.walk.now.automaton.now (g.P.Pieces.rule c.args.pieces.now) (g.P.Pieces.holds c.args.pieces.now) c.args.progress.now c.args.from p haystack written
-    → Feeding (g.P.Pieces.holds c.args.pieces.now) c.see_end.new.self (CoversOn g.A.Automaton c.args.walk.now.automaton.now (g.P.Pieces.rule c.args.pieces.now) c.see_end.new.self c.args.from) p haystack written)
-    → WritesOn g.W.Sink c.args.sink.now c.walk_read.new.sink c.args.counts.now c.walk_read.new.counts (CoversToEnd g.A.Automaton c.args.walk.now.automaton.now (g.P.Pieces.rule c.args.pieces.now) (g.P.Pieces.holds c.args.pieces.now) c.args.progress.now c.args.from)
+    → ((p : Patterns) (haystack : List ℕ) (written : Output) → CoversToEnd g.A.Automaton c.args.walk.now.automaton.now (g.P.Pieces.rule c.args.pieces.now) (g.P.Pieces.holds c.args.pieces.now) c.args.progress.now c.args.at p haystack written
+    → Feeding (g.P.Pieces.holds c.args.pieces.now) c.see_end.new.self (CoversOn g.A.Automaton c.args.walk.now.automaton.now (g.P.Pieces.rule c.args.pieces.now) c.see_end.new.self c.args.at) p haystack written)
+    → WritesOn g.W.Sink c.args.sink.now c.walk_read.new.sink c.args.counts.now c.walk_read.new.counts (CoversToEnd g.A.Automaton c.args.walk.now.automaton.now (g.P.Pieces.rule c.args.pieces.now) (g.P.Pieces.holds c.args.pieces.now) c.args.progress.now c.args.at)
     (Feeding (g.P.Pieces.holds c.walk_read.new.pieces) c.walk_read.new.progress (EndsHere (g.P.Pieces.rule c.args.pieces.now) c.walk_read.new.progress))
 walked g c at_end =
     let rule = g.P.Pieces.rule c.args.pieces.now in
     let new = c.walk_read.new.progress in
-    writes_still (CoversToEnd g.A.Automaton c.args.walk.now.automaton.now rule (g.P.Pieces.holds c.args.pieces.now) c.args.progress.now c.args.from) (Feeding (g.P.Pieces.holds c.walk_read.new.pieces) new (EndsHere rule new))
+    writes_still (CoversToEnd g.A.Automaton c.args.walk.now.automaton.now rule (g.P.Pieces.holds c.args.pieces.now) c.args.progress.now c.args.at) (Feeding (g.P.Pieces.holds c.walk_read.new.pieces) new (EndsHere rule new))
     (λ p haystack written covers. (at_end p haystack written covers, covers.1))
     (λ p haystack written after. ((subst (λ (n : ℕ). HasCovered rule new n p haystack written) (read_all g c) after.0.0.covered, after.1 ∙ sym (read_same g c)), after.0.1))
     (writes_with (λ p haystack. length haystack ≡ c.args.progress.now.read) c.in_ok-walk_read.ensures.writes)
