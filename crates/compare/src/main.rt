@@ -25,7 +25,6 @@ mod searchers;
 mod short;
 mod streams;
 mod turns;
-mod words;
 
 use anyhow::{Context, Result, bail};
 use case::Case;
