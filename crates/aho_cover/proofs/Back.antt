@@ -19,7 +19,7 @@ use Rattle.aho_laws.proofs.Stands.{Stands, from_occurs, length-folded}
 use Rattle.aho_laws.proofs.Starts.{live_start}
 use Rattle.aho_laws.proofs.StepLaw.{dead_leftmost, state-is_node}
 use Rattle.aho_automaton.specs.declared.automaton.Automaton.{Ghosts as Automata}
-use Rattle.aho_automaton.proofs.Places.{into_part, length_part, moved_back, part_join}
+use Rattle.aho_automaton.proofs.Places.{into_part, length_part, moved_back, part_join, part_of_part}
 use Rattle.aho_cover.specs.Counting.{Output}
 use Rattle.aho_cover.specs.Covers.{MayGoOn}
 use Rattle.aho_cover.specs.Pieces.{PieceRule}
@@ -92,7 +92,7 @@ module _ {A : Type 0} (G : Automata A) (a : A) (p : Patterns) (haystack : List �
         of = covers.of;
         is_held = covers.is_held;
         covered = record {
-          given = record { within = has.given.within; last = has.given.last };
+          given = record { within = has.given.within; last = has.given.last; whole = has.given.whole };
           walked_within = has.walked_within;
           far = has.far;
           since_clear = λ m occurs later. omega (arith, has.since_clear m occurs later, clear-back at s.sid covers.is_held m occurs later, is);
@@ -106,6 +106,10 @@ module _ {A : Type 0} (G : Automata A) (a : A) (p : Patterns) (haystack : List �
       }
 
   -- each of the last bytes over which it reaches back is among some that begin a pattern
-  pub may-go_on : (at sid : ℕ) → StandsIn G a p haystack sid (length haystack) → at < length haystack → length haystack ≤ at + G.reach a sid → MayGoOn p haystack at
-  may-go_on at sid s before near =
-      goes-on p standard haystack s.origin at (held_after p No (slice_range haystack s.origin (length haystack))) s.before_place refl before (omega (arith, near, reaches (slice_range haystack s.origin (length haystack)) sid s.is_held))
+  pub may-go_on : (at sid place : ℕ) → StandsIn G a p haystack sid place → at < place → place ≤ at + G.reach a sid → MayGoOn p (slice_range haystack 0 place) at
+  may-go_on at sid place s before near =
+      let text = slice_range haystack 0 place in
+      let word = slice_range haystack s.origin place in
+      let long : length text ≡ place = omega (arith, length_part haystack 0 place s.in_span) in
+      let part : slice_range text s.origin (length text) ≡ word = ap (slice_range text s.origin) long ∙ part_of_part haystack 0 place s.origin place s.origin place (omega arith) (omega arith) s.before_place (omega arith) in
+      goes-on p standard text s.origin at (held_after p No word) (omega (arith, s.before_place, long)) (ap (held_after p No) part) (omega (arith, before, long)) (omega (arith, near, long, reaches word sid s.is_held))

@@ -1,7 +1,6 @@
 -- How far the cover of a stream has come, from one run that is written to the next, and from one byte to the next.
-use Rattle.aho_laws.proofs.TextRuns.{upto-covers}
 use Rattle.aho_cover.specs.Covers.{covered_up_to}
-use Rattle.std.proofs.Common.{◌≡◌, inl, inr, ℕ, zero, suc, ◌+◌, ◌-◌, ◌<◌, ◌≤◌, max, List, [], ◌∷◌, ◌++◌, length, take, refl, sym, ◌∙◌, ap, subst, arith, append_assoc, append-nil}
+use Rattle.std.proofs.Common.{◌≡◌, inl, inr, ℕ, zero, suc, ◌+◌, ◌-◌, ◌<◌, ◌≤◌, max, Bool, List, [], ◌∷◌, ◌++◌, length, map, take, refl, sym, ◌∙◌, ap, subst, arith, append_assoc, append-nil}
 use Rattle.std.specs.Prelude.{nat_lt, slice_range}
 use Rattle.std.specs.Io.{StartsWith}
 use Rattle.std.proofs.lemmas.Bool.{cases_lt, cond-true, cond-false, lt-ltb, le-ltb}
@@ -13,19 +12,20 @@ use Rattle.aho_core.specs.Occurs.{Occurs}
 use Rattle.aho_core.specs.Overlapping.{occurrences_ending}
 use Rattle.aho_core.specs.Patterns.{Patterns}
 use Rattle.aho_core.specs.Replacement.{replaced_from}
-use Rattle.aho_laws.specs.CoverLaws.{joined_first, joined_runs, runs_upto, AreInOrder}
+use Rattle.aho_laws.specs.CoverLaws.{joined_first, joined_runs, AreInOrder}
 use Rattle.aho_laws.proofs.CoverRuns.{member-of_joined}
 use Rattle.aho_laws.proofs.Listed.{member-of_append}
 use Rattle.aho_laws.proofs.Listings.{occurrences_ending-only}
 use Rattle.aho_laws.proofs.SettledRuns.{joined-behind, occurrence-near, in_order-last}
-use Rattle.aho_automaton.specs.Covering.{runs_in}
 use Rattle.aho_cover.specs.declared.hand.Hand.{Hand}
 use Rattle.aho_cover.specs.declared.progress.CoverProgress.{CoverProgress}
 use Rattle.aho_cover.specs.Counting.{Output, put_on}
 use Rattle.aho_cover.specs.Hand.{held_runs}
-use Rattle.aho_cover.specs.Pieces.{EndsAmong, PieceRule, cover_by, covered_through, piece_in}
+use Rattle.aho_cover.specs.Pieces.{EndsAmong, PieceRule, cover_with, covered_through, piece_in}
 use Rattle.aho_cover.specs.Progress.{HasCovered, IsAll, IsBeginning, copied_to, open_place}
 use Rattle.aho_cover.specs.Walks.{NoneReaches}
+use Rattle.aho_cover.specs.Words.{all_runs, ending_with, runs_with}
+use Rattle.aho_cover.proofs.Chosen.{all-covers, counted-member, kept-enough}
 use Rattle.aho_cover.proofs.Copied.{begins_longer, begins_shorter, begins_with, copied-more, copied-rest, copied-run, copied-through, nothing_between, covered-copied, through-run}
 
 -- each begins at a place or behind it
@@ -54,14 +54,15 @@ module _ (p : Patterns) (haystack : List ℕ) where
   AreClear runs at = (x : Occurrence) → IsMember runs x → NoneReaches p haystack at (x.end + 1)
 
   -- what nothing can touch stays, and what comes behind a clear place begins there or later
-  stays : (n : ℕ) (front rest : List Occurrence) (at place : ℕ) → runs_upto p haystack at ≡ front ++ rest → AreClear front at → NoneReaches p haystack at place → BeginBehind rest place → at + n ≤ length haystack
-      → (later : List Occurrence) × (runs_upto p haystack (at + n) ≡ front ++ later) × BeginBehind later place
-  stays zero front rest at place is settled clear behind within = let same : at + 0 ≡ at = omega arith in (rest, ap (runs_upto p haystack) same ∙ is, behind)
-  stays (suc n) front rest at place is settled clear behind within =
-      let before = stays n front rest at place is settled clear behind (omega arith) in
+  stays : (n : ℕ) (words : Bool) (front rest : List Occurrence) (at place : ℕ) → runs_with words p haystack at ≡ front ++ rest → AreClear front at → NoneReaches p haystack at place → BeginBehind rest place → at + n ≤ length haystack
+      → (later : List Occurrence) × (runs_with words p haystack (at + n) ≡ front ++ later) × BeginBehind later place
+  stays zero words front rest at place is settled clear behind within = let same : at + 0 ≡ at = omega arith in (rest, ap (runs_with words p haystack) same ∙ is, behind)
+  stays (suc n) words front rest at place is settled clear behind within =
+      let before = stays n words front rest at place is settled clear behind (omega arith) in
       let next : at + suc n ≡ suc (at + n) = omega arith in
-      let more = one_more (occurrences_ending p haystack 0 (suc (at + n))) (λ m there. occurrences_ending-only p haystack 0 (suc (at + n)) m (omega arith) there) before.0 before.2 in
-      (more.0, ap (runs_upto p haystack) next ∙ ap (λ (runs : List Occurrence). joined_first runs (occurrences_ending p haystack 0 (suc (at + n)))) before.1 ∙ more.1, more.2)
+      let list = ending_with words p haystack (suc (at + n)) in
+      let more = one_more list (λ m there. occurrences_ending-only p haystack 0 (suc (at + n)) m (omega arith) (counted-member words haystack (occurrences_ending p haystack 0 (suc (at + n))) m there)) before.0 before.2 in
+      (more.0, ap (runs_with words p haystack) next ∙ ap (λ (runs : List Occurrence). joined_first runs list) before.1 ∙ more.1, more.2)
     where
       one_more : (list : List Occurrence) → ((m : Occurrence) → IsMember list m → Occurs p No haystack 0 (suc (at + n)) m × (m.end ≡ suc (at + n))) → (runs : List Occurrence) → BeginBehind runs place
           → (later : List Occurrence) × (joined_first (front ++ runs) list ≡ front ++ later) × BeginBehind later place
@@ -79,14 +80,14 @@ module _ (p : Patterns) (haystack : List ℕ) where
             | inr empty ↦ (runs, cond-false (nat_lt m.start m.end) (joined_runs (front ++ runs) m) (front ++ runs) (le-ltb m.start m.end empty), low)
           ]
 
-  -- where nothing ends, the runs stay
-  pub still-runs : (n at : ℕ) → ((k : ℕ) → at < k → k ≤ at + n → occurrences_ending p haystack 0 k ≡ []) → runs_upto p haystack (at + n) ≡ runs_upto p haystack at
-  still-runs zero at none = let same : at + 0 ≡ at = omega arith in ap (runs_upto p haystack) same
-  still-runs (suc n) at none =
+  -- where nothing ends that counts, the runs stay
+  pub still-runs : (n at : ℕ) (words : Bool) → ((k : ℕ) → at < k → k ≤ at + n → ending_with words p haystack k ≡ []) → runs_with words p haystack (at + n) ≡ runs_with words p haystack at
+  still-runs zero at words none = let same : at + 0 ≡ at = omega arith in ap (runs_with words p haystack) same
+  still-runs (suc n) at words none =
       let next : at + suc n ≡ suc (at + n) = omega arith in
-      ap (runs_upto p haystack) next
-      ∙ ap (joined_first (runs_upto p haystack (at + n))) (none (suc (at + n)) (omega arith) (omega arith))
-      ∙ still-runs n at (λ k low high. none k low (omega arith))
+      ap (runs_with words p haystack) next
+      ∙ ap (joined_first (runs_with words p haystack (at + n))) (none (suc (at + n)) (omega arith) (omega arith))
+      ∙ still-runs n at words (λ k low high. none k low (omega arith))
 
   module _ (rule : PieceRule) where
     abbrev Has : CoverProgress → ℕ → Output → Type 0
@@ -97,27 +98,27 @@ module _ (p : Patterns) (haystack : List ℕ) where
 
     -- the runs of the whole are those that were written, and others behind them
     pub has-runs : (s : CoverProgress) (at : ℕ) (written : Output) (has : Has s at written) → BeginBehind (held_runs s.hand) s.copied
-        → (later : List Occurrence) × (runs_in p haystack ≡ written.runs ++ later) × BeginBehind later s.copied
+        → (later : List Occurrence) × (all_runs s.words p haystack ≡ written.runs ++ later) × BeginBehind later s.copied
     has-runs s at written has behind =
         let within : at ≤ length haystack = omega (arith, has.walked_within, has.given.within) in
         let place : at + (length haystack - at) ≡ length haystack = omega arith in
-        let all = stays (length haystack - at) written.runs (held_runs s.hand) at s.copied has.runs has.settled has.clear behind (omega arith) in
-        (all.0, ap (runs_upto p haystack) (sym place) ∙ all.1, all.2)
+        let all = stays (length haystack - at) s.words written.runs (held_runs s.hand) at s.copied has.runs has.settled has.clear behind (omega arith) in
+        (all.0, ap (runs_with s.words p haystack) (sym place) ∙ all.1, all.2)
 
     -- so what was written is the cover up to there
-    pub has-upto : (s : CoverProgress) (at : ℕ) (written : Output) → Has s at written → BeginBehind (held_runs s.hand) s.copied → covered_up_to haystack s.copied 0 (runs_in p haystack) piece ≡ written.bytes
+    pub has-upto : (s : CoverProgress) (at : ℕ) (written : Output) → Has s at written → BeginBehind (held_runs s.hand) s.copied → covered_up_to haystack s.copied 0 (all_runs s.words p haystack) piece ≡ written.bytes
     has-upto s at written has behind =
         let all = has-runs s at written has behind in
-        let ordered = in_order-last written.runs all.0 (length haystack) (subst (λ (runs : List Occurrence). AreInOrder runs (length haystack)) all.1 (upto-covers p haystack (length haystack) (omega arith)).ordered) in
+        let ordered = in_order-last written.runs all.0 (length haystack) (subst (λ (runs : List Occurrence). AreInOrder runs (length haystack)) all.1 (all-covers p haystack s.words).ordered) in
         ap (λ (runs : List Occurrence). covered_up_to haystack s.copied 0 runs piece) all.1
         ∙ covered-copied haystack piece 0 written.runs all.0 s.copied has.before (λ x there. (all.2 x there, ordered.full x there))
         ∙ sym has.written_is
 
     -- what was written begins the cover
-    pub has-begun : (s : CoverProgress) (at : ℕ) (written : Output) → Has s at written → BeginBehind (held_runs s.hand) s.copied → IsBeginning rule p haystack written
+    pub has-begun : (s : CoverProgress) (at : ℕ) (written : Output) → Has s at written → BeginBehind (held_runs s.hand) s.copied → IsBeginning s.words rule p haystack written
     has-begun s at written has behind =
         let all = has-runs s at written has behind in
-        let cover : cover_by p haystack rule ≡ written.bytes ++ replaced_from haystack s.copied all.0 piece =
+        let cover : cover_with s.words p haystack rule ≡ written.bytes ++ replaced_from haystack s.copied all.0 piece =
         ap (λ (runs : List Occurrence). replaced_from haystack 0 runs piece) all.1
         ∙ copied-rest haystack piece 0 written.runs all.0 s.copied (omega arith) has.before all.2
         ∙ ap (λ (xs : List ℕ). xs ++ replaced_from haystack s.copied all.0 piece) (sym has.written_is) in
@@ -133,35 +134,35 @@ module _ (p : Patterns) (haystack : List ℕ) where
         (subst (λ (xs : List ℕ). StartsWith xs written.bytes) (sym cover) (begins_with written.bytes (replaced_from haystack s.copied all.0 piece)), (all.0, all.1, among))
 
     -- the runs whose pieces were written are so with more behind them
-    still_whole : (written : Output) (more : List ℕ) → IsBeginning rule p haystack written → StartsWith (written.bytes ++ more) (covered_through haystack 0 (written.runs ++ []) piece)
-    still_whole written more begins =
+    still_whole : (words : Bool) (written : Output) (more : List ℕ) → IsBeginning words rule p haystack written → StartsWith (written.bytes ++ more) (covered_through haystack 0 (written.runs ++ []) piece)
+    still_whole words written more begins =
         subst (λ (runs : List Occurrence). StartsWith (written.bytes ++ more) (covered_through haystack 0 runs piece)) (sym (append-nil written.runs))
         (begins_longer written.bytes more (covered_through haystack 0 written.runs piece) begins.1.2.whole)
 
     -- a part of some bytes that hold no piece
-    pub begins_before : (written : Output) (bytes : List ℕ) (n : ℕ) → n ≤ length bytes → IsBeginning rule p haystack written → IsBeginning rule p haystack (put_on written bytes []) → IsBeginning rule p haystack (put_on written (take n bytes) [])
-    begins_before written bytes n within before after = (
-      begins_shorter (cover_by p haystack rule) written.bytes bytes n within after.0,
+    pub begins_before : (words : Bool) (written : Output) (bytes : List ℕ) (n : ℕ) → n ≤ length bytes → IsBeginning words rule p haystack written → IsBeginning words rule p haystack (put_on written bytes []) → IsBeginning words rule p haystack (put_on written (take n bytes) [])
+    begins_before words written bytes n within before after = (
+      begins_shorter (cover_with words p haystack rule) written.bytes bytes n within after.0,
       (
         after.1.0,
         after.1.1,
         record {
-          whole = still_whole written (take n bytes) before;
+          whole = still_whole words written (take n bytes) before;
           no_more = λ next rest is. begins_shorter (covered_through haystack 0 ((written.runs ++ []) ++ next ∷ []) piece) written.bytes bytes n within (after.1.2.no_more next rest is);
         },
       ),
     )
 
     -- a part of the bytes in front of a run and of its piece: the run is not among those whose pieces were written
-    pub begins_within : (written : Output) (bytes : List ℕ) (x : Occurrence) (n : ℕ) → n ≤ length bytes → covered_through haystack 0 (written.runs ++ x ∷ []) piece ≡ written.bytes ++ bytes → IsBeginning rule p haystack written
-        → IsBeginning rule p haystack (put_on written bytes (x ∷ [])) → IsBeginning rule p haystack (put_on written (take n bytes) [])
-    begins_within written bytes x n within through before after = (
-      begins_shorter (cover_by p haystack rule) written.bytes bytes n within after.0,
+    pub begins_within : (words : Bool) (written : Output) (bytes : List ℕ) (x : Occurrence) (n : ℕ) → n ≤ length bytes → covered_through haystack 0 (written.runs ++ x ∷ []) piece ≡ written.bytes ++ bytes → IsBeginning words rule p haystack written
+        → IsBeginning words rule p haystack (put_on written bytes (x ∷ [])) → IsBeginning words rule p haystack (put_on written (take n bytes) [])
+    begins_within words written bytes x n within through before after = (
+      begins_shorter (cover_with words p haystack rule) written.bytes bytes n within after.0,
       (
         x ∷ after.1.0,
         after.1.1 ∙ append_assoc written.runs (x ∷ []) after.1.0 ∙ ap (λ (xs : List Occurrence). xs ++ (x ∷ after.1.0)) (sym (append-nil written.runs)),
         record {
-          whole = still_whole written (take n bytes) before;
+          whole = still_whole words written (take n bytes) before;
           no_more = λ next rest is.
               let all = subst (λ (xs : List ℕ). StartsWith xs (written.bytes ++ bytes)) (sym through) (take_all (length (written.bytes ++ bytes)) (written.bytes ++ bytes) (omega arith)) in
               let first : covered_through haystack 0 (written.runs ++ x ∷ []) piece ≡ covered_through haystack 0 ((written.runs ++ []) ++ next ∷ []) piece =
@@ -173,9 +174,9 @@ module _ (p : Patterns) (haystack : List ℕ) where
     )
 
     -- at the end, with none in hand and all copied, it is the cover
-    pub has-all : (s : CoverProgress) (written : Output) → Has s s.read written → length haystack ≡ s.read → held_runs s.hand ≡ [] → s.copied ≡ s.read → IsAll rule p haystack written
+    pub has-all : (s : CoverProgress) (written : Output) → Has s s.read written → length haystack ≡ s.read → held_runs s.hand ≡ [] → s.copied ≡ s.read → IsAll s.words rule p haystack written
     has-all s written has ended none all =
-        let whole : runs_in p haystack ≡ written.runs ++ [] = ap (runs_upto p haystack) ended ∙ has.runs ∙ ap (λ (runs : List Occurrence). written.runs ++ runs) none in
+        let whole : all_runs s.words p haystack ≡ written.runs ++ [] = ap (runs_with s.words p haystack) ended ∙ has.runs ∙ ap (λ (runs : List Occurrence). written.runs ++ runs) none in
         let nothing : replaced_from haystack s.copied [] piece ≡ [] = drop_all s.copied haystack (omega (arith, ended, all)) in (
           sym (ap (λ (runs : List Occurrence). replaced_from haystack 0 runs piece) whole
               ∙ copied-rest haystack piece 0 written.runs [] s.copied (omega arith) has.before (λ x there. absurd there)
@@ -190,7 +191,7 @@ module _ (p : Patterns) (haystack : List ℕ) where
         → NoneReaches p haystack at place → s.copied ≤ x.start → x.start ≤ x.end
         → Has (record s { copied = copied; hand = hand }) at (put_on written (slice_range haystack s.copied x.start ++ piece x) (x ∷ []))
     has-settled s at place written x hand copied has first ends before clear behind ordered = record {
-      given = record { within = has.given.within; last = has.given.last };
+      given = record { within = has.given.within; last = has.given.last; whole = has.given.whole };
       walked_within = has.walked_within;
       far = has.far;
       since_clear = has.since_clear;
@@ -218,7 +219,7 @@ module _ (p : Patterns) (haystack : List ℕ) where
         let bytes = written.bytes ++ slice_range haystack s.copied end in
         subst (λ (runs : List Occurrence). Has (record s { copied = copied }) at (record { bytes = bytes; runs = runs })) (sym none)
         (record {
-          given = record { within = has.given.within; last = has.given.last };
+          given = record { within = has.given.within; last = has.given.last; whole = has.given.whole };
           walked_within = has.walked_within;
           far = has.far;
           since_clear = has.since_clear;
@@ -242,9 +243,9 @@ module _ (p : Patterns) (haystack : List ℕ) where
         })
 
     -- more of the first run was fed: bytes that no match holds which ends later
-    pub has-fed : (s : CoverProgress) (written : Output) (fed : ℕ) → Has s s.read written → fed ≤ s.read - s.buffer.least → Has (record s { fed = fed }) s.read written
-    has-fed s written fed has few = record {
-      given = record { within = has.given.within; last = has.given.last };
+    pub has-fed : (s : CoverProgress) (at : ℕ) (written : Output) (fed : ℕ) → Has s at written → s.read ≤ at + 1 → fed ≤ s.read - s.buffer.least → Has (record s { fed = fed }) at written
+    has-fed s at written fed has near few = record {
+      given = record { within = has.given.within; last = has.given.last; whole = has.given.whole };
       walked_within = has.walked_within;
       far = has.far;
       since_clear = has.since_clear;
@@ -252,30 +253,30 @@ module _ (p : Patterns) (haystack : List ℕ) where
       settled = has.settled;
       before = has.before;
       clear = has.clear;
-      fed_clear = λ m occurs later. omega (arith, few, later, occurrence-near p haystack m 0 (length haystack) occurs, has.far);
+      fed_clear = λ m occurs later. omega (arith, few, later, near, occurrence-near p haystack m 0 (length haystack) occurs, kept-enough s.words (map length p.words), has.far);
       written_is = has.written_is;
     }
 
     -- what ends later begins behind the open place
     pub has-open : (s : CoverProgress) (at : ℕ) (written : Output) → Has s at written → NoneReaches p haystack at (open_place s at)
-    has-open s at written has m occurs later = omega (arith, has.since_clear m occurs later, occurrence-near p haystack m 0 (length haystack) occurs, has.far)
+    has-open s at written has m occurs later = omega (arith, has.since_clear m occurs later, occurrence-near p haystack m 0 (length haystack) occurs, kept-enough s.words (map length p.words), has.far)
 
     -- a match is joined, once its last byte was walked
-    pub has-joined : (s : CoverProgress) (m : Occurrence) (hand : Hand) (written : Output) → Has s (m.end - 1) written → (others : List Occurrence) → occurrences_ending p haystack 0 m.end ≡ m ∷ others
+    pub has-joined : (s : CoverProgress) (m : Occurrence) (hand : Hand) (written : Output) → Has s (m.end - 1) written → (others : List Occurrence) → ending_with s.words p haystack m.end ≡ m ∷ others
         → m.start < m.end → m.end ≤ s.read → held_runs hand ≡ joined_runs (held_runs s.hand) m → Has (record s { hand = hand }) m.end written
     has-joined s m hand written has others ends some within joined =
         let next : m.end ≡ suc (m.end - 1) = omega arith in
-        let here : IsMember (occurrences_ending p haystack 0 m.end) m = subst (λ (list : List Occurrence). IsMember list m) (sym ends) (inl refl) in
+        let here : IsMember (occurrences_ending p haystack 0 m.end) m = counted-member s.words haystack (occurrences_ending p haystack 0 m.end) m (subst (λ (list : List Occurrence). IsMember list m) (sym ends) (inl refl)) in
         let last = occurrences_ending-only p haystack 0 m.end m (omega (arith, has.given.within)) here in
         let occurs : Occurs p No haystack 0 (length haystack) m = record { numbered = last.0.numbered; after_start = last.0.after_start; before_end = omega (arith, last.1, has.given.within); sized = last.0.sized; same = last.0.same; admitted = λ e. cc } in
         record {
-          given = record { within = has.given.within; last = has.given.last };
+          given = record { within = has.given.within; last = has.given.last; whole = has.given.whole };
           walked_within = within;
           far = has.far;
           since_clear = λ n o later. has.since_clear n o (omega arith);
-          runs = ap (runs_upto p haystack) next
-              ∙ ap (joined_first (runs_upto p haystack (m.end - 1))) (ap (occurrences_ending p haystack 0) (sym next) ∙ ends)
-              ∙ cond-true (nat_lt m.start m.end) (joined_runs (runs_upto p haystack (m.end - 1)) m) (runs_upto p haystack (m.end - 1)) (lt-ltb m.start m.end some)
+          runs = ap (runs_with s.words p haystack) next
+              ∙ ap (joined_first (runs_with s.words p haystack (m.end - 1))) (ap (ending_with s.words p haystack) (sym next) ∙ ends)
+              ∙ cond-true (nat_lt m.start m.end) (joined_runs (runs_with s.words p haystack (m.end - 1)) m) (runs_with s.words p haystack (m.end - 1)) (lt-ltb m.start m.end some)
               ∙ ap (λ (runs : List Occurrence). joined_runs runs m) has.runs
               ∙ joined-behind written.runs (held_runs s.hand) m (λ x there. omega (arith, has.settled x there m occurs (omega arith)))
               ∙ ap (λ (runs : List Occurrence). written.runs ++ runs) (sym joined);

@@ -1,5 +1,8 @@
 -- One byte more of a walk.
 pub mod Further
+-- The runs of what counts.
+pub mod Chosen
+pub mod Listed
 -- What is written, and what it makes of the cover.
 pub mod Counted
 pub mod Written
@@ -14,5 +17,6 @@ pub mod Reached
 -- From one read to the next.
 pub mod Going
 pub mod Begun
+pub mod Ended
 -- What is passed over.
 pub mod Passed

@@ -1,5 +1,5 @@
 -- Bytes that are passed over: the state is a start, and nothing that occurs begins there.
-use Rattle.std.proofs.Common.{◌≡◌, ℕ, ◌+◌, ◌-◌, ◌<◌, ◌≤◌, inl, inr, Bool, true, false, List, [], length, sym, ◌∙◌, ap, subst, arith}
+use Rattle.std.proofs.Common.{◌≡◌, ℕ, ◌+◌, ◌-◌, ◌<◌, ◌≤◌, inl, inr, Bool, true, false, List, [], length, map, sym, ◌∙◌, ap, subst, arith}
 use Rattle.std.specs.Prelude.{Option, Some, None, if◌then◌else◌, slice_range}
 use Rattle.std.proofs.lemmas.Bool.{cases_lt}
 use Rattle.aho_core.specs.Laws.{Reads, shortest}
@@ -19,6 +19,8 @@ use Rattle.aho_cover.specs.Counting.{Output}
 use Rattle.aho_cover.specs.Steps.{CoversOn}
 use Rattle.aho_cover.specs.Pieces.{PieceRule}
 use Rattle.aho_cover.specs.Walks.{NoneReaches, StandsIn}
+use Rattle.aho_cover.specs.Words.{ending_with}
+use Rattle.aho_cover.proofs.Chosen.{counted-none, kept-enough}
 use Rattle.aho_cover.proofs.Covered.{still-runs}
 use Rattle.aho_cover.proofs.Further.{clear-start}
 
@@ -29,36 +31,38 @@ own-held false held searcher same = cc
 
 module _ {A : Type 0} (G : Automata A) (a : A) (p : Patterns) (haystack : List ℕ) (laws : Reads p (G.kind a) (G.lengths a) (G.held a p) (G.list a) (G.dead a) (G.starts a)) (no_empty : 1 ≤ shortest (G.lengths a))
     (rule : PieceRule) (s : CoverProgress) (at count : ℕ) (written : Output) (covers : CoversOn G a rule s at p haystack written) (start : G.starts a s.sid ≡ true)
-    (none : NoneStartsBefore p (slice_range haystack at s.read) 0 (length (slice_range haystack at s.read)) count) (few : count ≤ length (slice_range haystack at s.read) - s.buffer.least) where
+    (end : ℕ) (ends : end ≤ s.read) (on : at ≤ end)
+    (none : NoneStartsBefore p (slice_range haystack at end) 0 (length (slice_range haystack at end)) count) (few : count ≤ length (slice_range haystack at end) - s.buffer.least) where
   read_within : s.read ≤ length haystack
   read_within = covers.covered.given.within
 
-  long : length (slice_range haystack at s.read) ≡ s.read - at
-  long = length_part haystack at s.read read_within
+  long : length (slice_range haystack at end) ≡ end - at
+  long = length_part haystack at end (omega (arith, ends, read_within))
 
-  least : s.buffer.least ≡ kept_for (G.lengths a)
-  least = covers.covered.far ∙ ap kept_for (sym laws.lengths_are)
+  least : kept_for (G.lengths a) ≤ s.buffer.least
+  least = omega (arith, covers.covered.far, (kept-enough s.words (map length p.words)).1, ap kept_for laws.lengths_are)
 
-  passed_within : at + count ≤ s.read
-  passed_within = omega (arith, few, long, covers.covered.walked_within)
+  passed_within : at + count ≤ end
+  passed_within = omega (arith, few, long, on)
 
   -- what ends later begins behind the bytes
   begins_later : NoneReaches p haystack at (at + count)
   begins_later m occurs ends = elim (cases_lt m.start (at + count)) [
     | inl early ↦
         (let late : at ≤ m.start = clear-start G a p haystack laws at s.sid covers.is_held start m occurs ends in
-        let near : m.end ≤ s.read = omega (arith, early, late, few, long, least, covers.covered.walked_within, occurs_short p (G.lengths a) laws.lengths_are m occurs) in
-        let here : Occurs p No haystack at s.read m = record { numbered = occurs.numbered; after_start = late; before_end = near; sized = occurs.sized; same = occurs.same; admitted = λ e. cc } in
-        let there = subst (λ (x : ℕ). Occurs p No (slice_range haystack at s.read) 0 x (moved_back at m)) (sym long) (into_part p No haystack at s.read m here) in
+        let near : m.end ≤ end = omega (arith, early, late, few, long, least, on, occurs_short p (G.lengths a) laws.lengths_are m occurs) in
+        let here : Occurs p No haystack at end m = record { numbered = occurs.numbered; after_start = late; before_end = near; sized = occurs.sized; same = occurs.same; admitted = λ e. cc } in
+        let there = subst (λ (x : ℕ). Occurs p No (slice_range haystack at end) 0 x (moved_back at m)) (sym long) (into_part p No haystack at end m here) in
         omega (arith, none (moved_back at m) there, late))
     | inr ge ↦ ge
   ]
 
   -- so nothing ends in them
-  none_ends : (k : ℕ) → at < k → k ≤ at + count → occurrences_ending p haystack 0 k ≡ []
+  none_ends : (k : ℕ) → at < k → k ≤ at + count → ending_with s.words p haystack k ≡ []
   none_ends k low high =
-      nothing_ends p haystack 0 k (length haystack) (omega (arith, high, passed_within, read_within)) (omega (arith, high, passed_within, read_within))
-      (λ m occurs ends. omega (arith, ends, low, high, begins_later m occurs (omega (arith, ends, low)), occurs_some p (G.lengths a) laws.lengths_are m occurs no_empty))
+      counted-none s.words haystack (occurrences_ending p haystack 0 k)
+      (nothing_ends p haystack 0 k (length haystack) (omega (arith, high, passed_within, ends, read_within)) (omega (arith, high, passed_within, ends, read_within))
+      (λ m occurs ends. omega (arith, ends, low, high, begins_later m occurs (omega (arith, ends, low)), occurs_some p (G.lengths a) laws.lengths_are m occurs no_empty)))
 
   -- and the start may as well be held behind them
   stands_behind : 0 < count → StandsIn G a p haystack s.sid (at + count)
@@ -66,7 +70,7 @@ module _ {A : Type 0} (G : Automata A) (a : A) (p : Patterns) (haystack : List �
     origin = at + count;
     after_start = omega arith;
     before_place = omega arith;
-    in_span = omega (arith, passed_within, read_within);
+    in_span = omega (arith, passed_within, ends, read_within);
     from_start = λ e. cc;
     apart = λ m occurs early. elim (cases_lt at m.end) [
       | inl later ↦ absurd (omega (arith, early, begins_later m occurs later))
@@ -89,11 +93,11 @@ module _ {A : Type 0} (G : Automata A) (a : A) (p : Patterns) (haystack : List �
         of = covers.of;
         is_held = stands_there;
         covered = record {
-          given = record { within = has.given.within; last = has.given.last };
-          walked_within = passed_within;
+          given = record { within = has.given.within; last = has.given.last; whole = has.given.whole };
+          walked_within = omega (arith, passed_within, ends);
           far = has.far;
           since_clear = λ m occurs later. begins_later m occurs (omega (arith, later));
-          runs = still-runs p haystack count at none_ends ∙ has.runs;
+          runs = still-runs p haystack count at s.words none_ends ∙ has.runs;
           settled = λ x there m occurs later. has.settled x there m occurs (omega (arith, later));
           before = has.before;
           clear = λ m occurs later. has.clear m occurs (omega (arith, later));

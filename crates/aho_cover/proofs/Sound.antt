@@ -1,5 +1,5 @@
 -- The numbers of a cover, from one run that is written to the next.
-use Rattle.std.proofs.Common.{◌≡◌, ◌⊎◌, inl, inr, ℕ, ◌+◌, ◌-◌, ◌/◌, ◌^◌, ◌<◌, ◌≤◌, max, min, List, [], ◌∷◌, length, refl, sym, ◌∙◌, ap, subst, arith}
+use Rattle.std.proofs.Common.{◌≡◌, ◌⊎◌, inl, inr, ℕ, ◌+◌, ◌-◌, ◌/◌, ◌^◌, ◌<◌, ◌≤◌, max, min, Bool, true, false, List, [], ◌∷◌, length, refl, sym, ◌∙◌, ap, subst, arith}
 use Rattle.std.specs.Prelude.{Some, nat_lt}
 use Rattle.std.proofs.lemmas.Bool.{cases_lt, cond-false, cond-true, le-ltb, lt-ltb}
 use Rattle.aho_core.specs.Listing.{IsMember}
@@ -12,8 +12,17 @@ use Rattle.aho_cover.specs.declared.hand.Hand.{Hand}
 use Rattle.aho_cover.specs.declared.progress.CoverProgress.{CoverProgress}
 use Rattle.aho_cover.specs.Feeds.{HasFedFirst}
 use Rattle.aho_cover.specs.Hand.{FirstEndsBehind, HasItsFirst, first_start, held_runs, room_in}
-use Rattle.aho_cover.specs.Progress.{BareFrom, IsSoundCover, least_start, open_place, outside_end}
+use Rattle.aho_cover.specs.Progress.{BareFrom, IsSoundCover, least_start, open_place, outside_end, waiting, walk_end}
 use Rattle.aho_cover.proofs.Covered.{joined-start}
+
+-- no more waits than one byte
+few-waiting : (words ended : Bool) → waiting words ended ≤ 1
+few-waiting false ended = omega arith
+few-waiting true false = omega arith
+few-waiting true true = omega arith
+
+pub last-waits : (s : CoverProgress) → s.read ≤ walk_end s + 1
+last-waits s = omega (arith, few-waiting s.words s.ended)
 
 module _ (s : CoverProgress) (at : ℕ) (sound : IsSoundCover s at) where
   module _ (x : Occurrence) (rest : List Occurrence) (first : held_runs s.hand ≡ x ∷ rest) where
@@ -57,6 +66,7 @@ module _ (s : CoverProgress) (at : ℕ) (sound : IsSoundCover s at) where
       some = sound.some;
       held = sound.held;
       unwalked = sound.unwalked;
+      last_held = sound.last_held;
       since_walked = sound.since_walked;
       copied_walked = omega (arith, first-lies);
       in_order = subst (λ (runs : List Occurrence). AreInOrder runs at) (sym left) (in_order-rest x rest at ordered-first);
@@ -108,6 +118,7 @@ module _ (s : CoverProgress) (at : ℕ) (sound : IsSoundCover s at) where
     some = sound.some;
     held = sound.held;
     unwalked = sound.unwalked;
+    last_held = sound.last_held;
     since_walked = sound.since_walked;
     copied_walked = omega (arith, sound.copied_walked, outside-within place);
     in_order = sound.in_order;
@@ -207,6 +218,7 @@ module _ (s : CoverProgress) (m : Occurrence) (sound : IsSoundCover s (m.end - 1
     some = sound.some;
     held = sound.held;
     unwalked = omega (arith, sound.unwalked);
+    last_held = omega (arith, sound.last_held);
     since_walked = omega (arith, sound.since_walked);
     copied_walked = omega (arith, sound.copied_walked);
     in_order = subst (λ (runs : List Occurrence). AreInOrder runs m.end) (sym joined) (joined-in_order (held_runs s.hand) m (m.end - 1) sound.in_order some);
@@ -236,7 +248,7 @@ pub open-within : (s : CoverProgress) (at : ℕ) → IsSoundCover s at → open_
 open-within s at sound = omega (arith, sound.since_walked, sound.some)
 
 -- once more was read
-module _ (s : CoverProgress) (sound : IsSoundCover s s.read) (near : BareFrom s.copied (held_runs s.hand) (s.read - s.buffer.least)) where
+module _ (s : CoverProgress) (at : ℕ) (sound : IsSoundCover s at) (last : s.read ≤ at + 1) (near : BareFrom s.copied (held_runs s.hand) (s.read - s.buffer.least)) where
   module _ (x : Occurrence) (rest : List Occurrence) (first : held_runs s.hand ≡ x ∷ rest) where
     abbrev kept_from : ℕ
     kept_from = s.read - s.buffer.least
@@ -244,7 +256,7 @@ module _ (s : CoverProgress) (sound : IsSoundCover s s.read) (near : BareFrom s.
     member-known : (y : Occurrence) → IsMember (held_runs s.hand) y → (y ≡ x) ⊎ (x.end < y.start) × (y.start < y.end)
     member-known y there = elim (subst (λ (runs : List Occurrence). IsMember runs y) first there) [
       | inl e ↦ inl e
-      | inr later ↦ inr (rest-lie s s.read sound x rest first y later, sound.in_order.full y there)
+      | inr later ↦ inr (rest-lie s at sound x rest first y later, sound.in_order.full y there)
     ]
 
     -- the first run begins where all was written, if the buffer may let go of its first byte
@@ -255,34 +267,35 @@ module _ (s : CoverProgress) (sound : IsSoundCover s s.read) (near : BareFrom s.
         gone,
         near s.copied (omega arith) (λ c. elim (member-known c.found c.member) [
           | inl e ↦ omega (arith, before, c.after_start, ap (λ (o : Occurrence). o.start) e)
-          | inr later ↦ omega (arith, before, c.after_start, later, first-lies s s.read sound x rest first)
+          | inr later ↦ omega (arith, before, c.after_start, later, first-lies s at sound x rest first)
         ]),
         before,
       ))
-      | inr past ↦ omega (arith, past, first-lies s s.read sound x rest first)
+      | inr past ↦ omega (arith, past, first-lies s at sound x rest first)
     ]
 
     -- and ends in the bytes that it keeps, or behind them
     first-ends : s.read - s.buffer.least ≤ x.end
-    first-ends = near x.end (omega (arith, first-lies s s.read sound x rest first)) (λ c. elim (member-known c.found c.member) [
+    first-ends = near x.end (omega (arith, first-lies s at sound x rest first)) (λ c. elim (member-known c.found c.member) [
       | inl e ↦ omega (arith, c.before_end, ap (λ (o : Occurrence). o.end) e)
       | inr later ↦ omega (arith, c.after_start, later)
     ])
 
     -- once its bytes were fed up to there
-    pub sound-fed : (fed : ℕ) → fed ≡ s.read - s.buffer.least → max s.fed x.start < fed → IsSoundCover (record s { fed = fed }) s.read
+    pub sound-fed : (fed : ℕ) → fed ≡ s.read - s.buffer.least → max s.fed x.start < fed → IsSoundCover (record s { fed = fed }) at
     sound-fed fed is more = record {
       small = sound.small;
       walked = sound.walked;
       some = sound.some;
       held = sound.held;
       unwalked = sound.unwalked;
+      last_held = sound.last_held;
       since_walked = sound.since_walked;
       copied_walked = sound.copied_walked;
       in_order = sound.in_order;
       behind = sound.behind;
       kept = sound.kept;
-      fed_walked = omega (arith, is);
+      fed_walked = omega (arith, is, last, sound.some);
       fed_first = λ some. ap first_start first ∙ ap Some (first-copied (omega (arith, is, more)));
       fed_within = λ y there. elim (member-known y there) [
         | inl e ↦ omega (arith, is, first-ends, ap (λ (o : Occurrence). o.end) e)
@@ -297,17 +310,18 @@ module _ (s : CoverProgress) (sound : IsSoundCover s s.read) (near : BareFrom s.
     pub fed-enough : s.read - s.buffer.least ≤ max s.fed x.start → HasFedFirst s
     fed-enough enough y there = elim (member-known y there) [
       | inl e ↦ omega (arith, enough, ap (λ (o : Occurrence). o.start) e)
-      | inr later ↦ omega (arith, enough, later, first-lies s s.read sound x rest first)
+      | inr later ↦ omega (arith, enough, later, first-lies s at sound x rest first)
     ]
 
   pub sound-read : HasFedFirst s → (buffer : Buffered) (read n : ℕ) → read ≡ s.read + n → read < 2 ^ 63 → buffer.least ≡ s.buffer.least → length buffer.bytes ≡ min s.buffer.least (length s.buffer.bytes) + n
-      → IsSoundCover (record s { buffer = buffer; read = read }) s.read
+      → IsSoundCover (record s { buffer = buffer; read = read }) at
   sound-read fed buffer read n count small least long = record {
     small = small;
-    walked = omega arith;
+    walked = omega (arith, sound.walked);
     some = omega (arith, sound.some);
     held = omega (arith, sound.held);
-    unwalked = omega arith;
+    unwalked = omega (arith, sound.unwalked, sound.some, last);
+    last_held = omega (arith, sound.last_held, sound.some, last);
     since_walked = sound.since_walked;
     copied_walked = sound.copied_walked;
     in_order = sound.in_order;

@@ -1,6 +1,7 @@
 pub mod Hand
 pub mod Walks
 pub mod Counting
+pub mod Words
 pub mod Writes
 pub mod Pieces
 pub mod Progress

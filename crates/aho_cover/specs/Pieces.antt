@@ -1,11 +1,10 @@
 -- The piece of a run, made of the number of its pattern and of its bytes.
-use Rattle.std.specs.Prelude.{◌≡◌, ℕ, List, [], ◌∷◌, ◌++◌, slice_index_or, slice_range}
+use Rattle.std.specs.Prelude.{◌≡◌, ℕ, Bool, false, List, [], ◌∷◌, ◌++◌, slice_index_or, slice_range}
 use Rattle.std.specs.Io.{StartsWith}
-use Rattle.aho_core.specs.Cover.{AreRuns}
 use Rattle.aho_core.specs.Occurrence.{Occurrence}
 use Rattle.aho_core.specs.Patterns.{Patterns}
 use Rattle.aho_core.specs.Replacement.{replaced_by}
-use Rattle.aho_automaton.specs.Covering.{runs_in}
+use Rattle.aho_cover.specs.Words.{AreRunsWith, all_runs}
 
 -- what makes pieces
 abbrev pub PieceRule : Type 0
@@ -29,9 +28,14 @@ pub record EndsAmong (haystack : List ℕ) (piece : Occurrence → List ℕ) (fi
   pub whole : StartsWith written (covered_through haystack 0 first piece)
   pub no_more : (next : Occurrence) (rest : List Occurrence) → later ≡ next ∷ rest → StartsWith (covered_through haystack 0 (first ++ next ∷ []) piece) written
 
--- the cover of a text: each run is replaced by the piece that is made of it
-abbrev pub IsCoverBy : Patterns → List ℕ → PieceRule → List ℕ → Type 0
-IsCoverBy p haystack rule output = (runs : List Occurrence) × AreRuns p haystack runs × (output ≡ replaced_by haystack runs (piece_in rule haystack))
+-- the cover of a text: each run is replaced by the piece that is made of it. Of all that occurs, or of the words alone
+abbrev pub IsCoverWith : (words : Bool) → Patterns → List ℕ → PieceRule → List ℕ → Type 0
+IsCoverWith words p haystack rule output = (runs : List Occurrence) × AreRunsWith words p haystack runs × (output ≡ replaced_by haystack runs (piece_in rule haystack))
 
-abbrev pub cover_by : Patterns → List ℕ → PieceRule → List ℕ
-cover_by p haystack rule = replaced_by haystack (runs_in p haystack) (piece_in rule haystack)
+-- of all that occurs
+abbrev pub IsCoverBy : Patterns → List ℕ → PieceRule → List ℕ → Type 0
+IsCoverBy p haystack rule output = IsCoverWith false p haystack rule output
+
+-- as it is computed
+abbrev pub cover_with : (words : Bool) → Patterns → List ℕ → PieceRule → List ℕ
+cover_with words p haystack rule = replaced_by haystack (all_runs words p haystack) (piece_in rule haystack)

@@ -1,5 +1,5 @@
 -- How far the walk over a covered stream has come, with what was written of it.
-use Rattle.std.specs.Prelude.{◌≡◌, ℕ, ◌+◌, ◌-◌, ◌*◌, ◌≤◌, List}
+use Rattle.std.specs.Prelude.{◌≡◌, ℕ, ◌+◌, ◌-◌, ◌*◌, ◌≤◌, List, length}
 use Rattle.aho_core.specs.Laws.{shortest}
 use Rattle.aho_core.specs.Patterns.{Patterns}
 use Rattle.aho_core.specs.declared.search.MatchKind.TheVariants.{Standard}
@@ -12,7 +12,7 @@ use Rattle.aho_cover.specs.Counting.{Output}
 use Rattle.aho_cover.specs.Feeds.{Feeding}
 use Rattle.aho_cover.specs.Hand.{held_runs}
 use Rattle.aho_cover.specs.Pieces.{PieceRule}
-use Rattle.aho_cover.specs.Progress.{BareFrom, HasCovered}
+use Rattle.aho_cover.specs.Progress.{BareFrom, HasCovered, walk_end}
 use Rattle.aho_cover.specs.Walks.{StandsIn}
 use Rattle.aho_cover.specs.Writes.{WritesOn}
 
@@ -21,6 +21,10 @@ pub record CoversOn {A : Type 0} (G : Automata A) (a : A) (rule : PieceRule) (s 
   pub of : G.is_of a p
   pub is_held : StandsIn G a p haystack s.sid at
   pub covered : HasCovered rule s at p haystack written
+
+-- and what makes the pieces holds the bytes that were fed
+abbrev pub CoversFed : {A P : Type 0} → Automata A → PieceGhosts P → A → P → CoverProgress → ℕ → Patterns → List ℕ → Output → Type 0
+CoversFed G Q a pieces s at = Feeding (Q.holds pieces) s (CoversOn G a (Q.rule pieces) s at)
 
 -- a walk from one place to another writes and counts what settles on its way
 abbrev pub WalksAlong : {A W P : Type 0} → Automata A → SinkGhosts W → PieceGhosts P → A → P → P → W → W → List ℕ → List ℕ → CoverProgress → ℕ → CoverProgress → ℕ → Type 0
@@ -44,11 +48,22 @@ pub record CanWalk {A : Type 0} (G : Automata A) (walk : Counted A) (rule : Piec
 abbrev pub MayRoll : CoverProgress → Type 0
 MayRoll s = BareFrom s.copied (held_runs s.hand) (s.read - s.buffer.least)
 
--- all was written that can be: each byte that was not, and lies in no run in hand, is among those over which the state reaches back
+-- all was written that can be: each byte that was not, and lies in no run in hand, is among those over which the state reaches back,
+-- or waits for the next
 abbrev pub IsPrompt : {A : Type 0} → Automata A → A → CoverProgress → Type 0
-IsPrompt G a s = BareFrom s.copied (held_runs s.hand) (s.read - G.reach a s.sid)
+IsPrompt G a s = BareFrom s.copied (held_runs s.hand) (walk_end s - G.reach a s.sid)
 
 -- nothing was read, and the buffer holds the same
 pub record KeepsBytes (s s' : CoverProgress) : Type 0 where
   pub read : s'.read ≡ s.read
   pub buffer : s'.buffer ≡ s.buffer
+  pub words : s'.words ≡ s.words
+  pub ended : s'.ended ≡ s.ended
+
+-- so much was covered of a stream that ends with what was read
+abbrev pub CoversToEnd : {A : Type 0} → Automata A → A → PieceRule → (List ℕ → Type 0) → CoverProgress → ℕ → Patterns → List ℕ → Output → Type 0
+CoversToEnd G a rule holds s at p haystack written = Feeding holds s (CoversOn G a rule s at) p haystack written × (length haystack ≡ s.read)
+
+-- of some such stream
+abbrev pub CoversSomeToEnd : {A : Type 0} → Automata A → A → PieceRule → (List ℕ → Type 0) → CoverProgress → ℕ → Type 0
+CoversSomeToEnd G a rule holds s at = (p : Patterns) × (haystack : List ℕ) × (written : Output) × CoversToEnd G a rule holds s at p haystack written

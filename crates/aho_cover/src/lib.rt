@@ -11,3 +11,4 @@ pub mod start;
 mod steps;
 pub mod stream;
 mod walk;
+mod words;

@@ -1,8 +1,8 @@
 //! How far the cover of a stream has come: numbers, the last bytes, and the runs in hand.
 
-ghost use Rattle.std.specs.Prelude.{◌≡◌, ◌+◌, ◌-◌, ◌<◌, ◌≤◌, ◌^◌, ℕ, List, [], OnErr, OnOk, Ok, length, max, slice_range, true, false};
+ghost use Rattle.std.specs.Prelude.{◌≡◌, ◌+◌, ◌-◌, ◌<◌, ◌≤◌, ◌^◌, ℕ, List, [], OnErr, OnOk, Ok, length, max, slice_index, slice_range, true, false};
 ghost use Rattle.aho_cover.specs.Hand.{FirstEndsBehind, HasItsFirst, held_runs, room_in};
-ghost use Rattle.aho_cover.specs.Progress.{BareFrom, ClearlyCovered, EndsHere, EndsNext, HasCovered, IsAll, IsBeginning, IsGiven, IsSoundCover, KeepsRoom, open_place, outside_end, unbegun_cover};
+ghost use Rattle.aho_cover.specs.Progress.{BareFrom, ClearlyCovered, EndsHere, EndsNext, HasCovered, IsAll, IsBeginning, IsGiven, IsSoundCover, KeepsRoom, open_place, outside_end, unbegun_cover, walk_end};
 ghost use Rattle.aho_cover.specs.Feeds.{Feeding, HasFedFirst};
 ghost use Rattle.aho_cover.specs.Steps.{MayRoll};
 ghost use Rattle.aho_cover.specs.Settling.{FeedsFirst, Settles, StopsAt, StopsOutside, StopsSettling, WritesOutside};
@@ -34,12 +34,16 @@ pub(crate) struct CoverProgress {
     pub(crate) sid: StateID,
     /// The runs that were not written, of what was walked.
     pub(crate) hand: Hand,
+    /// Whether words alone count.
+    pub(crate) words: bool,
+    /// Whether the end of the stream was seen.
+    pub(crate) ended: bool,
 }
 
 impl CoverProgress {
     /// Nothing was given yet.
-    pub(crate) fn new(buffer: Buffer, hand: Hand, sid: StateID) -> CoverProgress
-        ensures made { result ≡ unbegun_cover buffer hand sid }
+    pub(crate) fn new(buffer: Buffer, hand: Hand, sid: StateID, words: bool) -> CoverProgress
+        ensures made { result ≡ unbegun_cover buffer hand sid words }
     {
         CoverProgress {
             buffer,
@@ -49,16 +53,18 @@ impl CoverProgress {
             fed: 0,
             sid,
             hand,
+            words,
+            ended: false,
         }
     }
 
     /// Begins anew, in the state of a start. The memory stays.
-    pub(crate) fn begin_anew(&mut self, sid: StateID)
+    pub(crate) fn begin_anew(&mut self, sid: StateID, words: bool)
         ensures buffer { self.new.buffer ≡ record self.old.buffer { bytes = [] } }
         ensures none { held_runs self.new.hand ≡ [] }
         ensures whole { HasItsFirst self.new.hand }
         ensures same_room { room_in self.new.hand ≡ room_in self.old.hand }
-        ensures made { self.new ≡ unbegun_cover self.new.buffer self.new.hand sid }
+        ensures made { self.new ≡ unbegun_cover self.new.buffer self.new.hand sid words }
     {
         self.buffer.clear();
         self.hand.clear();
@@ -67,6 +73,26 @@ impl CoverProgress {
         self.copied = 0;
         self.fed = 0;
         self.sid = sid;
+        self.words = words;
+        self.ended = false;
+    }
+
+    /// The end of the stream was seen: nothing follows what was read.
+    pub(crate) fn see_end(&mut self)
+        ensures only { self.new ≡ record self.old { ended = true } }
+    {
+        self.ended = true;
+    }
+
+    /// The place up to which what was read may be walked. Where words are asked for, the last byte waits for the next.
+    #[inline(always)]
+    pub(crate) fn walk_end(&self) -> usize
+        ensures end { result ≡ walk_end self.now }
+    {
+        if self.words && !self.ended {
+            return self.read.saturating_sub(1);
+        }
+        self.read
     }
 
     /// The place before which nothing begins that ends behind `at`, whatever follows.
@@ -90,6 +116,19 @@ impl CoverProgress {
         let bytes = self.buffer.buffer();
         let first = self.read - bytes.len();
         &bytes[start - first..end - first]
+    }
+
+    /// The byte at a place, of those that are held.
+    pub(crate) fn byte(&self, at: usize) -> u8
+        requires read { at < self.now.read }
+        requires held { self.now.read ≤ at + length self.now.buffer.bytes }
+        requires whole { length self.now.buffer.bytes ≤ self.now.read }
+        ensures byte { (haystack : List ℕ) → IsGiven self.now haystack
+            → result ≡ slice_index haystack at }
+    {
+        let bytes = self.buffer.buffer();
+        let first = self.read - bytes.len();
+        bytes[at - first]
     }
 
     /// The bytes from where all was written up to another place: none, where that is not behind.
@@ -173,12 +212,12 @@ impl CoverProgress {
         Ok(())
     }
 
-    /// Feeds the bytes of the first run in hand that the buffer may let go of: all but the last, as many as it keeps. What was read
-    /// was walked, so no match that ends later holds any of them without all that stand behind them in the run.
+    /// Feeds the bytes of the first run in hand that the buffer may let go of: all but the last, as many as it keeps. What can be
+    /// walked was walked, so no match that ends later holds any of them without all that stand behind them in the run.
     pub(crate) fn feed_first<P: Pieces>(&mut self, pieces: &mut P)
-        requires sound { IsSoundCover self.old self.old.read }
+        requires sound { IsSoundCover self.old (walk_end self.old) }
         requires near { MayRoll self.old }
-        ensures sound { IsSoundCover self.new self.old.read }
+        ensures sound { IsSoundCover self.new (walk_end self.old) }
         ensures only { self.new ≡ record self.old { fed = self.new.fed } }
         ensures fed { HasFedFirst self.new }
         ensures feeds { FeedsFirst P.Pieces pieces.old pieces.new self.old self.new }
@@ -294,10 +333,10 @@ impl CoverProgress {
         requires sound { IsSoundCover self.old self.old.read }
         ensures covers { OnOk result (WritesOn W.Sink sink.old sink.new counts.old counts.new
             (Feeding (P.holds pieces.old) self.old (EndsHere (P.rule pieces.old) self.old))
-            (IsAll (P.rule pieces.old))) }
+            (IsAll self.old.words (P.rule pieces.old))) }
         ensures begins { OnErr result (WritesOn W.Sink sink.old sink.new counts.old counts.new
             (Feeding (P.holds pieces.old) self.old (EndsHere (P.rule pieces.old) self.old))
-            (IsBeginning (P.rule pieces.old))) }
+            (IsBeginning self.old.words (P.rule pieces.old))) }
         ensures rule { P.rule pieces.new ≡ P.rule pieces.old }
         ensures room { KeepsRoom self.old self.new }
         ensures tells { TellsWrites W.Sink sink.old sink.new result }

@@ -6,7 +6,7 @@ ghost use Rattle.aho_devices.specs.Refusals.{IsFillRefusal, is_read_fault};
 ghost use Rattle.aho_stream.specs.After.{EndsWith, greatest_position};
 ghost use Rattle.aho_stream.specs.Refills.{is_limit};
 ghost use Rattle.aho_cover.specs.Feeds.{HasFedFirst};
-ghost use Rattle.aho_cover.specs.Progress.{IsSoundCover, KeepsRoom};
+ghost use Rattle.aho_cover.specs.Progress.{IsSoundCover, KeepsRoom, walk_end};
 ghost use Rattle.aho_cover.specs.Refilling.{TakesIn, sees_end};
 ghost use Rattle.aho_cover.specs.Steps.{MayRoll};
 
@@ -40,10 +40,10 @@ pub(crate) fn refill<R: Source, W: Sink>(
     _sink: &W,
 ) -> Result<bool, StreamError>
     requires flushed { W.flushed _sink.now ≡ true }
-    requires sound { IsSoundCover progress.old progress.old.read }
+    requires sound { IsSoundCover progress.old (walk_end progress.old) }
     requires near { MayRoll progress.old }
     requires fed { HasFedFirst progress.old }
-    ensures sound { OnOk result (IsSoundCover progress.new progress.old.read) }
+    ensures sound { OnOk result (IsSoundCover progress.new (walk_end progress.old)) }
     ensures takes { TakesIn progress.old progress.new (R.remaining source.old) (R.remaining source.new) }
     ensures more { result ≡ Ok false → progress.old.read < progress.new.read }
     ensures none { result ≡ Ok true → progress.new.read ≡ progress.old.read }

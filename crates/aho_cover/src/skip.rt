@@ -12,7 +12,7 @@ ghost use Rattle.aho_prefilter.specs.Candidate.{NoneStartsBefore};
 ghost use Rattle.aho_prefilter.specs.Prefilter.{IsPrefilterOf};
 ghost use Rattle.aho_cover.specs.Feeds.{any_bytes};
 ghost use Rattle.aho_cover.specs.Pieces.{PieceRule};
-ghost use Rattle.aho_cover.specs.Progress.{IsSoundCover};
+ghost use Rattle.aho_cover.specs.Progress.{IsSoundCover, walk_end};
 ghost use Rattle.aho_cover.specs.Steps.{CanWalk, PassesOver};
 
 use crate::progress::CoverProgress;
@@ -43,22 +43,22 @@ fn passable(prefilter: &Prefilter, bytes: &[u8], longest: usize) -> usize
 }
 
 /// Whether a walk may wait for a candidate: the automaton has a prefilter for streams, there is patience left, and more is left of
-/// the bytes read than a match may have.
+/// the bytes that may be walked than a match may have.
 pub(crate) fn may_wait<A: Automaton>(
     walk: &Counted<'_, A>,
     progress: &CoverProgress,
     patience: usize,
     at: usize,
 ) -> bool
-    requires within { at ≤ progress.now.read }
+    requires within { at ≤ walk_end progress.now }
 {
     if patience == 0 || walk.stream_prefilter().is_none() {
         return false;
     }
-    progress.read - at > progress.buffer.min_buffer_len()
+    progress.walk_end() - at > progress.buffer.min_buffer_len()
 }
 
-/// Passes over bytes that were read and not walked, up to the next place at which a match may begin, where the state is a start,
+/// Passes over bytes that may be walked and were not, up to the next place at which a match may begin, where the state is a start,
 /// the automaton has a prefilter for streams and there is patience left. Answers the place behind them.
 #[inline(always)]
 pub(crate) fn skip<A: Automaton>(
@@ -68,13 +68,13 @@ pub(crate) fn skip<A: Automaton>(
     at: usize,
 ) -> usize
     requires sound { IsSoundCover progress.old at }
-    requires further { at < progress.old.read }
+    requires further { at < walk_end progress.old }
     requires can { (rule : PieceRule) × CanWalk A.Automaton walk.now rule any_bytes progress.old at }
     ensures sound { IsSoundCover progress.new result }
     ensures passes { PassesOver A.Automaton walk.now.automaton.now progress.old at progress.new result }
     ensures only { progress.new ≡ record progress.old { since = progress.new.since } }
     ensures on { at ≤ result }
-    ensures further { result < progress.old.read }
+    ensures further { result < walk_end progress.old }
 {
     let Some(prefilter) = walk.stream_prefilter() else {
         return at;
@@ -85,7 +85,7 @@ pub(crate) fn skip<A: Automaton>(
     if !walk.is_start(progress.sid) {
         return at;
     }
-    let bytes = progress.bytes(at, progress.read);
+    let bytes = progress.bytes(at, progress.walk_end());
     let count = passable(prefilter, bytes, progress.buffer.min_buffer_len());
     *patience = patience_after(*patience, count);
     progress.since = at + count;

@@ -1,14 +1,15 @@
 //! How the cover of a stream begins: with the memory that it keeps.
 
-ghost use Rattle.std.specs.Prelude.{◌≡◌, ◌≤◌, ℕ, [], Some, Err, IfErr, IfOk};
+ghost use Rattle.std.specs.Prelude.{◌≡◌, ◌+◌, ◌≤◌, ℕ, [], Some, Err, IfErr, IfOk, false, max, true};
 ghost use Rattle.aho_core.specs.Laws.{shortest};
+ghost use Rattle.aho_core.specs.Numbers.{greatest_index};
 ghost use Rattle.aho_core.specs.Patterns.{Patterns};
 ghost use Rattle.aho_core.specs.declared.error.MatchErrorKind.{MatchErrorKind};
 ghost use Rattle.aho_core.specs.declared.search.Anchored.TheVariants.{No};
 ghost use Rattle.aho_core.specs.declared.search.MatchKind.TheVariants.{Standard};
 ghost use Rattle.aho_automaton.specs.CoverIters.{cover_refusal_of};
 ghost use Rattle.aho_stream.specs.Replacing.{IsMakingRefusal};
-ghost use Rattle.aho_cover.specs.Covers.{IsUnbegunCover, RefusesStreamCover};
+ghost use Rattle.aho_cover.specs.Covers.{IsUnbegunCover, IsUnbegunWith, RefusesStreamCover};
 
 use crate::hand::Hand;
 use crate::progress::CoverProgress;
@@ -16,7 +17,7 @@ use aho_automaton::automaton::Automaton;
 use aho_core::error::{MatchError, StreamError};
 use aho_core::search::{Anchored, MatchKind, StateID};
 use aho_devices::buffer::Buffer;
-use std::alloc::Global;
+use std::alloc::{AllocError, Global};
 
 /// A cover of a stream that has not begun. It has all the memory that it will keep, and no source yet.
 #[derive(Drop)]
@@ -53,6 +54,30 @@ fn check<A: Automaton>(automaton: &A) -> Result<StateID, MatchError>
     automaton.start_state(Anchored::No)
 }
 
+/// The most bytes that a buffer keeps.
+const MOST_KEPT: usize = 2_147_483_646;
+
+/// The buffer of a cover, where the longest pattern has so many bytes. It keeps one more where words are asked for: the byte before
+/// a match is looked at then.
+///
+/// # Errors
+///
+/// Where the allocation fails, or the longest pattern has as many bytes as a buffer can keep at most, and words are asked for.
+fn buffer_for(alloc: Global, words: bool, longest: usize) -> Result<Buffer, AllocError>
+    requires bound { longest ≤ greatest_index }
+    ensures empty { IfOk result (λ b. b.bytes ≡ []) }
+    ensures all { words ≡ false → IfOk result (λ b. b.least ≡ max 1 longest) }
+    ensures words { words ≡ true → IfOk result (λ b. b.least ≡ max 1 (longest + 1)) }
+{
+    if !words {
+        return Buffer::new(alloc, longest);
+    }
+    if longest >= MOST_KEPT {
+        return Err(AllocError);
+    }
+    Buffer::new(alloc, longest + 1)
+}
+
 impl<'a, A: Automaton> StreamCoverStart<'a, A> {
     /// A cover of a stream by this automaton.
     ///
@@ -72,12 +97,34 @@ impl<'a, A: Automaton> StreamCoverStart<'a, A> {
             (cover_refusal_of A.Automaton automaton.entry.now) result }
         ensures only { IfErr result IsMakingRefusal }
     {
+        StreamCoverStart::new_with(alloc, automaton, false)
+    }
+
+    /// The same, of all matches or of words alone: of those matches beside which no letter of ASCII, no digit and no `_` stands.
+    ///
+    /// Where words are asked for, the buffer keeps one byte more than the longest pattern has.
+    ///
+    /// # Errors
+    ///
+    /// As `new`.
+    pub fn new_with(
+        alloc: Global,
+        automaton: &'a A,
+        words: bool,
+    ) -> Result<StreamCoverStart<'a, A>, StreamError>
+        ensures of { IfOk result (λ start. start.automaton.now ≡ automaton.entry.now) }
+        ensures unbegun { IfOk result (λ start.
+            IsUnbegunWith words A.Automaton automaton.entry.now start.progress) }
+        ensures refuses { RefusesStreamCover
+            (cover_refusal_of A.Automaton automaton.entry.now) result }
+        ensures only { IfErr result IsMakingRefusal }
+    {
         let sid = check(automaton)?;
-        let buffer = Buffer::new(alloc, automaton.max_pattern_len())?;
+        let buffer = buffer_for(alloc, words, automaton.max_pattern_len())?;
         let hand = Hand::new(alloc, buffer.min_buffer_len())?;
         Ok(StreamCoverStart {
             automaton,
-            progress: CoverProgress::new(buffer, hand, sid),
+            progress: CoverProgress::new(buffer, hand, sid, words),
         })
     }
 }

@@ -11,6 +11,12 @@
 //! A match that ends later begins among the last bytes that begin a pattern: as many as the automaton's state reaches back over.
 //! What lies before them is settled: the runs that end there are written as their pieces, and the bytes between them as they are.
 //! All that is settled is written and flushed before the source is read again.
+//!
+//! # Words
+//!
+//! A start may ask for words alone: matches beside which no letter, digit or `_` stands. Then the walk stays one byte behind what was
+//! read, until the end of the stream was seen, so that the byte behind a match is known. Of the matches that end at a byte, the
+//! longest that is a word joins the runs in hand.
 
 ghost use Rattle.std.specs.Prelude.{◌≡◌, ℕ, List, [], IfErr, length};
 ghost use Rattle.aho_core.specs.Patterns.{Patterns};
@@ -20,13 +26,13 @@ ghost use Rattle.aho_devices.specs.Errors.{CountsErrors};
 ghost use Rattle.aho_stream.specs.Replacing.{IsMakingRefusal, IsStreamFault};
 ghost use Rattle.aho_cover.specs.Pieces.{fixed_rule};
 ghost use Rattle.aho_cover.specs.Progress.{KeepsRoom};
-ghost use Rattle.aho_cover.specs.Covers.{IsUnbegunCover, LeavesCounted, LeavesCovered, LeavesCoveredBy, RefusesStreamCover, TwoAByte};
+ghost use Rattle.aho_cover.specs.Covers.{IsUnbegunCover, IsUnbegunWith, LeavesCounted, LeavesCountedWith, LeavesCovered, LeavesCoveredBy, LeavesCoveredWith, RefusesStreamCover, TwoAByte};
 
 use crate::pieces::{PatternPieces, Pieces};
 use crate::progress::CoverProgress;
 use crate::refill::refill;
 use crate::start::StreamCoverStart;
-use crate::steps::walk_read;
+use crate::steps::{walk_last, walk_read};
 use aho_automaton::automaton::Automaton;
 use aho_automaton::walk::Counted;
 use aho_core::error::StreamError;
@@ -37,6 +43,7 @@ use std::alloc::Global;
 /// they are at most two for each byte that the source gave.
 fn cover_from<A: Automaton, R: Source, W: Sink, P: Pieces>(
     walk: &mut Counted<'_, A>,
+    automaton: &A,
     progress: &mut CoverProgress,
     source: &mut R,
     sink: &mut W,
@@ -44,16 +51,17 @@ fn cover_from<A: Automaton, R: Source, W: Sink, P: Pieces>(
     counts: &mut [u64],
 ) -> Result<(), StreamError>
     requires some { (p : Patterns) × A.is_of walk.old.automaton.now p }
-    requires unbegun { IsUnbegunCover A.Automaton walk.old.automaton.now progress.old }
+    requires own { walk.old.automaton.now ≡ automaton.now }
+    requires unbegun { IsUnbegunWith progress.old.words A.Automaton walk.old.automaton.now progress.old }
     requires unwalked { walk.old.work ≡ 0 }
     requires unfed { P.holds pieces.old [] }
-    ensures leaves { LeavesCoveredBy R.Source W.Sink
-        (A.is_of walk.old.automaton.now) (P.rule pieces.old)
+    ensures leaves { LeavesCoveredWith R.Source W.Sink
+        (A.is_of walk.old.automaton.now) progress.old.words (P.rule pieces.old)
         source.old source.new sink.old sink.new result }
     ensures errors { CountsErrors R.Source W.Sink
         source.old source.new sink.old sink.new result }
-    ensures counted { LeavesCounted R.Source W.Sink
-        (A.is_of walk.old.automaton.now) (P.rule pieces.old)
+    ensures counted { LeavesCountedWith R.Source W.Sink
+        (A.is_of walk.old.automaton.now) progress.old.words (P.rule pieces.old)
         source.old source.new sink.old sink.new counts.old counts.new result }
     ensures two_look_ups_a_byte { TwoAByte R.Source source.old source.new walk.new.work }
     ensures room { KeepsRoom progress.old progress.new }
@@ -63,11 +71,11 @@ fn cover_from<A: Automaton, R: Source, W: Sink, P: Pieces>(
     loop {
         sink.flush()?;
         progress.feed_first(pieces);
-        let from = progress.read;
+        let from = progress.walk_end();
         if refill(progress, source, &*sink)? {
-            return progress.finish(sink, pieces, counts);
+            return walk_last(walk, automaton, progress, sink, pieces, counts, from);
         }
-        walk_read(walk, progress, sink, pieces, counts, from)?;
+        walk_read(walk, automaton, progress, sink, pieces, counts, from)?;
     }
 }
 
@@ -172,11 +180,48 @@ pub fn cover_made<A: Automaton, R: Source, W: Sink, P: Pieces>(
     ensures only { IfErr result IsStreamFault }
     ensures rule { P.rule pieces.new ≡ P.rule pieces.old }
 {
+    cover_with(start, source, sink, pieces, counts)
+}
+
+/// `cover_made` by a start that says what counts: all matches, or words alone.
+///
+/// A byte behind a match is waited for where words are asked for, and none stands behind the last byte of the stream. So each byte is
+/// written one byte later at most.
+///
+/// # Errors
+///
+/// As `cover_counted`.
+pub fn cover_with<A: Automaton, R: Source, W: Sink, P: Pieces>(
+    start: &mut StreamCoverStart<'_, A>,
+    source: &mut R,
+    sink: &mut W,
+    pieces: &mut P,
+    counts: &mut [u64],
+) -> Result<(), StreamError>
+    requires of { (p : Patterns) × A.is_of start.old.automaton.now p }
+    requires unbegun { IsUnbegunWith start.old.progress.words A.Automaton
+        start.old.automaton.now start.old.progress }
+    ensures leaves { LeavesCoveredWith R.Source W.Sink
+        (A.is_of start.old.automaton.now) start.old.progress.words (P.rule pieces.old)
+        source.old source.new sink.old sink.new result }
+    ensures counted { LeavesCountedWith R.Source W.Sink
+        (A.is_of start.old.automaton.now) start.old.progress.words (P.rule pieces.old)
+        source.old source.new sink.old sink.new counts.old counts.new result }
+    ensures same { start.new.automaton.now ≡ start.old.automaton.now }
+    ensures unbegun { IsUnbegunWith start.old.progress.words A.Automaton
+        start.new.automaton.now start.new.progress }
+    ensures errors { CountsErrors R.Source W.Sink
+        source.old source.new sink.old sink.new result }
+    ensures only { IfErr result IsStreamFault }
+    ensures rule { P.rule pieces.new ≡ P.rule pieces.old }
+{
     pieces.begin();
-    let begin = start.progress.sid;
-    let mut walk = Counted::new(start.automaton);
-    let covered = cover_from(&mut walk, &mut start.progress, source, sink, pieces, counts);
-    start.progress.begin_anew(begin);
+    let (begin, words) = (start.progress.sid, start.progress.words);
+    let automaton = start.automaton;
+    let mut walk = Counted::new(automaton);
+    let progress = &mut start.progress;
+    let covered = cover_from(&mut walk, automaton, progress, source, sink, pieces, counts);
+    start.progress.begin_anew(begin, words);
     covered
 }
 

@@ -1,5 +1,5 @@
 -- The law of the state that is held.
-use Rattle.std.proofs.Common.{◌∙◌, max, ◌-◌, sym, arith}
+use Rattle.std.proofs.Common.{◌∙◌, sym, arith}
 use Rattle.aho_cover.proofs.Back.{looked-back}
 use Rattle.aho_cover.proofs.Reached.{sound-moved}
 use Rattle.aho_cover.proofs.steps.look_back.Goals as goal

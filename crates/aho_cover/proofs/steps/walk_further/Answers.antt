@@ -1,11 +1,12 @@
 -- Bytes are passed over, and then the walk goes on.
-use Rattle.std.proofs.Common.{◌≡◌, ℕ, ◌+◌, ◌*◌, ◌≤◌, List, sym, ◌∙◌, ap, subst, arith}
+use Rattle.std.proofs.Common.{◌≡◌, ℕ, ◌+◌, ◌*◌, ◌≤◌, Bool, List, sym, ◌∙◌, ap, subst, arith}
 use Rattle.aho_core.specs.Patterns.{Patterns}
 use Rattle.std.specs.Prelude.{IfOk, Result, Ok, Err, slice_range}
 use Rattle.aho_cover.specs.declared.progress.CoverProgress.{CoverProgress}
 use Rattle.aho_cover.specs.Counting.{Output}
 use Rattle.aho_cover.specs.Feeds.{Feeding}
 use Rattle.aho_cover.specs.Hand.{room_in}
+use Rattle.aho_cover.specs.Progress.{IsBeginning, walk_end}
 use Rattle.aho_cover.specs.Steps.{CoversOn}
 use Rattle.aho_cover.proofs.Written.{if_err, if_ok, writes_still}
 use Rattle.aho_cover.proofs.steps.walk_further.Given.{Over}
@@ -33,7 +34,7 @@ passed g c p haystack written both = (
 )
 
 pub walk_once-requires-clause-further : goal.walk_once-requires-clause-further
-walk_once-requires-clause-further g c = omega (arith, c.skip-next.ensures.further, ap (λ (s : CoverProgress). s.read) c.skip-next.ensures.only)
+walk_once-requires-clause-further g c = omega (arith, c.skip-next.ensures.further, ap walk_end c.skip-next.ensures.only)
 
 pub walk_once-requires-clause-can : goal.walk_once-requires-clause-can
 walk_once-requires-clause-can g c =
@@ -53,9 +54,17 @@ walk_once-requires-clause-can g c =
 pub returns-clause-further : goal.returns-clause-further
 returns-clause-further g c = ok_more c.walk_once.result _ _ (λ next on. omega (arith, on, c.skip-next.ensures.on)) c.walk_once.ensures.further
 
+pub returns-clause-within : goal.returns-clause-within
+returns-clause-within g c = ok_more c.walk_once.result _ _ (λ next low. omega (arith, low, ap walk_end c.skip-next.ensures.only)) c.walk_once.ensures.within
+
 pub returns-clause-bytes : goal.returns-clause-bytes
 returns-clause-bytes g c =
-    if_ok c.walk_once.result _ _ (λ keeps. record { read = keeps.read ∙ ap (λ (s : CoverProgress). s.read) c.skip-next.ensures.only; buffer = keeps.buffer ∙ ap (λ (s : CoverProgress). s.buffer) c.skip-next.ensures.only }) c.walk_once.ensures.bytes
+    if_ok c.walk_once.result _ _ (λ keeps. record {
+      read = keeps.read ∙ ap (λ (s : CoverProgress). s.read) c.skip-next.ensures.only;
+      buffer = keeps.buffer ∙ ap (λ (s : CoverProgress). s.buffer) c.skip-next.ensures.only;
+      words = keeps.words ∙ ap (λ (s : CoverProgress). s.words) c.skip-next.ensures.only;
+      ended = keeps.ended ∙ ap (λ (s : CoverProgress). s.ended) c.skip-next.ensures.only;
+    }) c.walk_once.ensures.bytes
 
 pub returns-clause-room : goal.returns-clause-room
 returns-clause-room g c =
@@ -71,4 +80,6 @@ returns-clause-writes g c =
 pub returns-clause-begins : goal.returns-clause-begins
 returns-clause-begins g c =
     let passes = passed g (goal.at.returns-clause-begins g c).After-skip-next in
-    if_err c.walk_once.result _ _ (λ more. writes_still _ _ passes (λ p haystack written begins. begins) more) c.walk_once.ensures.begins
+    let words : c.skip-next.new.progress.words ≡ c.args.progress.now.words = ap (λ (s : CoverProgress). s.words) c.skip-next.ensures.only in
+    if_err c.walk_once.result _ _
+    (λ more. writes_still _ _ passes (λ p haystack written begins. subst (λ (w : Bool). IsBeginning w (g.P.Pieces.rule c.args.pieces.now) p haystack written) words begins) more) c.walk_once.ensures.begins

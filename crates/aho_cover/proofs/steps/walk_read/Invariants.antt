@@ -1,7 +1,7 @@
 -- What the loop keeps: the walk has come to a place, and what was written leads there. No write has failed.
-use Rattle.std.proofs.Common.{◌≡◌, ◌-◌}
+use Rattle.std.proofs.Common.{◌≡◌, ◌-◌, ◌≤◌}
 use Rattle.aho_cover.specs.Feeds.{Feeding}
-use Rattle.aho_cover.specs.Progress.{IsSoundCover, KeepsRoom}
+use Rattle.aho_cover.specs.Progress.{IsSoundCover, KeepsRoom, walk_end}
 use Rattle.aho_cover.specs.Steps.{CanWalk, CoversOn, KeepsBytes}
 use Rattle.aho_cover.specs.Writes.{WritesOn}
 use Rattle.aho_cover.proofs.steps.walk_read.Given as goal
@@ -11,6 +11,8 @@ invariant-loop-at g l =
     let automaton = l.initial.walk.automaton.now in
     record {
       sound : IsSoundCover l.progress l.at;
+      within : l.at ≤ walk_end l.progress;
+      own : l.walk.automaton.now ≡ l.automaton;
       can : CanWalk g.A.Automaton l.walk (g.P.Pieces.rule l.pieces) (g.P.Pieces.holds l.pieces) l.progress l.at;
       rule : g.P.Pieces.rule l.pieces ≡ g.P.Pieces.rule l.initial.pieces;
       same : l.walk.automaton.now ≡ automaton;
@@ -24,4 +26,4 @@ invariant-loop-at g l =
     }
 
 abbrev pub decreases-loop-at : goal.decreases-loop-at
-decreases-loop-at g l = l.progress.read - l.at
+decreases-loop-at g l = walk_end l.progress - l.at

@@ -1,5 +1,5 @@
 -- The walk looks back, and then what is settled is written.
-use Rattle.std.proofs.Common.{◌≡◌, ℕ, List, sym, ◌∙◌, ap, subst, arith}
+use Rattle.std.proofs.Common.{◌≡◌, ℕ, Bool, List, sym, ◌∙◌, ap, subst, arith}
 use Rattle.std.specs.Prelude.{slice_range}
 use Rattle.aho_core.specs.Patterns.{Patterns}
 use Rattle.aho_cover.specs.declared.progress.CoverProgress.{CoverProgress}
@@ -66,8 +66,9 @@ returns-clause-begins g c =
     let d = (goal.at.returns-clause-begins g c).After-look_back in
     let rule = g.P.Pieces.rule c.args.pieces.now in
     if_err c.write_settled.result _ _ (λ more.
-    writes_still (Feeding (g.P.Pieces.holds c.args.pieces.now) c.args.progress.now (CoversOn g.A.Automaton c.args.walk.now.automaton.now rule c.args.progress.now c.args.at)) (IsBeginning rule)
-    (λ p haystack written before. (let covers = passed g d p haystack written before in (covers.0.covered, covers.1))) (λ p haystack written begins. begins) more)
+    writes_still (Feeding (g.P.Pieces.holds c.args.pieces.now) c.args.progress.now (CoversOn g.A.Automaton c.args.walk.now.automaton.now rule c.args.progress.now c.args.at)) (IsBeginning c.args.progress.now.words rule)
+    (λ p haystack written before. (let covers = passed g d p haystack written before in (covers.0.covered, covers.1)))
+    (λ p haystack written begins. subst (λ (w : Bool). IsBeginning w rule p haystack written) (ap (λ (s : CoverProgress). s.words) c.look_back.ensures.only) begins) more)
     c.write_settled.ensures.begins
 
 pub returns-clause-others : goal.returns-clause-others

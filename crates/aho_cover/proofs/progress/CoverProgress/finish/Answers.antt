@@ -1,5 +1,5 @@
 -- All runs, and then the bytes behind them.
-use Rattle.std.proofs.Common.{◌≡◌, ℕ, ◌+◌, max, List, length, sym, ◌∙◌, ap, subst, arith}
+use Rattle.std.proofs.Common.{◌≡◌, ℕ, ◌+◌, max, Bool, List, length, sym, ◌∙◌, ap, subst, arith}
 use Rattle.aho_core.specs.Patterns.{Patterns}
 use Rattle.aho_cover.specs.declared.progress.CoverProgress.{CoverProgress}
 use Rattle.aho_cover.specs.Counting.{Output}
@@ -24,7 +24,7 @@ returns-in_err-settle-clause-begins g c =
     let s = c.args.self.now in
     let rule = g.P.Pieces.rule c.args.pieces.now in
     on_err c.from_residual.result _
-    (writes_still (Feeding (g.P.Pieces.holds c.args.pieces.now) s (EndsHere rule s)) (IsBeginning rule) (λ p haystack written h. ((h.0.0, clear_end p haystack s.read (s.read + 1) h.0.1), h.1)) (λ p haystack written begins. begins) (c.in_err-settle.ensures.begins s.read))
+    (writes_still (Feeding (g.P.Pieces.holds c.args.pieces.now) s (EndsHere rule s)) (IsBeginning s.words rule) (λ p haystack written h. ((h.0.0, clear_end p haystack s.read (s.read + 1) h.0.1), h.1)) (λ p haystack written begins. begins) (c.in_err-settle.ensures.begins s.read))
 
 pub write_outside-requires : goal.write_outside-requires
 write_outside-requires g c = record { sound = (c.args.self.now.read, c.in_ok-settle.ensures.sound c.args.self.now.read c.requires.sound, omega arith) }
@@ -43,7 +43,7 @@ first g c =
 
 -- and then it is all
 all : (g : Over) (c : After-write_outside g) → c.write_outside.new.self ≡ record c.settle.new.self { copied = max c.settle.new.self.copied (outside_end c.args.self.now.read (held_runs c.settle.new.self.hand)) }
-    → (p : Patterns) (haystack : List ℕ) (written : Output) → HasCovered (g.P.Pieces.rule c.args.pieces.now) c.write_outside.new.self c.args.self.now.read p haystack written × (length haystack ≡ c.args.self.now.read) → IsAll (g.P.Pieces.rule c.args.pieces.now) p haystack written
+    → (p : Patterns) (haystack : List ℕ) (written : Output) → HasCovered (g.P.Pieces.rule c.args.pieces.now) c.write_outside.new.self c.args.self.now.read p haystack written × (length haystack ≡ c.args.self.now.read) → IsAll c.args.self.now.words (g.P.Pieces.rule c.args.pieces.now) p haystack written
 all g c is p haystack written h =
     let s = c.settle.new.self in
     let read = c.args.self.now.read in
@@ -53,9 +53,10 @@ all g c is p haystack written h =
     let copied = max s.copied (outside_end read (held_runs s.hand)) in
     let same : s.read ≡ read = ap (λ (s' : CoverProgress). s'.read) c.in_ok-settle.ensures.others in
     let upto : outside_end read (held_runs s.hand) ≡ read = ap (outside_end read) none in
-    has-all p haystack rule (record s { copied = copied }) written
+    subst (λ (w : Bool). IsAll w rule p haystack written) (ap (λ (s' : CoverProgress). s'.words) c.in_ok-settle.ensures.others)
+    (has-all p haystack rule (record s { copied = copied }) written
     (subst (λ (at : ℕ). HasCovered rule (record s { copied = copied }) at p haystack written) (sym same) (subst (λ (s' : CoverProgress). HasCovered rule s' read p haystack written) is h.0))
-    (h.1 ∙ sym same) none (omega (arith, sound.copied_walked, upto, same))
+    (h.1 ∙ sym same) none (omega (arith, sound.copied_walked, upto, same)))
 
 pub returns-clause-covers : goal.returns-clause-covers
 returns-clause-covers g c =
@@ -63,7 +64,7 @@ returns-clause-covers g c =
     let s = c.args.self.now in
     let rule = g.P.Pieces.rule c.args.pieces.now in
     if_both c.write_outside.result _ _ _ (λ is more.
-    writes_still (Feeding (g.P.Pieces.holds c.args.pieces.now) s (EndsHere rule s)) (IsAll rule) (λ p haystack written h. h) (all g d is) (writes_then (first g d) (writes_with (λ p haystack. length haystack ≡ s.read) (more s.read rule c.settle.new.counts))))
+    writes_still (Feeding (g.P.Pieces.holds c.args.pieces.now) s (EndsHere rule s)) (IsAll s.words rule) (λ p haystack written h. h) (all g d is) (writes_then (first g d) (writes_with (λ p haystack. length haystack ≡ s.read) (more s.read rule c.settle.new.counts))))
     c.write_outside.ensures.copied c.write_outside.ensures.writes
 
 pub returns-clause-begins : goal.returns-clause-begins
@@ -72,5 +73,6 @@ returns-clause-begins g c =
     let s = c.args.self.now in
     let rule = g.P.Pieces.rule c.args.pieces.now in
     if_err c.write_outside.result _ _ (λ more.
-    writes_still (Feeding (g.P.Pieces.holds c.args.pieces.now) s (EndsHere rule s)) (IsBeginning rule) (λ p haystack written h. h) (λ p haystack written h. h.0) (writes_then (first g d) (writes_with (λ p haystack. length haystack ≡ s.read) (more s.read rule c.settle.new.counts))))
+    writes_still (Feeding (g.P.Pieces.holds c.args.pieces.now) s (EndsHere rule s)) (IsBeginning s.words rule) (λ p haystack written h. h)
+    (λ p haystack written h. subst (λ (w : Bool). IsBeginning w rule p haystack written) (ap (λ (s' : CoverProgress). s'.words) c.in_ok-settle.ensures.others) h.0) (writes_then (first g d) (writes_with (λ p haystack. length haystack ≡ s.read) (more s.read rule c.settle.new.counts))))
     c.write_outside.ensures.begins

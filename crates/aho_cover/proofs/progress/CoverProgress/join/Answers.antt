@@ -1,12 +1,12 @@
 -- What is settled is written, and the match is joined to the other runs.
-use Rattle.std.proofs.Common.{◌≡◌, ℕ, ◌-◌, ◌∷◌, List, ap, arith}
+use Rattle.std.proofs.Common.{◌≡◌, ℕ, ◌-◌, ◌∷◌, Bool, List, sym, ap, subst, arith}
 use Rattle.aho_core.specs.Occurrence.{Occurrence}
-use Rattle.aho_core.specs.Overlapping.{occurrences_ending}
 use Rattle.aho_core.specs.Patterns.{Patterns}
 use Rattle.aho_cover.specs.declared.progress.CoverProgress.{CoverProgress}
 use Rattle.aho_cover.specs.Counting.{Output}
 use Rattle.aho_cover.specs.Feeds.{Feeding}
 use Rattle.aho_cover.specs.Progress.{ClearlyCovered, EndsNext, HasCovered, IsBeginning}
+use Rattle.aho_cover.specs.Words.{ending_with}
 use Rattle.aho_cover.proofs.Covered.{has-joined, has-open}
 use Rattle.aho_cover.proofs.Sound.{order-joined, room-joined, sound-joined}
 use Rattle.aho_cover.proofs.Written.{on_err, writes_still, writes_with}
@@ -26,7 +26,7 @@ returns-in_err-settle-clause-begins g c =
     let rule = g.P.Pieces.rule c.args.pieces.now in
     let before = c.args.m.end - 1 in
     on_err c.from_residual.result _
-    (writes_still (Feeding (g.P.Pieces.holds c.args.pieces.now) c.args.self.now (HasCovered rule c.args.self.now before)) (IsBeginning rule) (λ p haystack written has. (clearly g d p haystack written has.0, has.1)) (λ p haystack written begins. begins) (c.in_err-settle.ensures.begins before))
+    (writes_still (Feeding (g.P.Pieces.holds c.args.pieces.now) c.args.self.now (HasCovered rule c.args.self.now before)) (IsBeginning c.args.self.now.words rule) (λ p haystack written has. (clearly g d p haystack written has.0, has.1)) (λ p haystack written begins. begins) (c.in_err-settle.ensures.begins before))
 
 pub add-requires-clause-in_order : goal.add-requires-clause-in_order
 add-requires-clause-in_order g c =
@@ -59,5 +59,5 @@ returns-clause-writes g c =
     writes_still (Feeding (g.P.Pieces.holds c.args.pieces.now) c.args.self.now (EndsNext rule c.args.self.now m))
     (Feeding (g.P.Pieces.holds c.settle.new.pieces) (record s { hand = c.add.new.self }) (HasCovered rule (record s { hand = c.add.new.self }) m.end))
     (λ p haystack written h. ((clearly g d p haystack written h.0.0, h.1), h.0.1))
-    (λ p haystack written h. (has-joined p haystack rule s m c.add.new.self written h.0.0.0 h.1.0 h.1.1 c.requires.some (omega (arith, c.requires.read, read)) c.add.ensures.joined, h.0.1))
-    (writes_with (λ p haystack. (others : List Occurrence) × (occurrences_ending p haystack 0 m.end ≡ m ∷ others)) (c.in_ok-settle.ensures.writes (m.end - 1)))
+    (λ p haystack written h. (has-joined p haystack rule s m c.add.new.self written h.0.0.0 h.1.0 (subst (λ (w : Bool). ending_with w p haystack m.end ≡ m ∷ h.1.0) (sym (ap (λ (s' : CoverProgress). s'.words) c.in_ok-settle.ensures.others)) h.1.1) c.requires.some (omega (arith, c.requires.read, read)) c.add.ensures.joined, h.0.1))
+    (writes_with (λ p haystack. (others : List Occurrence) × (ending_with c.args.self.now.words p haystack m.end ≡ m ∷ others)) (c.in_ok-settle.ensures.writes (m.end - 1)))

@@ -1,9 +1,9 @@
 -- One run after another.
-use Rattle.std.proofs.Common.{◌∙◌, refl, ap, arith}
+use Rattle.std.proofs.Common.{◌∙◌, Bool, refl, ap, subst, arith}
 use Rattle.aho_cover.specs.declared.progress.CoverProgress.{CoverProgress}
 use Rattle.aho_cover.specs.Feeds.{Feeding}
-use Rattle.aho_cover.specs.Progress.{ClearlyCovered}
-use Rattle.aho_cover.proofs.Written.{on_err, writes_nothing, writes_then}
+use Rattle.aho_cover.specs.Progress.{ClearlyCovered, IsBeginning}
+use Rattle.aho_cover.proofs.Written.{on_err, writes_nothing, writes_still, writes_then}
 use Rattle.aho_cover.proofs.progress.CoverProgress.settle.Goals as goal
 
 pub loop-init : goal.loop-init
@@ -23,7 +23,11 @@ settle_one-requires g c = record { sound = (c.requires.sound.0, c.loop.invariant
 
 pub returns-in_err-settle_one-clause-begins : goal.returns-in_err-settle_one-clause-begins
 returns-in_err-settle_one-clause-begins g c =
-    on_err c.from_residual.result _ (λ at. writes_then (c.loop.invariant.writes at) ((rw c.loop.invariant.rule at c.in_err-settle_one.ensures.begins) at))
+    on_err c.from_residual.result _
+    (λ at. writes_then (c.loop.invariant.writes at)
+    (writes_still _ (IsBeginning c.args.self.now.words (g.P.Pieces.rule c.args.pieces.now)) (λ p haystack written before. before)
+    (λ p haystack written begins. subst (λ (w : Bool). IsBeginning w (g.P.Pieces.rule c.args.pieces.now) p haystack written) (ap (λ (s : CoverProgress). s.words) c.loop.invariant.others) begins)
+    ((rw c.loop.invariant.rule at c.in_err-settle_one.ensures.begins) at)))
 
 pub loop-preserved : goal.loop-preserved
 loop-preserved g c =

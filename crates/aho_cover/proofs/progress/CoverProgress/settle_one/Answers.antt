@@ -42,7 +42,7 @@ module _ (g : Over) (c : After-write_both g) (at : ℕ) (p : Patterns) (haystack
       let run = c.in-Some.run' in
       let first = c.in-Some.ensures.first.0 in
       let end : c.end-end.result ≡ run.end = c.end-end.ensures.end in
-      ap (λ (xs : List ℕ). slice_range haystack s.copied s.fed ++ xs) (c.bytes-rest.ensures.part haystack (record { within = before.0.0.given.within; last = before.0.0.given.last }) ∙ ap (slice_range haystack c.max.result) end)
+      ap (λ (xs : List ℕ). slice_range haystack s.copied s.fed ++ xs) (c.bytes-rest.ensures.part haystack (record { within = before.0.0.given.within; last = before.0.0.given.last; whole = before.0.0.given.whole }) ∙ ap (slice_range haystack c.max.result) end)
       ∙ fed-rest haystack s.copied s.fed run.start c.max.result run.end (omega (arith, lies)) (fed-start s sound.0 sound.1 run (held_runs c.take_before.new.self) first)
       (omega (arith, c.max.ensures, c.start-start.ensures.start)) (omega (arith, c.max.ensures, c.start-start.ensures.start, lies, first-fed s sound.0 sound.1 run (held_runs c.take_before.new.self) first))
 
@@ -61,7 +61,7 @@ module _ (g : Over) (c : After-write_both g) (at : ℕ) (p : Patterns) (haystack
   -- what is written, of these bytes
   written_is : c.gap-gap.result.now ++ c.piece.result.now ≡ slice_range haystack c.args.self.now.copied c.in-Some.run'.start ++ piece_in (g.P.Pieces.rule c.args.pieces.now) haystack c.in-Some.run'
   written_is =
-      ap (λ (xs : List ℕ). xs ++ c.piece.result.now) (c.gap-gap.ensures.part haystack (record { within = before.0.0.given.within; last = before.0.0.given.last }) ∙ ap (slice_range haystack c.args.self.now.copied) c.start-start.ensures.start)
+      ap (λ (xs : List ℕ). xs ++ c.piece.result.now) (c.gap-gap.ensures.part haystack (record { within = before.0.0.given.within; last = before.0.0.given.last; whole = before.0.0.given.whole }) ∙ ap (slice_range haystack c.args.self.now.copied) c.start-start.ensures.start)
       ∙ ap (λ (xs : List ℕ). slice_range haystack c.args.self.now.copied c.in-Some.run'.start ++ xs) piece_is
 
   -- and what holds then
@@ -89,7 +89,7 @@ returns-in_err-write_both-clause-begins g c =
       follows = λ p haystack written before.
           let rule = g.P.Pieces.rule c.args.pieces.now in
           let settled = covered g d at p haystack written before run.end refl in
-          begins_within p haystack rule written (c.gap-gap.result.now ++ c.piece.result.now) run some.0 some.1
+          begins_within p haystack rule s.words written (c.gap-gap.result.now ++ c.piece.result.now) run some.0 some.1
           (through-run haystack (piece_in rule haystack) 0 written.runs run ∙ sym settled.written_is)
           (has-begun p haystack rule s at written before.0.0 sound.1.behind)
           (has-begun p haystack rule (record s { copied = run.end; hand = c.take_before.new.self }) at _ settled after.behind);

@@ -40,8 +40,8 @@ returns-in_err-write_whole-clause-begins g c =
       follows = λ p haystack written before.
           let bytes = c.gap.ensures.part haystack before.0.given in
           let next = has-copied p haystack rule s at written end copied before.0 refl (clear_end g d at p haystack before.1) in
-          begins_before p haystack rule written c.gap.result.now some.0 some.1 (has-begun p haystack rule s at written before.0 sound.1.behind)
-          (subst (λ (xs : List ℕ). IsBeginning rule p haystack (put_on written xs [])) (sym bytes) (has-begun p haystack rule (record s { copied = copied }) at _ next after.behind));
+          begins_before p haystack rule s.words written c.gap.result.now some.0 some.1 (has-begun p haystack rule s at written before.0 sound.1.behind)
+          (subst (λ (xs : List ℕ). IsBeginning s.words rule p haystack (put_on written xs [])) (sym bytes) (has-begun p haystack rule (record s { copied = copied }) at _ next after.behind));
     })
 
 pub returns-clause-writes : goal.returns-clause-writes

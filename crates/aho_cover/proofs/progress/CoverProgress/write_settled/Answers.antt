@@ -1,5 +1,5 @@
 -- The runs that are settled, and then the bytes behind them.
-use Rattle.std.proofs.Common.{◌≡◌, ℕ, ◌+◌, ◌-◌, ◌≤◌, max, List, refl, sym, ◌∙◌, ap, subst, arith}
+use Rattle.std.proofs.Common.{◌≡◌, ℕ, ◌≤◌, max, Bool, List, refl, sym, ◌∙◌, ap, subst, arith}
 use Rattle.std.specs.Prelude.{slice_range}
 use Rattle.aho_core.specs.Patterns.{Patterns}
 use Rattle.aho_cover.specs.declared.progress.CoverProgress.{CoverProgress}
@@ -28,7 +28,7 @@ returns-in_err-settle-clause-begins g c =
     let d = (goal.at.returns-in_err-settle-clause-begins g c).After-open_place-open in
     let rule = g.P.Pieces.rule c.args.pieces.now in
     on_err c.from_residual.result _
-    (writes_still (Feeding (g.P.Pieces.holds c.args.pieces.now) c.args.self.now (HasCovered rule c.args.self.now c.args.at)) (IsBeginning rule) (clearly g d) (λ p haystack written begins. begins) (c.in_err-settle.ensures.begins c.args.at))
+    (writes_still (Feeding (g.P.Pieces.holds c.args.pieces.now) c.args.self.now (HasCovered rule c.args.self.now c.args.at)) (IsBeginning c.args.self.now.words rule) (clearly g d) (λ p haystack written begins. begins) (c.in_err-settle.ensures.begins c.args.at))
 
 pub write_outside-requires : goal.write_outside-requires
 write_outside-requires g c = record {
@@ -101,5 +101,6 @@ returns-clause-begins g c =
     let rule = g.P.Pieces.rule c.args.pieces.now in
     if_err c.write_outside.result _ _ (λ more.
     writes_then (first g d)
-    (writes_still (Feeding (g.P.Pieces.holds c.settle.new.pieces) s (ClearlyCovered rule s c.args.at c.open_place-open.result)) (IsBeginning rule) (λ p haystack written has. has.0) (λ p haystack written begins. begins) (more c.args.at rule c.settle.new.counts)))
+    (writes_still (Feeding (g.P.Pieces.holds c.settle.new.pieces) s (ClearlyCovered rule s c.args.at c.open_place-open.result)) (IsBeginning c.args.self.now.words rule) (λ p haystack written has. has.0)
+    (λ p haystack written begins. subst (λ (w : Bool). IsBeginning w rule p haystack written) (ap (λ (s' : CoverProgress). s'.words) c.in_ok-settle.ensures.others) begins) (more c.args.at rule c.settle.new.counts)))
     c.write_outside.ensures.begins
