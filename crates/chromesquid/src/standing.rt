@@ -31,8 +31,9 @@ use aho_stream::replace::{try_stream_replace_all, try_stream_replace_all_with};
 use std::alloc::{AllocError, Global};
 
 impl AhoCorasick {
-    /// The rows that answer searches that are not anchored, where the searcher has some and answers these.
-    pub(crate) fn rows(&self) -> Option<&Hybrid>
+    /// The rows that answer searches that are not anchored, where the searcher has some and answers these: for a search over any
+    /// automaton, each step of which else asks the searcher anew which automaton it holds.
+    pub fn rows(&self) -> Option<&Hybrid>
         ensures stands { IfSome result (λ hybrid.
             StandsFor ⟦<Hybrid as Automaton>⟧ hybrid.now self.now) }
         ensures held { IfSome result (λ hybrid. self.now.automaton ≡ Rows hybrid.now) }
