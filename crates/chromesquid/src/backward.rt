@@ -9,8 +9,8 @@ use aho_automaton::automaton::Automaton;
 use aho_backward::error::BackwardError;
 use aho_backward::overhang::is_worth_it;
 use aho_build::settings::Settings;
-use aho_core::error::BuildError;
 use aho_corasick::noncontiguous::NFA;
+use aho_core::error::BuildError;
 use std::alloc::Global;
 
 /// A searcher for all finds of a text by a leftmost kind, with at most four look-ups of a transition for each byte, whatever the
