@@ -46,8 +46,8 @@ impl AhoCorasick {
         }
     }
 
-    /// The searcher, as any automaton: each step asks which one is held.
-    pub(crate) fn itself(&self) -> &AhoCorasick
+    /// The searcher, as any automaton, where it has no such rows.
+    pub fn itself(&self) -> &AhoCorasick
         ensures stands { StandsFor ⟦<AhoCorasick as Automaton>⟧ result.now self.now }
         ensures same { result.now ≡ self.now }
     {

@@ -1,7 +1,8 @@
 //! A call of `acfind` over its arguments and streams. Both programs take the build and the report of a failure from here.
 
-ghost use Rattle.std.specs.Prelude.{IfErr, IfOk, OnOk, true, ◌≡◌, ◌<◌, ◌≤◌, ⊤};
+ghost use Rattle.std.specs.Prelude.{IfErr, IfOk, IsOk, OnOk, true, ◌≡◌, ◌<◌, ◌≤◌, ⊤};
 ghost use Rattle.std.specs.Io.KnownBytes.{IsAtEnd};
+ghost use Rattle.aho_core.specs.Patterns.{Patterns};
 ghost use Rattle.aho_core.specs.declared.search.Anchored.TheVariants.{No};
 ghost use Rattle.aho_core.specs.declared.search.MatchKind.TheVariants.{Standard};
 ghost use Rattle.chromesquid.specs.Searcher.{Answers, IsBuiltFrom, match_kind_of};
@@ -21,8 +22,8 @@ use crate::replace::replace;
 use crate::searcher::{bytes_of, searcher_for};
 use aho_devices::adapters::{FromRead, FromWrite};
 use aho_devices::device::{Sink, Source};
-use chromesquid::AhoCorasick;
 use chromesquid::noncontiguous::{Builder, NFA};
+use chromesquid::{AhoCorasick, Automaton, Input};
 use std::alloc::Global;
 use std::io::{Read, Write};
 
@@ -186,7 +187,7 @@ fn search_input<R: Read, W: Write>(
         patterns.as_slice(),
         text.len(),
     );
-    print_matches(&searcher, request.task, text.as_slice(), output)
+    print_by(&searcher, request.task, text.as_slice(), output)
 }
 
 /// The automaton of the patterns that a request asks for, or why it is refused.
@@ -230,8 +231,8 @@ fn read<R: Read>(alloc: Global, input: &mut FromRead<R>) -> Result<Vec<u8>, Fail
     }
 }
 
-/// Prints the matches of a text that a task asks for, and answers whether there was one.
-fn print_matches<W: Write>(
+/// Prints the matches of a text that a task asks for, by the rows of the searcher if it has some, and answers whether there was one.
+fn print_by<W: Write>(
     searcher: &AhoCorasick,
     task: Task,
     text: &[u8],
@@ -247,45 +248,76 @@ fn print_matches<W: Write>(
     ensures of_write { IfErr result IsOfWrite }
     ensures faults { CountsWrites output.old output.new result }
 {
+    match searcher.rows() {
+        Some(rows) => print_matches(rows, task, text, output),
+        None => print_matches(searcher.itself(), task, text, output),
+    }
+}
+
+/// Prints the matches of a text that a task asks for, and answers whether there was one.
+///
+/// The automaton has the task's match kind, and refuses no search that is not anchored.
+fn print_matches<A: Automaton, W: Write>(
+    automaton: &A,
+    task: Task,
+    text: &[u8],
+    output: &mut FromWrite<W>,
+) -> Result<bool, Failure>
+    requires of { (p : Patterns) × A.is_of automaton.now p }
+    requires starts { IsOk (A.start automaton.now No) }
+    requires kind { A.kind automaton.now ≡ kind_of task }
+    ensures printed { PrintsFor W.Write (A.is_of automaton.now)
+        (λ p. AreMatches task p text.now) output.old output.new result }
+    ensures begun { BegunFor W.Write (A.is_of automaton.now)
+        (λ p. AreMatches task p text.now) output.old output.new }
+    ensures flushed { OnOk result (output.new.device.flushed ≡ true) }
+    ensures of_write { IfErr result IsOfWrite }
+    ensures faults { CountsWrites output.old output.new result }
+{
     match task {
-        Task::Find { .. } => print_finds(searcher, text, output),
-        Task::Overlap => print_occurrences(searcher, text, output),
+        Task::Find { .. } => print_finds(automaton, text, output),
+        Task::Overlap => print_occurrences(automaton, text, output),
     }
 }
 
 /// Prints the matches of a text one after another, and answers whether there was one.
-fn print_finds<W: Write>(
-    searcher: &AhoCorasick,
+fn print_finds<A: Automaton, W: Write>(
+    automaton: &A,
     text: &[u8],
     output: &mut FromWrite<W>,
 ) -> Result<bool, Failure>
-    requires answers { Answers searcher.now No }
-    ensures printed { PrintsFor W.Write (IsBuiltFrom searcher.now)
+    requires of { (p : Patterns) × A.is_of automaton.now p }
+    requires starts { IsOk (A.start automaton.now No) }
+    ensures printed { PrintsFor W.Write (A.is_of automaton.now)
         (λ p. AreFindsIn p text.now) output.old output.new result }
-    ensures begun { BegunFor W.Write (IsBuiltFrom searcher.now)
+    ensures begun { BegunFor W.Write (A.is_of automaton.now)
         (λ p. AreFindsIn p text.now) output.old output.new }
     ensures flushed { OnOk result (output.new.device.flushed ≡ true) }
     ensures of_write { IfErr result IsOfWrite }
     ensures faults { CountsWrites output.old output.new result }
 {
-    print(output, searcher.find_iter(text))
+    print(output, automaton.try_find_iter(Input::new(text))?)
 }
 
 /// Prints all that occurs in a text, and answers whether something does.
-fn print_occurrences<W: Write>(
-    searcher: &AhoCorasick,
+fn print_occurrences<A: Automaton, W: Write>(
+    automaton: &A,
     text: &[u8],
     output: &mut FromWrite<W>,
 ) -> Result<bool, Failure>
-    requires answers { Answers searcher.now No }
-    requires standard { match_kind_of searcher.now ≡ Standard }
-    ensures printed { PrintsFor W.Write (IsBuiltFrom searcher.now)
+    requires of { (p : Patterns) × A.is_of automaton.now p }
+    requires starts { IsOk (A.start automaton.now No) }
+    requires standard { A.kind automaton.now ≡ Standard }
+    ensures printed { PrintsFor W.Write (A.is_of automaton.now)
         (λ p. AreMatches Overlap p text.now) output.old output.new result }
-    ensures begun { BegunFor W.Write (IsBuiltFrom searcher.now)
+    ensures begun { BegunFor W.Write (A.is_of automaton.now)
         (λ p. AreMatches Overlap p text.now) output.old output.new }
     ensures flushed { OnOk result (output.new.device.flushed ≡ true) }
     ensures of_write { IfErr result IsOfWrite }
     ensures faults { CountsWrites output.old output.new result }
 {
-    print(output, searcher.find_overlapping_iter(text))
+    print(
+        output,
+        automaton.try_find_overlapping_iter(Input::new(text))?,
+    )
 }
