@@ -2,6 +2,7 @@
 #![tactic(auto)]
 
 pub mod answers;
+pub mod any;
 pub mod automaton;
 mod backward;
 pub mod builder;
