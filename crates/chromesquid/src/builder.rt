@@ -160,10 +160,11 @@ impl AhoCorasickBuilder {
         ensures refused { IsOkUnless result OutOfMemory }
     {
         let backward = self.backward_of(alloc, &nfa, patterns)?;
+        let kind = kind_for(self.start_kind, self.kind);
         let automaton = Engine::of_kind(
             alloc,
             nfa,
-            kind_for(self.start_kind, self.kind),
+            kind,
             &self.settings,
             patterns,
             self.best_effort,

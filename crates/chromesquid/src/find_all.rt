@@ -8,6 +8,7 @@ ghost use Rattle.aho_core.specs.Search.{Search, plain_search};
 ghost use Rattle.aho_core.specs.declared.search.Anchored.TheVariants.{No};
 ghost use Rattle.aho_automaton.specs.Finding.{GivesFinds};
 ghost use Rattle.chromesquid.specs.Backward.{IsBackwardFor};
+ghost use Rattle.chromesquid.specs.Searcher.{Answers, ForItsPatterns};
 
 use crate::backward::Backward;
 use crate::searcher::AhoCorasick;
@@ -15,8 +16,6 @@ use aho_core::search::Match;
 use std::alloc::{AllocError, Global};
 
 impl AhoCorasick {
-    ghost use Rattle.chromesquid.specs.Searcher.{Answers, ForItsPatterns};
-
     /// All finds of a haystack at once: those that `find_iter` gives one after another.
     ///
     /// Where a walk backward is held (`backward`), it finds them, with at most four look-ups of a transition for each byte, whatever
