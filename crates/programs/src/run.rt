@@ -6,7 +6,7 @@ ghost use Rattle.aho_core.specs.Patterns.{Patterns};
 ghost use Rattle.aho_core.specs.declared.search.Anchored.TheVariants.{No};
 ghost use Rattle.aho_core.specs.declared.search.MatchKind.TheVariants.{Standard};
 ghost use Rattle.chromesquid.specs.Searcher.{Answers, IsBuiltFrom, match_kind_of};
-ghost use Rattle.programs.specs.Answers.{AreFindsIn, AreMatches, BeginsIfWritten, BegunFor, BuildsFirst, BuildsFirstToReplace, FailsMatches, FailsReplacement, LeavesIfNotPrinted, LeavesIfNotReplaced, PrintsAnswer, PrintsFor, PrintsIfDone, TellsFailure, TellsIfFailed, TellsLine, WritesIfDone, WritesReplacement};
+ghost use Rattle.programs.specs.Answers.{AreFindsIn, AreMatches, BeginsIfWritten, Begun, BegunFor, BuildsFirst, BuildsFirstToReplace, FailsMatches, FailsReplacement, LeavesIfNotPrinted, LeavesIfNotReplaced, PrintsAll, PrintsAnswer, PrintsFor, PrintsIfDone, TellsFailure, TellsIfFailed, TellsLine, WritesIfDone, WritesReplacement};
 ghost use Rattle.programs.specs.Arguments.{AreWrong, AskForNone, IfAsked, IfReplacing};
 ghost use Rattle.programs.specs.Asked.{Builds, asked_for, kind_of, request_patterns, settings_for};
 ghost use Rattle.programs.specs.Automata.{IsNFAFor};
@@ -187,7 +187,7 @@ fn search_input<R: Read, W: Write>(
         patterns.as_slice(),
         text.len(),
     );
-    print_by(&searcher, request.task, text.as_slice(), output)
+    print_request(&searcher, request, text.as_slice(), output)
 }
 
 /// The automaton of the patterns that a request asks for, or why it is refused.
@@ -231,26 +231,28 @@ fn read<R: Read>(alloc: Global, input: &mut FromRead<R>) -> Result<Vec<u8>, Fail
     }
 }
 
-/// Prints the matches of a text that a task asks for, by the rows of the searcher if it has some, and answers whether there was one.
-fn print_by<W: Write>(
+/// Prints the matches of a text that a request asks for, by the rows of the searcher if it has some, and answers whether there was
+/// one.
+fn print_request<W: Write>(
     searcher: &AhoCorasick,
-    task: Task,
+    request: &Request<'_>,
     text: &[u8],
     output: &mut FromWrite<W>,
 ) -> Result<bool, Failure>
+    requires of { IsBuiltFrom searcher.now (request_patterns request.now) }
     requires answers { Answers searcher.now No }
-    requires kind { match_kind_of searcher.now ≡ kind_of task }
-    ensures printed { PrintsFor W.Write (IsBuiltFrom searcher.now)
-        (λ p. AreMatches task p text.now) output.old output.new result }
-    ensures begun { BegunFor W.Write (IsBuiltFrom searcher.now)
-        (λ p. AreMatches task p text.now) output.old output.new }
+    requires kind { match_kind_of searcher.now ≡ kind_of request.now.task }
+    ensures printed { IfOk result (PrintsAll W.Write request.now.task
+        (request_patterns request.now) text.now output.old output.new) }
+    ensures begun { Begun W.Write (AreMatches request.now.task
+        (request_patterns request.now) text.now) output.old output.new }
     ensures flushed { OnOk result (output.new.device.flushed ≡ true) }
     ensures of_write { IfErr result IsOfWrite }
     ensures faults { CountsWrites output.old output.new result }
 {
     match searcher.rows() {
-        Some(rows) => print_matches(rows, task, text, output),
-        None => print_matches(searcher.itself(), task, text, output),
+        Some(rows) => print_matches(rows, request.task, text, output),
+        None => print_matches(searcher.itself(), request.task, text, output),
     }
 }
 
