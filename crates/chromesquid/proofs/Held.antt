@@ -1,5 +1,5 @@
 -- Whether a walk backward is held, and of which patterns one is.
-use Rattle.std.proofs.Common.{◌≡◌, false, inl, inr, subst, sym, None, Option}
+use Rattle.std.proofs.Common.{◌≡◌, false, inr, subst, sym, None, Option}
 use Rattle.std.specs.Prelude.{Err, IfOk, IfSome, Ok, OnOk, Result, Some}
 use Rattle.aho_core.specs.Patterns.{Patterns}
 use Rattle.aho_core.specs.declared.error.BuildError.{BuildError}

@@ -1,5 +1,5 @@
 -- What is held is lent.
-use Rattle.std.proofs.Common.{◌∙◌, ap, subst}
+use Rattle.std.proofs.Common.{◌∙◌, ap}
 use Rattle.chromesquid.proofs.Held.{lent_back}
 use Rattle.chromesquid.proofs.searcher.AhoCorasick.backward.Goals as goal
 
