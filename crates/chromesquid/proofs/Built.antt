@@ -1,5 +1,5 @@
 -- What an automaton's laws tell of its kind and its lengths, and of what a searcher was built from.
-use Rattle.std.proofs.Common.{◌≡◌, ◌∙◌, ap, sym, subst, refl, true, false, inl, inr, Bool, List, ℕ, Option}
+use Rattle.std.proofs.Common.{◌≡◌, ◌∙◌, ap, sym, subst, refl, true, false, Bool, List, ℕ, None, Option}
 use Rattle.std.specs.Prelude.{Err, IsOk, Ok, Result, map, length, if◌then◌else◌}
 use Rattle.std.proofs.lemmas.Bool.{both_ways}
 use Rattle.std.proofs.lemmas.List.{length-map}
@@ -20,7 +20,9 @@ use Rattle.aho_corasick.specs.declared.noncontiguous.NFA.{NFA}
 use Rattle.aho_corasick.specs.contracts.noncontiguous.NFAAutomaton.TheImpl.{ghosts as of_nfa}
 use Rattle.aho_hybrid.specs.contracts.hybrid.HybridAutomaton.TheImpl.{ghosts as of_rows}
 use Rattle.aho_hybrid.specs.declared.hybrid.Hybrid.{Hybrid as HybridOf}
-use Rattle.chromesquid.specs.Engine.{HasKind, kind_in, laws_by}
+use Rattle.aho_backward.specs.declared.backward.Backward.{Backward}
+use Rattle.chromesquid.specs.Backward.{IsHeldFor}
+use Rattle.chromesquid.specs.Engine.{kind_in, laws_by}
 use Rattle.chromesquid.specs.Searcher.{Answers, IsBuiltFrom, IsBuiltFromSome, RefusesSearch, Searcher, StandsFor, allows, kind_for, lengths_of, match_kind_of, patterns_len_of, why_refused, start_by}
 use Rattle.chromesquid.specs.contracts.automaton.AhoCorasickAutomaton.TheImpl.{ghosts as of_searcher}
 use Rattle.chromesquid.specs.contracts.engine.EngineAutomaton.TheImpl.{ghosts}
@@ -53,38 +55,24 @@ rows_are_no_trie : Hybrid ≡ NoncontiguousNFA → ⊥
 rows_are_no_trie same = both_ways true (ap is_rows same) refl
 
 -- an automaton of this kind has a start for each search that is answered
-suits : (start_kind : StartKind) (asked : Option AhoCorasickKind) (engine : Engine) (anchored : Anchored) → kind_in engine ≡ kind_for start_kind asked → allows start_kind anchored ≡ true
-    → IsOk (ghosts.start engine anchored)
+suits : (start_kind : StartKind) (asked : Option AhoCorasickKind) (engine : Engine) (anchored : Anchored) → (kind_for start_kind asked ≡ NoncontiguousNFA → kind_in engine ≡ NoncontiguousNFA)
+    → allows start_kind anchored ≡ true → IsOk (ghosts.start engine anchored)
 suits start_kind asked (Noncontiguous nfa) anchored kind allowed = refl
 suits start_kind asked (Rows hybrid) No kind allowed = refl
-suits Both asked (Rows hybrid) Yes kind allowed = absurd (rows_are_no_trie kind)
+suits Both asked (Rows hybrid) Yes kind allowed = absurd (rows_are_no_trie (kind refl))
 suits Unanchored asked (Rows hybrid) Yes kind allowed = absurd (both_ways false refl allowed)
-suits AnchoredOnly asked (Rows hybrid) Yes kind allowed = absurd (rows_are_no_trie kind)
+suits AnchoredOnly asked (Rows hybrid) Yes kind allowed = absurd (rows_are_no_trie (kind refl))
 
 -- so a searcher with the automaton that was made for some patterns was built from them
-built_by : (start_kind : StartKind) (asked : Option AhoCorasickKind) (engine : Engine) (p : Patterns) → HasKind (kind_for start_kind asked) engine → ghosts.is_of engine p
-    → IsBuiltFrom (record { automaton = engine; start_kind = start_kind }) p
-built_by start_kind asked engine p has of =
+pub built_as : (kind : AhoCorasickKind) (start_kind : StartKind) (asked : Option AhoCorasickKind) (engine : Engine) (back : Option (Backward NFA)) (p : Patterns) → kind ≡ kind_for start_kind asked
+    → (kind ≡ NoncontiguousNFA → kind_in engine ≡ NoncontiguousNFA) → ghosts.is_of engine p → IsHeldFor p back
+    → IsBuiltFrom (record { automaton = engine; start_kind = start_kind; backward = back }) p
+built_as kind start_kind asked engine back p is trie of held =
     record {
       reads = of;
-      starts = λ anchored allowed.
-          elim has [
-            | inl kind ↦ suits start_kind asked engine anchored kind allowed
-            | inr same ↦ subst (λ (e : Engine). IsOk (ghosts.start e anchored)) (sym same.1) refl
-          ];
+      starts = λ anchored allowed. suits start_kind asked engine anchored (λ same. trie (is ∙ same)) allowed;
+      walks_back = held;
     }
-
-pub built_as : (kind : AhoCorasickKind) (start_kind : StartKind) (asked : Option AhoCorasickKind) (engine : Engine) (p : Patterns) → kind ≡ kind_for start_kind asked → HasKind kind engine
-    → ghosts.is_of engine p → IsBuiltFrom (record { automaton = engine; start_kind = start_kind }) p
-built_as kind start_kind asked engine p is has of = built_by start_kind asked engine p (subst (λ (k : AhoCorasickKind). HasKind k engine) is has) of
-
--- where no rows are to be made it has none
-pub trie_of : (kind : AhoCorasickKind) (engine : Engine) → HasKind kind engine → kind ≡ NoncontiguousNFA → kind_in engine ≡ NoncontiguousNFA
-trie_of kind engine has same =
-    elim has [
-      | inl is ↦ is ∙ same
-      | inr trie ↦ ap kind_in trie.1
-    ]
 
 -- a copy of what is held is one of the automaton
 pub copy_of_trie : (nfa copy : NFA) → IsCloneOf of_nfa copy nfa → IsCloneOf ghosts (Noncontiguous copy) (Noncontiguous nfa)
@@ -174,12 +162,13 @@ count-of_items settings items searcher built = ap length (lengths-of_items setti
 
 -- a copy of a searcher's automaton is of patterns that the searcher was built from
 pub copy_is_of : (engine copy : Engine) (searcher : Searcher) → engine ≡ searcher.automaton → IsCloneOf ghosts copy engine
-    → (p : Patterns) → IsBuiltFrom searcher p → IsBuiltFrom (record { automaton = copy; start_kind = searcher.start_kind }) p
+    → (p : Patterns) → IsBuiltFrom searcher p → IsBuiltFrom (record { automaton = copy; start_kind = searcher.start_kind; backward = None }) p
 copy_is_of engine copy searcher is clone p built =
     record {
       reads = (clone.same_patterns p).0 (subst (λ (e : Engine). ghosts.is_of e p) (sym is) built.reads);
       starts = λ anchored allowed.
           subst IsOk (sym (ap (λ f. f anchored) clone.same_start)) (subst (λ (e : Engine). IsOk (ghosts.start e anchored)) (sym is) (built.starts anchored allowed));
+      walks_back = tt;
     }
 
 -- an earliest search need not read behind its match

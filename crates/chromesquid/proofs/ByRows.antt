@@ -1,6 +1,8 @@
 -- A search of a stream by the rows that a searcher holds has come as far as one by the searcher.
-use Rattle.std.proofs.Common.{◌≡◌, ℕ, List, ap, subst, sym}
+use Rattle.std.proofs.Common.{◌≡◌, ℕ, List, Option, ap, subst, sym}
 use Rattle.aho_core.specs.Patterns.{Patterns}
+use Rattle.aho_backward.specs.declared.backward.Backward.{Backward}
+use Rattle.aho_corasick.specs.declared.noncontiguous.NFA.{NFA}
 use Rattle.aho_hybrid.specs.contracts.hybrid.HybridAutomaton.TheImpl.{ghosts as of_rows}
 use Rattle.aho_hybrid.specs.declared.hybrid.Hybrid.{Hybrid as HybridOf}
 use Rattle.aho_stream.specs.After.{IsAfter, IsUnderWay, StaysAfter}
@@ -14,9 +16,9 @@ use Rattle.chromesquid.specs.declared.kinds.StartKind.{StartKind}
 
 -- ---- of a searcher with these rows
 
-module _ (hybrid : HybridOf) (kind : StartKind) where
+module _ (hybrid : HybridOf) (kind : StartKind) (back : Option (Backward NFA)) where
   abbrev owner : Searcher
-  owner = record { automaton = Rows hybrid; start_kind = kind }
+  owner = record { automaton = Rows hybrid; start_kind = kind; backward = back }
 
   module _ (p : Patterns) (lookups : ℕ) (s : StreamProgress) (given : List ℕ) where
     to_rows : IsAfter of_searcher owner p lookups s given → IsAfter of_rows hybrid p lookups s given
@@ -93,17 +95,17 @@ module _ (hybrid : HybridOf) (kind : StartKind) where
 -- ---- of a searcher that holds these rows
 
 module _ (hybrid : HybridOf) (searcher : Searcher) (held : searcher.automaton ≡ Rows hybrid) where
-  is_owner : searcher ≡ owner hybrid searcher.start_kind
-  is_owner = ap (λ (e : Engine). record { automaton = e; start_kind = searcher.start_kind }) held
+  is_owner : searcher ≡ owner hybrid searcher.start_kind searcher.backward
+  is_owner = ap (λ (e : Engine). record { automaton = e; start_kind = searcher.start_kind; backward = searcher.backward }) held
 
   pub rows_are_of : (p : Patterns) → IsBuiltFrom searcher p → of_rows.is_of hybrid p
   rows_are_of p built = (subst (λ (x : Searcher). IsBuiltFrom x p) is_owner built).reads
 
   pub after_rows : (p : Patterns) (lookups : ℕ) (s : StreamProgress) (given : List ℕ) → IsAfter of_searcher searcher p lookups s given → IsAfter of_rows hybrid p lookups s given
-  after_rows p lookups s given a = to_rows hybrid searcher.start_kind p lookups s given (subst (λ (x : Searcher). IsAfter of_searcher x p lookups s given) is_owner a)
+  after_rows p lookups s given a = to_rows hybrid searcher.start_kind searcher.backward p lookups s given (subst (λ (x : Searcher). IsAfter of_searcher x p lookups s given) is_owner a)
 
   pub after_searcher : (p : Patterns) (lookups : ℕ) (s : StreamProgress) (given : List ℕ) → IsAfter of_rows hybrid p lookups s given → IsAfter of_searcher searcher p lookups s given
-  after_searcher p lookups s given a = subst (λ (x : Searcher). IsAfter of_searcher x p lookups s given) (sym is_owner) (from_rows hybrid searcher.start_kind p lookups s given a)
+  after_searcher p lookups s given a = subst (λ (x : Searcher). IsAfter of_searcher x p lookups s given) (sym is_owner) (from_rows hybrid searcher.start_kind searcher.backward p lookups s given a)
 
   pub rows_under_way : (lookups : ℕ) (s : StreamProgress) → IsUnderWay of_searcher searcher lookups s → IsUnderWay of_rows hybrid lookups s
   rows_under_way lookups s way = (way.0, way.1, rows_are_of way.0 way.2, after_rows way.0 lookups s way.1 way.3)
@@ -112,4 +114,4 @@ module _ (hybrid : HybridOf) (searcher : Searcher) (held : searcher.automaton �
   rows_stay lookups s lookups' s' stays = λ p given built a. after_searcher p lookups' s' given (stays p given (rows_are_of p built) (after_rows p lookups s given a))
 
   pub rows_searched : (s : StreamProgress) → IsSearched of_rows hybrid s → IsSearched of_searcher searcher s
-  rows_searched s a = subst (λ (x : Searcher). IsSearched of_searcher x s) (sym is_owner) (searched_by_rows hybrid searcher.start_kind s a)
+  rows_searched s a = subst (λ (x : Searcher). IsSearched of_searcher x s) (sym is_owner) (searched_by_rows hybrid searcher.start_kind searcher.backward s a)

@@ -24,8 +24,8 @@ pub use Rattle.aho_backward.specs.Replacing.{IsReplacedBy}
 pub use Rattle.aho_backward.specs.Streams.{FourAByte, LeavesByBlocks, ReplacesAllBut, held_back}
 pub use Rattle.secret_forms.specs.Forms.{HidesForm, HidesNested, form_patterns, forms_patterns, inner_patterns, nested_patterns}
 pub use Rattle.secret_forms.specs.Patterns.{ListsPatterns, pattern_bytes}
-pub use Rattle.chromesquid.specs.Backward.{IsBackwardFor}
-pub use Rattle.chromesquid.specs.Building.{Accepts, FailsFor, HasCount, HasLengths, HasMatchKind, HasMemory, HasStartKind, HasTrie, IsBuiltWithMemory, IsFailureOf, SearchesBy, kind_to_make}
+pub use Rattle.chromesquid.specs.Backward.{HoldsIfWorth, IsBackwardFor, IsNotMade, wants_memory}
+pub use Rattle.chromesquid.specs.Building.{Accepts, FailsFor, HasCount, HasLengths, HasMatchKind, HasMemory, HasNoBackward, HasSizeOf, HasStartKind, HasTrie, HoldsAsAsked, IsBuiltWithMemory, IsFailureOf, IsHeldAsAsked, SearchesAsAsked, SearchesBy, kind_to_make}
 pub use Rattle.chromesquid.specs.Covers.{CanCoverAll, CoversBeginning, CoversBytes, CoversNearly, CoversWhole, IsCoverBegun, IsCoveredUpTo, IsStreamCovered, why_not_covered}
 pub use Rattle.chromesquid.specs.Engine.{HasKind}
 pub use Rattle.chromesquid.specs.InMemory.{EndsOverBytes, EndsOverText, ReplacesBytes, ReplacesText, RunsOverBytes, RunsOverText, StopsOverBytes, StopsOverText}

@@ -1,5 +1,5 @@
 -- What a searcher is seen as, and which patterns it was built from.
-use Rattle.std.specs.Prelude.{◌≡◌, ◌≤◌, ℕ, List, Bool, true, false, Option, None, Some, Result, Err, IsOk, is_some, length, if◌then◌else◌}
+use Rattle.std.specs.Prelude.{◌≡◌, ◌≤◌, ℕ, List, Bool, true, false, IfSome, Option, None, Some, Result, Err, IsOk, is_some, length, if◌then◌else◌}
 use Rattle.aho_core.specs.Answer.{IsAnswer}
 use Rattle.aho_core.specs.Laws.{shortest}
 use Rattle.aho_core.specs.Occurrence.{Occurrence}
@@ -13,7 +13,10 @@ use Rattle.aho_core.specs.declared.search.Anchored.{Anchored}
 use Rattle.aho_core.specs.declared.search.Anchored.TheVariants.{No, Yes}
 use Rattle.aho_core.specs.declared.search.MatchKind.{MatchKind}
 use Rattle.aho_automaton.specs.declared.automaton.Automaton.{Ghosts as Automata}
+use Rattle.aho_backward.specs.declared.backward.Backward.{Backward}
+use Rattle.aho_corasick.specs.declared.noncontiguous.NFA.{NFA}
 use Rattle.aho_prefilter.specs.declared.prefilter.Searcher.{Searcher as Prefilter}
+use Rattle.chromesquid.specs.Backward.{IsBackwardFor}
 use Rattle.chromesquid.specs.Engine.{kind_in}
 use Rattle.chromesquid.specs.contracts.engine.EngineAutomaton.TheImpl.{ghosts}
 use Rattle.chromesquid.specs.declared.engine.Engine.{Engine}
@@ -22,10 +25,11 @@ use Rattle.chromesquid.specs.declared.kinds.AhoCorasickKind.TheVariants.{Noncont
 use Rattle.chromesquid.specs.declared.kinds.StartKind.{StartKind}
 use Rattle.chromesquid.specs.declared.kinds.StartKind.TheVariants.{Both, Unanchored, Anchored as AnchoredOnly}
 
--- an automaton, and which searches are answered
+-- an automaton, which searches are answered, and a walk backward beside the automaton, if one is held
 pub record Searcher : Type 0 where
   pub automaton : Engine
   pub start_kind : StartKind
+  pub backward : Option (Backward NFA)
 
 -- which kind of automaton it searches by
 abbrev pub automaton_kind_of : Searcher → AhoCorasickKind
@@ -75,10 +79,12 @@ kind_for Unanchored (Some kind) = kind
 kind_for Both asked = NoncontiguousNFA
 kind_for AnchoredOnly asked = NoncontiguousNFA
 
--- the searcher was built from these patterns, with their match kind and case rule, and each search that is answered has a start
+-- the searcher was built from these patterns, with their match kind and case rule, each search that is answered has a start, and a
+-- walk backward that is held gives the finds of the same patterns
 pub record IsBuiltFrom (searcher : Searcher) (p : Patterns) : Type 0 where
   pub reads : ghosts.is_of searcher.automaton p
   pub starts : (anchored : Anchored) → allows searcher.start_kind anchored ≡ true → IsOk (ghosts.start searcher.automaton anchored)
+  pub walks_back : IfSome searcher.backward (λ backward. IsBackwardFor backward p)
 
 -- it was built from some patterns
 abbrev pub IsBuiltFromSome : Searcher → Type 0
@@ -124,7 +130,9 @@ pub record Building : Type 0 where
   pub settings : Settings
   pub start_kind : StartKind
   pub kind : Option AhoCorasickKind
+  pub best_effort : Bool
+  pub finds_all : Bool
 
 -- how it is built where nothing is set
 abbrev pub default_building : Building
-default_building = record { settings = default_settings; start_kind = Unanchored; kind = None }
+default_building = record { settings = default_settings; start_kind = Unanchored; kind = None; best_effort = false; finds_all = false }

@@ -1,21 +1,23 @@
 //! The settings of a searcher, and its build.
 
-ghost use Rattle.std.specs.Prelude.{◌≡◌, IfErr, IfOk, OnOk};
+ghost use Rattle.std.specs.Prelude.{◌≡◌, IfErr, IfOk, IsOk, IsOkUnless, None, OnOk, false, true};
 ghost use Rattle.std.specs.Iterator.{IsFinite};
 ghost use Rattle.std.specs.Iterator.Runs.{WholeRun};
+ghost use Rattle.aho_core.specs.declared.error.BuildError.TheVariants.{OutOfMemory};
 ghost use Rattle.aho_build.specs.Automaton.{memory_for};
 ghost use Rattle.aho_build.specs.Items.{IsFailure, OfAccepted, patterns_of};
 ghost use Rattle.chromesquid.specs.Building.{Accepts, FailsFor};
 ghost use Rattle.chromesquid.specs.declared.kinds.AhoCorasickKind.TheVariants.{NoncontiguousNFA};
 
+use crate::backward::{Backward, backward_of};
 use crate::engine::Engine;
-use crate::kinds::{AhoCorasickKind, StartKind, kind_for};
+use crate::kinds::{AhoCorasickKind, StartKind, is_allowed, kind_for};
 use crate::searcher::AhoCorasick;
 use aho_automaton::automaton::Automaton;
 use aho_build::settings::{Limits, Settings};
 use aho_corasick::noncontiguous::{Builder, NFA};
 use aho_core::error::BuildError;
-use aho_core::search::MatchKind;
+use aho_core::search::{Anchored, MatchKind};
 use std::alloc::Global;
 use std::marker::Model;
 
@@ -25,6 +27,8 @@ pub struct AhoCorasickBuilder {
     settings: Settings,
     start_kind: StartKind,
     kind: Option<AhoCorasickKind>,
+    best_effort: bool,
+    finds_all: bool,
 }
 
 impl Model for AhoCorasickBuilder {
@@ -32,9 +36,21 @@ impl Model for AhoCorasickBuilder {
 
     ghost Value = { Building };
 
-    ghost view = { λ b. record { settings = b.settings; start_kind = b.start_kind; kind = b.kind } };
+    ghost view = { λ b. record {
+      settings = b.settings;
+      start_kind = b.start_kind;
+      kind = b.kind;
+      best_effort = b.best_effort;
+      finds_all = b.finds_all;
+    } };
 
-    ghost inverse = { λ b. record { settings = b.settings; start_kind = b.start_kind; kind = b.kind } };
+    ghost inverse = { λ b. record {
+      settings = b.settings;
+      start_kind = b.start_kind;
+      kind = b.kind;
+      best_effort = b.best_effort;
+      finds_all = b.finds_all;
+    } };
 }
 
 impl Default for AhoCorasickBuilder {
@@ -74,11 +90,12 @@ fn automaton_of(settings: &Settings, alloc: Global, patterns: &[&[u8]]) -> Resul
 }
 
 impl AhoCorasickBuilder {
-    ghost use Rattle.chromesquid.specs.Building.{HasCount, HasLengths, HasMatchKind, HasMemory, HasStartKind, HasTrie, IsBuiltWithMemory, SearchesBy, kind_to_make};
+    ghost use Rattle.chromesquid.specs.Backward.{IsHeldFor};
+    ghost use Rattle.chromesquid.specs.Building.{HasCount, HasLengths, HasMatchKind, HasMemory, HasNoBackward, HasSizeOf, HasStartKind, HasTrie, HoldsAsAsked, IsBuiltWithMemory, IsHeldAsAsked, SearchesAsAsked, kind_to_make};
     ghost use Rattle.chromesquid.specs.Searcher.{IsBuiltFrom, default_building};
 
     /// Standard, with regard to case, for searches that are not anchored, with a prefilter where one can be held, dense rows
-    /// up to depth 3, and the greatest limits. No kind of automaton is asked for.
+    /// up to depth 3, and the greatest limits. No kind of automaton is asked for, nor a walk backward, and refused memory is a failure.
     pub fn new() -> AhoCorasickBuilder
         ensures new { result ≡ default_building }
     {
@@ -86,6 +103,8 @@ impl AhoCorasickBuilder {
             settings: Settings::default(),
             start_kind: StartKind::Unanchored,
             kind: None,
+            best_effort: false,
+            finds_all: false,
         }
     }
 
@@ -100,8 +119,11 @@ impl AhoCorasickBuilder {
             IsBuiltFrom built (patterns_of self.now.settings patterns.now)) }
         ensures match_kind { IfOk result (HasMatchKind self.now.settings.kind) }
         ensures start_kind { IfOk result (HasStartKind self.now.start_kind) }
-        ensures kind { IfOk result (SearchesBy (kind_to_make self.now)) }
+        ensures kind { IfOk result (SearchesAsAsked self.now) }
         ensures trie { kind_to_make self.now ≡ NoncontiguousNFA → IfOk result HasTrie }
+        ensures unasked { self.now.finds_all ≡ false → IfOk result HasNoBackward }
+        ensures backward { IfOk result
+            (HoldsAsAsked self.now (patterns_of self.now.settings patterns.now)) }
         ensures lengths { IfOk result (HasLengths patterns.now) }
         ensures count { IfOk result (HasCount patterns.now) }
         ensures memory { IfOk result (HasMemory self.now.settings patterns.now) }
@@ -109,9 +131,73 @@ impl AhoCorasickBuilder {
         ensures refused { IfErr result (FailsFor self.now.settings patterns.now) }
     {
         let nfa = automaton_of(&self.settings, alloc, patterns)?;
+        self.build_from_noncontiguous(alloc, nfa, patterns)
+    }
+
+    /// The searcher of these patterns by an `NFA` of them that was built before: what is made beside it, is made of it. The builder
+    /// can be used again. Settings that are of an `NFA` alone, `dense_depth` and `limits`, mean nothing here.
+    ///
+    /// # Errors
+    ///
+    /// Memory ran out (`OutOfMemory`). With `best_effort` none.
+    pub fn build_from_noncontiguous(
+        &self,
+        alloc: Global,
+        nfa: NFA,
+        patterns: &[&[u8]],
+    ) -> Result<AhoCorasick, BuildError>
+        requires of { ⟦<NFA as Automaton>⟧.is_of nfa (patterns_of self.now.settings patterns.now) }
+        ensures of { IfOk result (λ built.
+            IsBuiltFrom built (patterns_of self.now.settings patterns.now)) }
+        ensures start_kind { IfOk result (HasStartKind self.now.start_kind) }
+        ensures kind { IfOk result (SearchesAsAsked self.now) }
+        ensures trie { kind_to_make self.now ≡ NoncontiguousNFA → IfOk result HasTrie }
+        ensures unasked { self.now.finds_all ≡ false → IfOk result HasNoBackward }
+        ensures backward { IfOk result
+            (HoldsAsAsked self.now (patterns_of self.now.settings patterns.now)) }
+        ensures memory { IfOk result (HasSizeOf nfa) }
+        ensures sure { self.now.best_effort ≡ true → IsOk result }
+        ensures refused { IsOkUnless result OutOfMemory }
+    {
+        let backward = self.backward_of(alloc, &nfa, patterns)?;
         let kind = kind_for(self.start_kind, self.kind);
-        let automaton = Engine::of_kind(alloc, nfa, kind, &self.settings, patterns)?;
-        Ok(AhoCorasick::of_automaton(automaton, self.start_kind))
+        let automaton = Engine::of_kind(
+            alloc,
+            nfa,
+            kind,
+            &self.settings,
+            patterns,
+            self.best_effort,
+        )?;
+        Ok(AhoCorasick::of_automaton(automaton, self.start_kind, backward))
+    }
+
+    /// The walk backward over these patterns, where all finds are asked for by searches that are not anchored, and it is worth it.
+    ///
+    /// # Errors
+    ///
+    /// Out of memory.
+    fn backward_of(
+        &self,
+        alloc: Global,
+        nfa: &NFA,
+        patterns: &[&[u8]],
+    ) -> Result<Option<Backward>, BuildError>
+        requires of { ⟦<NFA as Automaton>⟧.is_of nfa.now (patterns_of self.now.settings patterns.now) }
+        ensures of { IfOk result (IsHeldFor (patterns_of self.now.settings patterns.now)) }
+        ensures unasked { self.now.finds_all ≡ false → IfOk result (λ held. held ≡ None) }
+        ensures backward { IfOk result (IsHeldAsAsked self.now
+            (patterns_of self.now.settings patterns.now)) }
+        ensures sure { self.now.best_effort ≡ true → IsOk result }
+        ensures refused { IsOkUnless result OutOfMemory }
+    {
+        if !self.finds_all {
+            return Ok(None);
+        }
+        if !is_allowed(self.start_kind, Anchored::No) {
+            return Ok(None);
+        }
+        backward_of(alloc, nfa, &self.settings, patterns, self.best_effort)
     }
 
     /// The searcher of the patterns that an iterator gives, which are numbered from 0 on as they come. They are collected
@@ -135,8 +221,9 @@ impl AhoCorasickBuilder {
             IsBuiltWithMemory self.now.settings run.items built)) }
         ensures match_kind { IfOk result (HasMatchKind self.now.settings.kind) }
         ensures start_kind { IfOk result (HasStartKind self.now.start_kind) }
-        ensures kind { IfOk result (SearchesBy (kind_to_make self.now)) }
+        ensures kind { IfOk result (SearchesAsAsked self.now) }
         ensures trie { kind_to_make self.now ≡ NoncontiguousNFA → IfOk result HasTrie }
+        ensures unasked { self.now.finds_all ≡ false → IfOk result HasNoBackward }
         ensures refused { IfErr result (IsFailure I.next_gives patterns self.now.settings) }
     {
         let Ok(patterns) = patterns.collect::<Vec<&[u8]>>(alloc) else {
@@ -204,6 +291,26 @@ impl AhoCorasickBuilder {
         ensures set { result ≡ record self { settings = record self.settings { limits = limits } } }
     {
         self.settings.limits = limits;
+        self
+    }
+
+    /// Whether a searcher is made without what memory is refused for: rows, a prefilter of theirs, or a walk backward. Else the
+    /// build fails with `OutOfMemory`. What is refused for the noncontiguous automaton fails in either case, and so do limits. No answer depends
+    /// on it.
+    pub fn best_effort(mut self, yes: bool) -> AhoCorasickBuilder
+        ensures set { result ≡ record self { best_effort = yes } }
+    {
+        self.best_effort = yes;
+        self
+    }
+
+    /// Whether all finds of texts will be asked for, as by `find_all`. Where the match kind is a leftmost one, searches that are not
+    /// anchored are answered and `overhang::is_worth_it` says so, a walk backward is then held beside the automaton. It takes an
+    /// automaton more, and finds in linear time whatever the patterns are. No answer depends on it.
+    pub fn finds_all(mut self, yes: bool) -> AhoCorasickBuilder
+        ensures set { result ≡ record self { finds_all = yes } }
+    {
+        self.finds_all = yes;
         self
     }
 }

@@ -1,6 +1,6 @@
 //! The automaton that searches: one of several kinds. Each of its calls is that of the automaton that is held.
 
-ghost use Rattle.std.specs.Prelude.{◌≡◌, ◌+◌, ◌<◌, ◌≤◌, ℕ, IfOk, IfSome, IsOk, IsOkUnless, None, Ok, Some, length, true};
+ghost use Rattle.std.specs.Prelude.{◌≡◌, ◌+◌, ◌<◌, ◌≤◌, ℕ, IfOk, IfSome, IsOk, IsOkUnless, None, Ok, Some, false, length, true};
 ghost use Rattle.aho_core.specs.Answer.{IsAnswer};
 ghost use Rattle.aho_core.specs.Occurrence.{Occurrence};
 ghost use Rattle.aho_core.specs.Patterns.{Patterns};
@@ -13,7 +13,7 @@ ghost use Rattle.aho_corasick.specs.Clones.{IsCloneOf};
 ghost use Rattle.aho_prefilter.specs.Prefilter.{IsPrefilterOf};
 ghost use Rattle.chromesquid.specs.Engine.{HasKind, HoldsInRows, IsElse, RefusesAs, held_in_rows, kind_in};
 ghost use Rattle.chromesquid.specs.declared.engine.Engine.TheVariants.{Rows};
-ghost use Rattle.chromesquid.specs.declared.kinds.AhoCorasickKind.TheVariants.{Hybrid as OfRows};
+ghost use Rattle.chromesquid.specs.declared.kinds.AhoCorasickKind.TheVariants.{Hybrid as OfRows, NoncontiguousNFA};
 
 use crate::kinds::AhoCorasickKind;
 use crate::prefilters::prefilter_of;
@@ -37,7 +37,8 @@ pub enum Engine {
 }
 
 impl Engine {
-    /// The automaton of this kind, made of the `NFA` of these patterns. Where it has too many states for rows it is the `NFA`.
+    /// The automaton of this kind, made of the `NFA` of these patterns. Where it has too many states for rows it is the `NFA`, and
+    /// so it is where memory for them is refused and that is to be no failure.
     ///
     /// # Errors
     ///
@@ -48,26 +49,31 @@ impl Engine {
         kind: AhoCorasickKind,
         settings: &Settings,
         patterns: &[&[u8]],
+        best_effort: bool,
     ) -> Result<Engine, BuildError>
         requires of { ⟦<NFA as Automaton>⟧.is_of nfa (patterns_of settings.now patterns.now) }
         ensures of { IfOk result (λ engine.
             ⟦<Engine as Automaton>⟧.is_of engine (patterns_of settings.now patterns.now)) }
-        ensures kind { IfOk result (HasKind kind) }
+        ensures kind { best_effort ≡ false → IfOk result (HasKind kind) }
+        ensures trie { kind ≡ NoncontiguousNFA
+            → IfOk result (λ engine. kind_in engine ≡ NoncontiguousNFA) }
         ensures same { IfOk result (IsElse nfa) }
-        ensures prefilter { IfOk result (HoldsInRows
+        ensures prefilter { best_effort ≡ false → IfOk result (HoldsInRows
             (held_in_rows settings.now (patterns_of settings.now patterns.now))) }
+        ensures sure { best_effort ≡ true → IsOk result }
         ensures refused { IsOkUnless result OutOfMemory }
     {
         match kind {
             AhoCorasickKind::NoncontiguousNFA => Ok(Engine::Noncontiguous(nfa)),
             AhoCorasickKind::Hybrid => {
-                let prefilter = prefilter_of(alloc, settings, patterns)?;
-                Engine::with_rows(alloc, nfa, prefilter)
+                let prefilter = prefilter_of(alloc, settings, patterns, best_effort)?;
+                Engine::with_rows(alloc, nfa, prefilter, best_effort)
             }
         }
     }
 
-    /// The automaton of rows with this prefilter, or the `NFA` where that has too many states for it.
+    /// The automaton of rows with this prefilter, or the `NFA` where that has too many states for it, or where memory is refused
+    /// and that is to be no failure.
     ///
     /// # Errors
     ///
@@ -76,20 +82,27 @@ impl Engine {
         alloc: Global,
         nfa: NFA,
         prefilter: Option<Prefilter>,
+        best_effort: bool,
     ) -> Result<Engine, BuildError>
         ensures of { IfOk result (λ engine. (p : Patterns)
             → ⟦<NFA as Automaton>⟧.is_of nfa p
             → IfSome prefilter (λ searcher. IsPrefilterOf searcher p)
             → ⟦<Engine as Automaton>⟧.is_of engine p) }
-        ensures kind { IfOk result (HasKind OfRows) }
+        ensures kind { best_effort ≡ false → IfOk result (HasKind OfRows) }
         ensures same { IfOk result (IsElse nfa) }
         ensures prefilter { IfOk result (HoldsInRows prefilter) }
+        ensures sure { best_effort ≡ true → IsOk result }
         ensures refused { IsOkUnless result OutOfMemory }
     {
         match Hybrid::with_prefilter(alloc, &nfa, DEFAULT_BUDGET, prefilter) {
             Ok(hybrid) => Ok(Engine::Rows(hybrid)),
             Err(BuildError::StateIDOverflow { .. }) => Ok(Engine::Noncontiguous(nfa)),
-            Err(error) => Err(error),
+            Err(error) => {
+                if best_effort {
+                    return Ok(Engine::Noncontiguous(nfa));
+                }
+                Err(error)
+            }
         }
     }
 

@@ -2,6 +2,7 @@
 #![tactic(auto)]
 
 pub mod answers;
+pub mod any;
 pub mod automaton;
 mod backward;
 pub mod builder;
@@ -9,6 +10,7 @@ pub mod cover;
 mod cover_iter;
 mod engine;
 pub mod find;
+mod find_all;
 pub mod forms;
 pub mod impls;
 pub mod input;
@@ -26,6 +28,7 @@ mod stream_iter;
 pub use aho_automaton::automaton::{Automaton, OverlappingState};
 pub use aho_backward::error::BackwardError;
 pub use aho_backward::overhang;
+pub use aho_corasick::noncontiguous;
 pub use aho_corasick::noncontiguous::Limits;
 pub use aho_core::error::{
     BuildError, Fault, MatchError, MatchErrorKind, ReplaceError, StreamError,

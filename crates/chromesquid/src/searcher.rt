@@ -1,6 +1,6 @@
 //! A searcher for some patterns.
 
-ghost use Rattle.std.specs.Prelude.{◌≡◌, ◌≤◌, IfErr, IfOk, OnOk, length, map};
+ghost use Rattle.std.specs.Prelude.{◌≡◌, ◌≤◌, IfErr, IfOk, IfSome, OnOk, length, map, option_map};
 ghost use Rattle.std.specs.Iterator.{IsFinite};
 ghost use Rattle.std.specs.Iterator.Runs.{WholeRun};
 ghost use Rattle.aho_core.specs.Laws.{longest, shortest};
@@ -12,6 +12,7 @@ ghost use Rattle.aho_build.specs.Settings.{default_settings};
 ghost use Rattle.chromesquid.specs.declared.kinds.AhoCorasickKind.TheVariants.{Hybrid};
 ghost use Rattle.chromesquid.specs.declared.kinds.StartKind.TheVariants.{Unanchored};
 
+use crate::backward::Backward;
 use crate::builder::AhoCorasickBuilder;
 use crate::engine::Engine;
 use crate::kinds::{AhoCorasickKind, StartKind};
@@ -26,6 +27,7 @@ use std::marker::Model;
 pub struct AhoCorasick {
     automaton: Engine,
     start_kind: StartKind,
+    backward: Option<Backward>,
 }
 
 impl Model for AhoCorasick {
@@ -34,13 +36,21 @@ impl Model for AhoCorasick {
 
     ghost Value = { Searcher };
 
-    ghost view = { λ a. record { automaton = a.automaton; start_kind = a.start_kind } };
+    ghost view = { λ a. record {
+      automaton = a.automaton;
+      start_kind = a.start_kind;
+      backward = a.backward;
+    } };
 
-    ghost invariant = { λ a. (p : Patterns)
-        × IsBuiltFrom (record { automaton = a.automaton; start_kind = a.start_kind }) p };
+    ghost invariant = { λ a. (p : Patterns) × IsBuiltFrom (record {
+      automaton = a.automaton;
+      start_kind = a.start_kind;
+      backward = a.backward;
+    }) p };
 }
 
 impl AhoCorasick {
+    ghost use Rattle.chromesquid.specs.Backward.{IsBackwardFor};
     ghost use Rattle.chromesquid.specs.Building.{Accepts, FailsFor, HasCount, HasLengths, HasMatchKind, HasMemory, HasStartKind, IsBuiltWithMemory, SearchesBy};
     ghost use Rattle.chromesquid.specs.Searcher.{ForItsPatterns, IsBuiltFrom, default_building, automaton_kind_of, lengths_of, match_kind_of, memory_usage_of, patterns_len_of, prefilter_held_by};
 
@@ -96,19 +106,32 @@ impl AhoCorasick {
         AhoCorasickBuilder::default()
     }
 
-    /// The searcher with this automaton.
-    pub(crate) fn of_automaton(automaton: Engine, start_kind: StartKind) -> AhoCorasick
-        requires of { (p : Patterns)
-            × IsBuiltFrom (record { automaton = automaton; start_kind = start_kind }) p }
-        ensures same { result ≡ record { automaton = automaton; start_kind = start_kind } }
+    /// The searcher with this automaton, and with this walk backward beside it, if there is one.
+    pub(crate) fn of_automaton(
+        automaton: Engine,
+        start_kind: StartKind,
+        backward: Option<Backward>,
+    ) -> AhoCorasick
+        requires of { (p : Patterns) × IsBuiltFrom (record {
+          automaton = automaton;
+          start_kind = start_kind;
+          backward = backward;
+        }) p }
+        ensures same { result ≡ record {
+          automaton = automaton;
+          start_kind = start_kind;
+          backward = backward;
+        } }
     {
         AhoCorasick {
             automaton,
             start_kind,
+            backward,
         }
     }
 
-    /// A copy of the searcher, with the same automaton, prefilter and size.
+    /// A copy of the searcher, with the same automaton, prefilter and size. A walk backward is not copied: the copy finds the
+    /// same without it.
     ///
     /// # Errors
     ///
@@ -124,7 +147,17 @@ impl AhoCorasick {
             prefilter_held_by copy ≡ prefilter_held_by self.now) }
     {
         let automaton = self.built().automaton().try_clone()?;
-        Ok(AhoCorasick::of_automaton(automaton, self.start_kind))
+        Ok(AhoCorasick::of_automaton(automaton, self.start_kind, None))
+    }
+
+    /// The walk backward that is held beside the automaton, if one is: where a builder's `finds_all` asks for it. It gives the same
+    /// finds all at once and in linear time, whatever the patterns are, and replaces streams so.
+    pub fn backward(&self) -> Option<&Backward>
+        ensures same { option_map (λ backward. backward.now) result ≡ self.now.backward }
+        ensures of { ForItsPatterns self.now (λ p. IfSome result (λ backward.
+            IsBackwardFor backward.now p)) }
+    {
+        self.backward.as_ref()
     }
 
     /// The automaton that searches.
@@ -180,8 +213,8 @@ impl AhoCorasick {
         Automaton::match_kind(self)
     }
 
-    /// How many bytes of memory it holds, by the stated sizes of its parts. A build tells them in advance where there are no
-    /// rows; how much rows take is free.
+    /// How many bytes of memory its automaton holds, by the stated sizes of its parts. A build tells them in advance where there
+    /// are no rows; how much rows take is free. A walk backward is not counted: its own automaton tells its size.
     pub fn memory_usage(&self) -> usize
         ensures memory { result ≡ memory_usage_of self.now }
     {

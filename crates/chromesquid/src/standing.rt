@@ -31,8 +31,9 @@ use aho_stream::replace::{try_stream_replace_all, try_stream_replace_all_with};
 use std::alloc::{AllocError, Global};
 
 impl AhoCorasick {
-    /// The rows that answer searches that are not anchored, where the searcher has some and answers these.
-    pub(crate) fn rows(&self) -> Option<&Hybrid>
+    /// The rows that answer searches that are not anchored, where the searcher has some and answers these: for a search over any
+    /// automaton, each step of which else asks the searcher anew which automaton it holds.
+    pub fn rows(&self) -> Option<&Hybrid>
         ensures stands { IfSome result (λ hybrid.
             StandsFor ⟦<Hybrid as Automaton>⟧ hybrid.now self.now) }
         ensures held { IfSome result (λ hybrid. self.now.automaton ≡ Rows hybrid.now) }
@@ -45,8 +46,8 @@ impl AhoCorasick {
         }
     }
 
-    /// The searcher, as any automaton: each step asks which one is held.
-    pub(crate) fn itself(&self) -> &AhoCorasick
+    /// The searcher, as any automaton, where it has no such rows.
+    pub fn itself(&self) -> &AhoCorasick
         ensures stands { StandsFor ⟦<AhoCorasick as Automaton>⟧ result.now self.now }
         ensures same { result.now ≡ self.now }
     {

@@ -1,5 +1,5 @@
 -- What the numbers of the options mean, and why a build fails.
-use Rattle.std.specs.Prelude.{◌≡◌, ℕ, zero, suc, List, Option, None, Some, if◌then◌else◌, nat_eq}
+use Rattle.std.specs.Prelude.{◌≡◌, ℕ, zero, suc, false, List, Option, None, Some, if◌then◌else◌, nat_eq}
 use Rattle.std.specs.Borrow.{Bor}
 use Rattle.aho_core.specs.declared.error.BuildError.{BuildError}
 use Rattle.aho_core.specs.declared.error.BuildError.TheVariants.{OutOfMemory, PatternIDOverflow, PatternTooLong, StateIDOverflow}
@@ -9,7 +9,7 @@ use Rattle.aho_build.specs.Items.{patterns_of}
 use Rattle.aho_build.specs.Settings.{default_settings}
 use Rattle.aho_build.specs.declared.settings.Limits.{Limits}
 use Rattle.aho_build.specs.declared.settings.Settings.{Settings}
-use Rattle.chromesquid.specs.Building.{FailsFor, HasCount, HasLengths, HasMatchKind, HasStartKind, SearchesBy, kind_to_make}
+use Rattle.chromesquid.specs.Building.{FailsFor, HasCount, HasLengths, HasMatchKind, HasStartKind, SearchesAsAsked}
 use Rattle.chromesquid.specs.Searcher.{Building, IsBuiltFrom, Searcher}
 use Rattle.chromesquid.specs.declared.kinds.AhoCorasickKind.{AhoCorasickKind}
 use Rattle.chromesquid.specs.declared.kinds.AhoCorasickKind.TheVariants.{Hybrid, NoncontiguousNFA}
@@ -57,6 +57,8 @@ building_for (Some kind) (Some start) (Some automaton) options = Some (record {
   settings = record default_settings { kind = kind; ignore_case = options.ignore_case; prefilter = options.prefilter; limits = limits_by options };
   start_kind = start;
   kind = automaton;
+  best_effort = false;
+  finds_all = false;
 })
 
 -- how a searcher is built by the options, if they have the size of options and each of their numbers means something
@@ -79,7 +81,7 @@ pub record IsBuiltBy (building : Building) (items : List (Bor (List ℕ))) (hand
   pub of : IsBuiltFrom searcher (patterns_of building.settings items)
   pub match_kind : HasMatchKind building.settings.kind searcher
   pub start_kind : HasStartKind building.start_kind searcher
-  pub kind : SearchesBy (kind_to_make building) searcher
+  pub kind : SearchesAsAsked building searcher
   pub count : HasCount items searcher
   pub lengths : HasLengths items searcher
 

@@ -27,6 +27,8 @@ struct Building {
     kind: Option<AhoCorasickKind>,
     prefilter: bool,
     depth: usize,
+    best_effort: bool,
+    finds_all: bool,
 }
 
 impl Building {
@@ -45,6 +47,8 @@ impl Building {
             },
             prefilter: numbers.once_in(2),
             depth: numbers.below(4),
+            best_effort: numbers.once_in(2),
+            finds_all: numbers.once_in(2),
         }
     }
 
@@ -65,6 +69,8 @@ impl Building {
             .kind(self.kind)
             .prefilter(self.prefilter)
             .dense_depth(self.depth)
+            .best_effort(self.best_effort)
+            .finds_all(self.finds_all)
             .build(alloc, words)
     }
 }
@@ -91,6 +97,19 @@ fn one_search(
         _ => Ok(plain(asked.patterns, &input)),
     };
     count.same("AhoCorasick::try_find", &searcher.try_find(input), &wanted)
+}
+
+/// Compares all finds of a text.
+fn all_at_once(
+    alloc: Global,
+    searcher: &AhoCorasick,
+    asked: &Asked<'_>,
+    count: &mut Count,
+) -> Result<()>
+    requires starts { Answers searcher.now No }
+{
+    let found = searcher.find_all(alloc, asked.text)?;
+    count.same("AhoCorasick::find_all", &found, &asked.finds)
 }
 
 /// Compares whether a text has a match, and the first one.
@@ -250,6 +269,7 @@ fn unanchored(
     requires starts { Answers searcher.now No }
 {
     first(searcher, asked, count)?;
+    all_at_once(alloc, searcher, asked, count)?;
     replacements(alloc, searcher, asked, count)?;
     if searcher.min_pattern_len() > 0 {
         let reads = turns(alloc, numbers, false)?;

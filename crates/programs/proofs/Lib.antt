@@ -8,3 +8,4 @@ pub mod Replacings
 pub mod Ends
 pub mod Tellings
 pub mod Lines
+pub mod Searched

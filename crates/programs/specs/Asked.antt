@@ -35,6 +35,10 @@ ignores_case Overlap = false
 abbrev pub asked_patterns : Asked → Patterns
 asked_patterns asked = record { words = asked.patterns; kind = kind_of asked.task; ignore_case = ignores_case asked.task }
 
+-- these words, as a task searches for them
+abbrev pub task_patterns : Task → List (List ℕ) → Patterns
+task_patterns task words = asked_patterns (record { task = task; patterns = words })
+
 -- the patterns of a request
 abbrev pub request_patterns : Request → Patterns
 request_patterns request = asked_patterns (asked_for request)

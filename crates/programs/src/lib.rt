@@ -16,4 +16,5 @@ pub mod reason;
 mod replace;
 pub mod rows;
 pub mod run;
+mod searcher;
 pub mod unopened;

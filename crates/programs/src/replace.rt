@@ -1,8 +1,8 @@
 //! What `acfind replace` does: replacement from a reader to a writer, through a buffer of fixed length.
 
-ghost use Rattle.std.specs.Prelude.{◌≡◌, ◌%◌, ⊤, true, IfErr, IfOk, IfSome, OnOk, length};
-ghost use Rattle.aho_core.specs.Patterns.{Patterns};
+ghost use Rattle.std.specs.Prelude.{◌≡◌, ◌%◌, ⊤, true, IfErr, IfOk, OnOk, length};
 ghost use Rattle.aho_core.specs.Replacement.{pieces_of};
+ghost use Rattle.chromesquid.specs.Searcher.{IsBuiltFrom, patterns_len_of};
 ghost use Rattle.programs.specs.Answers.{BuildsFirstToReplace, LeavesIfNotReplaced, WritesIfOk};
 ghost use Rattle.programs.specs.Arguments.{texts};
 ghost use Rattle.programs.specs.Asked.{BuildsReplacing, OfReplacing, Replacing, at_even, at_odd, patterns_to_replace, replacing_for};
@@ -12,11 +12,10 @@ ghost use Rattle.programs.specs.Streams.{CountsFaults};
 
 use crate::failure::Failure;
 use crate::print::flush;
-use crate::rows::rows_of;
-use aho_automaton::automaton::Automaton;
-use aho_corasick::noncontiguous::NFA;
+use crate::searcher::searcher_of;
 use aho_devices::adapters::{FromRead, FromWrite};
-use aho_stream::replace::try_stream_replace_all;
+use chromesquid::noncontiguous::NFA;
+use chromesquid::{AhoCorasick, AhoCorasickBuilder};
 use std::alloc::{AllocError, Global};
 use std::io::{Read, Write};
 
@@ -51,8 +50,8 @@ pub fn replace<R: Read, W: Write>(
     let patterns = pairs.patterns.as_slice();
     let pieces = pairs.pieces.as_slice();
     let automaton = build(alloc, patterns)?;
-    let rows = rows_of(alloc, &automaton, false, patterns)?;
-    replace_by(alloc, &automaton, rows.as_ref(), pieces, input, output)?;
+    let searcher = searcher_of(alloc, AhoCorasickBuilder::new(), automaton, patterns);
+    replace_all(alloc, &searcher, pieces, input, output)?;
     flush(output)
 }
 
@@ -86,46 +85,21 @@ fn build(alloc: Global, patterns: &[&[u8]]) -> Result<NFA, Failure>
     Ok(NFA::new(alloc, patterns.iter().copied())?)
 }
 
-/// Writes the input to the output with a piece in the place of each match, by the automaton with rows, if there is one.
-fn replace_by<A: Automaton, B: Automaton, R: Read, W: Write>(
-    alloc: Global,
-    automaton: &A,
-    rows: Option<&B>,
-    pieces: &[&[u8]],
-    input: &mut FromRead<R>,
-    output: &mut FromWrite<W>,
-) -> Result<(), Failure>
-    requires of { (p : Patterns) × A.is_of automaton.now p × (length p.words ≡ length pieces.now)
-        × IfSome rows (λ rows. B.is_of rows.now p) }
-    ensures replaces { OfReplacing (A.is_of automaton.now) (pieces_of pieces.now) (λ asked.
-        IfSome rows.entry (λ rows. B.is_of rows.now (patterns_to_replace asked))
-        → WritesIfOk W.Write input.old input.new output.old output.new result asked) }
-    ensures leaves { OfReplacing (A.is_of automaton.now) (pieces_of pieces.now) (λ asked.
-        IfSome rows.entry (λ rows. B.is_of rows.now (patterns_to_replace asked))
-        → LeavesIfNotReplaced W.Write input.old input.new output.old output.new result asked) }
-    ensures faults { CountsFaults input.old input.new output.old output.new result }
-{
-    match rows {
-        Some(rows) => replace_all(alloc, rows, pieces, input, output),
-        None => replace_all(alloc, automaton, pieces, input, output),
-    }
-}
-
 /// Writes the input to the output with a piece in the place of each match.
-fn replace_all<A: Automaton, R: Read, W: Write>(
+fn replace_all<R: Read, W: Write>(
     alloc: Global,
-    automaton: &A,
+    searcher: &AhoCorasick,
     pieces: &[&[u8]],
     input: &mut FromRead<R>,
     output: &mut FromWrite<W>,
 ) -> Result<(), Failure>
-    requires of { (p : Patterns) × A.is_of automaton.now p × (length p.words ≡ length pieces.now) }
-    ensures replaces { OfReplacing (A.is_of automaton.now) (pieces_of pieces.now)
+    requires one_each { length pieces.now ≡ patterns_len_of searcher.now }
+    ensures replaces { OfReplacing (IsBuiltFrom searcher.now) (pieces_of pieces.now)
         (WritesIfOk W.Write input.old input.new output.old output.new result) }
-    ensures leaves { OfReplacing (A.is_of automaton.now) (pieces_of pieces.now)
+    ensures leaves { OfReplacing (IsBuiltFrom searcher.now) (pieces_of pieces.now)
         (LeavesIfNotReplaced W.Write input.old input.new output.old output.new result) }
     ensures faults { CountsFaults input.old input.new output.old output.new result }
 {
     input.restart();
-    Ok(try_stream_replace_all(alloc, automaton, input, output, pieces)?)
+    Ok(searcher.try_stream_replace_all(alloc, input, output, pieces)?)
 }

@@ -1,12 +1,12 @@
-//! The automaton with rows by which `acfind` searches, and its prefilter. Both are made for speed: no answer depends on them.
+//! The automaton with rows by which `acgrep` and `acredact` search, and its prefilter. Both are made for speed: no answer depends on
+//! them.
 
-ghost use Rattle.std.specs.Prelude.{◌≡◌, ◌<◌, IfErr, IfOk, length, map, string_bytes};
+ghost use Rattle.std.specs.Prelude.{◌<◌, IfErr, IfOk, length};
 ghost use Rattle.aho_core.specs.Patterns.{Patterns};
 ghost use Rattle.aho_core.specs.Replacement.{pieces_of};
-ghost use Rattle.programs.specs.Asked.{request_patterns, ArePatterns};
+ghost use Rattle.programs.specs.Asked.{ArePatterns};
 ghost use Rattle.programs.specs.Automata.{AreRowsFor, HaveKindOf, IsNFAFor, IsPrefilterFor, TakeUnanchored};
 
-use crate::command::Request;
 use aho_automaton::automaton::Automaton;
 use aho_corasick::noncontiguous::NFA;
 use aho_hybrid::hybrid::{DEFAULT_BUDGET, Hybrid};
@@ -52,42 +52,5 @@ pub fn rows_of(
     match Hybrid::with_prefilter(alloc, nfa, DEFAULT_BUDGET, prefilter) {
         Ok(rows) => Ok(Some(rows)),
         Err(_) => Ok(None),
-    }
-}
-
-/// The bytes of some arguments.
-fn bytes_of(alloc: Global, arguments: &[String]) -> Result<Vec<&[u8]>, AllocError>
-    ensures bytes { IfOk result (λ patterns.
-        pieces_of patterns.items ≡ map string_bytes arguments.now) }
-{
-    let mut patterns = Vec::new(alloc);
-    for argument in arguments {
-        patterns.push(argument.as_bytes())?;
-    }
-    Ok(patterns)
-}
-
-/// The automaton with rows of the patterns that a request asks for, made of their `NFA`, for a text of so many bytes. There is
-/// none where it cannot be made, or where the text is shorter than the `NFA`: to make it then takes longer than to search.
-pub(crate) fn rows_for(
-    alloc: Global,
-    nfa: &NFA,
-    request: &Request<'_>,
-    text_len: usize,
-) -> Option<Hybrid>
-    ensures of { IsNFAFor (request_patterns request.now) nfa.now
-        → AreRowsFor (request_patterns request.now) result }
-    ensures kind { HaveKindOf nfa.now result }
-    ensures starts { TakeUnanchored result }
-{
-    if text_len < nfa.memory_usage() {
-        return None;
-    }
-    let Ok(patterns) = bytes_of(alloc, request.patterns) else {
-        return None;
-    };
-    match rows_of(alloc, nfa, request.task.ignore_case(), patterns.as_slice()) {
-        Ok(rows) => rows,
-        Err(_) => None,
     }
 }

@@ -1,10 +1,11 @@
 //! A call of `acfind` over its arguments and streams. Both programs take the build and the report of a failure from here.
 
-ghost use Rattle.std.specs.Prelude.{IfErr, IfOk, IfSome, IsOk, OnOk, true, ◌≡◌, ◌<◌, ◌≤◌, ⊤};
+ghost use Rattle.std.specs.Prelude.{IfErr, IfOk, IsOk, OnOk, true, ◌≡◌, ◌<◌, ◌≤◌, ⊤};
 ghost use Rattle.std.specs.Io.KnownBytes.{IsAtEnd};
 ghost use Rattle.aho_core.specs.Patterns.{Patterns};
 ghost use Rattle.aho_core.specs.declared.search.Anchored.TheVariants.{No};
 ghost use Rattle.aho_core.specs.declared.search.MatchKind.TheVariants.{Standard};
+ghost use Rattle.chromesquid.specs.Searcher.{Answers, IsBuiltFrom, match_kind_of};
 ghost use Rattle.programs.specs.Answers.{AreFindsIn, AreMatches, BeginsIfWritten, Begun, BegunFor, BuildsFirst, BuildsFirstToReplace, FailsMatches, FailsReplacement, LeavesIfNotPrinted, LeavesIfNotReplaced, PrintsAll, PrintsAnswer, PrintsFor, PrintsIfDone, TellsFailure, TellsIfFailed, TellsLine, WritesIfDone, WritesReplacement};
 ghost use Rattle.programs.specs.Arguments.{AreWrong, AskForNone, IfAsked, IfReplacing};
 ghost use Rattle.programs.specs.Asked.{Builds, asked_for, kind_of, request_patterns, settings_for};
@@ -18,12 +19,11 @@ use crate::command::{Request, Task, parse, parse_replace};
 use crate::failure::Failure;
 use crate::print::print;
 use crate::replace::replace;
-use crate::rows::rows_for;
-use aho_automaton::automaton::Automaton;
-use aho_corasick::noncontiguous::{Builder, NFA};
-use aho_core::search::Input;
+use crate::searcher::{bytes_of, searcher_for};
 use aho_devices::adapters::{FromRead, FromWrite};
 use aho_devices::device::{Sink, Source};
+use chromesquid::noncontiguous::{Builder, NFA};
+use chromesquid::{AhoCorasick, Automaton, Input};
 use std::alloc::Global;
 use std::io::{Read, Write};
 
@@ -177,60 +177,17 @@ fn search_input<R: Read, W: Write>(
         input.old input.new output.old output.new result (asked_for request.now) }
     ensures faults { CountsFaults input.old input.new output.old output.new result }
 {
+    let patterns = bytes_of(alloc, request.patterns)?;
     let automaton = build(alloc, request)?;
     let text = read(alloc, input)?;
-    print_request(alloc, &automaton, request, text.as_slice(), output)
-}
-
-/// Prints the matches of a text that a request asks for, and answers whether there was one.
-fn print_request<W: Write>(
-    alloc: Global,
-    automaton: &NFA,
-    request: &Request<'_>,
-    text: &[u8],
-    output: &mut FromWrite<W>,
-) -> Result<bool, Failure>
-    requires of { IsNFAFor (request_patterns request.now) automaton.now }
-    requires starts { IsOk (⟦<NFA as Automaton>⟧.start automaton.now No) }
-    requires kind { ⟦<NFA as Automaton>⟧.kind automaton.now ≡ kind_of request.now.task }
-    ensures printed { IfOk result (PrintsAll W.Write request.now.task
-        (request_patterns request.now) text.now output.old output.new) }
-    ensures begun { Begun W.Write (AreMatches request.now.task
-        (request_patterns request.now) text.now) output.old output.new }
-    ensures flushed { OnOk result (output.new.device.flushed ≡ true) }
-    ensures of_write { IfErr result IsOfWrite }
-    ensures faults { CountsWrites output.old output.new result }
-{
-    let rows = rows_for(alloc, automaton, request, text.len());
-    print_by(automaton, rows.as_ref(), request.task, text, output)
-}
-
-/// Prints the matches of a text that a task asks for, by the automaton with rows, if there is one.
-fn print_by<A: Automaton, B: Automaton, W: Write>(
-    automaton: &A,
-    rows: Option<&B>,
-    task: Task,
-    text: &[u8],
-    output: &mut FromWrite<W>,
-) -> Result<bool, Failure>
-    requires of { (p : Patterns) × A.is_of automaton.now p × IfSome rows (λ rows. B.is_of rows.now p) }
-    requires starts { IsOk (A.start automaton.now No) × IfSome rows (λ rows. IsOk (B.start rows.now No)) }
-    requires kind { (A.kind automaton.now ≡ kind_of task)
-        × IfSome rows (λ rows. B.kind rows.now ≡ kind_of task) }
-    ensures printed { (p : Patterns) → A.is_of automaton.now p
-        → IfSome rows.entry (λ rows. B.is_of rows.now p) → IfOk result
-        (PrintsAll W.Write task p text.now output.old output.new) }
-    ensures begun { (p : Patterns) → A.is_of automaton.now p
-        → IfSome rows.entry (λ rows. B.is_of rows.now p) →
-        Begun W.Write (AreMatches task p text.now) output.old output.new }
-    ensures flushed { OnOk result (output.new.device.flushed ≡ true) }
-    ensures of_write { IfErr result IsOfWrite }
-    ensures faults { CountsWrites output.old output.new result }
-{
-    match rows {
-        Some(rows) => print_matches(rows, task, text, output),
-        None => print_matches(automaton, task, text, output),
-    }
+    let searcher = searcher_for(
+        alloc,
+        automaton,
+        request.task,
+        patterns.as_slice(),
+        text.len(),
+    );
+    print_request(&searcher, request, text.as_slice(), output)
 }
 
 /// The automaton of the patterns that a request asks for, or why it is refused.
@@ -271,6 +228,31 @@ fn read<R: Read>(alloc: Global, input: &mut FromRead<R>) -> Result<Vec<u8>, Fail
             Ok(count) => text.extend_from_slice(&piece[..count])?,
             Err(_) => return Err(Failure::Read),
         }
+    }
+}
+
+/// Prints the matches of a text that a request asks for, by the rows of the searcher if it has some, and answers whether there was
+/// one.
+fn print_request<W: Write>(
+    searcher: &AhoCorasick,
+    request: &Request<'_>,
+    text: &[u8],
+    output: &mut FromWrite<W>,
+) -> Result<bool, Failure>
+    requires of { IsBuiltFrom searcher.now (request_patterns request.now) }
+    requires answers { Answers searcher.now No }
+    requires kind { match_kind_of searcher.now ≡ kind_of request.now.task }
+    ensures printed { IfOk result (PrintsAll W.Write request.now.task
+        (request_patterns request.now) text.now output.old output.new) }
+    ensures begun { Begun W.Write (AreMatches request.now.task
+        (request_patterns request.now) text.now) output.old output.new }
+    ensures flushed { OnOk result (output.new.device.flushed ≡ true) }
+    ensures of_write { IfErr result IsOfWrite }
+    ensures faults { CountsWrites output.old output.new result }
+{
+    match searcher.rows() {
+        Some(rows) => print_matches(rows, request.task, text, output),
+        None => print_matches(searcher.itself(), request.task, text, output),
     }
 }
 

@@ -1,28 +1,27 @@
-use Rattle.std.proofs.Common.{◌∙◌}
-use Rattle.aho_build.specs.Items.{patterns_of}
-use Rattle.chromesquid.proofs.Built.{built_as, count-of_items, lengths-of_items, trie_of}
+-- The searcher is made of the automaton of the patterns.
+use Rattle.std.proofs.Common.{◌∙◌, inl}
+use Rattle.std.proofs.lemmas.Result.{IfErr-weaker, IfOk-weaker}
+use Rattle.chromesquid.proofs.Built.{count-of_items, kind-of, lengths-of_items}
 use Rattle.chromesquid.proofs.builder.AhoCorasickBuilder.build.Goals as goal
 
-pub of_automaton-requires : goal.of_automaton-requires
-of_automaton-requires c =
-    record { of = (patterns_of c.self.inside.settings c.args.patterns.now, built_as c.kind_for-kind.result c.self.inside.start_kind c.self.inside.kind c.in_ok-automaton.automaton _ c.kind_for-kind.ensures.kind c.in_ok-automaton.ensures.kind c.in_ok-automaton.ensures.of) }
+pub build_from_noncontiguous-requires : goal.build_from_noncontiguous-requires
+build_from_noncontiguous-requires c = record { of = rw (← c.self.view_is) c.in_ok-nfa.ensures.of }
 
-pub returns-clause-of : goal.returns-clause-of
-returns-clause-of c = rw (← c.self.view_is) (rw c.of_automaton.ensures.same (built_as c.kind_for-kind.result c.self.inside.start_kind c.self.inside.kind c.in_ok-automaton.automaton _ c.kind_for-kind.ensures.kind c.in_ok-automaton.ensures.kind c.in_ok-automaton.ensures.of))
-
-pub returns-clause-kind : goal.returns-clause-kind
-returns-clause-kind c = rw (← c.self.view_is) (rw c.of_automaton.ensures.same (rw (← c.kind_for-kind.ensures.kind) c.in_ok-automaton.ensures.kind))
+pub returns-clause-match_kind : goal.returns-clause-match_kind
+returns-clause-match_kind c =
+    IfOk-weaker c.build_from_noncontiguous.result _ _ (λ searcher built. kind-of _ searcher.automaton built.reads) c.build_from_noncontiguous.ensures.of
 
 pub returns-clause-lengths : goal.returns-clause-lengths
 returns-clause-lengths c =
-    lengths-of_items c.self.inside.settings c.args.patterns.now c.of_automaton.result
-    (rw c.of_automaton.ensures.same (built_as c.kind_for-kind.result c.self.inside.start_kind c.self.inside.kind c.in_ok-automaton.automaton _ c.kind_for-kind.ensures.kind c.in_ok-automaton.ensures.kind c.in_ok-automaton.ensures.of))
+    IfOk-weaker c.build_from_noncontiguous.result _ _ (λ searcher built. lengths-of_items c.args.self.now.settings c.args.patterns.now searcher built) c.build_from_noncontiguous.ensures.of
 
 pub returns-clause-count : goal.returns-clause-count
 returns-clause-count c =
-    count-of_items c.self.inside.settings c.args.patterns.now c.of_automaton.result
-    (rw c.of_automaton.ensures.same (built_as c.kind_for-kind.result c.self.inside.start_kind c.self.inside.kind c.in_ok-automaton.automaton _ c.kind_for-kind.ensures.kind c.in_ok-automaton.ensures.kind c.in_ok-automaton.ensures.of))
+    IfOk-weaker c.build_from_noncontiguous.result _ _ (λ searcher built. count-of_items c.args.self.now.settings c.args.patterns.now searcher built) c.build_from_noncontiguous.ensures.of
 
-pub returns-clause-trie : goal.returns-clause-trie
-returns-clause-trie c =
-    rw (← c.self.view_is) (λ same. rw c.of_automaton.ensures.same (trie_of c.kind_for-kind.result c.in_ok-automaton.automaton c.in_ok-automaton.ensures.kind (c.kind_for-kind.ensures.kind ∙ same)))
+pub returns-clause-memory : goal.returns-clause-memory
+returns-clause-memory c =
+    rw (← c.self.view_is) (IfOk-weaker c.build_from_noncontiguous.result _ _ (λ searcher sized trie. sized trie ∙ c.in_ok-nfa.ensures.memory) c.build_from_noncontiguous.ensures.memory)
+
+pub returns-clause-refused : goal.returns-clause-refused
+returns-clause-refused c = IfErr-weaker c.build_from_noncontiguous.result _ _ (λ error same. inl same) c.build_from_noncontiguous.ensures.refused

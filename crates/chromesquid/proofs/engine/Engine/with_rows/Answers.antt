@@ -2,7 +2,7 @@ use Rattle.std.proofs.Common.{inr, refl}
 use Rattle.chromesquid.proofs.engine.Engine.with_rows.Goals as goal
 
 pub returns-in-Err-StateIDOverflow-clause-kind : goal.returns-in-Err-StateIDOverflow-clause-kind
-returns-in-Err-StateIDOverflow-clause-kind c =
+returns-in-Err-StateIDOverflow-clause-kind c = λ told.
     inr (
       c.args.nfa,
       refl,

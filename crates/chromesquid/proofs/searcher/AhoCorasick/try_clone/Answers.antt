@@ -1,4 +1,4 @@
-use Rattle.std.proofs.Common.{ap, subst, sym}
+use Rattle.std.proofs.Common.{None, ap, subst, sym}
 use Rattle.chromesquid.proofs.Built.{copy_is_of}
 use Rattle.chromesquid.specs.Searcher.{IsBuiltFrom, Searcher}
 use Rattle.chromesquid.specs.declared.kinds.StartKind.{StartKind}
@@ -9,7 +9,7 @@ of_automaton-requires c =
     record {
       of = (
         c.built.ensures.some.0,
-        subst (λ (k : StartKind). IsBuiltFrom (record { automaton = c.in_ok-automaton.automaton; start_kind = k }) c.built.ensures.some.0) (ap (λ (s : Searcher). s.start_kind) (sym c.self.view_is))
+        subst (λ (k : StartKind). IsBuiltFrom (record { automaton = c.in_ok-automaton.automaton; start_kind = k; backward = None }) c.built.ensures.some.0) (ap (λ (s : Searcher). s.start_kind) (sym c.self.view_is))
             (copy_is_of c.automaton.result.now c.in_ok-automaton.automaton c.args.self.now (cc) c.in_ok-automaton.ensures.same c.built.ensures.some.0 c.built.ensures.some.1),
       );
     }
