@@ -59,6 +59,22 @@ pub struct CsMatch {
     pub end: usize,
 }
 
+/// What is told of a state.
+#[repr(C)]
+#[derive(Clone, Copy)]
+pub struct CsState {
+    /// Whether it is dead: nothing that follows is found any more, and each byte leads to a dead state.
+    pub is_dead: bool,
+    /// Whether it lists a pattern.
+    pub is_match: bool,
+    /// Whether it is a start: what ends later begins where it is held, or behind.
+    pub is_start: bool,
+    /// Whether a search has to look at it: it is where it is dead or lists a pattern, and may be where it is a start.
+    pub is_special: bool,
+    /// How many patterns it lists.
+    pub patterns: usize,
+}
+
 /// What is known of a searcher.
 #[repr(C)]
 #[derive(Clone, Copy)]
