@@ -107,7 +107,7 @@ static void errors(void) {
     cs_searcher it = CS_SEARCHER_INIT;
     cs_options options = CS_OPTIONS_INIT;
     cs_error error = { 1, 2, 3, 4, 5 };
-    HAS(CS_OPTIONS_FORM == 3 && sizeof options == CS_OPTIONS_SIZE && options.size == CS_OPTIONS_SIZE);
+    HAS(CS_OPTIONS_FORM == 4 && sizeof options == CS_OPTIONS_SIZE && options.size == CS_OPTIONS_SIZE);
     HAS(cs_try_build(names, 4, &options, &it, &error) == CS_DONE && is_error(error, 1, 2, 3, 4, 5));
     HAS(cs_is_match(&it, BYTES("sam")) == CS_FOUND && tells_error(error, ""));
     options.match_kind = 3, options.start_kind = 4, options.automaton = 5;
@@ -130,6 +130,19 @@ static void errors(void) {
     }
     HAS(tells_error(error, "size 99 means nothing"));
     options.size = CS_OPTIONS_SIZE;
+    uint64_t *places[] = { &options.later_a, &options.later_b, &options.later_c, &options.later_d };
+    for (int at = 0; at < 4; at++) {
+        uint64_t *later = places[at];
+        *later = UINT64_MAX - 6; /* it is told before the others but the size */
+        options.match_kind = 3;
+        HAS(cs_try_build(names, 4, &options, &it, &error) == CS_NO_OPTION && is_error(error, CS_NO_OPTION, CS_LATER, 0, *later, 0));
+        HAS(cs_build(names, 4, &options, &it) == CS_NO_OPTION && it.full);
+        options.match_kind = CS_STANDARD;
+        HAS(cs_build(names, 4, &options, &it) == CS_NO_OPTION && it.full);
+        *later = 0;
+    }
+    HAS(tells_error(error, "later option 18446744073709551609 means nothing"));
+    HAS(cs_build(names, 4, &options, &it) == CS_DONE && it.full);
     options.max_len = 6;
     HAS(cs_try_build(names, 4, &options, &it, &error) == CS_TOO_LONG && is_error(error, CS_TOO_LONG, 0, 0, 7, 6));
     HAS(it.full && tells_error(error, "pattern 0 with length 7 exceeds the maximum pattern length of 6"));

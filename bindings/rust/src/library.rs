@@ -33,6 +33,7 @@ struct CsOptions {
     max_index: usize,
     max_pattern: usize,
     max_len: usize,
+    later: [u64; 4],
 }
 
 #[repr(C)]
@@ -233,7 +234,8 @@ impl Handle {
         let (ignore_case, prefilter, limit) = (wishes.ignore_case, wishes.prefilter, usize::MAX);
         let size = std::mem::size_of::<CsOptions>() as u32;
         let (max_index, max_pattern, max_len) = (limit, limit, limit);
-        let options = CsOptions { size, match_kind, start_kind, ignore_case, prefilter, automaton, max_index, max_pattern, max_len };
+        let options =
+            CsOptions { size, match_kind, start_kind, ignore_case, prefilter, automaton, max_index, max_pattern, max_len, later: [0; 4] };
         let (mut handle, mut error) = (Handle::none(), CsError::default());
         // SAFETY: the slices are lent for the call, which keeps none of them; the handle is one that was started.
         match unsafe { cs_try_build(patterns.as_ptr(), patterns.len(), &options, &mut handle.0, &mut error) } {

@@ -25,11 +25,11 @@ extern "C" {
 #define CS_VERSION_MINOR (CS_VERSION / 100 % 100)
 #define CS_VERSION_PATCH (CS_VERSION % 100)
 
-/* The form of cs_options: 3 is the one that begins with its size. */
-#define CS_OPTIONS_FORM 3
+/* The form of cs_options: 4 is the one with room for options of later versions. */
+#define CS_OPTIONS_FORM 4
 
 /* How many bytes cs_options has. */
-#define CS_OPTIONS_SIZE 48
+#define CS_OPTIONS_SIZE 80
 
 /* What the functions answer. */
 enum {
@@ -78,7 +78,8 @@ enum {
     CS_MATCH_KIND = 1,
     CS_START_KIND = 2,
     CS_AUTOMATON = 3,
-    CS_SIZE = 4 /* the options are those of another version */
+    CS_SIZE = 4, /* the options are those of another form */
+    CS_LATER = 5 /* an option of a later version */
 };
 
 /* The forms in which a secret gets into a log: what is added up stands for several. */
@@ -123,10 +124,15 @@ typedef struct cs_options {
     size_t max_index;    /* the greatest index of a state, of a transition and of a listed pattern */
     size_t max_pattern;  /* the greatest number of a pattern */
     size_t max_len;      /* the greatest length of a pattern. A limit above 2^31 - 2 counts as that */
+    uint64_t later_a;    /* 0, as those behind it: where options of later versions will stand */
+    uint64_t later_b;
+    uint64_t later_c;
+    uint64_t later_d;
 } cs_options;
 
-/* Start each with it: further fields may follow. */
-#define CS_OPTIONS_INIT { CS_OPTIONS_SIZE, CS_STANDARD, CS_UNANCHORED, false, true, CS_BY_RULE, SIZE_MAX, SIZE_MAX, SIZE_MAX }
+/* Start each with it. A later version names what here is 0 and must be: a program that was compiled with this header asks it for nothing
+ * new, and one that asks this library for what only a later one knows gets CS_NO_OPTION. */
+#define CS_OPTIONS_INIT { CS_OPTIONS_SIZE, CS_STANDARD, CS_UNANCHORED, false, true, CS_BY_RULE, SIZE_MAX, SIZE_MAX, SIZE_MAX, 0, 0, 0, 0 }
 
 /* Why a build failed. What nothing is said of here is 0. */
 typedef struct cs_error {

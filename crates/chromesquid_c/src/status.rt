@@ -62,3 +62,6 @@ pub const AUTOMATON: u32 = 3;
 
 /// The size of the options.
 pub const SIZE: u32 = 4;
+
+/// An option of a later version.
+pub const LATER: u32 = 5;
