@@ -50,6 +50,11 @@ static void none(void) {
     HAS(cs_cover_all(&it, BYTES("sam"), others, 4, &byte, 1, &count) == CS_NO_SEARCHER);
     HAS(cs_info(&it, &facts) == CS_NO_SEARCHER);
     HAS(cs_share(&it, &other) == CS_NO_SEARCHER);
+    cs_state told = { false, false, false, false, 9 };
+    uint32_t state = 8;
+    HAS(cs_start_state(&it, false, &state) == CS_NO_SEARCHER && cs_next_state(&it, false, 0, 0, &state) == CS_NO_SEARCHER);
+    HAS(cs_state_is(&it, 0, &told) == CS_NO_SEARCHER && cs_match_pattern(&it, 0, 0, &count) == CS_NO_SEARCHER);
+    HAS(state == 8 && told.patterns == 9 && !told.is_dead);
     HAS(is(m, 7, 8, 9) && facts.patterns == 1 && facts.memory == 4 && count == 5 && byte == 6);
     cs_free(&it);
     cs_free(&it);
@@ -102,7 +107,7 @@ static void errors(void) {
     cs_searcher it = CS_SEARCHER_INIT;
     cs_options options = CS_OPTIONS_INIT;
     cs_error error = { 1, 2, 3, 4, 5 };
-    HAS(CS_OPTIONS_FORM == 3 && sizeof options == CS_OPTIONS_SIZE && options.size == CS_OPTIONS_SIZE);
+    HAS(CS_OPTIONS_FORM == 4 && sizeof options == CS_OPTIONS_SIZE && options.size == CS_OPTIONS_SIZE);
     HAS(cs_try_build(names, 4, &options, &it, &error) == CS_DONE && is_error(error, 1, 2, 3, 4, 5));
     HAS(cs_is_match(&it, BYTES("sam")) == CS_FOUND && tells_error(error, ""));
     options.match_kind = 3, options.start_kind = 4, options.automaton = 5;
@@ -125,6 +130,19 @@ static void errors(void) {
     }
     HAS(tells_error(error, "size 99 means nothing"));
     options.size = CS_OPTIONS_SIZE;
+    uint64_t *places[] = { &options.later_a, &options.later_b, &options.later_c, &options.later_d };
+    for (int at = 0; at < 4; at++) {
+        uint64_t *later = places[at];
+        *later = UINT64_MAX - 6; /* it is told before the others but the size */
+        options.match_kind = 3;
+        HAS(cs_try_build(names, 4, &options, &it, &error) == CS_NO_OPTION && is_error(error, CS_NO_OPTION, CS_LATER, 0, *later, 0));
+        HAS(cs_build(names, 4, &options, &it) == CS_NO_OPTION && it.full);
+        options.match_kind = CS_STANDARD;
+        HAS(cs_build(names, 4, &options, &it) == CS_NO_OPTION && it.full);
+        *later = 0;
+    }
+    HAS(tells_error(error, "later option 18446744073709551609 means nothing"));
+    HAS(cs_build(names, 4, &options, &it) == CS_DONE && it.full);
     options.max_len = 6;
     HAS(cs_try_build(names, 4, &options, &it, &error) == CS_TOO_LONG && is_error(error, CS_TOO_LONG, 0, 0, 7, 6));
     HAS(it.full && tells_error(error, "pattern 0 with length 7 exceeds the maximum pattern length of 6"));
@@ -237,6 +255,70 @@ static void lists(void) {
     HAS(is(room[0], 0, 0, 7) && is(room[1], 1, 8, 11));
     count = 5;
     HAS(cs_overlapping(&it, BYTES("sam"), room, ROOM, &count) == CS_REFUSED && count == 5);
+    cs_free(&it);
+}
+
+/* Puts what the states tell of a text, byte by byte: each pattern that each of them lists, up to a dead one. */
+static size_t walked(cs_searcher *it, bool anchored, const uint8_t *haystack, size_t len, cs_match *room) {
+    uint32_t state = 0;
+    size_t found = 0, pattern = 7;
+    HAS(cs_start_state(it, anchored, &state) == CS_DONE);
+    for (size_t at = 0;; at++) {
+        cs_state told;
+        HAS(cs_state_is(it, state, &told) == CS_DONE && told.is_match == (told.patterns > 0));
+        HAS(told.is_special || !(told.is_dead || told.is_match));
+        HAS(at > 0 || (told.is_start && !told.is_dead));
+        HAS(cs_match_pattern(it, state, told.patterns, &pattern) == CS_NO_PATTERN && pattern == 7);
+        HAS(cs_match_pattern(it, state, SIZE_MAX, &pattern) == CS_NO_PATTERN && pattern == 7);
+        for (size_t index = 0; index < told.patterns; index++, pattern = 7) {
+            HAS(cs_match_pattern(it, state, index, &pattern) == CS_DONE && pattern < PATTERNS);
+            room[found++] = (cs_match){ pattern, at - names[pattern].len, at };
+        }
+        if (told.is_dead) {
+            HAS(cs_next_state(it, anchored, state, 's', &state) == CS_DONE && cs_state_is(it, state, &told) == CS_DONE && told.is_dead);
+            return found;
+        }
+        if (at == len) return found;
+        HAS(cs_next_state(it, anchored, state, haystack[at], &state) == CS_DONE);
+    }
+}
+
+/* The states of each kind of automaton tell what searches find. */
+static void states(void) {
+    cs_match told[ROOM], room[ROOM];
+    size_t count = 0, found = 0;
+    uint32_t state = 8;
+    for (uint32_t automaton = CS_BY_RULE; automaton <= CS_ROWS; automaton++)
+        for (uint32_t start_kind = CS_UNANCHORED; start_kind <= CS_BOTH; start_kind += 2) {
+            cs_searcher it = CS_SEARCHER_INIT;
+            cs_options options = CS_OPTIONS_INIT;
+            options.automaton = automaton;
+            options.start_kind = start_kind;
+            HAS(cs_build(names, 4, &options, &it) == CS_DONE);
+            HAS(cs_overlapping(&it, BYTES("frodo samwise"), room, ROOM, &count) == CS_DONE && count == 5);
+            HAS(walked(&it, false, BYTES("frodo samwise"), told) == 5 && !memcmp(told, room, 5 * sizeof *room));
+            HAS(walked(&it, false, NULL, 0, told) == 0);
+            for (uint32_t kind = CS_LEFTMOST_FIRST; kind <= CS_LEFTMOST_LONGEST; kind++) {
+                options.match_kind = kind;
+                HAS(cs_build(names, 4, &options, &it) == CS_DONE);
+                found = walked(&it, false, BYTES("a samwise sam"), told);
+                HAS(cs_find(&it, BYTES("a samwise sam"), room) == CS_FOUND && found > 0 && !memcmp(&told[found - 1], room, sizeof *room));
+            }
+            cs_free(&it);
+        }
+    cs_searcher it = built(CS_STANDARD, CS_BOTH);
+    found = walked(&it, true, BYTES("samwisesam"), told);
+    for (size_t at = count = 0; at < found; at++)
+        if (told[at].start == 0) room[count++] = told[at];
+    HAS(count == 3 && is(room[0], 3, 0, 1) && is(room[1], 1, 0, 3) && is(room[2], 0, 0, 7));
+    HAS(walked(&it, true, BYTES("xsam"), told) == 0);
+    cs_free(&it);
+    it = built(CS_STANDARD, CS_UNANCHORED);
+    HAS(cs_start_state(&it, true, &state) == CS_REFUSED && state == 8);
+    cs_free(&it);
+    it = built(CS_STANDARD, CS_ANCHORED);
+    HAS(cs_start_state(&it, false, &state) == CS_REFUSED && state == 8);
+    HAS(cs_start_state(&it, true, &state) == CS_DONE);
     cs_free(&it);
 }
 
@@ -531,6 +613,7 @@ int main(int count, char **words) {
     finds();
     searches();
     lists();
+    states();
     replaces();
     covers();
     forms();

@@ -112,6 +112,7 @@ class _Options(ctypes.Structure):
         ("max_index", ctypes.c_size_t),
         ("max_pattern", ctypes.c_size_t),
         ("max_len", ctypes.c_size_t),
+        ("later", ctypes.c_uint64 * 4),
     ]
 
 

@@ -7,7 +7,7 @@ use std::{
 };
 
 /// The form of `cs_options` that src/library.rs declares.
-const OPTIONS_FORM: u32 = 3;
+const OPTIONS_FORM: u32 = 4;
 
 fn main() {
     println!("cargo:rerun-if-env-changed=CHROMESQUID_LIBRARY");

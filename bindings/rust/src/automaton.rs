@@ -23,7 +23,8 @@
 //! assert_eq!(first(&automaton, b"samwise"), Ok(Some(Match::must(1, 0..3))));
 //! ```
 //!
-//! Searches go by the library. The states are those of a walk in Rust over the patterns, which is not proved and is slower.
+//! Searches and states are the library's. A call of a walk locks the states, which are one for all clones: many threads search quicker than
+//! they walk.
 use crate::error::MatchError;
 use crate::inner::Sealed;
 use crate::primitives::PatternID;
@@ -43,8 +44,9 @@ pub use crate::primitives::{StateID, StateIDError};
 /// An automaton. It is one of `nfa` and `dfa`, or a reference to an automaton.
 ///
 /// A walk begins with a start state and goes on byte by byte. Behind each byte its state lists the patterns that end there: of kind Standard
-/// all that occur, and of the leftmost kinds those that may be the match, of which the last one before the dead state is it. Calls panic
-/// where the automaton has no such state.
+/// all that occur, and of the leftmost kinds those that may be the match, of which the first one of the last state before the dead one is it.
+/// Of an anchored walk only those are found that are as long as what was read. Calls panic where a state is given that neither
+/// `start_state` nor `next_state` of this automaton has told before.
 pub trait Automaton: Sealed {
     /// The state with which a search begins, or that the automaton was not built for such a search.
     fn start_state(&self, anchored: Anchored) -> Result<StateID, MatchError> {
@@ -52,29 +54,29 @@ pub trait Automaton: Sealed {
         Ok(self.inner().walk.start(anchored))
     }
 
-    /// The state behind a byte. A walk that is anchored stays so.
+    /// The state behind a byte. A walk is anchored at each byte, or at none.
     fn next_state(&self, anchored: Anchored, sid: StateID, byte: u8) -> StateID {
         self.inner().walk.next(anchored, sid, byte)
     }
 
-    /// Whether a state is dead, a match, or a start: all that a walk has to look at.
+    /// Whether a walk has to look at a state: where it is dead or lists patterns, and maybe where it is a start.
     fn is_special(&self, sid: StateID) -> bool {
-        self.inner().walk.is_special(sid)
+        self.inner().walk.told(sid).is_special
     }
 
     /// Whether nothing is found any more from a state on.
     fn is_dead(&self, sid: StateID) -> bool {
-        self.inner().walk.is_dead(sid)
+        self.inner().walk.told(sid).is_dead
     }
 
     /// Whether a state lists patterns.
     fn is_match(&self, sid: StateID) -> bool {
-        self.match_len(sid) > 0
+        self.inner().walk.told(sid).is_match
     }
 
     /// Whether a state is one with which searches begin.
     fn is_start(&self, sid: StateID) -> bool {
-        self.inner().walk.is_start(sid)
+        self.inner().walk.told(sid).is_start
     }
 
     /// Which of several matches is found.
@@ -84,10 +86,11 @@ pub trait Automaton: Sealed {
 
     /// How many patterns a state lists.
     fn match_len(&self, sid: StateID) -> usize {
-        self.inner().walk.match_len(sid)
+        self.inner().walk.told(sid).patterns
     }
 
-    /// A pattern that a state lists: the longest first, and those of the same length by number. Panics where it does not list so many.
+    /// A pattern that a state lists: the best first; of kind Standard the longest first, and those of the same length by number. Panics where it
+    /// does not list so many.
     fn match_pattern(&self, sid: StateID, index: usize) -> PatternID {
         self.inner().walk.match_pattern(sid, index)
     }
@@ -112,7 +115,7 @@ pub trait Automaton: Sealed {
         self.inner().searcher.max_pattern_len()
     }
 
-    /// How many bytes the automaton holds: the searcher, and the states to walk.
+    /// How many bytes the automaton holds: the searcher, and what is kept for walks.
     fn memory_usage(&self) -> usize {
         self.inner().searcher.memory_usage() + self.inner().walk.memory_usage()
     }

@@ -1,5 +1,4 @@
 //! Why a searcher is not built, and why a search is refused.
-use crate::primitives::StateID;
 use crate::search::MatchKind;
 use std::{error::Error, fmt};
 
@@ -14,10 +13,8 @@ impl BuildError {
         BuildError { text }
     }
 
-    /// That the states of an automaton have no numbers: the one above the greatest would be the first without.
-    pub(crate) fn too_many_states() -> BuildError {
-        let (limit, max) = (StateID::LIMIT, StateID::MAX.as_usize());
-        BuildError::of(format!("state identifier overflow: failed to create state ID from {limit}, which exceeds the max of {max}"))
+    pub(crate) fn out_of_memory() -> BuildError {
+        BuildError::of(String::from("out of memory"))
     }
 }
 

@@ -6,7 +6,7 @@ use crate::searcher::{AhoCorasick, AhoCorasickBuilder};
 use crate::walk::Walk;
 use std::{fmt, sync::Arc};
 
-/// A searcher of the library, and the states to walk.
+/// A searcher of the library, and its states to walk.
 #[derive(Clone)]
 pub struct Inner {
     pub(crate) searcher: AhoCorasick,
@@ -64,7 +64,8 @@ impl Wishes {
             .prefilter(self.prefilter)
             .kind(Some(self.kind))
             .build(&patterns)?;
-        let walk = Walk::new(&patterns, self.match_kind, self.ignore_case).ok_or_else(BuildError::too_many_states)?;
+        let states = searcher.states().ok_or_else(BuildError::out_of_memory)?;
+        let walk = Walk::new(states, &patterns);
         Ok(Inner { searcher, walk: Arc::new(walk) })
     }
 }
@@ -79,7 +80,7 @@ macro_rules! automaton {
         use crate::search::{MatchKind, StartKind};
         use std::fmt;
 
-        /// An automaton. Its searches go by the library; its states are walked in Rust, and that is not proved. A clone is the same automaton.
+        /// An automaton. Its searches and its states are the library's. A clone is the same automaton.
         #[derive(Clone)]
         pub struct $name(Inner);
 

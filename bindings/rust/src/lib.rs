@@ -17,7 +17,7 @@
 //! A kind of automaton, `dense_depth` and `byte_classes` are taken as hints. Streams of the leftmost kinds, which `aho-corasick` refuses, are
 //! those of `AhoCorasick::streams`. `packed` has that module's types over the same searcher.
 //!
-//! The automata of `nfa` and `dfa` search by the library too. The states that the trait `Automaton` walks are in Rust, and not proved.
+//! The automata of `nfa` and `dfa` search by the library too, and the states that the trait `Automaton` walks are the library's.
 //!
 //! The environment names the folder of `libchromesquid.a` as CHROMESQUID_LIBRARY while it is built. A call takes a share of the searcher and gives
 //! it back: there are as many as calls and iterators have run at the same time.

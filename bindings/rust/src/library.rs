@@ -1,6 +1,6 @@
 //! The functions of the C library, as safe calls. This is the only file with code that is not safe.
 use crate::kinds::AhoCorasickKind;
-use crate::primitives::PatternID;
+use crate::primitives::{PatternID, StateID};
 use crate::search::{Anchored, Input, Match, MatchKind, StartKind};
 use std::{ffi::c_void, marker::PhantomData, ptr};
 
@@ -33,6 +33,7 @@ struct CsOptions {
     max_index: usize,
     max_pattern: usize,
     max_len: usize,
+    later: [u64; 4],
 }
 
 #[repr(C)]
@@ -72,6 +73,17 @@ pub(crate) struct Facts {
     pub(crate) memory: usize,
 }
 
+/// What is told of a state of an automaton.
+#[repr(C)]
+#[derive(Clone, Copy, Debug, Default)]
+pub(crate) struct State {
+    pub(crate) is_dead: bool,
+    pub(crate) is_match: bool,
+    pub(crate) is_start: bool,
+    pub(crate) is_special: bool,
+    pub(crate) patterns: usize,
+}
+
 #[rustfmt::skip]
 extern "C" {
     fn cs_version() -> u32;
@@ -92,6 +104,10 @@ extern "C" {
     fn cs_forms(secret: *const u8, secret_len: usize, forms: u32, room: *mut u8, room_len: usize, ends: *mut usize, ends_len: usize,
         len: *mut usize, count: *mut usize) -> u32;
     fn cs_info(searcher: *mut CsSearcher, out: *mut Facts) -> u32;
+    fn cs_start_state(searcher: *mut CsSearcher, anchored: bool, state: *mut u32) -> u32;
+    fn cs_next_state(searcher: *mut CsSearcher, anchored: bool, state: u32, byte: u8, next: *mut u32) -> u32;
+    fn cs_state_is(searcher: *mut CsSearcher, state: u32, out: *mut State) -> u32;
+    fn cs_match_pattern(searcher: *mut CsSearcher, state: u32, index: usize, pattern: *mut usize) -> u32;
     fn cs_stream_new(searcher: *mut CsSearcher, out: *mut CsStream) -> u32;
     fn cs_stream_push(stream: *mut CsStream, bytes: *const u8, bytes_len: usize, taken: *mut usize) -> u32;
     fn cs_stream_next(stream: *mut CsStream, found: *mut CsMatch) -> u32;
@@ -218,7 +234,8 @@ impl Handle {
         let (ignore_case, prefilter, limit) = (wishes.ignore_case, wishes.prefilter, usize::MAX);
         let size = std::mem::size_of::<CsOptions>() as u32;
         let (max_index, max_pattern, max_len) = (limit, limit, limit);
-        let options = CsOptions { size, match_kind, start_kind, ignore_case, prefilter, automaton, max_index, max_pattern, max_len };
+        let options =
+            CsOptions { size, match_kind, start_kind, ignore_case, prefilter, automaton, max_index, max_pattern, max_len, later: [0; 4] };
         let (mut handle, mut error) = (Handle::none(), CsError::default());
         // SAFETY: the slices are lent for the call, which keeps none of them; the handle is one that was started.
         match unsafe { cs_try_build(patterns.as_ptr(), patterns.len(), &options, &mut handle.0, &mut error) } {
@@ -337,6 +354,76 @@ impl Handle {
             DONE => Ok(stream),
             status => Err(status),
         }
+    }
+}
+
+/// The states of a searcher's automaton. The library looks no number up that it is given as that of a state, so it is given none but what
+/// it has told before.
+pub(crate) struct States {
+    handle: Handle,
+    /// A bit for each number, from the lowest of the first word on: whether it was told.
+    told: Vec<u64>,
+}
+
+impl States {
+    pub(crate) fn of(handle: Handle) -> States {
+        States { handle, told: Vec::new() }
+    }
+
+    fn tell(&mut self, state: u32) -> StateID {
+        let word = state as usize / 64;
+        if word >= self.told.len() {
+            self.told.resize(word + 1, 0);
+        }
+        self.told[word] |= 1 << (state % 64);
+        StateID::new_unchecked(state as usize)
+    }
+
+    /// The number of a state. Panics where it was not told.
+    fn known(&self, state: StateID) -> u32 {
+        let number = state.as_u32();
+        let word = self.told.get(number as usize / 64).copied().unwrap_or(0);
+        assert!(word >> (number % 64) & 1 == 1, "the automaton has told no {state:?}");
+        number
+    }
+
+    /// The state in which a search begins. The searcher answers searches of this anchoring.
+    pub(crate) fn start(&mut self, anchored: bool) -> StateID {
+        let mut state = 0;
+        // SAFETY: it writes the state alone.
+        let status = unsafe { cs_start_state(&mut self.handle.0, anchored, &mut state) };
+        assert_eq!(status, DONE, "the library answered {status} to a start");
+        self.tell(state)
+    }
+
+    /// The state behind a byte.
+    pub(crate) fn next(&mut self, anchored: bool, state: StateID, byte: u8) -> StateID {
+        let (state, mut next) = (self.known(state), 0);
+        // SAFETY: the state is one that the library has told of this searcher.
+        let status = unsafe { cs_next_state(&mut self.handle.0, anchored, state, byte, &mut next) };
+        assert_eq!(status, DONE, "the library answered {status} to a step");
+        self.tell(next)
+    }
+
+    /// What is told of a state.
+    pub(crate) fn told(&mut self, state: StateID) -> State {
+        let (state, mut told) = (self.known(state), State::default());
+        // SAFETY: as of a step.
+        let status = unsafe { cs_state_is(&mut self.handle.0, state, &mut told) };
+        assert_eq!(status, DONE, "the library answered {status} to a question");
+        told
+    }
+
+    /// A pattern that a state lists, where it lists so many.
+    pub(crate) fn match_pattern(&mut self, state: StateID, index: usize) -> Option<PatternID> {
+        let (state, mut pattern) = (self.known(state), 0);
+        // SAFETY: as of a step.
+        let status = unsafe { cs_match_pattern(&mut self.handle.0, state, index, &mut pattern) };
+        (status == DONE).then(|| PatternID::new_unchecked(pattern))
+    }
+
+    pub(crate) fn memory_usage(&self) -> usize {
+        self.told.len() * std::mem::size_of::<u64>()
     }
 }
 

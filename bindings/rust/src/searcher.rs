@@ -1,7 +1,7 @@
 //! The searcher, its builder and its iterators.
 use crate::error::{BuildError, MatchError};
 use crate::kinds::AhoCorasickKind;
-use crate::library::{Facts, Handle, Stream, Wishes};
+use crate::library::{Facts, Handle, States, Stream, Wishes};
 use crate::search::{Anchored, Input, Match, MatchKind, StartKind};
 use crate::shares::{Share, Shares};
 use std::{fmt, sync::Arc};
@@ -295,6 +295,11 @@ impl AhoCorasick {
     /// The same searcher, which was built for all searches, for some and by another kind's name.
     pub(crate) fn of_kind(&self, kind: AhoCorasickKind, start_kind: StartKind) -> AhoCorasick {
         AhoCorasick { kind, start_kind, ..self.clone() }
+    }
+
+    /// The states of its automaton, or none where memory ran out.
+    pub(crate) fn states(&self) -> Option<States> {
+        self.shares.one_more().map(States::of)
     }
 
     /// Prints a type that is this searcher.

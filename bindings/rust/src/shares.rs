@@ -16,13 +16,18 @@ pub(crate) struct Share<'a> {
 }
 
 /// A lock whose holder panicked is taken as well: no call leaves anything half done.
-fn locked<T>(mutex: &Mutex<T>) -> MutexGuard<'_, T> {
+pub(crate) fn locked<T>(mutex: &Mutex<T>) -> MutexGuard<'_, T> {
     mutex.lock().unwrap_or_else(PoisonError::into_inner)
 }
 
 impl Shares {
     pub(crate) fn new(first: Handle) -> Shares {
         Shares { first: Mutex::new(first), free: Mutex::new(Vec::new()) }
+    }
+
+    /// A handle of its own, or none where memory ran out.
+    pub(crate) fn one_more(&self) -> Option<Handle> {
+        locked(&self.first).share()
     }
 
     pub(crate) fn share(&self) -> Share<'_> {

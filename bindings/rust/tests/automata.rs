@@ -8,14 +8,15 @@ use chromesquid::{
 use std::panic::catch_unwind;
 use MatchKind::{LeftmostFirst, LeftmostLongest, Standard};
 
-/// A search as callers write it: it stops where nothing better can come.
+/// A search as callers write it: it stops where nothing better can come. What an anchored one is told that starts later it passes over.
 fn walk<A: Automaton + ?Sized>(automaton: &A, haystack: &[u8], anchored: Anchored) -> Result<Option<Match>, MatchError> {
     let found = |state: StateID, end: usize| {
         let pattern = automaton.match_pattern(state, 0);
-        Match::new(pattern, end - automaton.pattern_len(pattern)..end)
+        let found = Match::new(pattern, end - automaton.pattern_len(pattern)..end);
+        (!anchored.is_anchored() || found.start() == 0).then_some(found)
     };
     let mut state = automaton.start_state(anchored)?;
-    let mut last = automaton.is_match(state).then(|| found(state, 0));
+    let mut last = if automaton.is_match(state) { found(state, 0) } else { None };
     for (at, &byte) in haystack.iter().enumerate() {
         if last.is_some() && automaton.match_kind() == Standard {
             break;
@@ -26,21 +27,24 @@ fn walk<A: Automaton + ?Sized>(automaton: &A, haystack: &[u8], anchored: Anchore
                 break;
             }
             if automaton.is_match(state) {
-                last = Some(found(state, at + 1));
+                last = found(state, at + 1).or(last);
             }
         }
     }
     Ok(last)
 }
 
-/// All that a walk passes, in the order in which the states list it.
+/// All that a walk finds, in the order in which the states list it.
 fn walk_all(automaton: impl Automaton, haystack: &[u8], anchored: Anchored) -> Vec<Match> {
     let mut state = automaton.start_state(anchored).unwrap();
     let mut all = vec![];
     for end in 0..=haystack.len() {
         for index in 0..automaton.match_len(state) {
             let pattern = automaton.match_pattern(state, index);
-            all.push(Match::new(pattern, end - automaton.pattern_len(pattern)..end));
+            let start = end - automaton.pattern_len(pattern);
+            if start == 0 || !anchored.is_anchored() {
+                all.push(Match::new(pattern, start..end));
+            }
         }
         if let Some(&byte) = haystack.get(end) {
             state = automaton.next_state(anchored, state, byte);
@@ -231,12 +235,16 @@ fn states() {
     let dead = automaton.next_state(Anchored::Yes, anchored, b'x');
     assert!(automaton.is_dead(dead) && automaton.is_special(dead) && automaton.next_state(Anchored::No, dead, b'a') == dead);
     assert_eq!(automaton.is_dead(StateID::ZERO), dead == StateID::ZERO);
-    for number in [1, 10, 11, StateID::MAX.as_usize()] {
-        let none = StateID::new(number).unwrap();
-        assert!(catch_unwind(|| automaton.next_state(Anchored::No, none, b'a')).is_err(), "{number}");
+    // A state of another automaton, and those that no walk has come to.
+    let longer = noncontiguous::NFA::new(["longer than these"]).unwrap();
+    let begun = longer.start_state(Anchored::No).unwrap();
+    let other = b"longer than".iter().fold(begun, |it, &byte| longer.next_state(Anchored::No, it, byte));
+    let told = [start, a, ab, anchored, dead];
+    assert!(!longer.is_special(other) && !told.contains(&other));
+    for none in (0..20).map(StateID::must).filter(|it| !told.contains(it)).chain([other, StateID::MAX]) {
+        assert!(catch_unwind(|| automaton.next_state(Anchored::No, none, b'a')).is_err(), "{none:?}");
         assert!(catch_unwind(|| automaton.is_match(none)).is_err() && catch_unwind(|| automaton.is_special(none)).is_err());
     }
-    assert!((2..10).all(|number| catch_unwind(|| automaton.is_match(StateID::must(number))).is_ok()));
     assert!(catch_unwind(|| automaton.match_pattern(ab, 3)).is_err() && catch_unwind(|| automaton.match_pattern(start, 0)).is_err());
     assert!(catch_unwind(|| automaton.pattern_len(PatternID::must(3))).is_err());
 }

@@ -251,3 +251,72 @@ fn the_state_of_an_overlapping_search() {
     let leftmost = AhoCorasick::builder().match_kind(MatchKind::LeftmostFirst).build(["a"]).unwrap();
     assert!(leftmost.try_find_overlapping("a", &mut OverlappingState::start()).is_err());
 }
+
+/// An editor searches the pieces of a text as they are read, in any case if that is wished, and stops at a first match or after many.
+struct SearchQuery {
+    search: std::sync::Arc<AhoCorasick>,
+    query: std::sync::Arc<str>,
+}
+
+impl SearchQuery {
+    fn new(query: &str, case_sensitive: bool) -> Result<Self, Box<dyn std::error::Error + Send + Sync>> {
+        let search = AhoCorasickBuilder::new().ascii_case_insensitive(!case_sensitive).build([&query])?;
+        Ok(SearchQuery { search: std::sync::Arc::new(search), query: query.into() })
+    }
+
+    fn detect<T: std::io::Read>(&self, stream: T) -> std::io::Result<bool> {
+        match self.search.stream_find_iter(stream).next() {
+            Some(Ok(_)) => Ok(true),
+            Some(Err(error)) => Err(error),
+            None => Ok(false),
+        }
+    }
+
+    fn search<T: std::io::Read>(&self, stream: T) -> Vec<std::ops::Range<usize>> {
+        let mut matches = Vec::new();
+        for (ix, mat) in self.search.stream_find_iter(stream).enumerate() {
+            assert!(ix < 100 && !self.query.is_empty());
+            let mat = mat.unwrap();
+            matches.push(mat.start()..mat.end());
+        }
+        matches
+    }
+}
+
+#[test]
+fn a_search_of_an_editor() {
+    use std::io::Read;
+    let rope = || b"fn main() {"[..].chain(&b"} // FN m"[..]).chain(&b"ain"[..]);
+    let query = SearchQuery::new("fn main", false).unwrap();
+    assert!(query.detect(rope()).unwrap() && !query.detect(&b"nothing"[..]).unwrap());
+    assert_eq!(query.search(rope()), [0..7, 16..23]);
+    assert_eq!(SearchQuery::new("fn main", true).unwrap().search(rope()), std::iter::once(0..7).collect::<Vec<_>>());
+}
+
+/// A checker of links looks for what a link begins with.
+#[test]
+fn schemes_of_a_link_checker() {
+    const SCHEMES: &[&str] = &["https://", "http://", "mailto:"];
+    fn starts<'t>(searcher: &'t AhoCorasick, text: &'t str) -> impl Iterator<Item = &'t str> + 't {
+        searcher.find_iter(text).map(move |mat| &text[mat.start()..]).map(|it| it.split_whitespace().next().unwrap_or(it))
+    }
+    let searcher = AhoCorasickBuilder::new().match_kind(MatchKind::LeftmostLongest).ascii_case_insensitive(true).build(SCHEMES).unwrap();
+    assert_eq!(starts(&searcher, "see HTTP://a.example or mailto:b@c").collect::<Vec<_>>(), ["HTTP://a.example", "mailto:b@c"]);
+    assert!(!searcher.is_match("ftp://a.example"));
+}
+
+/// A maker of books escapes text, and takes placeholders out of templates by calls that may stop.
+#[test]
+fn texts_of_a_book() {
+    let escapes: [(&str, &str); 3] = [("&", "&amp;"), ("<", "&lt;"), ("\"", "&quot;")];
+    let (special, escaped): (Vec<_>, Vec<_>) = escapes.into_iter().unzip();
+    let searcher = AhoCorasick::new(special).expect("patterns that are few");
+    assert_eq!(searcher.replace_all("<a href=\"b&c\">", &escaped), "&lt;a href=&quot;b&amp;c&quot;>");
+    let mut result = String::new();
+    let titles = AhoCorasick::builder().match_kind(MatchKind::LeftmostFirst).build(["{{#title}}", "{{"]).unwrap();
+    titles.replace_all_with("{{#title}} of {{it}} {{", &mut result, |mat, _, dst| {
+        dst.push_str(if mat.pattern().as_usize() == 0 { "Home" } else { "{ {" });
+        mat.start() < 10
+    });
+    assert_eq!(result, "Home of { {it}} {{");
+}

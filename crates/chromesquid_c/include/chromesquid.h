@@ -25,11 +25,11 @@ extern "C" {
 #define CS_VERSION_MINOR (CS_VERSION / 100 % 100)
 #define CS_VERSION_PATCH (CS_VERSION % 100)
 
-/* The form of cs_options: 3 is the one that begins with its size. */
-#define CS_OPTIONS_FORM 3
+/* The form of cs_options: 4 is the one with room for options of later versions. */
+#define CS_OPTIONS_FORM 4
 
 /* How many bytes cs_options has. */
-#define CS_OPTIONS_SIZE 48
+#define CS_OPTIONS_SIZE 80
 
 /* What the functions answer. */
 enum {
@@ -48,7 +48,8 @@ enum {
     CS_ENDED = 12,            /* the stream has ended */
     CS_TOO_MANY_BYTES = 13,   /* 2^63 - 1 bytes were pushed */
     CS_EMPTY_PATTERN = 14,    /* a pattern is empty: neither streams nor covers are answered */
-    CS_TOO_SHORT = 15         /* the secret has fewer than four bytes */
+    CS_TOO_SHORT = 15,        /* the secret has fewer than four bytes */
+    CS_NO_PATTERN = 16        /* the state does not list so many patterns */
 };
 
 /* Which of several matches is found. */
@@ -77,7 +78,8 @@ enum {
     CS_MATCH_KIND = 1,
     CS_START_KIND = 2,
     CS_AUTOMATON = 3,
-    CS_SIZE = 4 /* the options are those of another version */
+    CS_SIZE = 4, /* the options are those of another form */
+    CS_LATER = 5 /* an option of a later version */
 };
 
 /* The forms in which a secret gets into a log: what is added up stands for several. */
@@ -122,10 +124,15 @@ typedef struct cs_options {
     size_t max_index;    /* the greatest index of a state, of a transition and of a listed pattern */
     size_t max_pattern;  /* the greatest number of a pattern */
     size_t max_len;      /* the greatest length of a pattern. A limit above 2^31 - 2 counts as that */
+    uint64_t later_a;    /* 0, as those behind it: where options of later versions will stand */
+    uint64_t later_b;
+    uint64_t later_c;
+    uint64_t later_d;
 } cs_options;
 
-/* Start each with it: further fields may follow. */
-#define CS_OPTIONS_INIT { CS_OPTIONS_SIZE, CS_STANDARD, CS_UNANCHORED, false, true, CS_BY_RULE, SIZE_MAX, SIZE_MAX, SIZE_MAX }
+/* Start each with it. A later version names what here is 0 and must be: a program that was compiled with this header asks it for nothing
+ * new, and one that asks this library for what only a later one knows gets CS_NO_OPTION. */
+#define CS_OPTIONS_INIT { CS_OPTIONS_SIZE, CS_STANDARD, CS_UNANCHORED, false, true, CS_BY_RULE, SIZE_MAX, SIZE_MAX, SIZE_MAX, 0, 0, 0, 0 }
 
 /* Why a build failed. What nothing is said of here is 0. */
 typedef struct cs_error {
@@ -142,6 +149,15 @@ typedef struct cs_match {
     size_t start;   /* the place of its first byte */
     size_t end;     /* the place behind its last byte */
 } cs_match;
+
+/* What is told of a state. */
+typedef struct cs_state {
+    bool is_dead;    /* nothing that follows is found any more, and each byte leads to a dead state */
+    bool is_match;   /* it lists a pattern */
+    bool is_start;   /* what ends later begins where it is held, or behind */
+    bool is_special; /* a search has to look at it: it is where it is dead or lists a pattern, and may be where it is a start */
+    size_t patterns; /* how many patterns it lists */
+} cs_state;
 
 typedef struct cs_facts {
     size_t patterns; /* how many there are */
@@ -224,6 +240,25 @@ uint32_t cs_forms(const uint8_t *secret, size_t secret_len, uint32_t forms, uint
 
 /* What is known of the searcher: CS_DONE. Else CS_NO_SEARCHER: `out` is as it was. */
 uint32_t cs_info(cs_searcher *searcher, cs_facts *out);
+
+/* The state in which a search begins, for who reads bytes one by one: CS_DONE, and its number in `state`. A number is that of a state of
+ * all handles that share the searcher, and of no other: give cs_next_state, cs_state_is and cs_match_pattern no number but what this
+ * call or cs_next_state has put.
+ * Else CS_NO_SEARCHER; CS_REFUSED where it was not built for searches of this anchoring: `state` is as it was. */
+uint32_t cs_start_state(cs_searcher *searcher, bool anchored, uint32_t *state);
+
+/* The state behind one more byte: CS_DONE, and its number in `next`. `anchored` is the same at each byte as at the start.
+ * Else CS_NO_SEARCHER: `next` is as it was. */
+uint32_t cs_next_state(cs_searcher *searcher, bool anchored, uint32_t state, uint8_t byte, uint32_t *next);
+
+/* What is told of a state: CS_DONE. Else CS_NO_SEARCHER: `out` is as it was. */
+uint32_t cs_state_is(cs_searcher *searcher, uint32_t state, cs_state *out);
+
+/* A pattern that a state lists, by its place among them: CS_DONE, and its number in `pattern`. The first is the best that ends where the
+ * state is held. With CS_STANDARD they are all that end there: the longest first, then by number. Else a search's match is the first one
+ * of the last state that lists some before a dead one. An anchored search takes only those that are as long as what was read.
+ * Else CS_NO_SEARCHER; CS_NO_PATTERN where it does not list so many: `pattern` is as it was. */
+uint32_t cs_match_pattern(cs_searcher *searcher, uint32_t state, size_t index, size_t *pattern);
 
 /* Begins a stream, whose bytes are pushed: it has a share of the searcher, and takes as much memory as 8 of the longest pattern,
  * and 65536 bytes at least. What `out` had is let go.

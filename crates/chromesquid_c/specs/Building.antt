@@ -1,5 +1,5 @@
 -- What the numbers of the options mean, and why a build fails.
-use Rattle.std.specs.Prelude.{◌≡◌, ℕ, zero, suc, false, List, Option, None, Some, if◌then◌else◌, nat_eq}
+use Rattle.std.specs.Prelude.{◌≡◌, ℕ, zero, suc, false, ◌&&◌, List, [], ◌∷◌, Option, None, Some, if◌then◌else◌, nat_eq}
 use Rattle.std.specs.Borrow.{Bor}
 use Rattle.aho_core.specs.declared.error.BuildError.{BuildError}
 use Rattle.aho_core.specs.declared.error.BuildError.TheVariants.{OutOfMemory, PatternIDOverflow, PatternTooLong, StateIDOverflow}
@@ -61,10 +61,20 @@ building_for (Some kind) (Some start) (Some automaton) options = Some (record {
   finds_all = false;
 })
 
--- how a searcher is built by the options, if they have the size of options and each of their numbers means something
+-- the first of these numbers that is not 0, if there is one
+abbrev pub first_over_zero : List ℕ → ℕ
+first_over_zero [] = 0
+first_over_zero (zero ∷ rest) = first_over_zero rest
+first_over_zero (suc n ∷ rest) = suc n
+
+-- what the options ask of a later version: 0 where nothing
+abbrev pub later_option : CsOptions → ℕ
+later_option options = first_over_zero (options.later_a ∷ options.later_b ∷ options.later_c ∷ options.later_d ∷ [])
+
+-- how a searcher is built by the options, if they have the size of options, ask nothing of a later version, and each of their numbers means something
 abbrev pub building_by : CsOptions → Option Building
 building_by options =
-    if nat_eq options.size OPTIONS_SIZE
+    if nat_eq options.size OPTIONS_SIZE && nat_eq (later_option options) 0
     then building_for (kind_numbered options.match_kind) (start_numbered options.start_kind) (automaton_numbered options.automaton) options
     else None
 

@@ -9,11 +9,11 @@ use Rattle.aho_core.specs.declared.search.MatchKind.{MatchKind}
 use Rattle.aho_build.specs.declared.settings.Settings.{Settings}
 use Rattle.chromesquid.specs.Building.{FailsFor}
 use Rattle.chromesquid.specs.declared.kinds.StartKind.{StartKind}
-use Rattle.chromesquid_c.specs.Building.{build_status, kind_numbered, start_numbered}
+use Rattle.chromesquid_c.specs.Building.{build_status, kind_numbered, later_option, start_numbered}
 use Rattle.chromesquid_c.specs.declared.options.CsError.{CsError}
 use Rattle.chromesquid_c.specs.declared.options.CsOptions.{CsOptions}
 use Rattle.chromesquid_c.specs.declared.options.TheConstants.{OPTIONS_SIZE}
-use Rattle.chromesquid_c.specs.declared.status.TheConstants.{AUTOMATON, MATCH_KIND, NO_MEMORY, NO_OPTION, SIZE, START_KIND, TOO_LONG, TOO_MANY_PATTERNS, TOO_MANY_STATES}
+use Rattle.chromesquid_c.specs.declared.status.TheConstants.{AUTOMATON, LATER, MATCH_KIND, NO_MEMORY, NO_OPTION, SIZE, START_KIND, TOO_LONG, TOO_MANY_PATTERNS, TOO_MANY_STATES}
 
 -- ---- its numbers
 
@@ -27,11 +27,13 @@ error_among None start options = option_error MATCH_KIND options.match_kind
 error_among (Some kind) None options = option_error START_KIND options.start_kind
 error_among (Some kind) (Some start) options = option_error AUTOMATON options.automaton
 
--- what is told of options that mean nothing: of their size, where that is another one
+-- what is told of options that mean nothing: of their size, where that is another one, else of what is asked of a later version
 abbrev pub error_of_options : CsOptions → CsError
 error_of_options options =
     if nat_eq options.size OPTIONS_SIZE
+    then (if nat_eq (later_option options) 0
     then error_among (kind_numbered options.match_kind) (start_numbered options.start_kind) options
+    else option_error LATER (later_option options))
     else option_error SIZE options.size
 
 -- what is told of a build's error
@@ -52,7 +54,7 @@ pub record FailsTelling (settings : Settings) (items : List (Bor (List ℕ))) (s
 
 -- what an option is called
 abbrev pub error_option_name : ℕ → List ℕ
-error_option_name option = if nat_eq option MATCH_KIND then codes "match kind" else (if nat_eq option START_KIND then codes "start kind" else (if nat_eq option SIZE then codes "size" else codes "automaton"))
+error_option_name option = if nat_eq option MATCH_KIND then codes "match kind" else (if nat_eq option START_KIND then codes "start kind" else (if nat_eq option SIZE then codes "size" else (if nat_eq option LATER then codes "later option" else codes "automaton")))
 
 -- the text of an error of this status: as a build's error is printed, or that a number of an option means nothing; none of another
 abbrev pub text_by : ℕ → CsError → List ℕ

@@ -9,6 +9,7 @@ pub mod Matches
 pub mod Owned
 pub mod Replacing
 pub mod SecretForms
+pub mod States
 pub mod StreamLending
 pub mod Streaming
 pub mod Telling

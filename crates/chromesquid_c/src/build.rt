@@ -2,7 +2,7 @@
 
 ghost use Rattle.std.specs.Prelude.{◌≡◌, ◌≢◌, IfErr, IfOk, None, OnOk};
 ghost use Rattle.chromesquid.specs.Rules.{Accepts, FailsFor};
-ghost use Rattle.chromesquid_c.specs.Building.{FailsWith, ForOptions, IsBuiltBy, automaton_numbered, build_status, building_by, kind_numbered, start_numbered};
+ghost use Rattle.chromesquid_c.specs.Building.{FailsWith, ForOptions, IsBuiltBy, automaton_numbered, build_status, building_by, kind_numbered, later_option, start_numbered};
 ghost use Rattle.chromesquid_c.specs.Evidence.{IsOfSome};
 ghost use Rattle.chromesquid_c.specs.Holding.{HoldsSearcher, HoldsSame, IfHeld, IsEmpty};
 
@@ -53,11 +53,29 @@ fn automaton_of(number: u32) -> Option<Option<AhoCorasickKind>>
     }
 }
 
+/// What is asked of a later version: the first number of these that is not 0.
+pub(crate) fn later_option(options: &CsOptions) -> u64
+    ensures first { result ≡ later_option options.now }
+{
+    if options.later_a != 0 {
+        options.later_a
+    } else if options.later_b != 0 {
+        options.later_b
+    } else if options.later_c != 0 {
+        options.later_c
+    } else {
+        options.later_d
+    }
+}
+
 /// The builder that the options ask for, if each of their numbers means something.
 pub(crate) fn builder_of(options: &CsOptions) -> Option<AhoCorasickBuilder>
     ensures asked { result ≡ building_by options.now }
 {
     if options.size != OPTIONS_SIZE {
+        return None;
+    }
+    if later_option(options) != 0 {
         return None;
     }
     let Some(kind) = match_kind_of(options.match_kind) else {

@@ -6,12 +6,14 @@ ghost use Rattle.chromesquid_c.specs.Building.{ForOptions, IsBuiltBy, building_b
 ghost use Rattle.chromesquid_c.specs.Failing.{FailsTelling, error_text, error_told, option_error, error_option_name, error_of_options};
 ghost use Rattle.chromesquid_c.specs.Replacing.{EndsReplacing, FitsInto};
 
-use crate::build::{build_status, builder_of, handle_for, match_kind_of, start_kind_of};
+use crate::build::{
+    build_status, builder_of, handle_for, later_option, match_kind_of, start_kind_of,
+};
 use crate::handle::CsSearcher;
 use crate::options::{CsError, CsOptions, OPTIONS_SIZE};
 use crate::replace::put_bytes;
 use crate::status::{
-    AUTOMATON, DONE, MATCH_KIND, NO_MEMORY, NO_OPTION, NO_ROOM, SIZE, START_KIND, TOO_LONG,
+    AUTOMATON, DONE, LATER, MATCH_KIND, NO_MEMORY, NO_OPTION, NO_ROOM, SIZE, START_KIND, TOO_LONG,
     TOO_MANY_PATTERNS, TOO_MANY_STATES,
 };
 use chromesquid::BuildError;
@@ -19,14 +21,14 @@ use std::alloc::Global;
 use std::fmt;
 
 /// The error of an option whose number means nothing.
-fn option_error(option: u32, number: u32) -> CsError
+fn option_error(option: u32, number: u64) -> CsError
     ensures told { result ≡ option_error option number }
 {
     CsError {
         status: NO_OPTION,
         option,
         pattern: 0,
-        requested: number as u64,
+        requested: number,
         max: 0,
     }
 }
@@ -36,15 +38,19 @@ fn error_of_options(options: &CsOptions) -> CsError
     ensures told { result ≡ error_of_options options.now }
 {
     if options.size != OPTIONS_SIZE {
-        return option_error(SIZE, options.size);
+        return option_error(SIZE, options.size as u64);
+    }
+    let later = later_option(options);
+    if later != 0 {
+        return option_error(LATER, later);
     }
     let Some(_) = match_kind_of(options.match_kind) else {
-        return option_error(MATCH_KIND, options.match_kind);
+        return option_error(MATCH_KIND, options.match_kind as u64);
     };
     let Some(_) = start_kind_of(options.start_kind) else {
-        return option_error(START_KIND, options.start_kind);
+        return option_error(START_KIND, options.start_kind as u64);
     };
-    option_error(AUTOMATON, options.automaton)
+    option_error(AUTOMATON, options.automaton as u64)
 }
 
 /// What is told of a build's error.
@@ -126,6 +132,8 @@ fn error_option_name(option: u32) -> &'static str
         "start kind"
     } else if option == SIZE {
         "size"
+    } else if option == LATER {
+        "later option"
     } else {
         "automaton"
     }

@@ -15,11 +15,12 @@ pub mod options;
 mod pushed;
 pub mod replace;
 pub mod search;
+pub mod state;
 pub mod status;
 pub mod stream;
 mod stream_handle;
 pub mod told;
 
 pub use handle::CsSearcher;
-pub use options::{CsError, CsFacts, CsMatch, CsOptions};
+pub use options::{CsError, CsFacts, CsMatch, CsOptions, CsState};
 pub use stream_handle::CsStream;

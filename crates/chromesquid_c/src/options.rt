@@ -1,10 +1,10 @@
 //! What C passes and gets as a struct.
 
-/// The form of `CsOptions`: 3 is the one that begins with its size.
-pub const OPTIONS_FORM: u32 = 3;
+/// The form of `CsOptions`: 4 is the one with room for options of later versions.
+pub const OPTIONS_FORM: u32 = 4;
 
 /// How many bytes `CsOptions` has.
-pub const OPTIONS_SIZE: u32 = 48;
+pub const OPTIONS_SIZE: u32 = 80;
 
 /// How a searcher is built. A number that is not named here means nothing.
 #[repr(C)]
@@ -28,6 +28,14 @@ pub struct CsOptions {
     pub max_pattern: usize,
     /// The greatest length of a pattern, in bytes. Above 2^31 - 2 it counts as that.
     pub max_len: usize,
+    /// Room for an option of a later version, and 0: what asks for none.
+    pub later_a: u64,
+    /// The same.
+    pub later_b: u64,
+    /// The same.
+    pub later_c: u64,
+    /// The same.
+    pub later_d: u64,
 }
 
 /// Why a build failed: what was answered, and the numbers that say the rest. A number that nothing is said of here is 0.
@@ -36,7 +44,7 @@ pub struct CsOptions {
 pub struct CsError {
     /// What the build answered: 5, 6, 7, 8 or 9.
     pub status: u32,
-    /// With 6, whose number means nothing: 1 the match kind's, 2 the start kind's, 3 the automaton's, 4 the size.
+    /// With 6, whose number means nothing: 1 the match kind's, 2 the start kind's, 3 the automaton's, 4 the size, 5 a later option's.
     pub option: u32,
     /// With 8 and 9, the number of the pattern.
     pub pattern: usize,
@@ -57,6 +65,22 @@ pub struct CsMatch {
     pub start: usize,
     /// The place behind the last byte.
     pub end: usize,
+}
+
+/// What is told of a state.
+#[repr(C)]
+#[derive(Clone, Copy)]
+pub struct CsState {
+    /// Whether it is dead: nothing that follows is found any more, and each byte leads to a dead state.
+    pub is_dead: bool,
+    /// Whether it lists a pattern.
+    pub is_match: bool,
+    /// Whether it is a start: what ends later begins where it is held, or behind.
+    pub is_start: bool,
+    /// Whether a search has to look at it: it is where it is dead or lists a pattern, and may be where it is a start.
+    pub is_special: bool,
+    /// How many patterns it lists.
+    pub patterns: usize,
 }
 
 /// What is known of a searcher.

@@ -96,7 +96,7 @@ pub extern "C" fn cs_find(searcher: &mut CsSearcher, haystack: &[u8], found: &mu
 }
 
 /// The anchoring by C's word for it.
-fn anchoring_of(anchored: bool) -> Anchored
+pub(crate) fn anchoring_of(anchored: bool) -> Anchored
     ensures same { result ≡ anchoring_by anchored }
 {
     if anchored {

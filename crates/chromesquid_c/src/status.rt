@@ -48,6 +48,9 @@ pub const EMPTY_PATTERN: u32 = 14;
 /// The secret has fewer than four bytes.
 pub const TOO_SHORT: u32 = 15;
 
+/// The state does not list so many patterns.
+pub const NO_PATTERN: u32 = 16;
+
 /// The option of the match kind.
 pub const MATCH_KIND: u32 = 1;
 
@@ -59,3 +62,6 @@ pub const AUTOMATON: u32 = 3;
 
 /// The size of the options.
 pub const SIZE: u32 = 4;
+
+/// An option of a later version.
+pub const LATER: u32 = 5;
