@@ -1,6 +1,7 @@
-"""The chart of `bin/speeds --page`: panels of bars, as SVG, in colours that can be read on white and on black."""
+"""The chart of `bin/speeds --page`: panels of bars, as SVG, on a ground of its own: light, or dark where the reader's pages are."""
 
-INK, BLUE, GREY = "#7b8794", "#3b82f6", "#9aa3ad"
+INK, GROUND, BLUE, GREY = "#4b5563", "#ffffff", "#3b82f6", "#9aa3ad"  # the ink has a contrast of more than 4.5 to 1 on its ground, and so in the dark
+DARK = "@media (prefers-color-scheme: dark) { svg { fill: #c9d1d9; } .ground { fill: #0d1117; } }"
 FONTS = "system-ui, -apple-system, 'Segoe UI', 'Helvetica Neue', Helvetica, Arial, sans-serif"
 WIDTH = 910
 LONGEST = 168
@@ -53,6 +54,8 @@ def drawn(left, right, title, note):
     yield f'<svg xmlns="http://www.w3.org/2000/svg" viewBox="0 0 {WIDTH} {height}" width="{WIDTH}" height="{height}" role="img" fill="{INK}"'
     yield f' font-family="{FONTS}">'
     yield f"<title>{title}</title>"
+    yield f"<style>{DARK}</style>"
+    yield f'<rect class="ground" width="{WIDTH}" height="{height}" fill="{GROUND}"/>'
     yield from parts
     yield words_at(6, height - 8, note, 11)
     yield "</svg>"

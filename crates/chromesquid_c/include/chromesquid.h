@@ -1,4 +1,4 @@
-/* Searches bytes for many patterns at once. Each function is proved to answer what it says here; CALLING.md says what is not.
+/* Searches bytes for many patterns at once. Each function is proved to answer what it says here; README.md says what is not.
  *
  * Places and lengths count bytes, from 0 on. A pattern's number is its place among the patterns, from 0 on. Where a length is 0 the
  * pointer before it may be NULL; no other may. No function keeps a pointer that it is given: the patterns may go after cs_build.
