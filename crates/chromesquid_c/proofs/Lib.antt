@@ -1,6 +1,7 @@
 pub mod Evidence
 pub mod HeldStreams
 pub mod Helds
+pub mod Laws
 pub mod Laying
 pub mod Listing
 pub mod Rooms

@@ -6,7 +6,7 @@ ghost use Rattle.aho_core.specs.Steps.{GoesOn};
 ghost use Rattle.chromesquid.specs.Rules.{Answers, ForItsPatterns, RefusesSearch};
 ghost use Rattle.chromesquid_c.specs.Evidence.{IsOfSome};
 ghost use Rattle.chromesquid_c.specs.Holding.{HoldsSame, IfAnswered, IfHeld, IfRefused, IsEmpty};
-ghost use Rattle.chromesquid_c.specs.States.{IsBegunBy, HasState, IsHeldAfter, next_told, patterns_listed, state_told};
+ghost use Rattle.chromesquid_c.specs.States.{TellsByStates, IsBegunBy, HasState, IsHeldAfter, next_told, patterns_listed, state_told};
 ghost use Rattle.chromesquid_c.specs.Telling.{anchoring_by};
 
 use crate::handle::CsSearcher;
@@ -25,12 +25,14 @@ fn state_of(number: u32) -> StateID
 }
 
 /// Puts the state in which a search begins, where the searcher answers such searches.
+#[tactic(auto, using(crate::proofs::Laws::tells_by_states))]
 fn start_by(searcher: &AhoCorasick, anchored: bool, state: &mut u32) -> u32
     requires some { IsOfSome searcher.now }
     ensures begun { result ≡ DONE → IsBegunBy searcher.now (anchoring_by anchored) state.new }
     ensures of { result ≡ DONE → HasState searcher.now state.new }
     ensures held { ForItsPatterns searcher.now (λ p.
         result ≡ DONE → IsHeldAfter searcher.now p (anchoring_by anchored) [] state.new) }
+    ensures laws { ForItsPatterns searcher.now (TellsByStates searcher.now) }
     ensures answered { Answers searcher.now (anchoring_by anchored) → result ≡ DONE }
     ensures refused { RefusesSearch searcher.now (anchoring_by anchored) → result ≡ REFUSED }
     ensures kept { result ≢ DONE → state.new ≡ state.old }
@@ -56,6 +58,7 @@ pub extern "C" fn cs_start_state(searcher: &mut CsSearcher, anchored: bool, stat
     ensures of { IfHeld searcher.old (λ s. result ≡ DONE → HasState s state.new) }
     ensures held { IfHeld searcher.old (λ s. ForItsPatterns s (λ p.
         result ≡ DONE → IsHeldAfter s p (anchoring_by anchored) [] state.new)) }
+    ensures laws { IfHeld searcher.old (λ s. ForItsPatterns s (TellsByStates s)) }
     ensures answered { IfAnswered searcher.old (anchoring_by anchored) (result ≡ DONE) }
     ensures refused { IfRefused searcher.old (anchoring_by anchored) (result ≡ REFUSED) }
     ensures empty { IsEmpty searcher.old → result ≡ NO_SEARCHER }
