@@ -1,6 +1,6 @@
 -- The searcher that was made is of what is asked for.
 use Rattle.std.specs.Prelude.{IsOk}
-use Rattle.std.proofs.Common.{◌≡◌, ◌∙◌, false, length, List, ℕ, subst, sym, Bor}
+use Rattle.std.proofs.Common.{◌≡◌, ◌∙◌, false, length, List, ℕ, refl, subst, sym, Bor}
 use Rattle.aho_core.specs.Patterns.{Patterns}
 use Rattle.aho_core.specs.Replacement.{pieces_of}
 use Rattle.aho_core.specs.declared.search.Anchored.TheVariants.{No}
@@ -30,7 +30,7 @@ module _ {A : Type 0} (G : Automata A) (automaton : A) (searcher : Searcher) (st
   pub starts_by : (p : Patterns) → IsBuiltFrom searcher p → Answers searcher No → IsOk (G.start automaton No)
   starts_by p built answers =
       let start = start_of No searcher (p, built) answers in
-      subst IsOk (sym (stands.start ∙ start.1)) tt
+      subst IsOk (sym (stands.start ∙ start.1)) refl
 
   pub kind_by : (kind : MatchKind) → match_kind_of searcher ≡ kind → G.kind automaton ≡ kind
   kind_by kind is = stands.kind ∙ is

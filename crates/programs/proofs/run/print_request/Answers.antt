@@ -15,8 +15,8 @@ print_matches-requires g c =
       kind = kind_by of_rows _ c.args.searcher.now stands (kind_of c.args.request.now.task) c.requires.kind;
     }
 
-pub print_matches-in-None-requires : goal.print_matches-in-None-requires
-print_matches-in-None-requires g c =
+pub print_matches-requires-in-None : goal.print_matches-requires-in-None
+print_matches-requires-in-None g c =
     let p = request_patterns c.args.request.now in
     let stands = c.itself.ensures.stands in
     record {
