@@ -61,15 +61,15 @@ Output:
   --color[=WHEN]        color the output: auto, always or never
 
 Folders:
-  -r, --recursive       search the files below each FILE that is a folder, in the
-                        order of their names' bytes; the working folder where no
-                        FILE is given. Links below a folder are not followed, and
-                        devices there are not read
+  -r, --recursive       search the files below each FILE that is a folder, in
+                        the order of their names' bytes; the working folder
+                        where no FILE is given. Links below a folder are not
+                        followed, and devices there are not read
   -R, --dereference-recursive
                         the same, but they are
   -d, --directories ACTION
-                        with a FILE that is a folder: read (which fails), recurse
-                        (as -r) or skip
+                        with a FILE that is a folder: read (which fails),
+                        recurse (as -r) or skip
   -D, --devices ACTION  with devices: read or skip
   --include GLOB        search only files with a name that GLOB fits
   --exclude GLOB        do not search those: the last of both that fits decides
