@@ -2,6 +2,9 @@
 mod Covered
 -- lines that are added one after another
 mod Lines
+mod FormNames
+mod FormRules
+mod FormsSome
 mod PartLines
 -- names in messages, and what is told of doubtful patterns
 mod ShownNames

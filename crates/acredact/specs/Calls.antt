@@ -23,6 +23,7 @@ use Rattle.acredact.specs.Builds.{RefusesPatterns, patterns_by_given}
 use Rattle.acredact.specs.Counts.{secret_lines, lines_of_rules}
 use Rattle.acredact.specs.Doubts.{IsDoubtFailure, TellsDoubts, TellsWarnings, all_doubt_lines}
 use Rattle.acredact.specs.Failures.{IsFailureLine}
+use Rattle.acredact.specs.Forms.{forms_asked}
 use Rattle.acredact.specs.Files.{AreCut, AreDone, AreFree, AreRedacted, Does, Work, are_none, redactor_of, unread_line, work_of}
 use Rattle.acredact.specs.Loading.{AreGiven, AreLoaded, CannotLoadKey, CannotLoadOne, Loaded, Reading, Rules, key_lent, loaded_as}
 use Rattle.acredact.specs.Messages.{output_line, unclean_line}
@@ -34,7 +35,7 @@ use Rattle.acredact.specs.Summaries.{no_volume, totals_text}
 use Rattle.acredact.specs.Totals.{AreTotals, NamesHaveRanges}
 use Rattle.acredact.specs.Volumes.{ReadsVolume}
 use Rattle.acredact.specs.declared.arguments.Mistake.TheVariants.{NoPattern, OutOfMemory as NoRoom}
-use Rattle.acredact.specs.declared.arguments.Word.TheVariants.{Crlf, AllowEmpty, IgnoreCase, Strict, File, Pattern as PatternOption, Patterns as PatternFile, Table, With}
+use Rattle.acredact.specs.declared.arguments.Word.TheVariants.{Crlf, Forms, AllowEmpty, IgnoreCase, Strict, File, Pattern as PatternOption, Patterns as PatternFile, Table, With}
 use Rattle.acredact.specs.declared.clean.Unclean.{Unclean}
 use Rattle.acredact.specs.declared.failure.Failure.{Failure}
 use Rattle.acredact.specs.declared.failure.Failure.TheVariants.{NotText, Arguments, Unclean as UncleanPiece, Counts, Other}
@@ -60,7 +61,7 @@ abbrev pub gives_pattern : List Given → Bool
 gives_pattern given = has PatternOption given || has PatternFile given || has Table given
 
 abbrev pub rules_asked : List Given → Rules
-rules_asked given = record { crlf = has Crlf given; allow_empty = has AllowEmpty given; parts = covers_asked given }
+rules_asked given = record { crlf = has Crlf given; allow_empty = has AllowEmpty given; parts = covers_asked given; forms = forms_asked (last_value Forms given) }
 
 abbrev pub reading_by : Call → Reading
 reading_by call = record { holds = call.holds; refuses = call.refuses; rules = rules_asked call.given }

@@ -234,6 +234,10 @@ fn tell_mistake<E: Sink>(errors: &mut Errors<'_, E>, mistake: Mistake<'_>)
             errors,
             "option '--kind' takes cover, first, longest or standard",
         ),
+        Mistake::UnknownForm => tell_alone(
+            errors,
+            "option '--forms' takes all, or some of base64,hex,url,json,xml,shell,lines",
+        ),
         Mistake::NoPattern => tell_alone(errors, "no pattern: give -e, -f or -t, or --help"),
         Mistake::Mixed(mixture) => tell_alone(errors, mixture_text(mixture)),
         Mistake::OutOfMemory => tell_alone(errors, "out of memory"),
@@ -271,6 +275,10 @@ fn mixture_text(mixture: Mixture) -> &'static str
         }
         Mixture::PseudonymTable => {
             "--pseudonym and -t do not go together: a table says what is written"
+        }
+        Mixture::FormsKind => "--forms needs --kind cover: by other kinds a part of a form can stay",
+        Mixture::FormsPseudonym => {
+            "--forms and --pseudonym do not go together: a secret would have several pseudonyms"
         }
         Mixture::SummaryCheck => {
             "--summary and --check do not go together: a check counts nothing"

@@ -19,6 +19,7 @@ mod doubts;
 mod failure;
 mod files;
 mod folder;
+mod forms;
 mod held;
 mod help;
 mod in_place;

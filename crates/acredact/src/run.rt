@@ -32,7 +32,7 @@ use crate::arguments::{
 use crate::back::back_of;
 use crate::check::check;
 use crate::clean::{Judge, Unclean, unclean_of};
-use crate::counts::{counts_of, put_counts};
+use crate::counts::{counts_of, put_counts, totals_of};
 use crate::doubts::warn_of_lists;
 use crate::failure::{Failure, tell_failure, tell_unclean};
 use crate::files::{Job, back_files, redact_files};
@@ -407,9 +407,11 @@ fn tell_totals<E: Sink>(
         (totals_text (all_given given.now) (lines_of_rules rules.now) tally.now volume)) }
     ensures untold { OnErr result (errors.new ≡ errors.old) }
 {
+    let totals = totals_of(alloc, rules, tally)?;
+    let totals = totals.as_slice();
     let mut text = Vec::new(alloc);
-    put_asked_counts(&mut text, given, rules, tally)?;
-    put_asked_summary(&mut text, given, tally, volume)?;
+    put_asked_counts(&mut text, given, rules, totals)?;
+    put_asked_summary(&mut text, given, totals, volume)?;
     errors.write(&[text.as_slice()]);
     Ok(())
 }
