@@ -27,6 +27,7 @@ pub mod Totals
 pub mod Metering
 pub mod Volumes
 pub mod Bounds
+pub mod Sums
 pub mod Summaries
 -- what the options add to the patterns
 pub mod Loading
@@ -36,6 +37,7 @@ pub mod Looks
 pub mod Builds
 pub mod Counts
 pub mod Failures
+pub mod Short
 pub mod Doubts
 pub mod Calls
 pub mod Checks

@@ -19,7 +19,7 @@ use Rattle.acredact.specs.Tables.{HaveLines, HoldsBy, Secret, lines_in, secrets_
 use Rattle.acredact.specs.declared.arguments.Word.{Word}
 use Rattle.acredact.specs.declared.arguments.Word.TheVariants.{IgnoreCase, Kind, Pattern, Patterns, Table, With, Pseudonym, Forms, Output, InPlace, Count, Summary, Crlf, AllowEmpty, Strict, Check, Help, Version, File}
 use Rattle.acredact.specs.declared.failure.Failure.{Failure}
-use Rattle.acredact.specs.declared.failure.Failure.TheVariants.{NotText, Arguments, Pattern as BadPattern, Unread, Empty, ShortKey, Line, Unclean, Counts, Other}
+use Rattle.acredact.specs.declared.failure.Failure.TheVariants.{NotText, Arguments, Pattern as BadPattern, Unread, Empty, ShortKey, Line, Short, Unclean, Counts, Other}
 use Rattle.acredact.specs.declared.folder.Folder.{Ghosts as Folders}
 use Rattle.acredact.specs.declared.load.Lists.{Lists}
 use Rattle.acredact.specs.declared.patterns.Form.{Form}
@@ -221,6 +221,7 @@ IsPatternFailure value (Unread name reason) = ⊥
 IsPatternFailure value (Empty name) = ⊥
 IsPatternFailure value (ShortKey name) = ⊥
 IsPatternFailure value (Line name bad) = ⊥
+IsPatternFailure value (Short number) = ⊥
 IsPatternFailure value (Unclean unclean) = ⊥
 IsPatternFailure value Counts = ⊥
 IsPatternFailure value (Other failure) = ⊥
@@ -235,6 +236,7 @@ IsTextFailure rules table file text (Empty name) = (name.now ≡ file) × (text 
 IsTextFailure rules table file text (ShortKey name) = ⊥
 IsTextFailure rules table file text (Line name bad) =
     (name.now ≡ file) × (((bad.number ≡ 1) × (mark_in text ≡ Some bad.fault)) ⊎ IsListFault (form_by rules table) (lines_in text) bad)
+IsTextFailure rules table file text (Short number) = ⊥
 IsTextFailure rules table file text (Unclean unclean) = ⊥
 IsTextFailure rules table file text Counts = ⊥
 IsTextFailure rules table file text (Other failure) = ⊥

@@ -28,35 +28,6 @@ pub fn counts_of(alloc: Global, rules: &[Rule], counted: bool) -> Result<Vec<u64
     Ok(counts)
 }
 
-/// For each pattern that was given how often its text was written: by its own count and those of its forms. A number stops at the
-/// greatest.
-pub fn totals_of(alloc: Global, rules: &[Rule], counts: &[u64]) -> Result<Vec<u64>, AllocError> {
-    let mut totals = Vec::new(alloc);
-    let mut rest = rules;
-    let mut left = counts;
-    while !rest.is_empty() && !left.is_empty() {
-        add_count(&mut totals, rest[0].form_of, left[0])?;
-        rest = &rest[1..];
-        left = &left[1..];
-    }
-    Ok(totals)
-}
-
-/// Adds the count of a pattern as one more, or to that of the one of which it is a form.
-fn add_count(totals: &mut Vec<u64>, form_of: Option<usize>, count: u64) -> Result<(), AllocError> {
-    match form_of {
-        None => {
-            totals.push(count)?;
-        }
-        Some(number) => {
-            if number < totals.len() {
-                totals[number] = totals[number].saturating_add(count);
-            }
-        }
-    }
-    Ok(())
-}
-
 /// Puts a line for each pattern: how many of its matches were replaced, a TAB, its number from 1 on, a TAB, and the number of its
 /// line in its file, or `-e`.
 pub fn put_counts(text: &mut Vec<u8>, rules: &[Rule], counts: &[u64]) -> Result<(), AllocError>

@@ -140,11 +140,7 @@ pub fn add_forms(alloc: Global, rules: &mut Vec<Rule>, value: &str) -> Result<()
 }
 
 /// Those of all these rules.
-fn forms_of_rules(
-    alloc: Global,
-    rules: &[Rule],
-    wanted: &[Form],
-) -> Result<Vec<Rule>, AllocError>
+fn forms_of_rules(alloc: Global, rules: &[Rule], wanted: &[Form]) -> Result<Vec<Rule>, AllocError>
     ensures made { IfOk result (λ more.
         secrets_of more.items ≡ forms_from wanted.now 0 (secrets_of rules.now)) }
     ensures hidden { OnOk result (AreHidden wanted.now (secrets_of rules.now)) }

@@ -51,11 +51,7 @@ pub struct Lists<'f, 'v, F> {
 }
 
 /// How the files of patterns and tables are read that are given.
-pub fn lists_of<'f, 'v, F>(
-    alloc: Global,
-    given: &[Item<'v>],
-    folder: &'f F,
-) -> Lists<'f, 'v, F>
+pub fn lists_of<'f, 'v, F>(alloc: Global, given: &[Item<'v>], folder: &'f F) -> Lists<'f, 'v, F>
     ensures folder { result.folder.now ≡ folder.now }
     ensures rules { rules_for result ≡ rules_asked (all_given given.now) }
 {

@@ -36,10 +36,12 @@ mod redact;
 mod rows;
 mod run;
 mod seen;
+mod short;
 mod shown;
 mod spelled;
 mod streams;
 mod summary;
+mod sums;
 mod ways;
 
 ghost use Rattle.std.specs.Prelude.{◌≡◌, ◌≤◌, IfErr, IfOk, false, true};
