@@ -15,11 +15,11 @@ behind_one x rest =
     let count : length (x ∷ rest) - 1 ≡ length rest = omega arith in
     ap (λ n. take n rest) count ∙ take-length rest
 
-abbrev zeros_for : ℕ → List ℕ
-zeros_for many = replicate many 0
+abbrev zeros_many : ℕ → List ℕ
+zeros_many many = replicate many 0
 
 abbrev none_of : List Secret → List ℕ
-none_of secrets = zeros_for (given_count secrets)
+none_of secrets = zeros_many (given_count secrets)
 
 -- one more zero, if the next was given
 pub zeros_next : (zeros all : List ℕ) (rules : List Rule) (other : Rule) → 1 ≤ length rules → zeros ++ none_of (secrets_of rules) ≡ all
@@ -30,8 +30,8 @@ zeros_next zeros all (rule ∷ rules) other some is =
     ∙ append_assoc zeros (none_of (secrets_of (rule ∷ []))) (none_of (secrets_of rules))
     ∙ ap (λ l. zeros ++ l) (by_test (is_some (secret_of rule).form_of)) ∙ is
   where
-    by_test : (b : Bool) → zeros_for (length (if not b then secret_of rule ∷ [] else [])) ++ none_of (secrets_of rules)
-        ≡ zeros_for (length (if not b then secret_of rule ∷ filter (λ (secret : Secret). not (is_some secret.form_of)) (secrets_of rules) else filter (λ (secret : Secret). not (is_some secret.form_of)) (secrets_of rules)))
+    by_test : (b : Bool) → zeros_many (length (if not b then secret_of rule ∷ [] else [])) ++ none_of (secrets_of rules)
+        ≡ zeros_many (length (if not b then secret_of rule ∷ filter (λ (secret : Secret). not (is_some secret.form_of)) (secrets_of rules) else filter (λ (secret : Secret). not (is_some secret.form_of)) (secrets_of rules)))
     by_test true = refl
     by_test false = refl
 

@@ -75,7 +75,7 @@ pub record RefusesDoubt (given : List Given) (secret : Secret) (failure : Failur
   pub named : name.now ≡ list_name given secret.list
 
 -- and of several the first
-pub record RefusesFirst (given : List Given) (secrets : List Secret) (failure : Failure) : Type 0 where
+pub record RefusesFirstDoubt (given : List Given) (secrets : List Secret) (failure : Failure) : Type 0 where
   pub front : List Secret
   pub secret : Secret
   pub rest : List Secret
@@ -86,7 +86,7 @@ pub record RefusesFirst (given : List Given) (secrets : List Secret) (failure : 
 -- or there is none, and the first that is too short for forms is
 abbrev pub IsDoubtFailure : (strict : Bool) → List Given → List Secret → Failure → Type 0
 IsDoubtFailure strict given secrets failure =
-    (strict ≡ true) × (RefusesFirst given secrets failure ⊎ (AreUndoubted secrets × RefusesShortAsked given secrets failure))
+    (strict ≡ true) × (RefusesFirstDoubt given secrets failure ⊎ (AreUndoubted secrets × RefusesShortAsked given secrets failure))
 
 module _ {E : Type 0} (K : SinkGhosts E) (strict : Bool) where
   -- of each it is told, but where the first is to be refused: then there is none

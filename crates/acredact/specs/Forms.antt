@@ -25,8 +25,8 @@ is_called name form = bytes_eq name (name_of form)
 abbrev pub all_forms : List SecretForm
 all_forms = Base64 ∷ Hex ∷ Url ∷ Json ∷ Xml ∷ Shell ∷ Lines ∷ []
 
-abbrev pub is_name : List ℕ → Bool
-is_name name = list_any (is_called name) all_forms
+abbrev pub is_form_name : List ℕ → Bool
+is_form_name name = list_any (is_called name) all_forms
 
 -- names stand in a value with commas between them
 abbrev pub names_in : List ℕ → List (List ℕ)
@@ -37,16 +37,24 @@ is_all value = bytes_eq value (codes "all")
 
 -- a value names forms: all, or those whose names stand in it
 abbrev pub are_forms : List ℕ → Bool
-are_forms value = is_all value || list_all is_name (names_in value)
+are_forms value = is_all value || list_all is_form_name (names_in value)
+
+-- the name of this one stands in it
+abbrev pub is_among : List ℕ → SecretForm → Bool
+is_among value form = list_any (λ name. is_called name form) (names_in value)
 
 -- and it names this one
 abbrev pub asks_for : List ℕ → SecretForm → Bool
-asks_for value form = is_all value || list_any (λ name. is_called name form) (names_in value)
+asks_for value form = is_all value || is_among value form
 
--- the forms that are asked for, each once
+-- the forms that a value names, each once
+abbrev pub forms_named : List ℕ → List SecretForm
+forms_named value = filter (asks_for value) all_forms
+
+-- the forms that are asked for
 abbrev pub forms_asked : Option (List ℕ) → List SecretForm
 forms_asked None = []
-forms_asked (Some value) = filter (asks_for value) all_forms
+forms_asked (Some value) = forms_named value
 
 -- the patterns of some forms of a secret
 abbrev pub form_patterns_of : List SecretForm → List ℕ → List (List ℕ)
@@ -72,13 +80,13 @@ abbrev pub with_forms : List SecretForm → List Secret → List Secret
 with_forms forms secrets = secrets ++ forms_from forms 0 secrets
 
 -- none of the forms shows a character that holds a bit of the secret outside the patterns
-abbrev pub IsHidden : List SecretForm → Secret → Type 0
-IsHidden forms secret = 4 ≤ length secret.pattern → All (HidesForm (form_patterns_of forms secret.pattern) secret.pattern) forms
+abbrev pub HidesSecret : List SecretForm → Secret → Type 0
+HidesSecret forms secret = 4 ≤ length secret.pattern → All (HidesForm (form_patterns_of forms secret.pattern) secret.pattern) forms
 
-abbrev pub AreHidden : List SecretForm → List Secret → Type 0
-AreHidden forms secrets = All (IsHidden forms) secrets
+abbrev pub HideSecrets : List SecretForm → List Secret → Type 0
+HideSecrets forms secrets = All (HidesSecret forms) secrets
 
 -- these rules have those behind them
 pub record HaveForms (forms : List SecretForm) (plain rules : List Rule) : Type 0 where
   pub are : secrets_of rules ≡ with_forms forms (secrets_of plain)
-  pub hidden : AreHidden forms (secrets_of plain)
+  pub hidden : HideSecrets forms (secrets_of plain)

@@ -11,7 +11,7 @@ use Rattle.programs.specs.declared.failure.Failure.TheVariants.{OutOfMemory as N
 use Rattle.programs.specs.declared.reason.Reason.{Reason}
 use Rattle.programs.specs.declared.reason.Reason.TheVariants.{NotFound, Denied, Directory, Irregular, NoDirectory, Links, LongName, Invalid, Full, TooLarge, Quota, Interrupted, Unavailable, Locked, NoLock, Changed, Owner, Closed, OutOfMemory, PositionLimit, ReadFault, Fault}
 use Rattle.acredact.specs.Arguments.{Given, last_value}
-use Rattle.acredact.specs.Forms.{AreHidden, forms_asked, with_forms}
+use Rattle.acredact.specs.Forms.{HideSecrets, forms_asked, with_forms}
 use Rattle.acredact.specs.LineFaults.{IsLineFault, IsListFault, mark_in}
 use Rattle.acredact.specs.Parts.{GivesPattern}
 use Rattle.acredact.specs.Reads.{OfName, ReadsText}
@@ -93,7 +93,7 @@ pub record AreGiven (reading : Reading) (given : List Given) (secrets : List Sec
   pub plain : List Secret
   pub read : AreRead reading given plain left left'
   pub are : secrets ≡ with_forms reading.rules.forms plain
-  pub hidden : AreHidden reading.rules.forms plain
+  pub hidden : HideSecrets reading.rules.forms plain
 
 -- the key in the file of a name was read: all bytes of that, and there are 16 or more
 pub record GivesKey (reading : Reading) (name : List ℕ) (key : Option (List ℕ)) (left left' : Option (List ℕ)) : Type 0 where

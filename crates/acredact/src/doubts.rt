@@ -4,7 +4,7 @@
 ghost use Rattle.std.specs.Prelude.{◌≡◌, IfErr, None, OnErr, OnOk, true};
 ghost use Rattle.std.specs.List.{concat};
 ghost use Rattle.programs.specs.Telling.{TellsBytes};
-ghost use Rattle.acredact.specs.Doubts.{AreUndoubted, IsDoubtFailure, RefusesDoubt, RefusesFirst, TellsDoubts, list_doubt_lines, doubt_in, doubt_lines, doubt_of, is_blank, is_quote, list_name};
+ghost use Rattle.acredact.specs.Doubts.{AreUndoubted, IsDoubtFailure, RefusesDoubt, RefusesFirstDoubt, TellsDoubts, list_doubt_lines, doubt_in, doubt_lines, doubt_of, is_blank, is_quote, list_name};
 ghost use Rattle.acredact.specs.Arguments.{all_given};
 ghost use Rattle.acredact.specs.Short.{AreLongAsked};
 ghost use Rattle.acredact.specs.Tables.{secret_of, secrets_of};
@@ -51,7 +51,7 @@ fn refuse_all<'a>(given: &[Item<'a>], rules: &[Rule]) -> Result<(), Failure<'a>>
 /// Refuses the first pattern of a list that is doubtful.
 fn refuse_doubtful<'a>(given: &[Item<'a>], rules: &[Rule]) -> Result<(), Failure<'a>>
     ensures none { OnOk result (AreUndoubted (secrets_of rules.now)) }
-    ensures refused { IfErr result (RefusesFirst (all_given given.now) (secrets_of rules.now)) }
+    ensures refused { IfErr result (RefusesFirstDoubt (all_given given.now) (secrets_of rules.now)) }
 {
     let mut rest = rules;
     while !rest.is_empty() {

@@ -1,8 +1,8 @@
 //! Forms of patterns: how a secret that is encoded gets into a log. Which patterns a form has is told by `secret_forms`.
 
 ghost use Rattle.std.specs.Prelude.{◌≡◌, ◌∷◌, ◌++◌, [], IfOk, OnOk, Some, map};
-ghost use Rattle.std.specs.List.{filter, list_all, list_any};
-ghost use Rattle.acredact.specs.Forms.{AreHidden, HaveForms, IsHidden, all_forms, are_forms, asks_for, form_secret, forms_asked, forms_from, forms_of, is_all, is_called, is_name, name_of, names_in};
+ghost use Rattle.std.specs.List.{filter, list_all};
+ghost use Rattle.acredact.specs.Forms.{HaveForms, HideSecrets, HidesSecret, all_forms, are_forms, asks_for, form_secret, forms_asked, forms_from, forms_named, forms_of, is_all, is_among, is_called, is_form_name, name_of, names_in};
 ghost use Rattle.acredact.specs.Parts.{AddsSome};
 ghost use Rattle.acredact.specs.Tables.{secret_of, secrets_of};
 ghost use Rattle.secret_forms.specs.Patterns.{pattern_bytes};
@@ -34,8 +34,8 @@ fn is_called(name: &[u8], form: Form) -> bool
 }
 
 /// Whether some form is called so.
-fn is_name(name: &[u8]) -> bool
-    ensures name { result ≡ is_name name.now }
+fn is_form_name(name: &[u8]) -> bool
+    ensures name { result ≡ is_form_name name.now }
 {
     is_called(name, Form::Base64)
         || is_called(name, Form::Hex)
@@ -63,16 +63,16 @@ pub fn are_forms(value: &str) -> bool
 
 /// Whether a value is names of forms with commas between them.
 fn are_names(value: &[u8]) -> bool
-    ensures are { result ≡ list_all is_name (names_in value.now) }
+    ensures are { result ≡ list_all is_form_name (names_in value.now) }
 {
     let mut rest = value;
     while let Some((name, behind)) = split_at(rest, b',') {
-        if !is_name(name) {
+        if !is_form_name(name) {
             return false;
         }
         rest = behind;
     }
-    is_name(rest)
+    is_form_name(rest)
 }
 
 /// Whether a value names this form.
@@ -84,7 +84,7 @@ fn asks_for(value: &[u8], form: Form) -> bool
 
 /// Whether the name of this form stands in a value.
 fn is_among(value: &[u8], form: Form) -> bool
-    ensures among { result ≡ list_any (λ name. is_called name form) (names_in value.now) }
+    ensures among { result ≡ is_among value.now form }
 {
     let mut rest = value;
     while let Some((name, behind)) = split_at(rest, b',') {
@@ -98,7 +98,7 @@ fn is_among(value: &[u8], form: Form) -> bool
 
 /// The forms that a value names, each once.
 fn forms_by(alloc: Global, value: &[u8]) -> Result<Vec<Form>, AllocError>
-    ensures forms { IfOk result (λ forms. forms.items ≡ filter (asks_for value.now) all_forms) }
+    ensures forms { IfOk result (λ forms. forms.items ≡ forms_named value.now) }
 {
     let all = [
         Form::Base64,
@@ -143,7 +143,7 @@ pub fn add_forms(alloc: Global, rules: &mut Vec<Rule>, value: &str) -> Result<()
 fn forms_of_rules(alloc: Global, rules: &[Rule], wanted: &[Form]) -> Result<Vec<Rule>, AllocError>
     ensures made { IfOk result (λ more.
         secrets_of more.items ≡ forms_from wanted.now 0 (secrets_of rules.now)) }
-    ensures hidden { OnOk result (AreHidden wanted.now (secrets_of rules.now)) }
+    ensures hidden { OnOk result (HideSecrets wanted.now (secrets_of rules.now)) }
 {
     let mut more = Vec::new(alloc);
     let mut number: usize = 0;
@@ -166,7 +166,7 @@ fn add_forms_of(
 ) -> Result<(), AllocError>
     ensures added { OnOk result (AddsSome (λ some. some
         ≡ forms_of wanted.now number (secret_of rule.now)) more.old more.new) }
-    ensures hidden { OnOk result (IsHidden wanted.now (secret_of rule.now)) }
+    ensures hidden { OnOk result (HidesSecret wanted.now (secret_of rule.now)) }
 {
     match forms(alloc, rule.pattern.as_slice(), wanted) {
         Ok(patterns) => add_patterns(alloc, more, rule, number, patterns.as_slice()),

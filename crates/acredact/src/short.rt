@@ -4,7 +4,7 @@ ghost use Rattle.std.specs.Prelude.{◌≡◌, IfErr, OnOk};
 ghost use Rattle.std.specs.List.{concat};
 ghost use Rattle.programs.specs.Telling.{TellsBytes};
 ghost use Rattle.acredact.specs.Arguments.{all_given};
-ghost use Rattle.acredact.specs.Short.{AreLong, AreLongAsked, RefusesShort, RefusesShortAsked, is_short, lines_of_short, short_lines, short_told};
+ghost use Rattle.acredact.specs.Short.{AreLong, AreLongAsked, RefusesShort, RefusesShortAsked, is_formless, lines_of_short, short_lines, short_told};
 ghost use Rattle.acredact.specs.Tables.{secret_of, secrets_of};
 
 use crate::arguments::{Item, Word, has};
@@ -44,7 +44,7 @@ fn tell_each<E: Sink>(errors: &mut Errors<'_, E>, rules: &[Rule])
 fn tell_if_short<E: Sink>(errors: &mut Errors<'_, E>, rule: &Rule, number: usize)
     ensures told { TellsBytes E.Sink errors.old errors.new (concat (lines_of_short number (secret_of rule.now))) }
 {
-    if is_short(rule) {
+    if is_formless(rule) {
         return tell_short(errors, number);
     }
     errors.write(&[]);
@@ -69,7 +69,7 @@ fn refuse_first<'a>(rules: &[Rule]) -> Result<(), Failure<'a>>
     let mut number: usize = 1;
     let mut rest = rules;
     while !rest.is_empty() {
-        if is_short(&rest[0]) {
+        if is_formless(&rest[0]) {
             return Err(Failure::Short(number));
         }
         number += 1;
@@ -79,8 +79,8 @@ fn refuse_first<'a>(rules: &[Rule]) -> Result<(), Failure<'a>>
 }
 
 /// Whether a pattern was given, and is too short for forms.
-fn is_short(rule: &Rule) -> bool
-    ensures short { result ≡ is_short (secret_of rule.now) }
+fn is_formless(rule: &Rule) -> bool
+    ensures short { result ≡ is_formless (secret_of rule.now) }
 {
     rule.form_of.is_none() && rule.pattern.len() < LEAST
 }

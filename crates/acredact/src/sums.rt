@@ -1,7 +1,7 @@
 //! What is counted for each pattern that was given: its own count, and those of its forms.
 
-ghost use Rattle.std.specs.Prelude.{◌≡◌, ◌++◌, ◌∷◌, [], IfOk, OnOk, replicate};
-ghost use Rattle.acredact.specs.Sums.{HaveGrown, counts_for, given_count, share, sum_for, sums_of};
+ghost use Rattle.std.specs.Prelude.{◌≡◌, ◌++◌, ◌∷◌, [], IfOk, OnOk};
+ghost use Rattle.acredact.specs.Sums.{AreSumsOf, HaveGrown, counts_for, share, sum_for, zeros_for};
 ghost use Rattle.acredact.specs.Tables.{secret_of, secrets_of};
 
 use crate::patterns::Rule;
@@ -10,7 +10,7 @@ use std::alloc::{AllocError, Global};
 /// For each pattern that was given how often its text was written: by its own count and those of its forms. A number stops at the
 /// greatest.
 pub fn sums_of(alloc: Global, rules: &[Rule], counts: &[u64]) -> Result<Vec<u64>, AllocError>
-    ensures sums { IfOk result (λ sums. sums.items ≡ sums_of (secrets_of rules.now) counts.now) }
+    ensures sums { IfOk result (AreSumsOf rules.now counts.now) }
 {
     let mut sums = zeros_of(alloc, rules)?;
     add_counts(sums.as_mut_slice(), rules, counts);
@@ -19,7 +19,7 @@ pub fn sums_of(alloc: Global, rules: &[Rule], counts: &[u64]) -> Result<Vec<u64>
 
 /// A zero for each pattern that was given.
 fn zeros_of(alloc: Global, rules: &[Rule]) -> Result<Vec<u64>, AllocError>
-    ensures zeros { IfOk result (λ zeros. zeros.items ≡ replicate (given_count (secrets_of rules.now)) 0) }
+    ensures zeros { IfOk result (λ zeros. zeros.items ≡ zeros_for rules.now) }
 {
     let mut zeros = Vec::new(alloc);
     let mut rest = rules;
@@ -32,8 +32,7 @@ fn zeros_of(alloc: Global, rules: &[Rule]) -> Result<Vec<u64>, AllocError>
 
 /// Adds a zero for a pattern, if it was given.
 fn add_zero(zeros: &mut Vec<u64>, rule: &Rule) -> Result<(), AllocError>
-    ensures added { OnOk result (zeros.new.items
-        ≡ zeros.old.items ++ replicate (given_count (secrets_of (rule.now ∷ []))) 0) }
+    ensures added { OnOk result (zeros.new.items ≡ zeros.old.items ++ zeros_for (rule.now ∷ [])) }
 {
     if rule.form_of.is_none() {
         zeros.push(0)?;

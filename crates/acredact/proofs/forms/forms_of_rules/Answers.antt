@@ -1,6 +1,6 @@
 -- One rule more.
 use Rattle.std.proofs.Common.{rules, ◌≡◌, ◌≤◌, ◌+◌, ◌-◌, List, get_or, length, subst}
-use Rattle.acredact.specs.Forms.{IsHidden, forms_of}
+use Rattle.acredact.specs.Forms.{HidesSecret, forms_of}
 use Rattle.acredact.specs.Tables.{Secret, secret_of, secrets_of}
 use Rattle.acredact.specs.declared.patterns.Rule.{Rule}
 use Rattle.acredact.proofs.FormRules.{forms_next, hidden_next}
@@ -14,7 +14,7 @@ loop-rest-preserved c =
     let rule = get_or c.loop-rest.rest.now 0 c.index-rest-0.result in
     let of : added.more ≡ forms_of c.args.wanted.now c.loop-rest.number (secret_of rule) =
     subst (λ (r : Rule). added.more ≡ forms_of c.args.wanted.now c.loop-rest.number (secret_of r)) c.index-rest-0.is added.of in
-    let hidden : IsHidden c.args.wanted.now (secret_of rule) = subst (λ (r : Rule). IsHidden c.args.wanted.now (secret_of r)) c.index-rest-0.is c.in_ok-add_forms_of.ensures.hidden in
+    let hidden : HidesSecret c.args.wanted.now (secret_of rule) = subst (λ (r : Rule). HidesSecret c.args.wanted.now (secret_of r)) c.index-rest-0.is c.in_ok-add_forms_of.ensures.hidden in
     record {
       made = forms_next c.args.wanted.now c.loop-rest.rest.now c.index-rest-0.result c.loop-rest.number _ _ _ added.more some inv.made added.grown of;
       count = search rules;

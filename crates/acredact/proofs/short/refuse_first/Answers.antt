@@ -2,7 +2,7 @@
 use Rattle.std.proofs.Common.{rules, arith, ◌≡◌, ◌≤◌, ◌+◌, List, [], ◌∷◌, ◌++◌, length, length-append, drop, get_or, true, false, refl, sym, ap, subst, ◌∙◌, append-nil}
 use Rattle.std.proofs.lemmas.List.Elements.{All-nil}
 use Rattle.std.proofs.lemmas.Grind.{common_steps}
-use Rattle.acredact.specs.Short.{AreLong, is_short}
+use Rattle.acredact.specs.Short.{AreLong, is_formless}
 use Rattle.acredact.specs.Tables.{Secret, secret_of, secrets_of}
 use Rattle.acredact.specs.declared.failure.Failure.TheVariants.{Short}
 use Rattle.acredact.specs.declared.patterns.Rule.{Rule}
@@ -19,7 +19,7 @@ loop-rest-preserved c =
     let inv = c.loop-rest.invariant in
     let some : 1 ≤ length c.loop-rest.rest.now = grind (arith, common_steps, c.is_empty.ensures, c.loop-rest-test.true) in
     let rule = get_or c.loop-rest.rest.now 0 c.index-rest-0.result in
-    let long : is_short (secret_of rule) ≡ false = subst (λ (r : Rule). is_short (secret_of r) ≡ false) c.index-rest-0.is (sym c.is_short.ensures.short ∙ c.if-is_short.false) in
+    let long : is_formless (secret_of rule) ≡ false = subst (λ (r : Rule). is_formless (secret_of r) ≡ false) c.index-rest-0.is (sym c.is_formless.ensures.short ∙ c.if-is_formless.false) in
     let next = long_next _ inv.front c.loop-rest.rest.now c.index-rest-0.result some (inv.are, inv.before) long in
     record {
       count = search rules;
@@ -29,8 +29,8 @@ loop-rest-preserved c =
       many = omega (arith, inv.many, length-append inv.front (secret_of rule ∷ []));
     }
 
-pub returns-then-is_short : goal.returns-then-is_short
-returns-then-is_short c =
+pub returns-then-is_formless : goal.returns-then-is_formless
+returns-then-is_formless c =
     let inv = c.loop-rest.invariant in
     let some : 1 ≤ length c.loop-rest.rest.now = grind (arith, common_steps, c.is_empty.ensures, c.loop-rest-test.true) in
     let rule = get_or c.loop-rest.rest.now 0 c.index-rest-0.result in
@@ -42,7 +42,7 @@ returns-then-is_short c =
         rest = secrets_of (drop 1 c.loop-rest.rest.now);
         are = first_rule _ inv.front c.loop-rest.rest.now c.index-rest-0.result some inv.are;
         before = inv.before;
-        short = subst (λ (r : Rule). is_short (secret_of r) ≡ true) c.index-rest-0.is (sym c.is_short.ensures.short ∙ c.if-is_short.true);
+        short = subst (λ (r : Rule). is_formless (secret_of r) ≡ true) c.index-rest-0.is (sym c.is_formless.ensures.short ∙ c.if-is_formless.true);
         is = ap Short inv.many;
       };
     }
