@@ -31,5 +31,5 @@ returns-in-Ok-clause-outcome g c =
 pub returns-in-Err-clause-outcome : goal.returns-in-Err-clause-outcome
 returns-in-Err-clause-outcome g c =
     check_refused g.E.Sink (call_of g.F.Folder c.args.folder.now (all_given c.args.given.now)) _ _ c.args.errors.now c.in-Err.failure
-    (check_load_fails _ c.in-Err.failure (reading_from g.F.Folder c.lists_of-lists.result c.args.folder.now (rules_asked (all_given c.args.given.now)) c.lists_of-lists.ensures.folder c.lists_of-lists.ensures.rules
+    (check_load_fails (call_of g.F.Folder c.args.folder.now (all_given c.args.given.now)) c.in-Err.failure (reading_from g.F.Folder c.lists_of-lists.result c.args.folder.now (rules_asked (all_given c.args.given.now)) c.lists_of-lists.ensures.folder c.lists_of-lists.ensures.rules
     (λ r. CannotLoadAll r (all_given c.args.given.now) c.in-Err.failure) c.in-Err.ensures.fails))

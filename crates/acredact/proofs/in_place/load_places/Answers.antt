@@ -33,6 +33,6 @@ returns-then-not-gives_pattern g c =
 pub returns-in-Err : goal.returns-in-Err
 returns-in-Err g c = record {
   outcome = places_refused g.O.File.Write g.E.Sink g.O.Outputs (call_of g.F.Folder c.args.folder.now (all_given c.args.given.now)) _ c.in-Err.failure _ _
-      (load_fails _ _ c.in-Err.failure (reading_from g.F.Folder c.lists_of-lists.result c.args.folder.now (rules_asked (all_given c.args.given.now)) c.lists_of-lists.ensures.folder c.lists_of-lists.ensures.rules
+      (load_fails (call_of g.F.Folder c.args.folder.now (all_given c.args.given.now)) _ c.in-Err.failure (reading_from g.F.Folder c.lists_of-lists.result c.args.folder.now (rules_asked (all_given c.args.given.now)) c.lists_of-lists.ensures.folder c.lists_of-lists.ensures.rules
       (λ r. CannotLoadAll r (all_given c.args.given.now) c.in-Err.failure) c.in-Err.ensures.fails));
 }
