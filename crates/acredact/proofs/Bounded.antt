@@ -42,6 +42,7 @@ use Rattle.acredact.proofs.Covered.{few_from}
 use Rattle.acredact.proofs.Metering.{consumes_settled, metered_added}
 use Rattle.acredact.proofs.OneFile.{known_read, of_folder, of_input}
 use Rattle.acredact.proofs.Redactions.{some_of}
+use Rattle.acredact.proofs.Runs.{sums_few}
 
 -- runs of one pattern are no more than all
 named_few : (number : ℕ) (runs : List Occurrence) → runs_named number runs ≤ length runs
@@ -52,11 +53,12 @@ pub grow_few : (runs : List Occurrence) (counts counts' : List ℕ) (most : ℕ)
 grow_few runs counts counts' most counted few = record {
   as_many = counted.as_many;
   each = λ number within. omega (arith, counted.grown number within, named_few number runs, few);
+  together = omega (arith, sums_few runs counts counts' counted, few);
 }
 
 -- nothing has grown
 pub grow_none : (counts : List ℕ) (most : ℕ) → GrowAtMost most counts counts
-grow_none counts most = record { as_many = refl; each = λ number within. omega arith }
+grow_none counts most = record { as_many = refl; each = λ number within. omega arith; together = omega arith }
 
 -- a text has no more runs than bytes
 runs_few : (p : Patterns) (text : List ℕ) → length (runs_upto p text (length text)) ≤ length text
@@ -170,7 +172,7 @@ longer_of settled whole (Some xs) left' start bytes bytes' given same is read me
     (given, le_refl (length given), consumes_settled settled (Some xs) left' given read, omega (arith, metered_added settled whole (Some xs) left' start bytes bytes' given same is read metered refl))
 
 grow_more : (few most : ℕ) (counts counts' : List ℕ) → few ≤ most → GrowAtMost few counts counts' → GrowAtMost most counts counts'
-grow_more few most counts counts' less grow = record { as_many = grow.as_many; each = λ number within. omega (arith, grow.each number within, less) }
+grow_more few most counts counts' less grow = record { as_many = grow.as_many; each = λ number within. omega (arith, grow.each number within, less); together = omega (arith, grow.together, less) }
 
 pub numbers_of : {R : Type 0} (S : SourceGhosts R) (source source' : R) (counts counts' : List ℕ) (settled : Bool) (whole : Option (List ℕ)) (start bytes bytes' : ℕ) (given : List ℕ) (ended : Bool)
     → whole ≡ S.remaining source → start ≡ bytes → Consumes (S.remaining source) (settled_left settled (S.remaining source')) given → S.empty_reads source' ≡ counted ended (S.empty_reads source)
@@ -242,7 +244,7 @@ module _ (holds : List ℕ → Option (List ℕ)) (names : List (List ℕ)) (cou
         read = λ more left rests.
             let both : (far.size + one.0) + more ≡ far.size + (one.0 + more) = omega arith in
             subst (λ (n : ℕ). ReadInAll holds names n old left) (sym both) (far.read (one.0 + more) left (one.0, more, refl, new, one.1, rests));
-        counted = record { as_many = one.2.as_many ∙ far.counted.as_many; each = λ number within. omega (arith, one.2.each number (subst (λ (n : ℕ). number < n) (sym far.counted.as_many) within), far.counted.each number within) };
+        counted = record { as_many = one.2.as_many ∙ far.counted.as_many; each = λ number within. omega (arith, one.2.each number (subst (λ (n : ℕ). number < n) (sym far.counted.as_many) within), far.counted.each number within); together = omega (arith, one.2.together, far.counted.together) };
         bytes = omega (arith, far.bytes, one.3, same);
         files = let size : length (name ∷ rest) ≡ length rest + 1 = omega arith in omega (arith, far.files, size, files);
       }

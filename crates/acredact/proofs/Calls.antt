@@ -22,9 +22,10 @@ use Rattle.acredact.specs.Calls.{AreBounded, BeginsCall, Call, CallOutcome, IsBu
 use Rattle.acredact.specs.Counts.{secret_lines, zeros}
 use Rattle.acredact.specs.Files.{AreCut, FilesOutcome, IsDone, Work, are_none, unread_line}
 use Rattle.acredact.specs.Messages.{output_line}
-use Rattle.acredact.specs.Loading.{AreLoaded, Loaded, loaded_as}
+use Rattle.acredact.specs.Loading.{AreLoaded, CannotLoadAll, Loaded, loaded_as}
 use Rattle.acredact.specs.Secrets.{Keyed}
 use Rattle.acredact.specs.Summaries.{no_volume, totals_text}
+use Rattle.acredact.specs.Sums.{sums_of}
 use Rattle.acredact.specs.Tables.{Secret, secrets_of}
 use Rattle.acredact.specs.Totals.{CountsOfNames}
 use Rattle.acredact.specs.Volumes.{ReadsVolume}
@@ -141,6 +142,11 @@ build_other p failure unclean (error, of, refused) is = let clash : Other (Build
 pub may_fail : (call : Call) (fails : Type 0) (failure : Failure) → IsRunFailure fails failure → MayFail call fails failure
 may_fail call fails failure is = inr (inr (inr (inr (inr (inl is)))))
 
+-- one of the options cannot be loaded, or memory runs out for the forms
+pub load_fails : (call : Call) (fails : Type 0) (failure : Failure) → CannotLoadAll (reading_by call) call.given failure → MayFail call fails failure
+load_fails call fails failure (inl one) = inr (inl (inl one))
+load_fails call fails failure (inr memory) = may_fail call fails failure (inl memory)
+
 -- the files of a call whose patterns were loaded
 module _ {R : Type 0} {Reads : Readers R} {W E : Type 0} (Writes : Writers W) (K : SinkGhosts E) (call : Call) where
   module _ (load : Loaded) (old mid : Streams R W E Reads) where
@@ -202,15 +208,15 @@ module _ {R : Type 0} {Reads : Readers R} {W E : Type 0} (Writes : Writers W) (K
   module _ (rules : List Rule) (key : Option (List ℕ)) (left between : Option (List ℕ)) (loaded : AreLoaded (reading_by call) call.given (loaded_as rules key) left between) (counts : List ℕ) (volume : Volume) (old mid : Streams R W E Reads) where
     -- the numbers, whatever becomes of them
     abbrev Bounded : Type 0
-    Bounded = AreBounded call.holds (names_asked call.given) counts volume (bytes_left old.input) (bytes_left mid.input)
+    Bounded = AreBounded call.holds (names_asked call.given) (sums_of (secrets_of rules) counts) volume (bytes_left old.input) (bytes_left mid.input)
 
     abbrev IsTotals : List ℕ → Type 0
-    IsTotals line = line ≡ totals_text call.given (secret_lines (secrets_of rules)) counts volume
+    IsTotals line = line ≡ totals_text call.given (secret_lines (secrets_of rules)) (sums_of (secrets_of rules) counts) volume
 
     numbers_behind : (lines : List (List ℕ)) (held held' : Option (List ℕ)) → AreCut (work_by call (loaded_as rules key)) (work_by call (loaded_as rules key)).names lines (bytes_left old.input) (bytes_left mid.input) held held'
         → TellsBytes K old.errors mid.errors (concat lines) → Bounded → (errors : Errors E) → Tells K IsTotals mid.errors errors → TellsNumbers K call (secrets_of rules) (bytes_left old.input) (bytes_left mid.input) old.errors errors
     numbers_behind lines held held' cut first bounded errors told = record {
-      counts = counts;
+      counts = sums_of (secrets_of rules) counts;
       volume = volume;
       bounded = bounded;
       meanwhile = mid.errors;

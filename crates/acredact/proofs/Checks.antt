@@ -20,7 +20,7 @@ use Rattle.acredact.specs.Doubts.{TellsDoubts, all_doubt_lines}
 use Rattle.acredact.specs.Failures.{IsFailureLine}
 use Rattle.acredact.specs.Faults.{IsReadReason}
 use Rattle.acredact.specs.Files.{are_none, unread_line}
-use Rattle.acredact.specs.Loading.{AreGiven}
+use Rattle.acredact.specs.Loading.{AreGiven, CannotLoadAll}
 use Rattle.acredact.specs.Looks.{IsLook, HoldsNoMatch, is_found, is_unread_look, verdict_with}
 use Rattle.acredact.specs.Reads.{OfName}
 use Rattle.acredact.specs.Statuses.{check_status}
@@ -194,6 +194,11 @@ unmatched_call call left left' sees = record {
   loaded = sees.loaded;
   unmatched = unmatched_all (quest_by call sees.secrets) (names_asked call.given) sees.between left' sees.seen;
 }
+
+-- one of the options cannot be loaded, or memory runs out for the forms
+pub check_load_fails : (call : Call) (failure : Failure) → CannotLoadAll (reading_by call) call.given failure → CheckFails call failure
+check_load_fails call failure (inl one) = inr (inl one)
+check_load_fails call failure (inr memory) = inr (inr (inr (inl memory)))
 
 -- no lines are none
 are_nothing : (lines : List (List ℕ)) → true ≡ are_none lines → lines ≡ []

@@ -6,7 +6,7 @@ use Rattle.std.specs.List.{concat}
 use Rattle.std.proofs.lemmas.List.Elements.{All-append, All-cons, All-nil}
 use Rattle.std.proofs.lemmas.List.{get_or-map, length-map}
 use Rattle.acredact.specs.Arguments.{Given, all_given, given_of}
-use Rattle.acredact.specs.Doubts.{AreUndoubted, all_doubt_lines, doubt_lines, doubt_of, list_name}
+use Rattle.acredact.specs.Doubts.{AreUndoubted, list_doubt_lines, doubt_lines, doubt_of, list_name}
 use Rattle.acredact.specs.Tables.{Secret, secret_of, secrets_of}
 use Rattle.acredact.specs.declared.arguments.Item.{Item}
 use Rattle.acredact.specs.declared.patterns.Rule.{Rule}
@@ -14,13 +14,13 @@ use Rattle.acredact.proofs.Done.{concat_both}
 use Rattle.acredact.proofs.ShownNames.{rest_of}
 
 -- one more
-pub doubts_next : (given : List Given) (text done : List ℕ) (rules : List Rule) (other : Rule) → 1 ≤ length rules → text ≡ done ++ concat (all_doubt_lines given (secrets_of rules))
-    → text ≡ (done ++ concat (doubt_lines given (secret_of (get_or rules 0 other)))) ++ concat (all_doubt_lines given (secrets_of (take (length rules - 1) (drop 1 rules))))
+pub doubts_next : (given : List Given) (text done : List ℕ) (rules : List Rule) (other : Rule) → 1 ≤ length rules → text ≡ done ++ concat (list_doubt_lines given (secrets_of rules))
+    → text ≡ (done ++ concat (doubt_lines given (secret_of (get_or rules 0 other)))) ++ concat (list_doubt_lines given (secrets_of (take (length rules - 1) (drop 1 rules))))
 doubts_next given text done [] other some is = absurd (omega (arith, some))
 doubts_next given text done (rule ∷ rules) other some is =
-    is ∙ ap (λ l. done ++ l) (concat_both (doubt_lines given (secret_of rule)) (all_doubt_lines given (secrets_of rules)))
-    ∙ sym (append_assoc done (concat (doubt_lines given (secret_of rule))) (concat (all_doubt_lines given (secrets_of rules))))
-    ∙ ap (λ l. (done ++ concat (doubt_lines given (secret_of rule))) ++ concat (all_doubt_lines given (secrets_of l))) (sym (rest_of rule rules))
+    is ∙ ap (λ l. done ++ l) (concat_both (doubt_lines given (secret_of rule)) (list_doubt_lines given (secrets_of rules)))
+    ∙ sym (append_assoc done (concat (doubt_lines given (secret_of rule))) (concat (list_doubt_lines given (secrets_of rules))))
+    ∙ ap (λ l. (done ++ concat (doubt_lines given (secret_of rule))) ++ concat (list_doubt_lines given (secrets_of l))) (sym (rest_of rule rules))
 
 -- one more of which there is none
 pub undoubted_next : (all front : List Secret) (rules : List Rule) (other : Rule) → 1 ≤ length rules → (all ≡ front ++ secrets_of rules) × AreUndoubted front → doubt_of (secret_of (get_or rules 0 other)) ≡ None

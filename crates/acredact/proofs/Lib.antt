@@ -2,10 +2,17 @@
 mod Covered
 -- lines that are added one after another
 mod Lines
+mod FormNames
+mod FormRules
+mod FormsSome
+-- what is counted for the patterns that were given
+mod Summing
+mod Runs
 mod PartLines
 -- names in messages, and what is told of doubtful patterns
 mod ShownNames
 mod Doubting
+mod Shortest
 -- what is written is a redaction, or begins one
 mod Redactions
 mod MadeClean

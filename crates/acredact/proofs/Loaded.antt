@@ -8,7 +8,7 @@ use Rattle.programs.specs.Names.{is_input}
 use Rattle.acredact.specs.declared.arguments.Item.{Item}
 use Rattle.acredact.specs.declared.failure.Failure.{Failure}
 use Rattle.acredact.specs.Arguments.{Given, all_given, given_of}
-use Rattle.acredact.specs.Loading.{AreGiven, CannotLoad, CannotLoadOne, IsAddedFile, IsAddedItem, IsAddedText, IsFileFailure, IsTextFailure, Reading}
+use Rattle.acredact.specs.Loading.{AreRead, CannotLoad, CannotLoadOne, IsAddedFile, IsAddedItem, IsAddedText, IsFileFailure, IsTextFailure, Reading}
 use Rattle.acredact.specs.Reads.{OfName, ReadsText}
 use Rattle.acredact.specs.Tables.{Secret}
 use Rattle.acredact.proofs.OneFile.{known_read, of_folder, of_input}
@@ -16,19 +16,19 @@ use Rattle.acredact.proofs.OneFile.{known_read, of_folder, of_input}
 module _ (reading : Reading) (all : List Given) (before : Option (List ℕ)) where
   -- what the options so far gave, and what the others are to give, is what all give; and one that cannot be loaded is one of all
   pub record GivenSoFar (rest : List Given) (secrets : List Secret) (between : Option (List ℕ)) : Type 0 where
-    pub given : (more : List Secret) (left : Option (List ℕ)) → AreGiven reading rest more between left → AreGiven reading all (secrets ++ more) before left
+    pub given : (more : List Secret) (left : Option (List ℕ)) → AreRead reading rest more between left → AreRead reading all (secrets ++ more) before left
     pub fails : (failure : Failure) → CannotLoadOne reading rest failure → CannotLoadOne reading all failure
 
   given_more : (item : Given) (rest : List Given) (old new : List Secret) (between left : Option (List ℕ)) → GivenSoFar (item ∷ rest) old between → IsAddedItem reading item old new between left → GivenSoFar rest new left
   given_more item rest old new between left so added = record {
     given = λ more last given.
-        subst (λ (l : List Secret). AreGiven reading all l before last) (sym (append_assoc old added.more more) ∙ ap (λ l. l ++ more) (sym added.grown))
+        subst (λ (l : List Secret). AreRead reading all l before last) (sym (append_assoc old added.more more) ∙ ap (λ l. l ++ more) (sym added.grown))
         (so.given (added.more ++ more) last (added.more, more, refl, left, added.of, given));
     fails = λ failure one. so.fails failure (inr one);
   }
 
-  pub given_end : (items : List Item) (secrets : List Secret) (left : Option (List ℕ)) → length items ≡ 0 → GivenSoFar (all_given items) secrets left → AreGiven reading all secrets before left
-  given_end [] secrets left none so = subst (λ (l : List Secret). AreGiven reading all l before left) (append-nil secrets) (so.given [] left (refl, refl))
+  pub given_end : (items : List Item) (secrets : List Secret) (left : Option (List ℕ)) → length items ≡ 0 → GivenSoFar (all_given items) secrets left → AreRead reading all secrets before left
+  given_end [] secrets left none so = subst (λ (l : List Secret). AreRead reading all l before left) (append-nil secrets) (so.given [] left (refl, refl))
   given_end (item ∷ items) secrets left none so = absurd (omega (arith, none))
 
   -- the first of some items, and then the others

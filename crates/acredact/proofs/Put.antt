@@ -10,6 +10,7 @@ use Rattle.programs.specs.Streams.{bytes_left}
 use Rattle.programs.specs.Telling.{Tells, TellsBytes, TellsSome}
 use Rattle.programs.specs.declared.errors.Errors.{Errors}
 use Rattle.programs.specs.declared.reason.Reason.{Reason}
+use Rattle.acredact.specs.Sums.{sums_of}
 use Rattle.acredact.specs.Arguments.{AsksToCheck, AsksToRedact, Given, all_asked, checks_asked, counts_asked, has}
 use Rattle.acredact.specs.Calls.{Call, CountsCall, IsCountsLine, IsLineOf, OutputFails, WarnsCall}
 use Rattle.acredact.specs.Files.{unread_line}
@@ -75,4 +76,4 @@ module _ {R W E : Type 0} {Reads : Readers R} (Writes : Writers W) (K : SinkGhos
           let load = counted.load in
           tells_both K (IsLineOf call fails) old.errors counted.meanwhile new.errors (warnings_tell K call fails load (bytes_left old.input) counted.between counted.loaded old.errors warned.0 counted.meanwhile warned.1 warned.2)
           (tells_weaker K (IsCountsLine call.given load.secrets) (IsLineOf call fails) counted.meanwhile new.errors (λ line is. inr (inr (inl (load, bytes_left old.input, counted.between, counted.loaded, is))))
-          (tells_counts K call.given counted.meanwhile new.errors load.secrets counted.counted.counts counted.volume some counted.counted.told))
+          (tells_counts K call.given counted.meanwhile new.errors load.secrets (sums_of load.secrets counted.counted.counts) counted.volume some counted.counted.told))

@@ -18,16 +18,18 @@ use Rattle.aho_automaton.specs.declared.automaton.Automaton.{Ghosts}
 use Rattle.programs.specs.Arguments.{kind_by}
 use Rattle.acredact.specs.Arguments.{Given, GivesNoPattern, covers_asked, has, is_cover, kind_asked, last_value}
 use Rattle.acredact.specs.Calls.{gives_pattern}
-use Rattle.acredact.specs.Loading.{AreGiven, OptionGives, Reading, Rules, reading_of_lists, rules_for}
+use Rattle.acredact.specs.Forms.{forms_from}
+use Rattle.acredact.specs.Loading.{AreGiven, AreRead, OptionGives, Reading, Rules, reading_of_lists, rules_for}
 use Rattle.acredact.specs.Looks.{CanLook}
 use Rattle.acredact.specs.Parts.{ArePartsBy, line_secrets, secret_given}
 use Rattle.acredact.specs.Secrets.{CanRedact}
 use Rattle.acredact.specs.Tables.{HaveNoEmpty, HoldsBy, Secret, patterns_in}
 use Rattle.acredact.specs.declared.arguments.Word.{Word}
-use Rattle.acredact.specs.declared.arguments.Word.TheVariants.{IgnoreCase, Kind, Pattern, Patterns as PatternFile, Table, With, Pseudonym, Output, InPlace, Count, Summary, Crlf, AllowEmpty, Strict, Check, Help, Version, File}
+use Rattle.acredact.specs.declared.arguments.Word.TheVariants.{IgnoreCase, Kind, Pattern, Patterns as PatternFile, Table, With, Pseudonym, Forms, Output, InPlace, Count, Summary, Crlf, AllowEmpty, Strict, Check, Help, Version, File}
 use Rattle.acredact.specs.declared.folder.Folder.{Ghosts as Folders}
 use Rattle.acredact.specs.declared.load.Lists.{Lists}
 use Rattle.acredact.specs.declared.patterns.Form.{Form}
+use Rattle.acredact.proofs.FormsSome.{all_forms_some}
 
 abbrev pub IsSomeSecret : Secret → Type 0
 IsSomeSecret secret = 1 ≤ length secret.pattern
@@ -72,6 +74,7 @@ option_some reading IgnoreCase value secrets left left' gives = none_some secret
 option_some reading Kind value secrets left left' gives = none_some secrets gives.0
 option_some reading With value secrets left left' gives = none_some secrets gives.0
 option_some reading Pseudonym value secrets left left' gives = none_some secrets gives.0
+option_some reading Forms value secrets left left' gives = none_some secrets gives.0
 option_some reading Output value secrets left left' gives = none_some secrets gives.0
 option_some reading Count value secrets left left' gives = none_some secrets gives.0
 option_some reading Summary value secrets left left' gives = none_some secrets gives.0
@@ -84,10 +87,16 @@ option_some reading Help value secrets left left' gives = none_some secrets give
 option_some reading Version value secrets left left' gives = none_some secrets gives.0
 option_some reading File value secrets left left' gives = none_some secrets gives.0
 
+read_some : (reading : Reading) (items : List Given) (secrets : List Secret) (left left' : Option (List ℕ)) → AreRead reading items secrets left left' → HaveNoEmpty secrets
+read_some reading [] secrets left left' given = none_some secrets given.0
+read_some reading (item ∷ items) secrets left left' (first, rest, are, between, gives, given) =
+    subst HaveNoEmpty (sym are) (All-append IsSomeSecret first rest (option_some reading item.word item.value first left between gives) (read_some reading items rest between left' given))
+
+-- and so is none of their forms
 pub given_some : (reading : Reading) (items : List Given) (secrets : List Secret) (left left' : Option (List ℕ)) → AreGiven reading items secrets left left' → HaveNoEmpty secrets
-given_some reading [] secrets left left' given = none_some secrets given.0
-given_some reading (item ∷ items) secrets left left' (first, rest, are, between, gives, given) =
-    subst HaveNoEmpty (sym are) (All-append IsSomeSecret first rest (option_some reading item.word item.value first left between gives) (given_some reading items rest between left' given))
+given_some reading items secrets left left' given =
+    subst HaveNoEmpty (sym given.are)
+    (All-append IsSomeSecret given.plain (forms_from reading.rules.forms 0 given.plain) (read_some reading items given.plain left left' given.read) (all_forms_some reading.rules.forms 0 given.plain))
 
 -- a cover is by the standard kind
 kind_of_cover : (name : List ℕ) → is_cover name ≡ true → kind_by name ≡ None

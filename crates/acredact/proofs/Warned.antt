@@ -23,6 +23,7 @@ use Rattle.acredact.specs.Messages.{unclean_line}
 use Rattle.acredact.specs.Pieces.{IsJudged, IsJudgedBy, TellsOfPieces, TellsUnclean}
 use Rattle.acredact.specs.Secrets.{AreCleanBy, Redactor}
 use Rattle.acredact.specs.Summaries.{no_volume, totals_text}
+use Rattle.acredact.specs.Sums.{sums_of}
 use Rattle.acredact.specs.Tables.{Secret, secrets_of}
 use Rattle.acredact.specs.Totals.{CountsOfNames}
 use Rattle.acredact.specs.Volumes.{ReadsVolume}
@@ -269,7 +270,7 @@ module _ {R : Type 0} {Reads : Readers R} {W E : Type 0} (Writes : Writers W) (K
       × ReadsVolume call.holds (names_asked call.given) no_volume volume (bytes_left old.input) (bytes_left mid.input))
       → IfOk result (λ done. done ≡ all) → OnOk result (MatchBool counted (TellsCounts K call.given rules numbers volume mid.errors errors) (errors ≡ mid.errors))
       → IfErr result (IsCountsFailure counted) → Tells K (IsCountsLine call.given (secrets_of rules)) mid.errors errors
-      → AreBounded call.holds (names_asked call.given) numbers volume (bytes_left old.input) (bytes_left mid.input) → Tells K (λ line. line ≡ totals_text call.given (secret_lines (secrets_of rules)) numbers volume) mid.errors errors
+      → AreBounded call.holds (names_asked call.given) (sums_of (secrets_of rules) numbers) volume (bytes_left old.input) (bytes_left mid.input) → Tells K (λ line. line ≡ totals_text call.given (secret_lines (secrets_of rules)) (sums_of (secrets_of rules) numbers) volume) mid.errors errors
       → CallOutcome Writes K call left result (record old { errors = first }) (record mid { errors = errors })
   call_told rules key numbers volume old mid loaded first doubts all counted result errors is (inl (why, fails, same, of)) grown done counts untold told bounded totals = let clash : Ok all ≡ Err why = fails in absurd (cc)
   call_told rules key numbers volume old mid loaded first doubts all counted result errors is (inr (warned, pieces, run)) grown done counts untold told bounded totals =

@@ -5,14 +5,15 @@ use Rattle.aho_core.specs.declared.search.MatchKind.{MatchKind}
 use Rattle.aho_core.specs.declared.search.MatchKind.TheVariants.{Standard}
 use Rattle.programs.specs.Arguments.{kind_by, texts}
 use Rattle.call_options.specs.Forms.{Form, argument_form, joined_letters, long_name, long_with, no_more, no_option}
+use Rattle.acredact.specs.Forms.{are_forms}
 use Rattle.acredact.specs.Long.{word_by_name}
 use Rattle.acredact.specs.declared.arguments.Word.{Word}
-use Rattle.acredact.specs.declared.arguments.Word.TheVariants.{IgnoreCase, Kind, Pattern, Patterns, Table, With, Pseudonym, Output, InPlace, Count, Summary, Crlf, AllowEmpty, Strict, Check, Help, Version, File}
+use Rattle.acredact.specs.declared.arguments.Word.TheVariants.{IgnoreCase, Kind, Pattern, Patterns, Table, With, Pseudonym, Forms, Output, InPlace, Count, Summary, Crlf, AllowEmpty, Strict, Check, Help, Version, File}
 use Rattle.acredact.specs.declared.arguments.Expects.{Expects}
 use Rattle.acredact.specs.declared.arguments.Expects.TheVariants.{Any, Value, Name}
 use Rattle.acredact.specs.declared.arguments.Item.{Item}
 use Rattle.acredact.specs.declared.arguments.Mixture.{Mixture}
-use Rattle.acredact.specs.declared.arguments.Mixture.TheVariants.{StrictKind, PseudonymKind, PseudonymWith, PseudonymTable, CountCheck, SummaryCheck, OutputCheck, InPlaceCheck, InPlaceOutput}
+use Rattle.acredact.specs.declared.arguments.Mixture.TheVariants.{StrictKind, PseudonymKind, PseudonymWith, PseudonymTable, FormsKind, FormsPseudonym, CountCheck, SummaryCheck, OutputCheck, InPlaceCheck, InPlaceOutput}
 
 -- an option with its value, or a file with its name
 pub record Given : Type 0 where
@@ -36,6 +37,7 @@ takes_value Patterns = true
 takes_value Table = true
 takes_value With = true
 takes_value Pseudonym = true
+takes_value Forms = true
 takes_value Output = true
 takes_value IgnoreCase = false
 takes_value InPlace = false
@@ -56,6 +58,7 @@ is_cover name = bytes_eq name (codes "cover")
 -- the values that an option can have
 abbrev pub is_value_of : Word → List ℕ → Bool
 is_value_of Kind value = is_cover value || is_some (kind_by value)
+is_value_of Forms value = are_forms value
 is_value_of IgnoreCase value = true
 is_value_of Pattern value = true
 is_value_of Patterns value = true
@@ -171,6 +174,7 @@ is_same Patterns Patterns = true
 is_same Table Table = true
 is_same With With = true
 is_same Pseudonym Pseudonym = true
+is_same Forms Forms = true
 is_same Output Output = true
 is_same InPlace InPlace = true
 is_same Count Count = true
@@ -210,6 +214,7 @@ option_name Patterns = codes "-f"
 option_name Table = codes "-t"
 option_name With = codes "--with"
 option_name Pseudonym = codes "--pseudonym"
+option_name Forms = codes "--forms"
 option_name Output = codes "--output"
 option_name IgnoreCase = codes "-e"
 option_name InPlace = codes "-e"
@@ -257,6 +262,8 @@ mixture_of given =
     else if has Pseudonym given && not (covers_asked given) then Some PseudonymKind
     else if has Pseudonym given && has With given then Some PseudonymWith
     else if has Pseudonym given && has Table given then Some PseudonymTable
+    else if has Forms given && not (covers_asked given) then Some FormsKind
+    else if has Forms given && has Pseudonym given then Some FormsPseudonym
     else if has Count given && has Check given then Some CountCheck
     else if has Summary given && has Check given then Some SummaryCheck
     else if has Output given && has Check given then Some OutputCheck

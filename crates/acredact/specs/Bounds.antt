@@ -1,6 +1,7 @@
 -- How great the numbers are that are told: none has grown by more than the bytes that were read, whether all were read or not.
 use Rattle.std.specs.Prelude.{◌≡◌, ℕ, ◌+◌, ◌<◌, ◌≤◌, Bool, List, [], ◌∷◌, Option, Result, IfOk, length, slice_index}
 use Rattle.std.specs.Io.KnownBytes.{Consumes}
+use Rattle.std.specs.List.{sum}
 use Rattle.std.specs.declared.io.traits.Read.{Ghosts as Readers}
 use Rattle.aho_devices.specs.declared.adapters.FromRead.{FromRead}
 use Rattle.aho_devices.specs.declared.device.Source.{Ghosts as SourceGhosts}
@@ -13,10 +14,11 @@ use Rattle.acredact.specs.declared.folder.Folder.{Ghosts as Folders}
 use Rattle.acredact.specs.declared.streams.Streams.{Streams}
 use Rattle.acredact.specs.declared.summary.Volume.{Volume}
 
--- no count has grown by more than this
+-- no count has grown by more than this, nor have all together
 pub record GrowAtMost (most : ℕ) (counts counts' : List ℕ) : Type 0 where
   pub as_many : length counts' ≡ length counts
   pub each : (number : ℕ) → number < length counts → slice_index counts' number ≤ slice_index counts number + most
+  pub together : sum counts' ≤ sum counts + most
 
 module _ {R : Type 0} (S : SourceGhosts R) (source source' : R) (counts counts' : List ℕ) where
   -- no count has grown by more than a source gave

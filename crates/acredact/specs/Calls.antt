@@ -23,6 +23,7 @@ use Rattle.acredact.specs.Builds.{RefusesPatterns, patterns_by_given}
 use Rattle.acredact.specs.Counts.{secret_lines, lines_of_rules}
 use Rattle.acredact.specs.Doubts.{IsDoubtFailure, TellsDoubts, TellsWarnings, all_doubt_lines}
 use Rattle.acredact.specs.Failures.{IsFailureLine}
+use Rattle.acredact.specs.Forms.{forms_asked}
 use Rattle.acredact.specs.Files.{AreCut, AreDone, AreFree, AreRedacted, Does, Work, are_none, redactor_of, unread_line, work_of}
 use Rattle.acredact.specs.Loading.{AreGiven, AreLoaded, CannotLoadKey, CannotLoadOne, Loaded, Reading, Rules, key_lent, loaded_as}
 use Rattle.acredact.specs.Messages.{output_line, unclean_line}
@@ -30,11 +31,12 @@ use Rattle.acredact.specs.Mistakes.{IsMistakeOfCall}
 use Rattle.acredact.specs.Pieces.{IsUncleanBy, TellsOfPieces}
 use Rattle.acredact.specs.Secrets.{Keyed, Redactor, key_of_cover}
 use Rattle.acredact.specs.Tables.{Secret, patterns_in, piece_by, secrets_of}
+use Rattle.acredact.specs.Sums.{sums_of}
 use Rattle.acredact.specs.Summaries.{no_volume, totals_text}
 use Rattle.acredact.specs.Totals.{AreTotals, NamesHaveRanges}
 use Rattle.acredact.specs.Volumes.{ReadsVolume}
 use Rattle.acredact.specs.declared.arguments.Mistake.TheVariants.{NoPattern, OutOfMemory as NoRoom}
-use Rattle.acredact.specs.declared.arguments.Word.TheVariants.{Crlf, AllowEmpty, IgnoreCase, Strict, File, Pattern as PatternOption, Patterns as PatternFile, Table, With}
+use Rattle.acredact.specs.declared.arguments.Word.TheVariants.{Crlf, Forms, AllowEmpty, IgnoreCase, Strict, File, Pattern as PatternOption, Patterns as PatternFile, Table, With}
 use Rattle.acredact.specs.declared.clean.Unclean.{Unclean}
 use Rattle.acredact.specs.declared.failure.Failure.{Failure}
 use Rattle.acredact.specs.declared.failure.Failure.TheVariants.{NotText, Arguments, Unclean as UncleanPiece, Counts, Other}
@@ -60,7 +62,7 @@ abbrev pub gives_pattern : List Given → Bool
 gives_pattern given = has PatternOption given || has PatternFile given || has Table given
 
 abbrev pub rules_asked : List Given → Rules
-rules_asked given = record { crlf = has Crlf given; allow_empty = has AllowEmpty given; parts = covers_asked given }
+rules_asked given = record { crlf = has Crlf given; allow_empty = has AllowEmpty given; parts = covers_asked given; forms = forms_asked (last_value Forms given) }
 
 abbrev pub reading_by : Call → Reading
 reading_by call = record { holds = call.holds; refuses = call.refuses; rules = rules_asked call.given }
@@ -234,18 +236,18 @@ IsRefusedLine failure line = IsFailureLine NotText line ⊎ IsFailureLine (Other
 
 -- the counts of these rules are told whole
 pub record TellsCounts {E : Type 0} (K : SinkGhosts E) (given : List Given) (rules : List Rule) (counts : List ℕ) (volume : Volume) (errors errors' : Errors E) : Type 0 where
-  pub told : TellsBytes K errors errors' (totals_text given (lines_of_rules rules) counts volume)
+  pub told : TellsBytes K errors errors' (totals_text given (lines_of_rules rules) (sums_of (secrets_of rules) counts) volume)
   pub whole : errors'.failed ≡ false
 
 -- they are, or nothing is
 abbrev pub TellsAnyCounts : {E : Type 0} → SinkGhosts E → List Given → List Rule → (counts : List ℕ) → Volume → (errors errors' : Errors E) → Type 0
 TellsAnyCounts K given rules counts volume errors errors' = MatchBool (counts_asked given) (TellsCounts K given rules counts volume errors errors') (errors' ≡ errors)
 
--- it is told whole how many of these ranges have the text of each pattern in their place
+-- it is told whole how many of these ranges have the text of each pattern in their place, and a form counts for its pattern
 pub record TellsTotals {E : Type 0} (K : SinkGhosts E) (given : List Given) (secrets : List Secret) (ranges : List Occurrence) (volume : Volume) (errors errors' : Errors E) : Type 0 where
   pub counts : List ℕ
   pub totals : AreTotals (length secrets) ranges counts
-  pub told : TellsBytes K errors errors' (totals_text given (secret_lines secrets) counts volume)
+  pub told : TellsBytes K errors errors' (totals_text given (secret_lines secrets) (sums_of secrets counts) volume)
   pub whole : errors'.failed ≡ false
 
 -- of all patterns that were loaded the pieces are told, where they are not clean

@@ -1,5 +1,5 @@
--- Which patterns of lists may be meant otherwise than they stand there, and what is told of them.
-use Rattle.std.specs.Prelude.{◌≡◌, ℕ, ◌-◌, ◌==◌, ◌&&◌, ◌||◌, Bool, MatchBool, true, List, [], ◌∷◌, ◌++◌, Option, Some, None, codes, get_or, map, if◌then◌else◌, length, nat_lt, slice_index}
+-- Which patterns of lists may be meant otherwise than they stand there, which are too short for forms, and what is told of them.
+use Rattle.std.specs.Prelude.{◌≡◌, ◌⊎◌, ℕ, ◌-◌, ◌==◌, ◌&&◌, ◌||◌, Bool, MatchBool, true, List, [], ◌∷◌, ◌++◌, Option, Some, None, codes, get_or, map, if◌then◌else◌, length, nat_lt, slice_index}
 use Rattle.std.specs.List.{All, concat, flat_map}
 use Rattle.aho_devices.specs.declared.device.Sink.{Ghosts as SinkGhosts}
 use Rattle.programs.specs.Telling.{TellsBytes}
@@ -9,6 +9,7 @@ use Rattle.acredact.specs.Failures.{bad_line}
 use Rattle.acredact.specs.Messages.{told_line}
 use Rattle.acredact.specs.Pieces.{TellsOfPieces}
 use Rattle.acredact.specs.Secrets.{Redactor}
+use Rattle.acredact.specs.Short.{AreLongAsked, RefusesShortAsked, short_told}
 use Rattle.acredact.specs.Tables.{Secret}
 use Rattle.acredact.specs.declared.failure.Failure.{Failure}
 use Rattle.acredact.specs.declared.failure.Failure.TheVariants.{Line}
@@ -54,9 +55,13 @@ lines_of_doubt list number (Some fault) = told_line (bad_line list (bad_at numbe
 abbrev pub doubt_lines : List Given → Secret → List (List ℕ)
 doubt_lines given secret = lines_of_doubt (list_name given secret.list) secret.line (doubt_of secret)
 
--- and those of all patterns, in order
+-- those of all patterns, in order
+abbrev pub list_doubt_lines : List Given → List Secret → List (List ℕ)
+list_doubt_lines given secrets = flat_map (doubt_lines given) secrets
+
+-- and those of patterns that are too short for forms
 abbrev pub all_doubt_lines : List Given → List Secret → List (List ℕ)
-all_doubt_lines given secrets = flat_map (doubt_lines given) secrets
+all_doubt_lines given secrets = list_doubt_lines given secrets ++ short_told given secrets
 
 abbrev pub AreUndoubted : List Secret → Type 0
 AreUndoubted secrets = All (λ secret. doubt_of secret ≡ None) secrets
@@ -70,8 +75,7 @@ pub record RefusesDoubt (given : List Given) (secret : Secret) (failure : Failur
   pub named : name.now ≡ list_name given secret.list
 
 -- and of several the first
-pub record IsDoubtFailure (strict : Bool) (given : List Given) (secrets : List Secret) (failure : Failure) : Type 0 where
-  pub asked : strict ≡ true
+pub record RefusesFirstDoubt (given : List Given) (secrets : List Secret) (failure : Failure) : Type 0 where
   pub front : List Secret
   pub secret : Secret
   pub rest : List Secret
@@ -79,11 +83,16 @@ pub record IsDoubtFailure (strict : Bool) (given : List Given) (secrets : List S
   pub before : AreUndoubted front
   pub of : RefusesDoubt given secret failure
 
+-- or there is none, and the first that is too short for forms is
+abbrev pub IsDoubtFailure : (strict : Bool) → List Given → List Secret → Failure → Type 0
+IsDoubtFailure strict given secrets failure =
+    (strict ≡ true) × (RefusesFirstDoubt given secrets failure ⊎ (AreUndoubted secrets × RefusesShortAsked given secrets failure))
+
 module _ {E : Type 0} (K : SinkGhosts E) (strict : Bool) where
   -- of each it is told, but where the first is to be refused: then there is none
   abbrev pub TellsDoubts : List Given → List Secret → (errors errors' : Errors E) → Type 0
   TellsDoubts given secrets errors errors' =
-      MatchBool strict (AreUndoubted secrets × (errors' ≡ errors)) (TellsBytes K errors errors' (concat (all_doubt_lines given secrets)))
+      MatchBool strict ((AreUndoubted secrets × AreLongAsked given secrets) × (errors' ≡ errors)) (TellsBytes K errors errors' (concat (all_doubt_lines given secrets)))
 
   -- what is told before a file is read: of patterns of lists, and then of pieces
   abbrev pub TellsWarnings : List Given → List Secret → Redactor → (errors errors' : Errors E) → Type 0

@@ -1,5 +1,5 @@
 -- Why a call ends early, and how that is told.
-use Rattle.std.specs.Prelude.{◌≡◌, ◌⊎◌, ℕ, Bool, true, false, List, Some, codes}
+use Rattle.std.specs.Prelude.{◌≡◌, ◌⊎◌, ℕ, Bool, true, false, List, ◌++◌, Some, codes, decimal}
 use Rattle.programs.specs.Failures.{failure_text}
 use Rattle.programs.specs.Messages.{Message, reason_text}
 use Rattle.programs.specs.declared.failure.Failure.{Failure as OtherFailure}
@@ -9,7 +9,7 @@ use Rattle.programs.specs.declared.reason.Reason.{Reason}
 use Rattle.acredact.specs.Messages.{about, alone, line_about, message_about, told_line, unclean_line}
 use Rattle.acredact.specs.Mistakes.{mistake_line}
 use Rattle.acredact.specs.declared.failure.Failure.{Failure}
-use Rattle.acredact.specs.declared.failure.Failure.TheVariants.{NotText, Arguments, Pattern, Unread, Empty, ShortKey, Line, Unclean, Counts, Other}
+use Rattle.acredact.specs.declared.failure.Failure.TheVariants.{NotText, Arguments, Pattern, Unread, Empty, ShortKey, Line, Short, Unclean, Counts, Other}
 use Rattle.acredact.specs.declared.patterns.BadLine.{BadLine}
 
 -- the output failed, or took nothing
@@ -33,6 +33,10 @@ IsOtherLine other line =
 abbrev pub bad_line : List ℕ → BadLine → Message
 bad_line name bad = message_about name (Some bad.number) (line_fault_text bad.fault)
 
+-- the line that tells the number of a pattern that is too short for forms
+abbrev pub short_line : ℕ → List ℕ
+short_line number = codes "acredact" ++ (codes ": pattern " ++ (decimal number ++ codes " has fewer than four bytes: its forms are not redacted\n"))
+
 -- the line that tells a failure: of what, and why. Of a pattern it holds nothing, and of a file its name
 abbrev pub IsFailureLine : Failure → List ℕ → Type 0
 IsFailureLine NotText line = line ≡ told_line (alone (codes "an argument is not UTF-8"))
@@ -42,6 +46,7 @@ IsFailureLine (Unread name reason) line = line ≡ told_line (about name.now (re
 IsFailureLine (Empty name) line = line ≡ told_line (about name.now (codes "no pattern: give --allow-empty to allow it"))
 IsFailureLine (ShortKey name) line = line ≡ told_line (about name.now (codes "key of less than 16 bytes"))
 IsFailureLine (Line name bad) line = line ≡ told_line (bad_line name.now bad)
+IsFailureLine (Short number) line = line ≡ short_line number
 IsFailureLine (Unclean unclean) line = line ≡ unclean_line unclean
 IsFailureLine Counts line = line ≡ told_line (alone (codes "the counts cannot be written"))
 IsFailureLine (Other other) line = IsOtherLine other line

@@ -6,6 +6,7 @@ pub mod Mistakes
 -- what the lines of files of patterns and of tables hold
 pub mod Tables
 pub mod LineFaults
+pub mod Forms
 pub mod Parts
 -- which patterns a pseudonym can spell
 pub mod Spelling
@@ -26,6 +27,7 @@ pub mod Totals
 pub mod Metering
 pub mod Volumes
 pub mod Bounds
+pub mod Sums
 pub mod Summaries
 -- what the options add to the patterns
 pub mod Loading
@@ -35,6 +37,7 @@ pub mod Looks
 pub mod Builds
 pub mod Counts
 pub mod Failures
+pub mod Short
 pub mod Doubts
 pub mod Calls
 pub mod Checks

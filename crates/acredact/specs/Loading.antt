@@ -4,19 +4,22 @@ use Rattle.std.specs.Borrow.{Bor}
 use Rattle.std.specs.List.{AllZip}
 use Rattle.std.specs.declared.io.traits.Read.{Ghosts as Readers}
 use Rattle.aho_devices.specs.declared.adapters.FromRead.{FromRead}
+use Rattle.secret_forms.specs.declared.form.Form.{Form as SecretForm}
 use Rattle.programs.specs.Names.{is_input}
 use Rattle.programs.specs.Streams.{bytes_left}
+use Rattle.programs.specs.declared.failure.Failure.TheVariants.{OutOfMemory as NoMemory}
 use Rattle.programs.specs.declared.reason.Reason.{Reason}
 use Rattle.programs.specs.declared.reason.Reason.TheVariants.{NotFound, Denied, Directory, Irregular, NoDirectory, Links, LongName, Invalid, Full, TooLarge, Quota, Interrupted, Unavailable, Locked, NoLock, Changed, Owner, Closed, OutOfMemory, PositionLimit, ReadFault, Fault}
 use Rattle.acredact.specs.Arguments.{Given, last_value}
+use Rattle.acredact.specs.Forms.{HideSecrets, forms_asked, with_forms}
 use Rattle.acredact.specs.LineFaults.{IsLineFault, IsListFault, mark_in}
 use Rattle.acredact.specs.Parts.{GivesPattern}
 use Rattle.acredact.specs.Reads.{OfName, ReadsText}
 use Rattle.acredact.specs.Tables.{HaveLines, HoldsBy, Secret, lines_in, secrets_of}
 use Rattle.acredact.specs.declared.arguments.Word.{Word}
-use Rattle.acredact.specs.declared.arguments.Word.TheVariants.{IgnoreCase, Kind, Pattern, Patterns, Table, With, Pseudonym, Output, InPlace, Count, Summary, Crlf, AllowEmpty, Strict, Check, Help, Version, File}
+use Rattle.acredact.specs.declared.arguments.Word.TheVariants.{IgnoreCase, Kind, Pattern, Patterns, Table, With, Pseudonym, Forms, Output, InPlace, Count, Summary, Crlf, AllowEmpty, Strict, Check, Help, Version, File}
 use Rattle.acredact.specs.declared.failure.Failure.{Failure}
-use Rattle.acredact.specs.declared.failure.Failure.TheVariants.{NotText, Arguments, Pattern as BadPattern, Unread, Empty, ShortKey, Line, Unclean, Counts, Other}
+use Rattle.acredact.specs.declared.failure.Failure.TheVariants.{NotText, Arguments, Pattern as BadPattern, Unread, Empty, ShortKey, Line, Short, Unclean, Counts, Other}
 use Rattle.acredact.specs.declared.folder.Folder.{Ghosts as Folders}
 use Rattle.acredact.specs.declared.load.Lists.{Lists}
 use Rattle.acredact.specs.declared.patterns.Form.{Form}
@@ -27,9 +30,10 @@ pub record Rules : Type 0 where
   pub crlf : Bool
   pub allow_empty : Bool
   pub parts : Bool
+  pub forms : List SecretForm
 
 abbrev pub rules_for : {F : Type 0} → Lists F → Rules
-rules_for lists = record { crlf = lists.crlf; allow_empty = lists.allow_empty; parts = lists.parts }
+rules_for lists = record { crlf = lists.crlf; allow_empty = lists.allow_empty; parts = lists.parts; forms = forms_asked (option_map (λ value. value.now) lists.forms) }
 
 -- and by which folder
 pub record Reading : Type 1 where
@@ -65,6 +69,7 @@ OptionGives reading IgnoreCase value secrets left left' = (secrets ≡ []) × (l
 OptionGives reading Kind value secrets left left' = (secrets ≡ []) × (left' ≡ left)
 OptionGives reading With value secrets left left' = (secrets ≡ []) × (left' ≡ left)
 OptionGives reading Pseudonym value secrets left left' = (secrets ≡ []) × (left' ≡ left)
+OptionGives reading Forms value secrets left left' = (secrets ≡ []) × (left' ≡ left)
 OptionGives reading Output value secrets left left' = (secrets ≡ []) × (left' ≡ left)
 OptionGives reading Count value secrets left left' = (secrets ≡ []) × (left' ≡ left)
 OptionGives reading Summary value secrets left left' = (secrets ≡ []) × (left' ≡ left)
@@ -78,10 +83,17 @@ OptionGives reading Version value secrets left left' = (secrets ≡ []) × (left
 OptionGives reading File value secrets left left' = (secrets ≡ []) × (left' ≡ left)
 
 -- the secrets that all options give, in order
-abbrev pub AreGiven : Reading → List Given → List Secret → (left left' : Option (List ℕ)) → Type 0
-AreGiven reading [] secrets left left' = (secrets ≡ []) × (left' ≡ left)
-AreGiven reading (item ∷ items) secrets left left' = (first : List Secret) × (rest : List Secret) × (secrets ≡ first ++ rest)
-    × (between : Option (List ℕ)) × OptionGives reading item.word item.value first left between × AreGiven reading items rest between left'
+abbrev pub AreRead : Reading → List Given → List Secret → (left left' : Option (List ℕ)) → Type 0
+AreRead reading [] secrets left left' = (secrets ≡ []) × (left' ≡ left)
+AreRead reading (item ∷ items) secrets left left' = (first : List Secret) × (rest : List Secret) × (secrets ≡ first ++ rest)
+    × (between : Option (List ℕ)) × OptionGives reading item.word item.value first left between × AreRead reading items rest between left'
+
+-- and behind them those of their forms, outside of which the forms show no character that holds a bit of a secret
+pub record AreGiven (reading : Reading) (given : List Given) (secrets : List Secret) (left left' : Option (List ℕ)) : Type 0 where
+  pub plain : List Secret
+  pub read : AreRead reading given plain left left'
+  pub are : secrets ≡ with_forms reading.rules.forms plain
+  pub hidden : HideSecrets reading.rules.forms plain
 
 -- the key in the file of a name was read: all bytes of that, and there are 16 or more
 pub record GivesKey (reading : Reading) (name : List ℕ) (key : Option (List ℕ)) (left left' : Option (List ℕ)) : Type 0 where
@@ -150,6 +162,10 @@ module _ {F X R Z : Type 0} {Reads : Readers R} (D : Folders F X) (lists : Lists
   abbrev pub GivesRules : List Given → (rules : Vec Rule Z) → (input input' : FromRead R Reads) → Type 0
   GivesRules given rules input input' = AreGiven (reading_of_lists D lists) given (secrets_of rules.items) (bytes_left input) (bytes_left input')
 
+  -- or just what stands there
+  abbrev pub ReadsRules : List Given → (rules : Vec Rule Z) → (input input' : FromRead R Reads) → Type 0
+  ReadsRules given rules input input' = AreRead (reading_of_lists D lists) given (secrets_of rules.items) (bytes_left input) (bytes_left input')
+
   -- the key of this name was read, or that of the option
   abbrev pub ReadsKey : List ℕ → (key : Option (Vec ℕ Z)) → (input input' : FromRead R Reads) → Type 0
   ReadsKey name key input input' = GivesKey (reading_of_lists D lists) name (key_in key) (bytes_left input) (bytes_left input')
@@ -205,6 +221,7 @@ IsPatternFailure value (Unread name reason) = ⊥
 IsPatternFailure value (Empty name) = ⊥
 IsPatternFailure value (ShortKey name) = ⊥
 IsPatternFailure value (Line name bad) = ⊥
+IsPatternFailure value (Short number) = ⊥
 IsPatternFailure value (Unclean unclean) = ⊥
 IsPatternFailure value Counts = ⊥
 IsPatternFailure value (Other failure) = ⊥
@@ -219,6 +236,7 @@ IsTextFailure rules table file text (Empty name) = (name.now ≡ file) × (text 
 IsTextFailure rules table file text (ShortKey name) = ⊥
 IsTextFailure rules table file text (Line name bad) =
     (name.now ≡ file) × (((bad.number ≡ 1) × (mark_in text ≡ Some bad.fault)) ⊎ IsListFault (form_by rules table) (lines_in text) bad)
+IsTextFailure rules table file text (Short number) = ⊥
 IsTextFailure rules table file text (Unclean unclean) = ⊥
 IsTextFailure rules table file text Counts = ⊥
 IsTextFailure rules table file text (Other failure) = ⊥
@@ -254,3 +272,7 @@ CannotLoad reading item failure =
 abbrev pub CannotLoadOne : Reading → List Given → Failure → Type 0
 CannotLoadOne reading [] failure = ⊥
 CannotLoadOne reading (item ∷ items) failure = CannotLoad reading item failure ⊎ CannotLoadOne reading items failure
+
+-- or memory runs out, as it may for their forms
+abbrev pub CannotLoadAll : Reading → List Given → Failure → Type 0
+CannotLoadAll reading given failure = CannotLoadOne reading given failure ⊎ (failure ≡ Other NoMemory)

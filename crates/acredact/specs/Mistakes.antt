@@ -6,17 +6,18 @@ use Rattle.call_options.specs.Forms.{Form, argument_form, joined_letters, long_n
 use Rattle.call_options.specs.Misuses.{text_before, text_behind}
 use Rattle.call_options.specs.declared.misuse.Misuse.{Misuse}
 use Rattle.call_options.specs.declared.misuse.Misuse.TheVariants.{UnknownLetter as NoLetter, NotFound as NoName, NoArgument, TakesNone as Argued}
-use Rattle.acredact.specs.Arguments.{Given, ItemsSoFar, all_given, by_argument, given_by, mixture_of, option_name, takes_value}
+use Rattle.acredact.specs.Arguments.{Given, ItemsSoFar, all_given, by_argument, given_by, is_same, mixture_of, option_name, takes_value}
 use Rattle.acredact.specs.Long.{found_of_name, word_by_name}
 use Rattle.acredact.specs.Messages.{alone, shown, told_line}
 use Rattle.acredact.specs.declared.arguments.Expects.{Expects}
 use Rattle.acredact.specs.declared.arguments.Expects.TheVariants.{Any, Value, Name}
 use Rattle.acredact.specs.declared.arguments.Item.{Item}
 use Rattle.acredact.specs.declared.arguments.Mistake.{Mistake}
-use Rattle.acredact.specs.declared.arguments.Mistake.TheVariants.{UnknownLetter, NotFound, NoValue, TakesNone, UnknownKind, NoPattern, Mixed, OutOfMemory}
+use Rattle.acredact.specs.declared.arguments.Mistake.TheVariants.{UnknownLetter, NotFound, NoValue, TakesNone, UnknownKind, UnknownForm, NoPattern, Mixed, OutOfMemory}
 use Rattle.acredact.specs.declared.arguments.Mixture.{Mixture}
-use Rattle.acredact.specs.declared.arguments.Mixture.TheVariants.{StrictKind, PseudonymKind, PseudonymWith, PseudonymTable, CountCheck, SummaryCheck, OutputCheck, InPlaceCheck, InPlaceOutput}
+use Rattle.acredact.specs.declared.arguments.Mixture.TheVariants.{StrictKind, PseudonymKind, PseudonymWith, PseudonymTable, FormsKind, FormsPseudonym, CountCheck, SummaryCheck, OutputCheck, InPlaceCheck, InPlaceOutput}
 use Rattle.acredact.specs.declared.arguments.Word.{Word}
+use Rattle.acredact.specs.declared.arguments.Word.TheVariants.{Forms}
 
 -- what is told of options that do not go together
 abbrev pub mixture_text : Mixture → List ℕ
@@ -24,6 +25,8 @@ mixture_text StrictKind = codes "--strict needs --kind cover: it promises nothin
 mixture_text PseudonymKind = codes "--pseudonym needs --kind cover: other kinds have no runs"
 mixture_text PseudonymWith = codes "--pseudonym and --with do not go together: each says what is written"
 mixture_text PseudonymTable = codes "--pseudonym and -t do not go together: a table says what is written"
+mixture_text FormsKind = codes "--forms needs --kind cover: by other kinds a part of a form can stay"
+mixture_text FormsPseudonym = codes "--forms and --pseudonym do not go together: a secret would have several pseudonyms"
 mixture_text SummaryCheck = codes "--summary and --check do not go together: a check counts nothing"
 mixture_text OutputCheck = codes "--output and --check do not go together: a check writes nothing"
 mixture_text InPlaceCheck = codes "--in-place and --check do not go together: a check writes nothing"
@@ -46,6 +49,14 @@ letter_line letter = named_line (text_before NoLetter) (letter ∷ []) (codes "'
 abbrev pub kind_line : List ℕ
 kind_line = told_line (alone (codes "option '--kind' takes cover, first, longest or standard"))
 
+-- nor are there such forms
+abbrev pub form_line : List ℕ
+form_line = told_line (alone (codes "option '--forms' takes all, or some of base64,hex,url,json,xml,shell,lines"))
+
+-- an option cannot have a value
+abbrev pub value_line : Word → List ℕ
+value_line word = if is_same Forms word then form_line else kind_line
+
 -- the line that tells a mistake
 abbrev pub mistake_line : Mistake → List ℕ
 mistake_line (UnknownLetter letter) = letter_line letter
@@ -53,6 +64,7 @@ mistake_line (NotFound why name) = misuse_line (NoName why) name.now
 mistake_line (NoValue word) = misuse_line NoArgument (option_name word)
 mistake_line (TakesNone name) = misuse_line Argued name.now
 mistake_line UnknownKind = kind_line
+mistake_line UnknownForm = form_line
 mistake_line NoPattern = told_line (alone (codes "no pattern: give -e, -f or -t, or --help"))
 mistake_line (Mixed mixture) = told_line (alone (mixture_text mixture))
 mistake_line OutOfMemory = told_line (alone (codes "out of memory"))
@@ -68,7 +80,7 @@ line_of_name name = line_of_found (meant (found_of_name name)) name
 -- of a long name with a value behind an equals sign, where its option cannot have that one
 abbrev pub line_of_joined : Option Word → (name value : List ℕ) → List ℕ
 line_of_joined None name value = line_of_name name
-line_of_joined (Some word) name value = if takes_value word then kind_line else misuse_line Argued name
+line_of_joined (Some word) name value = if takes_value word then value_line word else misuse_line Argued name
 
 -- of the letter of no option
 abbrev pub line_of_letter : List ℕ → List ℕ
@@ -94,7 +106,7 @@ line_of_any argument = line_of_form (argument_form argument)
 -- of a wrong argument, by what is expected of it
 abbrev pub line_of_argument : Expects → List ℕ → List ℕ
 line_of_argument Any argument = line_of_any argument
-line_of_argument (Value word) argument = kind_line
+line_of_argument (Value word) argument = value_line word
 line_of_argument Name argument = []
 
 abbrev pub line_or : List ℕ → (ItemsSoFar → Option (List ℕ)) → Option ItemsSoFar → Option (List ℕ)

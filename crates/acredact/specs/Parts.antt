@@ -8,7 +8,7 @@ use Rattle.acredact.specs.declared.patterns.Rule.{Rule}
 
 -- a pattern that the option of this number gives
 abbrev pub secret_given : ℕ → List ℕ → Secret
-secret_given list bytes = record { pattern = bytes; replacement = None; list = list; line = 0 }
+secret_given list bytes = record { pattern = bytes; replacement = None; list = list; line = 0; form_of = None }
 
 -- a line of one, without a carriage return at its end, is one too if it has eight bytes or more
 abbrev pub line_secrets : ℕ → List ℕ → List Secret

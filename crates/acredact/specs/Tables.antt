@@ -18,12 +18,14 @@ escape_of byte =
 abbrev pub in_table : List ℕ → List ℕ
 in_table bytes = flat_map escape_of bytes
 
--- a pattern, and its own replacement where it has one; the number of the option that gives it, and its line in a file, or 0
+-- a pattern, and its own replacement where it has one; the number of the option that gives it, and its line in a file, or 0; and the
+-- number of the secret of which it is a form, where it is one
 pub record Secret : Type 0 where
   pub pattern : List ℕ
   pub replacement : Option (List ℕ)
   pub list : ℕ
   pub line : ℕ
+  pub form_of : Option ℕ
 
 abbrev pub secret_of : Rule → Secret
 secret_of rule = record {
@@ -31,6 +33,7 @@ secret_of rule = record {
   replacement = option_map (λ bytes. bytes.items) rule.replacement;
   list = rule.list;
   line = rule.line;
+  form_of = rule.form_of;
 }
 
 abbrev pub secrets_of : List Rule → List Secret

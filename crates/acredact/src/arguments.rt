@@ -4,8 +4,9 @@ ghost use Rattle.std.specs.Prelude.{◌≡◌, ◌++◌, [], ◌∷◌, Some, No
 ghost use Rattle.programs.specs.Arguments.{kind_by, texts};
 ghost use Rattle.acredact.specs.Arguments.{ReadsAs, all_asked, all_given, by_any, by_argument, checks_asked, counts_asked, covers_asked, given, given_by, has, in_place_asked, in_place_mixture_of, is_cover, is_same, is_value_of, by_joined, kind_asked, last_value, by_letter, by_letters, mixture_of, by_name, option_name, output_asked, by_taken, takes_value, by_value};
 ghost use Rattle.acredact.specs.Long.{word_by_name};
-ghost use Rattle.acredact.specs.Mistakes.{FailsAs, IsMistake, IsMistakeOfCall, TellsAs, kind_line, line_of_any, line_of_argument, line_of_joined, line_of_letter, line_of_letters, line_of_name};
+ghost use Rattle.acredact.specs.Mistakes.{FailsAs, IsMistake, IsMistakeOfCall, TellsAs, line_of_any, line_of_argument, line_of_joined, line_of_letter, line_of_letters, line_of_name, mistake_line, value_line};
 
+use crate::forms::are_forms;
 use crate::long::option_of;
 use aho_core::search::MatchKind;
 use call_options::argument::{Argument, text_argument_of};
@@ -29,6 +30,8 @@ pub enum Word {
     With,
     /// `--pseudonym`: the file of the key by which the text in the place of each run is made of its bytes.
     Pseudonym,
+    /// `--forms`: which forms of each pattern are patterns too.
+    Forms,
     /// `--output`: the file that is written, in the place of standard output.
     Output,
     /// `--in-place`: each file is replaced, and nothing goes to standard output.
@@ -84,6 +87,10 @@ pub enum Mixture {
     PseudonymWith,
     /// `--pseudonym` with a table, whose lines say what is written.
     PseudonymTable,
+    /// `--forms` with another kind than cover: by other kinds a part of a form can stay.
+    FormsKind,
+    /// `--forms` with `--pseudonym`: one run would have as many pseudonyms as forms.
+    FormsPseudonym,
     /// `--count` with `--check`, which counts nothing.
     CountCheck,
     /// `--summary` with `--check`.
@@ -109,6 +116,8 @@ pub enum Mistake<'a> {
     TakesNone(&'a [u8]),
     /// The value of `--kind` is no kind. It is not told: it may be a secret, where the option is not the one that was meant.
     UnknownKind,
+    /// The value of `--forms` names no forms. It is not told either.
+    UnknownForm,
     /// There is no pattern, no file of patterns and no table.
     NoPattern,
     /// These options do not go together.
@@ -137,6 +146,7 @@ pub fn name_of(word: Word) -> &'static str
         Word::Table => "-t",
         Word::With => "--with",
         Word::Pseudonym => "--pseudonym",
+        Word::Forms => "--forms",
         Word::Output => "--output",
         _ => "-e",
     }
@@ -154,6 +164,7 @@ pub fn takes_value(word: Word) -> bool
             | Word::Table
             | Word::With
             | Word::Pseudonym
+            | Word::Forms
             | Word::Output
     )
 }
@@ -198,6 +209,12 @@ fn mixture_of(items: &[Item<'_>]) -> Option<Mixture>
     }
     if has(items, Word::Pseudonym) && has(items, Word::Table) {
         return Some(Mixture::PseudonymTable);
+    }
+    if has(items, Word::Forms) && !covers(items) {
+        return Some(Mixture::FormsKind);
+    }
+    if has(items, Word::Forms) && has(items, Word::Pseudonym) {
+        return Some(Mixture::FormsPseudonym);
     }
     if has(items, Word::Count) && has(items, Word::Check) {
         return Some(Mixture::CountCheck);
@@ -380,13 +397,23 @@ fn read_value<'a>(
 ) -> Result<Expects, Mistake<'a>>
     ensures read { ReadsAs (by_value word value.now) items.old items.new result }
     ensures refused { FailsAs (by_value word value.now) items.old result }
-    ensures wrong { TellsAs kind_line result }
+    ensures wrong { TellsAs (value_line word) result }
 {
     if !is_value_of(word, value) {
-        return Err(Mistake::UnknownKind);
+        return Err(unknown_value(word));
     }
     add(items, word, value)?;
     Ok(Expects::Any)
+}
+
+/// Why an option cannot have a value.
+fn unknown_value<'a>(word: Word) -> Mistake<'a>
+    ensures line { mistake_line result ≡ value_line word }
+{
+    if is_same(Word::Forms, word) {
+        return Mistake::UnknownForm;
+    }
+    Mistake::UnknownKind
 }
 
 /// Whether this is the kind that covers each byte of each match.
@@ -396,12 +423,13 @@ fn is_cover(name: &str) -> bool
     name == "cover"
 }
 
-/// Whether an option can have this value: that of `--kind` is `cover` or a match kind.
+/// Whether an option can have this value: that of `--kind` is `cover` or a match kind, and that of `--forms` names forms.
 fn is_value_of(word: Word, value: &str) -> bool
     ensures is { result ≡ is_value_of word value.now }
 {
     match word {
         Word::Kind => is_cover(value) || kind_by(value).is_some(),
+        Word::Forms => are_forms(value),
         _ => true,
     }
 }

@@ -1,19 +1,23 @@
-//! Lines of lists that may be meant otherwise than they stand there: with a blank at an end, or with quotes around them.
+//! Lines of lists that may be meant otherwise than they stand there: with a blank at an end, or with quotes around them; and patterns
+//! that are too short for forms.
 
 ghost use Rattle.std.specs.Prelude.{◌≡◌, IfErr, None, OnErr, OnOk, true};
 ghost use Rattle.std.specs.List.{concat};
 ghost use Rattle.programs.specs.Telling.{TellsBytes};
-ghost use Rattle.acredact.specs.Doubts.{AreUndoubted, IsDoubtFailure, RefusesDoubt, TellsDoubts, all_doubt_lines, doubt_in, doubt_lines, doubt_of, is_blank, is_quote, list_name};
+ghost use Rattle.acredact.specs.Doubts.{AreUndoubted, IsDoubtFailure, RefusesDoubt, RefusesFirstDoubt, TellsDoubts, list_doubt_lines, doubt_in, doubt_lines, doubt_of, is_blank, is_quote, list_name};
 ghost use Rattle.acredact.specs.Arguments.{all_given};
+ghost use Rattle.acredact.specs.Short.{AreLongAsked};
 ghost use Rattle.acredact.specs.Tables.{secret_of, secrets_of};
 
 use crate::arguments::Item;
 use crate::failure::{Failure, tell_line};
 use crate::patterns::{BadLine, LineFault, Rule};
+use crate::short::{refuse_short_asked, tell_short_asked};
 use aho_devices::device::Sink;
 use programs::errors::Errors;
 
-/// Tells of each pattern of a list that is doubtful, by file and line, or refuses the first of them.
+/// Tells of each pattern of a list that is doubtful, by file and line, and of each that is too short for forms, by its number; or
+/// refuses the first of them.
 pub fn warn_of_lists<'a, E: Sink>(
     errors: &mut Errors<'_, E>,
     given: &[Item<'a>],
@@ -25,16 +29,29 @@ pub fn warn_of_lists<'a, E: Sink>(
     ensures untold { OnErr result (errors.new ≡ errors.old) }
 {
     if strict {
-        return refuse_doubtful(given, rules);
+        return refuse_all(given, rules);
     }
     tell_doubtful(errors, given, rules);
+    tell_short_asked(errors, given, rules);
     Ok(())
+}
+
+/// Refuses the first pattern of a list that is doubtful, and then the first that is too short for forms.
+fn refuse_all<'a>(given: &[Item<'a>], rules: &[Rule]) -> Result<(), Failure<'a>>
+    ensures none { OnOk result (AreUndoubted (secrets_of rules.now)
+        × AreLongAsked (all_given given.now) (secrets_of rules.now)) }
+    ensures refused { IfErr result (IsDoubtFailure true (all_given given.now) (secrets_of rules.now)) }
+{
+    match refuse_doubtful(given, rules) {
+        Ok(()) => refuse_short_asked(given, rules),
+        Err(failure) => Err(failure),
+    }
 }
 
 /// Refuses the first pattern of a list that is doubtful.
 fn refuse_doubtful<'a>(given: &[Item<'a>], rules: &[Rule]) -> Result<(), Failure<'a>>
     ensures none { OnOk result (AreUndoubted (secrets_of rules.now)) }
-    ensures refused { IfErr result (IsDoubtFailure true (all_given given.now) (secrets_of rules.now)) }
+    ensures refused { IfErr result (RefusesFirstDoubt (all_given given.now) (secrets_of rules.now)) }
 {
     let mut rest = rules;
     while !rest.is_empty() {
@@ -63,7 +80,7 @@ fn refuse_doubt<'a>(given: &[Item<'a>], rule: &Rule) -> Result<(), Failure<'a>>
 
 /// Tells of each pattern of a list that is doubtful.
 fn tell_doubtful<E: Sink>(errors: &mut Errors<'_, E>, given: &[Item<'_>], rules: &[Rule])
-    ensures told { TellsBytes E.Sink errors.old errors.new (concat (all_doubt_lines (all_given given.now) (secrets_of rules.now))) }
+    ensures told { TellsBytes E.Sink errors.old errors.new (concat (list_doubt_lines (all_given given.now) (secrets_of rules.now))) }
 {
     let mut rest = rules;
     while !rest.is_empty() {

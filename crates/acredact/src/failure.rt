@@ -3,7 +3,7 @@
 ghost use Rattle.std.specs.Prelude.{◌≡◌, ℕ, List, decimal};
 ghost use Rattle.programs.specs.Messages.{reason_text};
 ghost use Rattle.programs.specs.Telling.{TellsBytes};
-ghost use Rattle.acredact.specs.Failures.{IsFailureLine, IsOtherLine, bad_line, is_of_output};
+ghost use Rattle.acredact.specs.Failures.{IsFailureLine, IsOtherLine, bad_line, is_of_output, short_line};
 ghost use Rattle.acredact.specs.LineFaults.{line_fault_text};
 ghost use Rattle.acredact.specs.Messages.{alone, flaw_text, line_about, no_file_line, no_output_line, output_line, piece_line, told_line, unclean_line};
 ghost use Rattle.acredact.specs.Mistakes.{mistake_line, misuse_line, mixture_text, named_line};
@@ -38,6 +38,8 @@ pub enum Failure<'a> {
     ShortKey(&'a str),
     /// A line of a file of patterns or of a table is wrong.
     Line(&'a str, BadLine),
+    /// The pattern of this number, from 1 on, is too short for forms.
+    Short(usize),
     /// The piece of a pattern is not clean.
     Unclean(Unclean),
     /// The counts cannot be written to standard error.
@@ -152,10 +154,25 @@ pub fn tell_failure<E: Sink>(errors: &mut Errors<'_, E>, failure: &Failure<'_>)
         ),
         Failure::ShortKey(name) => tell_about(errors, name, "key of less than 16 bytes"),
         Failure::Line(name, line) => tell_line(errors, name, *line),
+        Failure::Short(number) => tell_short(errors, *number),
         Failure::Unclean(unclean) => tell_unclean(errors, *unclean),
         Failure::Counts => tell_alone(errors, "the counts cannot be written"),
         Failure::Other(other) => tell_other(errors, other),
     }
+}
+
+/// Tells as a line which pattern is too short for forms.
+pub fn tell_short<E: Sink>(errors: &mut Errors<'_, E>, number: usize)
+    ensures told { TellsBytes E.Sink errors.old errors.new (short_line number) }
+{
+    let mut room = [0; MAX_DIGITS];
+    let digits = digits_of(number as u64, &mut room);
+    errors.write(&[
+        PROGRAM,
+        b": pattern ",
+        digits,
+        b" has fewer than four bytes: its forms are not redacted\n",
+    ]);
 }
 
 /// Tells as a line of which pattern the piece is not clean, and why.
@@ -234,6 +251,10 @@ fn tell_mistake<E: Sink>(errors: &mut Errors<'_, E>, mistake: Mistake<'_>)
             errors,
             "option '--kind' takes cover, first, longest or standard",
         ),
+        Mistake::UnknownForm => tell_alone(
+            errors,
+            "option '--forms' takes all, or some of base64,hex,url,json,xml,shell,lines",
+        ),
         Mistake::NoPattern => tell_alone(errors, "no pattern: give -e, -f or -t, or --help"),
         Mistake::Mixed(mixture) => tell_alone(errors, mixture_text(mixture)),
         Mistake::OutOfMemory => tell_alone(errors, "out of memory"),
@@ -271,6 +292,11 @@ fn mixture_text(mixture: Mixture) -> &'static str
         }
         Mixture::PseudonymTable => {
             "--pseudonym and -t do not go together: a table says what is written"
+        }
+        Mixture::FormsKind =>
+            "--forms needs --kind cover: by other kinds a part of a form can stay",
+        Mixture::FormsPseudonym => {
+            "--forms and --pseudonym do not go together: a secret would have several pseudonyms"
         }
         Mixture::SummaryCheck => {
             "--summary and --check do not go together: a check counts nothing"

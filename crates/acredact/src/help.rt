@@ -15,6 +15,8 @@ Patterns, one at least:
   -t, --table TABLE     redact by TABLE: each line is a pattern, a TAB and its
                         replacement, where \\t, \\n and \\\\ stand for bytes
   -i, --ignore-case     ASCII letters are the same in both cases
+  --forms FORMS         redact encoded patterns too: FORMS is all, or some of
+                        base64,hex,url,json,xml,shell,lines
   --crlf                a carriage return at the end of a line of FILE or TABLE
                         is no part of it
   --allow-empty         FILE and TABLE may have no line

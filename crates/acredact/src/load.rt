@@ -1,24 +1,28 @@
 //! The rules of all patterns, files and tables that are given.
 
-ghost use Rattle.std.specs.Prelude.{◌≡◌, ℕ, List, Option, IfErr, IfOk, OnOk};
+ghost use Rattle.std.specs.Prelude.{◌≡◌, ℕ, List, Option, Some, IfErr, IfOk, OnOk};
 ghost use Rattle.aho_devices.specs.Counts.{counted};
 ghost use Rattle.programs.specs.Streams.{bytes_left};
 ghost use Rattle.acredact.specs.Arguments.{all_given, given_of};
 ghost use Rattle.acredact.specs.Calls.{rules_asked};
-ghost use Rattle.acredact.specs.Loading.{AddsFile, AddsItem, AddsList, CannotLoad, CannotLoadKey, CannotLoadOne, CannotRead, GivesRules, IsFileFailure, IsKeyFailure, IsPatternFailure, IsTextFailure, IsTextReason, LoadsKey, ReadsKey, ReadsList, is_failed_text, reading_of_lists, rules_for};
+ghost use Rattle.acredact.specs.Forms.{HaveForms, forms_asked};
+ghost use Rattle.acredact.specs.Loading.{AddsFile, AddsItem, AddsList, CannotLoad, CannotLoadAll, CannotLoadKey, CannotLoadOne, CannotRead, GivesRules, IsFileFailure, IsKeyFailure, IsPatternFailure, IsTextFailure, IsTextReason, LoadsKey, ReadsKey, ReadsList, ReadsRules, is_failed_text, reading_of_lists, rules_for};
 ghost use Rattle.acredact.specs.Parts.{AddsSome, ArePartsBy, GivesPattern};
 ghost use Rattle.acredact.specs.Reads.{ReadsText};
-ghost use Rattle.acredact.specs.declared.failure.Failure.TheVariants.{Pattern};
+ghost use Rattle.acredact.specs.declared.failure.Failure.TheVariants.{Other, Pattern};
+ghost use Rattle.programs.specs.declared.failure.Failure.TheVariants.{OutOfMemory as OutOfMemoryFailure};
 ghost use Rattle.acredact.specs.declared.patterns.LineFault.TheVariants.{OutOfMemory};
 
 use crate::arguments::{Item, Word, covers, has, last_value};
 use crate::failure::Failure;
 use crate::files::is_input;
 use crate::folder::Folder;
+use crate::forms::add_forms;
 use crate::parts::add_parts;
 use crate::patterns::{BadLine, Form, LineFault, Place, Rule, add_line, add_lines, mark_of};
 use aho_devices::adapters::FromRead;
 use aho_devices::device::Source;
+use programs::failure;
 use programs::reason::Reason;
 use std::alloc::Global;
 use std::io::Read;
@@ -31,7 +35,7 @@ const LEAST_KEY: usize = 16;
 
 /// How files of patterns and tables are read.
 #[derive(Clone, Copy)]
-pub struct Lists<'f, F> {
+pub struct Lists<'f, 'v, F> {
     /// What memory is taken from.
     pub alloc: Global,
     /// What opens files.
@@ -42,10 +46,12 @@ pub struct Lists<'f, F> {
     pub allow_empty: bool,
     /// Whether long lines of a pattern that has line ends are patterns too.
     pub parts: bool,
+    /// Which forms of patterns are patterns too, by the names that are given.
+    pub forms: Option<&'v str>,
 }
 
 /// How the files of patterns and tables are read that are given.
-pub fn lists_of<'f, F>(alloc: Global, given: &[Item<'_>], folder: &'f F) -> Lists<'f, F>
+pub fn lists_of<'f, 'v, F>(alloc: Global, given: &[Item<'v>], folder: &'f F) -> Lists<'f, 'v, F>
     ensures folder { result.folder.now ≡ folder.now }
     ensures rules { rules_for result ≡ rules_asked (all_given given.now) }
 {
@@ -55,6 +61,50 @@ pub fn lists_of<'f, F>(alloc: Global, given: &[Item<'_>], folder: &'f F) -> List
         crlf: has(given, Word::Crlf),
         allow_empty: has(given, Word::AllowEmpty),
         parts: covers(given),
+        forms: last_value(given, Word::Forms),
+    }
+}
+
+/// The rules of all patterns, files of patterns and tables that are given, in order, and then of their forms.
+///
+/// # Errors
+///
+/// The first pattern, file or line that gives no rule, with the reason; or memory runs out.
+pub fn rules<'a, F: Folder, I: Read>(
+    lists: &Lists<'_, '_, F>,
+    items: &[Item<'a>],
+    input: &mut FromRead<I>,
+) -> Result<Vec<Rule>, Failure<'a>>
+    ensures given { IfOk result (λ rules.
+        GivesRules F.Folder lists.now (all_given items.now) rules input.old input.new) }
+    ensures fails { IfErr result (CannotLoadAll (reading_of_lists F.Folder lists.now) (all_given items.now)) }
+{
+    match read_rules(lists, items, input) {
+        Ok(rules) => with_forms(lists, rules),
+        Err(failure) => Err(failure),
+    }
+}
+
+/// These rules, and behind them those of their forms.
+fn with_forms<'a, F>(lists: &Lists<'_, '_, F>, rules: Vec<Rule>) -> Result<Vec<Rule>, Failure<'a>>
+    ensures formed { IfOk result (λ made. HaveForms (rules_for lists.now).forms rules.items made.items) }
+    ensures fails { IfErr result (λ failure. failure ≡ Other OutOfMemoryFailure) }
+{
+    match lists.forms {
+        None => Ok(rules),
+        Some(value) => with_asked(lists.alloc, rules, value),
+    }
+}
+
+/// These rules, and behind them those of the forms that a value names.
+fn with_asked<'a>(alloc: Global, rules: Vec<Rule>, value: &str) -> Result<Vec<Rule>, Failure<'a>>
+    ensures formed { IfOk result (λ made. HaveForms (forms_asked (Some value.now)) rules.items made.items) }
+    ensures fails { IfErr result (λ failure. failure ≡ Other OutOfMemoryFailure) }
+{
+    let mut rules = rules;
+    match add_forms(alloc, &mut rules, value) {
+        Ok(()) => Ok(rules),
+        Err(_) => Err(Failure::Other(failure::Failure::OutOfMemory)),
     }
 }
 
@@ -63,13 +113,13 @@ pub fn lists_of<'f, F>(alloc: Global, given: &[Item<'_>], folder: &'f F) -> List
 /// # Errors
 ///
 /// The first pattern, file or line that gives no rule, with the reason.
-pub fn rules<'a, F: Folder, I: Read>(
-    lists: &Lists<'_, F>,
+fn read_rules<'a, F: Folder, I: Read>(
+    lists: &Lists<'_, '_, F>,
     items: &[Item<'a>],
     input: &mut FromRead<I>,
 ) -> Result<Vec<Rule>, Failure<'a>>
-    ensures given { IfOk result (λ rules.
-        GivesRules F.Folder lists.now (all_given items.now) rules input.old input.new) }
+    ensures read { IfOk result (λ rules.
+        ReadsRules F.Folder lists.now (all_given items.now) rules input.old input.new) }
     ensures fails { IfErr result (CannotLoadOne (reading_of_lists F.Folder lists.now) (all_given items.now)) }
 {
     let mut rules = Vec::new(lists.alloc);
@@ -93,7 +143,7 @@ pub fn rules<'a, F: Folder, I: Read>(
 ///
 /// Its file cannot be read, or is empty.
 pub fn key_of<'a, F: Folder, I: Read>(
-    lists: &Lists<'_, F>,
+    lists: &Lists<'_, '_, F>,
     items: &[Item<'a>],
     input: &mut FromRead<I>,
 ) -> Result<Option<Vec<u8>>, Failure<'a>>
@@ -109,7 +159,7 @@ pub fn key_of<'a, F: Folder, I: Read>(
 
 /// The key in the file of a name.
 fn read_key<'a, F: Folder, I: Read>(
-    lists: &Lists<'_, F>,
+    lists: &Lists<'_, '_, F>,
     name: &'a str,
     input: &mut FromRead<I>,
 ) -> Result<Option<Vec<u8>>, Failure<'a>>
@@ -130,7 +180,7 @@ fn read_key<'a, F: Folder, I: Read>(
 
 /// Adds the rules of an item, if it has any.
 fn add_item<'a, F: Folder, I: Read>(
-    lists: &Lists<'_, F>,
+    lists: &Lists<'_, '_, F>,
     rules: &mut Vec<Rule>,
     item: Item<'a>,
     number: usize,
@@ -150,7 +200,7 @@ fn add_item<'a, F: Folder, I: Read>(
 
 /// Adds the rule of a pattern among the arguments.
 fn add_pattern<'a, F>(
-    lists: &Lists<'_, F>,
+    lists: &Lists<'_, '_, F>,
     rules: &mut Vec<Rule>,
     pattern: &'a str,
     list: usize,
@@ -167,7 +217,7 @@ fn add_pattern<'a, F>(
 
 /// Adds the lines of a pattern that has line ends, where these are patterns too.
 fn add_parts_of<'a, F>(
-    lists: &Lists<'_, F>,
+    lists: &Lists<'_, '_, F>,
     rules: &mut Vec<Rule>,
     pattern: &[u8],
     list: usize,
@@ -186,7 +236,7 @@ fn add_parts_of<'a, F>(
 
 /// Adds the rules of a file: of a table, or of a file of patterns.
 fn add_file<'a, F: Folder, I: Read>(
-    lists: &Lists<'_, F>,
+    lists: &Lists<'_, '_, F>,
     rules: &mut Vec<Rule>,
     name: &'a str,
     table: bool,
@@ -205,7 +255,7 @@ fn add_file<'a, F: Folder, I: Read>(
 
 /// Adds the rules of the text of a file.
 fn add_text<'a, F>(
-    lists: &Lists<'_, F>,
+    lists: &Lists<'_, '_, F>,
     rules: &mut Vec<Rule>,
     name: &'a str,
     table: bool,
@@ -233,7 +283,7 @@ fn add_text<'a, F>(
 
 /// All bytes of a file, or of the input.
 fn read_list<F: Folder, I: Read>(
-    lists: &Lists<'_, F>,
+    lists: &Lists<'_, '_, F>,
     name: &str,
     input: &mut FromRead<I>,
 ) -> Result<Vec<u8>, Reason>

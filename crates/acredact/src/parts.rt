@@ -60,6 +60,7 @@ fn add_part(
         replacement: None,
         list,
         line: 0,
+        form_of: None,
     })?;
     Ok(())
 }

@@ -20,6 +20,8 @@ pub struct Rule {
     pub list: usize,
     /// The number of its line in its file, from 1 on, and 0 for one that is an argument.
     pub line: usize,
+    /// The number of the rule of which it is a form, from 0 on among all rules.
+    pub form_of: Option<usize>,
 }
 
 /// Where a pattern stands.
@@ -111,6 +113,7 @@ fn plain(alloc: Global, line: &[u8], place: Place) -> Result<Rule, LineFault>
         replacement: None,
         list: place.list,
         line: place.line,
+        form_of: None,
     })
 }
 
@@ -133,6 +136,7 @@ fn row(alloc: Global, line: &[u8], place: Place) -> Result<Rule, LineFault>
         replacement: Some(replacement),
         list: place.list,
         line: place.line,
+        form_of: None,
     })
 }
 

@@ -18,6 +18,7 @@ ghost use Rattle.acredact.specs.Loading.{key_lent, loaded_as};
 ghost use Rattle.acredact.specs.Pieces.{IfOfAll, TellsUnclean, pieces_by};
 ghost use Rattle.acredact.specs.Secrets.{IfOf};
 ghost use Rattle.acredact.specs.Statuses.{IsIdle, SaysOfRedaction};
+ghost use Rattle.acredact.specs.Sums.{sums_of};
 ghost use Rattle.acredact.specs.Tables.{HaveNoEmpty, secrets_of};
 ghost use Rattle.acredact.specs.Summaries.{counts_told_by, summary_told_by, totals_text};
 ghost use Rattle.acredact.specs.Totals.{CountsWork, JobCounts};
@@ -43,6 +44,7 @@ use crate::patterns::{Rule, patterns_of, replacements_of};
 use crate::rows::build;
 use crate::streams::Streams;
 use crate::summary::{Volume, put_summary};
+use crate::sums::sums_of;
 use crate::ways::Key;
 use aho_automaton::automaton::Automaton;
 use aho_backward::backward::Backward;
@@ -377,7 +379,8 @@ pub fn tell_counted<'a, E: Sink>(
     ensures lines { Tells E.Sink (IsCountsLine (all_given given.now) (secrets_of rules.now))
         errors.old errors.new }
     ensures these { Tells E.Sink (λ line. line ≡ totals_text (all_given given.now)
-        (secret_lines (secrets_of rules.now)) tally.now volume) errors.old errors.new }
+        (secret_lines (secrets_of rules.now)) (sums_of (secrets_of rules.now) tally.now) volume)
+        errors.old errors.new }
     ensures fails { IfErr result (IsCountsFailure (counts_given given.now)) }
 {
     if !counts(given) {
@@ -404,12 +407,15 @@ fn tell_totals<E: Sink>(
     volume: Volume,
 ) -> Result<(), AllocError>
     ensures told { OnOk result (TellsBytes E.Sink errors.old errors.new
-        (totals_text (all_given given.now) (lines_of_rules rules.now) tally.now volume)) }
+        (totals_text (all_given given.now) (lines_of_rules rules.now)
+        (sums_of (secrets_of rules.now) tally.now) volume)) }
     ensures untold { OnErr result (errors.new ≡ errors.old) }
 {
+    let sums = sums_of(alloc, rules, tally)?;
+    let sums = sums.as_slice();
     let mut text = Vec::new(alloc);
-    put_asked_counts(&mut text, given, rules, tally)?;
-    put_asked_summary(&mut text, given, tally, volume)?;
+    put_asked_counts(&mut text, given, rules, sums)?;
+    put_asked_summary(&mut text, given, sums, volume)?;
     errors.write(&[text.as_slice()]);
     Ok(())
 }

@@ -3,9 +3,9 @@ use Rattle.std.proofs.Common.{rules, ◌≡◌, inl, inr, List, ap, refl, sym, s
 use Rattle.programs.specs.Streams.{bytes_left}
 use Rattle.acredact.specs.Arguments.{all_given}
 use Rattle.acredact.specs.Calls.{call_of, gives_pattern, reading_by, rules_asked}
-use Rattle.acredact.specs.Loading.{AreGiven, CannotLoadOne}
+use Rattle.acredact.specs.Loading.{AreGiven, CannotLoadAll}
 use Rattle.acredact.specs.Tables.{HaveNoEmpty, Secret, secrets_of}
-use Rattle.acredact.proofs.Checks.{check_refused}
+use Rattle.acredact.proofs.Checks.{check_load_fails, check_refused}
 use Rattle.acredact.proofs.Ready.{given_some, gives_none, reading_from}
 use Rattle.acredact.proofs.check.check_given.Goals as goal
 
@@ -31,5 +31,5 @@ returns-in-Ok-clause-outcome g c =
 pub returns-in-Err-clause-outcome : goal.returns-in-Err-clause-outcome
 returns-in-Err-clause-outcome g c =
     check_refused g.E.Sink (call_of g.F.Folder c.args.folder.now (all_given c.args.given.now)) _ _ c.args.errors.now c.in-Err.failure
-    (inr (inl (reading_from g.F.Folder c.lists_of-lists.result c.args.folder.now (rules_asked (all_given c.args.given.now)) c.lists_of-lists.ensures.folder c.lists_of-lists.ensures.rules
-    (λ r. CannotLoadOne r (all_given c.args.given.now) c.in-Err.failure) c.in-Err.ensures.fails)))
+    (check_load_fails (call_of g.F.Folder c.args.folder.now (all_given c.args.given.now)) c.in-Err.failure (reading_from g.F.Folder c.lists_of-lists.result c.args.folder.now (rules_asked (all_given c.args.given.now)) c.lists_of-lists.ensures.folder c.lists_of-lists.ensures.rules
+    (λ r. CannotLoadAll r (all_given c.args.given.now) c.in-Err.failure) c.in-Err.ensures.fails))

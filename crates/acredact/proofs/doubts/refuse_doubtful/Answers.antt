@@ -29,7 +29,6 @@ returns-in-Err-clause-refused c =
     let some : 1 ≤ length c.loop-rest.rest.now = grind (arith, common_steps, c.is_empty.ensures, c.loop-rest-test.true) in
     let rule = get_or c.loop-rest.rest.now 0 c.index-rest-0.result in
     record {
-      asked = refl;
       front = front;
       secret = secret_of rule;
       rest = secrets_of (drop 1 c.loop-rest.rest.now);

@@ -4,7 +4,7 @@ use Rattle.std.specs.List.{concat}
 use Rattle.programs.specs.Telling.{TellsBytes}
 use Rattle.programs.proofs.Tellings.{tells-later}
 use Rattle.acredact.specs.Arguments.{all_given}
-use Rattle.acredact.specs.Doubts.{all_doubt_lines, doubt_lines}
+use Rattle.acredact.specs.Doubts.{list_doubt_lines, doubt_lines}
 use Rattle.acredact.specs.Tables.{secret_of, secrets_of}
 use Rattle.acredact.specs.declared.patterns.Rule.{Rule}
 use Rattle.acredact.proofs.Done.{tells_none}
@@ -29,4 +29,4 @@ pub returns : goal.returns
 returns g c =
     let (done, is, told) = c.loop-rest.invariant in
     let none : length c.loop-rest.rest.now ≡ 0 = search rules in
-    record { told = subst (TellsBytes g.E.Sink _ _) (sym (is ∙ ap (λ l. done ++ concat (all_doubt_lines (all_given c.args.given.now) (secrets_of l))) (nil_of c.loop-rest.rest.now none) ∙ append-nil done)) told }
+    record { told = subst (TellsBytes g.E.Sink _ _) (sym (is ∙ ap (λ l. done ++ concat (list_doubt_lines (all_given c.args.given.now) (secrets_of l))) (nil_of c.loop-rest.rest.now none) ∙ append-nil done)) told }

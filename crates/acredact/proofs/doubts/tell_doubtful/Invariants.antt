@@ -3,12 +3,12 @@ use Rattle.std.proofs.Common.{◌≡◌, ℕ, List, ◌++◌, length}
 use Rattle.std.specs.List.{concat}
 use Rattle.programs.specs.Telling.{TellsBytes}
 use Rattle.acredact.specs.Arguments.{all_given}
-use Rattle.acredact.specs.Doubts.{all_doubt_lines}
+use Rattle.acredact.specs.Doubts.{list_doubt_lines}
 use Rattle.acredact.specs.Tables.{secrets_of}
 use Rattle.acredact.proofs.doubts.tell_doubtful.Given as goal
 
 abbrev pub invariant-loop-rest : goal.invariant-loop-rest
-invariant-loop-rest g l = (done : List ℕ) × (concat (all_doubt_lines (all_given l.fn.given) (secrets_of l.fn.rules)) ≡ done ++ concat (all_doubt_lines (all_given l.fn.given) (secrets_of l.rest)))
+invariant-loop-rest g l = (done : List ℕ) × (concat (list_doubt_lines (all_given l.fn.given) (secrets_of l.fn.rules)) ≡ done ++ concat (list_doubt_lines (all_given l.fn.given) (secrets_of l.rest)))
     × TellsBytes g.E.Sink l.initial.errors l.errors done
 
 abbrev pub decreases-loop-rest : goal.decreases-loop-rest

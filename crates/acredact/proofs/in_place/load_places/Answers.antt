@@ -3,8 +3,9 @@ use Rattle.std.proofs.Common.{rules, ◌≡◌, inl, inr, List, ap, refl, sym, s
 use Rattle.programs.specs.Streams.{bytes_left}
 use Rattle.acredact.specs.Arguments.{all_given}
 use Rattle.acredact.specs.Calls.{call_of, gives_pattern, reading_by, rules_asked}
-use Rattle.acredact.specs.Loading.{AreGiven, CannotLoadOne}
+use Rattle.acredact.specs.Loading.{AreGiven, CannotLoadAll}
 use Rattle.acredact.specs.Tables.{HaveNoEmpty, Secret, secrets_of}
+use Rattle.acredact.proofs.Calls.{load_fails}
 use Rattle.acredact.proofs.PlacedCalls.{places_refused}
 use Rattle.acredact.proofs.Ready.{given_some, gives_none, reading_from}
 use Rattle.acredact.proofs.in_place.load_places.Goals as goal
@@ -32,6 +33,6 @@ returns-then-not-gives_pattern g c =
 pub returns-in-Err : goal.returns-in-Err
 returns-in-Err g c = record {
   outcome = places_refused g.O.File.Write g.E.Sink g.O.Outputs (call_of g.F.Folder c.args.folder.now (all_given c.args.given.now)) _ c.in-Err.failure _ _
-      (inr (inl (inl (reading_from g.F.Folder c.lists_of-lists.result c.args.folder.now (rules_asked (all_given c.args.given.now)) c.lists_of-lists.ensures.folder c.lists_of-lists.ensures.rules
-      (λ r. CannotLoadOne r (all_given c.args.given.now) c.in-Err.failure) c.in-Err.ensures.fails))));
+      (load_fails (call_of g.F.Folder c.args.folder.now (all_given c.args.given.now)) _ c.in-Err.failure (reading_from g.F.Folder c.lists_of-lists.result c.args.folder.now (rules_asked (all_given c.args.given.now)) c.lists_of-lists.ensures.folder c.lists_of-lists.ensures.rules
+      (λ r. CannotLoadAll r (all_given c.args.given.now) c.in-Err.failure) c.in-Err.ensures.fails));
 }

@@ -13,4 +13,5 @@ returns c =
     let e6 = then_option asked _ _ _ _ _ e5 c.or-6.ensures.found in
     let e7 = then_option asked _ _ _ _ _ e6 c.or-7.ensures.found in
     let e8 = then_option asked _ _ _ _ _ e7 c.or-8.ensures.found in
-    record { found = then_option asked _ _ _ _ _ e8 c.or-9.ensures.found }
+    let e9 = then_option asked _ _ _ _ _ e8 c.or-9.ensures.found in
+    record { found = then_option asked _ _ _ _ _ e9 c.or-10.ensures.found }

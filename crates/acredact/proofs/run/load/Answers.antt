@@ -3,9 +3,9 @@ use Rattle.std.proofs.Common.{inl, inr, List, ap, sym, subst}
 use Rattle.programs.specs.Streams.{bytes_left}
 use Rattle.acredact.specs.Arguments.{all_given}
 use Rattle.acredact.specs.Calls.{call_of, reading_by, rules_asked}
-use Rattle.acredact.specs.Loading.{AreGiven, CannotLoadOne}
+use Rattle.acredact.specs.Loading.{AreGiven, CannotLoadAll}
 use Rattle.acredact.specs.Tables.{HaveNoEmpty, Secret, secrets_of}
-use Rattle.acredact.proofs.Calls.{call_from, call_refused}
+use Rattle.acredact.proofs.Calls.{call_from, call_refused, load_fails}
 use Rattle.acredact.proofs.Ready.{given_some, reading_from}
 use Rattle.acredact.proofs.run.load.Goals as goal
 
@@ -26,5 +26,5 @@ returns-in-Ok-clause-outcome g c =
 pub returns-in-Err-clause-outcome : goal.returns-in-Err-clause-outcome
 returns-in-Err-clause-outcome g c =
     call_refused g.W.Write g.E.Sink (call_of g.F.Folder c.args.folder.now (all_given c.args.given.now)) _ c.rules.new.input c.args.streams.now c.in-Err.failure
-    (inr (inl (inl (reading_from g.F.Folder c.lists_of-lists.result c.args.folder.now (rules_asked (all_given c.args.given.now)) c.lists_of-lists.ensures.folder c.lists_of-lists.ensures.rules
-    (λ r. CannotLoadOne r (all_given c.args.given.now) c.in-Err.failure) c.in-Err.ensures.fails))))
+    (load_fails (call_of g.F.Folder c.args.folder.now (all_given c.args.given.now)) _ c.in-Err.failure (reading_from g.F.Folder c.lists_of-lists.result c.args.folder.now (rules_asked (all_given c.args.given.now)) c.lists_of-lists.ensures.folder c.lists_of-lists.ensures.rules
+    (λ r. CannotLoadAll r (all_given c.args.given.now) c.in-Err.failure) c.in-Err.ensures.fails))

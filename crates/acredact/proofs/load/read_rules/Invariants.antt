@@ -5,7 +5,7 @@ use Rattle.acredact.specs.Arguments.{all_given}
 use Rattle.acredact.specs.Loading.{reading_of_lists}
 use Rattle.acredact.specs.Tables.{secrets_of}
 use Rattle.acredact.proofs.Loaded.{GivenSoFar}
-use Rattle.acredact.proofs.load.rules.Given as goal
+use Rattle.acredact.proofs.load.read_rules.Given as goal
 
 abbrev pub invariant-loop-rest : goal.invariant-loop-rest
 invariant-loop-rest g l = GivenSoFar (reading_of_lists g.F.Folder l.fn.lists) (all_given l.fn.items) (bytes_left l.initial.input) (all_given l.rest) (secrets_of l.rules.items) (bytes_left l.input)

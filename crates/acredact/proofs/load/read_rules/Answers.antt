@@ -5,7 +5,7 @@ use Rattle.acredact.specs.Arguments.{all_given}
 use Rattle.acredact.specs.Loading.{reading_of_lists}
 use Rattle.acredact.specs.Tables.{Secret, secrets_of}
 use Rattle.acredact.proofs.Loaded.{GivenSoFar, given_end, given_fails, given_next, given_none}
-use Rattle.acredact.proofs.load.rules.Goals as goal
+use Rattle.acredact.proofs.load.read_rules.Goals as goal
 
 pub loop-rest-init : goal.loop-rest-init
 loop-rest-init g c =
@@ -20,9 +20,9 @@ loop-rest-preserved g c =
 pub returns-in-Err : goal.returns-in-Err
 returns-in-Err g c =
     let some : 1 ≤ length c.loop-rest.rest.now = search rules in
-    record { given = tt; fails = given_fails _ _ _ c.loop-rest.rest.now _ _ _ _ some c.loop-rest.invariant c.in-Err.ensures.fails }
+    record { read = tt; fails = given_fails _ _ _ c.loop-rest.rest.now _ _ _ _ some c.loop-rest.invariant c.in-Err.ensures.fails }
 
 pub returns : goal.returns
 returns g c =
     let none : length c.loop-rest.rest.now ≡ 0 = search rules in
-    record { given = given_end _ _ _ c.loop-rest.rest.now _ _ none c.loop-rest.invariant; fails = tt }
+    record { read = given_end _ _ _ c.loop-rest.rest.now _ _ none c.loop-rest.invariant; fails = tt }

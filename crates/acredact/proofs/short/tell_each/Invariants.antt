@@ -1,0 +1,18 @@
+-- Of the patterns so far it is told.
+use Rattle.std.proofs.Common.{◌≡◌, ℕ, ◌+◌, List, ◌++◌, length}
+use Rattle.std.specs.List.{concat}
+use Rattle.programs.specs.Telling.{TellsBytes}
+use Rattle.acredact.specs.Short.{short_lines}
+use Rattle.acredact.specs.Tables.{secrets_of}
+use Rattle.acredact.proofs.short.tell_each.Given as goal
+
+abbrev pub invariant-loop-rest : goal.invariant-loop-rest
+invariant-loop-rest g l = record {
+  count : l.number + length l.rest ≡ length l.fn.rules + 1;
+  done : List ℕ;
+  are : concat (short_lines 1 (secrets_of l.fn.rules)) ≡ done ++ concat (short_lines l.number (secrets_of l.rest));
+  told : TellsBytes g.E.Sink l.initial.errors l.errors done;
+}
+
+abbrev pub decreases-loop-rest : goal.decreases-loop-rest
+decreases-loop-rest g l = length l.rest
