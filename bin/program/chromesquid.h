@@ -1,4 +1,4 @@
-/* Searches bytes for many patterns at once. Each function is proved to answer what it says here; CALLING.md says what is not.
+/* Searches bytes for many patterns at once. Each function is proved to answer what it says here; README.md says what is not.
  *
  * Places and lengths count bytes, from 0 on. A pattern's number is its place among the patterns, from 0 on. Where a length is 0 the
  * pointer before it may be NULL; no other may. No function keeps a pointer that it is given: the patterns may go after cs_build.
@@ -25,11 +25,11 @@ extern "C" {
 #define CS_VERSION_MINOR (CS_VERSION / 100 % 100)
 #define CS_VERSION_PATCH (CS_VERSION % 100)
 
-/* The form of cs_options: 3 is the one that begins with its size. */
-#define CS_OPTIONS_FORM 3
+/* The form of cs_options: 4 is the one with room for options of later versions. */
+#define CS_OPTIONS_FORM 4
 
 /* How many bytes cs_options has. */
-#define CS_OPTIONS_SIZE 48
+#define CS_OPTIONS_SIZE 80
 
 /* What the functions answer. */
 enum {
@@ -47,7 +47,9 @@ enum {
     CS_NO_ROOM = 11,          /* the room is too small */
     CS_ENDED = 12,            /* the stream has ended */
     CS_TOO_MANY_BYTES = 13,   /* 2^63 - 1 bytes were pushed */
-    CS_EMPTY_PATTERN = 14     /* a pattern is empty: neither streams nor covers are answered */
+    CS_EMPTY_PATTERN = 14,    /* a pattern is empty: neither streams nor covers are answered */
+    CS_TOO_SHORT = 15,        /* the secret has fewer than four bytes */
+    CS_NO_PATTERN = 16        /* the state does not list so many patterns */
 };
 
 /* Which of several matches is found. */
@@ -76,7 +78,20 @@ enum {
     CS_MATCH_KIND = 1,
     CS_START_KIND = 2,
     CS_AUTOMATON = 3,
-    CS_SIZE = 4 /* the options are those of another version */
+    CS_SIZE = 4, /* the options are those of another form */
+    CS_LATER = 5 /* an option of a later version */
+};
+
+/* The forms in which a secret gets into a log: what is added up stands for several. */
+enum {
+    CS_FORM_BASE64 = 1, /* within base64, of the standard alphabet and of that of URLs, at each of the three shifts */
+    CS_FORM_HEX = 2,    /* as hexadecimal digits, of either case */
+    CS_FORM_URL = 4,    /* percent-encoded, by each of the usual sets of bytes that are left */
+    CS_FORM_JSON = 8,   /* within a JSON string */
+    CS_FORM_XML = 16,   /* within XML or HTML */
+    CS_FORM_SHELL = 32, /* quoted for a shell */
+    CS_FORM_LINES = 64, /* each line of eight bytes or more of a secret that has several */
+    CS_FORMS_ALL = 127
 };
 
 typedef struct cs_searcher {
@@ -109,10 +124,15 @@ typedef struct cs_options {
     size_t max_index;    /* the greatest index of a state, of a transition and of a listed pattern */
     size_t max_pattern;  /* the greatest number of a pattern */
     size_t max_len;      /* the greatest length of a pattern. A limit above 2^31 - 2 counts as that */
+    uint64_t later_a;    /* 0, as those behind it: where options of later versions will stand */
+    uint64_t later_b;
+    uint64_t later_c;
+    uint64_t later_d;
 } cs_options;
 
-/* Start each with it: further fields may follow. */
-#define CS_OPTIONS_INIT { CS_OPTIONS_SIZE, CS_STANDARD, CS_UNANCHORED, false, true, CS_BY_RULE, SIZE_MAX, SIZE_MAX, SIZE_MAX }
+/* Start each with it. A later version names what here is 0 and must be: a program that was compiled with this header asks it for nothing
+ * new, and one that asks this library for what only a later one knows gets CS_NO_OPTION. */
+#define CS_OPTIONS_INIT { CS_OPTIONS_SIZE, CS_STANDARD, CS_UNANCHORED, false, true, CS_BY_RULE, SIZE_MAX, SIZE_MAX, SIZE_MAX, 0, 0, 0, 0 }
 
 /* Why a build failed. What nothing is said of here is 0. */
 typedef struct cs_error {
@@ -129,6 +149,15 @@ typedef struct cs_match {
     size_t start;   /* the place of its first byte */
     size_t end;     /* the place behind its last byte */
 } cs_match;
+
+/* What is told of a state. */
+typedef struct cs_state {
+    bool is_dead;    /* nothing that follows is found any more, and each byte leads to a dead state */
+    bool is_match;   /* it lists a pattern */
+    bool is_start;   /* what ends later begins where it is held, or behind */
+    bool is_special; /* a search has to look at it: it is where it is dead or lists a pattern, and may be where it is a start */
+    size_t patterns; /* how many patterns it lists */
+} cs_state;
 
 typedef struct cs_facts {
     size_t patterns; /* how many there are */
@@ -199,8 +228,37 @@ uint32_t cs_replace_all(cs_searcher *searcher, const uint8_t *haystack, size_t h
 uint32_t cs_cover_all(cs_searcher *searcher, const uint8_t *haystack, size_t haystack_len, const cs_slice *replace_with,
                       size_t replace_with_len, uint8_t *room, size_t room_len, size_t *len);
 
+/* The patterns of a secret by these forms, CS_FORM_BASE64 and so on, each once: wherever the secret stands encoded so in a text, alone or
+ * within other bytes, each character that holds a bit of it lies in an occurrence of a pattern. Cover them, and the secret itself, by
+ * cs_cover_all. CS_DONE, the patterns one behind the other in `room`, the place behind each in `ends`, how many bytes they have in `len`
+ * and how many they are in `count`. CS_NO_ROOM where `room` holds fewer bytes or `ends` fewer places: `len` and `count` are what is
+ * wanted. The patterns are made in memory of their own first.
+ * Else CS_NO_OPTION where `forms` has a bit that is of no form; CS_TOO_SHORT; CS_NO_MEMORY: `len` and `count` are as they were. If not
+ * CS_DONE, `room` and `ends` are. */
+uint32_t cs_forms(const uint8_t *secret, size_t secret_len, uint32_t forms, uint8_t *room, size_t room_len, size_t *ends,
+                  size_t ends_len, size_t *len, size_t *count);
+
 /* What is known of the searcher: CS_DONE. Else CS_NO_SEARCHER: `out` is as it was. */
 uint32_t cs_info(cs_searcher *searcher, cs_facts *out);
+
+/* The state in which a search begins, for who reads bytes one by one: CS_DONE, and its number in `state`. A number is that of a state of
+ * all handles that share the searcher, and of no other: give cs_next_state, cs_state_is and cs_match_pattern no number but what this
+ * call or cs_next_state has put.
+ * Else CS_NO_SEARCHER; CS_REFUSED where it was not built for searches of this anchoring: `state` is as it was. */
+uint32_t cs_start_state(cs_searcher *searcher, bool anchored, uint32_t *state);
+
+/* The state behind one more byte: CS_DONE, and its number in `next`. `anchored` is the same at each byte as at the start.
+ * Else CS_NO_SEARCHER: `next` is as it was. */
+uint32_t cs_next_state(cs_searcher *searcher, bool anchored, uint32_t state, uint8_t byte, uint32_t *next);
+
+/* What is told of a state: CS_DONE. Else CS_NO_SEARCHER: `out` is as it was. */
+uint32_t cs_state_is(cs_searcher *searcher, uint32_t state, cs_state *out);
+
+/* A pattern that a state lists, by its place among them: CS_DONE, and its number in `pattern`. The first is the best that ends where the
+ * state is held. With CS_STANDARD they are all that end there: the longest first, then by number. Else a search's match is the first one
+ * of the last state that lists some before a dead one. An anchored search takes only those that are as long as what was read.
+ * Else CS_NO_SEARCHER; CS_NO_PATTERN where it does not list so many: `pattern` is as it was. */
+uint32_t cs_match_pattern(cs_searcher *searcher, uint32_t state, size_t index, size_t *pattern);
 
 /* Begins a stream, whose bytes are pushed: it has a share of the searcher, and takes as much memory as 8 of the longest pattern,
  * and 65536 bytes at least. What `out` had is let go.
