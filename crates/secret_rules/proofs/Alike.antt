@@ -50,7 +50,7 @@ next_found l re line after range low h =
     let m = h.0 in
     let ends : m.trace.end ≡ range.1 = sym (ap (λ (r : ℕ × ℕ). r.1) h.2.0) in
     let here : (x : Match) → find re line (after - 1) ≡ Some x → after ≤ x.trace.end =
-        λ x f. subst (λ (y : Match). after ≤ y.trace.end) (same_Some _ _ (sym h.1 ∙ f)) (omega arith) in
+    λ x f. subst (λ (y : Match). after ≤ y.trace.end) (same_Some _ _ (sym h.1 ∙ f)) (omega arith) in
     (m, next_same re line false after here ∙ h.1, h.2)
 
 pub next_further : (l k : CaptureLocations) (re : Re) (line : List ℕ) (after : ℕ) (range : ℕ × ℕ) (found : Option (ℕ × ℕ)) → range.1 < after

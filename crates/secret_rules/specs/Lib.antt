@@ -16,7 +16,9 @@ pub mod Readers
 pub mod MarkLists
 -- the keywords of all rules, and which rule each is of
 pub mod Keywords
--- what some rules are held with
-pub mod Searching
 -- where the readers of some rules stand
 pub mod Places
+-- what the steps of a marker add
+pub mod Markers
+-- what some rules are held with
+pub mod Searching

@@ -1,6 +1,7 @@
 -- Which ranges of a line rules mark.
-use Rattle.std.specs.Prelude.{◌≡◌, ◌⊎◌, ◌↔◌, ◌+◌, ◌<◌, ℕ, List, [], ◌∷◌, IsSome, IsTrue, MatchOption, Option, flat_map, length, map, nat_lt, slice_get, if◌then◌else◌, IfSome, Bool, false, slice_index_or}
+use Rattle.std.specs.Prelude.{◌≡◌, ◌⊎◌, ◌↔◌, ◌<◌, ℕ, List, [], MatchOption, Some, length, slice_get, slice_index_or}
 use Rattle.aho_core.specs.Listing.{IsMember}
+use Rattle.secret_rules.specs.MarkLists.{HasOneOpen}
 use Rattle.secret_rules.specs.Rules.{AppliesTo, regex_of, until_of}
 use Rattle.secret_rules.specs.Secrets.{matches_in, secrets_in}
 use Rattle.secret_rules.specs.Standing.{StandsFrom, StandsIn}
@@ -43,7 +44,13 @@ pub record GoesOnAfter (rule : Rule) (lines : List (List ℕ)) : Type 0 where
 
 -- the rule of this number is this one
 abbrev pub IsRuleAt : List Rule → ℕ → Rule → Type 0
-IsRuleAt rules number rule = slice_get rules number ≡ Option.Some rule
+IsRuleAt rules number rule = slice_get rules number ≡ Some rule
+
+-- whether a match goes on behind a line, where one of an earlier line does (GoesOn) or not: that one does where the rule's text does
+-- not stand in the line, and one that begins in the line where it does not stand behind it
+abbrev pub StaysOpen : Rule → Type 0 → List ℕ → Type 0
+StaysOpen rule GoesOn line =
+    (GoesOn × ¬ (StandsIn (until_of rule) line)) ⊎ (AppliesTo rule line × HasOneOpen (until_of rule) line (matches_in (regex_of rule) line))
 
 -- a mark of the line that follows these lines
 pub record IsMarkOf (rules : List Rule) (lines : List (List ℕ)) (line : List ℕ) (mark : Mark) : Type 0 where

@@ -8,4 +8,4 @@ StandsFrom text line from = (at : ℕ) × (from ≤ at) × OccursAt line text at
 
 -- the text stands in the line
 abbrev pub StandsIn : List ℕ → List ℕ → Type 0
-StandsIn text line = (at : ℕ) × OccursAt line text at
+StandsIn text line = StandsFrom text line 0

@@ -63,9 +63,7 @@ impl Expression {
     pub(crate) fn new(alloc: Global, source: &str) -> Result<Expression, Error>
         ensures source { IfOk result (λ e. e ≡ source.now) }
     {
-        let regex = RegexBuilder::new(source)
-            .unicode(false)
-            .build_bytes(alloc)?;
+        let regex = RegexBuilder::new(source).unicode(false).build_bytes(alloc)?;
         Ok(Expression { regex })
     }
 

@@ -1,7 +1,7 @@
 //! The keywords of all rules, for one searcher.
 
-ghost use Rattle.std.specs.Prelude.{◌≡◌, ◌++◌, ◌<◌, IfOk, OnOk, flat_map, length, map, vec_len};
-ghost use Rattle.secret_rules.specs.Keywords.{owners_from, repeated};
+ghost use Rattle.std.specs.Prelude.{◌≡◌, ◌++◌, IfOk, OnOk, flat_map, map};
+ghost use Rattle.secret_rules.specs.Keywords.{owners_from};
 ghost use Rattle.secret_rules.specs.Rules.{keywords_of};
 
 use crate::rule::Rule;
@@ -30,10 +30,14 @@ pub(crate) fn words_of<'r>(alloc: Global, rules: &'r [Rule]) -> Result<Vec<&'r [
 }
 
 /// Adds the number of a rule once for each of its keywords.
-fn push_owners(owners: &mut Vec<usize>, number: usize, count: usize) -> Result<(), AllocError>
-    ensures { OnOk result (owners.new.items ≡ owners.old.items ++ repeated number count) }
+fn push_owners(
+    owners: &mut Vec<usize>,
+    number: usize,
+    keywords: &[String],
+) -> Result<(), AllocError>
+    ensures { OnOk result (owners.new.items ≡ owners.old.items ++ map (λ _. number) keywords.now) }
 {
-    for _ in 0..count {
+    for _keyword in keywords {
         owners.push(number)?;
     }
     Ok(())
@@ -45,7 +49,7 @@ pub(crate) fn owners_of(alloc: Global, rules: &[Rule]) -> Result<Vec<usize>, All
 {
     let mut owners = Vec::new(alloc);
     for number in 0..rules.len() {
-        push_owners(&mut owners, number, rules[number].keywords.len())?;
+        push_owners(&mut owners, number, &rules[number].keywords)?;
     }
     Ok(owners)
 }

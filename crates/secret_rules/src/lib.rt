@@ -4,18 +4,14 @@
 mod error;
 mod expression;
 mod keywords;
-mod marker;
 mod marks;
-mod parse;
 mod reader;
 mod readers;
 mod rule;
 mod rules;
 
 pub use error::{MarkError, RulesError};
-pub use marker::Marker;
 pub use marks::Mark;
-pub use parse::{Key, ParseError, parse};
 pub use regex_syntax::{Error as RegexError, ErrorKind as RegexErrorKind, Span as RegexSpan};
 pub use rule::{Rule, RuleFault};
 pub use rules::Rules;

@@ -1,6 +1,6 @@
 //! Marks: which ranges of a line one rule marks.
 
-ghost use Rattle.std.specs.Prelude.{◌≡◌, ◌↔◌, ◌<◌, ◌++◌, IfOk, IsTrue, OnOk, length, map};
+ghost use Rattle.std.specs.Prelude.{◌≡◌, ◌↔◌, ◌⊎◌, ◌<◌, ◌++◌, IfOk, IsTrue, OnOk, map};
 ghost use Rattle.secret_rules.specs.Expressions.{group_total};
 ghost use Rattle.secret_rules.specs.MarkLists.{HasOneOpen, mark_at, marks_at, onward};
 ghost use Rattle.secret_rules.specs.Secrets.{matches_in, secrets_in};
@@ -22,7 +22,11 @@ pub struct Mark {
 }
 
 /// Adds the mark of a range, unless it is empty.
-pub(crate) fn push_mark(marks: &mut Vec<Mark>, rule: usize, range: (usize, usize)) -> Result<(), AllocError>
+pub(crate) fn push_mark(
+    marks: &mut Vec<Mark>,
+    rule: usize,
+    range: (usize, usize),
+) -> Result<(), AllocError>
     ensures { OnOk result (marks.new.items ≡ marks.old.items ++ mark_at rule range) }
 {
     let (start, end) = range;
@@ -63,6 +67,16 @@ pub(crate) fn stands_from(text: &[u8], line: &[u8], from: usize) -> bool
     memmem::find(&line[from..], text).is_some()
 }
 
+/// Whether a match goes on: one before, or that which ends at this place.
+fn opens(goes_on: bool, text: &[u8], line: &[u8], end: usize) -> bool
+    ensures { IsTrue result ↔ (IsTrue goes_on ⊎ (¬ (StandsFrom text.now line.now end))) }
+{
+    if goes_on {
+        return true;
+    }
+    !stands_from(text, line, end)
+}
+
 /// Adds a mark from each match on to the end of the line, and tells whether one of them goes on: whether the text stands nowhere
 /// behind it.
 pub(crate) fn push_onward(
@@ -75,16 +89,16 @@ pub(crate) fn push_onward(
     requires known { 0 < group_total reader.old }
     ensures marks { OnOk result (marks.new.items
         ≡ marks.old.items ++ marks_at rule (map (onward line.now) (matches_in reader.old line.now))) }
-    ensures open { IfOk result (λ open. IsTrue open
+    ensures goes_on { IfOk result (λ goes_on. IsTrue goes_on
         ↔ HasOneOpen text.now line.now (matches_in reader.old line.now)) }
     ensures same { reader.new ≡ reader.old }
 {
-    let mut open = false;
+    let mut goes_on = false;
     let mut after = 0;
     'matches: while let Some(found) = reader.next(0, line, after) {
         push_mark(marks, rule, (found.whole.0, line.len()))?;
-        open = open || !stands_from(text, line, found.whole.1);
+        goes_on = opens(goes_on, text, line, found.whole.1);
         after = found.whole.1 + 1;
     }
-    Ok(open)
+    Ok(goes_on)
 }

@@ -135,10 +135,7 @@ impl<'r> Reader<'r> {
     ghost use Rattle.secret_rules.specs.Readers.{FindsNextBy};
 
     /// What searches for an expression.
-    pub(crate) fn new(
-        alloc: Global,
-        expression: &'r Expression,
-    ) -> Result<Reader<'r>, AllocError>
+    pub(crate) fn new(alloc: Global, expression: &'r Expression) -> Result<Reader<'r>, AllocError>
         ensures source { IfOk result (λ reader. reader ≡ expression.entry.now) }
     {
         let matcher = expression.matcher(alloc)?;

@@ -1,5 +1,14 @@
 //! The readers of the expressions of some rules.
 
+ghost use Rattle.std.specs.Prelude.{◌≡◌, ◌↔◌, ◌<◌, ◌++◌, ◌∷◌, IfErr, IfOk, IsTrue, OnErr, OnOk, Some, [], length, map, slice_get};
+ghost use Rattle.secret_rules.specs.Faults.{IsMarkFailure};
+ghost use Rattle.secret_rules.specs.MarkLists.{HasOneOpen, marks_at, onward};
+ghost use Rattle.secret_rules.specs.Marks.{IsRuleAt};
+ghost use Rattle.secret_rules.specs.Places.{ArePlacesOf};
+ghost use Rattle.secret_rules.specs.Rules.{AreSound, regex_of};
+ghost use Rattle.secret_rules.specs.Secrets.{matches_in, secrets_in};
+ghost use Rattle.secret_rules.specs.declared.rule.Rule.{Rule};
+
 use crate::error::MarkError;
 use crate::expression::Expression;
 use crate::marks::{Mark, push_onward, push_secrets};
@@ -35,7 +44,10 @@ fn push_reader<'r>(
     alloc: Global,
     readers: &mut Vec<Reader<'r>>,
     expression: &'r Expression,
-) -> Result<(), AllocError> {
+) -> Result<(), AllocError>
+    ensures added { OnOk result (readers.new.items ≡ readers.old.items ++ expression.entry.now ∷ []) }
+    ensures kept { OnErr result (readers.new.items ≡ readers.old.items) }
+{
     let reader = Reader::new(alloc, expression)?;
     readers.push(reader)?;
     Ok(())
@@ -48,7 +60,16 @@ fn place_of<'r>(
     readers: &mut Vec<Reader<'r>>,
     places: &mut [Option<usize>],
     number: usize,
-) -> Result<usize, MarkError> {
+) -> Result<usize, MarkError>
+    requires within { number < length rules.now }
+    requires are { ArePlacesOf rules.now readers.old.items places.old }
+    ensures are { ArePlacesOf rules.entry.now readers.new.items places.new }
+    ensures place { (rule : Rule) → IsRuleAt rules.entry.now number rule
+        → IfOk result (λ place. slice_get readers.new.items place ≡ Some (regex_of rule)) }
+    ensures sound { AreSound rules.entry.now }
+    ensures refused { IfErr result (IsMarkFailure number) }
+{
+    let _rules = rules.as_slice();
     if let Some(place) = places[number] {
         return Ok(place);
     }
@@ -61,7 +82,9 @@ fn place_of<'r>(
 
 impl<'r> Readers<'r> {
     /// The readers of these rules, of which none was needed yet.
-    pub(crate) fn new(alloc: Global, rules: &'r Rules) -> Result<Readers<'r>, AllocError> {
+    pub(crate) fn new(alloc: Global, rules: &'r Rules) -> Result<Readers<'r>, AllocError>
+        ensures rules { IfOk result (λ readers. readers ≡ rules.entry.now) }
+    {
         let places = vec![in alloc; None; rules.as_slice().len()]?;
         Ok(Readers {
             alloc,
@@ -72,7 +95,9 @@ impl<'r> Readers<'r> {
     }
 
     /// The rules.
-    pub(crate) fn rules(&self) -> &'r Rules {
+    pub(crate) fn rules(&self) -> &'r Rules
+        ensures { result.now ≡ self.now }
+    {
         self.rules
     }
 
@@ -82,7 +107,14 @@ impl<'r> Readers<'r> {
         number: usize,
         line: &[u8],
         marks: &mut Vec<Mark>,
-    ) -> Result<(), MarkError> {
+    ) -> Result<(), MarkError>
+        requires within { number < length self.old }
+        ensures marks { (rule : Rule) → IsRuleAt self.old number rule
+            → OnOk result (marks.new.items ≡ marks.old.items
+            ++ marks_at number (secrets_in (regex_of rule) rule.secret_group line.now)) }
+        ensures refused { IfErr result (IsMarkFailure number) }
+        ensures same { self.new ≡ self.old }
+    {
         let named = self.rules.as_slice()[number].secret_group;
         let place = place_of(
             self.alloc,
@@ -95,14 +127,25 @@ impl<'r> Readers<'r> {
         Ok(())
     }
 
-    /// Adds the marks of a rule from each match in a line on, and tells whether one of them goes on.
+    /// Adds the marks of a rule from each match in a line on, and tells whether one of them goes on: whether the text stands nowhere
+    /// behind it.
     pub(crate) fn push_onward(
         &mut self,
         number: usize,
         text: &[u8],
         line: &[u8],
         marks: &mut Vec<Mark>,
-    ) -> Result<bool, MarkError> {
+    ) -> Result<bool, MarkError>
+        requires within { number < length self.old }
+        ensures marks { (rule : Rule) → IsRuleAt self.old number rule
+            → OnOk result (marks.new.items ≡ marks.old.items
+            ++ marks_at number (map (onward line.now) (matches_in (regex_of rule) line.now))) }
+        ensures goes_on { (rule : Rule) → IsRuleAt self.old number rule
+            → IfOk result (λ goes_on. IsTrue goes_on
+            ↔ HasOneOpen text.now line.now (matches_in (regex_of rule) line.now)) }
+        ensures refused { IfErr result (IsMarkFailure number) }
+        ensures same { self.new ≡ self.old }
+    {
         let place = place_of(
             self.alloc,
             self.rules,
