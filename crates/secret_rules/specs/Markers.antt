@@ -1,9 +1,8 @@
-use Rattle.std.specs.Prelude.{◌≡◌, ◌⊎◌, ◌↔◌, ℕ, Bool, false, List, IsSome, IsTrue, if◌then◌else◌, [], length, map, slice_index_or}
+use Rattle.std.specs.Prelude.{◌≡◌, ◌⊎◌, ◌↔◌, ℕ, Bool, false, List, IsTrue, if◌then◌else◌, [], length, slice_index_or}
 use Rattle.aho_core.specs.Listing.{IsMember}
-use Rattle.secret_rules.specs.MarkLists.{mark_at, marks_at, onward}
-use Rattle.secret_rules.specs.Marks.{GoesOnAfter, IsRuleAt}
-use Rattle.secret_rules.specs.Rules.{AppliesTo, regex_of}
-use Rattle.secret_rules.specs.Secrets.{matches_in}
+use Rattle.secret_rules.specs.MarkLists.{mark_at, onward_marks}
+use Rattle.secret_rules.specs.Marks.{IsRuleAt}
+use Rattle.secret_rules.specs.Rules.{AppliesTo}
 use Rattle.secret_rules.specs.declared.marks.Mark.{Mark}
 use Rattle.secret_rules.specs.declared.rule.Rule.{Rule}
 
@@ -24,6 +23,6 @@ AddsMarks old new number P = (mark : Mark) → IsMember new mark ↔ (IsMember o
 abbrev pub whole_mark : Bool → ℕ → List ℕ → List Mark
 whole_mark goes_on number line = if goes_on then mark_at number (0, length line) else []
 
--- the marks from each match of the rule on, if it applies
-abbrev pub onward_marks : Bool → ℕ → Rule → List ℕ → List Mark
-onward_marks applies number rule line = if applies then marks_at number (map (onward line) (matches_in (regex_of rule) line)) else []
+-- those from each match of the rule on, if it applies
+abbrev pub applied_marks : Bool → ℕ → Rule → List ℕ → List Mark
+applied_marks applies number rule line = if applies then onward_marks number rule line else []

@@ -3,14 +3,14 @@ use Rattle.std.specs.Prelude.{◌≡◌, ◌⊎◌, ◌↔◌, ◌<◌, ℕ, Lis
 use Rattle.aho_core.specs.Listing.{IsMember}
 use Rattle.secret_rules.specs.MarkLists.{HasOneOpen}
 use Rattle.secret_rules.specs.Rules.{AppliesTo, regex_of, until_of}
-use Rattle.secret_rules.specs.Secrets.{matches_in, secrets_in}
-use Rattle.secret_rules.specs.Standing.{StandsFrom, StandsIn}
+use Rattle.secret_rules.specs.Secrets.{match_ranges, secrets_in}
+use Rattle.secret_rules.specs.Standing.{StandsFrom, StandsInLine}
 use Rattle.secret_rules.specs.declared.marks.Mark.{Mark}
 use Rattle.secret_rules.specs.declared.rule.Rule.{Rule}
 
 -- a match of the rule's expression begins at this place of the line
 abbrev pub BeginsAt : Rule → List ℕ → ℕ → Type 0
-BeginsAt rule line place = (end : ℕ) × IsMember (matches_in (regex_of rule) line) (place, end)
+BeginsAt rule line place = (end : ℕ) × IsMember (match_ranges (regex_of rule) line) (place, end)
 
 -- a rule that marks up to a text marks, from a match that begins in the line or from one of an earlier line that goes on (GoesOn), to
 -- the end of the line
@@ -28,19 +28,19 @@ MarksRange rule GoesOn line range =
     (range.0 < range.1) × MatchOption rule.until (MarksSecret rule line range) (λ _. MarksOnward rule GoesOn line range)
 
 -- the line of this number
-abbrev pub line_of : List (List ℕ) → ℕ → List ℕ
-line_of lines number = slice_index_or lines number []
+abbrev pub line_numbered : List (List ℕ) → ℕ → List ℕ
+line_numbered lines number = slice_index_or lines number []
 
 -- a match goes on behind these lines: it begins in one of them, and the rule's text stands neither behind it in that line nor in a
 -- later one
 pub record GoesOnAfter (rule : Rule) (lines : List (List ℕ)) : Type 0 where
   pub number : ℕ
   pub within : number < length lines
-  pub applies : AppliesTo rule (line_of lines number)
+  pub applies : AppliesTo rule (line_numbered lines number)
   pub found : ℕ × ℕ
-  pub begins : IsMember (matches_in (regex_of rule) (line_of lines number)) found
-  pub behind : StandsFrom (until_of rule) (line_of lines number) found.1 → ⊥
-  pub later : (k : ℕ) → number < k → k < length lines → StandsIn (until_of rule) (line_of lines k) → ⊥
+  pub begins : IsMember (match_ranges (regex_of rule) (line_numbered lines number)) found
+  pub behind : StandsFrom (until_of rule) (line_numbered lines number) found.1 → ⊥
+  pub later : (k : ℕ) → number < k → k < length lines → StandsInLine (until_of rule) (line_numbered lines k) → ⊥
 
 -- the rule of this number is this one
 abbrev pub IsRuleAt : List Rule → ℕ → Rule → Type 0
@@ -50,7 +50,11 @@ IsRuleAt rules number rule = slice_get rules number ≡ Some rule
 -- not stand in the line, and one that begins in the line where it does not stand behind it
 abbrev pub StaysOpen : Rule → Type 0 → List ℕ → Type 0
 StaysOpen rule GoesOn line =
-    (GoesOn × ¬ (StandsIn (until_of rule) line)) ⊎ (AppliesTo rule line × HasOneOpen (until_of rule) line (matches_in (regex_of rule) line))
+    (GoesOn × ¬ (StandsInLine (until_of rule) line)) ⊎ (AppliesTo rule line × HasOneOpen (until_of rule) line (match_ranges (regex_of rule) line))
+
+-- what is true of the rule of this number
+abbrev pub ForRuleAt : List Rule → ℕ → (Rule → Type 0) → Type 0
+ForRuleAt rules number Holds = (rule : Rule) → IsRuleAt rules number rule → Holds rule
 
 -- a mark of the line that follows these lines
 pub record IsMarkOf (rules : List Rule) (lines : List (List ℕ)) (line : List ℕ) (mark : Mark) : Type 0 where
@@ -59,5 +63,5 @@ pub record IsMarkOf (rules : List Rule) (lines : List (List ℕ)) (line : List �
   pub marks : MarksRange rule (GoesOnAfter rule lines) line (mark.start, mark.end)
 
 -- these are all marks of it
-abbrev pub AreMarksOf : List Rule → List (List ℕ) → List ℕ → List Mark → Type 0
-AreMarksOf rules lines line marks = (mark : Mark) → IsMember marks mark ↔ IsMarkOf rules lines line mark
+abbrev pub AreAllMarks : List Rule → List (List ℕ) → List ℕ → List Mark → Type 0
+AreAllMarks rules lines line marks = (mark : Mark) → IsMember marks mark ↔ IsMarkOf rules lines line mark

@@ -33,11 +33,11 @@ AppliesTo rule line =
     (keywords_of rule ≡ []) ⊎ ((keyword : List ℕ) × IsMember (keywords_of rule) keyword × KeywordOccurs line keyword)
 
 -- what each rule of a list has to be: its keywords are not empty, its text is an expression, and this has the group that the rule names
-pub record IsSound (rule : Rule) : Type 0 where
+pub record IsSoundRule (rule : Rule) : Type 0 where
   pub keywords : IsMember (keywords_of rule) [] → ⊥
   pub expression : IsExpression (regex_of rule)
   pub group : rule.secret_group < group_total (regex_of rule)
 
 -- each of some rules is so
 abbrev pub AreSound : List Rule → Type 0
-AreSound rules = (rule : Rule) → IsMember rules rule → IsSound rule
+AreSound rules = (rule : Rule) → IsMember rules rule → IsSoundRule rule

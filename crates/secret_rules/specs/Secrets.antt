@@ -33,5 +33,5 @@ abbrev pub secrets_in : List ℕ → ℕ → List ℕ → List (ℕ × ℕ)
 secrets_in source named line = map (secret_in named (group_total source)) (find_all (expression_of source) line)
 
 -- the ranges of the matches themselves
-abbrev pub matches_in : List ℕ → List ℕ → List (ℕ × ℕ)
-matches_in source line = map span (find_all (expression_of source) line)
+abbrev pub match_ranges : List ℕ → List ℕ → List (ℕ × ℕ)
+match_ranges source line = map span (find_all (expression_of source) line)

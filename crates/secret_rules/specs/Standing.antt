@@ -7,5 +7,5 @@ abbrev pub StandsFrom : List ℕ → List ℕ → ℕ → Type 0
 StandsFrom text line from = (at : ℕ) × (from ≤ at) × OccursAt line text at
 
 -- the text stands in the line
-abbrev pub StandsIn : List ℕ → List ℕ → Type 0
-StandsIn text line = StandsFrom text line 0
+abbrev pub StandsInLine : List ℕ → List ℕ → Type 0
+StandsInLine text line = StandsFrom text line 0

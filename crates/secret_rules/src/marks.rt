@@ -3,7 +3,7 @@
 ghost use Rattle.std.specs.Prelude.{◌≡◌, ◌↔◌, ◌⊎◌, ◌<◌, ◌++◌, IfOk, IsTrue, OnOk, map};
 ghost use Rattle.secret_rules.specs.Expressions.{group_total};
 ghost use Rattle.secret_rules.specs.MarkLists.{HasOneOpen, mark_at, marks_at, onward};
-ghost use Rattle.secret_rules.specs.Secrets.{matches_in, secrets_in};
+ghost use Rattle.secret_rules.specs.Secrets.{match_ranges, secrets_in};
 ghost use Rattle.secret_rules.specs.Standing.{StandsFrom};
 
 use crate::reader::Reader;
@@ -88,9 +88,9 @@ pub(crate) fn push_onward(
 ) -> Result<bool, AllocError>
     requires known { 0 < group_total reader.old }
     ensures marks { OnOk result (marks.new.items
-        ≡ marks.old.items ++ marks_at rule (map (onward line.now) (matches_in reader.old line.now))) }
+        ≡ marks.old.items ++ marks_at rule (map (onward line.now) (match_ranges reader.old line.now))) }
     ensures goes_on { IfOk result (λ goes_on. IsTrue goes_on
-        ↔ HasOneOpen text.now line.now (matches_in reader.old line.now)) }
+        ↔ HasOneOpen text.now line.now (match_ranges reader.old line.now)) }
     ensures same { reader.new ≡ reader.old }
 {
     let mut goes_on = false;

@@ -1,13 +1,11 @@
 //! The readers of the expressions of some rules.
 
-ghost use Rattle.std.specs.Prelude.{◌≡◌, ◌↔◌, ◌<◌, ◌++◌, ◌∷◌, IfErr, IfOk, IsTrue, OnErr, OnOk, Some, [], length, map, slice_get};
+ghost use Rattle.std.specs.Prelude.{◌≡◌, ◌↔◌, ◌<◌, ◌++◌, ◌∷◌, IfErr, IfOk, IsTrue, OnErr, OnOk, Some, [], length, slice_get};
 ghost use Rattle.secret_rules.specs.Faults.{IsMarkFailure};
-ghost use Rattle.secret_rules.specs.MarkLists.{HasOneOpen, marks_at, onward};
-ghost use Rattle.secret_rules.specs.Marks.{IsRuleAt};
+ghost use Rattle.secret_rules.specs.MarkLists.{LeavesOpen, onward_marks, secret_marks};
+ghost use Rattle.secret_rules.specs.Marks.{ForRuleAt};
 ghost use Rattle.secret_rules.specs.Places.{ArePlacesOf};
 ghost use Rattle.secret_rules.specs.Rules.{AreSound, regex_of};
-ghost use Rattle.secret_rules.specs.Secrets.{matches_in, secrets_in};
-ghost use Rattle.secret_rules.specs.declared.rule.Rule.{Rule};
 
 use crate::error::MarkError;
 use crate::expression::Expression;
@@ -64,8 +62,7 @@ fn place_of<'r>(
     requires within { number < length rules.now }
     requires are { ArePlacesOf rules.now readers.old.items places.old }
     ensures are { ArePlacesOf rules.entry.now readers.new.items places.new }
-    ensures place { (rule : Rule) → IsRuleAt rules.entry.now number rule
-        → IfOk result (λ place. slice_get readers.new.items place ≡ Some (regex_of rule)) }
+    ensures place { ForRuleAt rules.entry.now number (λ rule. IfOk result (λ place. slice_get readers.new.items place ≡ Some (regex_of rule))) }
     ensures sound { AreSound rules.entry.now }
     ensures refused { IfErr result (IsMarkFailure number) }
 {
@@ -109,9 +106,8 @@ impl<'r> Readers<'r> {
         marks: &mut Vec<Mark>,
     ) -> Result<(), MarkError>
         requires within { number < length self.old }
-        ensures marks { (rule : Rule) → IsRuleAt self.old number rule
-            → OnOk result (marks.new.items ≡ marks.old.items
-            ++ marks_at number (secrets_in (regex_of rule) rule.secret_group line.now)) }
+        ensures marks { ForRuleAt self.old number (λ rule. OnOk result
+            (marks.new.items ≡ marks.old.items ++ secret_marks number rule line.now)) }
         ensures refused { IfErr result (IsMarkFailure number) }
         ensures same { self.new ≡ self.old }
     {
@@ -137,12 +133,10 @@ impl<'r> Readers<'r> {
         marks: &mut Vec<Mark>,
     ) -> Result<bool, MarkError>
         requires within { number < length self.old }
-        ensures marks { (rule : Rule) → IsRuleAt self.old number rule
-            → OnOk result (marks.new.items ≡ marks.old.items
-            ++ marks_at number (map (onward line.now) (matches_in (regex_of rule) line.now))) }
-        ensures goes_on { (rule : Rule) → IsRuleAt self.old number rule
-            → IfOk result (λ goes_on. IsTrue goes_on
-            ↔ HasOneOpen text.now line.now (matches_in (regex_of rule) line.now)) }
+        ensures marks { ForRuleAt self.old number (λ rule. OnOk result
+            (marks.new.items ≡ marks.old.items ++ onward_marks number rule line.now)) }
+        ensures goes_on { ForRuleAt self.old number (λ rule. IfOk result (λ goes_on.
+            IsTrue goes_on ↔ LeavesOpen rule text.now line.now)) }
         ensures refused { IfErr result (IsMarkFailure number) }
         ensures same { self.new ≡ self.old }
     {

@@ -49,7 +49,7 @@ fn has_empty(keywords: &[String]) -> bool
 
 impl Rule {
     ghost use Rattle.secret_rules.specs.Faults.{IsFaultOf};
-    ghost use Rattle.secret_rules.specs.Rules.{IsSound};
+    ghost use Rattle.secret_rules.specs.Rules.{IsSoundRule};
 
     /// What is wrong with it, if something is.
     ///
@@ -57,7 +57,7 @@ impl Rule {
     ///
     /// Out of memory.
     pub fn fault(&self, alloc: Global) -> Result<Option<RuleFault>, AllocError>
-        ensures sound { IfOk result (λ fault. MatchOption fault (IsSound self.now) (IsFaultOf self.now)) }
+        ensures sound { IfOk result (λ fault. MatchOption fault (IsSoundRule self.now) (IsFaultOf self.now)) }
     {
         if has_empty(&self.keywords) {
             return Ok(Some(RuleFault::EmptyKeyword));

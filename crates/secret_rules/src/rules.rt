@@ -2,16 +2,14 @@
 
 ghost use Rattle.std.specs.Prelude.{◌≡◌, ◌↔◌, ◌⊎◌, ◌<◌, All, IfErr, IfOk, IsTrue, MatchOption, OnOk, length, map};
 ghost use Rattle.aho_core.specs.Overlapping.{all_occurrences};
-ghost use Rattle.aho_core.specs.Patterns.{Patterns};
 ghost use Rattle.aho_core.specs.declared.search.Anchored.TheVariants.{No};
 ghost use Rattle.aho_core.specs.declared.search.MatchKind.TheVariants.{Standard};
-ghost use Rattle.chromesquid.specs.Searcher.{Answers, IsBuiltFrom, match_kind_of};
+ghost use Rattle.chromesquid.specs.Searcher.{Answers, ForItsPatterns, IsBuiltFrom, match_kind_of};
 ghost use Rattle.secret_rules.specs.Faults.{IsFirstFault, IsKeywordFailure, IsMarkFailure, IsRulesFailure};
 ghost use Rattle.secret_rules.specs.Keywords.{HasOwner, is_always};
 ghost use Rattle.secret_rules.specs.Markers.{AreFlagsFor, flag_at};
-ghost use Rattle.secret_rules.specs.Marks.{IsRuleAt};
+ghost use Rattle.secret_rules.specs.Marks.{ForRuleAt};
 ghost use Rattle.secret_rules.specs.Rules.{AreSound, keyword_patterns, regex_of};
-ghost use Rattle.secret_rules.specs.declared.rule.Rule.{Rule};
 
 use crate::error::{MarkError, RulesError};
 use crate::expression::Expression;
@@ -92,8 +90,8 @@ fn room_for(alloc: Global, count: usize) -> Result<Vec<OnceCell<Expression>>, Al
 fn occurrences(searcher: &AhoCorasick, alloc: Global, line: &[u8]) -> Result<Vec<Match>, AllocError>
     requires standard { match_kind_of searcher.now ≡ Standard }
     requires starts { Answers searcher.now No }
-    ensures all { (p : Patterns) → IsBuiltFrom searcher.now p → IfOk result (λ found.
-        found.items ≡ all_occurrences p line.now 0 (length line.now)) }
+    ensures all { ForItsPatterns searcher.now (λ p. IfOk result (λ found.
+        found.items ≡ all_occurrences p line.now 0 (length line.now))) }
 {
     Ok(searcher.find_overlapping_iter(line).collect(alloc)?)
 }
@@ -172,7 +170,7 @@ impl Rules {
     /// It is too big, or memory ran out.
     pub(crate) fn expression(&self, alloc: Global, number: usize) -> Result<&Expression, MarkError>
         requires within { number < length self.now }
-        ensures source { (rule : Rule) → IsRuleAt self.now number rule → IfOk result (λ e. e.now ≡ regex_of rule) }
+        ensures source { ForRuleAt self.now number (λ rule. IfOk result (λ e. e.now ≡ regex_of rule)) }
         ensures refused { IfErr result (IsMarkFailure number) }
     {
         let source = self.rules[number].regex.as_str();

@@ -1,6 +1,6 @@
 use Rattle.std.proofs.Common.{length, refl, subst}
 use Rattle.std.proofs.lemmas.Option.{slice_get_read}
-use Rattle.secret_rules.specs.Rules.{IsSound}
+use Rattle.secret_rules.specs.Rules.{IsSoundRule}
 use Rattle.secret_rules.proofs.Soundness.{AreSound-more}
 use Rattle.secret_rules.proofs.rules.first_fault.Goals as goal
 
@@ -15,4 +15,4 @@ returns-in-Some c = record {
 pub loop-number-preserved : goal.loop-number-preserved
 loop-number-preserved c =
     AreSound-more c.args.rules.now c.loop-number.number c.index-rules-number.result c.loop-number-test.true c.loop-number.invariant
-    (subst IsSound c.index-rules-number.is (rw c.in_default.is at c.in_ok-fault.ensures.sound))
+    (subst IsSoundRule c.index-rules-number.is (rw c.in_default.is at c.in_ok-fault.ensures.sound))
