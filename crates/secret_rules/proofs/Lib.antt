@@ -18,3 +18,5 @@ pub mod Placed
 pub mod Soundness
 -- where rules apply
 pub mod Applying
+-- matches that go on from line to line
+pub mod Onward
