@@ -8,6 +8,7 @@ use crate::count::Count;
 use crate::memory::MANY;
 use crate::streams::{given, judged};
 use crate::turns::{answer_of, last, turns};
+use crate::words::compare_words;
 use aho_automaton::automaton::Automaton;
 use aho_core::error::{MatchError, StreamError};
 use aho_core::search::MatchKind;
@@ -155,5 +156,6 @@ pub(crate) fn compare_covers<A: Automaton>(
     if pieces.len() != automaton.patterns_len() {
         return Ok(());
     }
-    compare_both(alloc, automaton, text, pieces, numbers, count)
+    compare_both(alloc, automaton, text, pieces, numbers, count)?;
+    compare_words(alloc, automaton, text, pieces, numbers, count)
 }

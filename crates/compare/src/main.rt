@@ -25,6 +25,7 @@ mod searchers;
 mod short;
 mod streams;
 mod turns;
+mod words;
 
 use anyhow::{Context, Result, bail};
 use case::Case;
