@@ -6,7 +6,7 @@ use Rattle.std.proofs.lemmas.Nat.{mod_below}
 use Rattle.std.proofs.lemmas.Nat.Bits.{bit_at-pow_same}
 use Rattle.aho_prefilter.specs.Heads.{StandsHead}
 use Rattle.aho_prefilter.specs.Packed.{groups_at, groups_of, low_groups_of}
-use Rattle.aho_prefilter.specs.PackedHeads.{MayStartAt, MeetsHeadAt, count_before, group_among, low_five_at, low_four_at, packed_heads_none, packed_heads_of, packed_heads_with, tested_groups_at}
+use Rattle.aho_prefilter.specs.PackedHeads.{MayStartAt, MeetsHeadAt, group_among, low_five_at, low_four_at, number_among, packed_heads_none, packed_heads_of, packed_heads_with, tested_groups_at}
 use Rattle.aho_prefilter.specs.Strided.{HasMark, caseless, hash_of_head, with_mark}
 use Rattle.aho_prefilter.specs.declared.packed.Masks.{Masks}
 use Rattle.aho_prefilter.specs.declared.packed_heads.PackedHeads.{PackedHeads}
@@ -136,7 +136,7 @@ module _ (rule : Bool) where
           → size ≤ length (get_or words k []) → StandsAt rule (get_or words k []) bytes at → MeetsHeadAt (fold step search words) bytes at
       MeetsHeadAt-added [] size search k whole is below long stands = absurd (omega arith)
       MeetsHeadAt-added (word ∷ words) size search zero whole is below long stands =
-          let i = min (count_before rule all word * 8 / length all) 7 in
+          let i = number_among rule all word in
           MeetsEach-meets (fold step search (word ∷ words)) i
           (MeetsEach-more words (step search word) i (MeetsEach-with (group_among rule all word) i size search word (bit_at-pow_same i) whole is long stands))
       MeetsHeadAt-added (word ∷ words) size search (suc k) whole is below long stands =

@@ -1,16 +1,17 @@
 -- A search with heads, or a strided one, that is held has its sizes, and is a prefilter of the patterns.
 use Rattle.std.proofs.Common.{◌≡◌, ℕ, ◌<◌, ◌≤◌, zero, suc, Bool, true, false, List, [], ◌∷◌, get_or, length, refl, sym, ap, subst, ◌∙◌, arith, min}
-use Rattle.std.specs.Prelude.{Option, Some, None as Nothing, IfSome, if◌then◌else◌}
+use Rattle.std.specs.Prelude.{Option, Some, None as Nothing, IfSome, ◌||◌, if◌then◌else◌}
 use Rattle.std.specs.List.{fold}
-use Rattle.std.specs.Option.{option_map, option_or}
+use Rattle.std.specs.Option.{option_and_then, option_map, option_or}
 use Rattle.std.proofs.lemmas.Bool.Decides.{nat_tests}
 use Rattle.aho_core.specs.declared.search.MatchKind.{MatchKind}
 use Rattle.aho_core.specs.Patterns.{Patterns}
-use Rattle.aho_prefilter.specs.Prefilter.{AreHeadsOf, AreMarksOf, IsPrefilterOf, heads_or_strided, held_or_packed, packed_heads_for, quickest_for, strided_for, yields}
+use Rattle.aho_prefilter.specs.Prefilter.{AreHeadsOf, AreMarksOf, IsPrefilterOf, heads_or_strided, held_or_packed, if_sparse, packed_heads_for, quickest_for, strided_for, yields}
+use Rattle.aho_prefilter.specs.Density.{density}
 use Rattle.aho_prefilter.specs.PackedHeads.{packed_heads_of}
-use Rattle.aho_prefilter.specs.Sizes.{few_heads_for, gram_for, is_few, least_head, is_crowded, is_small, shape_of, sizes_for, stride_for, tested_for}
+use Rattle.aho_prefilter.specs.Sizes.{gram_for, heads_for, is_few, is_many, least_head, is_crowded, is_small, shape_of, sizes_for, stride_for, takes, tested_for}
 use Rattle.aho_prefilter.specs.Strided.{AreStrideSizes, marks_of, no_marks}
-use Rattle.aho_prefilter.specs.declared.packed_heads.Tested.{Tested}
+use Rattle.aho_prefilter.specs.declared.packed_heads.PackedHeads.{PackedHeads as Fingerprints}
 use Rattle.aho_prefilter.specs.declared.prefilter.Searcher.{Searcher}
 use Rattle.aho_prefilter.specs.declared.prefilter.Searcher.TheVariants.{PackedHeads, Strided}
 use Rattle.aho_prefilter.specs.declared.strided.sizes.Shape.{Shape}
@@ -76,11 +77,11 @@ strided_for-of p searcher held = by_sizes (sizes_for (shape_of p.ignore_case p.w
         } in
         rw e made
 
--- a few patterns have heads
-pub few_heads-sized : (s : Shape) (size : ℕ) → few_heads_for s ≡ Some size → (size ≡ s.head) × (1 < size) × (s.count ≤ 100)
-few_heads-sized s size held = by_test (is_few s) refl held
+-- where a packed search with heads may be held there are some
+pub heads-sized : (s : Shape) (size : ℕ) → heads_for s ≡ Some size → (size ≡ s.head) × (1 < size) × (0 < s.count)
+heads-sized s size held = by_test (is_few s || is_many s) refl held
   where
-    by_test : (few : Bool) → is_few s ≡ few → (if few then Some s.head else Nothing) ≡ Some size → (size ≡ s.head) × (1 < size) × (s.count ≤ 100)
+    by_test : (few : Bool) → (is_few s || is_many s) ≡ few → (if few then Some s.head else Nothing) ≡ Some size → (size ≡ s.head) × (1 < size) × (0 < s.count)
     by_test true is found =
         let e : size ≡ s.head = cc in
         let long : 1 < s.head = grind (arith, nat_tests, is) in
@@ -88,26 +89,32 @@ few_heads-sized s size held = by_test (is_few s) refl held
     by_test false is found = cc
 
 packed_heads_for-of : (p : Patterns) (searcher : Searcher) → packed_heads_for p ≡ Some searcher → IsPrefilterOf searcher p
-packed_heads_for-of p searcher held = by_size (few_heads_for (shape_of p.ignore_case p.words)) refl held
+packed_heads_for-of p searcher held = by_size (heads_for shape) refl held
   where
-    tested : Tested
-    tested = tested_for (shape_of p.ignore_case p.words)
+    shape : Shape
+    shape = shape_of p.ignore_case p.words
 
-    by_size : (found : Option ℕ) → few_heads_for (shape_of p.ignore_case p.words) ≡ found
-        → option_map (λ (size : ℕ). PackedHeads (packed_heads_of p.ignore_case tested size p.words)) found ≡ Some searcher → IsPrefilterOf searcher p
-    by_size Nothing are is = cc
-    by_size (Some size) are is =
-        let e : searcher ≡ PackedHeads (packed_heads_of p.ignore_case tested size p.words) = cc in
-        let sized = few_heads-sized (shape_of p.ignore_case p.words) size are in
-        let made : AreHeadsOf p (packed_heads_of p.ignore_case tested size p.words) = record {
+    made : ℕ → Fingerprints
+    made size = packed_heads_of p.ignore_case (tested_for shape) size p.words
+
+    by_way : (way : Bool) (size : ℕ) → heads_for shape ≡ Some size → (if way then Some (PackedHeads (made size)) else Nothing) ≡ Some searcher → IsPrefilterOf searcher p
+    by_way false size are is = cc
+    by_way true size are is =
+        let e : searcher ≡ PackedHeads (made size) = cc in
+        let sized = heads-sized shape size are in
+        let of : AreHeadsOf p (made size) = record {
           size = size;
           some = omega (arith, sized.1);
           short = omega (arith, sized.0, least_head-few p.words);
           long = λ k below. omega (arith, sized.0, least_head-each p.words k below);
-          tested = tested;
+          tested = tested_for shape;
           made = refl;
         } in
-        rw e made
+        rw e of
+
+    by_size : (found : Option ℕ) → heads_for shape ≡ found → option_and_then (λ (size : ℕ). if_sparse shape (made size)) found ≡ Some searcher → IsPrefilterOf searcher p
+    by_size Nothing are is = cc
+    by_size (Some size) are is = by_way (takes shape (density (made size))) size are is
 
 heads_or_strided-of : (p : Patterns) (searcher : Searcher) → heads_or_strided p ≡ Some searcher → IsPrefilterOf searcher p
 heads_or_strided-of p searcher held = by_heads (packed_heads_for p) refl held
@@ -145,7 +152,7 @@ better-held p other better is way there =
     ∙ ap (λ (o : Option Searcher). option_or o (held_or_packed p)) there
     ∙ ap (λ (o : Option Searcher). option_or better o) (sym is))
 
--- for a few patterns the one with heads
+-- the one with heads, if it is held
 pub quickest_for-heads : (p : Patterns) (other : Option Searcher) (searcher : Searcher) → other ≡ held_or_packed p → yields other ≡ true
     → Some searcher ≡ packed_heads_for p → Some searcher ≡ quickest_for p
 quickest_for-heads p other searcher is way found =

@@ -8,6 +8,8 @@ pub mod Few
 pub mod Held
 -- how the fingerprints grow by a pattern, and that a packed search that is held is a prefilter of the patterns
 pub mod HeldPacked
+-- how many places meet a packed search with heads, counted one by one
+mod Shares
 -- what a candidate tells a search
 pub mod Skips
 -- the first bytes, said literally

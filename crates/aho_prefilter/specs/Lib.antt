@@ -20,3 +20,5 @@ pub mod Heads
 pub mod PackedHeads
 -- for which patterns one is held
 pub mod Sizes
+-- how many places of a text meet a packed search with heads, by an estimate
+pub mod Density

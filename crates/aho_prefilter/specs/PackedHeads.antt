@@ -1,6 +1,6 @@
 -- What a packed search with heads looks for: places whose first bytes meet the masks of some group, and whose head is one of
 -- those of the patterns.
-use Rattle.std.specs.Prelude.{◌≡◌, ◌≢◌, ◌↔◌, ℕ, ◌+◌, ◌-◌, ◌*◌, ◌/◌, ◌^◌, ◌<◌, ◌≤◌, min, Bool, List, [], length, slice_index, slice_index_or, bit_and, nat_lt, if◌then◌else◌, Option, Some, None}
+use Rattle.std.specs.Prelude.{◌≡◌, ◌≢◌, ◌↔◌, ℕ, ◌+◌, ◌-◌, ◌*◌, ◌/◌, ◌%◌, ◌^◌, ◌<◌, ◌≤◌, min, Bool, List, [], length, slice_index, slice_index_or, bit_and, nat_lt, if◌then◌else◌, Option, Some, None}
 use Rattle.std.specs.Int.{bit_at}
 use Rattle.std.specs.List.{fold}
 use Rattle.memchr.specs.Find.{IsFirst, Nowhere}
@@ -93,9 +93,16 @@ abbrev pub count_before : Bool → List (List ℕ) → List ℕ → ℕ
 count_before ignore_case words word =
     fold (λ count other. if nat_lt (order_of ignore_case other) (order_of ignore_case word) then count + 1 else count) 0 words
 
--- the group of a word among all words, as a bit: eight runs of the words in order
+-- the number of a word's group among all words: up to a hundred words are eight runs in order, and of more words the first byte
+-- tells it
+abbrev pub number_among : Bool → List (List ℕ) → List ℕ → ℕ
+number_among ignore_case words word =
+    if nat_lt 100 (length words) then slice_index word 0 % 8
+    else min (count_before ignore_case words word * 8 / length words) 7
+
+-- the group as a bit
 abbrev pub group_among : Bool → List (List ℕ) → List ℕ → ℕ
-group_among ignore_case words word = 2 ^ min (count_before ignore_case words word * 8 / length words) 7
+group_among ignore_case words word = 2 ^ number_among ignore_case words word
 
 -- the search with one more word, which belongs to these groups
 abbrev pub packed_heads_with : Bool → ℕ → PackedHeads → List ℕ → PackedHeads

@@ -2,20 +2,22 @@
 use Rattle.std.specs.Prelude.{◌≡◌, ℕ, ◌+◌, ◌*◌, ◌<◌, ◌≤◌, Bool, true, false, not, ◌&&◌, ◌||◌, List, [], ◌∷◌, ◌++◌, length, slice_index, nat_eq, nat_lt, if◌then◌else◌, Option, Some, None}
 use Rattle.std.specs.Char.{is_ascii, is_ascii_alphanumeric}
 use Rattle.std.specs.List.{Contains, list_any}
-use Rattle.std.specs.Option.{option_map, option_or}
+use Rattle.std.specs.Option.{option_and_then, option_map, option_or}
 use Rattle.aho_core.specs.Bytes.{IsSameByte}
 use Rattle.aho_core.specs.Patterns.{Patterns, pattern_at}
 use Rattle.aho_core.specs.declared.search.MatchKind.{MatchKind}
+use Rattle.aho_prefilter.specs.Density.{density}
 use Rattle.aho_prefilter.specs.FirstBytes.{first_bytes}
 use Rattle.aho_prefilter.specs.declared.prefilter.Searcher.{Searcher}
 use Rattle.aho_prefilter.specs.declared.prefilter.Searcher.TheVariants.{Memmem, Memchr, Memchr2, Memchr3, Packed, PackedHeads, Strided}
 use Rattle.aho_prefilter.specs.Packed.{packed_of}
 use Rattle.aho_prefilter.specs.PackedHeads.{HaveSize, packed_heads_of}
-use Rattle.aho_prefilter.specs.Sizes.{few_heads_for, shape_of, sizes_for, tested_for}
+use Rattle.aho_prefilter.specs.Sizes.{heads_for, shape_of, sizes_for, takes, tested_for}
 use Rattle.aho_prefilter.specs.Strided.{HasMarksOf, AreStrideSizes, Marks, marks_of}
 use Rattle.aho_prefilter.specs.declared.packed.Packed.{Packed as Fingerprints}
 use Rattle.aho_prefilter.specs.declared.packed_heads.PackedHeads.{PackedHeads as FingerprintsAndHeads}
 use Rattle.aho_prefilter.specs.declared.packed_heads.Tested.{Tested}
+use Rattle.aho_prefilter.specs.declared.strided.sizes.Shape.{Shape}
 
 -- the needle is the only pattern, which is not empty, and its bytes are compared as they are
 pub record IsOnlyPattern (p : Patterns) (needle : List ℕ) : Type 0 where
@@ -156,13 +158,17 @@ held_or_packed p = if gives_way (held_for p) then option_or (packed_for p) (held
 abbrev pub strided_for : Patterns → Option Searcher
 strided_for p = option_map (λ sizes. Strided (marks_of sizes p.words)) (sizes_for (shape_of p.ignore_case p.words))
 
+-- a packed search with heads, if it is one for patterns of this shape by how many places meet it
+abbrev pub if_sparse : Shape → FingerprintsAndHeads → Option Searcher
+if_sparse shape search = if takes shape (density search) then Some (PackedHeads search) else None
+
 -- the packed search with heads, if there is one for patterns of their shape
 abbrev pub packed_heads_for : Patterns → Option Searcher
 packed_heads_for p =
     let shape = shape_of p.ignore_case p.words in
-    option_map (λ size. PackedHeads (packed_heads_of p.ignore_case (tested_for shape) size p.words)) (few_heads_for shape)
+    option_and_then (λ size. if_sparse shape (packed_heads_of p.ignore_case (tested_for shape) size p.words)) (heads_for shape)
 
--- for a few patterns it is held, and else the strided search
+-- where it is held it is taken, and else the strided search
 abbrev pub heads_or_strided : Patterns → Option Searcher
 heads_or_strided p = option_or (packed_heads_for p) (strided_for p)
 

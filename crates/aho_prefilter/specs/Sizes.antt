@@ -1,5 +1,5 @@
 -- For which patterns a strided search is held, and with what sizes.
-use Rattle.std.specs.Prelude.{ℕ, zero, suc, ◌+◌, ◌-◌, ◌*◌, ◌/◌, ◌^◌, min, max, Bool, ◌&&◌, ◌||◌, List, length, nat_le, nat_lt, if◌then◌else◌, Option, Some, None}
+use Rattle.std.specs.Prelude.{ℕ, zero, suc, ◌+◌, ◌-◌, ◌*◌, ◌/◌, ◌^◌, min, max, Bool, not, ◌&&◌, ◌||◌, List, length, nat_le, nat_lt, if◌then◌else◌, Option, Some, None}
 use Rattle.std.specs.List.{fold, list_any}
 use Rattle.aho_prefilter.specs.FirstBytes.{has_byte}
 use Rattle.aho_prefilter.specs.declared.packed_heads.Tested.{Tested}
@@ -41,17 +41,27 @@ is_few s =
     nat_le 1 s.count
     && (nat_le 2 s.head && ((nat_le s.count 32 && (nat_le 4 s.head || nat_le 8 s.count)) || (nat_le s.count 100 && has_heads s)))
 
--- which halves of how many bytes a packed search with heads looks up: the more patterns, the more bytes
+-- which halves of how many bytes a packed search with heads looks up: the more patterns, the more bytes; but both halves of
+-- four, where the shortest has too few bytes, and for more than a few patterns
 abbrev pub tested_for : Shape → Tested
 tested_for s =
-    if nat_lt s.head 4 || ((nat_lt 20 s.count && nat_lt s.head 5) || (nat_lt 32 s.count && nat_lt s.head 6)) then Four
+    if not (is_few s) || (nat_lt s.head 4 || ((nat_lt 20 s.count && nat_lt s.head 5) || (nat_lt 32 s.count && nat_lt s.head 6))) then Four
     else if nat_lt s.head 5 || nat_le s.count 8 then LowFour
     else if nat_lt s.head 6 || nat_le s.count 20 then LowFive
     else LowSix
 
--- how many bytes a head has, if a packed search with heads is held for patterns of this shape
-abbrev pub few_heads_for : Shape → Option ℕ
-few_heads_for s = if is_few s then Some s.head else None
+-- whether there are so many that a packed search with heads is held only where few places meet it
+abbrev pub is_many : Shape → Bool
+is_many s = nat_lt 32 s.count && nat_le 2 s.head
+
+-- how many bytes a head has, if a packed search with heads may be held for patterns of this shape
+abbrev pub heads_for : Shape → Option ℕ
+heads_for s = if is_few s || is_many s then Some s.head else None
+
+-- whether one that so many of 2 ^ 40 places of a text meet is held: for a few patterns, and where these are one in sixty-four, or
+-- in as many as a fourth of the patterns, but one in 1,024 at least
+abbrev pub takes : Shape → ℕ → Bool
+takes s density = is_few s || nat_le density (2 ^ 40 / min (max (s.count / 4) 64) 1024)
 
 -- whether there are too few patterns for a strided search, or they are too short
 abbrev pub is_small : Shape → Bool

@@ -1,6 +1,7 @@
 //! Prefilters: quick searches for a place where a match may start.
 #![tactic(auto)]
 
+mod density;
 mod heads;
 pub mod impls;
 pub mod laws;

@@ -38,9 +38,9 @@ pub struct Masks {
 /// The masks of the first three bytes of patterns in eight groups.
 #[derive(Clone, Copy)]
 pub struct Packed {
-    first: Masks,
-    second: Masks,
-    third: Masks,
+    pub(crate) first: Masks,
+    pub(crate) second: Masks,
+    pub(crate) third: Masks,
 }
 
 impl Masks {
@@ -99,6 +99,13 @@ impl Masks {
         ensures groups { HasLanes result (λ k. groups_of self.now (slice_index bytes k)) }
     {
         self.low_groups(bytes) & by_high_half(&self.high, bytes)
+    }
+
+    /// The groups that one byte meets.
+    pub(crate) fn groups_of(&self, byte: u8) -> u8
+        ensures groups { result ≡ groups_of self.now byte }
+    {
+        self.low[(byte % 16) as usize] & self.high[(byte / 16) as usize]
     }
 
     /// The groups that the low half of each of these bytes meets.

@@ -4,7 +4,8 @@
 //! # The masks
 //!
 //! They are those of a packed search, for up to three bytes more. The groups are eight runs of the patterns in the order of
-//! their first four bytes. So eight patterns have a group each, and what else is in a group begins alike.
+//! their first four bytes. So eight patterns have a group each, and what else is in a group begins alike. Of more than a hundred
+//! patterns the first byte tells the group.
 //!
 //! # The search
 //!
@@ -28,6 +29,9 @@ use crate::packed::{LANES, Masks, Packed, lanes_met, load, padded};
 use crate::strided::BEHIND;
 use std::simd::prelude::*;
 
+/// How many patterns are put in order at most, for their groups.
+const MOST_ORDERED: usize = 100;
+
 /// Which halves of how many bytes are looked up.
 #[derive(Clone, Copy)]
 pub(crate) enum Tested {
@@ -46,8 +50,8 @@ pub(crate) enum Tested {
 pub(crate) struct PackedHeads {
     tested: Tested,
     /// The masks of the first three bytes.
-    packed: Packed,
-    fourth: Masks,
+    pub(crate) packed: Packed,
+    pub(crate) fourth: Masks,
     fifth: Masks,
     sixth: Masks,
     heads: Heads,
@@ -97,12 +101,15 @@ fn count_before(ignore_case: bool, patterns: &[&[u8]], pattern: &[u8]) -> usize
     count
 }
 
-/// The group of a pattern among all patterns, as a bit: they are eight runs of the patterns in order.
+/// The group of a pattern among all patterns, as a bit. Up to a hundred patterns are put in order, and the groups are eight runs
+/// of them. For more patterns that would take long, and the group is told by the first byte.
 fn group_among(ignore_case: bool, patterns: &[&[u8]], pattern: &[u8]) -> u8
     requires some { 0 < length patterns.now }
-    requires few { length patterns.now ≤ 100 }
     ensures group { result ≡ group_among ignore_case (pieces_of patterns.now) pattern.now }
 {
+    if patterns.len() > MOST_ORDERED {
+        return 1 << (byte_at(pattern, 0) % 8) as u32;
+    }
     let before = count_before(ignore_case, patterns, pattern);
     1 << (before * 8 / patterns.len()).min(7) as u32
 }
@@ -125,7 +132,6 @@ impl PackedHeads {
     ) -> PackedHeads
         requires some { 0 < size }
         requires short { size ≤ 16 }
-        requires few { length patterns.now ≤ 100 }
         requires long { HaveSize size (pieces_of patterns.now) }
         ensures made { result ≡ packed_heads_of ignore_case tested size (pieces_of patterns.now) }
     {

@@ -3,7 +3,7 @@
 ghost use Rattle.std.specs.Prelude.{◌≡◌, ℕ, ◌<◌, ◌≤◌, false, slice_index, if◌then◌else◌};
 ghost use Rattle.aho_core.specs.Replacement.{pieces_of};
 ghost use Rattle.aho_prefilter.specs.FirstBytes.{has_byte};
-ghost use Rattle.aho_prefilter.specs.Sizes.{few_heads_for, gram_for, has_heads, is_crowded, is_few, is_small, least_head, shape_of, sizes_for, stride_for, tested_for, used_below, wanted_gram};
+ghost use Rattle.aho_prefilter.specs.Sizes.{gram_for, has_heads, heads_for, is_crowded, is_few, is_many, is_small, least_head, shape_of, sizes_for, stride_for, takes, tested_for, used_below, wanted_gram};
 
 use crate::packed_heads::Tested;
 
@@ -46,11 +46,29 @@ impl Shape {
         }
     }
 
-    /// How many bytes a head has, if a packed search with heads is held for patterns of this shape.
-    pub(crate) fn few_heads(self) -> Option<usize>
-        ensures heads { result ≡ few_heads_for self }
+    /// How many bytes a head has, if a packed search with heads may be held for patterns of this shape.
+    pub(crate) fn heads(self) -> Option<usize>
+        ensures heads { result ≡ heads_for self }
     {
-        if self.is_few() { Some(self.head) } else { None }
+        if self.is_few() || self.is_many() {
+            Some(self.head)
+        } else {
+            None
+        }
+    }
+
+    /// Whether there are so many patterns that one is held only where few places meet it.
+    fn is_many(self) -> bool
+        ensures many { result ≡ is_many self }
+    {
+        self.count > 32 && self.head >= 2
+    }
+
+    /// Whether a packed search with heads, which so many of 2 ^ 40 places of a text meet, is the one for patterns of this shape.
+    pub(crate) fn takes(self, density: u64) -> bool
+        ensures takes { result ≡ takes self density }
+    {
+        self.is_few() || density <= (1 << 40) / (self.count / 4).max(64).min(1024) as u64
     }
 
     /// Whether there are a few patterns, and they are long enough, or so many that three bytes of them stand at many places of a
@@ -74,11 +92,15 @@ impl Shape {
     }
 
     /// Which halves of how many bytes a packed search with heads looks up: the more patterns, the more bytes. Where the shortest
-    /// pattern has too few for that, both halves of four.
+    /// pattern has too few for that, and where there are more than a few patterns, both halves of four.
     pub(crate) fn tested(self) -> Tested
         ensures tested { result ≡ tested_for self }
     {
-        if self.head < 4 || self.count > 20 && self.head < 5 || self.count > 32 && self.head < 6 {
+        if !self.is_few()
+            || self.head < 4
+            || self.count > 20 && self.head < 5
+            || self.count > 32 && self.head < 6
+        {
             Tested::Four
         } else if self.head < 5 || self.count <= 8 {
             Tested::LowFour
