@@ -7,7 +7,6 @@ use Rattle.std.proofs.lemmas.Bool.Decides.{nat_tests}
 use Rattle.aho_core.specs.declared.search.MatchKind.{MatchKind}
 use Rattle.aho_core.specs.Patterns.{Patterns}
 use Rattle.aho_prefilter.specs.Prefilter.{AreHeadsOf, AreMarksOf, IsPrefilterOf, heads_or_strided, held_or_packed, if_sparse, packed_heads_for, quickest_for, strided_for, yields}
-use Rattle.aho_prefilter.specs.Density.{density}
 use Rattle.aho_prefilter.specs.PackedHeads.{packed_heads_of}
 use Rattle.aho_prefilter.specs.Sizes.{gram_for, heads_for, is_few, is_many, least_head, is_crowded, is_small, shape_of, sizes_for, stride_for, takes, tested_for}
 use Rattle.aho_prefilter.specs.Strided.{AreStrideSizes, marks_of, no_marks}
@@ -114,7 +113,7 @@ packed_heads_for-of p searcher held = by_size (heads_for shape) refl held
 
     by_size : (found : Option ℕ) → heads_for shape ≡ found → option_and_then (λ (size : ℕ). if_sparse shape (made size)) found ≡ Some searcher → IsPrefilterOf searcher p
     by_size Nothing are is = cc
-    by_size (Some size) are is = by_way (takes shape (density (made size))) size are is
+    by_size (Some size) are is = by_way (takes shape (made size)) size are is
 
 heads_or_strided-of : (p : Patterns) (searcher : Searcher) → heads_or_strided p ≡ Some searcher → IsPrefilterOf searcher p
 heads_or_strided-of p searcher held = by_heads (packed_heads_for p) refl held

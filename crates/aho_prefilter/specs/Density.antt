@@ -1,5 +1,5 @@
 -- How many places of a text meet a packed search with heads, by an estimate.
-use Rattle.std.specs.Prelude.{ℕ, zero, suc, ◌+◌, ◌*◌, Bool, ◌||◌, nat_eq, if◌then◌else◌}
+use Rattle.std.specs.Prelude.{ℕ, zero, suc, ◌+◌, ◌*◌, max, Bool, ◌||◌, nat_eq, if◌then◌else◌}
 use Rattle.std.specs.Char.{is_ascii_digit, is_ascii_lowercase, is_ascii_uppercase}
 use Rattle.std.specs.Int.{bit_at}
 use Rattle.aho_prefilter.specs.Packed.{groups_of}
@@ -28,26 +28,28 @@ weight byte =
     else if is_ascii_uppercase byte then 3
     else 1
 
--- how many of them are below a byte and meet the group of this number by both of their halves
-unfoldable pub share_below : Masks → ℕ → ℕ → ℕ
-share_below masks group zero = 0
-share_below masks group (suc byte) = share_below masks group byte + weight byte * bit_at (groups_of masks byte) group
+-- how many of them are below a byte and meet the group of this number by both of their halves, where each stands so many times at
+-- least
+unfoldable pub share_below : Masks → ℕ → ℕ → ℕ → ℕ
+share_below masks least group zero = 0
+share_below masks least group (suc byte) =
+    share_below masks least group byte + max (weight byte) least * bit_at (groups_of masks byte) group
 
 -- the same of all bytes
-abbrev pub share : Masks → ℕ → ℕ
-share masks group = share_below masks group 256
+abbrev pub share : Masks → ℕ → ℕ → ℕ
+share masks least group = share_below masks least group 256
 
 -- how many of 2 ^ 40 places meet the group of this number by both halves of four bytes, each as if it stood there by chance
-abbrev pub places_met_by : PackedHeads → ℕ → ℕ
-places_met_by search group =
-    share search.packed.first group * share search.packed.second group
-    * (share search.packed.third group * share search.fourth group)
+abbrev pub places_met_by : PackedHeads → ℕ → ℕ → ℕ
+places_met_by search least group =
+    share search.packed.first least group * share search.packed.second least group
+    * (share search.packed.third least group * share search.fourth least group)
 
 -- how many meet one of so many groups
-unfoldable pub places_below : PackedHeads → ℕ → ℕ
-places_below search zero = 0
-places_below search (suc group) = places_below search group + places_met_by search group
+unfoldable pub places_below : PackedHeads → ℕ → ℕ → ℕ
+places_below search least zero = 0
+places_below search least (suc group) = places_below search least group + places_met_by search least group
 
 -- how many of 2 ^ 40 places of a text meet a group, roughly
-abbrev pub density : PackedHeads → ℕ
-density search = places_below search 8
+abbrev pub density : PackedHeads → ℕ → ℕ
+density search least = places_below search least 8

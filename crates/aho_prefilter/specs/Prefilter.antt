@@ -6,7 +6,6 @@ use Rattle.std.specs.Option.{option_and_then, option_map, option_or}
 use Rattle.aho_core.specs.Bytes.{IsSameByte}
 use Rattle.aho_core.specs.Patterns.{Patterns, pattern_at}
 use Rattle.aho_core.specs.declared.search.MatchKind.{MatchKind}
-use Rattle.aho_prefilter.specs.Density.{density}
 use Rattle.aho_prefilter.specs.FirstBytes.{first_bytes}
 use Rattle.aho_prefilter.specs.declared.prefilter.Searcher.{Searcher}
 use Rattle.aho_prefilter.specs.declared.prefilter.Searcher.TheVariants.{Memmem, Memchr, Memchr2, Memchr3, Packed, PackedHeads, Strided}
@@ -160,7 +159,7 @@ strided_for p = option_map (λ sizes. Strided (marks_of sizes p.words)) (sizes_f
 
 -- a packed search with heads, if it is one for patterns of this shape by how many places meet it
 abbrev pub if_sparse : Shape → FingerprintsAndHeads → Option Searcher
-if_sparse shape search = if takes shape (density search) then Some (PackedHeads search) else None
+if_sparse shape search = if takes shape search then Some (PackedHeads search) else None
 
 -- the packed search with heads, if there is one for patterns of their shape
 abbrev pub packed_heads_for : Patterns → Option Searcher

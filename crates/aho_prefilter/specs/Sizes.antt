@@ -1,7 +1,9 @@
 -- For which patterns a strided search is held, and with what sizes.
 use Rattle.std.specs.Prelude.{ℕ, zero, suc, ◌+◌, ◌-◌, ◌*◌, ◌/◌, ◌^◌, min, max, Bool, not, ◌&&◌, ◌||◌, List, length, nat_le, nat_lt, if◌then◌else◌, Option, Some, None}
 use Rattle.std.specs.List.{fold, list_any}
+use Rattle.aho_prefilter.specs.Density.{density}
 use Rattle.aho_prefilter.specs.FirstBytes.{has_byte}
+use Rattle.aho_prefilter.specs.declared.packed_heads.PackedHeads.{PackedHeads}
 use Rattle.aho_prefilter.specs.declared.packed_heads.Tested.{Tested}
 use Rattle.aho_prefilter.specs.declared.packed_heads.Tested.TheVariants.{Four, LowFour, LowFive, LowSix}
 use Rattle.aho_prefilter.specs.declared.strided.sizes.Shape.{Shape}
@@ -52,21 +54,30 @@ tested_for s =
 
 -- whether there are so many that a packed search with heads is held only where few places meet it
 abbrev pub is_many : Shape → Bool
-is_many s = nat_lt 32 s.count && nat_le 2 s.head
+is_many s = nat_lt 32 s.count && (nat_le 2 s.head && nat_lt 8 s.letters)
 
 -- how many bytes a head has, if a packed search with heads may be held for patterns of this shape
 abbrev pub heads_for : Shape → Option ℕ
 heads_for s = if is_few s || is_many s then Some s.head else None
 
--- whether one that so many of 2 ^ 40 places of a text meet is held: for a few patterns, and where these are one in sixty-four, or
--- in as many as a fourth of the patterns, but one in 1,024 at least
-abbrev pub takes : Shape → ℕ → Bool
-takes s density = is_few s || nat_le density (2 ^ 40 / min (max (s.count / 4) 64) 1024)
-
 -- whether there are too few patterns for a strided search, or they are too short
 abbrev pub is_small : Shape → Bool
 is_small s =
     nat_lt s.head 5 || (nat_le s.count 32 || (nat_lt s.head 6 && (nat_le s.count 100 || nat_lt 8192 s.count)))
+
+-- how many of 1,024 bytes of a text are one of which patterns are made, at least: where a strided search may be held too, the text
+-- may be made of the same bytes
+abbrev pub least_weight : Shape → ℕ
+least_weight s = if is_small s then 0 else 1024 / max s.letters 8
+
+-- whether few places of a text meet a search: one in sixty-four, or in as many as a fourth of the patterns, but one in 1,024 at
+-- least
+abbrev pub is_sparse : Shape → PackedHeads → Bool
+is_sparse s search = nat_le (density search (least_weight s)) (2 ^ 40 / min (max (s.count / 4) 64) 1024)
+
+-- whether this packed search with heads is the one for patterns of this shape: for a few, or where few places meet it
+abbrev pub takes : Shape → PackedHeads → Bool
+takes s search = is_few s || is_sparse s search
 
 -- how many bytes a gram has: more for few letters and for many patterns, so that few places of a text have one by chance
 abbrev pub wanted_gram : Shape → ℕ

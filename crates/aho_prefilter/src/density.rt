@@ -3,7 +3,7 @@
 //! It takes the bytes of a text as if each stood at its place by chance, as often as in most texts. Where that is wrong, a search
 //! is slower, and answers the same.
 
-ghost use Rattle.std.specs.Prelude.{◌≡◌, ◌<◌, ◌≤◌, ◌^◌};
+ghost use Rattle.std.specs.Prelude.{◌≡◌, ◌<◌, ◌≤◌, ◌^◌, max};
 ghost use Rattle.aho_prefilter.specs.Density.{density, is_common, places_met_by, share, weight};
 
 use crate::packed::Masks;
@@ -43,42 +43,56 @@ fn weight(byte: u8) -> u64
     }
 }
 
-/// How many of 1,024 bytes of a text meet the group of this number by both of their halves, roughly.
-fn share(masks: &Masks, group: u32) -> u64
+/// The same, but so many at least.
+fn weight_from(least: u64, byte: u8) -> u64
+    requires least { least ≤ 128 }
+    ensures weight { result ≡ max (weight byte) least }
+    ensures few { result ≤ 128 }
+{
+    weight(byte).max(least)
+}
+
+/// How many of 1,024 bytes of a text meet the group of this number by both of their halves, roughly, where each of them stands so
+/// many times at least.
+fn share(masks: &Masks, least: u64, group: u32) -> u64
+    requires least { least ≤ 128 }
     requires group { group < 8 }
-    ensures share { result ≡ share masks.now group }
+    ensures share { result ≡ share masks.now least group }
     ensures few { result ≤ 2 ^ 15 }
 {
     let mut share = 0;
     for number in 0..256u32 {
         let byte = number as u8;
-        share += weight(byte) * (masks.groups_of(byte) >> group & 1) as u64;
+        share += weight_from(least, byte) * (masks.groups_of(byte) >> group & 1) as u64;
     }
     share
 }
 
 impl PackedHeads {
-    /// How many of 2 ^ 40 places of a text meet a group by both halves of four bytes, roughly.
-    pub(crate) fn density(&self) -> u64
-        ensures density { result ≡ density self.now }
+    /// How many of 2 ^ 40 places of a text meet a group by both halves of four bytes, roughly, where each of these bytes stands so
+    /// many times at least among 1,024.
+    pub(crate) fn density(&self, least: u64) -> u64
+        requires least { least ≤ 128 }
+        ensures density { result ≡ density self.now least }
     {
         let mut density = 0;
         for group in 0..8u32 {
-            density += self.places_met_by(group);
+            density += self.places_met_by(least, group);
         }
         density
     }
 
     /// How many of them meet the group of this number.
-    fn places_met_by(&self, group: u32) -> u64
+    fn places_met_by(&self, least: u64, group: u32) -> u64
+        requires least { least ≤ 128 }
         requires group { group < 8 }
-        ensures met { result ≡ places_met_by self.now group }
+        ensures met { result ≡ places_met_by self.now least group }
         ensures few { result ≤ 2 ^ 60 }
     {
-        let first = share(&self.packed.first, group);
-        let second = share(&self.packed.second, group);
-        let third = share(&self.packed.third, group);
-        let fourth = share(&self.fourth, group);
+        let first = share(&self.packed.first, least, group);
+        let second = share(&self.packed.second, least, group);
+        let third = share(&self.packed.third, least, group);
+        let fourth = share(&self.fourth, least, group);
         (first * second) * (third * fourth)
     }
 }

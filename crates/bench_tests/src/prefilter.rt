@@ -185,16 +185,36 @@ fn a_packed_search_comes_before_the_first_bytes_of_words(rt: HostRuntime) -> Res
     Ok(())
 }
 
+/// Letters that stand often in texts.
+const LETTERS: &[u8; 9] = b"etaoinsrh";
+
+/// A word of six bytes: a number and five letters, or letters alone, which stand often in texts.
+fn word_of(number: u8, is_common: bool) -> [u8; 6] {
+    if !is_common {
+        return [number, b'a', b'b', b'c', b'd', b'e'];
+    }
+    let (first, second) = ((number % 9) as usize, (number / 9) as usize);
+    [
+        LETTERS[first],
+        LETTERS[second % 9],
+        LETTERS[second * 2 % 9],
+        LETTERS[second * 4 % 9],
+        LETTERS[second * 5 % 9],
+        LETTERS[second * 7 % 9],
+    ]
+}
+
 /// The quickest prefilter of so many patterns of so many bytes, six at most.
 fn quickest_of(
     alloc: Global,
     count: u8,
     len: usize,
+    is_common: bool,
     ignore_case: bool,
 ) -> Result<Option<Prefilter>, AllocError> {
     let mut words = Vec::new(alloc);
     for number in 0..count {
-        words.push([number, b'a', b'b', b'c', b'd', b'e'])?;
+        words.push(word_of(number, is_common))?;
     }
     let mut patterns: Vec<&[u8]> = Vec::new(alloc);
     for word in &words {
@@ -221,43 +241,57 @@ fn searches_by(held: Option<Prefilter>) -> &'static str {
 
 #[test]
 fn the_quickest_is_held_by_number_and_length(rt: HostRuntime) -> Result<(), Fail> {
-    let rows: [(u8, usize, &str); 9] = [
+    let rows: [(u8, usize, &str); 8] = [
         (7, 3, "packed"),
         (7, 4, "packed with heads"),
         (32, 6, "packed with heads"),
         (33, 5, "packed with heads"),
-        (33, 6, "strided"),
-        (100, 2, "packed"),
+        (33, 6, "packed with heads"),
         (100, 5, "packed with heads"),
-        (101, 4, "none"),
-        (101, 5, "strided"),
+        (101, 4, "packed with heads"),
+        (255, 6, "packed with heads"),
     ];
     for (count, len, wanted) in &rows {
-        let held = quickest_of(rt.alloc(), *count, *len, false)?;
+        let held = quickest_of(rt.alloc(), *count, *len, false, false)?;
         assert_same(&rt, searches_by(held), *wanted);
     }
     Ok(())
 }
 
 #[test]
-fn a_strided_search_is_held_for_more_than_thirty_two(rt: HostRuntime) -> Result<(), Fail> {
-    let few = quickest_of(rt.alloc(), 32, 6, false)?.expect(&rt, "a prefilter");
+fn where_many_places_meet_none_with_heads_is_held(rt: HostRuntime) -> Result<(), Fail> {
+    let rows: [(u8, usize, &str); 4] = [
+        (101, 2, "none"),
+        (101, 4, "none"),
+        (101, 5, "strided"),
+        (255, 6, "strided"),
+    ];
+    for (count, len, wanted) in &rows {
+        let held = quickest_of(rt.alloc(), *count, *len, true, false)?;
+        assert_same(&rt, searches_by(held), *wanted);
+    }
+    Ok(())
+}
+
+#[test]
+fn a_strided_search_holds_its_tables(rt: HostRuntime) -> Result<(), Fail> {
+    let few = quickest_of(rt.alloc(), 100, 6, false, false)?.expect(&rt, "a prefilter");
     assert_same(&rt, few.memory_usage(), 0);
-    let both_cases = quickest_of(rt.alloc(), 33, 6, true)?.expect(&rt, "a prefilter");
-    assert_same(&rt, both_cases.memory_usage(), 8 * (99 + 64));
-    let many = quickest_of(rt.alloc(), 33, 6, false)?.expect(&rt, "a prefilter");
-    assert_same(&rt, many.memory_usage(), 8 * (99 + 64));
+    let both_cases = quickest_of(rt.alloc(), 101, 6, true, true)?.expect(&rt, "a prefilter");
+    assert_same(&rt, both_cases.memory_usage(), 8 * (303 + 64));
+    let many = quickest_of(rt.alloc(), 101, 6, true, false)?.expect(&rt, "a prefilter");
+    assert_same(&rt, many.memory_usage(), 8 * (303 + 64));
     Ok(())
 }
 
 #[test]
 fn a_strided_search_stops_where_a_pattern_stands(rt: HostRuntime) -> Result<(), Fail> {
-    let held = quickest_of(rt.alloc(), 40, 6, false)?.expect(&rt, "a prefilter");
-    let short = held.find_in(b"..\x07abcde", Span { start: 0, end: 8 });
+    let held = quickest_of(rt.alloc(), 101, 6, true, false)?.expect(&rt, "a prefilter");
+    let short = held.find_in(b"..eeeeee", Span { start: 0, end: 8 });
     assert_same(&rt, short.into_option(), Some(2));
-    let cut = held.find_in(b"..\x07abcde", Span { start: 0, end: 7 });
+    let cut = held.find_in(b"..eeeeee", Span { start: 0, end: 7 });
     assert_same(&rt, cut.into_option(), None);
-    let long = b"......................................\x07abcde";
+    let long = b"......................................eeeeee";
     let found = held.find_in(long, Span { start: 1, end: 44 });
     assert_same(&rt, found.into_option(), Some(38));
     Ok(())

@@ -19,8 +19,8 @@ impl Prefilter {
     ///
     /// It is a packed search with heads for up to thirty-two patterns of four bytes or more each (two, for eight and more), and for
     /// up to a hundred where the shortest has three to five, or six or seven and they are made of nine to thirty-two different
-    /// bytes. It is one too for more patterns of two bytes or more each, where by an estimate one place of a text in sixty-four, or
-    /// fewer, meets its fingerprints. Else it is a strided search, if there are more patterns, and each has five bytes or more
+    /// bytes. It is one too for more patterns of two bytes or more each, of nine different bytes or more, where by an estimate few
+    /// places of a text meet its fingerprints: one in sixty-four, or fewer. Else it is a strided search, if there are more patterns, and each has five bytes or more
     /// (six, for up to a hundred and for more than 8,192 patterns). But it is the one of a `PackedBuilder` where that one searches for first bytes of which words are
     /// not made, and for fewer patterns, or where too many grams of a few letters would be marked.
     ///
@@ -66,7 +66,7 @@ fn packed_heads_for(shape: Shape, ignore_case: bool, patterns: &[&[u8]]) -> Opti
         return None;
     };
     let search = PackedHeads::new(ignore_case, shape.tested(), size, patterns);
-    if shape.takes(search.density()) {
+    if shape.takes(&search) {
         Some(Searcher::PackedHeads(search))
     } else {
         None

@@ -3,9 +3,9 @@
 ghost use Rattle.std.specs.Prelude.{◌≡◌, ℕ, ◌<◌, ◌≤◌, false, slice_index, if◌then◌else◌};
 ghost use Rattle.aho_core.specs.Replacement.{pieces_of};
 ghost use Rattle.aho_prefilter.specs.FirstBytes.{has_byte};
-ghost use Rattle.aho_prefilter.specs.Sizes.{gram_for, has_heads, heads_for, is_crowded, is_few, is_many, is_small, least_head, shape_of, sizes_for, stride_for, takes, tested_for, used_below, wanted_gram};
+ghost use Rattle.aho_prefilter.specs.Sizes.{gram_for, has_heads, heads_for, is_crowded, is_few, is_many, is_small, is_sparse, least_head, least_weight, shape_of, sizes_for, stride_for, takes, tested_for, used_below, wanted_gram};
 
-use crate::packed_heads::Tested;
+use crate::packed_heads::{PackedHeads, Tested};
 
 /// The sizes of a strided search.
 #[derive(Clone, Copy)]
@@ -57,18 +57,41 @@ impl Shape {
         }
     }
 
-    /// Whether there are so many patterns that one is held only where few places meet it.
+    /// Whether there are so many patterns that one is held only where few places meet it. It is held for none of up to eight bytes,
+    /// since the text may be made of these alone.
     fn is_many(self) -> bool
         ensures many { result ≡ is_many self }
     {
-        self.count > 32 && self.head >= 2
+        self.count > 32 && self.head >= 2 && self.letters > 8
     }
 
-    /// Whether a packed search with heads, which so many of 2 ^ 40 places of a text meet, is the one for patterns of this shape.
-    pub(crate) fn takes(self, density: u64) -> bool
-        ensures takes { result ≡ takes self density }
+    /// Whether this packed search with heads is the one for patterns of this shape.
+    pub(crate) fn takes(self, search: &PackedHeads) -> bool
+        ensures takes { result ≡ takes self search.now }
     {
-        self.is_few() || density <= (1 << 40) / (self.count / 4).max(64).min(1024) as u64
+        self.is_few() || self.is_sparse(search)
+    }
+
+    /// Whether few places of a text meet this search: one in sixty-four, or in as many as a fourth of the patterns, but one in
+    /// 1,024 at least.
+    fn is_sparse(self, search: &PackedHeads) -> bool
+        ensures sparse { result ≡ is_sparse self search.now }
+    {
+        let places = (self.count / 4).max(64).min(1024) as u64;
+        search.density(self.least_weight()) <= (1 << 40) / places
+    }
+
+    /// How many of 1,024 bytes of a text are one of which patterns are made, at least. Where a strided search may be held too, the
+    /// text is taken for one that may be made of the same bytes as the patterns.
+    fn least_weight(self) -> u64
+        ensures weight { result ≡ least_weight self }
+        ensures few { result ≤ 128 }
+    {
+        if self.is_small() {
+            0
+        } else {
+            1024 / self.letters.max(8) as u64
+        }
     }
 
     /// Whether there are a few patterns, and they are long enough, or so many that three bytes of them stand at many places of a

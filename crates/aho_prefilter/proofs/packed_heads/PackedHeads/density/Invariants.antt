@@ -4,4 +4,4 @@ use Rattle.aho_prefilter.specs.Density.{places_below}
 use Rattle.aho_prefilter.proofs.packed_heads.PackedHeads.density.Given as goal
 
 abbrev pub invariant-loop-group : goal.invariant-loop-group
-invariant-loop-group l = (l.density ≡ places_below l.self l.group) × (l.density ≤ l.group * 2 ^ 60)
+invariant-loop-group l = (l.density ≡ places_below l.self l.least l.group) × (l.density ≤ l.group * 2 ^ 60)
