@@ -54,28 +54,19 @@ fn check<A: Automaton>(automaton: &A) -> Result<StateID, MatchError>
     automaton.start_state(Anchored::No)
 }
 
-/// The most bytes that a buffer keeps.
-const MOST_KEPT: usize = 2_147_483_646;
-
 /// The buffer of a cover, where the longest pattern has so many bytes. It keeps one more where words are asked for: the byte before
 /// a match is looked at then.
 ///
 /// # Errors
 ///
-/// Where the allocation fails, or the longest pattern has as many bytes as a buffer can keep at most, and words are asked for.
+/// Where the allocation fails.
 fn buffer_for(alloc: Global, words: bool, longest: usize) -> Result<Buffer, AllocError>
     requires bound { longest ≤ greatest_index }
     ensures empty { IfOk result (λ b. b.bytes ≡ []) }
     ensures all { words ≡ false → IfOk result (λ b. b.least ≡ max 1 longest) }
     ensures words { words ≡ true → IfOk result (λ b. b.least ≡ max 1 (longest + 1)) }
 {
-    if !words {
-        return Buffer::new(alloc, longest);
-    }
-    if longest >= MOST_KEPT {
-        return Err(AllocError);
-    }
-    Buffer::new(alloc, longest + 1)
+    Buffer::new(alloc, if words { longest + 1 } else { longest })
 }
 
 impl<'a, A: Automaton> StreamCoverStart<'a, A> {

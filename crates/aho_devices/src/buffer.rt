@@ -41,7 +41,7 @@ impl Buffer {
     /// many bytes, and 65536 at least. It takes all its memory here, that many bytes, and a refused allocation is the
     /// only error.
     pub fn new(alloc: Global, min_buffer_len: usize) -> Result<Buffer, AllocError>
-        requires small { min_buffer_len ≤ greatest_index }
+        requires small { min_buffer_len ≤ greatest_index + 1 }
         ensures empty { IfOk result (λ b. b.bytes ≡ []) }
         ensures least { IfOk result (λ b. b.least ≡ max 1 min_buffer_len) }
         ensures size { IfOk result (λ b. b.size ≡ capacity_for (max 1 min_buffer_len)) }

@@ -36,14 +36,14 @@ share_below masks least group (suc byte) =
     share_below masks least group byte + max (weight byte) least * bit_at (groups_of masks byte) group
 
 -- the same of all bytes
-abbrev pub share : Masks → ℕ → ℕ → ℕ
-share masks least group = share_below masks least group 256
+abbrev pub share_of : Masks → ℕ → ℕ → ℕ
+share_of masks least group = share_below masks least group 256
 
 -- how many of 2 ^ 40 places meet the group of this number by both halves of four bytes, each as if it stood there by chance
 abbrev pub places_met_by : PackedHeads → ℕ → ℕ → ℕ
 places_met_by search least group =
-    share search.packed.first least group * share search.packed.second least group
-    * (share search.packed.third least group * share search.fourth least group)
+    share_of search.packed.first least group * share_of search.packed.second least group
+    * (share_of search.packed.third least group * share_of search.fourth least group)
 
 -- how many meet one of so many groups
 unfoldable pub places_below : PackedHeads → ℕ → ℕ → ℕ

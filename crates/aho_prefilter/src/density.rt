@@ -4,7 +4,7 @@
 //! is slower, and answers the same.
 
 ghost use Rattle.std.specs.Prelude.{◌≡◌, ◌<◌, ◌≤◌, ◌^◌, max};
-ghost use Rattle.aho_prefilter.specs.Density.{density, is_common, places_met_by, share, weight};
+ghost use Rattle.aho_prefilter.specs.Density.{density, is_common, places_met_by, share_of, weight};
 
 use crate::packed::Masks;
 use crate::packed_heads::PackedHeads;
@@ -57,7 +57,7 @@ fn weight_from(least: u64, byte: u8) -> u64
 fn share(masks: &Masks, least: u64, group: u32) -> u64
     requires least { least ≤ 128 }
     requires group { group < 8 }
-    ensures share { result ≡ share masks.now least group }
+    ensures share { result ≡ share_of masks.now least group }
     ensures few { result ≤ 2 ^ 15 }
 {
     let mut share = 0;
