@@ -19,13 +19,14 @@ use Rattle.secret_forms.specs.Base64.{secret_within, trimmed, front_of, rest_of,
 use Rattle.secret_forms.specs.Forms.{form_patterns}
 use Rattle.secret_forms.specs.Json.{json_char, json_patterns, json_spellings, json_ways, numbered, numbered_by}
 use Rattle.secret_forms.specs.Lines.{ends_line, long_line}
-use Rattle.secret_forms.specs.Spelling.{double_quote, json_byte, json_no_letter, shell_byte, shell_spellings, single_quote, spelled, spelled_by, spelled_byte, url_byte, url_spellings, xml_byte, xml_spellings}
+use Rattle.secret_forms.specs.Spelling.{ampersand, double_quote, greater_than, json_byte, json_no_letter, less_than, shell_byte, shell_spellings, single_quote, spelled, spelled_by, spelled_byte, url_byte, url_spellings, xml_byte, xml_spellings}
 use Rattle.secret_forms.specs.declared.bytewise.Json.{Json}
 use Rattle.secret_forms.specs.declared.bytewise.Kept.{Kept}
 use Rattle.secret_forms.specs.declared.bytewise.Space.{Space}
 use Rattle.secret_forms.specs.declared.bytewise.Digits.{Digits}
+use Rattle.secret_forms.specs.declared.bytewise.Digits.TheVariants.{Upper, Lower}
 use Rattle.secret_forms.specs.declared.bytewise.Quotes.{Quotes}
-use Rattle.secret_forms.specs.declared.bytewise.Quotes.TheVariants.{Kept as KeptQuotes, Mixed, Named, Decimal, Hexadecimal}
+use Rattle.secret_forms.specs.declared.bytewise.Quotes.TheVariants.{Kept as KeptQuotes, Mixed, Named, Decimal, Hexadecimal, DecimalMarks, HexadecimalMarks}
 use Rattle.secret_forms.specs.declared.bytewise.Quoting.{Quoting}
 use Rattle.secret_forms.specs.declared.bytewise.Quoting.TheVariants.{Single, SingleByDouble, Double, Backslashes}
 use Rattle.secret_forms.specs.declared.bytewise.Spelling.{Spelling}
@@ -76,6 +77,8 @@ double_filled Mixed = filled _ _
 double_filled Named = filled _ _
 double_filled Decimal = filled _ _
 double_filled Hexadecimal = filled _ _
+double_filled DecimalMarks = filled _ _
+double_filled (HexadecimalMarks digits) = filled _ _
 
 single_filled : (quotes : Quotes) → IsFilled (single_quote quotes)
 single_filled KeptQuotes = filled _ _
@@ -83,10 +86,41 @@ single_filled Mixed = filled _ _
 single_filled Named = filled _ _
 single_filled Decimal = filled _ _
 single_filled Hexadecimal = filled _ _
+single_filled DecimalMarks = filled _ _
+single_filled (HexadecimalMarks digits) = filled _ _
+
+ampersand_filled : (quotes : Quotes) → IsFilled (ampersand quotes)
+ampersand_filled KeptQuotes = filled _ _
+ampersand_filled Mixed = filled _ _
+ampersand_filled Named = filled _ _
+ampersand_filled Decimal = filled _ _
+ampersand_filled Hexadecimal = filled _ _
+ampersand_filled DecimalMarks = filled _ _
+ampersand_filled (HexadecimalMarks digits) = filled _ _
+
+less_filled : (quotes : Quotes) → IsFilled (less_than quotes)
+less_filled KeptQuotes = filled _ _
+less_filled Mixed = filled _ _
+less_filled Named = filled _ _
+less_filled Decimal = filled _ _
+less_filled Hexadecimal = filled _ _
+less_filled DecimalMarks = filled _ _
+less_filled (HexadecimalMarks Upper) = filled _ _
+less_filled (HexadecimalMarks Lower) = filled _ _
+
+greater_filled : (quotes : Quotes) → IsFilled (greater_than quotes)
+greater_filled KeptQuotes = filled _ _
+greater_filled Mixed = filled _ _
+greater_filled Named = filled _ _
+greater_filled Decimal = filled _ _
+greater_filled Hexadecimal = filled _ _
+greater_filled DecimalMarks = filled _ _
+greater_filled (HexadecimalMarks Upper) = filled _ _
+greater_filled (HexadecimalMarks Lower) = filled _ _
 
 xml_filled : (quotes : Quotes) (b : ℕ) → IsFilled (xml_byte quotes b)
 unfolding xml_byte
-xml_filled quotes b = search (either, filled, double_filled, single_filled) depth 12
+xml_filled quotes b = search (either, ampersand_filled, less_filled, greater_filled, filled, double_filled, single_filled) depth 12
 
 shell_filled : (quoting : Quoting) (b : ℕ) → IsFilled (shell_byte quoting b)
 unfolding shell_byte

@@ -13,7 +13,7 @@ use Rattle.secret_forms.specs.declared.bytewise.Marks.{Marks}
 use Rattle.secret_forms.specs.declared.bytewise.Marks.TheVariants.{Kept as KeptMarks, Slash as SlashMark, Markup, SlashAndMarkup}
 use Rattle.secret_forms.specs.declared.bytewise.Json.{Json}
 use Rattle.secret_forms.specs.declared.bytewise.Quotes.{Quotes}
-use Rattle.secret_forms.specs.declared.bytewise.Quotes.TheVariants.{Kept as KeptQuotes, Mixed, Named, Decimal, Hexadecimal}
+use Rattle.secret_forms.specs.declared.bytewise.Quotes.TheVariants.{Kept as KeptQuotes, Mixed, Named, Decimal, Hexadecimal, DecimalMarks, HexadecimalMarks}
 use Rattle.secret_forms.specs.declared.bytewise.Quoting.{Quoting}
 use Rattle.secret_forms.specs.declared.bytewise.Quoting.TheVariants.{Single, SingleByDouble, Double, Backslashes}
 use Rattle.secret_forms.specs.declared.bytewise.Spelling.{Spelling}
@@ -106,6 +106,8 @@ double_quote Mixed = codes "&quot;"
 double_quote Named = codes "&quot;"
 double_quote Decimal = codes "&#34;"
 double_quote Hexadecimal = codes "&quot;"
+double_quote DecimalMarks = codes "&#34;"
+double_quote (HexadecimalMarks digits) = codes "&#x22;"
 
 -- a single quote as XML and HTML write it
 abbrev pub single_quote : Quotes → List ℕ
@@ -114,11 +116,45 @@ single_quote Mixed = codes "&#39;"
 single_quote Named = codes "&apos;"
 single_quote Decimal = codes "&#39;"
 single_quote Hexadecimal = codes "&#x27;"
+single_quote DecimalMarks = codes "&#39;"
+single_quote (HexadecimalMarks digits) = codes "&#x27;"
+
+-- `&` as XML and HTML write it
+abbrev pub ampersand : Quotes → List ℕ
+ampersand KeptQuotes = codes "&amp;"
+ampersand Mixed = codes "&amp;"
+ampersand Named = codes "&amp;"
+ampersand Decimal = codes "&amp;"
+ampersand Hexadecimal = codes "&amp;"
+ampersand DecimalMarks = codes "&#38;"
+ampersand (HexadecimalMarks digits) = codes "&#x26;"
+
+-- `<` as XML and HTML write it
+abbrev pub less_than : Quotes → List ℕ
+less_than KeptQuotes = codes "&lt;"
+less_than Mixed = codes "&lt;"
+less_than Named = codes "&lt;"
+less_than Decimal = codes "&lt;"
+less_than Hexadecimal = codes "&lt;"
+less_than DecimalMarks = codes "&#60;"
+less_than (HexadecimalMarks Upper) = codes "&#x3C;"
+less_than (HexadecimalMarks Lower) = codes "&#x3c;"
+
+-- `>` as XML and HTML write it
+abbrev pub greater_than : Quotes → List ℕ
+greater_than KeptQuotes = codes "&gt;"
+greater_than Mixed = codes "&gt;"
+greater_than Named = codes "&gt;"
+greater_than Decimal = codes "&gt;"
+greater_than Hexadecimal = codes "&gt;"
+greater_than DecimalMarks = codes "&#62;"
+greater_than (HexadecimalMarks Upper) = codes "&#x3E;"
+greater_than (HexadecimalMarks Lower) = codes "&#x3e;"
 
 -- a byte of XML or HTML: of `&`, `<`, `>` and the quotes a reference
 unfoldable pub xml_byte : Quotes → ℕ → List ℕ
 xml_byte quotes byte =
-    if byte == 38 then codes "&amp;" else if byte == 60 then codes "&lt;" else if byte == 62 then codes "&gt;"
+    if byte == 38 then ampersand quotes else if byte == 60 then less_than quotes else if byte == 62 then greater_than quotes
     else if byte == 34 then double_quote quotes else if byte == 39 then single_quote quotes else byte ∷ []
 
 -- whether a byte stands as it is in a word that is quoted by backslashes alone
@@ -162,7 +198,9 @@ url_spellings =
 
 -- the encoders of XML and HTML
 abbrev pub xml_spellings : List Spelling
-xml_spellings = Xml KeptQuotes ∷ Xml Mixed ∷ Xml Named ∷ Xml Decimal ∷ Xml Hexadecimal ∷ []
+xml_spellings =
+    Xml KeptQuotes ∷ Xml Mixed ∷ Xml Named ∷ Xml Decimal ∷ Xml Hexadecimal
+    ∷ Xml DecimalMarks ∷ Xml (HexadecimalMarks Upper) ∷ Xml (HexadecimalMarks Lower) ∷ []
 
 -- the ways to quote a shell's word
 abbrev pub shell_spellings : List Spelling

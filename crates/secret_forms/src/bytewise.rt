@@ -40,7 +40,7 @@ pub enum Digits {
     Lower,
 }
 
-/// How XML and HTML write quotes.
+/// How XML and HTML write quotes, and marks: `&`, `<` and `>` stand by their names, where nothing else is said.
 #[derive(Clone, Copy, Debug, PartialEq, Eq)]
 pub enum Quotes {
     /// As they are.
@@ -53,6 +53,10 @@ pub enum Quotes {
     Decimal,
     /// `&quot;` and `&#x27;`.
     Hexadecimal,
+    /// Quotes and marks by their decimal numbers: `&#60;` for `<`.
+    DecimalMarks,
+    /// Quotes and marks by their hexadecimal numbers, `&#x3C;` or `&#x3c;` for `<`.
+    HexadecimalMarks(Digits),
 }
 
 /// How a shell's word is quoted.
@@ -247,7 +251,8 @@ fn double_quote(quotes: Quotes) -> &'static [u8]
     match quotes {
         Quotes::Kept => b"\"",
         Quotes::Mixed | Quotes::Named | Quotes::Hexadecimal => b"&quot;",
-        Quotes::Decimal => b"&#34;",
+        Quotes::Decimal | Quotes::DecimalMarks => b"&#34;",
+        Quotes::HexadecimalMarks(_) => b"&#x22;",
     }
 }
 
@@ -257,9 +262,44 @@ fn single_quote(quotes: Quotes) -> &'static [u8]
 {
     match quotes {
         Quotes::Kept => b"'",
-        Quotes::Mixed | Quotes::Decimal => b"&#39;",
+        Quotes::Mixed | Quotes::Decimal | Quotes::DecimalMarks => b"&#39;",
         Quotes::Named => b"&apos;",
-        Quotes::Hexadecimal => b"&#x27;",
+        Quotes::Hexadecimal | Quotes::HexadecimalMarks(_) => b"&#x27;",
+    }
+}
+
+/// `&` as XML and HTML write it.
+fn ampersand(quotes: Quotes) -> &'static [u8]
+    ensures { result.now ≡ spec.ampersand quotes }
+{
+    match quotes {
+        Quotes::DecimalMarks => b"&#38;",
+        Quotes::HexadecimalMarks(_) => b"&#x26;",
+        _ => b"&amp;",
+    }
+}
+
+/// `<` as XML and HTML write it.
+fn less_than(quotes: Quotes) -> &'static [u8]
+    ensures { result.now ≡ spec.less_than quotes }
+{
+    match quotes {
+        Quotes::DecimalMarks => b"&#60;",
+        Quotes::HexadecimalMarks(Digits::Upper) => b"&#x3C;",
+        Quotes::HexadecimalMarks(Digits::Lower) => b"&#x3c;",
+        _ => b"&lt;",
+    }
+}
+
+/// `>` as XML and HTML write it.
+fn greater_than(quotes: Quotes) -> &'static [u8]
+    ensures { result.now ≡ spec.greater_than quotes }
+{
+    match quotes {
+        Quotes::DecimalMarks => b"&#62;",
+        Quotes::HexadecimalMarks(Digits::Upper) => b"&#x3E;",
+        Quotes::HexadecimalMarks(Digits::Lower) => b"&#x3e;",
+        _ => b"&gt;",
     }
 }
 
@@ -268,9 +308,9 @@ fn push_xml(out: &mut Vec<u8>, quotes: Quotes, byte: u8) -> Result<(), AllocErro
     ensures xml { Writes result out.old out.new (spec.xml_byte quotes byte) }
 {
     match byte {
-        b'&' => out.extend_from_slice(b"&amp;"),
-        b'<' => out.extend_from_slice(b"&lt;"),
-        b'>' => out.extend_from_slice(b"&gt;"),
+        b'&' => out.extend_from_slice(ampersand(quotes)),
+        b'<' => out.extend_from_slice(less_than(quotes)),
+        b'>' => out.extend_from_slice(greater_than(quotes)),
         b'"' => out.extend_from_slice(double_quote(quotes)),
         b'\'' => out.extend_from_slice(single_quote(quotes)),
         _ => out.extend_from_slice(&[byte]),

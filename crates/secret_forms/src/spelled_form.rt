@@ -72,8 +72,8 @@ pub fn url_forms(alloc: Global, secret: &[u8]) -> Result<Vec<Vec<u8>>, FormError
     spelled_forms(alloc, secret, &url_encoders())
 }
 
-/// The encoders of XML and HTML: with quotes as they are, and as named, decimal and hexadecimal references.
-pub(crate) fn xml_encoders() -> [Spelling; 5]
+/// The encoders of XML and HTML: with quotes as they are, and as named, decimal and hexadecimal references; and with each reference by its number.
+pub(crate) fn xml_encoders() -> [Spelling; 8]
     ensures { result ≡ xml_spellings }
 {
     [
@@ -82,6 +82,9 @@ pub(crate) fn xml_encoders() -> [Spelling; 5]
         Spelling::Xml(Quotes::Named),
         Spelling::Xml(Quotes::Decimal),
         Spelling::Xml(Quotes::Hexadecimal),
+        Spelling::Xml(Quotes::DecimalMarks),
+        Spelling::Xml(Quotes::HexadecimalMarks(Digits::Upper)),
+        Spelling::Xml(Quotes::HexadecimalMarks(Digits::Lower)),
     ]
 }
 

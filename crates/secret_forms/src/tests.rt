@@ -107,7 +107,8 @@ fn json_with_letters(rt: HostRuntime) {
 fn xml_by_each_encoder(rt: HostRuntime) {
     let text = shown(rt.alloc(), xml_forms(rt.alloc(), b"<\"&'>")).expect(&rt, "memory");
     let row: &[u8] =
-        b"&lt;\"&amp;'&gt; &lt;&quot;&amp;&#39;&gt; &lt;&quot;&amp;&apos;&gt; &lt;&#34;&amp;&#39;&gt; &lt;&quot;&amp;&#x27;&gt; ";
+        b"&lt;\"&amp;'&gt; &lt;&quot;&amp;&#39;&gt; &lt;&quot;&amp;&apos;&gt; &lt;&#34;&amp;&#39;&gt; &lt;&quot;&amp;&#x27;&gt; \
+          &#60;&#34;&#38;&#39;&#62; &#x3C;&#x22;&#x26;&#x27;&#x3E; &#x3c;&#x22;&#x26;&#x27;&#x3e; ";
     assert_eq!(rt; text.as_slice(), row);
 }
 
