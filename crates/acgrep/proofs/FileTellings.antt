@@ -6,7 +6,6 @@ use Rattle.std.proofs.KnownBytes.{Appends-trans}
 use Rattle.std.proofs.lemmas.Bool.{cases_Bool, lt-ltb, ltb-false, ltb-true}
 use Rattle.aho_core.specs.Patterns.{Patterns}
 use Rattle.programs.specs.Names.{is_input}
-use Rattle.acgrep.specs.Alone.{asks_alone}
 use Rattle.acgrep.specs.Binary.{TellsGuarded, is_guarded, lines_by, lines_sought, takes_text, text_lines}
 use Rattle.acgrep.specs.Contexts.{IsBegin, SearchesIn, TellsFile, TellsIn, around_by, around_of, walk_of}
 use Rattle.acgrep.specs.Files.{EndsFile, IfSearched, IsNamed, IsRead, SearchesFile, SearchesName, SearchesReader, TellsBy, TellsSearched, count_if, known_of, shown_name, total_if}
@@ -62,11 +61,15 @@ text_behind (Some all) None bytes read = absurd read
 text_behind (Some all) (Some rest) bytes read = (rest, sym read, λ end. end)
 
 module _ (p : Patterns) (job : Job) where
-  pub tells_none : (ls : List (List ℕ)) (place : Place) (count : ℕ) (bytes : List ℕ) (total : ℕ) → needs_one job.shown ≡ true → TellsOfLines p job place count ls bytes total → bytes ≡ []
+  pub shows_nothing : needs_one job.shown ≡ true → (place : Place) (line bytes : List ℕ) → ShowsLine p job place line bytes → bytes ≡ []
+  shows_nothing one place line bytes shows = shows_none p job.shown _ job.invert job.style place line bytes one shows
+
+  -- where nothing is written of a line nothing is of all
+  pub tells_none : (ls : List (List ℕ)) (place : Place) (count : ℕ) (bytes : List ℕ) (total : ℕ) → ((place : Place) (line bytes : List ℕ) → ShowsLine p job place line bytes → bytes ≡ []) → TellsOfLines p job place count ls bytes total → bytes ≡ []
   tells_none [] place count bytes total one told = told.0
   tells_none (line ∷ rest) place count bytes total one (inl (full, none, same)) = none
   tells_none (line ∷ rest) place count bytes total one (inr (goes, inl (selected, (shown, more, shows, behind, is)))) =
-      is ∙ ap (λ (l : List ℕ). l ++ more) (shows_none p job.shown (asks_alone job.fit) job.invert job.style place line shown one shows)
+      is ∙ ap (λ (l : List ℕ). l ++ more) (one place line shown shows)
       ∙ tells_none rest _ (one_more count) more total one behind
   tells_none (line ∷ rest) place count bytes total one (inr (goes, inr (passed, behind))) = tells_none rest _ count bytes total one behind
 
@@ -115,11 +118,11 @@ module _ (p : Patterns) (job : Job) where
   by_whole Count is ls told count tells =
       (told, count, subst (λ (shown : Shown). TellsIn p job (around_by shown job.context) ls told count) is tells, ap (λ (shown : Shown). told ++ count_if shown job.style count) is)
   by_whole Names is ls told count tells =
-      ap (λ (l : List ℕ). l ++ total_if Names job.style count) (tells_none ls job.first 0 told count (ap needs_one (sym is)) tells)
+      ap (λ (l : List ℕ). l ++ total_if Names job.style count) (tells_none ls job.first 0 told count (shows_nothing (ap needs_one (sym is))) tells)
   by_whole Lacking is ls told count tells =
-      ap (λ (l : List ℕ). l ++ total_if Lacking job.style count) (tells_none ls job.first 0 told count (ap needs_one (sym is)) tells)
+      ap (λ (l : List ℕ). l ++ total_if Lacking job.style count) (tells_none ls job.first 0 told count (shows_nothing (ap needs_one (sym is))) tells)
   by_whole Nothing is ls told count tells =
-      ap (λ (l : List ℕ). l ++ []) (tells_none ls job.first 0 told count (ap needs_one (sym is)) tells)
+      ap (λ (l : List ℕ). l ++ []) (tells_none ls job.first 0 told count (shows_nothing (ap needs_one (sym is))) tells)
 
   -- and where one selected line told all
   by_front : (shown : Shown) (ls : List (List ℕ)) (count : ℕ) → needs_one shown ≡ true → 0 < count → TellsBy p job shown ls true (total_if shown job.style count)
@@ -134,9 +137,6 @@ module _ (p : Patterns) (job : Job) where
       let is : nat_lt 0 count ≡ true = lt-ltb 0 count some in
       ap (λ (any : Bool). if any then [] else file_line job.style) is
   by_front Nothing ls count one some = refl
-
-  pub shows_nothing : (place : Place) (line bytes : List ℕ) → needs_one job.shown ≡ true → ShowsLine p job place line bytes → bytes ≡ []
-  shows_nothing place line bytes one shows = shows_none p job.shown _ job.invert job.style place line bytes one shows
 
   -- what is told where lines with a zero byte are written too, or not searched
   unguarded : is_guarded job ≡ false → (text : List ℕ) (any : Bool) (bytes : List ℕ) → TellsSearched p job (lines_sought job text) any bytes
@@ -171,7 +171,7 @@ module _ (p : Patterns) (job : Job) where
   lines_front state held meanwhile held' ls searched told tells one some front written any ends =
       let count = state.selected in
       let is : any ≡ true = ends.is_any ∙ lt-ltb 0 count some in
-      let none : told ≡ [] = tells_none searched job.first 0 told count one tells in
+      let none : told ≡ [] = tells_none searched job.first 0 told count (shows_nothing one) tells in
       record {
         bytes = total_if job.shown job.style count;
         tells = (
@@ -206,7 +206,7 @@ module _ (p : Patterns) (job : Job) where
     pub written : Appends held meanwhile bytes
     pub ends : (left ≡ []) ⊎ IsSettled job state
 
-  from_begin : (before : State) (ls : List (List ℕ)) (told : List ℕ) (count : ℕ) → IsBegin job before → TellsOfLines p job before.place before.selected ls told count
+  pub from_begin : (before : State) (ls : List (List ℕ)) (told : List ℕ) (count : ℕ) → IsBegin job before → TellsOfLines p job before.place before.selected ls told count
       → TellsOfLines p job job.first 0 ls told count
   from_begin before ls told count begin tells =
       subst (λ (at : Place). TellsOfLines p job at 0 ls told count) begin.place (subst (λ (n : ℕ). TellsOfLines p job before.place n ls told count) begin.selected tells)

@@ -1,13 +1,13 @@
 -- The lines before the first that holds a zero byte, put together from reads.
 use Rattle.std.proofs.Common.{◌≡◌, ℕ, ◌-◌, ◌≤◌, ◌<◌, true, List, [], ◌∷◌, ◌++◌, Option, Some, length, take, drop, refl, sym, ◌∙◌, ap, subst, arith, length-append}
-use Rattle.std.specs.Io.KnownBytes.{Consumes, Keeps}
+use Rattle.std.specs.Io.KnownBytes.{Keeps}
 use Rattle.aho_core.specs.Patterns.{Patterns}
 use Rattle.acgrep.specs.Binary.{is_text}
-use Rattle.acgrep.specs.Contexts.{BeginsSearched, SearchesText}
+use Rattle.acgrep.specs.Contexts.{SearchesText}
 use Rattle.acgrep.specs.Filled.{FillsBehind}
-use Rattle.acgrep.specs.Guarded.{BeginsFront, BeginsPast, IsFirstBinary, IsZeroLine, ReadsFront, SearchesFront, SearchesPast}
+use Rattle.acgrep.specs.Guarded.{IsFirstBinary, IsZeroLine, ReadsFront, SearchesFront, SearchesPast}
 use Rattle.acgrep.specs.Lines.{IsEnding, lines}
-use Rattle.acgrep.specs.Streamed.{BeginsWhole, SearchesWhole, course}
+use Rattle.acgrep.specs.Streamed.{SearchesWhole, course}
 use Rattle.acgrep.specs.Written.{IsSettled}
 use Rattle.acgrep.specs.declared.guarded.Came.{Came}
 use Rattle.acgrep.specs.declared.guarded.Came.TheVariants.{Text, Binary, End}
@@ -15,7 +15,6 @@ use Rattle.acgrep.specs.declared.select.Job.{Job}
 use Rattle.acgrep.specs.declared.select.State.{State}
 use Rattle.acgrep.proofs.BinaryLines.{text_back, text_front, text_joined}
 use Rattle.acgrep.proofs.Streams.{reads_none, reads_some, stream_done, stream_end, stream_start, stream_step, stream_stop, whole_searched}
-use Rattle.acgrep.proofs.StreamsBegun.{some_begins, some_none, stream_begins, stream_begins_stop, stream_last_begins, whole_begins}
 
 take_back : (xs ys : List ℕ) → take (length (xs ++ ys) - length ys) (xs ++ ys) ≡ xs
 take_back xs ys =
@@ -32,7 +31,7 @@ no_bytes [] count long none = refl
 no_bytes (x ∷ xs) count long none = absurd (omega (arith, long, none))
 
 -- what was kept before a read
-kept_front : (kept filled : List ℕ) (l m : Option (List ℕ)) (count : ℕ) → FillsBehind kept filled l m count → is_text kept ≡ true → is_text (take (length filled - count) filled) ≡ true
+pub kept_front : (kept filled : List ℕ) (l m : Option (List ℕ)) (count : ℕ) → FillsBehind kept filled l m count → is_text kept ≡ true → is_text (take (length filled - count) filled) ≡ true
 kept_front kept filled l m count fills is =
     subst (λ (bytes : List ℕ). is_text (take (length bytes - count) bytes) ≡ true) (sym fills.behind)
     (subst (λ (n : ℕ). is_text (take (length (kept ++ fills.came) - n) (kept ++ fills.came)) ≡ true) fills.counted
@@ -67,30 +66,6 @@ module _ (p : Patterns) (job : Job) where
     text = text_joined (so_far.some.searched ++ front.some.searched) rest (text_joined so_far.some.searched front.some.searched so_far.text (front.text is)) (front.left is);
   }
 
-  -- the same where it is broken off
-  pub front_last_begins : (a b c d : State) (x y z w l m n : Option (List ℕ)) (kept rest : List ℕ) → (IsSettled job b → ⊥) → is_text kept ≡ true
-      → SearchesFront p job (course a b x y l m) kept → ReadsFront p job (course b c y z m n) kept rest End → BeginsSearched p job c d.selected z w (lines job.style.ending rest)
-      → BeginsPast p job (course a d x w l n)
-  unfolding stream_last_begins stream_step
-  front_last_begins a b c d x y z w l m n kept rest goes is so_far front last = record {
-    all = stream_last_begins p job a b c d x y z w l m n [] kept rest true goes refl so_far.some front.some last;
-    text = text_joined (so_far.some.searched ++ front.some.searched) rest (text_joined so_far.some.searched front.some.searched so_far.text (front.text is)) (front.left is);
-  }
-
-  -- a read that is broken off
-  pub front_begins : (a b c : State) (x y z l m n : Option (List ℕ)) (kept : List ℕ) → (IsSettled job b → ⊥) → is_text kept ≡ true
-      → SearchesFront p job (course a b x y l m) kept → BeginsFront p job (course b c y z m n) kept → BeginsPast p job (course a c x z l n)
-  unfolding stream_begins
-  front_begins a b c x y z l m n kept goes is so_far front = record {
-    all = stream_begins p job a b c x y z l m n [] kept goes so_far.some front.some;
-    text = text_joined so_far.some.searched front.some.searched so_far.text (front.text is);
-  }
-
-  -- nothing more is read
-  pub front_begins_stop : (a b : State) (x y l m : Option (List ℕ)) (kept : List ℕ) → SearchesFront p job (course a b x y l m) kept → BeginsPast p job (course a b x y l m)
-  unfolding stream_begins_stop
-  front_begins_stop a b x y l m kept so_far = record { all = stream_begins_stop p job a b x y l m [] kept so_far.some; text = so_far.text }
-
   -- a read that gives nothing
   pub read_end : (a : State) (x y l m : Option (List ℕ)) (kept filled : List ℕ) (count : ℕ) → Keeps x y → FillsBehind kept filled l m count → count ≡ 0
       → ReadsFront p job (course a a x y l m) kept filled End
@@ -123,28 +98,4 @@ module _ (p : Patterns) (job : Job) where
     some = reads_some p job a b x y z l m kept filled after count keeps fills (whole_searched p job a b y z filled after start within ends rest searches);
     text = λ is. (cut (kept_front kept filled l m count fills is)).0;
     left = λ is other more. subst (λ (bytes : List ℕ). IsFirstBinary (lines job.style.ending (bytes ++ more))) (sym rest) ((cut (kept_front kept filled l m count fills is)).1 other more);
-  }
-
-  -- nothing is written
-  pub begun_none : (a : State) (x y l m : Option (List ℕ)) (kept came : List ℕ) → Keeps x y → Consumes l m came → BeginsFront p job (course a a x y l m) kept
-  unfolding some_none
-  begun_none a x y l m kept came keeps read = record { some = some_none p job a x y l m kept came keeps read; text = λ is. refl }
-
-  -- a beginning of what is told of lines without a zero byte
-  pub begun_text : (a b : State) (x y z l m : Option (List ℕ)) (kept filled : List ℕ) (count : ℕ) → Keeps x y → FillsBehind kept filled l m count
-      → (is_text (take (length filled - count) filled) ≡ true → is_text filled ≡ true) → BeginsWhole p job a b y z filled → BeginsFront p job (course a b x z l m) kept
-  unfolding some_begins
-  begun_text a b x y z l m kept filled count keeps fills text begins = record {
-    some = some_begins p job a b x y z l m kept filled count keeps fills begins;
-    text = λ is. text_front begins.searched begins.rest (subst (λ (bytes : List ℕ). is_text bytes ≡ true) begins.cut (text (kept_front kept filled l m count fills is)));
-  }
-
-  -- or of those before one
-  pub begun_binary : (a b : State) (x y z l m : Option (List ℕ)) (kept filled : List ℕ) (count start : ℕ) → Keeps x y → FillsBehind kept filled l m count → start ≤ length filled
-      → (0 < start → IsEnding job.style.ending filled (start - 1)) → (is_text (take (length filled - count) filled) ≡ true → IsZeroLine job.style.ending filled (Some start))
-      → BeginsSearched p job a b.selected y z (lines job.style.ending (take start filled)) → BeginsFront p job (course a b x z l m) kept
-  unfolding some_begins whole_begins
-  begun_binary a b x y z l m kept filled count start keeps fills within ends cut begins = record {
-    some = some_begins p job a b x y z l m kept filled count keeps fills (whole_begins p job a b.selected b y z filled start refl within ends begins);
-    text = λ is. (cut (kept_front kept filled l m count fills is)).0;
   }

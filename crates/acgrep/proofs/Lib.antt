@@ -1,6 +1,7 @@
 pub mod AloneTried
 pub mod Around
 pub mod Beginnings
+pub mod Begun
 pub mod BinaryLines
 pub mod BinaryTold
 pub mod Choosing

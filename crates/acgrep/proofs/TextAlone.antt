@@ -1,24 +1,23 @@
 -- What is told where only the lines before the first that holds a zero byte are searched.
 use Rattle.std.proofs.Common.{◌≡◌, inl, inr, ℕ, ◌==◌, Bool, true, false, List, [], ◌++◌, Option, IfSome, refl, sym, ◌∙◌, ap, subst, append_assoc, append-nil}
-use Rattle.std.specs.Prelude.{MatchBool, not, ◌&&◌}
+use Rattle.std.specs.Prelude.{not, ◌&&◌}
 use Rattle.std.specs.Io.KnownBytes.{Consumes}
 use Rattle.std.proofs.lemmas.Bool.{and_parts, not-true}
 use Rattle.aho_core.specs.Patterns.{Patterns}
-use Rattle.acgrep.specs.Binary.{BeginsGuarded, is_guarded, is_text, lines_sought, takes_text, text_lines, writes_lines}
+use Rattle.acgrep.specs.Binary.{is_guarded, is_text, lines_sought, takes_text, text_lines, writes_lines}
 use Rattle.acgrep.specs.Contexts.{IsBegin, around_of}
-use Rattle.acgrep.specs.Files.{BeginsFile, BeginsFileIn, BeginsTotal, EndsFile, SearchesReader}
-use Rattle.acgrep.specs.Guarded.{BeginsBinary, BeginsPast, EndsFront, SearchesFront, SearchesPast}
+use Rattle.acgrep.specs.Files.{EndsFile, SearchesReader}
+use Rattle.acgrep.specs.Guarded.{BeginsBinary, EndsFront, SearchesFront, SearchesPast}
 use Rattle.acgrep.specs.Lines.{EndsLine, lines}
-use Rattle.acgrep.specs.Streamed.{course}
+use Rattle.acgrep.specs.Streamed.{BeginsBehind, course}
 use Rattle.acgrep.specs.Written.{SomeLine}
 use Rattle.acgrep.specs.declared.select.Job.{Job}
 use Rattle.acgrep.specs.declared.select.State.{State}
 use Rattle.acgrep.proofs.BinaryLines.{first_some, first_text, text_behind}
 use Rattle.acgrep.proofs.BinaryTold.{lines_cut, some_behind}
 use Rattle.acgrep.proofs.FileTellings.{file_of, left_none, lines_told, settled_read, sought_text, text_behind as text_read, text_told}
-use Rattle.acgrep.proofs.FilesBegun.{begins_in}
 use Rattle.acgrep.proofs.LineLists.{lines_append}
-use Rattle.acgrep.proofs.StreamsBegun.{begins_whole}
+use Rattle.acgrep.proofs.StreamsBegun.{behind_searched, behind_stop}
 
 and_false : (b : Bool) → (b && false) ≡ false
 and_false true = refl
@@ -116,49 +115,6 @@ module _ (p : Patterns) (job : Job) (alone : takes_text job ≡ true) where
 
   -- what was told of those lines is a beginning too
   pub ends_begun : (before state : State) (left left' held meanwhile : Option (List ℕ)) (kept : List ℕ) (binary : Bool)
-      → EndsFront p job (course before state held meanwhile left left') kept binary → BeginsPast p job (course before state held meanwhile left left')
-  ends_begun before state left left' held meanwhile kept true (front, binary) = record {
-    all = record {
-      came = front.some.came;
-      searched = front.some.searched;
-      rest = kept;
-      consumed = front.some.consumed;
-      cut = front.some.cut;
-      begins = begins_whole p job before state held meanwhile front.some.searched front.some.searches;
-      ends = inl front.some.whole;
-    };
-    text = front.text;
-  }
-  ends_begun before state left left' held meanwhile kept false past = record {
-    all = record {
-      came = past.all.came;
-      searched = past.all.searched;
-      rest = past.all.rest;
-      consumed = past.all.consumed;
-      cut = past.all.cut;
-      begins = begins_whole p job before state held meanwhile past.all.searched past.all.searches;
-      ends = elim past.all.ends [ inl end ↦ inr end | inr (whole, settled) ↦ inl whole ];
-    };
-    text = past.text;
-  }
-
-  -- a beginning of what is told of them, and of what is asked of the file as a whole
-  pub past_begun : (before state : State) (left left' held meanwhile held' : Option (List ℕ)) → IsBegin job before → BeginsPast p job (course before state held meanwhile left left')
-      → BeginsTotal job state.selected meanwhile held' → BeginsFile p job left held held'
-  past_begun before state left left' held meanwhile held' begin past total =
-      let behind = past.all in
-      let searched = behind.searched in
-      let (more, known, none) = text_read left left' behind.came behind.consumed in
-      let text = behind.came ++ more in
-      let (others, cut) : (others : List (List ℕ)) × (lines_sought job text ≡ lines job.style.ending searched ++ others) =
-      elim behind.ends [
-        | inl whole ↦ (text_lines (lines job.style.ending (behind.rest ++ more)), sought_behind behind.came searched behind.rest more behind.cut whole past.text)
-        | inr (empty, end) ↦ (
-          [],
-          sought_same text searched
-              (ap (λ (l : List ℕ). behind.came ++ l) (none end) ∙ append-nil behind.came ∙ behind.cut ∙ ap (λ (l : List ℕ). searched ++ l) empty ∙ append-nil searched) past.text
-              ∙ sym (append-nil (lines job.style.ending searched)),
-        )
-      ] in
-      subst (λ (b : Bool). MatchBool b (BeginsGuarded p job left held held') (BeginsFileIn p job (around_of job) left held held')) (sym plainly)
-      (begins_in p job (around_of job) refl before state left held meanwhile held' text (lines job.style.ending searched) others begin known cut behind.begins total)
+      → EndsFront p job (course before state held meanwhile left left') kept binary → BeginsBehind p job true before state held meanwhile left []
+  ends_begun before state left left' held meanwhile kept true (front, binary) = behind_stop p job true before state held meanwhile left left' [] kept false front.some (λ _. front.text)
+  ends_begun before state left left' held meanwhile kept false past = behind_searched p job true before state held meanwhile left left' [] past.all (λ _. past.text)

@@ -4,7 +4,7 @@ use Rattle.std.specs.Io.KnownBytes.{Appends, Consumes, IsAtEnd}
 use Rattle.aho_core.specs.Patterns.{Patterns}
 use Rattle.acgrep.specs.Binary.{is_text}
 use Rattle.acgrep.specs.Lines.{lines}
-use Rattle.acgrep.specs.Streamed.{BeginsBehind, BeginsSome, Course, ReadsSome, SearchesBehind}
+use Rattle.acgrep.specs.Streamed.{Course, ReadsSome, SearchesBehind}
 use Rattle.acgrep.specs.Written.{IsAny}
 use Rattle.acgrep.specs.declared.guarded.Came.{Came}
 use Rattle.acgrep.specs.declared.guarded.Came.TheVariants.{Text, Binary, End}
@@ -42,11 +42,6 @@ pub record ReadsFront (p : Patterns) (job : Job) (c : Course) (kept_before kept_
   pub text : is_text kept_before ≡ true → is_text some.searched ≡ true
   pub left : is_text kept_before ≡ true → IsKept came job.style.ending kept_after
 
--- or their search was begun
-pub record BeginsFront (p : Patterns) (job : Job) (c : Course) (kept : List ℕ) : Type 0 where
-  pub some : BeginsSome p job c kept
-  pub text : is_text kept ≡ true → is_text some.searched ≡ true
-
 -- whole lines of what was read are searched, none of which holds a zero byte, and these bytes are kept
 pub record SearchesFront (p : Patterns) (job : Job) (c : Course) (kept : List ℕ) : Type 0 where
   pub some : ReadsSome p job c [] kept false
@@ -60,11 +55,6 @@ pub record SearchesPast (p : Patterns) (job : Job) (c : Course) : Type 0 where
 -- the lines up to one that holds a zero byte are searched, which is kept, or there is none
 abbrev pub EndsFront : Patterns → Job → Course → (kept : List ℕ) → Bool → Type 0
 EndsFront p job c kept binary = MatchBool binary (SearchesFront p job c kept × BeginsBinary job.style.ending kept) (SearchesPast p job c)
-
--- of lines of what was read, none of which holds a zero byte, a beginning of what is told is written
-pub record BeginsPast (p : Patterns) (job : Job) (c : Course) : Type 0 where
-  pub all : BeginsBehind p job c []
-  pub text : is_text all.searched ≡ true
 
 -- bytes came behind those that are there, and it is known whether a line of both is selected, whatever follows; nothing is written
 pub record FindsSelected (p : Patterns) (job : Job) (kept : List ℕ) (left left' held held' : Option (List ℕ)) (any : Bool) : Type 0 where

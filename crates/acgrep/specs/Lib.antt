@@ -3,6 +3,7 @@ pub mod Alone
 pub mod Arguments
 pub mod Backing
 pub mod Base64
+pub mod Begun
 pub mod Binary
 pub mod Colors
 pub mod Contexts

@@ -7,10 +7,10 @@ ghost use Rattle.aho_core.specs.Patterns.{Patterns};
 ghost use Rattle.aho_devices.specs.Counts.{AppendsBeginning};
 ghost use Rattle.acgrep.specs.Binary.{binary_by, is_guarded, is_text};
 ghost use Rattle.acgrep.specs.Filled.{ReadsOn, bytes_buffered};
-ghost use Rattle.acgrep.specs.Guarded.{BeginsFront, BeginsPast, EndsFront, IsZeroLine, ReadsFront};
+ghost use Rattle.acgrep.specs.Guarded.{EndsFront, IsZeroLine, ReadsFront};
 ghost use Rattle.acgrep.specs.Lines.{IsEnding};
 ghost use Rattle.acgrep.specs.Printed.{Puts};
-ghost use Rattle.acgrep.specs.Searched.{BeginsGuardedBy, FindsBy, SearchesGuardedBy};
+ghost use Rattle.acgrep.specs.Searched.{BeginsGuardedBy, BeginsReadBy, FindsBy, SearchesGuardedBy};
 ghost use Rattle.acgrep.specs.Selected.{ForJob};
 ghost use Rattle.acgrep.specs.Streamed.{course_of};
 
@@ -89,9 +89,8 @@ pub fn search_front<A: Lister, R: Read, W: Sink>(
     ensures front { ForJob job.now (A.is_of automaton.now) (λ p.
         IfOk result (EndsFront p job.now (course_of W.Sink R.Read
         state.old state.new output.old output.new input.old input.new) (bytes_buffered buffer.new))) }
-    ensures begun { ForJob job.now (A.is_of automaton.now) (λ p.
-        OnErr result (BeginsPast p job.now (course_of W.Sink R.Read
-        state.old state.new output.old output.new input.old input.new))) }
+    ensures begun { BeginsReadBy A.Automaton R.Read W.Sink automaton.now job.now true
+        state.old state.new input.old output.old output.new [] result }
     ensures reads { ReadsOn (R.remaining input.old) (R.remaining input.new) }
 {
     buffer.clear();
@@ -126,10 +125,9 @@ fn read_front<A: Lister, R: Read, W: Sink>(
         IfOk result (ReadsFront p job.now (course_of W.Sink R.Read
         state.old state.new output.old output.new input.old input.new)
         (bytes_buffered buffer.old) (bytes_buffered buffer.new))) }
-    ensures begun { ForJob job.now (A.is_of automaton.now) (λ p.
-        OnErr result (BeginsFront p job.now (course_of W.Sink R.Read
-        state.old state.new output.old output.new input.old input.new)
-        (bytes_buffered buffer.old))) }
+    ensures begun { is_text (bytes_buffered buffer.old) ≡ true
+        → BeginsReadBy A.Automaton R.Read W.Sink automaton.now job.now true
+        state.old state.new input.old output.old output.new (bytes_buffered buffer.old) result }
     ensures reads { ReadsOn (R.remaining input.old) (R.remaining input.new) }
 {
     let count = read_more(buffer, input, output)?;

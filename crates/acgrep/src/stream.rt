@@ -1,12 +1,13 @@
 //! Searching what a reader gives, in memory that is bounded by its longest line and by what is written of one line.
 
-ghost use Rattle.std.specs.Prelude.{◌≤◌, ◌-◌, ◌<◌, IfOk, OnErr, OnOk, length};
+ghost use Rattle.std.specs.Prelude.{◌≤◌, ◌-◌, ◌<◌, [], IfOk, OnErr, OnOk, false, length};
 ghost use Rattle.std.specs.Io.KnownBytes.{Keeps};
 ghost use Rattle.aho_core.specs.Patterns.{Patterns};
 ghost use Rattle.acgrep.specs.Filled.{FillsBehind, ReadsOn, bytes_buffered};
 ghost use Rattle.acgrep.specs.Lines.{IsEnding};
+ghost use Rattle.acgrep.specs.Searched.{BeginsReadBy};
 ghost use Rattle.acgrep.specs.Selected.{ForJob};
-ghost use Rattle.acgrep.specs.Streamed.{BeginsBehind, BeginsSome, BeginsStream, BeginsWhole, ReadsSome, SearchesBehind, SearchesStream, SearchesWhole, course_of};
+ghost use Rattle.acgrep.specs.Streamed.{BeginsWhole, ReadsSome, SearchesBehind, SearchesStream, SearchesWhole, course_of};
 
 use crate::backed::Lister;
 use crate::buffer::Buffer;
@@ -33,9 +34,8 @@ pub fn search_stream<A: Lister, R: Read, W: Sink>(
         state.old state.new output.old output.new input.old input.new))) }
 
     // Where it fails a beginning of that is written.
-    ensures begun { ForJob job.now (A.is_of automaton.now) (λ p.
-        OnErr result (BeginsStream p job.now (course_of W.Sink R.Read
-        state.old state.new output.old output.new input.old input.new))) }
+    ensures begun { BeginsReadBy A.Automaton R.Read W.Sink automaton.now job.now false
+        state.old state.new input.old output.old output.new [] result }
 
     // Whatever comes of it, the reader is only read.
     ensures reads { ReadsOn (R.remaining input.old) (R.remaining input.new) }
@@ -58,9 +58,8 @@ pub fn search_behind<A: Lister, R: Read, W: Sink>(
     ensures written { ForJob job.now (A.is_of automaton.now) (λ p.
         OnOk result (SearchesBehind p job.now (course_of W.Sink R.Read
         state.old state.new output.old output.new input.old input.new) (bytes_buffered buffer.old))) }
-    ensures begun { ForJob job.now (A.is_of automaton.now) (λ p.
-        OnErr result (BeginsBehind p job.now (course_of W.Sink R.Read
-        state.old state.new output.old output.new input.old input.new) (bytes_buffered buffer.old))) }
+    ensures begun { BeginsReadBy A.Automaton R.Read W.Sink automaton.now job.now false
+        state.old state.new input.old output.old output.new (bytes_buffered buffer.old) result }
     ensures reads { ReadsOn (R.remaining input.old) (R.remaining input.new) }
 {
     let count = buffer.bytes().len();
@@ -91,10 +90,8 @@ fn read_some<A: Lister, R: Read, W: Sink>(
         IfOk result (ReadsSome p job.now (course_of W.Sink R.Read
         state.old state.new output.old output.new input.old input.new)
         (bytes_buffered buffer.old) (bytes_buffered buffer.new))) }
-    ensures begun { ForJob job.now (A.is_of automaton.now) (λ p.
-        OnErr result (BeginsSome p job.now (course_of W.Sink R.Read
-        state.old state.new output.old output.new input.old input.new)
-        (bytes_buffered buffer.old))) }
+    ensures begun { BeginsReadBy A.Automaton R.Read W.Sink automaton.now job.now false
+        state.old state.new input.old output.old output.new (bytes_buffered buffer.old) result }
     ensures reads { ReadsOn (R.remaining input.old) (R.remaining input.new) }
 {
     let count = read_more(buffer, input, output)?;

@@ -22,9 +22,8 @@ returns-in_err-search_behind-clause-unwritten g c = λ p is plain.
     let job = c.args.job.now in
     let kept = take c.args.buffer.now.held c.args.buffer.now.room.items in
     let left = g.R.Read.remaining c.args.input.now in
-    let left' = g.R.Read.remaining c.search_behind.new.input in
     let held = g.W.Sink.taken c.args.output.now in
     let held' = g.W.Sink.taken c.search_behind.new.output in
     on_err c.from_residual.result
-    (begins_sought p job c.seeking-seeking.result c.seeking-seeking.ensures.seeking c.begin.new.self c.search_behind.new.state left left' held held' kept
+    (begins_sought p job c.seeking-seeking.result c.seeking-seeking.ensures.seeking c.begin.new.self c.search_behind.new.state left held held' kept
     (c.in_err-search_behind.ensures.begun p is (subst (λ (j : Job). HoldNoEnding j.style.ending p) (sym c.seeking-seeking.ensures.seeking) plain)))

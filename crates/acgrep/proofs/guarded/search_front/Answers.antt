@@ -1,5 +1,5 @@
 -- A read more, up to the end, a line with a zero byte, or lines behind which nothing more is told.
-use Rattle.std.proofs.Common.{◌≡◌, ℕ, List, [], ap, subst, take, ◌∙◌}
+use Rattle.std.proofs.Common.{◌≡◌, ℕ, List, [], ap, false, refl, subst, take, true, ◌∙◌}
 use Rattle.std.proofs.KnownBytes.{Consumes-nil}
 use Rattle.acgrep.specs.Binary.{is_text}
 use Rattle.acgrep.specs.Contexts.{BeginsSearched, SearchesText}
@@ -9,9 +9,10 @@ use Rattle.acgrep.specs.Streamed.{course}
 use Rattle.acgrep.specs.Written.{IsSettled}
 use Rattle.acgrep.specs.declared.guarded.Came.TheVariants.{Text, Binary, End}
 use Rattle.acgrep.proofs.Beginnings.{on_err}
-use Rattle.acgrep.proofs.Fronts.{front_begins, front_begins_stop, front_last, front_last_begins, front_start, front_step, front_stop}
+use Rattle.acgrep.proofs.Fronts.{front_last, front_start, front_step, front_stop}
 use Rattle.acgrep.proofs.LineLists.{take_zero}
 use Rattle.acgrep.proofs.Streams.{not_done, reads_both}
+use Rattle.acgrep.proofs.StreamsBegun.{behind_end, behind_reads, behind_stop}
 use Rattle.acgrep.proofs.guarded.search_front.Goals as goal
 
 pub loop-init : goal.loop-init
@@ -34,10 +35,9 @@ returns-then-is_done-clause-front g c = λ p is plain.
 pub returns-in_err-read_front-clause-begun : goal.returns-in_err-read_front-clause-begun
 returns-in_err-read_front-clause-begun g c = λ p is plain.
     let (so_far, text) = c.loop.invariant.searched p is plain in
-    on_err c.from_residual.result (front_begins p c.args.job.now c.args.state.now c.loop.state c.read_front.new.state (g.W.Sink.taken c.args.output.now)
-    (g.W.Sink.taken c.loop.output) (g.W.Sink.taken c.read_front.new.output)
-    (g.R.Read.remaining c.args.input.now) (g.R.Read.remaining c.loop.input) (g.R.Read.remaining c.read_front.new.input) (take c.loop.buffer.held c.loop.buffer.room.items)
-    (not_done c.is_done.result (IsSettled c.args.job.now c.loop.state) c.is_done.ensures.settled.1 c.if-is_done.false) text so_far (c.in_err-read_front.ensures.begun p is plain))
+    on_err c.from_residual.result (behind_reads p c.args.job.now true c.args.state.now c.loop.state c.read_front.new.state (g.W.Sink.taken c.args.output.now) (g.W.Sink.taken c.loop.output) (g.W.Sink.taken c.read_front.new.output)
+    (g.R.Read.remaining c.args.input.now) (g.R.Read.remaining c.loop.input) [] (take c.loop.buffer.held c.loop.buffer.room.items) false so_far.some (not_done c.is_done.result (IsSettled c.args.job.now c.loop.state) c.is_done.ensures.settled.1 c.if-is_done.false) (λ _. so_far.text)
+    (c.in_err-read_front.ensures.begun text p is plain))
 
 pub returns-in_err-read_front-clause-reads : goal.returns-in_err-read_front-clause-reads
 returns-in_err-read_front-clause-reads g c =
@@ -86,6 +86,7 @@ returns-in-End-clause-reads g c =
 pub returns-in_err-search_text-in-End-clause-begun : goal.returns-in_err-search_text-in-End-clause-begun
 returns-in_err-search_text-in-End-clause-begun g c = λ p is plain.
     let (so_far, text) = c.loop.invariant.searched p is plain in
+    let job = c.args.job.now in
     let kept = take c.loop.buffer.held c.loop.buffer.room.items in
     let rest = take c.read_front.new.buffer.held c.read_front.new.buffer.room.items in
     let held = g.W.Sink.taken c.loop.output in
@@ -93,13 +94,16 @@ returns-in_err-search_text-in-End-clause-begun g c = λ p is plain.
     let held' = g.W.Sink.taken c.search_text.new.output in
     let left = g.R.Read.remaining c.loop.input in
     let left' = g.R.Read.remaining c.read_front.new.input in
-    let front : ReadsFront p c.args.job.now (course c.loop.state c.read_front.new.state held mid left left') kept rest End =
-    subst (ReadsFront p c.args.job.now (course c.loop.state c.read_front.new.state held mid left left') kept rest) c.in-End.is (c.in_ok-read_front.ensures.read p is plain) in
+    let goes = not_done c.is_done.result (IsSettled c.args.job.now c.loop.state) c.is_done.ensures.settled.1 c.if-is_done.false in
+    let front : ReadsFront p job (course c.loop.state c.read_front.new.state held mid left left') kept rest End =
+    subst (ReadsFront p job (course c.loop.state c.read_front.new.state held mid left left') kept rest) c.in-End.is (c.in_ok-read_front.ensures.read p is plain) in
+    let (end, same) = front.some.ends refl in
     on_err c.from_residual-in_err-search_text-in-End.result
-    (front_last_begins p c.args.job.now c.args.state.now c.loop.state c.read_front.new.state c.search_text.new.state (g.W.Sink.taken c.args.output.now) held mid held' (g.R.Read.remaining c.args.input.now) left left' kept rest
-    (not_done c.is_done.result (IsSettled c.args.job.now c.loop.state) c.is_done.ensures.settled.1 c.if-is_done.false) text so_far front
-    (subst (λ (l : List ℕ). BeginsSearched p c.args.job.now c.read_front.new.state c.search_text.new.state.selected mid held' (lines c.args.job.now.style.ending l)) c.bytes.ensures.bytes
-    (c.in_err-search_text-in-End.ensures.begun p is plain)))
+    (behind_reads p c.args.job.now true c.args.state.now c.loop.state c.search_text.new.state (g.W.Sink.taken c.args.output.now) (g.W.Sink.taken c.loop.output) held'
+    (g.R.Read.remaining c.args.input.now) (g.R.Read.remaining c.loop.input) [] (take c.loop.buffer.held c.loop.buffer.room.items) false so_far.some goes (λ _. so_far.text)
+    (behind_reads p job true c.loop.state c.read_front.new.state c.search_text.new.state held mid held' left left' kept rest true front.some (λ settled. goes (subst (IsSettled job) same settled)) (λ _. front.text text)
+    (behind_end p job true c.read_front.new.state c.search_text.new.state mid held' left' rest end (λ _. front.left text)
+    (subst (λ (l : List ℕ). BeginsSearched p job c.read_front.new.state c.search_text.new.state.selected mid held' (lines job.style.ending l)) c.bytes.ensures.bytes (c.in_err-search_text-in-End.ensures.begun p is plain)))))
 
 pub returns-in_err-search_text-in-End-clause-reads : goal.returns-in_err-search_text-in-End-clause-reads
 returns-in_err-search_text-in-End-clause-reads g c =
@@ -126,5 +130,6 @@ loop-preserved g c = record {
 
 pub returns-clause-begun : goal.returns-clause-begun
 returns-clause-begun g c = λ p is plain.
-    front_begins_stop p c.args.job.now c.args.state.now c.loop.state (g.W.Sink.taken c.args.output.now) (g.W.Sink.taken c.loop.output)
-    (g.R.Read.remaining c.args.input.now) (g.R.Read.remaining c.loop.input) (take c.loop.buffer.held c.loop.buffer.room.items) (c.loop.invariant.searched p is plain).0
+    let (so_far, text) = c.loop.invariant.searched p is plain in
+    behind_stop p c.args.job.now true c.args.state.now c.loop.state (g.W.Sink.taken c.args.output.now) (g.W.Sink.taken c.loop.output)
+    (g.R.Read.remaining c.args.input.now) (g.R.Read.remaining c.loop.input) [] (take c.loop.buffer.held c.loop.buffer.room.items) false so_far.some (λ _. so_far.text)

@@ -1,8 +1,8 @@
 -- What came is behind the bytes that were kept.
-use Rattle.std.proofs.Common.{take}
+use Rattle.std.proofs.Common.{false, take}
 use Rattle.acgrep.proofs.Beginnings.{on_err}
 use Rattle.acgrep.proofs.Streams.{reads_none, reads_some}
-use Rattle.acgrep.proofs.StreamsBegun.{some_begins, some_none}
+use Rattle.acgrep.proofs.StreamsBegun.{behind_filled, behind_none}
 use Rattle.acgrep.proofs.stream.read_some.Goals as goal
 
 pub returns-then-count-eq0-clause-read : goal.returns-then-count-eq0-clause-read
@@ -29,19 +29,12 @@ returns-clause-read g c = λ p is plain.
 
 pub returns-in_err-count-clause-begun : goal.returns-in_err-count-clause-begun
 returns-in_err-count-clause-begun g c = λ p is plain.
-    let (came, read) = c.read_more.ensures.reads in
-    on_err c.from_residual.result (some_none p c.args.job.now c.args.state.now (g.W.Sink.taken c.args.output.now) (g.W.Sink.taken c.read_more.new.output) (g.R.Read.remaining c.args.input.now)
-    (g.R.Read.remaining c.read_more.new.input) (take c.args.buffer.now.held c.args.buffer.now.room.items) came c.read_more.ensures.kept read)
+    on_err c.from_residual.result (behind_none p c.args.job.now false c.args.state.now (g.W.Sink.taken c.args.output.now) (g.W.Sink.taken c.read_more.new.output) (g.R.Read.remaining c.args.input.now)
+    (take c.args.buffer.now.held c.args.buffer.now.room.items) c.read_more.ensures.kept)
 
 pub returns-in_err-search_whole-clause-begun : goal.returns-in_err-search_whole-clause-begun
 returns-in_err-search_whole-clause-begun g c = λ p is plain.
-    let left = g.R.Read.remaining c.args.input.now in
-    let left' = g.R.Read.remaining c.read_more.new.input in
-    let kept = take c.args.buffer.now.held c.args.buffer.now.room.items in
-    let filled = take c.read_more.new.buffer.held c.read_more.new.buffer.room.items in
-    let count = c.in_ok-count.count in
     on_err c.from_residual-in_err-search_whole.result
-    (some_begins p c.args.job.now c.args.state.now c.search_whole.new.state (g.W.Sink.taken c.args.output.now) (g.W.Sink.taken c.read_more.new.output)
-    (g.W.Sink.taken c.search_whole.new.output) left left' kept filled count
-    c.read_more.ensures.kept c.in_ok-count.ensures.filled
-    (c.in_err-search_whole.ensures.begun p is plain))
+    (behind_filled p c.args.job.now false c.args.state.now c.search_whole.new.state (g.W.Sink.taken c.args.output.now) (g.W.Sink.taken c.read_more.new.output) (g.W.Sink.taken c.search_whole.new.output)
+    (g.R.Read.remaining c.args.input.now) (g.R.Read.remaining c.read_more.new.input) (take c.args.buffer.now.held c.args.buffer.now.room.items) (take c.read_more.new.buffer.held c.read_more.new.buffer.room.items) c.in_ok-count.count
+    c.read_more.ensures.kept c.in_ok-count.ensures.filled (c.in_err-search_whole.ensures.begun p is plain false (λ other. absurd (cc)) (g.R.Read.remaining c.read_more.new.input)))
