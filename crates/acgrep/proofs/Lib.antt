@@ -27,7 +27,6 @@ pub mod NamesSearched
 pub mod NoneAround
 pub mod NoneInLines
 pub mod Numbers
-pub mod Objected
 pub mod OrCounted
 pub mod PlacesBehind
 pub mod PlainWords

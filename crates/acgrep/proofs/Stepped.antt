@@ -6,7 +6,7 @@ use Rattle.std.proofs.KnownBytes.{Appends-nil, Appends-trans}
 use Rattle.std.proofs.lemmas.Bool.{cases_Bool, lt-ltb}
 use Rattle.aho_core.specs.Patterns.{Patterns}
 use Rattle.aho_devices.specs.Counts.{AppendsBeginning}
-use Rattle.acgrep.specs.Contexts.{IsChosenBy, IsNotChosen, PassesBy, ShowsEach, ShowsGroup, Steps, Walk, WalksBegun, WalksLines, WalksOn, behind_chosen, behind_due, behind_passed, beside, separator_if}
+use Rattle.acgrep.specs.Contexts.{IsChosenBy, IsNotChosen, PassesBy, ShowsEach, ShowsGroup, Steps, Walk, WalksBegun, WalksLines, WalksSome, behind_chosen, behind_due, behind_passed, beside, separator_if}
 use Rattle.acgrep.specs.Lines.{lines}
 use Rattle.acgrep.specs.Written.{IsMatched, ShowsLine, WritesLine, after_line, is_full, selects}
 use Rattle.acgrep.specs.declared.options.Context.{Context}
@@ -52,7 +52,7 @@ module _ (p : Patterns) (job : Job) where
         → WalksBegun p job context w x y (line ∷ [])
     takes_begun w line bytes x y chosen shows begins =
         let next = behind_chosen context w line in
-        begins_some (WalksOn p job context w) (line ∷ []) x y bytes
+        begins_some (WalksSome p job context w) (line ∷ []) x y bytes
         (next, walks_one p job context w next line bytes (inl (record { more = chosen.0; selected = chosen.1; shows = shows; behind = refl }))) begins
 
     due_step : (w w' : Walk) (line bytes : List ℕ) → 0 < w.due → IsNotChosen p job w.selected line → ShowsLine p (beside job) w.place line bytes → w' ≡ behind_due w line
@@ -73,7 +73,7 @@ module _ (p : Patterns) (job : Job) where
         → WalksBegun p job context w x y (line ∷ [])
     due_begun w line bytes x y some_due passed shows begins =
         let next = behind_due w line in
-        begins_some (WalksOn p job context w) (line ∷ []) x y bytes (next, walks_one p job context w next line bytes (due_step w next line bytes some_due passed shows refl)) begins
+        begins_some (WalksSome p job context w) (line ∷ []) x y bytes (next, walks_one p job context w next line bytes (due_step w next line bytes some_due passed shows refl)) begins
 
     -- a line that is passed over is held, and nothing is written
     pub passed_lines : (w w' : Walk) (line : List ℕ) (x : Option (List ℕ)) → w.due ≡ 0 → IsChosenBy p job w.selected line false → w' ≡ behind_passed context w line
@@ -109,7 +109,7 @@ module _ (p : Patterns) (job : Job) where
         → WalksBegun p job context b y z (line ∷ []) → WalksBegun p job context a x z (lines job.style.ending text)
     to_begun a b x y z text rest line left more to one =
         subst (WalksBegun p job context a x z) (sym (cut_more text rest line left to.searched to.cut more))
-        (begins_more (WalksOn p job context a) (to.searched ++ (line ∷ [])) (lines job.style.ending left) x z (begun_behind p job context a b x y z to.searched (line ∷ []) to.tells one))
+        (begins_more (WalksSome p job context a) (to.searched ++ (line ∷ [])) (lines job.style.ending left) x z (begun_behind p job context a b x y z to.searched (line ∷ []) to.tells one))
 
   -- lines around a selected one, one after another
   pub record ShowsTo (first place : Place) (x y : Option (List ℕ)) (ls rest : List (List ℕ)) : Type 0 where

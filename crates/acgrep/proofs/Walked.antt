@@ -5,7 +5,7 @@ use Rattle.std.specs.Io.KnownBytes.{Appends}
 use Rattle.std.proofs.KnownBytes.{Appends-trans}
 use Rattle.std.proofs.lemmas.Bool.{cases_Bool, true≢false}
 use Rattle.aho_core.specs.Patterns.{Patterns}
-use Rattle.acgrep.specs.Contexts.{PassesBy, PassesLine, Steps, Walk, WalksBegun, WalksLines, WalksOn, WalksOver, WalksText, behind_chosen, behind_passed, walk_of}
+use Rattle.acgrep.specs.Contexts.{PassesBy, PassesLine, Steps, Walk, WalksBegun, WalksLines, WalksSome, WalksOver, WalksText, behind_chosen, behind_passed, walk_of}
 use Rattle.acgrep.specs.Lines.{EndsLine, lines}
 use Rattle.acgrep.specs.Written.{IsPassedOver, IsSettled, TellsOfLines, after_line, is_full}
 use Rattle.acgrep.specs.declared.options.Context.{Context}
@@ -63,7 +63,7 @@ module _ (p : Patterns) (job : Job) (context : Context) where
   pub begun_behind : (w w' : Walk) (x y z : Option (List ℕ)) (ls ms : List (List ℕ)) → WalksLines p job context w w' x y ls → WalksBegun p job context w' y z ms
       → WalksBegun p job context w x z (ls ++ ms)
   begun_behind w w' x y z ls ms one begins =
-      begins_behind (WalksOn p job context w') (WalksOn p job context w) ls ms x y z one.bytes
+      begins_behind (WalksSome p job context w') (WalksSome p job context w) ls ms x y z one.bytes
       (λ first all (end, walks). (end, walks_append ls first w w' end one.bytes all one.walks walks)) one.written begins
 
   pub text_lines : (a b : State) (x y : Option (List ℕ)) (text : List ℕ) (one : WalksText p job context a b x y text) → (IsSettled job b → ⊥) → lines job.style.ending text ≡ one.searched

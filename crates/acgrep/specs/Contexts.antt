@@ -229,8 +229,8 @@ WalksOver p job context w (line ∷ rest) bytes w' =
     × (bytes ≡ shown ++ more)
 
 -- wherever they end
-abbrev pub WalksOn : Patterns → Job → Context → Walk → List (List ℕ) → List ℕ → Type 0
-WalksOn p job context w ls bytes = (end : Walk) × WalksOver p job context w ls bytes end
+abbrev pub WalksSome : Patterns → Job → Context → Walk → List (List ℕ) → List ℕ → Type 0
+WalksSome p job context w ls bytes = (end : Walk) × WalksOver p job context w ls bytes end
 
 -- what is told of these lines is written, and nothing else
 pub record WalksLines (p : Patterns) (job : Job) (context : Context) (w w' : Walk) (old new : Option (List ℕ)) (ls : List (List ℕ)) : Type 0 where
@@ -257,7 +257,7 @@ SearchesText p job before after old new text = SearchesIn p job (around_of job) 
 -- what is told of lines from a state on, and how many are then selected
 abbrev pub TellsFrom : Patterns → Job → Option Context → State → ℕ → List (List ℕ) → List ℕ → Type 0
 TellsFrom p job None before count ls bytes = TellsOfLines p job before.place before.selected ls bytes count
-TellsFrom p job (Some context) before count ls bytes = WalksOn p job context (walk_of before) ls bytes
+TellsFrom p job (Some context) before count ls bytes = WalksSome p job context (walk_of before) ls bytes
 
 -- a beginning of that is written
 abbrev pub BeginsSearched : Patterns → Job → State → ℕ → (old new : Option (List ℕ)) → List (List ℕ) → Type 0
@@ -267,4 +267,4 @@ abbrev pub BeginsLines : Patterns → Job → State → ℕ → (old new : Optio
 BeginsLines p job before count old new ls = BeginsOf (TellsFrom p job None before count) ls old new
 
 abbrev pub WalksBegun : Patterns → Job → Context → Walk → (old new : Option (List ℕ)) → List (List ℕ) → Type 0
-WalksBegun p job context w old new ls = BeginsOf (WalksOn p job context w) ls old new
+WalksBegun p job context w old new ls = BeginsOf (WalksSome p job context w) ls old new

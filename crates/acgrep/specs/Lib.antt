@@ -18,6 +18,7 @@ pub mod Lines
 pub mod Listed
 pub mod Loading
 pub mod Long
+pub mod Matches
 pub mod Mistakes
 pub mod Objects
 pub mod Origins

@@ -14,10 +14,10 @@ use crate::alone::has_alone;
 use crate::backed::Lister;
 use crate::context::search_around;
 use crate::failure::Stop;
-use crate::json::put_objects;
 use crate::lines::{behind, line_end, line_start};
+use crate::matches::{Shape, put_colored_line, put_matches};
 use crate::options::{Context, Fit, Shown};
-use crate::print::{Place, Style, put_colored_line, put_line, put_matches};
+use crate::print::{Place, Style, put_line};
 use crate::trail::Trail;
 use chromesquid::{Automaton, Input, MatchError, MatchKind, Sink, Span, write_whole};
 use memchr::memchr_iter;
@@ -563,27 +563,20 @@ pub fn put_shown<A: Lister, W: Write>(
     ensures shown { WritesLineBy (A.is_of automaton.now) job.now place
         (W.contents output.old) (W.contents output.new) line.now result }
 {
+    let alone = job.asks_alone();
     match job.shown {
         Shown::Lines if job.colors() => {
-            put_colored_line(automaton, output, job.asks_alone(), &job.style, place, line)
+            put_colored_line(automaton, output, alone, &job.style, place, line)
         }
         Shown::Lines => Ok(put_line(output, &job.style, place, line)?),
-        Shown::Matches if !job.invert => put_matches(
-            automaton,
-            output,
-            job.asks_alone(),
-            &job.style,
-            place,
-            line,
-        ),
-        Shown::Objects if !job.invert => put_objects(
-            automaton,
-            output,
-            job.asks_alone(),
-            &job.style,
-            place,
-            line,
-        ),
+        Shown::Matches if !job.invert => {
+            let shape = Shape::OnLines;
+            put_matches(automaton, output, shape, alone, &job.style, place, line)
+        }
+        Shown::Objects if !job.invert => {
+            let shape = Shape::AsFields;
+            put_matches(automaton, output, shape, alone, &job.style, place, line)
+        }
         _ => Ok(()),
     }
 }

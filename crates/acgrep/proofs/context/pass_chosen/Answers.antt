@@ -3,7 +3,7 @@ use Rattle.std.proofs.Common.{◌≡◌, [], ◌∷◌, refl, subst}
 use Rattle.std.specs.Io.KnownBytes.{Appends}
 use Rattle.std.proofs.KnownBytes.{Appends-nil}
 use Rattle.aho_devices.specs.Counts.{AppendsBeginning}
-use Rattle.acgrep.specs.Contexts.{WalksOn, walk_of}
+use Rattle.acgrep.specs.Contexts.{WalksSome, walk_of}
 use Rattle.acgrep.proofs.Beginnings.{on_err, page_bytes}
 use Rattle.acgrep.proofs.Begun.{begins_nothing}
 use Rattle.acgrep.proofs.Stepped.{takes_begun, takes_lines, walk_same}
@@ -12,7 +12,7 @@ use Rattle.acgrep.proofs.context.pass_chosen.Goals as goal
 pub returns-in_err-put_group-clause-begun : goal.returns-in_err-put_group-clause-begun
 returns-in_err-put_group-clause-begun g c = λ p is chosen.
     let held = g.W.Sink.taken c.args.output.now in
-    on_err c.from_residual.result (begins_nothing (WalksOn p c.args.job.now c.args.context.now (walk_of c.args.state.now)) (c.args.line.now ∷ []) held held [] (walk_of c.args.state.now, (refl, refl)) (Appends-nil held))
+    on_err c.from_residual.result (begins_nothing (WalksSome p c.args.job.now c.args.context.now (walk_of c.args.state.now)) (c.args.line.now ∷ []) held held [] (walk_of c.args.state.now, (refl, refl)) (Appends-nil held))
 
 pub returns-in_err-write_whole-clause-begun : goal.returns-in_err-write_whole-clause-begun
 returns-in_err-write_whole-clause-begun g c = λ p is chosen.

@@ -2,7 +2,7 @@
 use Rattle.std.proofs.Common.{◌≡◌, [], ◌∷◌, Some, refl, subst}
 use Rattle.std.proofs.KnownBytes.{Appends-nil}
 use Rattle.aho_devices.specs.Counts.{AppendsBeginning}
-use Rattle.acgrep.specs.Contexts.{WalksOn, walk_of}
+use Rattle.acgrep.specs.Contexts.{WalksSome, walk_of}
 use Rattle.acgrep.specs.Written.{WritesLine}
 use Rattle.acgrep.specs.declared.select.Job.{Job}
 use Rattle.acgrep.proofs.Beginnings.{on_err, page_bytes, page_writes}
@@ -24,7 +24,7 @@ returns-clause-walks g c = λ p is passed.
 pub returns-in_err-put_shown-clause-begun : goal.returns-in_err-put_shown-clause-begun
 returns-in_err-put_shown-clause-begun g c = λ p is passed.
     let held = g.W.Sink.taken c.args.output.now in
-    on_err c.from_residual.result (begins_nothing (WalksOn p c.args.job.now c.args.context.now (walk_of c.args.state.now)) (c.args.line.now ∷ []) held held [] (walk_of c.args.state.now, (refl, refl)) (Appends-nil held))
+    on_err c.from_residual.result (begins_nothing (WalksSome p c.args.job.now c.args.context.now (walk_of c.args.state.now)) (c.args.line.now ∷ []) held held [] (walk_of c.args.state.now, (refl, refl)) (Appends-nil held))
 
 pub returns-in_err-write_whole-clause-begun : goal.returns-in_err-write_whole-clause-begun
 returns-in_err-write_whole-clause-begun g c = λ p is passed.

@@ -3,7 +3,7 @@ use Rattle.std.proofs.Common.{Bool, sym, subst, ◌∙◌}
 use Rattle.std.specs.Prelude.{OnOk}
 use Rattle.std.proofs.lemmas.Result.{on_ok_weaker}
 use Rattle.acgrep.proofs.Tellings.{colored_shows}
-use Rattle.acgrep.specs.Printed.{WritesColored}
+use Rattle.acgrep.specs.Matches.{WritesColored}
 use Rattle.acgrep.proofs.select.put_shown.Goals as goal
 
 pub returns-in-Lines : goal.returns-in-Lines
