@@ -27,11 +27,26 @@ module _ (Tells : List (List ℕ) → List ℕ → Type 0) where
 
   -- lines more may follow
   pub begins_more : (ls ms : List (List ℕ)) (x y : Option (List ℕ)) → BeginsOf Tells ls x y → BeginsOf Tells (ls ++ ms) x y
-  begins_more ls ms x y b = record b { left = b.left ++ ms; cut = ap (λ (l : List (List ℕ)). l ++ ms) b.cut ∙ append_assoc b.first b.left ms }
+  begins_more ls ms x y b = record {
+    first = b.first;
+    left = b.left ++ ms;
+    cut = ap (λ (l : List (List ℕ)). l ++ ms) b.cut ∙ append_assoc b.first b.left ms;
+    all = b.all;
+    tells = b.tells;
+    begun = b.begun;
+    missing = b.missing;
+    is = b.is;
+    written = b.written;
+  }
+
+  -- the output is written on
+  pub begins_on : (ls : List (List ℕ)) (x y x' y' : Option (List ℕ)) → (b : BeginsOf Tells ls x y) → Appends x' y' b.begun → BeginsOf Tells ls x' y'
+  begins_on ls x y x' y' b written =
+      record { first = b.first; left = b.left; cut = b.cut; all = b.all; tells = b.tells; begun = b.begun; missing = b.missing; is = b.is; written = written }
 
   -- the output kept what it held before
   pub begins_kept : (ls : List (List ℕ)) (x y z : Option (List ℕ)) → Appends x y [] → BeginsOf Tells ls y z → BeginsOf Tells ls x z
-  begins_kept ls x y z keeps b = record b { written = Appends-trans x y z [] b.begun keeps b.written }
+  begins_kept ls x y z keeps b = begins_on ls y z x z b (Appends-trans x y z [] b.begun keeps b.written)
 
 -- lines stand before them of which all is told
 pub begins_behind : (Tells Told : List (List ℕ) → List ℕ → Type 0) (ls ms : List (List ℕ)) (x y z : Option (List ℕ)) (bytes : List ℕ)

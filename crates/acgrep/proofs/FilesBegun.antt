@@ -22,7 +22,7 @@ use Rattle.acgrep.specs.declared.print.Place.{Place}
 use Rattle.acgrep.specs.declared.print.Style.{Style}
 use Rattle.acgrep.specs.declared.select.Job.{Job}
 use Rattle.acgrep.specs.declared.select.State.{State}
-use Rattle.acgrep.proofs.Begun.{begins_both, begins_nothing, nil_front}
+use Rattle.acgrep.proofs.Begun.{begins_both, begins_nothing, begins_on, nil_front}
 use Rattle.acgrep.proofs.FileTellings.{from_begin, tells_none}
 use Rattle.acgrep.proofs.Grouped.{told_around}
 use Rattle.acgrep.proofs.Streams.{keeps_nil}
@@ -164,7 +164,7 @@ module _ (p : Patterns) (job : Job) where
       let none : total.begun ≡ [] = nil_front total.begun total.missing (sym (lines_total job.shown job.style count (shows_lines job guarded)) ∙ total.cut) in
       let b = begins.begins in
       let written = Appends-trans held meanwhile held' b.begun [] b.written (subst (Appends meanwhile held') none total.written) in
-      record { text = begins.text; of = begins.of; begins = record b { written = subst (Appends held held') (append-nil b.begun) written } }
+      record { text = begins.text; of = begins.of; begins = begins_on (TellsFirst p job begins.text) (lines_by (is_guarded job || takes_text job) job.style.ending begins.text) held meanwhile held held' b (subst (Appends held held') (append-nil b.begun) written) }
 
   tells_nothing : (around : Option Context) → TellsIn p job around [] [] 0
   tells_nothing None = (refl, refl)

@@ -2,6 +2,7 @@
 use Rattle.programs.specs.Answers.{status_of}
 use Rattle.programs.specs.Names.{is_input, name_bytes, or_input}
 use Rattle.std.specs.Prelude.{◌≡◌, ◌⊎◌, ℕ, ◌||◌, nat_lt, Bool, true, false, List, [], ◌∷◌, ◌++◌, Option, Some, None, IfSome, MatchBool, if◌then◌else◌}
+use Rattle.std.specs.Borrow.{Bor}
 use Rattle.std.specs.Io.KnownBytes.{Appends, Consumes, IsAtEnd, Keeps}
 use Rattle.aho_core.specs.Patterns.{Patterns}
 use Rattle.acgrep.specs.Begun.{BeginsOf}
@@ -97,29 +98,9 @@ pub record SearchesReader (p : Patterns) (job : Job) (left left' held held' : Op
 
 -- the same is written of the file of this name, where `later` says whether a line of a file before was selected
 pub record IsNamed (job : Job) (bytes : List ℕ) (later : Bool) (named : Job) : Type 0 where
-  pub shown : named.shown ≡ job.shown
-  pub invert : named.invert ≡ job.invert
-  pub fit : named.fit ≡ job.fit
-  pub name : named.style.name.now ≡ bytes
-  pub with_name : named.style.with_name ≡ job.style.with_name
-  pub null : named.style.null ≡ job.style.null
-  pub ending : named.style.ending ≡ job.style.ending
-  pub number : named.style.number ≡ job.style.number
-  pub offset : named.style.offset ≡ job.style.offset
-  pub color : named.style.color ≡ job.style.color
-  pub colors : named.style.colors ≡ job.style.colors
-  pub first : named.first ≡ job.first
-  pub most : named.most ≡ job.most
-  pub hushed : named.hushed ≡ job.hushed
-  pub hyphen : named.style.hyphen ≡ job.style.hyphen
-  pub tab : named.style.tab ≡ job.style.tab
-  pub separator : named.style.separator.now ≡ job.style.separator.now
-  pub form : named.style.form ≡ job.style.form
-  pub label : named.label.now ≡ job.label.now
-  pub context : named.context ≡ job.context
-  pub follows : named.follows ≡ later
-  pub guards : named.guards ≡ job.guards
-  pub text_alone : named.text_alone ≡ job.text_alone
+  pub name : Bor (List ℕ)
+  pub of : name.now ≡ bytes
+  pub is : named ≡ record job { style = record job.style { name = name }; follows = later }
 
 -- how a file is called in what is written
 abbrev pub shown_name : (label name : List ℕ) → List ℕ

@@ -20,7 +20,7 @@ use crate::guarded::{search_front, search_guarded};
 use crate::keys::{INPUT, is_input, open_named};
 use crate::open::Open;
 use crate::options::Shown;
-use crate::print::{Style, put_count, put_name};
+use crate::print::{put_count, put_name};
 use crate::select::{Job, State};
 use crate::stream::search_stream;
 use crate::tell::tell_memory;
@@ -554,32 +554,8 @@ fn put_asked<W: Write>(job: &Job<'_>, selected: u64, output: &mut W) -> io::Resu
 fn job_for<'a>(job: &Job<'a>, name: &'a [u8], follows: bool) -> Job<'a>
     ensures named { IsNamed job.now name.now follows result }
 {
-    Job {
-        shown: job.shown,
-        invert: job.invert,
-        fit: job.fit,
-        style: Style {
-            name,
-            with_name: job.style.with_name,
-            null: job.style.null,
-            ending: job.style.ending,
-            number: job.style.number,
-            offset: job.style.offset,
-            color: job.style.color,
-            colors: job.style.colors,
-            hyphen: job.style.hyphen,
-            tab: job.style.tab,
-            separator: job.style.separator,
-            form: job.style.form,
-        },
-        label: job.label,
-        first: job.first,
-        most: job.most,
-        hushed: job.hushed,
-        context: job.context,
-        follows,
-        late: job.late,
-        guards: job.guards,
-        text_alone: job.text_alone,
-    }
+    let mut named = *job;
+    named.style.name = name;
+    named.follows = follows;
+    named
 }
