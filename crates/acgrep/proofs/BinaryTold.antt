@@ -10,9 +10,9 @@ use Rattle.acgrep.specs.Begun.{BeginsOf}
 use Rattle.acgrep.specs.Binary.{TellsBinary, TellsGuarded, binary_by, binary_lines, is_guarded, is_text, lines_by, lines_sought, seeking, takes_text, text_lines, writes_lines}
 use Rattle.acgrep.specs.Contexts.{IsBegin, SearchesText, TellsFile, TellsFrom, around_of}
 use Rattle.acgrep.specs.Files.{BeginsFile, SearchesFile, SearchesReader, TellsSearched, total_if}
-use Rattle.acgrep.specs.Guarded.{BeginsBinary, FindsSelected, IsFirstBinary, SearchesFront, SearchesPast}
+use Rattle.acgrep.specs.Guarded.{BeginsBinary, EndsFront, FindsSelected, IsFirstBinary, SearchesFront, SearchesPast}
 use Rattle.acgrep.specs.Lines.{EndsLine, lines}
-use Rattle.acgrep.specs.Streamed.{BeginsBehind, SearchesBehind, course}
+use Rattle.acgrep.specs.Streamed.{BeginsBehind, Course, SearchesBehind, course}
 use Rattle.acgrep.specs.Written.{IsAny, IsSelected, IsSettled, SomeLine, TellsOfLines, is_full, needs_one}
 use Rattle.acgrep.specs.declared.options.Context.{Context}
 use Rattle.acgrep.specs.declared.options.Shown.{Shown}
@@ -217,7 +217,7 @@ module _ (p : Patterns) (job : Job) where
     match_none false = tt
 
     -- no line with a zero byte came, or none that is to be told of
-    pub reader_past : (before state : State) (left left' held meanwhile : Option (List ℕ)) → IsBegin job before → SearchesPast p job (course before state held meanwhile left left')
+    pub reader_past : (before state : State) (left left' held meanwhile : Option (List ℕ)) → IsBegin job before → SearchesPast p job true (course before state held meanwhile left left') []
         → SearchesReader p job left left' held meanwhile (nat_lt 0 state.selected)
     reader_past before state left left' held meanwhile begin past =
         let behind = past.all in
@@ -230,8 +230,8 @@ module _ (p : Patterns) (job : Job) where
               let same : lines job.style.ending text ≡ lines job.style.ending searched ++ [] = ap (lines job.style.ending) all ∙ sym (append-nil (lines job.style.ending searched)) in
               record {
                 file = file_told left held meanwhile meanwhile text (lines job.style.ending searched) [] state.selected false (nat_lt 0 state.selected) known
-                    (ap text_lines same ∙ text_behind job.style.ending searched [] past.text ∙ append-nil (lines job.style.ending searched))
-                    (ap binary_lines same ∙ binary_behind job.style.ending searched [] past.text)
+                    (ap text_lines same ∙ text_behind job.style.ending searched [] (past.text refl) ∙ append-nil (lines job.style.ending searched))
+                    (ap binary_lines same ∙ binary_behind job.style.ending searched [] (past.text refl))
                     (told_all several before state held meanwhile searched begin behind.searches) (match_none (is_full job.most state.selected)) (appends_none meanwhile) (or_false (nat_lt 0 state.selected));
                 reads = record { bytes = behind.came; read = behind.consumed; ended = inl end };
               }
@@ -244,8 +244,8 @@ module _ (p : Patterns) (job : Job) where
               ap (lines job.style.ending) behind.cut ∙ lines_append job.style.ending searched behind.rest whole in
               record {
                 file = file_told left held meanwhile meanwhile text (lines job.style.ending searched ++ text_lines others) (binary_lines others) state.selected false (nat_lt 0 state.selected) known
-                    (ap text_lines same ∙ text_behind job.style.ending searched others past.text)
-                    (ap binary_lines same ∙ binary_behind job.style.ending searched others past.text)
+                    (ap text_lines same ∙ text_behind job.style.ending searched others (past.text refl))
+                    (ap binary_lines same ∙ binary_behind job.style.ending searched others (past.text refl))
                     (told_full before state held meanwhile searched (text_lines others) begin behind.searches full)
                     (subst (λ (b : Bool). MatchBool b (false ≡ false) (IsAny p job.fit job.invert (binary_lines others) false)) (sym full.0) refl) (appends_none meanwhile) (or_false (nat_lt 0 state.selected));
                 reads = record {
@@ -261,7 +261,7 @@ module _ (p : Patterns) (job : Job) where
               }
         ]
 
-    module _ (before state : State) (left left' held meanwhile : Option (List ℕ)) (kept : List ℕ) (begin : IsBegin job before) (front : SearchesFront p job (course before state held meanwhile left left') kept)
+    module _ (before state : State) (left left' held meanwhile : Option (List ℕ)) (kept : List ℕ) (begin : IsBegin job before) (front : SearchesFront p job true (course before state held meanwhile left left') [] kept)
         (binary : BeginsBinary job.style.ending kept) where
       front_told : LinesTold held meanwhile (lines job.style.ending front.some.searched) state.selected
       front_told = told_all several before state held meanwhile front.some.searched begin front.some.searches
@@ -274,12 +274,12 @@ module _ (p : Patterns) (job : Job) where
 
       front_first : (more : List ℕ) → text_lines (lines job.style.ending (front.some.came ++ more)) ≡ lines job.style.ending front.some.searched
       front_first more =
-          ap text_lines (front_cut more) ∙ text_behind job.style.ending front.some.searched (lines job.style.ending (kept ++ more)) front.text
+          ap text_lines (front_cut more) ∙ text_behind job.style.ending front.some.searched (lines job.style.ending (kept ++ more)) (front.text refl)
           ∙ ap (λ (l : List (List ℕ)). lines job.style.ending front.some.searched ++ l) (first_text (lines job.style.ending (kept ++ more)) (front_binary more)) ∙ append-nil (lines job.style.ending front.some.searched)
 
       front_others : (more : List ℕ) → binary_lines (lines job.style.ending (front.some.came ++ more)) ≡ lines job.style.ending (kept ++ more)
       front_others more =
-          ap binary_lines (front_cut more) ∙ binary_behind job.style.ending front.some.searched (lines job.style.ending (kept ++ more)) front.text
+          ap binary_lines (front_cut more) ∙ binary_behind job.style.ending front.some.searched (lines job.style.ending (kept ++ more)) (front.text refl)
           ∙ first_binary (lines job.style.ending (kept ++ more)) (front_binary more)
 
       -- so many lines are selected before a line with a zero byte as are asked for
@@ -381,6 +381,11 @@ module _ (p : Patterns) (job : Job) where
                 written = Appends-trans held meanwhile held' front_told.bytes (take n message) front_told.written (Appends-trans meanwhile between held' [] (take n message) finds.unwritten written);
               };
             }
+
+-- where zero bytes are as any other all lines are searched
+pub past_all : (p : Patterns) (job : Job) (c : Course) (first kept : List ℕ) (binary : Bool) → EndsFront p job false c first kept binary → SearchesBehind p job c first
+past_all p job c first kept true (asked, front) = absurd (cc)
+past_all p job c first kept false past = past.all
 
 -- what was sought of a job is what is found
 finds_seeking : (p : Patterns) (job : Job) (kept : List ℕ) (left left' held held' : Option (List ℕ)) (any : Bool) → FindsSelected p (seeking job) kept left left' held held' any

@@ -11,7 +11,6 @@ use Rattle.acgrep.specs.Contexts.{IsBegin, SearchesIn, TellsFile, TellsIn, aroun
 use Rattle.acgrep.specs.Files.{EndsFile, IfSearched, IsNamed, IsRead, SearchesFile, SearchesName, SearchesReader, TellsBy, TellsSearched, count_if, known_of, shown_name, total_if}
 use Rattle.acgrep.specs.Lines.{EndsLine, lines}
 use Rattle.acgrep.specs.Printed.{file_line}
-use Rattle.acgrep.specs.Streamed.{SearchesStream, course}
 use Rattle.acgrep.specs.Written.{EachLine, IsAny, IsPassedOver, IsSelected, IsSettled, ShowsBy, ShowsLine, SomeLine, TellsOfLines, is_full, needs_one, one_more}
 use Rattle.acgrep.specs.declared.files.Outcome.{Outcome}
 use Rattle.acgrep.specs.declared.files.Outcome.TheVariants.{Searched, Unread, Stopped}
@@ -49,9 +48,6 @@ some_front P (line ∷ ls) ms (inr later) = inr (some_front P ls ms later)
 -- all lines of a text are searched, or those before the first with a zero byte
 pub sought_all : (job : Job) (text : List ℕ) → takes_text job ≡ false → lines_sought job text ≡ lines job.style.ending text
 sought_all job text wholly = ap (λ (b : Bool). lines_by b job.style.ending text) wholly
-
-pub sought_text : (job : Job) (text : List ℕ) → takes_text job ≡ true → lines_sought job text ≡ text_lines (lines job.style.ending text)
-sought_text job text alone = ap (λ (b : Bool). lines_by b job.style.ending text) alone
 
 -- the text of a reader of which some bytes were read
 pub text_behind : (left left' : Option (List ℕ)) (bytes : List ℕ) → Consumes left left' bytes
@@ -306,52 +302,6 @@ module _ (p : Patterns) (job : Job) where
   pub left_none : (state : State) (held meanwhile : Option (List ℕ)) (text : List ℕ) (told : TextTold (around_of job) state held meanwhile text)
       → (lines job.style.ending told.left ≡ []) ⊎ IsSettled job state
   left_none state held meanwhile text told = elim told.ends [ inl whole ↦ inl (ap (lines job.style.ending) whole) | inr settled ↦ inr settled ]
-
-  -- what was searched of a reader, and what is asked of a file as a whole: it was read to its end
-  read_whole : is_guarded job ≡ false → takes_text job ≡ false → (before state : State) (left left' held meanwhile held' : Option (List ℕ)) → IsBegin job before
-      → (stream : SearchesStream p job (course before state held meanwhile left left')) → stream.rest ≡ [] → IsAtEnd left' → (any : Bool) → EndsFile job state.selected meanwhile held' any
-      → SearchesReader p job left left' held held' any
-  read_whole plainly wholly before state left left' held meanwhile held' begin stream empty end any ends =
-      let (more, known, none) = text_behind left left' (stream.searched ++ stream.rest) stream.consumed in
-      let text = (stream.searched ++ stream.rest) ++ more in
-      let told = text_told (around_of job) before state held meanwhile stream.searched begin stream.searches in
-      let all : text ≡ stream.searched = ap (λ (l : List ℕ). (stream.searched ++ stream.rest) ++ l) (none end) ∙ append-nil (stream.searched ++ stream.rest)
-      ∙ ap (λ (l : List ℕ). stream.searched ++ l) empty ∙ append-nil stream.searched in
-      let same : lines_sought job text ≡ told.searched ++ lines job.style.ending told.left = sought_all job text wholly ∙ ap (lines job.style.ending) all ∙ told.cut in
-      record {
-        file = file_of plainly left held held' text any known
-            (lines_told state held meanwhile held' stream.searched told (lines_sought job text) (lines job.style.ending told.left) same (left_none state held meanwhile stream.searched told) any ends);
-        reads = record { bytes = stream.searched ++ stream.rest; read = stream.consumed; ended = inl end };
-      }
-
-  -- or up to lines behind which nothing more is told
-  read_front : is_guarded job ≡ false → takes_text job ≡ false → (before state : State) (left left' held meanwhile held' : Option (List ℕ)) → IsBegin job before
-      → (stream : SearchesStream p job (course before state held meanwhile left left')) → EndsLine job.style.ending stream.searched → IsSettled job state → (any : Bool)
-      → EndsFile job state.selected meanwhile held' any → SearchesReader p job left left' held held' any
-  read_front plainly wholly before state left left' held meanwhile held' begin stream whole settled any ends =
-      let (more, known, none) = text_behind left left' (stream.searched ++ stream.rest) stream.consumed in
-      let text = (stream.searched ++ stream.rest) ++ more in
-      let told = text_told (around_of job) before state held meanwhile stream.searched begin stream.searches in
-      let later = lines job.style.ending told.left ++ lines job.style.ending (stream.rest ++ more) in
-      let same : lines_sought job text ≡ told.searched ++ later =
-      sought_all job text wholly ∙ ap (lines job.style.ending) (append_assoc stream.searched stream.rest more) ∙ lines_append job.style.ending stream.searched (stream.rest ++ more) whole
-      ∙ ap (λ (l : List (List ℕ)). l ++ lines job.style.ending (stream.rest ++ more)) told.cut ∙ append_assoc told.searched (lines job.style.ending told.left) (lines job.style.ending (stream.rest ++ more)) in
-      let front : lines job.style.ending (stream.searched ++ stream.rest) ≡ told.searched ++ (lines job.style.ending told.left ++ lines job.style.ending stream.rest) =
-      lines_append job.style.ending stream.searched stream.rest whole ∙ ap (λ (l : List (List ℕ)). l ++ lines job.style.ending stream.rest) told.cut
-      ∙ append_assoc told.searched (lines job.style.ending told.left) (lines job.style.ending stream.rest) in
-      record {
-        file = file_of plainly left held held' text any known (lines_told state held meanwhile held' stream.searched told (lines_sought job text) later same (inr settled) any ends);
-        reads = settled_read state held meanwhile held' left left' stream.searched (stream.searched ++ stream.rest) told (lines job.style.ending told.left ++ lines job.style.ending stream.rest)
-            stream.consumed front settled any ends;
-      }
-
-  pub reader_searched : is_guarded job ≡ false → takes_text job ≡ false → (before state : State) (left left' held meanwhile held' : Option (List ℕ)) → IsBegin job before
-      → SearchesStream p job (course before state held meanwhile left left') → (any : Bool) → EndsFile job state.selected meanwhile held' any → SearchesReader p job left left' held held' any
-  reader_searched plainly wholly before state left left' held meanwhile held' begin stream any ends =
-      elim stream.ends [
-        | inl (empty, end) ↦ read_whole plainly wholly before state left left' held meanwhile held' begin stream empty end any ends
-        | inr (whole, settled) ↦ read_front plainly wholly before state left left' held meanwhile held' begin stream whole settled any ends
-      ]
 
 -- what follows where a file was searched
 pub if_searched : (outcome : Outcome) (P Q : Bool → Type 0) → ((any : Bool) → P any → Q any) → IfSearched outcome P → IfSearched outcome Q

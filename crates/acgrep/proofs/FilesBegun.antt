@@ -154,9 +154,9 @@ module _ (p : Patterns) (job : Job) where
 
   -- the lines before one with a zero byte were searched
   pub front_begins : (is_guarded job || takes_text job) ≡ true → (before state : State) (left left' held meanwhile held' : Option (List ℕ)) (kept : List ℕ) → IsBegin job before
-      → SearchesFront p job (course before state held meanwhile left left') kept → BeginsTotal job state.selected meanwhile held' → BeginsFile p job left held held'
+      → SearchesFront p job true (course before state held meanwhile left left') [] kept → BeginsTotal job state.selected meanwhile held' → BeginsFile p job left held held'
   front_begins is before state left left' held meanwhile held' kept begin front total =
-      file_begins true is before state left held meanwhile held' begin (behind_stop p job true before state held meanwhile left left' [] kept false front.some (λ _. front.text)) total
+      file_begins true is before state left held meanwhile held' begin (behind_stop p job true before state held meanwhile left left' [] kept false front.some front.text) total
 
   -- where lines are kept from the output nothing is asked of the file as a whole
   pub file_grown : is_guarded job ≡ true → (known held meanwhile held' : Option (List ℕ)) (count : ℕ) → BeginsFile p job known held meanwhile → BeginsTotal job count meanwhile held' → BeginsFile p job known held held'

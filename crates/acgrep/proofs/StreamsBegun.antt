@@ -7,7 +7,7 @@ use Rattle.acgrep.specs.Binary.{is_text, lines_by, text_lines}
 use Rattle.acgrep.specs.Contexts.{BeginsSearched, SearchesIn, SearchesText, TellsFrom, around_of, walk_of}
 use Rattle.acgrep.specs.Filled.{FillsBehind}
 use Rattle.acgrep.specs.Lines.{EndsLine, IsEnding, lines}
-use Rattle.acgrep.specs.Streamed.{BeginsBehind, BeginsWhole, ReadsSome, SearchesBehind, SearchesStream, course}
+use Rattle.acgrep.specs.Streamed.{BeginsBehind, BeginsWhole, ReadsSome, SearchesBehind, TextIf, course}
 use Rattle.acgrep.specs.Written.{IsSettled}
 use Rattle.acgrep.specs.declared.options.Context.{Context}
 use Rattle.acgrep.specs.declared.select.Job.{Job}
@@ -25,11 +25,11 @@ text_from None kept = ([], tt)
 text_from (Some bytes) kept = (bytes, refl)
 
 -- the lines of whole ones and others
-pub by_behind : (alone : Bool) (ending : ℕ) (front back : List ℕ) → EndsLine ending front → (alone ≡ true → is_text front ≡ true) → lines_by alone ending (front ++ back) ≡ lines ending front ++ lines_by alone ending back
+pub by_behind : (alone : Bool) (ending : ℕ) (front back : List ℕ) → EndsLine ending front → TextIf alone front → lines_by alone ending (front ++ back) ≡ lines ending front ++ lines_by alone ending back
 by_behind true ending front back whole text = ap text_lines (lines_append ending front back whole) ∙ text_behind ending front (lines ending back) (text refl)
 by_behind false ending front back whole text = lines_append ending front back whole
 
-by_same : (alone : Bool) (ending : ℕ) (bytes : List ℕ) → (alone ≡ true → is_text bytes ≡ true) → lines_by alone ending bytes ≡ lines ending bytes
+pub by_same : (alone : Bool) (ending : ℕ) (bytes : List ℕ) → TextIf alone bytes → lines_by alone ending bytes ≡ lines ending bytes
 by_same true ending bytes text = ap text_lines (sym (append-nil (lines ending bytes))) ∙ text_behind ending bytes [] (text refl) ∙ append-nil (lines ending bytes)
 by_same false ending bytes text = refl
 
@@ -70,7 +70,7 @@ module _ (p : Patterns) (job : Job) where
         record { text = kept ++ more; of = of; begins = begins_nothing Tells (lines_by alone job.style.ending (kept ++ more)) x y [] (nothing_told (around_of job) a) (keeps_nil x y keeps) }
 
     -- whole lines that are there were begun
-    behind_lines : (a b : State) (x y left : Option (List ℕ)) (kept searched rest : List ℕ) → kept ≡ searched ++ rest → EndsLine job.style.ending searched → (alone ≡ true → is_text searched ≡ true)
+    behind_lines : (a b : State) (x y left : Option (List ℕ)) (kept searched rest : List ℕ) → kept ≡ searched ++ rest → EndsLine job.style.ending searched → TextIf alone searched
         → BeginsSearched p job a b.selected x y (lines job.style.ending searched) → BeginsBehind p job alone a b x y left kept
     behind_lines a b x y left kept searched rest cut whole text begins =
         let (more, of) = text_from left kept in
@@ -85,12 +85,12 @@ module _ (p : Patterns) (job : Job) where
 
     -- up to behind a newline
     pub behind_whole : (a b : State) (x y left : Option (List ℕ)) (bytes : List ℕ) (whole : ℕ) → whole ≤ length bytes → (0 < whole → IsEnding job.style.ending bytes (whole - 1))
-        → (alone ≡ true → is_text (take whole bytes) ≡ true) → BeginsSearched p job a b.selected x y (lines job.style.ending (take whole bytes)) → BeginsBehind p job alone a b x y left bytes
+        → TextIf alone (take whole bytes) → BeginsSearched p job a b.selected x y (lines job.style.ending (take whole bytes)) → BeginsBehind p job alone a b x y left bytes
     behind_whole a b x y left bytes whole within newline text begins =
         behind_lines a b x y left bytes (take whole bytes) (drop whole bytes) (sym (take-append-drop whole bytes)) (front_whole job.style.ending bytes whole within newline) text begins
 
     -- or all that is there, behind which nothing comes
-    pub behind_end : (a b : State) (x y left : Option (List ℕ)) (kept : List ℕ) → IsAtEnd left → (alone ≡ true → is_text kept ≡ true) → BeginsSearched p job a b.selected x y (lines job.style.ending kept)
+    pub behind_end : (a b : State) (x y left : Option (List ℕ)) (kept : List ℕ) → IsAtEnd left → TextIf alone kept → BeginsSearched p job a b.selected x y (lines job.style.ending kept)
         → BeginsBehind p job alone a b x y left kept
     behind_end a b x y left kept end text begins =
         let Tells = TellsFrom p job (around_of job) a b.selected in
@@ -123,7 +123,7 @@ module _ (p : Patterns) (job : Job) where
         behind_kept a b x y z left kept keeps (behind_read a b y z left left' kept fills.came fills.read (subst (BeginsBehind p job alone a b y z left') fills.behind begins))
 
     -- whole lines stand before them that were searched
-    behind_front : (a b c : State) (x y z left : Option (List ℕ)) (searched kept : List ℕ) → EndsLine job.style.ending searched → (IsSettled job b → ⊥) → (alone ≡ true → is_text searched ≡ true)
+    behind_front : (a b c : State) (x y z left : Option (List ℕ)) (searched kept : List ℕ) → EndsLine job.style.ending searched → (IsSettled job b → ⊥) → TextIf alone searched
         → SearchesText p job a b x y searched → BeginsBehind p job alone b c y z left kept → BeginsBehind p job alone a c x z left (searched ++ kept)
     behind_front a b c x y z left searched kept whole goes text one begins = record {
       text = searched ++ begins.text;
@@ -138,20 +138,20 @@ module _ (p : Patterns) (job : Job) where
 
     -- a read whose lines were searched, and what follows
     pub behind_reads : (a b c : State) (x y z left left' : Option (List ℕ)) (first kept : List ℕ) (ended : Bool) → (some : ReadsSome p job (course a b x y left left') first kept ended) → (IsSettled job b → ⊥)
-        → (alone ≡ true → is_text some.searched ≡ true) → BeginsBehind p job alone b c y z left' kept → BeginsBehind p job alone a c x z left first
+        → TextIf alone some.searched → BeginsBehind p job alone b c y z left' kept → BeginsBehind p job alone a c x z left first
     behind_reads a b c x y z left left' first kept ended some goes text begins =
         behind_read a c x z left left' first some.came some.consumed (subst (BeginsBehind p job alone a c x z left') (sym some.cut)
         (behind_front a b c x y z left' some.searched kept some.whole goes text some.searches begins))
 
     -- nothing more is searched
     pub behind_stop : (a b : State) (x y left left' : Option (List ℕ)) (first kept : List ℕ) (ended : Bool) → (some : ReadsSome p job (course a b x y left left') first kept ended)
-        → (alone ≡ true → is_text some.searched ≡ true) → BeginsBehind p job alone a b x y left first
+        → TextIf alone some.searched → BeginsBehind p job alone a b x y left first
     behind_stop a b x y left left' first kept ended some text =
         behind_read a b x y left left' first some.came some.consumed
         (behind_lines a b x y left' (first ++ some.came) some.searched kept some.cut some.whole text (whole_in (around_of job) a b x y some.searched some.searches))
 
     -- what was searched is a beginning too
-    pub behind_searched : (a b : State) (x y left left' : Option (List ℕ)) (kept : List ℕ) → (all : SearchesBehind p job (course a b x y left left') kept) → (alone ≡ true → is_text all.searched ≡ true)
+    pub behind_searched : (a b : State) (x y left left' : Option (List ℕ)) (kept : List ℕ) → (all : SearchesBehind p job (course a b x y left left') kept) → TextIf alone all.searched
         → BeginsBehind p job alone a b x y left kept
     behind_searched a b x y left left' kept all text =
         let begins = whole_in (around_of job) a b x y all.searched all.searches in
@@ -169,8 +169,3 @@ module _ (p : Patterns) (job : Job) where
   whole_begins a b x y bytes whole within newline begins = λ alone text left.
       behind_whole alone a b x y left bytes whole within newline
       (λ is. text_front (take whole bytes) (drop whole bytes) (subst (λ (l : List ℕ). is_text l ≡ true) (sym (take-append-drop whole bytes)) (text is))) begins
-
-  pub stream_begun : (a b : State) (x y left left' : Option (List ℕ)) → SearchesStream p job (course a b x y left left') → BeginsBehind p job false a b x y left []
-  stream_begun a b x y left left' all =
-      behind_searched false a b x y left left' [] (record { came = all.searched ++ all.rest; searched = all.searched; rest = all.rest; consumed = all.consumed; cut = refl; searches = all.searches; ends = all.ends })
-      (λ other. absurd (cc))

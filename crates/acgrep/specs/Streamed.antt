@@ -35,16 +35,8 @@ abbrev pub course_of : {W R : Type 0} → SinkGhosts W → Readers R → State �
 course_of sinks readers before after output output' input input' =
     course before after (sinks.taken output) (sinks.taken output') (readers.remaining input) (readers.remaining input')
 
--- bytes that were read are searched: all that the reader had, or whole lines up to those with a selected one that tells all
-pub record SearchesStream (p : Patterns) (job : Job) (c : Course) : Type 0 where
-  pub searched : List ℕ
-  -- what was read behind them
-  pub rest : List ℕ
-  pub consumed : Consumes c.left_before c.left_after (searched ++ rest)
-  pub searches : SearchesText p job c.before c.after c.held_before c.held_after searched
-  pub ends : ((rest ≡ []) × IsAtEnd c.left_after) ⊎ (EndsLine job.style.ending searched × IsSettled job c.after)
-
--- the same of bytes that are there, and of those that were read behind them
+-- bytes that are there and those that were read behind them are searched: all that the reader had, or whole lines up to those with a
+-- selected one that tells all
 pub record SearchesBehind (p : Patterns) (job : Job) (c : Course) (kept : List ℕ) : Type 0 where
   pub came : List ℕ
   pub searched : List ℕ
@@ -72,6 +64,10 @@ pub record SearchesWhole (p : Patterns) (job : Job) (before after : State) (old 
   pub whole : EndsLine job.style.ending searched
   pub searches : SearchesText p job before after old new searched
 
+-- whether bytes hold no zero byte, where that is asked
+abbrev pub TextIf : Bool → List ℕ → Type 0
+TextIf asked bytes = asked ≡ true → is_text bytes ≡ true
+
 -- the same of a search that is broken off: of first lines of the bytes that are there and of those that the reader has left behind
 -- them, or of the lines before the first that holds a zero byte alone, a beginning of what is told is written
 pub record BeginsBehind (p : Patterns) (job : Job) (alone : Bool) (before after : State) (old new left : Option (List ℕ)) (kept : List ℕ) : Type 0 where
@@ -82,4 +78,4 @@ pub record BeginsBehind (p : Patterns) (job : Job) (alone : Bool) (before after 
 -- whatever the reader has left
 abbrev pub BeginsWhole : Patterns → Job → (before after : State) → (old new : Option (List ℕ)) → List ℕ → Type 0
 BeginsWhole p job before after old new bytes =
-    (alone : Bool) → (alone ≡ true → is_text bytes ≡ true) → (left : Option (List ℕ)) → BeginsBehind p job alone before after old new left bytes
+    (alone : Bool) → TextIf alone bytes → (left : Option (List ℕ)) → BeginsBehind p job alone before after old new left bytes

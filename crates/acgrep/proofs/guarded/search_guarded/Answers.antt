@@ -32,7 +32,7 @@ returns-then-not-binary-clause-searched g c = λ p is plain.
     let meanwhile = g.W.Sink.taken c.search_front.new.output in
     let kept = take c.search_front.new.buffer.held c.search_front.new.buffer.room.items in
     reader_past p job c.requires.guarded before state left left' held meanwhile c.begin.ensures.begin
-    (subst (EndsFront p job (course before state held meanwhile left left') kept) c.if-not-binary.true (c.in_ok-binary.ensures.front p is plain))
+    (subst (EndsFront p job true (course before state held meanwhile left left') [] kept) c.if-not-binary.true (c.in_ok-binary.ensures.front p is plain))
 
 pub returns-then-is_full-clause-searched : goal.returns-then-is_full-clause-searched
 returns-then-is_full-clause-searched g c = λ p is plain.
@@ -44,7 +44,7 @@ returns-then-is_full-clause-searched g c = λ p is plain.
     let held = g.W.Sink.taken c.args.output.now in
     let meanwhile = g.W.Sink.taken c.search_front.new.output in
     let kept = take c.search_front.new.buffer.held c.search_front.new.buffer.room.items in
-    let (front, binary) = subst (EndsFront p job (course before state held meanwhile left left') kept) c.if-not-binary.false (c.in_ok-binary.ensures.front p is plain) in
+    let (asked, front, binary) = subst (EndsFront p job true (course before state held meanwhile left left') [] kept) c.if-not-binary.false (c.in_ok-binary.ensures.front p is plain) in
     reader_full p job c.requires.guarded before state left left' held meanwhile kept c.begin.ensures.begin front binary (sym c.is_full.ensures.full ∙ c.if-is_full.true)
 
 pub returns-in_err-finds-clause-begun : goal.returns-in_err-finds-clause-begun
@@ -57,7 +57,7 @@ returns-in_err-finds-clause-begun g c = λ p is plain.
     let held = g.W.Sink.taken c.args.output.now in
     let meanwhile = g.W.Sink.taken c.search_front.new.output in
     let kept = take c.search_front.new.buffer.held c.search_front.new.buffer.room.items in
-    let (front, binary) = subst (EndsFront p job (course before state held meanwhile left left') kept) c.if-not-binary.false (c.in_ok-binary.ensures.front p is plain) in
+    let (asked, front, binary) = subst (EndsFront p job true (course before state held meanwhile left left') [] kept) c.if-not-binary.false (c.in_ok-binary.ensures.front p is plain) in
     on_err c.from_residual-in_err-finds.result
     (front_begins p job (ap (λ (b : Bool). b || takes_text c.args.job.now) c.requires.guarded) before state left left' held meanwhile (g.W.Sink.taken c.finds.new.output) kept c.begin.ensures.begin front
     (record { begun = []; missing = total_if job.shown job.style state.selected; cut = refl; written = c.in_err-finds.ensures.unwritten p is plain }))
@@ -76,7 +76,7 @@ returns-in_err-write_binary-clause-begun g c = λ p is plain.
     let held = g.W.Sink.taken c.args.output.now in
     let meanwhile = g.W.Sink.taken c.search_front.new.output in
     let kept = take c.search_front.new.buffer.held c.search_front.new.buffer.room.items in
-    let (front, binary) = subst (EndsFront p job (course before state held meanwhile left left') kept) c.if-not-binary.false (c.in_ok-binary.ensures.front p is plain) in
+    let (asked, front, binary) = subst (EndsFront p job true (course before state held meanwhile left left') [] kept) c.if-not-binary.false (c.in_ok-binary.ensures.front p is plain) in
     let unfilled : is_full job.most state.selected ≡ false = sym c.is_full.ensures.full ∙ c.if-is_full.false in
     let last = g.R.Read.remaining c.finds.new.input in
     let between = g.W.Sink.taken c.finds.new.output in
@@ -98,7 +98,7 @@ returns-then-branch-clause-searched g c = λ p is plain.
     let held = g.W.Sink.taken c.args.output.now in
     let meanwhile = g.W.Sink.taken c.search_front.new.output in
     let kept = take c.search_front.new.buffer.held c.search_front.new.buffer.room.items in
-    let (front, binary) = subst (EndsFront p job (course before state held meanwhile left left') kept) c.if-not-binary.false (c.in_ok-binary.ensures.front p is plain) in
+    let (asked, front, binary) = subst (EndsFront p job true (course before state held meanwhile left left') [] kept) c.if-not-binary.false (c.in_ok-binary.ensures.front p is plain) in
     let unfilled : is_full job.most state.selected ≡ false = sym c.is_full.ensures.full ∙ c.if-is_full.false in
     let last = g.R.Read.remaining c.finds.new.input in
     let between = g.W.Sink.taken c.finds.new.output in
@@ -120,7 +120,7 @@ returns-clause-searched g c = λ p is plain.
     let held = g.W.Sink.taken c.args.output.now in
     let meanwhile = g.W.Sink.taken c.search_front.new.output in
     let kept = take c.search_front.new.buffer.held c.search_front.new.buffer.room.items in
-    let (front, binary) = subst (EndsFront p job (course before state held meanwhile left left') kept) c.if-not-binary.false (c.in_ok-binary.ensures.front p is plain) in
+    let (asked, front, binary) = subst (EndsFront p job true (course before state held meanwhile left left') [] kept) c.if-not-binary.false (c.in_ok-binary.ensures.front p is plain) in
     let unfilled : is_full job.most state.selected ≡ false = sym c.is_full.ensures.full ∙ c.if-is_full.false in
     let last = g.R.Read.remaining c.finds.new.input in
     let between = g.W.Sink.taken c.finds.new.output in
