@@ -524,8 +524,10 @@ fn put_asked<W: Write>(job: &Job<'_>, selected: u64, output: &mut W) -> io::Resu
 fn job_for<'a>(job: &Job<'a>, name: &'a [u8], follows: bool) -> Job<'a>
     ensures named { IsNamed job.now name.now follows result }
 {
+    let mut style = job.style;
+    style.name = name;
     let mut named = *job;
-    named.style.name = name;
+    named.style = style;
     named.follows = follows;
     named
 }
