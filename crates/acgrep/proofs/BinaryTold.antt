@@ -384,7 +384,7 @@ module _ (p : Patterns) (job : Job) where
 
 -- where zero bytes are as any other all lines are searched
 pub past_all : (p : Patterns) (job : Job) (c : Course) (first kept : List ℕ) (binary : Bool) → EndsFront p job false c first kept binary → SearchesBehind p job c first
-past_all p job c first kept true (asked, front) = absurd (cc)
+past_all p job c first kept true (asked, front, binary) = absurd (cc)
 past_all p job c first kept false past = past.all
 
 -- what was sought of a job is what is found

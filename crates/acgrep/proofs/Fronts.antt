@@ -41,6 +41,7 @@ module _ (p : Patterns) (job : Job) (alone : Bool) where
   -- at the begin the whole lines that are there are searched
   pub front_start : (a b : State) (x y l : Option (List ℕ)) (first kept : List ℕ) → TextIf alone first → SearchesWhole p job a b x y first kept
       → SearchesFront p job alone (course a b x y l l) first kept × TextIf alone kept
+  unfolding stream_whole_lines
   front_start a b x y l first kept text searches =
       let all : TextIf alone (searches.searched ++ kept) = λ asked. subst (λ (bytes : List ℕ). is_text bytes ≡ true) searches.cut (text asked) in (
         record { some = stream_whole_lines p job a b x y l first kept searches; text = λ asked. text_front searches.searched kept (all asked) },

@@ -153,7 +153,7 @@ module _ (p : Patterns) (job : Job) where
   searches_none a x y keeps = none_in (around_of job) a x y keeps
 
   -- whole lines that were there
-  pub stream_whole_lines : (a b : State) (x y l : Option (List ℕ)) (first kept : List ℕ) → SearchesWhole p job a b x y first kept → ReadsSome p job (course a b x y l l) first kept false
+  unfoldable pub stream_whole_lines : (a b : State) (x y l : Option (List ℕ)) (first kept : List ℕ) → SearchesWhole p job a b x y first kept → ReadsSome p job (course a b x y l l) first kept false
   stream_whole_lines a b x y l first kept searches = record {
     came = [];
     searched = searches.searched;

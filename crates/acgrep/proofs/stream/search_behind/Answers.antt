@@ -52,10 +52,12 @@ returns-in-Binary-clause-front g c = λ p is plain.
     let left = g.R.Read.remaining c.loop.input in
     let left' = g.R.Read.remaining c.read_front.new.input in
     let front : ReadsFront p c.args.job.now c.args.alone (course c.loop.state c.read_front.new.state held held' left left') kept rest Binary =
-    subst (ReadsFront p c.args.job.now c.args.alone (course c.loop.state c.read_front.new.state held held' left left') kept rest) c.in-Binary.is (c.in_ok-read_front.ensures.read p is plain) in (
+    subst (ReadsFront p c.args.job.now c.args.alone (course c.loop.state c.read_front.new.state held held' left left') kept rest) c.in-Binary.is (c.in_ok-read_front.ensures.read p is plain) in
+    let (asked, begins) = front.left text in (
+      asked,
       front_step p c.args.job.now c.args.alone c.args.state.now c.loop.state c.read_front.new.state (g.W.Sink.taken c.args.output.now) held held' (g.R.Read.remaining c.args.input.now) left left' (take c.args.buffer.now.held c.args.buffer.now.room.items) kept rest Binary
           (not_done c.is_done.result (IsSettled c.args.job.now c.loop.state) c.is_done.ensures.settled.1 c.if-is_done.false) text so_far front,
-      front.left text,
+      begins,
     )
 
 pub returns-in-Binary-clause-reads : goal.returns-in-Binary-clause-reads
