@@ -1,15 +1,15 @@
 -- What is written of a file, from what was searched of its reader.
-use Rattle.std.proofs.Common.{◌≡◌, ◌⊎◌, inl, inr, ℕ, ◌<◌, Bool, true, false, List, [], ◌∷◌, ◌++◌, Option, None, Some, IfSome, refl, sym, ◌∙◌, ap, subst, arith, append_assoc, append-nil}
+use Rattle.std.proofs.Common.{◌≡◌, ◌⊎◌, inl, inr, ℕ, ◌<◌, Bool, true, false, List, [], ◌∷◌, ◌++◌, Option, None, Some, IfSome, refl, sym, ◌∙◌, ap, subst, arith, append-nil}
 use Rattle.std.specs.Prelude.{MatchBool, if◌then◌else◌, nat_lt}
 use Rattle.std.specs.Io.KnownBytes.{Appends, Consumes, IsAtEnd}
 use Rattle.std.proofs.KnownBytes.{Appends-trans}
 use Rattle.std.proofs.lemmas.Bool.{cases_Bool, lt-ltb, ltb-false, ltb-true}
 use Rattle.aho_core.specs.Patterns.{Patterns}
 use Rattle.programs.specs.Names.{is_input}
-use Rattle.acgrep.specs.Binary.{TellsGuarded, is_guarded, lines_by, lines_sought, takes_text, text_lines}
+use Rattle.acgrep.specs.Binary.{TellsGuarded, is_guarded, lines_by, lines_sought, takes_text}
 use Rattle.acgrep.specs.Contexts.{IsBegin, SearchesIn, TellsFile, TellsIn, around_by, around_of, walk_of}
 use Rattle.acgrep.specs.Files.{EndsFile, IfSearched, IsNamed, IsRead, SearchesFile, SearchesName, SearchesReader, TellsBy, TellsSearched, count_if, known_of, shown_name, total_if}
-use Rattle.acgrep.specs.Lines.{EndsLine, lines}
+use Rattle.acgrep.specs.Lines.{lines}
 use Rattle.acgrep.specs.Printed.{file_line}
 use Rattle.acgrep.specs.Written.{EachLine, IsAny, IsPassedOver, IsSelected, IsSettled, ShowsBy, ShowsLine, SomeLine, TellsOfLines, is_full, needs_one, one_more}
 use Rattle.acgrep.specs.declared.files.Outcome.{Outcome}
@@ -22,7 +22,6 @@ use Rattle.acgrep.specs.declared.print.Style.{Style}
 use Rattle.acgrep.specs.declared.select.Job.{Job}
 use Rattle.acgrep.specs.declared.select.State.{State}
 use Rattle.acgrep.proofs.Grouped.{told_around}
-use Rattle.acgrep.proofs.LineLists.{lines_append}
 use Rattle.acgrep.proofs.Tellings.{full_some, tells_full}
 use Rattle.acgrep.proofs.Walked.{walks_append, walks_full, walks_tells}
 

@@ -1,6 +1,6 @@
 -- Files that are searched one after another.
 use Rattle.std.proofs.Common.{◌≡◌, inl, inr, ◌⊎◌, ℕ, ◌-◌, ◌<◌, Bool, true, false, List, [], ◌∷◌, Option, Bor, length, take, drop, refl, sym, ◌∙◌, ap, subst, arith}
-use Rattle.std.specs.Prelude.{◌==◌, ◌&&◌, ◌||◌, codes, not, if◌then◌else◌}
+use Rattle.std.specs.Prelude.{◌||◌, codes, not, if◌then◌else◌}
 use Rattle.std.proofs.KnownBytes.{Keeps-refl}
 use Rattle.std.proofs.Math.ListN.{get_or}
 use Rattle.std.proofs.lemmas.Bool.{cases_Bool}
@@ -8,7 +8,7 @@ use Rattle.std.proofs.lemmas.List.{take_all}
 use Rattle.aho_core.specs.Patterns.{Patterns}
 use Rattle.programs.specs.Names.{name_bytes, or_input}
 use Rattle.programs.specs.Answers.{status_of}
-use Rattle.acgrep.specs.Binary.{is_guarded, lines_by, lines_sought}
+use Rattle.acgrep.specs.Binary.{is_guarded, lines_sought}
 use Rattle.acgrep.specs.Files.{AreFilesBegun, AreFilesSearched, AreSearchedOr, BeginsName, HasSelected, IfBroken, IfSearched, IsNamed, LeavesInput, OneIsSelected, SearchesName, SearchesNames, is_enough, known_of, nothing_seen, seen_after, shown_name, status_by}
 use Rattle.acgrep.specs.Written.{IsSelected, SomeLine}
 use Rattle.acgrep.specs.declared.files.Outcome.{Outcome}

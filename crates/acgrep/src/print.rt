@@ -1,6 +1,6 @@
 //! Writing lines and matches with what stands before them.
 
-ghost use Rattle.std.specs.Prelude.{◌≡◌, ◌≤◌, IfOk, decimal, drop, true};
+ghost use Rattle.std.specs.Prelude.{◌≡◌, ◌≤◌, IfOk, decimal, drop};
 ghost use Rattle.acgrep.specs.Printed.{Puts, behind_match, colored_by, count_by, escape_by, file_line, head_of, line_by, match_by, match_code, name_ended, name_part, number_by, number_if, painted, part_by, part_of, separator_by, tab_before};
 
 use crate::colors::Colors;

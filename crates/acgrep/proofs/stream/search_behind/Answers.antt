@@ -1,5 +1,5 @@
 -- A read more, up to the end, a line with a zero byte, or lines behind which nothing more is told.
-use Rattle.std.proofs.Common.{◌≡◌, ℕ, List, [], ap, false, refl, subst, take, true, ◌∙◌}
+use Rattle.std.proofs.Common.{ℕ, List, [], false, refl, subst, take, true}
 use Rattle.std.proofs.KnownBytes.{Consumes-nil}
 use Rattle.acgrep.specs.Contexts.{BeginsSearched, SearchesText}
 use Rattle.acgrep.specs.Guarded.{ReadsFront}

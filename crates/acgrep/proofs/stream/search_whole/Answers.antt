@@ -1,5 +1,5 @@
 -- The whole lines are searched, and dropped from the buffer.
-use Rattle.std.proofs.Common.{ℕ, ◌-◌, ◌≡◌, ◌≤◌, ◌<◌, List, length, refl, subst, take}
+use Rattle.std.proofs.Common.{ℕ, ◌-◌, ◌≡◌, ◌≤◌, ◌<◌, List, length, subst, take}
 use Rattle.acgrep.specs.Lines.{IsEnding, lines}
 use Rattle.acgrep.specs.Contexts.{BeginsSearched, SearchesText}
 use Rattle.acgrep.proofs.Beginnings.{on_err}
