@@ -6,27 +6,26 @@ use Rattle.std.proofs.KnownBytes.{Appends-trans, Consumes-trans, Keeps-refl}
 use Rattle.std.proofs.lemmas.Bool.{and_parts, lt-ltb, not-true, true≢false}
 use Rattle.aho_core.specs.Patterns.{Patterns}
 use Rattle.aho_devices.specs.Counts.{AppendsBeginning}
-use Rattle.acgrep.specs.Binary.{BeginsGuarded, TellsGuarded, binary_by, binary_lines, is_guarded, is_text, lines_sought, seeking, takes_text, text_lines, writes_lines}
-use Rattle.acgrep.specs.Contexts.{BeginsAsked, IsBegin, SearchesText, TellsFile, TellsIn, around_of, walk_of}
-use Rattle.acgrep.specs.Files.{BeginsFile, BeginsFileIn, BeginsTotal, SearchesFile, SearchesReader, TellsSearched, total_if}
-use Rattle.acgrep.specs.Guarded.{BeginsBinary, BeginsPast, FindsSelected, IsFirstBinary, SearchesFront, SearchesPast}
+use Rattle.acgrep.specs.Begun.{BeginsOf}
+use Rattle.acgrep.specs.Binary.{TellsBinary, TellsGuarded, binary_by, binary_lines, is_guarded, is_text, lines_by, lines_sought, seeking, takes_text, text_lines, writes_lines}
+use Rattle.acgrep.specs.Contexts.{IsBegin, SearchesText, TellsFile, TellsFrom, around_of}
+use Rattle.acgrep.specs.Files.{BeginsFile, SearchesFile, SearchesReader, TellsSearched, total_if}
+use Rattle.acgrep.specs.Guarded.{BeginsBinary, EndsFront, FindsSelected, IsFirstBinary, SearchesFront, SearchesPast}
 use Rattle.acgrep.specs.Lines.{EndsLine, lines}
-use Rattle.acgrep.specs.Streamed.{BeginsBehind, SearchesBehind, course}
-use Rattle.acgrep.specs.Written.{IsAny, IsSelected, IsSettled, SomeLine, StartsNext, TellsOfLines, after_lines, is_full, needs_one, one_more}
+use Rattle.acgrep.specs.Streamed.{BeginsBehind, Course, SearchesBehind, course}
+use Rattle.acgrep.specs.Written.{IsAny, IsSelected, IsSettled, SomeLine, TellsOfLines, is_full, needs_one}
 use Rattle.acgrep.specs.declared.options.Context.{Context}
 use Rattle.acgrep.specs.declared.options.Shown.{Shown}
 use Rattle.acgrep.specs.declared.options.Shown.TheVariants.{Lines, Matches, Objects, Count, Names, Lacking, Nothing}
-use Rattle.acgrep.specs.declared.print.Place.{Place}
-use Rattle.acgrep.specs.declared.print.Style.{Style}
 use Rattle.acgrep.specs.declared.select.Job.{Job}
 use Rattle.acgrep.specs.declared.select.State.{State}
 use Rattle.acgrep.proofs.BinaryLines.{binary_behind, first_binary, first_some, first_text, some_binary, some_text, text_behind}
+use Rattle.acgrep.proofs.Begun.{nil_front}
 use Rattle.acgrep.proofs.FileTellings.{TextTold, shows_nothing, some_front, sought_all, tells_any, tells_none, text_behind as text_read, text_told}
-use Rattle.acgrep.proofs.FilesBegun.{nil_front}
-use Rattle.acgrep.proofs.Grouped.{told_around}
+use Rattle.acgrep.proofs.FilesBegun.{shows_lines}
 use Rattle.acgrep.proofs.LineLists.{lines_append}
 use Rattle.acgrep.proofs.Streams.{keeps_nil}
-use Rattle.acgrep.proofs.Tellings.{settled_some, tells_append, tells_full}
+use Rattle.acgrep.proofs.Tellings.{settled_some, tells_full}
 
 pub appends_none : (x : Option (List ℕ)) → Appends x x []
 appends_none x = keeps_nil x x (Keeps-refl x)
@@ -48,15 +47,6 @@ lines_needed Count is = absurd (cc)
 lines_needed Names is = absurd (cc)
 lines_needed Lacking is = absurd (cc)
 lines_needed Nothing is = absurd (cc)
-
-lines_total : (shown : Shown) (style : Style) (count : ℕ) → writes_lines shown ≡ true → total_if shown style count ≡ []
-lines_total Lines style count is = refl
-lines_total Matches style count is = refl
-lines_total Objects style count is = absurd (cc)
-lines_total Count style count is = absurd (cc)
-lines_total Names style count is = absurd (cc)
-lines_total Lacking style count is = absurd (cc)
-lines_total Nothing style count is = absurd (cc)
 
 -- a line of a text is selected where one of its first lines is, or one of the others
 guarded_some : (p : Patterns) (job : Job) (ls : List (List ℕ)) (some more full : Bool) → IsAny p job.fit job.invert (text_lines ls) some
@@ -99,7 +89,7 @@ module _ (p : Patterns) (job : Job) where
       let one : needs_one job.shown ≡ true = ap needs_one shown in
       let told = text_told p job (around_of job) before state held held' behind.searched begin behind.searches in
       let alone : around_of job ≡ None = rw shown refl in
-      let nothing : told.bytes ≡ [] = told.single alone ∙ tells_none p job told.searched job.first 0 told.plain state.selected one told.tells in
+      let nothing : told.bytes ≡ [] = told.single alone ∙ tells_none p job told.searched job.first 0 told.plain state.selected (shows_nothing p job one) told.tells in
       record {
         came = behind.came;
         consumed = behind.consumed;
@@ -123,26 +113,18 @@ module _ (p : Patterns) (job : Job) where
         unwritten = subst (Appends held held') nothing told.written;
       }
 
-  starts_nothing : (place : Place) (count : ℕ) (left : List (List ℕ)) (begun : List ℕ) → needs_one job.shown ≡ true → StartsNext p job place count left begun → begun ≡ []
-  starts_nothing place count [] begun one none = none
-  starts_nothing place count (line ∷ rest) begun one (inl none) = none
-  starts_nothing place count (line ∷ rest) begun one (inr (goes, selected, starts)) =
-      nil_front begun starts.missing (sym (shows_nothing p job place line starts.shown one starts.shows) ∙ starts.cut)
-
   nothing_in : (around : Option Context) → around ≡ None → (before : State) (count : ℕ) (held held' : Option (List ℕ)) (ls : List (List ℕ)) → needs_one job.shown ≡ true
-      → BeginsAsked p job around before count held held' ls → Appends held held' []
+      → BeginsOf (TellsFrom p job around before count) ls held held' → Appends held held' []
   nothing_in None is before count held held' ls one begins =
-      let told : begins.told ≡ [] = tells_none p job begins.first before.place before.selected begins.told count one begins.tells in
-      let begun : begins.begun ≡ [] = starts_nothing (after_lines before.place begins.first) count begins.left begins.begun one begins.starts in
-      subst (Appends held held') (ap (λ (l : List ℕ). l ++ begins.begun) told ∙ begun) begins.written
+      let none : begins.all ≡ [] = tells_none p job begins.first before.place before.selected begins.all count (shows_nothing p job one) begins.tells in
+      subst (Appends held held') (nil_front begins.begun begins.missing (sym none ∙ begins.is)) begins.written
   nothing_in (Some context) is before count held held' ls one begins = absurd (cc)
 
   -- and where it is broken off nothing is written either
-  begins_nothing : (before state : State) (left left' held held' : Option (List ℕ)) (kept : List ℕ) → job.shown ≡ Nothing
-      → BeginsBehind p job (course before state held held' left left') kept → Appends held held' []
-  begins_nothing before state left left' held held' kept shown behind =
+  begins_nothing : (before state : State) (left held held' : Option (List ℕ)) (kept : List ℕ) → job.shown ≡ Nothing → BeginsBehind p job false before state held held' left kept → Appends held held' []
+  begins_nothing before state left held held' kept shown behind =
       let alone : around_of job ≡ None = rw shown refl in
-      nothing_in (around_of job) alone before state.selected held held' (lines job.style.ending behind.searched) (ap needs_one shown) behind.begins
+      nothing_in (around_of job) alone before state.selected held held' (lines job.style.ending behind.text) (ap needs_one shown) behind.begins
 
   -- what was told of some lines
   record LinesTold (held meanwhile : Option (List ℕ)) (ls : List (List ℕ)) (count : ℕ) : Type 0 where
@@ -189,83 +171,6 @@ module _ (p : Patterns) (job : Job) where
             (told_full before state held meanwhile text [] begin searches full)
       ]
 
-  -- a beginning of what is told of some first ones of these lines
-  record LinesBegun (held held' : Option (List ℕ)) (ls : List (List ℕ)) : Type 0 where
-    first : List (List ℕ)
-    left : List (List ℕ)
-    cut : ls ≡ first ++ left
-    told : List ℕ
-    count : ℕ
-    tells : TellsFile p job first told count
-    begun : List ℕ
-    missing : List ℕ
-    is : told ≡ begun ++ missing
-    written : Appends held held' begun
-
-  -- the next of them was begun
-  plain_next : around_of job ≡ None → (held held' : Option (List ℕ)) (ls first left : List (List ℕ)) (told begun : List ℕ) (count : ℕ) → ls ≡ first ++ left → TellsOfLines p job job.first 0 first told count
-      → StartsNext p job (after_lines job.first first) count left begun → Appends held held' (told ++ begun) → LinesBegun held held' ls
-  plain_next alone held held' ls first [] told begun count cut tells none written = record {
-    first = first;
-    left = [];
-    cut = cut;
-    told = told;
-    count = count;
-    tells = subst (λ (around : Option Context). TellsIn p job around first told count) (sym alone) tells;
-    begun = told ++ begun;
-    missing = [];
-    is = sym (append-nil (told ++ begun) ∙ ap (λ (l : List ℕ). told ++ l) none ∙ append-nil told);
-    written = written;
-  }
-  plain_next alone held held' ls first (line ∷ rest) told begun count cut tells (inl none) written = record {
-    first = first;
-    left = line ∷ rest;
-    cut = cut;
-    told = told;
-    count = count;
-    tells = subst (λ (around : Option Context). TellsIn p job around first told count) (sym alone) tells;
-    begun = told ++ begun;
-    missing = [];
-    is = sym (append-nil (told ++ begun) ∙ ap (λ (l : List ℕ). told ++ l) none ∙ append-nil told);
-    written = written;
-  }
-  plain_next alone held held' ls first (line ∷ rest) told begun count cut tells (inr (goes, selected, starts)) written =
-      let one : TellsOfLines p job (after_lines job.first first) count (line ∷ []) (starts.shown ++ []) (one_more count) =
-      inr (goes, inl (selected, (starts.shown, [], starts.shows, (refl, refl), refl))) in
-      record {
-        first = first ++ (line ∷ []);
-        left = rest;
-        cut = cut ∙ sym (append_assoc first (line ∷ []) rest);
-        told = told ++ (starts.shown ++ []);
-        count = one_more count;
-        tells = subst (λ (around : Option Context). TellsIn p job around (first ++ (line ∷ [])) (told ++ (starts.shown ++ [])) (one_more count)) (sym alone)
-            (tells_append p job first (line ∷ []) job.first 0 count (one_more count) told (starts.shown ++ []) tells one);
-        begun = told ++ begun;
-        missing = starts.missing;
-        is = ap (λ (l : List ℕ). told ++ l) (append-nil starts.shown ∙ starts.cut) ∙ sym (append_assoc told begun starts.missing);
-        written = written;
-      }
-
-  lines_begun : (around : Option Context) → around_of job ≡ around → (before : State) (count : ℕ) (held held' : Option (List ℕ)) (ls : List (List ℕ)) → IsBegin job before
-      → BeginsAsked p job around before count held held' ls → LinesBegun held held' ls
-  lines_begun None is before count held held' ls begin begins =
-      plain_next is held held' ls begins.first begins.left begins.told begins.begun count begins.cut
-      (subst (λ (at : Place). TellsOfLines p job at 0 begins.first begins.told count) begin.place (subst (λ (n : ℕ). TellsOfLines p job before.place n begins.first begins.told count) begin.selected begins.tells))
-      (subst (λ (at : Place). StartsNext p job at count begins.left begins.begun) (ap (λ (at : Place). after_lines at begins.first) begin.place) begins.starts) begins.written
-  lines_begun (Some context) is before count held held' ls begin begins = record {
-    first = begins.first;
-    left = begins.left;
-    cut = begins.cut;
-    told = begins.all;
-    count = begins.end.selected;
-    tells = subst (λ (around : Option Context). TellsIn p job around begins.first begins.all begins.end.selected) (sym is)
-        (told_around p job context begins.first (walk_of before) begins.end begins.all begin.place begin.selected begin.trail.due begin.trail.some begin.trail.apart begin.trail.held begins.walks);
-    begun = begins.begun;
-    missing = begins.missing;
-    is = begins.is;
-    written = begins.written;
-  }
-
   -- lines that were searched and those behind them
   pub lines_cut : (came searched rest more : List ℕ) → came ≡ searched ++ rest → EndsLine job.style.ending searched
       → lines job.style.ending (came ++ more) ≡ lines job.style.ending searched ++ lines job.style.ending (rest ++ more)
@@ -273,15 +178,8 @@ module _ (p : Patterns) (job : Job) where
       ap (λ (l : List ℕ). lines job.style.ending (l ++ more)) cut ∙ ap (lines job.style.ending) (append_assoc searched rest more) ∙ lines_append job.style.ending searched (rest ++ more) whole
 
   module _ (guarded : is_guarded job ≡ true) where
-    begins_guarded : (known held held' : Option (List ℕ)) → BeginsGuarded p job known held held' → BeginsFile p job known held held'
-    begins_guarded known held held' begins =
-        subst (λ (b : Bool). MatchBool b (BeginsGuarded p job known held held') (BeginsFileIn p job (around_of job) known held held')) (sym guarded) begins
-
-    shows_lines : writes_lines job.shown ≡ true
-    shows_lines = (and_parts (writes_lines job.shown) (job.guards && not (job.style.ending == 0)) guarded).0
-
     several : needs_one job.shown ≡ false
-    several = lines_needed job.shown shows_lines
+    several = lines_needed job.shown (shows_lines job guarded)
 
     ends_otherwise : (job.style.ending == 0) ≡ false
     ends_otherwise = not-true (job.style.ending == 0) (and_parts job.guards (not (job.style.ending == 0)) (and_parts (writes_lines job.shown) (job.guards && not (job.style.ending == 0)) guarded).1).1
@@ -319,7 +217,7 @@ module _ (p : Patterns) (job : Job) where
     match_none false = tt
 
     -- no line with a zero byte came, or none that is to be told of
-    pub reader_past : (before state : State) (left left' held meanwhile : Option (List ℕ)) → IsBegin job before → SearchesPast p job (course before state held meanwhile left left')
+    pub reader_past : (before state : State) (left left' held meanwhile : Option (List ℕ)) → IsBegin job before → SearchesPast p job true (course before state held meanwhile left left') []
         → SearchesReader p job left left' held meanwhile (nat_lt 0 state.selected)
     reader_past before state left left' held meanwhile begin past =
         let behind = past.all in
@@ -332,8 +230,8 @@ module _ (p : Patterns) (job : Job) where
               let same : lines job.style.ending text ≡ lines job.style.ending searched ++ [] = ap (lines job.style.ending) all ∙ sym (append-nil (lines job.style.ending searched)) in
               record {
                 file = file_told left held meanwhile meanwhile text (lines job.style.ending searched) [] state.selected false (nat_lt 0 state.selected) known
-                    (ap text_lines same ∙ text_behind job.style.ending searched [] past.text ∙ append-nil (lines job.style.ending searched))
-                    (ap binary_lines same ∙ binary_behind job.style.ending searched [] past.text)
+                    (ap text_lines same ∙ text_behind job.style.ending searched [] (past.text refl) ∙ append-nil (lines job.style.ending searched))
+                    (ap binary_lines same ∙ binary_behind job.style.ending searched [] (past.text refl))
                     (told_all several before state held meanwhile searched begin behind.searches) (match_none (is_full job.most state.selected)) (appends_none meanwhile) (or_false (nat_lt 0 state.selected));
                 reads = record { bytes = behind.came; read = behind.consumed; ended = inl end };
               }
@@ -346,8 +244,8 @@ module _ (p : Patterns) (job : Job) where
               ap (lines job.style.ending) behind.cut ∙ lines_append job.style.ending searched behind.rest whole in
               record {
                 file = file_told left held meanwhile meanwhile text (lines job.style.ending searched ++ text_lines others) (binary_lines others) state.selected false (nat_lt 0 state.selected) known
-                    (ap text_lines same ∙ text_behind job.style.ending searched others past.text)
-                    (ap binary_lines same ∙ binary_behind job.style.ending searched others past.text)
+                    (ap text_lines same ∙ text_behind job.style.ending searched others (past.text refl))
+                    (ap binary_lines same ∙ binary_behind job.style.ending searched others (past.text refl))
                     (told_full before state held meanwhile searched (text_lines others) begin behind.searches full)
                     (subst (λ (b : Bool). MatchBool b (false ≡ false) (IsAny p job.fit job.invert (binary_lines others) false)) (sym full.0) refl) (appends_none meanwhile) (or_false (nat_lt 0 state.selected));
                 reads = record {
@@ -363,62 +261,7 @@ module _ (p : Patterns) (job : Job) where
               }
         ]
 
-    -- the search of the first lines is broken off
-    pub begins_past : (before state : State) (left left' held held' : Option (List ℕ)) → IsBegin job before → BeginsPast p job (course before state held held' left left') → BeginsFile p job left held held'
-    begins_past before state left left' held held' begin past =
-        let behind = past.all in
-        let searched = behind.searched in
-        let (more, known, none) = text_read left left' behind.came behind.consumed in
-        let text = behind.came ++ more in
-        let (others, cut) : (others : List (List ℕ)) × (lines job.style.ending text ≡ lines job.style.ending searched ++ others) =
-        elim behind.ends [
-          | inl whole ↦ (lines job.style.ending (behind.rest ++ more), lines_cut behind.came searched behind.rest more behind.cut whole)
-          | inr (empty, end) ↦ (
-            [],
-            ap (lines job.style.ending) (ap (λ (l : List ℕ). behind.came ++ l) (none end) ∙ append-nil behind.came ∙ behind.cut ∙ ap (λ (l : List ℕ). searched ++ l) empty ∙ append-nil searched)
-                ∙ sym (append-nil (lines job.style.ending searched)),
-          )
-        ] in
-        let told = lines_begun (around_of job) refl before state.selected held held' (lines job.style.ending searched) begin behind.begins in
-        begins_guarded left held held' (record {
-          text = text;
-          of = known;
-          first = told.first;
-          left = told.left ++ text_lines others;
-          cut = ap text_lines cut ∙ text_behind job.style.ending searched others past.text ∙ ap (λ (l : List (List ℕ)). l ++ text_lines others) told.cut ∙ append_assoc told.first told.left (text_lines others);
-          told = told.told;
-          count = told.count;
-          tells = told.tells;
-          begun = told.begun;
-          missing = told.missing;
-          is = inl told.is;
-          written = told.written;
-        })
-
-    -- of the file as a whole nothing is written
-    pub begins_grown : (known held meanwhile held' : Option (List ℕ)) (count : ℕ) → BeginsFile p job known held meanwhile → BeginsTotal job count meanwhile held' → BeginsFile p job known held held'
-    begins_grown known held meanwhile held' count begins total =
-        let begun = subst (λ (b : Bool). MatchBool b (BeginsGuarded p job known held meanwhile) (BeginsFileIn p job (around_of job) known held meanwhile)) guarded begins in
-        let none : total.begun ≡ [] = nil_front total.begun total.missing (sym (lines_total job.shown job.style count shows_lines) ∙ total.cut) in
-        begins_guarded known held held' (grown known held meanwhile held' begun (subst (Appends meanwhile held') none total.written))
-      where
-        grown : (known held meanwhile held' : Option (List ℕ)) → BeginsGuarded p job known held meanwhile → Appends meanwhile held' [] → BeginsGuarded p job known held held'
-        grown known held meanwhile held' begins written = record {
-          text = begins.text;
-          of = begins.of;
-          first = begins.first;
-          left = begins.left;
-          cut = begins.cut;
-          told = begins.told;
-          count = begins.count;
-          tells = begins.tells;
-          begun = begins.begun;
-          missing = begins.missing;
-          is = begins.is;
-          written = subst (Appends held held') (append-nil begins.begun) (Appends-trans held meanwhile held' begins.begun [] begins.written written);
-        }
-
-    module _ (before state : State) (left left' held meanwhile : Option (List ℕ)) (kept : List ℕ) (begin : IsBegin job before) (front : SearchesFront p job (course before state held meanwhile left left') kept)
+    module _ (before state : State) (left left' held meanwhile : Option (List ℕ)) (kept : List ℕ) (begin : IsBegin job before) (front : SearchesFront p job true (course before state held meanwhile left left') [] kept)
         (binary : BeginsBinary job.style.ending kept) where
       front_told : LinesTold held meanwhile (lines job.style.ending front.some.searched) state.selected
       front_told = told_all several before state held meanwhile front.some.searched begin front.some.searches
@@ -431,12 +274,12 @@ module _ (p : Patterns) (job : Job) where
 
       front_first : (more : List ℕ) → text_lines (lines job.style.ending (front.some.came ++ more)) ≡ lines job.style.ending front.some.searched
       front_first more =
-          ap text_lines (front_cut more) ∙ text_behind job.style.ending front.some.searched (lines job.style.ending (kept ++ more)) front.text
+          ap text_lines (front_cut more) ∙ text_behind job.style.ending front.some.searched (lines job.style.ending (kept ++ more)) (front.text refl)
           ∙ ap (λ (l : List (List ℕ)). lines job.style.ending front.some.searched ++ l) (first_text (lines job.style.ending (kept ++ more)) (front_binary more)) ∙ append-nil (lines job.style.ending front.some.searched)
 
       front_others : (more : List ℕ) → binary_lines (lines job.style.ending (front.some.came ++ more)) ≡ lines job.style.ending (kept ++ more)
       front_others more =
-          ap binary_lines (front_cut more) ∙ binary_behind job.style.ending front.some.searched (lines job.style.ending (kept ++ more)) front.text
+          ap binary_lines (front_cut more) ∙ binary_behind job.style.ending front.some.searched (lines job.style.ending (kept ++ more)) (front.text refl)
           ∙ first_binary (lines job.style.ending (kept ++ more)) (front_binary more)
 
       -- so many lines are selected before a line with a zero byte as are asked for
@@ -511,45 +354,38 @@ module _ (p : Patterns) (job : Job) where
             let same : text ≡ front.some.came ++ later = append_assoc front.some.came finds.came more in
             let others : binary_lines (lines job.style.ending text) ≡ lines job.style.ending ((kept ++ finds.came) ++ more) =
             ap (λ (l : List ℕ). binary_lines (lines job.style.ending l)) same ∙ front_others later ∙ ap (lines job.style.ending) (sym (append_assoc kept finds.came more)) in
+            let first : text_lines (lines job.style.ending text) ≡ lines job.style.ending front.some.searched = ap (λ (l : List ℕ). text_lines (lines job.style.ending l)) same ∙ front_first later in
             let message = binary_by job.style in
-            begins_guarded left held held' (record {
+            let binary : TellsBinary p job text (lines job.style.ending front.some.searched) state.selected =
+            (sym first, unfilled, subst (SomeLine (IsSelected p job.fit job.invert)) (sym others) (finds.found more none)) in
+            record {
               text = text;
               of = known;
-              first = lines job.style.ending front.some.searched;
-              left = [];
-              cut = ap (λ (l : List ℕ). text_lines (lines job.style.ending l)) same ∙ front_first later ∙ sym (append-nil (lines job.style.ending front.some.searched));
-              told = front_told.bytes;
-              count = state.selected;
-              tells = front_told.tells;
-              begun = front_told.bytes ++ take n message;
-              missing = drop n message;
-              is = inr (
-                (refl, unfilled, subst (SomeLine (IsSelected p job.fit job.invert)) (sym others) (finds.found more none)),
-                ap (λ (l : List ℕ). front_told.bytes ++ l) (sym (take-append-drop n message)) ∙ sym (append_assoc front_told.bytes (take n message) (drop n message)),
-              );
-              written = Appends-trans held meanwhile held' front_told.bytes (take n message) front_told.written (Appends-trans meanwhile between held' [] (take n message) finds.unwritten written);
-            })
+              begins = record {
+                first = lines job.style.ending front.some.searched;
+                left = [];
+                cut = ap (λ (b : Bool). lines_by (b || takes_text job) job.style.ending text) guarded ∙ first ∙ sym (append-nil (lines job.style.ending front.some.searched));
+                all = front_told.bytes ++ message;
+                tells = record {
+                  told = front_told.bytes;
+                  count = state.selected;
+                  tells = front_told.tells;
+                  tail = message;
+                  behind = subst (λ (b : Bool). MatchBool b ((message ≡ []) ⊎ (TellsBinary p job text (lines job.style.ending front.some.searched) state.selected × (message ≡ message))) (message ≡ total_if job.shown job.style state.selected))
+                      (sym guarded) (inr (binary, refl));
+                  is = refl;
+                };
+                begun = front_told.bytes ++ take n message;
+                missing = drop n message;
+                is = ap (λ (l : List ℕ). front_told.bytes ++ l) (sym (take-append-drop n message)) ∙ sym (append_assoc front_told.bytes (take n message) (drop n message));
+                written = Appends-trans held meanwhile held' front_told.bytes (take n message) front_told.written (Appends-trans meanwhile between held' [] (take n message) finds.unwritten written);
+              };
+            }
 
-      -- what follows was not searched to its end
-      pub begins_unfound : (last held' : Option (List ℕ)) (came : List ℕ) → Consumes left' last came → Appends meanwhile held' [] → BeginsFile p job left held held'
-      begins_unfound last held' later consumed written =
-          let came = front.some.came ++ later in
-          let read : Consumes left last came = Consumes-trans left left' last front.some.came later front.some.consumed consumed in
-          let (more, known, none) = text_read left last came read in
-          begins_guarded left held held' (record {
-            text = came ++ more;
-            of = known;
-            first = lines job.style.ending front.some.searched;
-            left = [];
-            cut = ap (λ (l : List ℕ). text_lines (lines job.style.ending l)) (append_assoc front.some.came later more) ∙ front_first (later ++ more) ∙ sym (append-nil (lines job.style.ending front.some.searched));
-            told = front_told.bytes;
-            count = state.selected;
-            tells = front_told.tells;
-            begun = front_told.bytes;
-            missing = [];
-            is = inl (sym (append-nil front_told.bytes));
-            written = subst (Appends held held') (append-nil front_told.bytes) (Appends-trans held meanwhile held' front_told.bytes [] front_told.written written);
-          })
+-- where zero bytes are as any other all lines are searched
+pub past_all : (p : Patterns) (job : Job) (c : Course) (first kept : List ℕ) (binary : Bool) → EndsFront p job false c first kept binary → SearchesBehind p job c first
+past_all p job c first kept true (asked, front, binary) = absurd (cc)
+past_all p job c first kept false past = past.all
 
 -- what was sought of a job is what is found
 finds_seeking : (p : Patterns) (job : Job) (kept : List ℕ) (left left' held held' : Option (List ℕ)) (any : Bool) → FindsSelected p (seeking job) kept left left' held held' any
@@ -569,6 +405,6 @@ finds_sought p job sought same before state left left' held held' kept begin beh
     (subst (λ (j : Job). FindsSelected p j kept left left' held held' (nat_lt 0 state.selected)) same
     (finds_of p sought before state left left' held held' kept (ap (λ (j : Job). j.shown) same) begin behind))
 
-pub begins_sought : (p : Patterns) (job sought : Job) → sought ≡ seeking job → (before state : State) (left left' held held' : Option (List ℕ)) (kept : List ℕ)
-    → BeginsBehind p sought (course before state held held' left left') kept → Appends held held' []
-begins_sought p job sought same before state left left' held held' kept behind = begins_nothing p sought before state left left' held held' kept (ap (λ (j : Job). j.shown) same) behind
+pub begins_sought : (p : Patterns) (job sought : Job) → sought ≡ seeking job → (before state : State) (left held held' : Option (List ℕ)) (kept : List ℕ)
+    → BeginsBehind p sought false before state held held' left kept → Appends held held' []
+begins_sought p job sought same before state left held held' kept behind = begins_nothing p sought before state left held held' kept (ap (λ (j : Job). j.shown) same) behind

@@ -1,11 +1,15 @@
--- Matches that are coloured one after another.
-use Rattle.std.proofs.Common.{◌≡◌, ℕ, List, [], ◌∷◌, ◌++◌, Option, length, refl, sym, ◌∙◌, ap, subst, append_assoc, append-nil}
+-- Matches that are written one after another.
+use Rattle.std.proofs.Common.{◌≡◌, ℕ, List, [], ◌∷◌, ◌++◌, Option, refl, sym, ◌∙◌, ap, subst, append_assoc, append-nil}
 use Rattle.std.specs.Io.KnownBytes.{Appends}
 use Rattle.std.specs.Prelude.{Bool, if◌then◌else◌}
 use Rattle.std.proofs.KnownBytes.{Appends-nil, Appends-trans}
 use Rattle.std.proofs.lemmas.Bool.{ne_eqb}
 use Rattle.aho_core.specs.Occurrence.{Occurrence}
-use Rattle.acgrep.specs.Printed.{behind_match, colored_by, colored_from, match_code, painted, part_of}
+use Rattle.acgrep.specs.Matches.{behind_by, found_by, rest_behind, shown_from}
+use Rattle.acgrep.specs.Printed.{colored_by, match_code, painted, part_of}
+use Rattle.acgrep.specs.declared.matches.Shape.{Shape}
+use Rattle.acgrep.specs.declared.matches.Shape.TheVariants.{Colored, OnLines, AsFields}
+use Rattle.acgrep.specs.declared.print.Place.{Place}
 use Rattle.acgrep.specs.declared.print.Style.{Style}
 
 -- what stands before a match that is not empty, and then the match
@@ -22,29 +26,43 @@ colored_one style line front found at start end m x y z starts ends some before 
     subst (Appends x z) (parts ∙ sym goes) (Appends-trans x y z front (color found) first second)
 
 -- these matches were written, and the next begin at a place: what is written of all is what is written, and then the others
-pub record Colored (style : Style) (line : List ℕ) (ms : List Occurrence) (at : ℕ) (old new : Option (List ℕ)) : Type 0 where
+pub record PutSoFar (shape : Shape) (style : Style) (place : Place) (line : List ℕ) (ms : List Occurrence) (at : ℕ) (old new : Option (List ℕ)) : Type 0 where
   pub bytes : List ℕ
   pub written : Appends old new bytes
-  pub goes_on : (rest : List Occurrence) → colored_from style line 0 (ms ++ rest) ≡ bytes ++ colored_from style line at rest
+  pub goes_on : (rest : List Occurrence) → shown_from shape style place line 0 (ms ++ rest) ≡ bytes ++ shown_from shape style place line at rest
 
--- before the first
-pub colored_start : (style : Style) (line : List ℕ) (x : Option (List ℕ)) → Colored style line [] 0 x x
-colored_start style line x = record { bytes = []; written = Appends-nil x; goes_on = λ rest. refl }
+shown_more : (shape : Shape) (style : Style) (place : Place) (line : List ℕ) (at : ℕ) (m : Occurrence) (rest : List Occurrence)
+    → shown_from shape style place line at (m ∷ rest) ≡ found_by shape style place line at m ++ shown_from shape style place line (behind_by shape at m) rest
+shown_more Colored style place line at m rest = refl
+shown_more OnLines style place line at m rest = refl
+shown_more AsFields style place line at m rest = refl
 
--- one more
-pub colored_step : (style : Style) (line : List ℕ) (ms : List Occurrence) (m : Occurrence) (at behind : ℕ) (x y z : Option (List ℕ)) → behind ≡ behind_match at m
-    → Appends y z (colored_by style line at m) → Colored style line ms at x y → Colored style line (ms ++ (m ∷ [])) behind x z
-colored_step style line ms m at behind x y z is written so_far = record {
-  bytes = so_far.bytes ++ colored_by style line at m;
-  written = Appends-trans x y z so_far.bytes (colored_by style line at m) so_far.written written;
-  goes_on = λ rest. ap (colored_from style line 0) (append_assoc ms (m ∷ []) rest) ∙ so_far.goes_on (m ∷ rest)
-      ∙ sym (append_assoc so_far.bytes (colored_by style line at m) (colored_from style line (behind_match at m) rest))
-      ∙ ap (λ (n : ℕ). (so_far.bytes ++ colored_by style line at m) ++ colored_from style line n rest) (sym is);
-}
+shown_last : (shape : Shape) (style : Style) (place : Place) (line : List ℕ) (at : ℕ) → shown_from shape style place line at [] ≡ rest_behind shape line at
+shown_last Colored style place line at = refl
+shown_last OnLines style place line at = refl
+shown_last AsFields style place line at = refl
 
--- and what follows the last
-pub colored_end : (style : Style) (line : List ℕ) (ms : List Occurrence) (at : ℕ) (x y z : Option (List ℕ)) → Appends y z (part_of line at (length line)) → Colored style line ms at x y
-    → Appends x z (colored_from style line 0 ms)
-colored_end style line ms at x y z written so_far =
-    subst (Appends x z) (sym (so_far.goes_on []) ∙ ap (colored_from style line 0) (append-nil ms))
-    (Appends-trans x y z so_far.bytes (part_of line at (length line)) so_far.written written)
+module _ (shape : Shape) (style : Style) (place : Place) (line : List ℕ) where
+  -- before the first
+  pub put_start : (x : Option (List ℕ)) → PutSoFar shape style place line [] 0 x x
+  put_start x = record { bytes = []; written = Appends-nil x; goes_on = λ rest. refl }
+
+  -- one more
+  pub put_step : (ms : List Occurrence) (m : Occurrence) (at behind : ℕ) (x y z : Option (List ℕ)) → behind ≡ behind_by shape at m → Appends y z (found_by shape style place line at m)
+      → PutSoFar shape style place line ms at x y → PutSoFar shape style place line (ms ++ (m ∷ [])) behind x z
+  put_step ms m at behind x y z is written so_far =
+      let found = found_by shape style place line at m in
+      record {
+        bytes = so_far.bytes ++ found;
+        written = Appends-trans x y z so_far.bytes found so_far.written written;
+        goes_on = λ rest. ap (shown_from shape style place line 0) (append_assoc ms (m ∷ []) rest) ∙ so_far.goes_on (m ∷ rest)
+            ∙ ap (λ (l : List ℕ). so_far.bytes ++ l) (shown_more shape style place line at m rest)
+            ∙ sym (append_assoc so_far.bytes found (shown_from shape style place line (behind_by shape at m) rest))
+            ∙ ap (λ (n : ℕ). (so_far.bytes ++ found) ++ shown_from shape style place line n rest) (sym is);
+      }
+
+  -- and what follows the last
+  pub put_end : (ms : List Occurrence) (at : ℕ) (x y z : Option (List ℕ)) → Appends y z (rest_behind shape line at) → PutSoFar shape style place line ms at x y → Appends x z (shown_from shape style place line 0 ms)
+  put_end ms at x y z written so_far =
+      subst (Appends x z) (ap (λ (l : List ℕ). so_far.bytes ++ l) (sym (shown_last shape style place line at)) ∙ sym (so_far.goes_on []) ∙ ap (shown_from shape style place line 0) (append-nil ms))
+      (Appends-trans x y z so_far.bytes (rest_behind shape line at) so_far.written written)

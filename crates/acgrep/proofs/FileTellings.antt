@@ -1,18 +1,16 @@
 -- What is written of a file, from what was searched of its reader.
-use Rattle.std.proofs.Common.{◌≡◌, ◌⊎◌, inl, inr, ℕ, ◌<◌, Bool, true, false, List, [], ◌∷◌, ◌++◌, Option, None, Some, IfSome, refl, sym, ◌∙◌, ap, subst, arith, append_assoc, append-nil}
+use Rattle.std.proofs.Common.{◌≡◌, ◌⊎◌, inl, inr, ℕ, ◌<◌, Bool, true, false, List, [], ◌∷◌, ◌++◌, Option, None, Some, IfSome, refl, sym, ◌∙◌, ap, subst, arith, append-nil}
 use Rattle.std.specs.Prelude.{MatchBool, if◌then◌else◌, nat_lt}
 use Rattle.std.specs.Io.KnownBytes.{Appends, Consumes, IsAtEnd}
 use Rattle.std.proofs.KnownBytes.{Appends-trans}
 use Rattle.std.proofs.lemmas.Bool.{cases_Bool, lt-ltb, ltb-false, ltb-true}
 use Rattle.aho_core.specs.Patterns.{Patterns}
 use Rattle.programs.specs.Names.{is_input}
-use Rattle.acgrep.specs.Alone.{asks_alone}
-use Rattle.acgrep.specs.Binary.{TellsGuarded, is_guarded, lines_by, lines_sought, takes_text, text_lines}
+use Rattle.acgrep.specs.Binary.{TellsGuarded, is_guarded, lines_by, lines_sought, takes_text}
 use Rattle.acgrep.specs.Contexts.{IsBegin, SearchesIn, TellsFile, TellsIn, around_by, around_of, walk_of}
 use Rattle.acgrep.specs.Files.{EndsFile, IfSearched, IsNamed, IsRead, SearchesFile, SearchesName, SearchesReader, TellsBy, TellsSearched, count_if, known_of, shown_name, total_if}
-use Rattle.acgrep.specs.Lines.{EndsLine, lines}
+use Rattle.acgrep.specs.Lines.{lines}
 use Rattle.acgrep.specs.Printed.{file_line}
-use Rattle.acgrep.specs.Streamed.{SearchesStream, course}
 use Rattle.acgrep.specs.Written.{EachLine, IsAny, IsPassedOver, IsSelected, IsSettled, ShowsBy, ShowsLine, SomeLine, TellsOfLines, is_full, needs_one, one_more}
 use Rattle.acgrep.specs.declared.files.Outcome.{Outcome}
 use Rattle.acgrep.specs.declared.files.Outcome.TheVariants.{Searched, Unread, Stopped}
@@ -24,7 +22,6 @@ use Rattle.acgrep.specs.declared.print.Style.{Style}
 use Rattle.acgrep.specs.declared.select.Job.{Job}
 use Rattle.acgrep.specs.declared.select.State.{State}
 use Rattle.acgrep.proofs.Grouped.{told_around}
-use Rattle.acgrep.proofs.LineLists.{lines_append}
 use Rattle.acgrep.proofs.Tellings.{full_some, tells_full}
 use Rattle.acgrep.proofs.Walked.{walks_append, walks_full, walks_tells}
 
@@ -51,9 +48,6 @@ some_front P (line ∷ ls) ms (inr later) = inr (some_front P ls ms later)
 pub sought_all : (job : Job) (text : List ℕ) → takes_text job ≡ false → lines_sought job text ≡ lines job.style.ending text
 sought_all job text wholly = ap (λ (b : Bool). lines_by b job.style.ending text) wholly
 
-pub sought_text : (job : Job) (text : List ℕ) → takes_text job ≡ true → lines_sought job text ≡ text_lines (lines job.style.ending text)
-sought_text job text alone = ap (λ (b : Bool). lines_by b job.style.ending text) alone
-
 -- the text of a reader of which some bytes were read
 pub text_behind : (left left' : Option (List ℕ)) (bytes : List ℕ) → Consumes left left' bytes
     → (more : List ℕ) × IfSome left (λ (all : List ℕ). bytes ++ more ≡ all) × (IsAtEnd left' → more ≡ [])
@@ -62,11 +56,15 @@ text_behind (Some all) None bytes read = absurd read
 text_behind (Some all) (Some rest) bytes read = (rest, sym read, λ end. end)
 
 module _ (p : Patterns) (job : Job) where
-  pub tells_none : (ls : List (List ℕ)) (place : Place) (count : ℕ) (bytes : List ℕ) (total : ℕ) → needs_one job.shown ≡ true → TellsOfLines p job place count ls bytes total → bytes ≡ []
+  pub shows_nothing : needs_one job.shown ≡ true → (place : Place) (line bytes : List ℕ) → ShowsLine p job place line bytes → bytes ≡ []
+  shows_nothing one place line bytes shows = shows_none p job.shown _ job.invert job.style place line bytes one shows
+
+  -- where nothing is written of a line nothing is of all
+  pub tells_none : (ls : List (List ℕ)) (place : Place) (count : ℕ) (bytes : List ℕ) (total : ℕ) → ((place : Place) (line bytes : List ℕ) → ShowsLine p job place line bytes → bytes ≡ []) → TellsOfLines p job place count ls bytes total → bytes ≡ []
   tells_none [] place count bytes total one told = told.0
   tells_none (line ∷ rest) place count bytes total one (inl (full, none, same)) = none
   tells_none (line ∷ rest) place count bytes total one (inr (goes, inl (selected, (shown, more, shows, behind, is)))) =
-      is ∙ ap (λ (l : List ℕ). l ++ more) (shows_none p job.shown (asks_alone job.fit) job.invert job.style place line shown one shows)
+      is ∙ ap (λ (l : List ℕ). l ++ more) (one place line shown shows)
       ∙ tells_none rest _ (one_more count) more total one behind
   tells_none (line ∷ rest) place count bytes total one (inr (goes, inr (passed, behind))) = tells_none rest _ count bytes total one behind
 
@@ -115,11 +113,11 @@ module _ (p : Patterns) (job : Job) where
   by_whole Count is ls told count tells =
       (told, count, subst (λ (shown : Shown). TellsIn p job (around_by shown job.context) ls told count) is tells, ap (λ (shown : Shown). told ++ count_if shown job.style count) is)
   by_whole Names is ls told count tells =
-      ap (λ (l : List ℕ). l ++ total_if Names job.style count) (tells_none ls job.first 0 told count (ap needs_one (sym is)) tells)
+      ap (λ (l : List ℕ). l ++ total_if Names job.style count) (tells_none ls job.first 0 told count (shows_nothing (ap needs_one (sym is))) tells)
   by_whole Lacking is ls told count tells =
-      ap (λ (l : List ℕ). l ++ total_if Lacking job.style count) (tells_none ls job.first 0 told count (ap needs_one (sym is)) tells)
+      ap (λ (l : List ℕ). l ++ total_if Lacking job.style count) (tells_none ls job.first 0 told count (shows_nothing (ap needs_one (sym is))) tells)
   by_whole Nothing is ls told count tells =
-      ap (λ (l : List ℕ). l ++ []) (tells_none ls job.first 0 told count (ap needs_one (sym is)) tells)
+      ap (λ (l : List ℕ). l ++ []) (tells_none ls job.first 0 told count (shows_nothing (ap needs_one (sym is))) tells)
 
   -- and where one selected line told all
   by_front : (shown : Shown) (ls : List (List ℕ)) (count : ℕ) → needs_one shown ≡ true → 0 < count → TellsBy p job shown ls true (total_if shown job.style count)
@@ -134,9 +132,6 @@ module _ (p : Patterns) (job : Job) where
       let is : nat_lt 0 count ≡ true = lt-ltb 0 count some in
       ap (λ (any : Bool). if any then [] else file_line job.style) is
   by_front Nothing ls count one some = refl
-
-  pub shows_nothing : (place : Place) (line bytes : List ℕ) → needs_one job.shown ≡ true → ShowsLine p job place line bytes → bytes ≡ []
-  shows_nothing place line bytes one shows = shows_none p job.shown _ job.invert job.style place line bytes one shows
 
   -- what is told where lines with a zero byte are written too, or not searched
   unguarded : is_guarded job ≡ false → (text : List ℕ) (any : Bool) (bytes : List ℕ) → TellsSearched p job (lines_sought job text) any bytes
@@ -171,7 +166,7 @@ module _ (p : Patterns) (job : Job) where
   lines_front state held meanwhile held' ls searched told tells one some front written any ends =
       let count = state.selected in
       let is : any ≡ true = ends.is_any ∙ lt-ltb 0 count some in
-      let none : told ≡ [] = tells_none searched job.first 0 told count one tells in
+      let none : told ≡ [] = tells_none searched job.first 0 told count (shows_nothing one) tells in
       record {
         bytes = total_if job.shown job.style count;
         tells = (
@@ -206,7 +201,7 @@ module _ (p : Patterns) (job : Job) where
     pub written : Appends held meanwhile bytes
     pub ends : (left ≡ []) ⊎ IsSettled job state
 
-  from_begin : (before : State) (ls : List (List ℕ)) (told : List ℕ) (count : ℕ) → IsBegin job before → TellsOfLines p job before.place before.selected ls told count
+  pub from_begin : (before : State) (ls : List (List ℕ)) (told : List ℕ) (count : ℕ) → IsBegin job before → TellsOfLines p job before.place before.selected ls told count
       → TellsOfLines p job job.first 0 ls told count
   from_begin before ls told count begin tells =
       subst (λ (at : Place). TellsOfLines p job at 0 ls told count) begin.place (subst (λ (n : ℕ). TellsOfLines p job before.place n ls told count) begin.selected tells)
@@ -306,52 +301,6 @@ module _ (p : Patterns) (job : Job) where
   pub left_none : (state : State) (held meanwhile : Option (List ℕ)) (text : List ℕ) (told : TextTold (around_of job) state held meanwhile text)
       → (lines job.style.ending told.left ≡ []) ⊎ IsSettled job state
   left_none state held meanwhile text told = elim told.ends [ inl whole ↦ inl (ap (lines job.style.ending) whole) | inr settled ↦ inr settled ]
-
-  -- what was searched of a reader, and what is asked of a file as a whole: it was read to its end
-  read_whole : is_guarded job ≡ false → takes_text job ≡ false → (before state : State) (left left' held meanwhile held' : Option (List ℕ)) → IsBegin job before
-      → (stream : SearchesStream p job (course before state held meanwhile left left')) → stream.rest ≡ [] → IsAtEnd left' → (any : Bool) → EndsFile job state.selected meanwhile held' any
-      → SearchesReader p job left left' held held' any
-  read_whole plainly wholly before state left left' held meanwhile held' begin stream empty end any ends =
-      let (more, known, none) = text_behind left left' (stream.searched ++ stream.rest) stream.consumed in
-      let text = (stream.searched ++ stream.rest) ++ more in
-      let told = text_told (around_of job) before state held meanwhile stream.searched begin stream.searches in
-      let all : text ≡ stream.searched = ap (λ (l : List ℕ). (stream.searched ++ stream.rest) ++ l) (none end) ∙ append-nil (stream.searched ++ stream.rest)
-      ∙ ap (λ (l : List ℕ). stream.searched ++ l) empty ∙ append-nil stream.searched in
-      let same : lines_sought job text ≡ told.searched ++ lines job.style.ending told.left = sought_all job text wholly ∙ ap (lines job.style.ending) all ∙ told.cut in
-      record {
-        file = file_of plainly left held held' text any known
-            (lines_told state held meanwhile held' stream.searched told (lines_sought job text) (lines job.style.ending told.left) same (left_none state held meanwhile stream.searched told) any ends);
-        reads = record { bytes = stream.searched ++ stream.rest; read = stream.consumed; ended = inl end };
-      }
-
-  -- or up to lines behind which nothing more is told
-  read_front : is_guarded job ≡ false → takes_text job ≡ false → (before state : State) (left left' held meanwhile held' : Option (List ℕ)) → IsBegin job before
-      → (stream : SearchesStream p job (course before state held meanwhile left left')) → EndsLine job.style.ending stream.searched → IsSettled job state → (any : Bool)
-      → EndsFile job state.selected meanwhile held' any → SearchesReader p job left left' held held' any
-  read_front plainly wholly before state left left' held meanwhile held' begin stream whole settled any ends =
-      let (more, known, none) = text_behind left left' (stream.searched ++ stream.rest) stream.consumed in
-      let text = (stream.searched ++ stream.rest) ++ more in
-      let told = text_told (around_of job) before state held meanwhile stream.searched begin stream.searches in
-      let later = lines job.style.ending told.left ++ lines job.style.ending (stream.rest ++ more) in
-      let same : lines_sought job text ≡ told.searched ++ later =
-      sought_all job text wholly ∙ ap (lines job.style.ending) (append_assoc stream.searched stream.rest more) ∙ lines_append job.style.ending stream.searched (stream.rest ++ more) whole
-      ∙ ap (λ (l : List (List ℕ)). l ++ lines job.style.ending (stream.rest ++ more)) told.cut ∙ append_assoc told.searched (lines job.style.ending told.left) (lines job.style.ending (stream.rest ++ more)) in
-      let front : lines job.style.ending (stream.searched ++ stream.rest) ≡ told.searched ++ (lines job.style.ending told.left ++ lines job.style.ending stream.rest) =
-      lines_append job.style.ending stream.searched stream.rest whole ∙ ap (λ (l : List (List ℕ)). l ++ lines job.style.ending stream.rest) told.cut
-      ∙ append_assoc told.searched (lines job.style.ending told.left) (lines job.style.ending stream.rest) in
-      record {
-        file = file_of plainly left held held' text any known (lines_told state held meanwhile held' stream.searched told (lines_sought job text) later same (inr settled) any ends);
-        reads = settled_read state held meanwhile held' left left' stream.searched (stream.searched ++ stream.rest) told (lines job.style.ending told.left ++ lines job.style.ending stream.rest)
-            stream.consumed front settled any ends;
-      }
-
-  pub reader_searched : is_guarded job ≡ false → takes_text job ≡ false → (before state : State) (left left' held meanwhile held' : Option (List ℕ)) → IsBegin job before
-      → SearchesStream p job (course before state held meanwhile left left') → (any : Bool) → EndsFile job state.selected meanwhile held' any → SearchesReader p job left left' held held' any
-  reader_searched plainly wholly before state left left' held meanwhile held' begin stream any ends =
-      elim stream.ends [
-        | inl (empty, end) ↦ read_whole plainly wholly before state left left' held meanwhile held' begin stream empty end any ends
-        | inr (whole, settled) ↦ read_front plainly wholly before state left left' held meanwhile held' begin stream whole settled any ends
-      ]
 
 -- what follows where a file was searched
 pub if_searched : (outcome : Outcome) (P Q : Bool → Type 0) → ((any : Bool) → P any → Q any) → IfSearched outcome P → IfSearched outcome Q

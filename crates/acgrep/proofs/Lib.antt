@@ -1,6 +1,7 @@
 pub mod AloneTried
 pub mod Around
 pub mod Beginnings
+pub mod Begun
 pub mod BinaryLines
 pub mod BinaryTold
 pub mod Choosing
@@ -26,7 +27,6 @@ pub mod NamesSearched
 pub mod NoneAround
 pub mod NoneInLines
 pub mod Numbers
-pub mod Objected
 pub mod OrCounted
 pub mod PlacesBehind
 pub mod PlainWords

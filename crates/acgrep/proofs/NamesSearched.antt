@@ -1,6 +1,6 @@
 -- Files that are searched one after another.
 use Rattle.std.proofs.Common.{◌≡◌, inl, inr, ◌⊎◌, ℕ, ◌-◌, ◌<◌, Bool, true, false, List, [], ◌∷◌, Option, Bor, length, take, drop, refl, sym, ◌∙◌, ap, subst, arith}
-use Rattle.std.specs.Prelude.{◌==◌, ◌&&◌, ◌||◌, codes, not, if◌then◌else◌}
+use Rattle.std.specs.Prelude.{◌||◌, codes, not, if◌then◌else◌}
 use Rattle.std.proofs.KnownBytes.{Keeps-refl}
 use Rattle.std.proofs.Math.ListN.{get_or}
 use Rattle.std.proofs.lemmas.Bool.{cases_Bool}
@@ -8,7 +8,7 @@ use Rattle.std.proofs.lemmas.List.{take_all}
 use Rattle.aho_core.specs.Patterns.{Patterns}
 use Rattle.programs.specs.Names.{name_bytes, or_input}
 use Rattle.programs.specs.Answers.{status_of}
-use Rattle.acgrep.specs.Binary.{is_guarded, lines_by, lines_sought}
+use Rattle.acgrep.specs.Binary.{is_guarded, lines_sought}
 use Rattle.acgrep.specs.Files.{AreFilesBegun, AreFilesSearched, AreSearchedOr, BeginsName, HasSelected, IfBroken, IfSearched, IsNamed, LeavesInput, OneIsSelected, SearchesName, SearchesNames, is_enough, known_of, nothing_seen, seen_after, shown_name, status_by}
 use Rattle.acgrep.specs.Written.{IsSelected, SomeLine}
 use Rattle.acgrep.specs.declared.files.Outcome.{Outcome}
@@ -54,10 +54,7 @@ status_clean Nothing false = refl
 
 -- the same lines of a file of a name are searched
 sought_named : (job named : Job) (name : List ℕ) (follows : Bool) → IsNamed job name follows named → (text : List ℕ) → lines_sought named text ≡ lines_sought job text
-sought_named job named name follows is text =
-    ap (λ (guards : Bool). lines_by (not guards && (named.text_alone && not (named.style.ending == 0))) named.style.ending text) is.guards
-    ∙ ap (λ (alone : Bool). lines_by (not job.guards && (alone && not (named.style.ending == 0))) named.style.ending text) is.text_alone
-    ∙ ap (λ (ending : ℕ). lines_by (not job.guards && (job.text_alone && not (ending == 0))) ending text) is.ending
+sought_named job named name follows is text = ap (λ (j : Job). lines_sought j text) is.is
 
 module _ (p : Patterns) (job : Job) (holds : List ℕ → Option (List ℕ)) (names : List (List ℕ)) (begin held₀ : Option (List ℕ)) where
   -- the files before those of `rest` were searched
@@ -75,8 +72,8 @@ module _ (p : Patterns) (job : Job) (holds : List ℕ → Option (List ℕ)) (na
     searched.file.text,
     searched.file.of,
     subst (SomeLine (IsSelected p job.fit job.invert)) (sought_named job searched.named (shown_name job.label.now name) follows searched.is_named searched.file.text)
-        (subst (λ (invert : Bool). SomeLine (IsSelected p job.fit invert) (lines_sought searched.named searched.file.text)) searched.is_named.invert
-        (subst (λ (fit : Fit). SomeLine (IsSelected p fit searched.named.invert) (lines_sought searched.named searched.file.text)) searched.is_named.fit
+        (subst (λ (invert : Bool). SomeLine (IsSelected p job.fit invert) (lines_sought searched.named searched.file.text)) (ap (λ (j : Job). j.invert) searched.is_named.is)
+        (subst (λ (fit : Fit). SomeLine (IsSelected p fit searched.named.invert) (lines_sought searched.named searched.file.text)) (ap (λ (j : Job). j.fit) searched.is_named.is)
         (either_some p searched.named searched.file.text searched.file.bytes (is_guarded searched.named) refl searched.file.tells))),
   )
 

@@ -1,13 +1,13 @@
 -- The texts of the files of rules, one after another, and the rules that they hold.
 use Rattle.std.proofs.Common.{◌≡◌, inl, inr, ℕ, ◌-◌, ◌≤◌, ◌<◌, Bool, true, false, List, [], ◌∷◌, ◌++◌, Option, length, take, drop, refl, sym, ◌∙◌, ap, subst, arith, append-nil, append_assoc}
-use Rattle.std.specs.Prelude.{MatchBool, map}
+use Rattle.std.specs.Prelude.{MatchBool}
 use Rattle.std.proofs.Math.ListN.{get_or}
 use Rattle.std.proofs.lemmas.Bool.{cases_Bool}
 use Rattle.std.proofs.lemmas.List.{map-append, take_all}
 use Rattle.programs.specs.Names.{IsOneOf}
 use Rattle.acgrep.specs.Loading.{AddsText, AreTexts, IsTextOfRule}
 use Rattle.acgrep.specs.Rules.{RuleSaid, expanded, is_from_file, is_space, glob_before, rule_before, rule_said, rules_by, rules_said, glob_of_line}
-use Rattle.acgrep.specs.Runs.{AreRules, AreRulesOf, AreRulesOfFile, IsTextOf}
+use Rattle.acgrep.specs.Runs.{AreRules, AreRulesOf, IsTextOf}
 use Rattle.acgrep.specs.Told.{rule_files}
 use Rattle.acgrep.specs.declared.rules.Rule.{Rule}
 use Rattle.acgrep.proofs.Told.{AreWithin}

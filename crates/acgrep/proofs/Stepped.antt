@@ -1,20 +1,21 @@
 -- One line of a walk: what is written of it, and where the walk then is.
-use Rattle.std.proofs.Common.{◌≡◌, inl, inr, ℕ, ◌<◌, Bool, true, false, List, [], ◌∷◌, ◌++◌, Option, Some, take, drop, take-append-drop, refl, sym, ◌∙◌, ap, subst, append_assoc}
+use Rattle.std.proofs.Common.{◌≡◌, inl, inr, ℕ, ◌<◌, Bool, true, false, List, [], ◌∷◌, ◌++◌, Option, refl, sym, ◌∙◌, ap, subst, append_assoc}
 use Rattle.std.specs.Prelude.{nat_lt, ◌&&◌}
 use Rattle.std.specs.Io.KnownBytes.{Appends}
 use Rattle.std.proofs.KnownBytes.{Appends-nil, Appends-trans}
 use Rattle.std.proofs.lemmas.Bool.{cases_Bool, lt-ltb}
 use Rattle.aho_core.specs.Patterns.{Patterns}
 use Rattle.aho_devices.specs.Counts.{AppendsBeginning}
-use Rattle.acgrep.specs.Contexts.{IsChosenBy, IsNotChosen, PassesBy, ShowsEach, ShowsGroup, Steps, Walk, WalksBegun, WalksLines, behind_chosen, behind_due, behind_passed, beside, separator_if}
+use Rattle.acgrep.specs.Contexts.{IsChosenBy, IsNotChosen, PassesBy, ShowsEach, ShowsGroup, Steps, Walk, WalksBegun, WalksLines, WalksSome, behind_chosen, behind_due, behind_passed, beside, separator_if}
 use Rattle.acgrep.specs.Lines.{lines}
-use Rattle.acgrep.specs.Written.{BeginsLine, IsMatched, ShowsLine, WritesLine, after_line, is_full, selects}
+use Rattle.acgrep.specs.Written.{IsMatched, ShowsLine, WritesLine, after_line, is_full, selects}
 use Rattle.acgrep.specs.declared.options.Context.{Context}
 use Rattle.acgrep.specs.declared.print.Place.{Place}
 use Rattle.acgrep.specs.declared.select.Job.{Job}
+use Rattle.acgrep.proofs.Begun.{begins_more, begins_some}
 use Rattle.acgrep.proofs.Grouped.{walk}
 use Rattle.acgrep.proofs.Tellings.{passed_by, selected_by}
-use Rattle.acgrep.proofs.Walked.{begun_behind, begun_more, begun_nothing, lines_join, lines_none, walks_one}
+use Rattle.acgrep.proofs.Walked.{begun_behind, lines_join, lines_none, walks_one}
 
 -- two walks are the same where their parts are
 pub walk_same : (a b : Walk) → a.place ≡ b.place → a.selected ≡ b.selected → a.due ≡ b.due → a.some ≡ b.some → a.apart ≡ b.apart → a.first ≡ b.first → a.held ≡ b.held → a ≡ b
@@ -26,10 +27,6 @@ walk_same a b place selected due some apart first held =
     ∙ ap (λ (t : Bool). walk b.place b.selected b.due b.some t a.first a.held) apart
     ∙ ap (λ (at : Place). walk b.place b.selected b.due b.some b.apart at a.held) first
     ∙ ap (λ (h : List (List ℕ)). walk b.place b.selected b.due b.some b.apart b.first h) held
-
--- what was put together of a text is written
-pub page_bytes : (old new : Option (List ℕ)) (before after bytes shown : List ℕ) → before ≡ [] → bytes ≡ after → Appends (Some before) (Some after) shown → bytes ≡ shown
-page_bytes old new before after bytes shown none same is = same ∙ is ∙ ap (λ (l : List ℕ). l ++ shown) none
 
 module _ (p : Patterns) (job : Job) where
   -- a line is chosen by whether it matches
@@ -53,18 +50,10 @@ module _ (p : Patterns) (job : Job) where
     -- or a beginning of that
     pub takes_begun : (w : Walk) (line bytes : List ℕ) (x y : Option (List ℕ)) → IsChosenBy p job w.selected line true → ShowsGroup p job context w line bytes → AppendsBeginning x y bytes
         → WalksBegun p job context w x y (line ∷ [])
-    takes_begun w line bytes x y chosen shows (n, within, written) = record {
-      first = line ∷ [];
-      left = [];
-      cut = refl;
-      all = bytes;
-      end = behind_chosen context w line;
-      walks = walks_one p job context w (behind_chosen context w line) line bytes (inl (record { more = chosen.0; selected = chosen.1; shows = shows; behind = refl }));
-      begun = take n bytes;
-      missing = drop n bytes;
-      is = sym (take-append-drop n bytes);
-      written = written;
-    }
+    takes_begun w line bytes x y chosen shows begins =
+        let next = behind_chosen context w line in
+        begins_some (WalksSome p job context w) (line ∷ []) x y bytes
+        (next, walks_one p job context w next line bytes (inl (record { more = chosen.0; selected = chosen.1; shows = shows; behind = refl }))) begins
 
     due_step : (w w' : Walk) (line bytes : List ℕ) → 0 < w.due → IsNotChosen p job w.selected line → ShowsLine p (beside job) w.place line bytes → w' ≡ behind_due w line
         → Steps p job context w line bytes w'
@@ -80,24 +69,11 @@ module _ (p : Patterns) (job : Job) where
       written = written;
     }
 
-    pub due_begun : (w : Walk) (line : List ℕ) (x y : Option (List ℕ)) → 0 < w.due → IsChosenBy p job w.selected line false → BeginsLine p (beside job) w.place x y line
+    pub due_begun : (w : Walk) (line bytes : List ℕ) (x y : Option (List ℕ)) → 0 < w.due → IsChosenBy p job w.selected line false → ShowsLine p (beside job) w.place line bytes → AppendsBeginning x y bytes
         → WalksBegun p job context w x y (line ∷ [])
-    due_begun w line x y some_due passed begins =
-        elim begins.starts [
-          | inl none ↦ begun_nothing p job context w x y (line ∷ []) (subst (Appends x y) none begins.written)
-          | inr starts ↦ record {
-            first = line ∷ [];
-            left = [];
-            cut = refl;
-            all = starts.shown;
-            end = behind_due w line;
-            walks = walks_one p job context w (behind_due w line) line starts.shown (due_step w (behind_due w line) line starts.shown some_due passed starts.shows refl);
-            begun = begins.begun;
-            missing = starts.missing;
-            is = starts.cut;
-            written = begins.written;
-          }
-        ]
+    due_begun w line bytes x y some_due passed shows begins =
+        let next = behind_due w line in
+        begins_some (WalksSome p job context w) (line ∷ []) x y bytes (next, walks_one p job context w next line bytes (due_step w next line bytes some_due passed shows refl)) begins
 
     -- a line that is passed over is held, and nothing is written
     pub passed_lines : (w w' : Walk) (line : List ℕ) (x : Option (List ℕ)) → w.due ≡ 0 → IsChosenBy p job w.selected line false → w' ≡ behind_passed context w line
@@ -133,7 +109,7 @@ module _ (p : Patterns) (job : Job) where
         → WalksBegun p job context b y z (line ∷ []) → WalksBegun p job context a x z (lines job.style.ending text)
     to_begun a b x y z text rest line left more to one =
         subst (WalksBegun p job context a x z) (sym (cut_more text rest line left to.searched to.cut more))
-        (begun_more p job context a x z (to.searched ++ (line ∷ [])) (lines job.style.ending left) (begun_behind p job context a b x y z to.searched (line ∷ []) to.tells one))
+        (begins_more (WalksSome p job context a) (to.searched ++ (line ∷ [])) (lines job.style.ending left) x z (begun_behind p job context a b x y z to.searched (line ∷ []) to.tells one))
 
   -- lines around a selected one, one after another
   pub record ShowsTo (first place : Place) (x y : Option (List ℕ)) (ls rest : List (List ℕ)) : Type 0 where

@@ -1,14 +1,13 @@
 -- What was searched of a stream, put together from its reads.
 use Rattle.std.proofs.Common.{◌≡◌, inl, inr, ℕ, ◌+◌, ◌-◌, ◌≤◌, ◌<◌, ◌==◌, Bool, true, false, List, [], ◌∷◌, ◌++◌, Option, None, Some, length, take, drop, take-append-drop, refl, sym, ◌∙◌, ap, subst, arith, append_assoc, append-nil, length-append}
-use Rattle.std.specs.Prelude.{Result, Ok, Err, OnOk}
-use Rattle.std.specs.Io.KnownBytes.{Appends, Consumes, IsAtEnd, Keeps}
-use Rattle.std.proofs.KnownBytes.{Appends-trans, Consumes-trans, Consumes-nil, Keeps-refl}
+use Rattle.std.specs.Io.KnownBytes.{Appends, IsAtEnd, Keeps}
+use Rattle.std.proofs.KnownBytes.{Appends-trans, Consumes-trans, Consumes-nil}
 use Rattle.std.proofs.Math.Seq.{drop-append_seam, drop-append-add}
 use Rattle.std.proofs.lemmas.List.{get_or-append-add, length-take-le}
 use Rattle.aho_core.specs.Patterns.{Patterns}
 use Rattle.acgrep.specs.Lines.{EndsLine, IsEnding, lines}
 use Rattle.acgrep.specs.Filled.{FillsBehind, ReadsOn}
-use Rattle.acgrep.specs.Streamed.{Course, ReadsSome, SearchesBehind, SearchesStream, SearchesWhole, course}
+use Rattle.acgrep.specs.Streamed.{ReadsSome, SearchesBehind, SearchesWhole, course}
 use Rattle.acgrep.specs.Contexts.{SearchesIn, SearchesText, around_of}
 use Rattle.acgrep.specs.Written.{IsSettled, SamePlace, SearchesPlain, after_lines}
 use Rattle.acgrep.specs.declared.options.Context.{Context}
@@ -129,22 +128,6 @@ module _ (p : Patterns) (job : Job) where
       stream_end a c d x z w l n first rest (λ settled. goes (subst (IsSettled job) ends.1 settled)) ends.0
       (stream_step a b c x y z l m n first kept rest ended goes so_far some) last
 
-  pub stream_last : {E : Type 0} (a b c d : State) (x y z w l m n : Option (List ℕ)) (first kept rest : List ℕ) (ended : Bool) (result : Result (Unit {0}) E)
-      → (IsSettled job b → ⊥) → ended ≡ true → ReadsSome p job (course a b x y l m) first kept false → ReadsSome p job (course b c y z m n) kept rest ended
-      → OnOk result (SearchesText p job c d z w rest) → OnOk result (SearchesBehind p job (course a d x w l n) first)
-  stream_last a b c d x y z w l m n first kept rest ended (Err error) goes is so_far some last = tt
-  stream_last a b c d x y z w l m n first kept rest ended (Ok done) goes is so_far some last = stream_done a b c d x y z w l m n first kept rest ended goes is so_far some last
-
-  -- where nothing was there the bytes were read
-  pub stream_of : (c : Course) → SearchesBehind p job c [] → SearchesStream p job c
-  stream_of c behind = record {
-    searched = behind.searched;
-    rest = behind.rest;
-    consumed = subst (Consumes c.left_before c.left_after) behind.cut behind.consumed;
-    searches = behind.searches;
-    ends = behind.ends;
-  }
-
   -- nothing is searched, and what the writer holds stays
   plain_none : (a : State) (x y : Option (List ℕ)) → Keeps x y → SearchesPlain p job a a x y []
   plain_none a x y keeps = record {
@@ -168,20 +151,8 @@ module _ (p : Patterns) (job : Job) where
   pub searches_none : (a : State) (x y : Option (List ℕ)) → Keeps x y → SearchesText p job a a x y []
   searches_none a x y keeps = none_in (around_of job) a x y keeps
 
-  -- at the begin nothing was searched or read
-  unfoldable pub stream_start : (a : State) (x l : Option (List ℕ)) (kept : List ℕ) → ReadsSome p job (course a a x x l l) kept kept false
-  stream_start a x l kept = record {
-    came = [];
-    searched = [];
-    consumed = Consumes-nil l;
-    cut = append-nil kept;
-    whole = λ some. absurd (omega (arith, some));
-    searches = searches_none a x x (Keeps-refl x);
-    ends = λ ended. absurd (cc);
-  }
-
-  -- or whole lines that were there
-  pub stream_whole_lines : (a b : State) (x y l : Option (List ℕ)) (first kept : List ℕ) → SearchesWhole p job a b x y first kept → ReadsSome p job (course a b x y l l) first kept false
+  -- whole lines that were there
+  unfoldable pub stream_whole_lines : (a b : State) (x y l : Option (List ℕ)) (first kept : List ℕ) → SearchesWhole p job a b x y first kept → ReadsSome p job (course a b x y l l) first kept false
   stream_whole_lines a b x y l first kept searches = record {
     came = [];
     searched = searches.searched;

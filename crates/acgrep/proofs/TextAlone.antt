@@ -1,54 +1,37 @@
--- What is told where only the lines before the first that holds a zero byte are searched.
-use Rattle.std.proofs.Common.{◌≡◌, inl, inr, ℕ, ◌==◌, Bool, true, false, List, [], ◌++◌, Option, IfSome, refl, sym, ◌∙◌, ap, subst, append_assoc, append-nil}
-use Rattle.std.specs.Prelude.{MatchBool, not, ◌&&◌}
-use Rattle.std.specs.Io.KnownBytes.{Consumes}
+-- What is told of a reader whose lines are searched, or those before the first that holds a zero byte alone.
+use Rattle.std.proofs.Common.{◌≡◌, inl, inr, ℕ, ◌==◌, Bool, true, false, List, [], ◌++◌, Option, sym, ◌∙◌, ap, subst, append_assoc, append-nil}
+use Rattle.std.specs.Prelude.{not, ◌&&◌}
 use Rattle.std.proofs.lemmas.Bool.{and_parts, not-true}
 use Rattle.aho_core.specs.Patterns.{Patterns}
-use Rattle.acgrep.specs.Binary.{BeginsGuarded, is_guarded, is_text, lines_sought, takes_text, text_lines, writes_lines}
+use Rattle.acgrep.specs.Binary.{is_guarded, is_text, lines_by, lines_sought, takes_text}
 use Rattle.acgrep.specs.Contexts.{IsBegin, around_of}
-use Rattle.acgrep.specs.Files.{BeginsFile, BeginsFileIn, BeginsTotal, EndsFile, SearchesReader}
-use Rattle.acgrep.specs.Guarded.{BeginsBinary, BeginsPast, EndsFront, SearchesFront, SearchesPast}
+use Rattle.acgrep.specs.Files.{EndsFile, SearchesReader}
+use Rattle.acgrep.specs.Guarded.{BeginsBinary, EndsFront, SearchesFront, SearchesPast}
 use Rattle.acgrep.specs.Lines.{EndsLine, lines}
-use Rattle.acgrep.specs.Streamed.{course}
+use Rattle.acgrep.specs.Streamed.{BeginsBehind, TextIf, course}
 use Rattle.acgrep.specs.Written.{SomeLine}
 use Rattle.acgrep.specs.declared.select.Job.{Job}
 use Rattle.acgrep.specs.declared.select.State.{State}
-use Rattle.acgrep.proofs.BinaryLines.{first_some, first_text, text_behind}
+use Rattle.acgrep.proofs.BinaryLines.{first_some, first_text}
 use Rattle.acgrep.proofs.BinaryTold.{lines_cut, some_behind}
-use Rattle.acgrep.proofs.FileTellings.{file_of, left_none, lines_told, settled_read, sought_text, text_behind as text_read, text_told}
-use Rattle.acgrep.proofs.FilesBegun.{begins_in}
+use Rattle.acgrep.proofs.FileTellings.{file_of, left_none, lines_told, settled_read, text_behind as text_read, text_told}
 use Rattle.acgrep.proofs.LineLists.{lines_append}
-use Rattle.acgrep.proofs.StreamsBegun.{begins_whole}
+use Rattle.acgrep.proofs.StreamsBegun.{behind_searched, behind_stop, by_behind, by_same}
 
-and_false : (b : Bool) → (b && false) ≡ false
-and_false true = refl
-and_false false = refl
-
-module _ (p : Patterns) (job : Job) (alone : takes_text job ≡ true) where
-  -- then none are kept from the output, and a zero byte does not end a line
-  plainly : is_guarded job ≡ false
-  plainly =
-      let none : job.guards ≡ false = not-true job.guards (and_parts (not job.guards) (job.text_alone && not (job.style.ending == 0)) alone).0 in
-      ap (λ (b : Bool). writes_lines job.shown && (b && not (job.style.ending == 0))) none ∙ and_false (writes_lines job.shown)
-
-  ends_otherwise : (job.style.ending == 0) ≡ false
-  ends_otherwise = not-true (job.style.ending == 0)
-      (and_parts job.text_alone (not (job.style.ending == 0)) (and_parts (not job.guards) (job.text_alone && not (job.style.ending == 0)) alone).1).1
-
-  -- the lines before the first that holds a zero byte, of bytes without one and others
-  sought_behind : (came searched rest more : List ℕ) → came ≡ searched ++ rest → EndsLine job.style.ending searched → is_text searched ≡ true
-      → lines_sought job (came ++ more) ≡ lines job.style.ending searched ++ text_lines (lines job.style.ending (rest ++ more))
+module _ (p : Patterns) (job : Job) (alone : Bool) (is_alone : takes_text job ≡ alone) (plainly : is_guarded job ≡ false) where
+  -- the lines that are searched, of whole ones and others
+  sought_behind : (came searched rest more : List ℕ) → came ≡ searched ++ rest → EndsLine job.style.ending searched → TextIf alone searched
+      → lines_sought job (came ++ more) ≡ lines job.style.ending searched ++ lines_by alone job.style.ending (rest ++ more)
   sought_behind came searched rest more cut whole text =
-      sought_text job (came ++ more) alone ∙ ap text_lines (lines_cut p job came searched rest more cut whole) ∙ text_behind job.style.ending searched (lines job.style.ending (rest ++ more)) text
+      ap (λ (b : Bool). lines_by b job.style.ending (came ++ more)) is_alone ∙ ap (λ (l : List ℕ). lines_by alone job.style.ending (l ++ more)) cut
+      ∙ ap (lines_by alone job.style.ending) (append_assoc searched rest more) ∙ by_behind alone job.style.ending searched (rest ++ more) whole text
 
-  -- and of bytes without one alone
-  sought_same : (text searched : List ℕ) → text ≡ searched → is_text searched ≡ true → lines_sought job text ≡ lines job.style.ending searched
+  sought_same : (text searched : List ℕ) → text ≡ searched → TextIf alone searched → lines_sought job text ≡ lines job.style.ending searched
   sought_same text searched same is =
-      let all : lines job.style.ending text ≡ lines job.style.ending searched ++ [] = ap (lines job.style.ending) same ∙ sym (append-nil (lines job.style.ending searched)) in
-      sought_text job text alone ∙ ap text_lines all ∙ text_behind job.style.ending searched [] is ∙ append-nil (lines job.style.ending searched)
+      ap (λ (b : Bool). lines_by b job.style.ending text) is_alone ∙ ap (lines_by alone job.style.ending) same ∙ by_same alone job.style.ending searched is
 
   -- no line with a zero byte came, or none that is to be told of
-  past_searched : (before state : State) (left left' held meanwhile held' : Option (List ℕ)) → IsBegin job before → SearchesPast p job (course before state held meanwhile left left') → (any : Bool)
+  past_searched : (before state : State) (left left' held meanwhile held' : Option (List ℕ)) → IsBegin job before → SearchesPast p job alone (course before state held meanwhile left left') [] → (any : Bool)
       → EndsFile job state.selected meanwhile held' any → SearchesReader p job left left' held held' any
   past_searched before state left left' held meanwhile held' begin past any ends =
       let behind = past.all in
@@ -66,7 +49,7 @@ module _ (p : Patterns) (job : Job) (alone : takes_text job ≡ true) where
               reads = record { bytes = behind.came; read = behind.consumed; ended = inl end };
             }
         | inr (whole, settled) ↦
-            let others = text_lines (lines job.style.ending (behind.rest ++ more)) in
+            let others = lines_by alone job.style.ending (behind.rest ++ more) in
             let same : lines_sought job text ≡ told.searched ++ (lines job.style.ending told.left ++ others) =
             sought_behind behind.came searched behind.rest more behind.cut whole past.text ∙ ap (λ (l : List (List ℕ)). l ++ others) told.cut
             ∙ append_assoc told.searched (lines job.style.ending told.left) others in
@@ -82,10 +65,12 @@ module _ (p : Patterns) (job : Job) (alone : takes_text job ≡ true) where
       ]
 
   -- a line with a zero byte came
-  front_searched : (before state : State) (left left' held meanwhile held' : Option (List ℕ)) (kept : List ℕ) → IsBegin job before
-      → SearchesFront p job (course before state held meanwhile left left') kept → BeginsBinary job.style.ending kept → (any : Bool)
+  front_searched : (before state : State) (left left' held meanwhile held' : Option (List ℕ)) (kept : List ℕ) → alone ≡ true → IsBegin job before
+      → SearchesFront p job alone (course before state held meanwhile left left') [] kept → BeginsBinary job.style.ending kept → (any : Bool)
       → EndsFile job state.selected meanwhile held' any → SearchesReader p job left left' held held' any
-  front_searched before state left left' held meanwhile held' kept begin front binary any ends =
+  front_searched before state left left' held meanwhile held' kept asked begin front binary any ends =
+      let ends_otherwise : (job.style.ending == 0) ≡ false = not-true (job.style.ending == 0)
+      (and_parts job.text_alone (not (job.style.ending == 0)) (and_parts (not job.guards) (job.text_alone && not (job.style.ending == 0)) (is_alone ∙ asked)).1).1 in
       let came = front.some.came in
       let searched = front.some.searched in
       let (more, known, none) = text_read left left' came front.some.consumed in
@@ -93,6 +78,7 @@ module _ (p : Patterns) (job : Job) (alone : takes_text job ≡ true) where
       let told = text_told p job (around_of job) before state held meanwhile searched begin front.some.searches in
       let first : lines_sought job text ≡ lines job.style.ending searched =
       sought_behind came searched kept more front.some.cut front.some.whole front.text
+      ∙ ap (λ (b : Bool). lines job.style.ending searched ++ lines_by b job.style.ending (kept ++ more)) asked
       ∙ ap (λ (l : List (List ℕ)). lines job.style.ending searched ++ l) (first_text (lines job.style.ending (kept ++ more)) (binary ends_otherwise more)) ∙ append-nil (lines job.style.ending searched) in
       let zero : SomeLine (λ (line : List ℕ). is_text line ≡ false) (lines job.style.ending (came ++ [])) =
       subst (SomeLine (λ (line : List ℕ). is_text line ≡ false)) (sym (lines_cut p job came searched kept [] front.some.cut front.some.whole))
@@ -104,61 +90,18 @@ module _ (p : Patterns) (job : Job) (alone : takes_text job ≡ true) where
         reads = record {
           bytes = came;
           read = front.some.consumed;
-          ended = inr (inr (inr (inr (alone, subst (λ (l : List ℕ). SomeLine (λ (line : List ℕ). is_text line ≡ false) (lines job.style.ending l)) (append-nil came) zero))));
+          ended = inr (inr (inr (inr (is_alone ∙ asked, subst (λ (l : List ℕ). SomeLine (λ (line : List ℕ). is_text line ≡ false) (lines job.style.ending l)) (append-nil came) zero))));
         };
       }
 
   -- whether one did or not
   pub ends_searched : (before state : State) (left left' held meanwhile held' : Option (List ℕ)) (kept : List ℕ) (binary : Bool) → IsBegin job before
-      → EndsFront p job (course before state held meanwhile left left') kept binary → (any : Bool) → EndsFile job state.selected meanwhile held' any → SearchesReader p job left left' held held' any
-  ends_searched before state left left' held meanwhile held' kept true begin (front, binary) any ends = front_searched before state left left' held meanwhile held' kept begin front binary any ends
+      → EndsFront p job alone (course before state held meanwhile left left') [] kept binary → (any : Bool) → EndsFile job state.selected meanwhile held' any → SearchesReader p job left left' held held' any
+  ends_searched before state left left' held meanwhile held' kept true begin (asked, front, binary) any ends = front_searched before state left left' held meanwhile held' kept asked begin front binary any ends
   ends_searched before state left left' held meanwhile held' kept false begin past any ends = past_searched before state left left' held meanwhile held' begin past any ends
 
   -- what was told of those lines is a beginning too
   pub ends_begun : (before state : State) (left left' held meanwhile : Option (List ℕ)) (kept : List ℕ) (binary : Bool)
-      → EndsFront p job (course before state held meanwhile left left') kept binary → BeginsPast p job (course before state held meanwhile left left')
-  ends_begun before state left left' held meanwhile kept true (front, binary) = record {
-    all = record {
-      came = front.some.came;
-      searched = front.some.searched;
-      rest = kept;
-      consumed = front.some.consumed;
-      cut = front.some.cut;
-      begins = begins_whole p job before state held meanwhile front.some.searched front.some.searches;
-      ends = inl front.some.whole;
-    };
-    text = front.text;
-  }
-  ends_begun before state left left' held meanwhile kept false past = record {
-    all = record {
-      came = past.all.came;
-      searched = past.all.searched;
-      rest = past.all.rest;
-      consumed = past.all.consumed;
-      cut = past.all.cut;
-      begins = begins_whole p job before state held meanwhile past.all.searched past.all.searches;
-      ends = elim past.all.ends [ inl end ↦ inr end | inr (whole, settled) ↦ inl whole ];
-    };
-    text = past.text;
-  }
-
-  -- a beginning of what is told of them, and of what is asked of the file as a whole
-  pub past_begun : (before state : State) (left left' held meanwhile held' : Option (List ℕ)) → IsBegin job before → BeginsPast p job (course before state held meanwhile left left')
-      → BeginsTotal job state.selected meanwhile held' → BeginsFile p job left held held'
-  past_begun before state left left' held meanwhile held' begin past total =
-      let behind = past.all in
-      let searched = behind.searched in
-      let (more, known, none) = text_read left left' behind.came behind.consumed in
-      let text = behind.came ++ more in
-      let (others, cut) : (others : List (List ℕ)) × (lines_sought job text ≡ lines job.style.ending searched ++ others) =
-      elim behind.ends [
-        | inl whole ↦ (text_lines (lines job.style.ending (behind.rest ++ more)), sought_behind behind.came searched behind.rest more behind.cut whole past.text)
-        | inr (empty, end) ↦ (
-          [],
-          sought_same text searched
-              (ap (λ (l : List ℕ). behind.came ++ l) (none end) ∙ append-nil behind.came ∙ behind.cut ∙ ap (λ (l : List ℕ). searched ++ l) empty ∙ append-nil searched) past.text
-              ∙ sym (append-nil (lines job.style.ending searched)),
-        )
-      ] in
-      subst (λ (b : Bool). MatchBool b (BeginsGuarded p job left held held') (BeginsFileIn p job (around_of job) left held held')) (sym plainly)
-      (begins_in p job (around_of job) refl before state left held meanwhile held' text (lines job.style.ending searched) others begin known cut behind.begins total)
+      → EndsFront p job alone (course before state held meanwhile left left') [] kept binary → BeginsBehind p job alone before state held meanwhile left []
+  ends_begun before state left left' held meanwhile kept true (asked, front, binary) = behind_stop p job alone before state held meanwhile left left' [] kept false front.some front.text
+  ends_begun before state left left' held meanwhile kept false past = behind_searched p job alone before state held meanwhile left left' [] past.all past.text

@@ -5,13 +5,14 @@ use Rattle.std.specs.Io.KnownBytes.{Appends}
 use Rattle.std.proofs.KnownBytes.{Appends-trans}
 use Rattle.std.proofs.lemmas.Bool.{cases_Bool, true≢false}
 use Rattle.aho_core.specs.Patterns.{Patterns}
-use Rattle.acgrep.specs.Contexts.{PassesBy, PassesLine, Steps, Walk, WalksBegun, WalksLines, WalksOver, WalksText, behind_chosen, behind_passed, walk_of}
+use Rattle.acgrep.specs.Contexts.{PassesBy, PassesLine, Steps, Walk, WalksBegun, WalksLines, WalksSome, WalksOver, WalksText, behind_chosen, behind_passed, walk_of}
 use Rattle.acgrep.specs.Lines.{EndsLine, lines}
 use Rattle.acgrep.specs.Written.{IsPassedOver, IsSettled, TellsOfLines, after_line, is_full}
 use Rattle.acgrep.specs.declared.options.Context.{Context}
 use Rattle.acgrep.specs.declared.print.Place.{Place}
 use Rattle.acgrep.specs.declared.select.Job.{Job}
 use Rattle.acgrep.specs.declared.select.State.{State}
+use Rattle.acgrep.proofs.Begun.{begins_behind}
 use Rattle.acgrep.proofs.LineLists.{lines_append}
 
 module _ (p : Patterns) (job : Job) (context : Context) where
@@ -61,76 +62,9 @@ module _ (p : Patterns) (job : Job) (context : Context) where
   -- a beginning of what is told, behind lines of which all is
   pub begun_behind : (w w' : Walk) (x y z : Option (List ℕ)) (ls ms : List (List ℕ)) → WalksLines p job context w w' x y ls → WalksBegun p job context w' y z ms
       → WalksBegun p job context w x z (ls ++ ms)
-  begun_behind w w' x y z ls ms one begins = record {
-    first = ls ++ begins.first;
-    left = begins.left;
-    cut = ap (λ (l : List (List ℕ)). ls ++ l) begins.cut ∙ sym (append_assoc ls begins.first begins.left);
-    all = one.bytes ++ begins.all;
-    end = begins.end;
-    walks = walks_append ls begins.first w w' begins.end one.bytes begins.all one.walks begins.walks;
-    begun = one.bytes ++ begins.begun;
-    missing = begins.missing;
-    is = ap (λ (l : List ℕ). one.bytes ++ l) begins.is ∙ sym (append_assoc one.bytes begins.begun begins.missing);
-    written = Appends-trans x y z one.bytes begins.begun one.written begins.written;
-  }
-
-  -- lines more may follow
-  pub begun_more : (w : Walk) (x y : Option (List ℕ)) (ls ms : List (List ℕ)) → WalksBegun p job context w x y ls → WalksBegun p job context w x y (ls ++ ms)
-  begun_more w x y ls ms begins = record {
-    first = begins.first;
-    left = begins.left ++ ms;
-    cut = ap (λ (l : List (List ℕ)). l ++ ms) begins.cut ∙ append_assoc begins.first begins.left ms;
-    all = begins.all;
-    end = begins.end;
-    walks = begins.walks;
-    begun = begins.begun;
-    missing = begins.missing;
-    is = begins.is;
-    written = begins.written;
-  }
-
-  pub begun_all : (w w' : Walk) (x y : Option (List ℕ)) (ls ms : List (List ℕ)) → WalksLines p job context w w' x y ls → WalksBegun p job context w x y (ls ++ ms)
-  begun_all w w' x y ls ms one = record {
-    first = ls;
-    left = ms;
-    cut = refl;
-    all = one.bytes;
-    end = w';
-    walks = one.walks;
-    begun = one.bytes;
-    missing = [];
-    is = sym (append-nil one.bytes);
-    written = one.written;
-  }
-
-  -- nothing is written
-  pub begun_nothing : (w : Walk) (x y : Option (List ℕ)) (ls : List (List ℕ)) → Appends x y [] → WalksBegun p job context w x y ls
-  begun_nothing w x y ls written = record {
-    first = [];
-    left = ls;
-    cut = refl;
-    all = [];
-    end = w;
-    walks = (refl, refl);
-    begun = [];
-    missing = [];
-    is = refl;
-    written = written;
-  }
-
-  pub begun_kept : (w : Walk) (x y z : Option (List ℕ)) (ls : List (List ℕ)) → Appends x y [] → WalksBegun p job context w y z ls → WalksBegun p job context w x z ls
-  begun_kept w x y z ls keeps begins = record {
-    first = begins.first;
-    left = begins.left;
-    cut = begins.cut;
-    all = begins.all;
-    end = begins.end;
-    walks = begins.walks;
-    begun = begins.begun;
-    missing = begins.missing;
-    is = begins.is;
-    written = Appends-trans x y z [] begins.begun keeps begins.written;
-  }
+  begun_behind w w' x y z ls ms one begins =
+      begins_behind (WalksSome p job context w') (WalksSome p job context w) ls ms x y z one.bytes
+      (λ first all (end, walks). (end, walks_append ls first w w' end one.bytes all one.walks walks)) one.written begins
 
   pub text_lines : (a b : State) (x y : Option (List ℕ)) (text : List ℕ) (one : WalksText p job context a b x y text) → (IsSettled job b → ⊥) → lines job.style.ending text ≡ one.searched
   text_lines a b x y text one goes =

@@ -1,6 +1,5 @@
 -- Lines that hold a zero byte: from the first of them on a file's lines are kept from a terminal, or not searched.
-use Rattle.std.specs.Prelude.{◌≡◌, ◌⊎◌, ℕ, ◌==◌, ◌&&◌, ◌||◌, not, Bool, MatchBool, true, false, List, [], ◌∷◌, ◌++◌, Option, IfSome, codes, if◌then◌else◌}
-use Rattle.std.specs.Io.KnownBytes.{Appends}
+use Rattle.std.specs.Prelude.{◌≡◌, ℕ, ◌==◌, ◌&&◌, ◌||◌, not, Bool, MatchBool, true, false, List, [], ◌∷◌, ◌++◌, codes, if◌then◌else◌}
 use Rattle.aho_core.specs.Patterns.{Patterns}
 use Rattle.acgrep.specs.Contexts.{TellsFile}
 use Rattle.acgrep.specs.Lines.{lines}
@@ -73,22 +72,6 @@ pub record TellsGuarded (p : Patterns) (job : Job) (text : List ℕ) (any : Bool
   pub all : bytes ≡ told ++ (if more then binary_by job.style else [])
 
 -- these are all lines without a zero byte, and of the others is told that one is selected
-abbrev pub TellsBinary : Patterns → Job → List ℕ → (left : List (List ℕ)) → ℕ → Type 0
-TellsBinary p job text left count =
-    (left ≡ []) × (is_full job.most count ≡ false) × SomeLine (IsSelected p job.fit job.invert) (binary_lines (lines job.style.ending text))
-
--- a file whose bytes are these, where they are known, was not searched to its end, or not all was written: a beginning of what is told
--- of some first lines is, none of which holds a zero byte, or all that is told of those and a beginning of what is told of the others
-pub record BeginsGuarded (p : Patterns) (job : Job) (known held held' : Option (List ℕ)) : Type 0 where
-  pub text : List ℕ
-  pub of : IfSome known (λ bytes. text ≡ bytes)
-  pub first : List (List ℕ)
-  pub left : List (List ℕ)
-  pub cut : text_lines (lines job.style.ending text) ≡ first ++ left
-  pub told : List ℕ
-  pub count : ℕ
-  pub tells : TellsFile p job first told count
-  pub begun : List ℕ
-  pub missing : List ℕ
-  pub is : (told ≡ begun ++ missing) ⊎ (TellsBinary p job text left count × (told ++ binary_by job.style ≡ begun ++ missing))
-  pub written : Appends held held' begun
+abbrev pub TellsBinary : Patterns → Job → List ℕ → (first : List (List ℕ)) → ℕ → Type 0
+TellsBinary p job text first count =
+    (first ≡ text_lines (lines job.style.ending text)) × (is_full job.most count ≡ false) × SomeLine (IsSelected p job.fit job.invert) (binary_lines (lines job.style.ending text))

@@ -2,10 +2,11 @@
 use Rattle.std.specs.Prelude.{◌≡◌, ◌⊎◌, ℕ, ◌+◌, ◌-◌, ◌<◌, ◌≤◌, ◌==◌, nat_le, nat_lt, Bool, MatchBool, true, false, not, ◌&&◌, List, [], ◌∷◌, ◌++◌, Option, Some, None, length, slice_index_or, if◌then◌else◌}
 use Rattle.std.specs.Io.KnownBytes.{Appends}
 use Rattle.aho_core.specs.Patterns.{Patterns}
+use Rattle.acgrep.specs.Begun.{BeginsOf}
 use Rattle.acgrep.specs.Filled.{held_lines}
 use Rattle.acgrep.specs.Lines.{lines}
 use Rattle.acgrep.specs.Printed.{separator_by}
-use Rattle.acgrep.specs.Written.{BeginsLines, IsPassedOver, IsSelected, IsSettled, SearchesPlain, ShowsLine, TellsOfLines, after_line, is_full, one_more}
+use Rattle.acgrep.specs.Written.{IsPassedOver, IsSelected, IsSettled, SearchesPlain, ShowsLine, TellsOfLines, after_line, is_full, one_more}
 use Rattle.acgrep.specs.declared.trail.Trail.{Trail}
 use Rattle.acgrep.specs.declared.options.Context.{Context}
 use Rattle.acgrep.specs.declared.options.Shown.{Shown}
@@ -227,6 +228,10 @@ WalksOver p job context w (line ∷ rest) bytes w' =
     (shown : List ℕ) × (more : List ℕ) × (between : Walk) × Steps p job context w line shown between × WalksOver p job context between rest more w'
     × (bytes ≡ shown ++ more)
 
+-- wherever they end
+abbrev pub WalksSome : Patterns → Job → Context → Walk → List (List ℕ) → List ℕ → Type 0
+WalksSome p job context w ls bytes = (end : Walk) × WalksOver p job context w ls bytes end
+
 -- what is told of these lines is written, and nothing else
 pub record WalksLines (p : Patterns) (job : Job) (context : Context) (w w' : Walk) (old new : Option (List ℕ)) (ls : List (List ℕ)) : Type 0 where
   pub bytes : List ℕ
@@ -241,19 +246,6 @@ pub record WalksText (p : Patterns) (job : Job) (context : Context) (before afte
   pub tells : WalksLines p job context (walk_of before) (walk_of after) old new searched
   pub ends : (left ≡ []) ⊎ IsSettled job after
 
--- a beginning of what is told of some first ones of these lines is written
-pub record WalksBegun (p : Patterns) (job : Job) (context : Context) (w : Walk) (old new : Option (List ℕ)) (ls : List (List ℕ)) : Type 0 where
-  pub first : List (List ℕ)
-  pub left : List (List ℕ)
-  pub cut : ls ≡ first ++ left
-  pub all : List ℕ
-  pub end : Walk
-  pub walks : WalksOver p job context w first all end
-  pub begun : List ℕ
-  pub missing : List ℕ
-  pub is : all ≡ begun ++ missing
-  pub written : Appends old new begun
-
 -- the lines of a text are searched, with those around selected ones where they are asked for
 abbrev pub SearchesIn : Patterns → Job → Option Context → (before after : State) → (old new : Option (List ℕ)) → List ℕ → Type 0
 SearchesIn p job None before after old new text = SearchesPlain p job before after old new text
@@ -262,10 +254,17 @@ SearchesIn p job (Some context) before after old new text = WalksText p job cont
 abbrev pub SearchesText : Patterns → Job → (before after : State) → (old new : Option (List ℕ)) → List ℕ → Type 0
 SearchesText p job before after old new text = SearchesIn p job (around_of job) before after old new text
 
--- a beginning of what is told of them is written
-abbrev pub BeginsAsked : Patterns → Job → Option Context → State → ℕ → (old new : Option (List ℕ)) → List (List ℕ) → Type 0
-BeginsAsked p job None before count old new ls = BeginsLines p job before count old new ls
-BeginsAsked p job (Some context) before count old new ls = WalksBegun p job context (walk_of before) old new ls
+-- what is told of lines from a state on, and how many are then selected
+abbrev pub TellsFrom : Patterns → Job → Option Context → State → ℕ → List (List ℕ) → List ℕ → Type 0
+TellsFrom p job None before count ls bytes = TellsOfLines p job before.place before.selected ls bytes count
+TellsFrom p job (Some context) before count ls bytes = WalksSome p job context (walk_of before) ls bytes
 
+-- a beginning of that is written
 abbrev pub BeginsSearched : Patterns → Job → State → ℕ → (old new : Option (List ℕ)) → List (List ℕ) → Type 0
-BeginsSearched p job before count old new ls = BeginsAsked p job (around_of job) before count old new ls
+BeginsSearched p job before count old new ls = BeginsOf (TellsFrom p job (around_of job) before count) ls old new
+
+abbrev pub BeginsLines : Patterns → Job → State → ℕ → (old new : Option (List ℕ)) → List (List ℕ) → Type 0
+BeginsLines p job before count old new ls = BeginsOf (TellsFrom p job None before count) ls old new
+
+abbrev pub WalksBegun : Patterns → Job → Context → Walk → (old new : Option (List ℕ)) → List (List ℕ) → Type 0
+WalksBegun p job context w old new ls = BeginsOf (WalksSome p job context w) ls old new

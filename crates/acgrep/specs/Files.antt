@@ -1,20 +1,21 @@
 -- What is written of files, one after another.
 use Rattle.programs.specs.Answers.{status_of}
 use Rattle.programs.specs.Names.{is_input, name_bytes, or_input}
-use Rattle.std.specs.Prelude.{◌≡◌, ◌⊎◌, ℕ, ◌||◌, nat_lt, Bool, true, false, List, [], ◌∷◌, ◌++◌, Option, Some, None, IfSome, MatchBool, if◌then◌else◌}
+use Rattle.std.specs.Prelude.{◌≡◌, ◌⊎◌, ℕ, ◌||◌, nat_lt, Bool, true, false, List, [], ◌∷◌, ◌++◌, Option, IfSome, MatchBool, if◌then◌else◌}
+use Rattle.std.specs.Borrow.{Bor}
 use Rattle.std.specs.Io.KnownBytes.{Appends, Consumes, IsAtEnd, Keeps}
 use Rattle.aho_core.specs.Patterns.{Patterns}
-use Rattle.acgrep.specs.Binary.{BeginsGuarded, TellsGuarded, is_guarded, is_text, lines_sought, takes_text}
-use Rattle.acgrep.specs.Contexts.{TellsAround, TellsFile, around_of}
+use Rattle.acgrep.specs.Begun.{BeginsOf}
+use Rattle.acgrep.specs.Binary.{TellsBinary, TellsGuarded, binary_by, is_guarded, is_text, lines_by, lines_sought, takes_text}
+use Rattle.acgrep.specs.Contexts.{TellsFile}
 use Rattle.acgrep.specs.Filled.{ReadsOn}
 use Rattle.acgrep.specs.Lines.{lines}
 use Rattle.acgrep.specs.Printed.{count_by, file_line}
-use Rattle.acgrep.specs.Written.{IsAny, IsSelected, SomeLine, StartsNext, TellsOfLines, after_lines, is_full, needs_one}
+use Rattle.acgrep.specs.Written.{IsAny, IsSelected, SomeLine, TellsOfLines, is_full, needs_one}
 use Rattle.acgrep.specs.declared.files.Files.{Files}
 use Rattle.acgrep.specs.declared.files.Outcome.{Outcome}
 use Rattle.acgrep.specs.declared.files.Outcome.TheVariants.{Searched, Unread, Stopped}
 use Rattle.acgrep.specs.declared.files.Seen.{Seen}
-use Rattle.acgrep.specs.declared.options.Context.{Context}
 use Rattle.acgrep.specs.declared.options.Shown.{Shown}
 use Rattle.acgrep.specs.declared.options.Shown.TheVariants.{Lines, Matches, Objects, Count, Names, Lacking, Nothing}
 use Rattle.acgrep.specs.declared.print.Style.{Style}
@@ -97,29 +98,9 @@ pub record SearchesReader (p : Patterns) (job : Job) (left left' held held' : Op
 
 -- the same is written of the file of this name, where `later` says whether a line of a file before was selected
 pub record IsNamed (job : Job) (bytes : List ℕ) (later : Bool) (named : Job) : Type 0 where
-  pub shown : named.shown ≡ job.shown
-  pub invert : named.invert ≡ job.invert
-  pub fit : named.fit ≡ job.fit
-  pub name : named.style.name.now ≡ bytes
-  pub with_name : named.style.with_name ≡ job.style.with_name
-  pub null : named.style.null ≡ job.style.null
-  pub ending : named.style.ending ≡ job.style.ending
-  pub number : named.style.number ≡ job.style.number
-  pub offset : named.style.offset ≡ job.style.offset
-  pub color : named.style.color ≡ job.style.color
-  pub colors : named.style.colors ≡ job.style.colors
-  pub first : named.first ≡ job.first
-  pub most : named.most ≡ job.most
-  pub hushed : named.hushed ≡ job.hushed
-  pub hyphen : named.style.hyphen ≡ job.style.hyphen
-  pub tab : named.style.tab ≡ job.style.tab
-  pub separator : named.style.separator.now ≡ job.style.separator.now
-  pub form : named.style.form ≡ job.style.form
-  pub label : named.label.now ≡ job.label.now
-  pub context : named.context ≡ job.context
-  pub follows : named.follows ≡ later
-  pub guards : named.guards ≡ job.guards
-  pub text_alone : named.text_alone ≡ job.text_alone
+  pub name : Bor (List ℕ)
+  pub of : name.now ≡ bytes
+  pub is : named ≡ record job { style = record job.style { name = name }; follows = later }
 
 -- how a file is called in what is written
 abbrev pub shown_name : (label name : List ℕ) → List ℕ
@@ -214,43 +195,27 @@ pub record BeginsTotal (job : Job) (count : ℕ) (held held' : Option (List ℕ)
   pub cut : total_if job.shown job.style count ≡ begun ++ missing
   pub written : Appends held held' begun
 
--- a file whose bytes are these, where they are known, was not searched to its end, or not all was written: what is told of some
--- first lines is, and then no more than a beginning of what is shown of the next, or of what is asked of the file as a whole
-pub record BeginsPlain (p : Patterns) (job : Job) (known held held' : Option (List ℕ)) : Type 0 where
-  pub text : List ℕ
-  pub of : IfSome known (λ bytes. text ≡ bytes)
-  pub first : List (List ℕ)
-  pub left : List (List ℕ)
-  pub cut : lines_sought job text ≡ first ++ left
+-- what stands behind what is told of first lines of a text: what is asked of the file as a whole; where lines with a zero byte are kept
+-- from the output nothing, or that one of those is selected
+abbrev pub IsTail : Patterns → Job → List ℕ → (first : List (List ℕ)) → ℕ → List ℕ → Type 0
+IsTail p job text first count tail =
+    MatchBool (is_guarded job) ((tail ≡ []) ⊎ (TellsBinary p job text first count × (tail ≡ binary_by job.style))) (tail ≡ total_if job.shown job.style count)
+
+-- all that is told of a file of which these are the lines that are searched
+pub record TellsFirst (p : Patterns) (job : Job) (text : List ℕ) (first : List (List ℕ)) (all : List ℕ) : Type 0 where
   pub told : List ℕ
   pub count : ℕ
-  pub tells : TellsOfLines p job job.first 0 first told count
-  pub begun : List ℕ
-  pub starts : StartsNext p job (after_lines job.first first) count left begun ⊎ ((missing : List ℕ) × (total_if job.shown job.style count ≡ begun ++ missing))
-  pub written : Appends held held' (told ++ begun)
+  pub tells : TellsFile p job first told count
+  pub tail : List ℕ
+  pub behind : IsTail p job text first count tail
+  pub is : all ≡ told ++ tail
 
--- with lines around selected ones: a beginning of what is told of some first lines is
-pub record BeginsAround (p : Patterns) (job : Job) (context : Context) (known held held' : Option (List ℕ)) : Type 0 where
+-- a file whose bytes are these, where they are known, was not searched to its end, or not all was written: a beginning of what is told
+-- where some first lines are searched is
+pub record BeginsFile (p : Patterns) (job : Job) (known held held' : Option (List ℕ)) : Type 0 where
   pub text : List ℕ
   pub of : IfSome known (λ bytes. text ≡ bytes)
-  pub first : List (List ℕ)
-  pub left : List (List ℕ)
-  pub cut : lines_sought job text ≡ first ++ left
-  pub all : List ℕ
-  pub count : ℕ
-  pub tells : TellsAround p job context first all count
-  pub begun : List ℕ
-  pub missing : List ℕ
-  pub is : all ≡ begun ++ missing
-  pub written : Appends held held' begun
-
-abbrev pub BeginsFileIn : Patterns → Job → Option Context → (known held held' : Option (List ℕ)) → Type 0
-BeginsFileIn p job None known held held' = BeginsPlain p job known held held'
-BeginsFileIn p job (Some context) known held held' = BeginsAround p job context known held held'
-
--- or of what is told where lines with a zero byte are kept from the output
-abbrev pub BeginsFile : Patterns → Job → (known held held' : Option (List ℕ)) → Type 0
-BeginsFile p job known held held' = MatchBool (is_guarded job) (BeginsGuarded p job known held held') (BeginsFileIn p job (around_of job) known held held')
+  pub begins : BeginsOf (TellsFirst p job text) (lines_by (is_guarded job || takes_text job) job.style.ending text) held held'
 
 -- what is so where a file was not searched
 abbrev pub IfBroken : Outcome → Type 0 → Type 0

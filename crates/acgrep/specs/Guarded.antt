@@ -4,10 +4,10 @@ use Rattle.std.specs.Io.KnownBytes.{Appends, Consumes, IsAtEnd}
 use Rattle.aho_core.specs.Patterns.{Patterns}
 use Rattle.acgrep.specs.Binary.{is_text}
 use Rattle.acgrep.specs.Lines.{lines}
-use Rattle.acgrep.specs.Streamed.{BeginsBehind, BeginsSome, Course, ReadsSome, SearchesBehind}
+use Rattle.acgrep.specs.Streamed.{Course, ReadsSome, SearchesBehind, TextIf}
 use Rattle.acgrep.specs.Written.{IsAny}
-use Rattle.acgrep.specs.declared.guarded.Came.{Came}
-use Rattle.acgrep.specs.declared.guarded.Came.TheVariants.{Text, Binary, End}
+use Rattle.acgrep.specs.declared.stream.Came.{Came}
+use Rattle.acgrep.specs.declared.stream.Came.TheVariants.{Text, Binary, End}
 use Rattle.acgrep.specs.declared.select.Job.{Job}
 
 -- the first of some lines holds a zero byte
@@ -31,40 +31,31 @@ is_end Binary = false
 is_end End = true
 
 -- what is kept of bytes behind those that are searched
-abbrev pub IsKept : Came → (ending : ℕ) → List ℕ → Type 0
-IsKept Text ending kept = is_text kept ≡ true
-IsKept Binary ending kept = BeginsBinary ending kept
-IsKept End ending kept = is_text kept ≡ true
+abbrev pub IsKept : (alone : Bool) → Came → (ending : ℕ) → List ℕ → Type 0
+IsKept alone Text ending kept = TextIf alone kept
+IsKept alone Binary ending kept = (alone ≡ true) × BeginsBinary ending kept
+IsKept alone End ending kept = TextIf alone kept
 
--- bytes come behind those that are kept, and the whole lines of both are searched, up to the first that holds a zero byte
-pub record ReadsFront (p : Patterns) (job : Job) (c : Course) (kept_before kept_after : List ℕ) (came : Came) : Type 0 where
+-- bytes come behind those that are kept, and the whole lines of both are searched, or those up to the first that holds a zero byte alone
+pub record ReadsFront (p : Patterns) (job : Job) (alone : Bool) (c : Course) (kept_before kept_after : List ℕ) (came : Came) : Type 0 where
   pub some : ReadsSome p job c kept_before kept_after (is_end came)
-  pub text : is_text kept_before ≡ true → is_text some.searched ≡ true
-  pub left : is_text kept_before ≡ true → IsKept came job.style.ending kept_after
+  pub text : TextIf alone kept_before → TextIf alone some.searched
+  pub left : TextIf alone kept_before → IsKept alone came job.style.ending kept_after
 
--- or their search was begun
-pub record BeginsFront (p : Patterns) (job : Job) (c : Course) (kept : List ℕ) : Type 0 where
-  pub some : BeginsSome p job c kept
-  pub text : is_text kept ≡ true → is_text some.searched ≡ true
+-- whole lines of the bytes that were there and of what was read are searched, and these bytes are kept
+pub record SearchesFront (p : Patterns) (job : Job) (alone : Bool) (c : Course) (first kept : List ℕ) : Type 0 where
+  pub some : ReadsSome p job c first kept false
+  pub text : TextIf alone some.searched
 
--- whole lines of what was read are searched, none of which holds a zero byte, and these bytes are kept
-pub record SearchesFront (p : Patterns) (job : Job) (c : Course) (kept : List ℕ) : Type 0 where
-  pub some : ReadsSome p job c [] kept false
-  pub text : is_text some.searched ≡ true
-
--- no line with a zero byte came before the end, or before lines behind which nothing more is told
-pub record SearchesPast (p : Patterns) (job : Job) (c : Course) : Type 0 where
-  pub all : SearchesBehind p job c []
-  pub text : is_text all.searched ≡ true
+-- all are, or those before lines behind which nothing more is told
+pub record SearchesPast (p : Patterns) (job : Job) (alone : Bool) (c : Course) (first : List ℕ) : Type 0 where
+  pub all : SearchesBehind p job c first
+  pub text : TextIf alone all.searched
 
 -- the lines up to one that holds a zero byte are searched, which is kept, or there is none
-abbrev pub EndsFront : Patterns → Job → Course → (kept : List ℕ) → Bool → Type 0
-EndsFront p job c kept binary = MatchBool binary (SearchesFront p job c kept × BeginsBinary job.style.ending kept) (SearchesPast p job c)
-
--- of lines of what was read, none of which holds a zero byte, a beginning of what is told is written
-pub record BeginsPast (p : Patterns) (job : Job) (c : Course) : Type 0 where
-  pub all : BeginsBehind p job c []
-  pub text : is_text all.searched ≡ true
+abbrev pub EndsFront : Patterns → Job → (alone : Bool) → Course → (first kept : List ℕ) → Bool → Type 0
+EndsFront p job alone c first kept binary =
+    MatchBool binary ((alone ≡ true) × SearchesFront p job alone c first kept × BeginsBinary job.style.ending kept) (SearchesPast p job alone c first)
 
 -- bytes came behind those that are there, and it is known whether a line of both is selected, whatever follows; nothing is written
 pub record FindsSelected (p : Patterns) (job : Job) (kept : List ℕ) (left left' held held' : Option (List ℕ)) (any : Bool) : Type 0 where

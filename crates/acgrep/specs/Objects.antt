@@ -1,13 +1,8 @@
 -- What is written of a match with its fields: as a JSON object, or by a format.
-use Rattle.std.specs.Prelude.{ℕ, ◌+◌, ◌/◌, ◌%◌, ◌==◌, nat_lt, Bool, List, [], ◌∷◌, ◌++◌, Option, Result, OnOk, codes, decimal, if◌then◌else◌}
-use Rattle.std.specs.Io.KnownBytes.{Appends}
+use Rattle.std.specs.Prelude.{ℕ, ◌+◌, ◌/◌, ◌%◌, ◌==◌, nat_lt, List, [], ◌∷◌, ◌++◌, codes, decimal, if◌then◌else◌}
 use Rattle.std.specs.List.{flat_map}
 use Rattle.std.specs.Str.{is_utf8}
-use Rattle.std.specs.declared.io.traits.Write.{Ghosts as Writers}
 use Rattle.aho_core.specs.Occurrence.{Occurrence}
-use Rattle.aho_core.specs.Patterns.{Patterns}
-use Rattle.aho_automaton.specs.declared.automaton.Automaton.{Ghosts as Automata}
-use Rattle.acgrep.specs.Alone.{AreShownOf}
 use Rattle.acgrep.specs.Base64.{base64_of}
 use Rattle.acgrep.specs.Printed.{line_number_at, offset_at, part_of}
 use Rattle.acgrep.specs.declared.fields.Fields.{Fields}
@@ -105,15 +100,3 @@ object_by style place line m = if m.start == m.end then [] else object_in style.
 -- one match after another
 abbrev pub objects_by : Style → Place → List ℕ → List Occurrence → List ℕ
 objects_by style place line ms = flat_map (λ m. object_by style place line m) ms
-
--- the matches of a line are written as objects, one after another, and nothing else
-pub record WritesObjects (old new : Option (List ℕ)) (p : Patterns) (alone : Bool) (style : Style) (place : Place) (line : List ℕ) : Type 0 where
-  pub matches : List Occurrence
-  pub found : AreShownOf p alone line matches
-  pub written : Appends old new (objects_by style place line matches)
-
--- where a call does not fail the matches of the automaton's patterns were written so
-module _ {A W : Type 0} (automata : Automata A) (writers : Writers W) (automaton : A) (alone : Bool) (style : Style) (place : Place) (line : List ℕ) (old new : W) where
-  abbrev pub PutsObjects : {T E : Type 0} → Result T E → Type 0
-  PutsObjects result = (p : Patterns) → automata.is_of automaton p
-      → OnOk result (WritesObjects (writers.contents old) (writers.contents new) p alone style place line)

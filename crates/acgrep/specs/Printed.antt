@@ -5,9 +5,6 @@ use Rattle.std.specs.Iterator.Runs.{WholeRun}
 use Rattle.std.specs.List.{flat_map}
 use Rattle.std.specs.declared.io.traits.Write.{Ghosts as Writers}
 use Rattle.aho_core.specs.Occurrence.{Occurrence}
-use Rattle.aho_core.specs.Patterns.{Patterns}
-use Rattle.aho_automaton.specs.declared.automaton.Automaton.{Ghosts as Automata}
-use Rattle.acgrep.specs.Alone.{AreShownOf}
 use Rattle.acgrep.specs.declared.colors.Colors.{Colors}
 use Rattle.acgrep.specs.declared.print.Place.{Place}
 use Rattle.acgrep.specs.declared.print.Style.{Style}
@@ -111,24 +108,6 @@ colored_from style line at (m ∷ ms) = colored_by style line at m ++ colored_fr
 abbrev pub colored_line_by : Style → Place → List ℕ → List Occurrence → List ℕ
 colored_line_by style place line ms = head_of style (line_number_at place) place.bytes line ++ (colored_from style line 0 ms ++ (style.ending ∷ []))
 
--- the matches of a line, one after another, are written and nothing else
-pub record WritesFinds (old new : Option (List ℕ)) (p : Patterns) (alone : Bool) (style : Style) (place : Place) (line : List ℕ) : Type 0 where
-  pub matches : List Occurrence
-  pub found : AreShownOf p alone line matches
-  pub written : Appends old new (matches_by style place line matches)
-
--- the bytes of a line with its matches in colour are written, and nothing else
-pub record WritesColoredBytes (old new : Option (List ℕ)) (p : Patterns) (alone : Bool) (style : Style) (line : List ℕ) : Type 0 where
-  pub matches : List Occurrence
-  pub found : AreShownOf p alone line matches
-  pub written : Appends old new (colored_from style line 0 matches)
-
--- a line with its matches in colour is written, and nothing else
-pub record WritesColored (old new : Option (List ℕ)) (p : Patterns) (alone : Bool) (style : Style) (place : Place) (line : List ℕ) : Type 0 where
-  pub matches : List Occurrence
-  pub found : AreShownOf p alone line matches
-  pub written : Appends old new (colored_line_by style place line matches)
-
 module _ {W : Type 0} (writers : Writers W) (old new : W) where
   -- where a call does not fail these bytes were written, and nothing else
   abbrev pub Puts : {T E : Type 0} → Result T E → List ℕ → Type 0
@@ -138,19 +117,3 @@ module _ {W : Type 0} (writers : Writers W) (old new : W) where
   abbrev pub PutsEach : {S T E : Type 0} → (S → Option Occurrence → S → Type 0) → S → Result T E → (List Occurrence → List ℕ) → Type 0
   PutsEach steps matches result bytes =
       OnOk result (WholeRun steps matches (λ run. Appends (writers.contents old) (writers.contents new) (bytes run.items)))
-
--- where a call does not fail the bytes of a line were written so
-abbrev pub PutsColoredBytes : {A W T E : Type 0} → Automata A → Writers W → A → Bool → Style → List ℕ → W → W → Result T E → Type 0
-PutsColoredBytes automata writers automaton alone style line old new result = (p : Patterns) → automata.is_of automaton p
-    → OnOk result (WritesColoredBytes (writers.contents old) (writers.contents new) p alone style line)
-
-module _ {A W : Type 0} (automata : Automata A) (writers : Writers W) (automaton : A) (alone : Bool) (style : Style) (place : Place) (line : List ℕ) (old new : W) where
-  -- where a call does not fail a line was written with the matches of the automaton's patterns in colour
-  abbrev pub PutsColored : {T E : Type 0} → Result T E → Type 0
-  PutsColored result = (p : Patterns) → automata.is_of automaton p
-      → OnOk result (WritesColored (writers.contents old) (writers.contents new) p alone style place line)
-
-  -- or those matches were
-  abbrev pub PutsFinds : {T E : Type 0} → Result T E → Type 0
-  PutsFinds result = (p : Patterns) → automata.is_of automaton p
-      → OnOk result (WritesFinds (writers.contents old) (writers.contents new) p alone style place line)

@@ -8,13 +8,14 @@ use Rattle.aho_core.specs.Patterns.{Patterns}
 use Rattle.aho_automaton.specs.declared.automaton.Automaton.{Ghosts as Automata}
 use Rattle.aho_devices.specs.declared.device.Sink.{Ghosts as SinkGhosts}
 use Rattle.programs.specs.Names.{name_bytes}
-use Rattle.acgrep.specs.Contexts.{BeginsSearched, IsChosenBy, SearchesText, ShowsEach, ShowsGroup, WalksBegun, WalksLines, WalksText, walk_of}
+use Rattle.acgrep.specs.Contexts.{BeginsLines, BeginsSearched, IsChosenBy, SearchesText, ShowsEach, ShowsGroup, WalksBegun, WalksLines, WalksText, walk_of}
 use Rattle.acgrep.specs.Files.{AreFilesBegun, BeginsFile, IfBroken, IfSearched, SearchesFile, SearchesReader}
 use Rattle.acgrep.specs.Filled.{bytes_buffered}
 use Rattle.acgrep.specs.Guarded.{FindsSelected}
 use Rattle.acgrep.specs.Lines.{lines}
 use Rattle.acgrep.specs.Selected.{ForLines}
-use Rattle.acgrep.specs.Written.{BeginsLine, BeginsLines, EachLine, HasMatch, HasNone, IsMatched, IsSelected, SearchesPlain, SearchesTo, TellsLines, WritesLine, WritesNext}
+use Rattle.acgrep.specs.Streamed.{BeginsBehind}
+use Rattle.acgrep.specs.Written.{EachLine, HasMatch, HasNone, IsMatched, IsSelected, SearchesPlain, SearchesTo, TellsLines, WritesLine, WritesNext}
 use Rattle.acgrep.specs.declared.buffer.Buffer.{Buffer}
 use Rattle.acgrep.specs.declared.files.Outcome.{Outcome}
 use Rattle.acgrep.specs.declared.options.Context.{Context}
@@ -23,13 +24,9 @@ use Rattle.acgrep.specs.declared.print.Place.{Place}
 use Rattle.acgrep.specs.declared.select.Job.{Job}
 use Rattle.acgrep.specs.declared.select.State.{State}
 
--- what is asked of a selected line is written where a call does not fail, and where it fails a beginning of it
-module _ (Are : Patterns → Type 0) (job : Job) (place : Place) (held held' : Option (List ℕ)) (line : List ℕ) where
-  abbrev pub WritesLineBy : {T E : Type 0} → Result T E → Type 0
-  WritesLineBy result = (p : Patterns) → Are p → OnOk result (WritesLine p job place held held' line)
-
-  abbrev pub BeginsLineBy : {T E : Type 0} → Result T E → Type 0
-  BeginsLineBy result = (p : Patterns) → Are p → OnErr result (BeginsLine p job place held held' line)
+-- what is asked of a selected line is written where a call does not fail
+abbrev pub WritesLineBy : (Patterns → Type 0) → Job → Place → (held held' : Option (List ℕ)) → List ℕ → {T E : Type 0} → Result T E → Type 0
+WritesLineBy Are job place held held' line result = (p : Patterns) → Are p → OnOk result (WritesLine p job place held held' line)
 
 -- the same of a selected line behind others
 abbrev pub WritesNextBy : (Patterns → Type 0) → Job → State → (held held' : Option (List ℕ)) → List ℕ → {T E : Type 0} → Result T E → Type 0
@@ -158,6 +155,11 @@ module _ {A R W : Type 0} (automata : Automata A) (readers : Readers R) (sinks :
   abbrev pub BeginsGuardedBy : {T E : Type 0} → R → W → W → Result T E → Type 0
   BeginsGuardedBy reader old new result = ForLines job.style.ending (automata.is_of automaton)
       (λ p. OnErr result (BeginsFile p job (readers.remaining reader) (sinks.taken old) (sinks.taken new)))
+
+  -- the lines of what is there and comes are searched, and where a call fails a beginning of what is told of them is written
+  abbrev pub BeginsReadBy : {T E : Type 0} → (alone : Bool) → State → State → R → W → W → List ℕ → Result T E → Type 0
+  BeginsReadBy alone before after reader old new kept result = ForLines job.style.ending (automata.is_of automaton)
+      (λ p. OnErr result (BeginsBehind p job alone before after (sinks.taken old) (sinks.taken new) (readers.remaining reader) kept))
 
   -- whether a line is selected of those that are there or come
   abbrev pub FindsBy : {E : Type 0} → Buffer → R → R → W → W → Result Bool E → Type 0

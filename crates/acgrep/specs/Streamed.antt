@@ -1,10 +1,11 @@
 -- What is written of all that a reader gives.
-use Rattle.std.specs.Prelude.{◌≡◌, ◌⊎◌, ℕ, Bool, true, List, [], ◌++◌, Option}
+use Rattle.std.specs.Prelude.{◌≡◌, ◌⊎◌, ℕ, Bool, true, List, [], ◌++◌, Option, IfSome}
 use Rattle.std.specs.Io.KnownBytes.{Consumes, IsAtEnd}
 use Rattle.std.specs.declared.io.traits.Read.{Ghosts as Readers}
 use Rattle.aho_core.specs.Patterns.{Patterns}
 use Rattle.aho_devices.specs.declared.device.Sink.{Ghosts as SinkGhosts}
-use Rattle.acgrep.specs.Lines.{EndsLine, lines}
+use Rattle.acgrep.specs.Binary.{is_text, lines_by}
+use Rattle.acgrep.specs.Lines.{EndsLine}
 use Rattle.acgrep.specs.Contexts.{BeginsSearched, SearchesText}
 use Rattle.acgrep.specs.Written.{IsSettled}
 use Rattle.acgrep.specs.declared.select.Job.{Job}
@@ -34,16 +35,8 @@ abbrev pub course_of : {W R : Type 0} → SinkGhosts W → Readers R → State �
 course_of sinks readers before after output output' input input' =
     course before after (sinks.taken output) (sinks.taken output') (readers.remaining input) (readers.remaining input')
 
--- bytes that were read are searched: all that the reader had, or whole lines up to those with a selected one that tells all
-pub record SearchesStream (p : Patterns) (job : Job) (c : Course) : Type 0 where
-  pub searched : List ℕ
-  -- what was read behind them
-  pub rest : List ℕ
-  pub consumed : Consumes c.left_before c.left_after (searched ++ rest)
-  pub searches : SearchesText p job c.before c.after c.held_before c.held_after searched
-  pub ends : ((rest ≡ []) × IsAtEnd c.left_after) ⊎ (EndsLine job.style.ending searched × IsSettled job c.after)
-
--- the same of bytes that are there, and of those that were read behind them
+-- bytes that are there and those that were read behind them are searched: all that the reader had, or whole lines up to those with a
+-- selected one that tells all
 pub record SearchesBehind (p : Patterns) (job : Job) (c : Course) (kept : List ℕ) : Type 0 where
   pub came : List ℕ
   pub searched : List ℕ
@@ -71,40 +64,18 @@ pub record SearchesWhole (p : Patterns) (job : Job) (before after : State) (old 
   pub whole : EndsLine job.style.ending searched
   pub searches : SearchesText p job before after old new searched
 
--- the same of a search that is broken off: of the lines of these bytes a beginning of what is told was written
-pub record BeginsStream (p : Patterns) (job : Job) (c : Course) : Type 0 where
-  pub searched : List ℕ
-  -- what was read behind them
-  pub rest : List ℕ
-  pub consumed : Consumes c.left_before c.left_after (searched ++ rest)
-  pub begins : BeginsSearched p job c.before c.after.selected c.held_before c.held_after (lines job.style.ending searched)
-  -- the lines are whole ones
-  pub ends : EndsLine job.style.ending searched ⊎ ((rest ≡ []) × IsAtEnd c.left_after)
+-- whether bytes hold no zero byte, where that is asked
+abbrev pub TextIf : Bool → List ℕ → Type 0
+TextIf asked bytes = asked ≡ true → is_text bytes ≡ true
 
--- the same of bytes that are there, and of those that were read behind them
-pub record BeginsBehind (p : Patterns) (job : Job) (c : Course) (kept : List ℕ) : Type 0 where
-  pub came : List ℕ
-  pub searched : List ℕ
-  pub rest : List ℕ
-  pub consumed : Consumes c.left_before c.left_after came
-  pub cut : kept ++ came ≡ searched ++ rest
-  pub begins : BeginsSearched p job c.before c.after.selected c.held_before c.held_after (lines job.style.ending searched)
-  pub ends : EndsLine job.style.ending searched ⊎ ((rest ≡ []) × IsAtEnd c.left_after)
+-- the same of a search that is broken off: of first lines of the bytes that are there and of those that the reader has left behind
+-- them, or of the lines before the first that holds a zero byte alone, a beginning of what is told is written
+pub record BeginsBehind (p : Patterns) (job : Job) (alone : Bool) (before after : State) (old new left : Option (List ℕ)) (kept : List ℕ) : Type 0 where
+  pub text : List ℕ
+  pub of : IfSome left (λ bytes. text ≡ kept ++ bytes)
+  pub begins : BeginsSearched p job before after.selected old new (lines_by alone job.style.ending text)
 
--- bytes come behind those that are kept, and of the whole lines of both a beginning of what is told is written
-pub record BeginsSome (p : Patterns) (job : Job) (c : Course) (kept : List ℕ) : Type 0 where
-  pub came : List ℕ
-  pub searched : List ℕ
-  pub rest : List ℕ
-  pub consumed : Consumes c.left_before c.left_after came
-  pub cut : kept ++ came ≡ searched ++ rest
-  pub whole : EndsLine job.style.ending searched
-  pub begins : BeginsSearched p job c.before c.after.selected c.held_before c.held_after (lines job.style.ending searched)
-
--- of the whole lines of bytes a beginning of what is told is written
-pub record BeginsWhole (p : Patterns) (job : Job) (before after : State) (old new : Option (List ℕ)) (bytes : List ℕ) : Type 0 where
-  pub searched : List ℕ
-  pub rest : List ℕ
-  pub cut : bytes ≡ searched ++ rest
-  pub whole : EndsLine job.style.ending searched
-  pub begins : BeginsSearched p job before after.selected old new (lines job.style.ending searched)
+-- whatever the reader has left
+abbrev pub BeginsWhole : Patterns → Job → (before after : State) → (old new : Option (List ℕ)) → List ℕ → Type 0
+BeginsWhole p job before after old new bytes =
+    (alone : Bool) → TextIf alone bytes → (left : Option (List ℕ)) → BeginsBehind p job alone before after old new left bytes

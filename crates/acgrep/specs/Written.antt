@@ -205,37 +205,6 @@ pub record SearchesPlain (p : Patterns) (job : Job) (before after : State) (old 
   pub searches : SearchesTo p job before after old new text left
   pub ends : (left ≡ []) ⊎ IsSettled job after
 
--- a beginning of what is shown of a line
-pub record StartsLine (p : Patterns) (job : Job) (place : Place) (line begun : List ℕ) : Type 0 where
-  pub shown : List ℕ
-  pub shows : ShowsLine p job place line shown
-  pub missing : List ℕ
-  pub cut : shown ≡ begun ++ missing
-
--- that is written or nothing
-pub record BeginsLine (p : Patterns) (job : Job) (place : Place) (old new : Option (List ℕ)) (line : List ℕ) : Type 0 where
-  pub begun : List ℕ
-  pub starts : (begun ≡ []) ⊎ StartsLine p job place line begun
-  pub written : Appends old new begun
-
--- a beginning of what is shown of the first of these lines if it is selected and more are asked for, or nothing
-abbrev pub StartsNext : Patterns → Job → Place → ℕ → List (List ℕ) → List ℕ → Type 0
-StartsNext p job place count [] begun = begun ≡ []
-StartsNext p job place count (line ∷ rest) begun =
-    (begun ≡ []) ⊎ ((is_full job.most count ≡ false) × IsSelected p job.fit job.invert line × StartsLine p job place line begun)
-
--- what is told of some first ones of these lines is written, and then no more than a beginning of what is shown of the next;
--- `count` is how many lines were selected then
-pub record BeginsLines (p : Patterns) (job : Job) (before : State) (count : ℕ) (old new : Option (List ℕ)) (ls : List (List ℕ)) : Type 0 where
-  pub first : List (List ℕ)
-  pub left : List (List ℕ)
-  pub cut : ls ≡ first ++ left
-  pub told : List ℕ
-  pub tells : TellsOfLines p job before.place before.selected first told count
-  pub begun : List ℕ
-  pub starts : StartsNext p job (after_lines before.place first) count left begun
-  pub written : Appends old new (told ++ begun)
-
 -- some line is so
 abbrev pub SomeLine : (List ℕ → Type 0) → List (List ℕ) → Type 0
 SomeLine P [] = ⊥

@@ -14,7 +14,7 @@ use crate::held::Held;
 use crate::lines::{behind, line_end};
 use crate::options::Context;
 use crate::print::{Place, put_separator};
-use crate::select::{Job, State, behind_line, is_match, put_shown, show};
+use crate::select::{Job, State, behind_line, is_match, put_shown};
 use crate::trail::Trail;
 use chromesquid::{Automaton, Input, Sink, write_whole};
 use std::io;
@@ -225,7 +225,9 @@ fn pass_due<A: Lister, W: Sink>(
     ensures begun { BeginsPassedBy A.Automaton W.Sink automaton.now job.now
         state.old state.new output.old output.new context.now line.now result }
 {
-    show(automaton, &job.beside(), line, state.place, page, output)?;
+    page.clear();
+    put_shown(automaton, &job.beside(), line, state.place, page)?;
+    write_whole(output, page.as_slice())?;
     state.trail.due -= 1;
     state.place = behind_line(state.place, line);
     Ok(())

@@ -1,6 +1,6 @@
 //! What is told of a match: the file's name, where it stands, its pattern and its bytes.
 
-ghost use Rattle.std.specs.Prelude.{◌≡◌, ◌++◌, decimal};
+ghost use Rattle.std.specs.Prelude.{◌≡◌, decimal};
 ghost use Rattle.acgrep.specs.Objects.{fields_told, fields_by};
 ghost use Rattle.acgrep.specs.Printed.{Puts};
 

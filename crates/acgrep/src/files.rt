@@ -4,7 +4,6 @@ ghost use Rattle.std.specs.Prelude.{◌≡◌, ◌≤◌, ◌<◌, ◌⊎◌, []
 ghost use Rattle.std.specs.Io.KnownBytes.{Appends};
 ghost use Rattle.aho_core.specs.Patterns.{Patterns};
 ghost use Rattle.acgrep.specs.Binary.{takes_text};
-ghost use Rattle.acgrep.specs.Contexts.{IsBegin};
 ghost use Rattle.acgrep.specs.Filled.{ReadsOn};
 ghost use Rattle.programs.specs.Names.{name_bytes};
 ghost use Rattle.acgrep.specs.Told.{IsMessage, TellsIf, TellsOfEnd, TellsOfFiles, TellsOfOutcome, files_told};
@@ -16,13 +15,13 @@ ghost use Rattle.acgrep.specs.Selected.{ForJob};
 use crate::backed::Lister;
 use crate::buffer::Buffer;
 use crate::failure::Stop;
-use crate::guarded::{search_front, search_guarded};
+use crate::guarded::search_guarded;
 use crate::keys::{INPUT, is_input, open_named};
 use crate::open::Open;
 use crate::options::Shown;
-use crate::print::{Style, put_count, put_name};
+use crate::print::{put_count, put_name};
 use crate::select::{Job, State};
-use crate::stream::search_stream;
+use crate::stream::search_front;
 use crate::tell::tell_memory;
 use crate::unread::{tell_closed, tell_same, tell_stop, tell_total, tell_unreadable};
 use chromesquid::{Sink, write_whole};
@@ -434,38 +433,8 @@ fn search_one<A: Lister, R: Read, W: Sink, E: Sink>(
         };
     }
     state.begin(job);
-    if job.takes_text() {
-        return search_front_alone(automaton, job, buffer, reader, state, page, output, errors);
-    }
-    match search_stream(automaton, job, buffer, reader, state, page, output) {
-        Ok(()) => end_file(job, state, page, output, errors),
-        Err(stop) => break_off(job, state, &stop, page, output, errors),
-    }
-}
-
-/// Searches the lines before the first that holds a zero byte, and writes what is asked of them.
-fn search_front_alone<A: Lister, R: Read, W: Sink, E: Sink>(
-    automaton: &A,
-    job: &Job<'_>,
-    buffer: &mut Buffer,
-    reader: &mut R,
-    state: &mut State,
-    page: &mut Vec<u8>,
-    output: &mut W,
-    errors: &mut Errors<'_, E>,
-) -> Outcome
-    requires of { (p : Patterns) × A.is_of automaton.now p }
-    requires text { takes_text job.now ≡ true }
-    requires begun { IsBegin job.now state.old }
-    ensures searched { SearchesReaderBy A.Automaton R.Read W.Sink automaton.now job.now
-        reader.old reader.new output.old output.new result }
-    ensures begun { BeginsFileBy A.Automaton W.Sink automaton.now job.now
-        (R.remaining reader.old) output.old output.new result }
-    ensures reads { ReadsOn (R.remaining reader.old) (R.remaining reader.new) }
-    ensures told { TellsOfOutcome E.Sink job.now.hushed job.now.style.name.now result
-        errors.old errors.new }
-{
-    match search_front(automaton, job, buffer, reader, state, page, output) {
+    let alone = job.takes_text();
+    match search_front(automaton, job, alone, buffer, reader, state, page, output) {
         Ok(_) => end_file(job, state, page, output, errors),
         Err(stop) => break_off(job, state, &stop, page, output, errors),
     }
@@ -554,32 +523,10 @@ fn put_asked<W: Write>(job: &Job<'_>, selected: u64, output: &mut W) -> io::Resu
 fn job_for<'a>(job: &Job<'a>, name: &'a [u8], follows: bool) -> Job<'a>
     ensures named { IsNamed job.now name.now follows result }
 {
-    Job {
-        shown: job.shown,
-        invert: job.invert,
-        fit: job.fit,
-        style: Style {
-            name,
-            with_name: job.style.with_name,
-            null: job.style.null,
-            ending: job.style.ending,
-            number: job.style.number,
-            offset: job.style.offset,
-            color: job.style.color,
-            colors: job.style.colors,
-            hyphen: job.style.hyphen,
-            tab: job.style.tab,
-            separator: job.style.separator,
-            form: job.style.form,
-        },
-        label: job.label,
-        first: job.first,
-        most: job.most,
-        hushed: job.hushed,
-        context: job.context,
-        follows,
-        late: job.late,
-        guards: job.guards,
-        text_alone: job.text_alone,
-    }
+    let mut style = job.style;
+    style.name = name;
+    let mut named = *job;
+    named.style = style;
+    named.follows = follows;
+    named
 }

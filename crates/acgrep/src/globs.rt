@@ -4,7 +4,7 @@
 //! them. A backslash makes the byte behind it stand for itself. A bracket that nothing closes stands for itself too.
 
 ghost use Rattle.std.specs.Prelude.{◌≡◌, ◌≤◌, [], IfSome, length};
-ghost use Rattle.acgrep.specs.Globs.{any_suffix, base_name, begins_part, closing, fits, front_fits, has_behind, has_in_brackets, has_in_set, in_item, is_range, item_len, negation, operand_fits, own_len, part_len, range_end, range_len, stands_for, tails_fit, value_at};
+ghost use Rattle.acgrep.specs.Globs.{any_suffix, base_name, begins_part, closing, fits, front_fits, has_behind, has_in_brackets, has_in_set, in_item, is_range, item_len, negation, operand_fits, own_len, part_len, range_end, range_len, stands_for, value_at};
 
 /// What a name comes to where it is read along a glob, up to the first star.
 #[derive(Clone, Copy)]

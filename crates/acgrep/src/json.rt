@@ -1,87 +1,17 @@
 //! A match with its fields: as a JSON object, or by a format.
 
-ghost use Rattle.std.specs.Iterator.{IsFinite};
-ghost use Rattle.std.specs.Prelude.{◌≡◌, ◌<◌, ◌++◌, decimal, true};
-ghost use Rattle.aho_core.specs.Patterns.{Patterns};
+ghost use Rattle.std.specs.Prelude.{◌≡◌, ◌<◌, ◌++◌, decimal};
 ghost use Rattle.std.specs.Str.{is_utf8};
-ghost use Rattle.acgrep.specs.Printed.{Puts, PutsEach};
-ghost use Rattle.acgrep.specs.Objects.{PutsObjects, bytes_named, escaped_byte, fields_told, formatted_by, hex_of, json_by, json_escaped, object_by, objects_by, stands_for};
+ghost use Rattle.acgrep.specs.Printed.{Puts};
+ghost use Rattle.acgrep.specs.Objects.{bytes_named, escaped_byte, fields_told, formatted_by, hex_of, json_by, json_escaped, object_by, stands_for};
 
-use crate::alone::{behind_alone, next_alone};
-use crate::backed::Lister;
 use crate::base64::put_base64;
-use crate::failure::Stop;
 use crate::fields::{Fields, fields_of, put_decimal};
 use crate::format::Piece;
-use crate::listed::put_listed_objects;
 use crate::print::{Form, Place, Style};
-use chromesquid::{Automaton, Input, Match};
+use chromesquid::Match;
 use std::io::Write;
 use std::{io, str};
-
-/// Writes each match of a line that is not empty, or each of those that stand alone, as an object, and a newline behind it.
-pub fn put_objects<A: Lister, W: Write>(
-    automaton: &A,
-    output: &mut W,
-    alone: bool,
-    style: &Style<'_>,
-    place: Place,
-    line: &[u8],
-) -> Result<(), Stop>
-    requires of { (p : Patterns) × A.is_of automaton.now p }
-    ensures written { PutsObjects A.Automaton W.Write automaton.now
-        alone style.now place line.now output.old output.new result }
-{
-    if alone {
-        return put_alone(automaton, output, style, place, line);
-    }
-    if let Some(found) = automaton.list_finds(line) {
-        put_listed_objects(output, style, place, line, found.as_slice())?;
-        return Ok(());
-    }
-    let matches = automaton.try_find_iter(Input::new(line))?;
-    put_each(output, style, place, line, matches)?;
-    Ok(())
-}
-
-/// The same of the matches that stand alone.
-fn put_alone<A: Automaton, W: Write>(
-    automaton: &A,
-    output: &mut W,
-    style: &Style<'_>,
-    place: Place,
-    line: &[u8],
-) -> Result<(), Stop>
-    requires of { (p : Patterns) × A.is_of automaton.now p }
-    ensures written { PutsObjects A.Automaton W.Write automaton.now
-        true style.now place line.now output.old output.new result }
-{
-    let mut at = 0;
-    while let Some(found) = next_alone(automaton, line, at)? {
-        put_object(output, style, place, line, &found)?;
-        at = behind_alone(&found);
-    }
-    Ok(())
-}
-
-/// Writes each of some matches of a line.
-fn put_each<W: Write, I: Iterator<Item = Match> + Drop>(
-    output: &mut W,
-    style: &Style<'_>,
-    place: Place,
-    line: &[u8],
-    matches: I,
-) -> io::Result<()>
-    requires ready { I.can_next matches }
-    requires finite { IsFinite (I.remaining matches) }
-    ensures written { PutsEach W.Write output.old output.new
-        I.next_gives matches result (objects_by style.now place line.now) }
-{
-    for found in matches {
-        put_object(output, style, place, line, &found)?;
-    }
-    Ok(())
-}
 
 /// Writes a match, if it is not empty.
 pub fn put_object<W: Write>(

@@ -1,17 +1,11 @@
 //! Writing lines and matches with what stands before them.
 
-ghost use Rattle.std.specs.Iterator.{IsFinite};
-ghost use Rattle.std.specs.Prelude.{◌≡◌, ◌≤◌, IfOk, decimal, drop, true};
-ghost use Rattle.aho_core.specs.Patterns.{Patterns};
-ghost use Rattle.acgrep.specs.Printed.{Puts, PutsColored, PutsColoredBytes, PutsEach, PutsFinds, behind_match, colored_by, colored_from, count_by, escape_by, file_line, head_of, line_by, match_by, match_code, matches_by, name_ended, name_part, number_by, number_if, painted, part_by, part_of, separator_by, tab_before};
+ghost use Rattle.std.specs.Prelude.{◌≡◌, ◌≤◌, IfOk, decimal, drop};
+ghost use Rattle.acgrep.specs.Printed.{Puts, behind_match, colored_by, count_by, escape_by, file_line, head_of, line_by, match_by, match_code, name_ended, name_part, number_by, number_if, painted, part_by, part_of, separator_by, tab_before};
 
-use crate::alone::{behind_alone, next_alone};
-use crate::backed::Lister;
 use crate::colors::Colors;
-use crate::failure::Stop;
 use crate::format::Piece;
-use crate::listed::{put_listed, put_listed_colors};
-use chromesquid::{Automaton, Input, Match};
+use chromesquid::Match;
 use itoa::write_digits;
 use std::io;
 use std::io::Write;
@@ -159,7 +153,7 @@ fn put_number<W: Write>(
 }
 
 /// Writes what stands before a line, or before a match that begins at a place of it.
-fn put_head<W: Write>(
+pub fn put_head<W: Write>(
     output: &mut W,
     style: &Style<'_>,
     number: u64,
@@ -251,96 +245,6 @@ pub fn part<'t>(line: &'t [u8], start: usize, end: usize) -> &'t [u8]
     }
 }
 
-/// Writes a line with its matches coloured, or those that stand alone.
-pub fn put_colored_line<A: Lister, W: Write>(
-    automaton: &A,
-    output: &mut W,
-    alone: bool,
-    style: &Style<'_>,
-    place: Place,
-    line: &[u8],
-) -> Result<(), Stop>
-    requires of { (p : Patterns) × A.is_of automaton.now p }
-    ensures written { PutsColored A.Automaton W.Write automaton.now
-        alone style.now place line.now output.old output.new result }
-{
-    put_head(
-        output,
-        style,
-        place.lines.wrapping_add(1),
-        place.bytes,
-        line,
-    )?;
-    put_colored_bytes(automaton, output, alone, style, line)?;
-    output.write_all(&[style.ending])?;
-    Ok(())
-}
-
-/// Writes the bytes of a line with its matches coloured.
-fn put_colored_bytes<A: Lister, W: Write>(
-    automaton: &A,
-    output: &mut W,
-    alone: bool,
-    style: &Style<'_>,
-    line: &[u8],
-) -> Result<(), Stop>
-    requires of { (p : Patterns) × A.is_of automaton.now p }
-    ensures written { PutsColoredBytes A.Automaton W.Write automaton.now
-        alone style.now line.now output.old output.new result }
-{
-    if alone {
-        return put_colored_alone(automaton, output, style, line);
-    }
-    if let Some(found) = automaton.list_finds(line) {
-        put_listed_colors(output, style, line, found.as_slice())?;
-        return Ok(());
-    }
-    let matches = automaton.try_find_iter(Input::new(line))?;
-    put_colored(output, style, line, matches)?;
-    Ok(())
-}
-
-/// The same of the matches that stand alone.
-fn put_colored_alone<A: Automaton, W: Write>(
-    automaton: &A,
-    output: &mut W,
-    style: &Style<'_>,
-    line: &[u8],
-) -> Result<(), Stop>
-    requires of { (p : Patterns) × A.is_of automaton.now p }
-    ensures written { PutsColoredBytes A.Automaton W.Write automaton.now
-        true style.now line.now output.old output.new result }
-{
-    let mut at = 0;
-    let mut from = 0;
-    while let Some(found) = next_alone(automaton, line, from)? {
-        at = put_up_to(output, style, line, at, &found)?;
-        from = behind_alone(&found);
-    }
-    output.write_all(part(line, at, line.len()))?;
-    Ok(())
-}
-
-/// Writes the bytes of a line with some matches of it coloured.
-fn put_colored<W: Write, I: Iterator<Item = Match> + Drop>(
-    output: &mut W,
-    style: &Style<'_>,
-    line: &[u8],
-    matches: I,
-) -> io::Result<()>
-    requires ready { I.can_next matches }
-    requires finite { IsFinite (I.remaining matches) }
-    ensures written { PutsEach W.Write output.old output.new
-        I.next_gives matches result (colored_from style.now line.now 0) }
-{
-    let mut at = 0;
-    for found in matches {
-        at = put_up_to(output, style, line, at, &found)?;
-    }
-    output.write_all(part(line, at, line.len()))?;
-    Ok(())
-}
-
 /// Writes a line from a place on up to the end of a match, which is coloured, and answers that end. An empty match
 /// changes nothing.
 pub fn put_up_to<W: Write>(
@@ -362,70 +266,6 @@ pub fn put_up_to<W: Write>(
     output.write_all(part(line, at, start))?;
     put_painted(output, style, match_code(style), part(line, start, end))?;
     Ok(end)
-}
-
-/// Writes each match of a line that is not empty, or each of those that stand alone, with what stands before it.
-pub fn put_matches<A: Lister, W: Write>(
-    automaton: &A,
-    output: &mut W,
-    alone: bool,
-    style: &Style<'_>,
-    place: Place,
-    line: &[u8],
-) -> Result<(), Stop>
-    requires of { (p : Patterns) × A.is_of automaton.now p }
-    ensures written { PutsFinds A.Automaton W.Write automaton.now
-        alone style.now place line.now output.old output.new result }
-{
-    if alone {
-        return put_alone(automaton, output, style, place, line);
-    }
-    if let Some(found) = automaton.list_finds(line) {
-        put_listed(output, style, place, line, found.as_slice())?;
-        return Ok(());
-    }
-    let matches = automaton.try_find_iter(Input::new(line))?;
-    put_each(output, style, place, line, matches)?;
-    Ok(())
-}
-
-/// The same of the matches that stand alone.
-fn put_alone<A: Automaton, W: Write>(
-    automaton: &A,
-    output: &mut W,
-    style: &Style<'_>,
-    place: Place,
-    line: &[u8],
-) -> Result<(), Stop>
-    requires of { (p : Patterns) × A.is_of automaton.now p }
-    ensures written { PutsFinds A.Automaton W.Write automaton.now
-        true style.now place line.now output.old output.new result }
-{
-    let mut at = 0;
-    while let Some(found) = next_alone(automaton, line, at)? {
-        put_match(output, style, place, line, &found)?;
-        at = behind_alone(&found);
-    }
-    Ok(())
-}
-
-/// Writes each of some matches of a line.
-fn put_each<W: Write, I: Iterator<Item = Match> + Drop>(
-    output: &mut W,
-    style: &Style<'_>,
-    place: Place,
-    line: &[u8],
-    matches: I,
-) -> io::Result<()>
-    requires ready { I.can_next matches }
-    requires finite { IsFinite (I.remaining matches) }
-    ensures written { PutsEach W.Write output.old output.new
-        I.next_gives matches result (matches_by style.now place line.now) }
-{
-    for found in matches {
-        put_match(output, style, place, line, &found)?;
-    }
-    Ok(())
 }
 
 /// Writes a match with what stands before it, if it is not empty.

@@ -1,6 +1,6 @@
 //! A call over its arguments, files and streams.
 
-ghost use Rattle.std.specs.Prelude.{◌≡◌, ◌≤◌, ◌<◌, ◌⊎◌, [], IsTrue, None, false, nat_lt, true, unwrap_or};
+ghost use Rattle.std.specs.Prelude.{◌≡◌, ◌≤◌, ◌<◌, ◌⊎◌, [], IsTrue, None, false, true, unwrap_or};
 ghost use Rattle.std.specs.Io.KnownBytes.{Appends, Keeps};
 ghost use Rattle.aho_devices.specs.Counts.{AppendsBeginning};
 ghost use Rattle.aho_core.specs.Patterns.{Patterns};

@@ -6,7 +6,7 @@ ghost use Rattle.aho_core.specs.Patterns.{Patterns};
 ghost use Rattle.aho_core.specs.declared.search.MatchKind.TheVariants.{LeftmostLongest};
 ghost use Rattle.acgrep.specs.Alone.{asks_alone};
 ghost use Rattle.acgrep.specs.declared.options.Fit.TheVariants.{AnyPart, WholeLine};
-ghost use Rattle.acgrep.specs.Searched.{BeginsInvertedBy, BeginsLineBy, BeginsMatchBy, BeginsOneBy, BeginsOthersBy, BeginsSelectedBy, BeginsPlainBy, BeginsTextBy, SearchesPlainBy, SearchesSomeBy, SearchesTextBy, TellsInvertedBy, TellsLineBy, TellsMatchBy, TellsOthersBy, WritesLineBy, WritesNextBy};
+ghost use Rattle.acgrep.specs.Searched.{BeginsInvertedBy, BeginsMatchBy, BeginsOneBy, BeginsOthersBy, BeginsSelectedBy, BeginsPlainBy, BeginsTextBy, SearchesPlainBy, SearchesSomeBy, SearchesTextBy, TellsInvertedBy, TellsLineBy, TellsMatchBy, TellsOthersBy, WritesLineBy, WritesNextBy};
 ghost use Rattle.acgrep.specs.Selected.{EndsBy, FindsNone, ForJob, ForLines, IsLine, IsNextLine, IsNoneSelected, lines_by};
 ghost use Rattle.acgrep.specs.Written.{HasMatch, IsMatched, NumbersLines, IsSettled, SamePlace, after_line, after_lines, is_full, is_numbered, needs_one, next_count, place_behind, selects};
 
@@ -14,10 +14,10 @@ use crate::alone::has_alone;
 use crate::backed::Lister;
 use crate::context::search_around;
 use crate::failure::Stop;
-use crate::json::put_objects;
 use crate::lines::{behind, line_end, line_start};
+use crate::matches::{Shape, put_colored_line, put_matches};
 use crate::options::{Context, Fit, Shown};
-use crate::print::{Place, Style, put_colored_line, put_line, put_matches};
+use crate::print::{Place, Style, put_line};
 use crate::trail::Trail;
 use chromesquid::{Automaton, Input, MatchError, MatchKind, Sink, Span, write_whole};
 use memchr::memchr_iter;
@@ -420,7 +420,8 @@ fn pass_line<A: Lister, W: Sink>(
     Ok(())
 }
 
-/// Goes over a selected line. Where so many lines are selected already as are asked for nothing is written of it.
+/// Goes over a selected line. What is asked of it is put together first: where the output cannot be written to the end, what is
+/// there is a beginning of it. Where so many lines are selected already as are asked for nothing is written.
 fn pass_selected<A: Lister, W: Sink>(
     automaton: &A,
     job: &Job<'_>,
@@ -442,8 +443,10 @@ fn pass_selected<A: Lister, W: Sink>(
         state.place = behind_line(state.place, line);
         return Ok(());
     }
-    show(automaton, job, line, state.place, page, output)?;
+    page.clear();
+    put_shown(automaton, job, line, state.place, page)?;
     state.selected = state.selected.saturating_add(1);
+    write_whole(output, page.as_slice())?;
     state.place = behind_line(state.place, line);
     Ok(())
 }
@@ -548,29 +551,6 @@ fn endings(text: &[u8], ending: u8) -> u64
     memchr_iter(ending, text).count() as u64
 }
 
-/// Writes what is asked of a selected line. It is put together first: where the output cannot be written to the end, what is
-/// there is a beginning of it.
-pub fn show<A: Lister, W: Sink>(
-    automaton: &A,
-    job: &Job<'_>,
-    line: &[u8],
-    place: Place,
-    page: &mut Vec<u8>,
-    output: &mut W,
-) -> Result<(), Stop>
-    requires of { (p : Patterns) × A.is_of automaton.now p }
-    ensures shown { WritesLineBy (A.is_of automaton.now) job.now place
-        (W.taken output.old) (W.taken output.new) line.now result }
-    ensures begun { BeginsLineBy (A.is_of automaton.now) job.now place
-        (W.taken output.old) (W.taken output.new) line.now result }
-{
-    page.clear();
-    match put_shown(automaton, job, line, place, page) {
-        Ok(()) => Ok(write_whole(output, page.as_slice())?),
-        Err(stop) => Err(stop),
-    }
-}
-
 /// Puts together what is asked of a selected line.
 pub fn put_shown<A: Lister, W: Write>(
     automaton: &A,
@@ -583,27 +563,20 @@ pub fn put_shown<A: Lister, W: Write>(
     ensures shown { WritesLineBy (A.is_of automaton.now) job.now place
         (W.contents output.old) (W.contents output.new) line.now result }
 {
+    let alone = job.asks_alone();
     match job.shown {
         Shown::Lines if job.colors() => {
-            put_colored_line(automaton, output, job.asks_alone(), &job.style, place, line)
+            put_colored_line(automaton, output, alone, &job.style, place, line)
         }
         Shown::Lines => Ok(put_line(output, &job.style, place, line)?),
-        Shown::Matches if !job.invert => put_matches(
-            automaton,
-            output,
-            job.asks_alone(),
-            &job.style,
-            place,
-            line,
-        ),
-        Shown::Objects if !job.invert => put_objects(
-            automaton,
-            output,
-            job.asks_alone(),
-            &job.style,
-            place,
-            line,
-        ),
+        Shown::Matches if !job.invert => {
+            let shape = Shape::OnLines;
+            put_matches(automaton, output, shape, alone, &job.style, place, line)
+        }
+        Shown::Objects if !job.invert => {
+            let shape = Shape::AsFields;
+            put_matches(automaton, output, shape, alone, &job.style, place, line)
+        }
         _ => Ok(()),
     }
 }

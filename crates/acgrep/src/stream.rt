@@ -1,12 +1,15 @@
 //! Searching what a reader gives, in memory that is bounded by its longest line and by what is written of one line.
 
-ghost use Rattle.std.specs.Prelude.{◌≤◌, ◌-◌, ◌<◌, IfOk, OnErr, OnOk, length};
+ghost use Rattle.std.specs.Prelude.{◌≡◌, ◌≤◌, ◌-◌, ◌<◌, [], IfOk, IfSome, OnErr, OnOk, length, take, true};
 ghost use Rattle.std.specs.Io.KnownBytes.{Keeps};
 ghost use Rattle.aho_core.specs.Patterns.{Patterns};
+ghost use Rattle.acgrep.specs.Binary.{is_text};
 ghost use Rattle.acgrep.specs.Filled.{FillsBehind, ReadsOn, bytes_buffered};
+ghost use Rattle.acgrep.specs.Guarded.{EndsFront, IsZeroLine, ReadsFront};
 ghost use Rattle.acgrep.specs.Lines.{IsEnding};
+ghost use Rattle.acgrep.specs.Searched.{BeginsReadBy};
 ghost use Rattle.acgrep.specs.Selected.{ForJob};
-ghost use Rattle.acgrep.specs.Streamed.{BeginsBehind, BeginsSome, BeginsStream, BeginsWhole, ReadsSome, SearchesBehind, SearchesStream, SearchesWhole, course_of};
+ghost use Rattle.acgrep.specs.Streamed.{BeginsWhole, SearchesWhole, TextIf, course_of};
 
 use crate::backed::Lister;
 use crate::buffer::Buffer;
@@ -14,72 +17,27 @@ use crate::failure::Stop;
 use crate::lines::line_start;
 use crate::select::{Job, State, search_text};
 use chromesquid::Sink;
+use memchr::memchr;
 use programs::reason::Reason;
 use std::io::Read;
 
-/// Searches all that a reader gives. What is settled is handed on before each read.
-pub fn search_stream<A: Lister, R: Read, W: Sink>(
-    automaton: &A,
-    job: &Job<'_>,
-    buffer: &mut Buffer,
-    input: &mut R,
-    state: &mut State,
-    page: &mut Vec<u8>,
-    output: &mut W,
-) -> Result<(), Stop>
-    requires of { (p : Patterns) × A.is_of automaton.now p }
-    ensures written { ForJob job.now (A.is_of automaton.now) (λ p.
-        OnOk result (SearchesStream p job.now (course_of W.Sink R.Read
-        state.old state.new output.old output.new input.old input.new))) }
-
-    // Where it fails a beginning of that is written.
-    ensures begun { ForJob job.now (A.is_of automaton.now) (λ p.
-        OnErr result (BeginsStream p job.now (course_of W.Sink R.Read
-        state.old state.new output.old output.new input.old input.new))) }
-
-    // Whatever comes of it, the reader is only read.
-    ensures reads { ReadsOn (R.remaining input.old) (R.remaining input.new) }
-{
-    buffer.clear();
-    search_behind(automaton, job, buffer, input, state, page, output)
+/// What a read gave.
+#[derive(Clone, Copy)]
+enum Came {
+    /// Bytes, and none of them is 0 where that is asked.
+    Text,
+    /// A line that holds a zero byte, with which the buffer begins.
+    Binary,
+    /// Nothing.
+    End,
 }
 
-/// Searches what is there and all that a reader gives behind it.
-pub fn search_behind<A: Lister, R: Read, W: Sink>(
+/// Searches all that a reader gives, or the lines up to the first that holds a zero byte alone, and answers whether there is one. The
+/// buffer then begins with it. What is settled is handed on before each read.
+pub fn search_front<A: Lister, R: Read, W: Sink>(
     automaton: &A,
     job: &Job<'_>,
-    buffer: &mut Buffer,
-    input: &mut R,
-    state: &mut State,
-    page: &mut Vec<u8>,
-    output: &mut W,
-) -> Result<(), Stop>
-    requires of { (p : Patterns) × A.is_of automaton.now p }
-    ensures written { ForJob job.now (A.is_of automaton.now) (λ p.
-        OnOk result (SearchesBehind p job.now (course_of W.Sink R.Read
-        state.old state.new output.old output.new input.old input.new) (bytes_buffered buffer.old))) }
-    ensures begun { ForJob job.now (A.is_of automaton.now) (λ p.
-        OnErr result (BeginsBehind p job.now (course_of W.Sink R.Read
-        state.old state.new output.old output.new input.old input.new) (bytes_buffered buffer.old))) }
-    ensures reads { ReadsOn (R.remaining input.old) (R.remaining input.new) }
-{
-    let count = buffer.bytes().len();
-    search_whole(automaton, job, buffer, count, state, page, output)?;
-    for _ in 0..u64::MAX {
-        if job.is_done(state) {
-            return Ok(());
-        }
-        if read_some(automaton, job, buffer, input, state, page, output)? {
-            return search_text(automaton, job, buffer.bytes(), state, page, output);
-        }
-    }
-    Err(Stop::Read(Reason::Fault))
-}
-
-/// Reads once and searches the whole lines that are there, or tells that nothing came.
-fn read_some<A: Lister, R: Read, W: Sink>(
-    automaton: &A,
-    job: &Job<'_>,
+    alone: bool,
     buffer: &mut Buffer,
     input: &mut R,
     state: &mut State,
@@ -87,26 +45,127 @@ fn read_some<A: Lister, R: Read, W: Sink>(
     output: &mut W,
 ) -> Result<bool, Stop>
     requires of { (p : Patterns) × A.is_of automaton.now p }
-    ensures read { ForJob job.now (A.is_of automaton.now) (λ p.
-        IfOk result (ReadsSome p job.now (course_of W.Sink R.Read
-        state.old state.new output.old output.new input.old input.new)
+    ensures front { ForJob job.now (A.is_of automaton.now) (λ p. IfOk result (EndsFront p job.now alone
+        (course_of W.Sink R.Read state.old state.new output.old output.new input.old input.new)
+        [] (bytes_buffered buffer.new))) }
+
+    // Where it fails a beginning of that is written.
+    ensures begun { BeginsReadBy A.Automaton R.Read W.Sink automaton.now job.now alone
+        state.old state.new input.old output.old output.new [] result }
+
+    // Whatever comes of it, the reader is only read.
+    ensures reads { ReadsOn (R.remaining input.old) (R.remaining input.new) }
+{
+    buffer.clear();
+    search_behind(automaton, job, alone, buffer, input, state, page, output)
+}
+
+/// The same of what is there and all that a reader gives behind it.
+pub fn search_behind<A: Lister, R: Read, W: Sink>(
+    automaton: &A,
+    job: &Job<'_>,
+    alone: bool,
+    buffer: &mut Buffer,
+    input: &mut R,
+    state: &mut State,
+    page: &mut Vec<u8>,
+    output: &mut W,
+) -> Result<bool, Stop>
+    requires of { (p : Patterns) × A.is_of automaton.now p }
+    requires text { TextIf alone (bytes_buffered buffer.now) }
+    ensures front { ForJob job.now (A.is_of automaton.now) (λ p. IfOk result (EndsFront p job.now alone
+        (course_of W.Sink R.Read state.old state.new output.old output.new input.old input.new)
         (bytes_buffered buffer.old) (bytes_buffered buffer.new))) }
-    ensures begun { ForJob job.now (A.is_of automaton.now) (λ p.
-        OnErr result (BeginsSome p job.now (course_of W.Sink R.Read
-        state.old state.new output.old output.new input.old input.new)
-        (bytes_buffered buffer.old))) }
+    ensures begun { BeginsReadBy A.Automaton R.Read W.Sink automaton.now job.now alone
+        state.old state.new input.old output.old output.new (bytes_buffered buffer.old) result }
+    ensures reads { ReadsOn (R.remaining input.old) (R.remaining input.new) }
+{
+    let count = buffer.bytes().len();
+    search_whole(automaton, job, buffer, count, state, page, output)?;
+    for _ in 0..u64::MAX {
+        if job.is_done(state) {
+            return Ok(false);
+        }
+        match read_front(automaton, job, alone, buffer, input, state, page, output)? {
+            Came::Text => {}
+            Came::Binary => return Ok(true),
+            Came::End => {
+                search_text(automaton, job, buffer.bytes(), state, page, output)?;
+                return Ok(false);
+            }
+        }
+    }
+    Err(Stop::Read(Reason::Fault))
+}
+
+/// Reads once and searches the whole lines that are there, or those up to the first that holds a zero byte alone.
+fn read_front<A: Lister, R: Read, W: Sink>(
+    automaton: &A,
+    job: &Job<'_>,
+    alone: bool,
+    buffer: &mut Buffer,
+    input: &mut R,
+    state: &mut State,
+    page: &mut Vec<u8>,
+    output: &mut W,
+) -> Result<Came, Stop>
+    requires of { (p : Patterns) × A.is_of automaton.now p }
+    ensures read { ForJob job.now (A.is_of automaton.now) (λ p. IfOk result (ReadsFront p job.now alone
+        (course_of W.Sink R.Read state.old state.new output.old output.new input.old input.new)
+        (bytes_buffered buffer.old) (bytes_buffered buffer.new))) }
+    ensures begun { TextIf alone (bytes_buffered buffer.old)
+        → BeginsReadBy A.Automaton R.Read W.Sink automaton.now job.now alone
+        state.old state.new input.old output.old output.new (bytes_buffered buffer.old) result }
     ensures reads { ReadsOn (R.remaining input.old) (R.remaining input.new) }
 {
     let count = read_more(buffer, input, output)?;
     if count == 0 {
-        return Ok(true);
+        return Ok(Came::End);
     }
-    search_whole(automaton, job, buffer, count, state, page, output)?;
-    Ok(false)
+    match first_zero(alone, buffer.bytes(), count, job.style.ending) {
+        Some(start) => {
+            let text = &buffer.bytes()[..start];
+            search_text(automaton, job, text, state, page, output)?;
+            buffer.drop_front(start);
+            Ok(Came::Binary)
+        }
+        None => {
+            search_whole(automaton, job, buffer, count, state, page, output)?;
+            Ok(Came::Text)
+        }
+    }
+}
+
+/// Where the first line begins that holds a zero byte, if that is asked.
+fn first_zero(alone: bool, bytes: &[u8], count: usize, ending: u8) -> Option<usize>
+    ensures asked { IfSome result (λ start. alone ≡ true) }
+    ensures within { IfSome result (λ start. start ≤ length bytes.now) }
+    ensures ends { IfSome result (λ start. 0 < start → IsEnding ending bytes.now (start - 1)) }
+    ensures zero { alone ≡ true → is_text (take (length bytes.now - count) bytes.now) ≡ true
+        → IsZeroLine ending bytes.now result }
+{
+    if alone {
+        return zero_line(bytes, count, ending);
+    }
+    None
+}
+
+/// Where the first line begins that holds a zero byte, where the last `count` bytes alone can be one.
+fn zero_line(bytes: &[u8], count: usize, ending: u8) -> Option<usize>
+    ensures within { IfSome result (λ start. start ≤ length bytes.now) }
+    ensures ends { IfSome result (λ start. 0 < start → IsEnding ending bytes.now (start - 1)) }
+    ensures zero { is_text (take (length bytes.now - count) bytes.now) ≡ true
+        → IsZeroLine ending bytes.now result }
+{
+    let before = bytes.len().saturating_sub(count);
+    match memchr(0, &bytes[before..]) {
+        Some(zero) => Some(line_start(&bytes[..before + zero], ending)),
+        None => None,
+    }
 }
 
 /// Reads once behind what is there, and answers how many bytes came. What is settled is handed on before.
-pub fn read_more<R: Read, W: Sink>(
+fn read_more<R: Read, W: Sink>(
     buffer: &mut Buffer,
     input: &mut R,
     output: &mut W,
@@ -125,7 +184,7 @@ pub fn read_more<R: Read, W: Sink>(
 }
 
 /// Searches the whole lines, where a line can end among the last `count` bytes alone, and keeps what follows.
-pub fn search_whole<A: Lister, W: Sink>(
+fn search_whole<A: Lister, W: Sink>(
     automaton: &A,
     job: &Job<'_>,
     buffer: &mut Buffer,

@@ -1,15 +1,15 @@
 -- A line is selected or not.
-use Rattle.std.proofs.Common.{[], ◌∷◌, subst}
+use Rattle.std.proofs.Common.{[], ◌∷◌, refl, subst}
 use Rattle.std.proofs.KnownBytes.{Appends-nil}
-use Rattle.acgrep.specs.Contexts.{IsChosenBy, walk_of}
+use Rattle.acgrep.specs.Contexts.{IsChosenBy, WalksSome, walk_of}
 use Rattle.acgrep.proofs.Beginnings.{on_err}
-use Rattle.acgrep.proofs.Walked.{begun_nothing}
+use Rattle.acgrep.proofs.Begun.{begins_nothing}
 use Rattle.acgrep.proofs.context.pass_any.Goals as goal
 
 pub returns-in_err-is_chosen-clause-begun : goal.returns-in_err-is_chosen-clause-begun
 returns-in_err-is_chosen-clause-begun g c = λ p is.
     let held = g.W.Sink.taken c.args.output.now in
-    on_err c.from_residual.result (begun_nothing p c.args.job.now c.args.context.now (walk_of c.args.state.now) held held (c.args.line.now ∷ []) (Appends-nil held))
+    on_err c.from_residual.result (begins_nothing (WalksSome p c.args.job.now c.args.context.now (walk_of c.args.state.now)) (c.args.line.now ∷ []) held held [] (walk_of c.args.state.now, (refl, refl)) (Appends-nil held))
 
 pub returns-then-branch-clause-walks : goal.returns-then-branch-clause-walks
 returns-then-branch-clause-walks g c = λ p is.

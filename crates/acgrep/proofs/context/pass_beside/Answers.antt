@@ -1,10 +1,10 @@
 -- A line that is passed over is held.
 use Rattle.std.proofs.Common.{◌≡◌, [], ◌∷◌, refl, ap, arith}
 use Rattle.std.proofs.KnownBytes.{Appends-nil}
-use Rattle.acgrep.specs.Contexts.{Holding, walk_of}
+use Rattle.acgrep.specs.Contexts.{Holding, WalksSome, walk_of}
 use Rattle.acgrep.proofs.Beginnings.{on_err}
+use Rattle.acgrep.proofs.Begun.{begins_nothing}
 use Rattle.acgrep.proofs.Stepped.{passed_lines, walk_same}
-use Rattle.acgrep.proofs.Walked.{begun_nothing}
 use Rattle.acgrep.proofs.context.pass_beside.Goals as goal
 
 pub returns-clause-walks : goal.returns-clause-walks
@@ -17,4 +17,4 @@ returns-clause-walks g c = λ p is passed.
 pub returns-in_err-hold-clause-begun : goal.returns-in_err-hold-clause-begun
 returns-in_err-hold-clause-begun g c = λ p is passed.
     let held = g.W.Sink.taken c.args.output.now in
-    on_err c.from_residual.result (begun_nothing p c.args.job.now c.args.context.now (walk_of c.args.state.now) held held (c.args.line.now ∷ []) (Appends-nil held))
+    on_err c.from_residual.result (begins_nothing (WalksSome p c.args.job.now c.args.context.now (walk_of c.args.state.now)) (c.args.line.now ∷ []) held held [] (walk_of c.args.state.now, (refl, refl)) (Appends-nil held))

@@ -1,5 +1,5 @@
 -- Without a pattern nothing is written.
-use Rattle.std.proofs.Common.{◌≡◌, Some, inl, inr, refl, ℕ, ◌<◌, false, List, [], ◌∷◌, Bor, length, subst, sym, ◌∙◌, arith}
+use Rattle.std.proofs.Common.{◌≡◌, inl, inr, refl, ℕ, ◌<◌, false, List, [], ◌∷◌, Bor, length, subst, sym, ◌∙◌, arith}
 use Rattle.std.proofs.KnownBytes.{Keeps-refl}
 use Rattle.std.proofs.lemmas.Grind.{common_steps}
 use Rattle.std.specs.List.{concat}

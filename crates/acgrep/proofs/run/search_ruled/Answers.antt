@@ -1,5 +1,5 @@
 -- The rules in files were read, and what was said was done by them.
-use Rattle.std.proofs.Common.{◌≡◌, ℕ, List, Some, ap, inl, inr, refl, subst}
+use Rattle.std.proofs.Common.{◌≡◌, List, Some, ap, inl, inr, refl, subst}
 use Rattle.std.proofs.KnownBytes.{Keeps-refl}
 use Rattle.std.specs.List.{concat}
 use Rattle.programs.specs.Telling.{TellsSome}

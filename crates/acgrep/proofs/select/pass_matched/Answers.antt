@@ -1,7 +1,9 @@
 -- A line in which a pattern occurs matches or not.
-use Rattle.std.proofs.Common.{[], ◌∷◌}
+use Rattle.std.proofs.Common.{[], ◌∷◌, None, refl}
 use Rattle.std.proofs.KnownBytes.{Appends-nil}
-use Rattle.acgrep.proofs.Beginnings.{begins_none, on_err}
+use Rattle.acgrep.specs.Contexts.{TellsFrom}
+use Rattle.acgrep.proofs.Beginnings.{on_err}
+use Rattle.acgrep.proofs.Begun.{begins_nothing}
 use Rattle.acgrep.proofs.select.pass_matched.Goals as goal
 
 pub returns-clause-written : goal.returns-clause-written
@@ -13,4 +15,4 @@ returns-clause-begun g c = λ p is has. c.pass_line.ensures.begun p is (c.in_ok-
 pub returns-in_err-matched-clause-begun : goal.returns-in_err-matched-clause-begun
 returns-in_err-matched-clause-begun g c = λ p is has.
     let held = g.W.Sink.taken c.args.output.now in
-    on_err c.from_residual.result (begins_none p c.args.job.now c.args.state.now held held (c.args.line.now ∷ []) (Appends-nil held))
+    on_err c.from_residual.result (begins_nothing (TellsFrom p c.args.job.now None c.args.state.now c.args.state.now.selected) (c.args.line.now ∷ []) held held [] (refl, refl) (Appends-nil held))

@@ -1,8 +1,11 @@
 -- Of the line a beginning is written, or nothing.
-use Rattle.std.proofs.Common.{rules, ◌≡◌, Bool, refl, subst, sym, ap, ◌∙◌}
+use Rattle.std.proofs.Common.{rules, ◌≡◌, ℕ, [], ◌∷◌, Bool, None, refl, subst, sym, ap, ◌∙◌}
 use Rattle.std.specs.Prelude.{MatchBool, if◌then◌else◌}
+use Rattle.std.proofs.KnownBytes.{Appends-nil}
+use Rattle.acgrep.specs.Contexts.{BeginsLines, TellsFrom}
 use Rattle.acgrep.specs.Written.{WritesLine, is_full, one_more}
-use Rattle.acgrep.proofs.Beginnings.{begins_one, on_err}
+use Rattle.acgrep.proofs.Beginnings.{begins_one, on_err, page_writes}
+use Rattle.acgrep.proofs.Begun.{begins_nothing}
 use Rattle.acgrep.proofs.select.pass_selected.Goals as goal
 
 pub returns-then-is_full-clause-counted : goal.returns-then-is_full-clause-counted
@@ -25,11 +28,21 @@ returns-clause-counted g c =
 pub returns-clause-shown : goal.returns-clause-shown
 returns-clause-shown g c = λ p is.
     let held = g.W.Sink.taken c.args.output.now in
-    let held' = g.W.Sink.taken c.show.new.output in
+    let held' = g.W.Sink.taken c.write_whole.new.sink in
     subst (λ (b : Bool). MatchBool b (held' ≡ held) (WritesLine p c.args.job.now c.args.state.now.place held held' c.args.line.now)) (sym c.if-is_full.false ∙ c.is_full.ensures.full)
-    (c.in_ok-show.ensures.shown p is)
+    (page_writes p c.args.job.now c.args.state.now.place held held' c.args.line.now c.clear.new.self.items c.put_shown.new.output.items c.as_slice.result.now
+    c.clear.ensures.items c.as_slice.ensures.value (c.in_ok-put_shown.ensures.shown p is) c.in_ok-write_whole.ensures.whole)
 
-pub returns-in_err-show-clause-begun : goal.returns-in_err-show-clause-begun
-returns-in_err-show-clause-begun g c = λ p is selected.
-    on_err c.from_residual.result (begins_one p c.args.job.now c.args.state.now (g.W.Sink.taken c.args.output.now) (g.W.Sink.taken c.show.new.output) c.args.line.now
-    (sym c.is_full.ensures.full ∙ c.if-is_full.false) selected (c.in_err-show.ensures.begun p is))
+pub returns-in_err-put_shown-clause-begun : goal.returns-in_err-put_shown-clause-begun
+returns-in_err-put_shown-clause-begun g c = λ p is selected.
+    let held = g.W.Sink.taken c.args.output.now in
+    on_err c.from_residual.result (begins_nothing (TellsFrom p c.args.job.now None c.args.state.now c.args.state.now.selected) (c.args.line.now ∷ []) held held [] (refl, refl) (Appends-nil held))
+
+pub returns-in_err-write_whole-clause-begun : goal.returns-in_err-write_whole-clause-begun
+returns-in_err-write_whole-clause-begun g c = λ p is selected.
+    let held = g.W.Sink.taken c.args.output.now in
+    let held' = g.W.Sink.taken c.write_whole.new.sink in
+    on_err c.from_residual-in_err-write_whole.result
+    (subst (λ (n : ℕ). BeginsLines p c.args.job.now c.args.state.now n held held' (c.args.line.now ∷ [])) (sym c.saturating_add-state.ensures)
+    (begins_one p c.args.job.now c.args.state.now held held' c.args.line.now c.clear.new.self.items c.put_shown.new.output.items c.as_slice.result.now
+    (sym c.is_full.ensures.full ∙ c.if-is_full.false) selected c.clear.ensures.items c.as_slice.ensures.value (c.in_ok-put_shown.ensures.shown p is) c.in_err-write_whole.ensures.beginning))

@@ -1,11 +1,13 @@
 -- The lines before the one that was found have no match, and it has one.
-use Rattle.std.proofs.Common.{◌≡◌, ℕ, ◌+◌, ◌-◌, List, [], ◌∷◌, ◌++◌, length, take, drop, sym, ◌∙◌, ap, subst, arith}
+use Rattle.std.proofs.Common.{◌≡◌, ℕ, ◌+◌, ◌-◌, List, [], ◌∷◌, ◌++◌, None, length, take, drop, refl, sym, ◌∙◌, ap, subst, arith}
 use Rattle.std.specs.Prelude.{slice_range}
+use Rattle.acgrep.specs.Contexts.{TellsFrom}
 use Rattle.acgrep.specs.Lines.{lines}
 use Rattle.acgrep.specs.Selected.{IsFirstWith, IsNextLine}
 use Rattle.acgrep.specs.Written.{HasNone}
 use Rattle.std.proofs.KnownBytes.{Appends-nil}
-use Rattle.acgrep.proofs.Beginnings.{begins_front, begins_line, begins_none, on_err}
+use Rattle.acgrep.proofs.Beginnings.{begins_front, begins_line, on_err}
+use Rattle.acgrep.proofs.Begun.{begins_nothing}
 use Rattle.acgrep.proofs.LineLists.{cut_lines, first_has, front_ends, front_lines, none_in_lines, take_zero}
 use Rattle.acgrep.proofs.Tellings.{searches_all, searches_line}
 use Rattle.acgrep.proofs.select.search_some.Goals as goal
@@ -41,7 +43,7 @@ returns-in_ok-pass_others-in-None-clause-written g c = λ p is plain.
 pub returns-in_err-line-clause-begun : goal.returns-in_err-line-clause-begun
 returns-in_err-line-clause-begun g c = λ p is plain.
     let held = g.W.Sink.taken c.args.output.now in
-    on_err c.from_residual.result (begins_none p c.args.job.now c.args.state.now held held (lines c.args.job.now.style.ending c.args.text.now) (Appends-nil held))
+    on_err c.from_residual.result (begins_nothing (TellsFrom p c.args.job.now None c.args.state.now c.args.state.now.selected) (lines c.args.job.now.style.ending c.args.text.now) held held [] (refl, refl) (Appends-nil held))
 
 pub returns-in_err-pass_others-in-Some-clause-begun : goal.returns-in_err-pass_others-in-Some-clause-begun
 returns-in_err-pass_others-in-Some-clause-begun g c = λ p is plain.

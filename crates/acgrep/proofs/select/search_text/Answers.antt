@@ -2,7 +2,8 @@
 use Rattle.std.proofs.Common.{◌≡◌, ◌∙◌, Option, None, Some, sym, subst}
 use Rattle.std.specs.Prelude.{OnErr, OnOk}
 use Rattle.std.proofs.lemmas.Result.{on_ok_weaker}
-use Rattle.acgrep.specs.Contexts.{BeginsAsked, SearchesIn, around_of}
+use Rattle.acgrep.specs.Begun.{BeginsOf}
+use Rattle.acgrep.specs.Contexts.{SearchesIn, TellsFrom, around_of}
 use Rattle.acgrep.specs.Lines.{lines}
 use Rattle.acgrep.specs.declared.options.Context.{Context}
 use Rattle.acgrep.proofs.NoneAround.{walks_nothing}
@@ -23,8 +24,8 @@ returns-in-Some-clause-written g c = λ p is plain.
 pub returns-in-Some-clause-begun : goal.returns-in-Some-clause-begun
 returns-in-Some-clause-begun g c = λ p is plain.
     let around : Some c.in-Some.context ≡ around_of c.args.job.now = sym c.in-Some.is ∙ c.around.ensures.around in
-    subst (λ (asked : Option Context). OnErr c.search_around.result (BeginsAsked p c.args.job.now asked c.args.state.now c.search_around.new.state.selected
-    (g.W.Sink.taken c.args.output.now) (g.W.Sink.taken c.search_around.new.output) (lines c.args.job.now.style.ending c.args.text.now))) around (c.search_around.ensures.begun p is)
+    subst (λ (asked : Option Context). OnErr c.search_around.result (BeginsOf (TellsFrom p c.args.job.now asked c.args.state.now c.search_around.new.state.selected)
+    (lines c.args.job.now.style.ending c.args.text.now) (g.W.Sink.taken c.args.output.now) (g.W.Sink.taken c.search_around.new.output))) around (c.search_around.ensures.begun p is)
 
 pub returns-in-None-clause-written : goal.returns-in-None-clause-written
 returns-in-None-clause-written g c = λ p is plain.
@@ -35,5 +36,5 @@ returns-in-None-clause-written g c = λ p is plain.
 pub returns-in-None-clause-begun : goal.returns-in-None-clause-begun
 returns-in-None-clause-begun g c = λ p is plain.
     let around : None ≡ around_of c.args.job.now = sym c.in-None.is ∙ c.around.ensures.around in
-    subst (λ (asked : Option Context). OnErr c.search_plain.result (BeginsAsked p c.args.job.now asked c.args.state.now c.search_plain.new.state.selected
-    (g.W.Sink.taken c.args.output.now) (g.W.Sink.taken c.search_plain.new.output) (lines c.args.job.now.style.ending c.args.text.now))) around (c.search_plain.ensures.begun p is plain)
+    subst (λ (asked : Option Context). OnErr c.search_plain.result (BeginsOf (TellsFrom p c.args.job.now asked c.args.state.now c.search_plain.new.state.selected)
+    (lines c.args.job.now.style.ending c.args.text.now) (g.W.Sink.taken c.args.output.now) (g.W.Sink.taken c.search_plain.new.output))) around (c.search_plain.ensures.begun p is plain)

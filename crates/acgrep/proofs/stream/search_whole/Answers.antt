@@ -1,5 +1,5 @@
 -- The whole lines are searched, and dropped from the buffer.
-use Rattle.std.proofs.Common.{ℕ, ◌-◌, ◌≡◌, ◌≤◌, ◌<◌, List, length, refl, subst, take}
+use Rattle.std.proofs.Common.{ℕ, ◌-◌, ◌≡◌, ◌≤◌, ◌<◌, List, length, subst, take}
 use Rattle.acgrep.specs.Lines.{IsEnding, lines}
 use Rattle.acgrep.specs.Contexts.{BeginsSearched, SearchesText}
 use Rattle.acgrep.proofs.Beginnings.{on_err}
@@ -29,7 +29,7 @@ returns-in_err-search_text-clause-begun g c = λ p is plain.
     let state = c.search_text.new.state in
     let held = g.W.Sink.taken c.args.output.now in
     let held' = g.W.Sink.taken c.search_text.new.output in
-    on_err c.from_residual.result (whole_begins p c.args.job.now c.args.state.now state.selected state held held' bytes whole refl
+    on_err c.from_residual.result (whole_begins p c.args.job.now c.args.state.now state held held' bytes whole
     (subst (λ (l : List ℕ). whole ≤ length l) same c.whole_lines-whole.ensures.within)
     (subst (λ (l : List ℕ). 0 < whole → IsEnding c.args.job.now.style.ending l (whole - 1)) same c.whole_lines-whole.ensures.ends)
     (subst (λ (l : List ℕ). BeginsSearched p c.args.job.now c.args.state.now state.selected held held' (lines c.args.job.now.style.ending (take whole l)))

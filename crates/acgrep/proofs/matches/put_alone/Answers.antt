@@ -1,9 +1,9 @@
--- Whatever comes, it is written behind the others in colour.
+-- Whatever comes, it is written behind the others.
 use Rattle.std.proofs.Common.{[], ◌∷◌, ◌++◌, Some, subst}
 use Rattle.acgrep.specs.Alone.{IsNextAlone}
 use Rattle.acgrep.proofs.AloneTried.{alone_behind, alone_end, alone_step}
-use Rattle.acgrep.proofs.Coloring.{colored_end, colored_step}
-use Rattle.acgrep.proofs.print.put_colored_alone.Goals as goal
+use Rattle.acgrep.proofs.Coloring.{put_end, put_step}
+use Rattle.acgrep.proofs.matches.put_alone.Goals as goal
 
 pub loop-found-preserved : goal.loop-found-preserved
 loop-found-preserved g c =
@@ -20,7 +20,7 @@ loop-found-preserved g c =
           let next : IsNextAlone p line from (Some found) = subst (IsNextAlone p line from) c.in-Some.is (c.in_ok-found.ensures.next p is) in (
             ms ++ (found ∷ []),
             alone_step p line from c.behind_alone-from.result ms found behind next so_far,
-            colored_step c.args.style.now line ms found c.loop-found.at c.in_ok-at.at (held c.args.output.now) (held c.loop-found.output) (held c.put_up_to.new.output)
+            put_step c.args.shape c.args.style.now c.args.place line ms found c.loop-found.at c.in_ok-at.at (held c.args.output.now) (held c.loop-found.output) (held c.put_found.new.output)
                 c.in_ok-at.ensures.behind c.in_ok-at.ensures.written written,
           );
     }
@@ -28,7 +28,6 @@ loop-found-preserved g c =
 pub returns : goal.returns
 returns g c =
     let held = g.W.Write.contents in
-    let last = rw c.part.ensures.part at c.in_ok-write_all.ensures.bytes in
     record {
       written = λ p is.
           let line = c.args.line.now in
@@ -37,6 +36,6 @@ returns g c =
           record {
             matches = ms;
             found = alone_end p line from ms (subst (IsNextAlone p line from) c.in_default.is (c.in_ok-found.ensures.next p is)) so_far;
-            written = colored_end c.args.style.now line ms c.loop-found.at (held c.args.output.now) (held c.loop-found.output) (held c.write_all.new.self) last written;
+            written = put_end c.args.shape c.args.style.now c.args.place line ms c.loop-found.at (held c.args.output.now) (held c.loop-found.output) (held c.put_rest.new.output) c.in_ok-put_rest.ensures.written written;
           };
     }

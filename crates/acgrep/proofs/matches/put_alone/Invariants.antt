@@ -1,16 +1,16 @@
--- The matches that came so far were written in colour, and what stands between them.
+-- The matches that came so far were written, and what stands between them.
 use Rattle.std.proofs.Common.{◌≤◌, ◌+◌, ◌-◌, List, length}
 use Rattle.aho_core.specs.Occurrence.{Occurrence}
 use Rattle.aho_core.specs.Patterns.{Patterns}
 use Rattle.acgrep.proofs.AloneTried.{AloneSoFar}
-use Rattle.acgrep.proofs.Coloring.{Colored}
-use Rattle.acgrep.proofs.print.put_colored_alone.Given as goal
+use Rattle.acgrep.proofs.Coloring.{PutSoFar}
+use Rattle.acgrep.proofs.matches.put_alone.Given as goal
 
 abbrev pub invariant-loop-found : goal.invariant-loop-found
 invariant-loop-found g l = record {
   within : l.from ≤ length l.fn.line + 1;
   written : (p : Patterns) → g.A.Automaton.is_of l.fn.automaton p → (ms : List Occurrence) × AloneSoFar p l.fn.line l.from ms
-      × Colored l.fn.style l.fn.line ms l.at (g.W.Write.contents l.initial.output) (g.W.Write.contents l.output);
+      × PutSoFar l.fn.shape l.fn.style l.fn.place l.fn.line ms l.at (g.W.Write.contents l.initial.output) (g.W.Write.contents l.output);
 }
 
 abbrev pub decreases-loop-found : goal.decreases-loop-found

@@ -4,7 +4,7 @@ use Rattle.memchr.specs.Find.{IsFirst, Nowhere}
 use Rattle.acgrep.specs.Binary.{is_text}
 use Rattle.acgrep.specs.Lines.{IsEnding}
 use Rattle.acgrep.proofs.BinaryLines.{zero_none, zero_some}
-use Rattle.acgrep.proofs.guarded.zero_line.Goals as goal
+use Rattle.acgrep.proofs.stream.zero_line.Goals as goal
 
 pub returns-in-Some-clause-zero : goal.returns-in-Some-clause-zero
 returns-in-Some-clause-zero c = λ front.
