@@ -1,5 +1,5 @@
 -- The forms of rules, one after another.
-use Rattle.std.proofs.Common.{◌≡◌, ◌≤◌, ℕ, ◌+◌, ◌-◌, List, [], ◌∷◌, ◌++◌, length, take, drop, get_or, refl, sym, ap, subst, ◌∙◌, append-nil, append_assoc, arith}
+use Rattle.std.proofs.Common.{◌≡◌, ◌≤◌, ℕ, ◌+◌, ◌-◌, List, [], ◌∷◌, ◌++◌, length, map, take, drop, get_or, refl, sym, ap, subst, ◌∙◌, append-nil, append_assoc, arith}
 use Rattle.std.specs.Prelude.{Bool, true, false, nat_lt, Result, Ok, Err, OnOk, is_ok, if◌then◌else◌}
 use Rattle.std.proofs.Math.Seq.{take-length}
 use Rattle.std.proofs.lemmas.List.{map-append}
@@ -31,6 +31,14 @@ module _ (wanted : List SecretForm) where
   hidden_next [] all other some known one others = absurd (omega (arith, some))
   hidden_next (rule ∷ rest) all other some known one others =
       known (All-cons (HidesSecret wanted) (secret_of rule) (secrets_of rest) one (subst (λ (l : List Rule). HideSecrets wanted (secrets_of l)) (behind_first rule rest) others))
+
+-- what is made of one rule more is added
+pub rules_next : (make : Secret → Secret) (rest : List Rule) (other : Rule) (all old new more : List Secret) → 1 ≤ length rest → all ≡ old ++ map make (secrets_of rest) → new ≡ old ++ more
+    → more ≡ make (secret_of (get_or rest 0 other)) ∷ [] → all ≡ new ++ map make (secrets_of (take (length rest - 1) (drop 1 rest)))
+rules_next make [] other all old new more some is grown are = absurd (omega (arith, some))
+rules_next make (rule ∷ rest) other all old new more some is grown are =
+    is ∙ ap (λ l. old ++ (l ++ map make (secrets_of rest))) (sym are) ∙ sym (append_assoc old more (map make (secrets_of rest)))
+    ∙ ap (λ l. l ++ map make (secrets_of rest)) (sym grown) ∙ ap (λ l. new ++ map make (secrets_of l)) (sym (behind_first rule rest))
 
 -- the forms stand behind these rules
 pub have_forms : {X : Type 0} (forms asked : List SecretForm) (old more new : List Rule) (result : Result (Unit {0}) X) → forms ≡ asked → secrets_of more ≡ forms_from forms 0 (secrets_of old) → HideSecrets forms (secrets_of old)

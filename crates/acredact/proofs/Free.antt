@@ -7,7 +7,7 @@ use Rattle.acredact.specs.Reads.{OfName}
 use Rattle.acredact.specs.Secrets.{AreCleanBy, Redactor}
 
 -- what is so of a text is so of that of a name
-named_as : (holds : List ℕ → Option (List ℕ)) (name : List ℕ) (One Other : Option (List ℕ) → Option (List ℕ) → Type 0) → ((l l' : Option (List ℕ)) → One l l' → Other l l')
+pub named_as : (holds : List ℕ → Option (List ℕ)) (name : List ℕ) (One Other : Option (List ℕ) → Option (List ℕ) → Type 0) → ((l l' : Option (List ℕ)) → One l l' → Other l l')
     → (left left' : Option (List ℕ)) → OfName holds name One left left' → OfName holds name Other left left'
 named_as holds name One Other to left left' is = by (is_input name) is
   where

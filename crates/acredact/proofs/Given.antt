@@ -1,13 +1,15 @@
 -- Right arguments have nothing wrong.
 use Rattle.std.proofs.Common.{◌≡◌, inl, inr, ℕ, List, [], ◌∷◌, Option, refl, sym, ap, ◌∙◌}
-use Rattle.std.specs.Prelude.{Some, None, option_and_then}
-use Rattle.acredact.specs.Arguments.{Given, ItemsSoFar, all_asked, by_argument, fitting_by, given_by, given_from, mixture_of}
+use Rattle.std.specs.Prelude.{◌&&◌, not, Bool, true, false, Some, None, if◌then◌else◌, option_and_then}
+use Rattle.acredact.specs.Arguments.{Given, ItemsSoFar, all_asked, by_argument, covers_asked, fitting_by, given_by, given_from, has, mixture_of}
 use Rattle.acredact.specs.Mistakes.{IsMistakeOfCall, line_of_argument, first_mistake_line, line_from, line_or}
 use Rattle.acredact.specs.declared.arguments.Expects.{Expects}
 use Rattle.acredact.specs.declared.arguments.Expects.TheVariants.{Any, Value, Name}
 use Rattle.acredact.specs.declared.arguments.Mistake.{Mistake}
 use Rattle.acredact.specs.declared.arguments.Mistake.TheVariants.{OutOfMemory}
 use Rattle.acredact.specs.declared.arguments.Mixture.{Mixture}
+use Rattle.acredact.specs.declared.arguments.Mixture.TheVariants.{StrictKind, PseudonymKind, PseudonymWith, PseudonymTable, FormsKind}
+use Rattle.acredact.specs.declared.arguments.Word.TheVariants.{Forms, Pseudonym, Strict, Table, With}
 
 some_same : {A : Type 0} (x y : A) → Some x ≡ Some y → x ≡ y
 some_same x y e = cc
@@ -43,6 +45,21 @@ read_fits None given is = absurd (cc)
 read_fits (Some read) given is =
     let (none, same) = fits (mixture_of read) read given is in
     (ap Some same, sym (ap mixture_of same) ∙ none)
+
+-- forms are those of covers
+cover_by : (strict named with rows covers forms : Bool) (rest : Option Mixture)
+    → (if strict && not covers then Some StrictKind else if named && not covers then Some PseudonymKind else if named && with then Some PseudonymWith else if named && rows then Some PseudonymTable
+    else if forms && not covers then Some FormsKind else rest) ≡ None → forms ≡ true → covers ≡ true
+cover_by strict named with rows true forms rest none asked = refl
+cover_by true named with rows false forms rest none asked = absurd (cc)
+cover_by false true with rows false forms rest none asked = absurd (cc)
+cover_by false false with rows false true rest none asked = absurd (cc)
+cover_by false false with rows false false rest none asked = absurd (cc)
+
+pub forms_cover : (arguments : List (List ℕ)) (given : List Given) → all_asked arguments ≡ Some given → has Forms given ≡ true → covers_asked given ≡ true
+forms_cover arguments given asked forms =
+    let (same, none) = read_fits (given_by arguments) given asked in
+    cover_by (has Strict given) (has Pseudonym given) (has With given) (has Table given) (covers_asked given) (has Forms given) _ none forms
 
 -- nothing is wrong with right arguments but that memory runs out
 pub memory_alone : (arguments : List (List ℕ)) (given : List Given) (mistake : Mistake) → all_asked arguments ≡ Some given → IsMistakeOfCall arguments mistake → mistake ≡ OutOfMemory

@@ -9,6 +9,7 @@ mod FormsSome
 mod Summing
 mod Runs
 mod PartLines
+mod Valued
 -- names in messages, and what is told of doubtful patterns
 mod ShownNames
 mod Doubting
@@ -38,6 +39,7 @@ mod Refused
 mod Flaws
 mod NoneSpelled
 mod Free
+mod Hiding
 mod Calls
 mod Warned
 mod Given
@@ -55,3 +57,4 @@ mod LongNames
 mod SetApart
 mod Readings
 mod Ready
+mod Naming

@@ -8,7 +8,9 @@ use Rattle.programs.specs.Names.{is_input}
 use Rattle.acredact.specs.declared.arguments.Item.{Item}
 use Rattle.acredact.specs.declared.failure.Failure.{Failure}
 use Rattle.acredact.specs.Arguments.{Given, all_given, given_of}
-use Rattle.acredact.specs.Loading.{AreRead, CannotLoad, CannotLoadOne, IsAddedFile, IsAddedItem, IsAddedText, IsFileFailure, IsTextFailure, Reading}
+use Rattle.acredact.specs.Loading.{AreRead, CannotLoad, CannotLoadOne, HoldsListed, IsAddedFile, IsAddedItem, IsFileFailure, IsListedFailure, Reading}
+use Rattle.acredact.specs.Parts.{IsAddedSome}
+use Rattle.acredact.specs.declared.load.Listed.{Listed}
 use Rattle.acredact.specs.Reads.{OfName, ReadsText}
 use Rattle.acredact.specs.Tables.{Secret}
 use Rattle.acredact.proofs.OneFile.{known_read, of_folder, of_input}
@@ -67,11 +69,11 @@ text_told holds name text left left' reads is =
     Consumes-all (holds name) read.1 text [] text read.2.read read.2.ended refl
 
 -- what the text of a list gives is what the list does
-pub file_added : (reading : Reading) (table : Bool) (name text : List ℕ) (old new : List Secret) (left left' : Option (List ℕ)) → OfName reading.holds name (ReadsText text) left left'
-    → IsAddedText reading.rules table text old new → IsAddedFile reading table name old new left left'
-file_added reading table name text old new left left' reads added =
-    record { more = added.more; grown = added.grown; held = record { text = text; reads = reads; held = added.held } }
+pub file_added : (reading : Reading) (listed : Listed) (name text : List ℕ) (old new : List Secret) (left left' : Option (List ℕ)) → OfName reading.holds name (ReadsText text) left left'
+    → IsAddedSome (HoldsListed reading.rules listed text) old new → IsAddedFile reading listed name old new left left'
+file_added reading listed name text old new left left' reads added =
+    record { more = added.more; grown = added.grown; held = record { text = text; reads = reads; held = added.of } }
 
-pub file_fails : (reading : Reading) (table : Bool) (name text : List ℕ) (left left' : Option (List ℕ)) (failure : Failure) → OfName reading.holds name (ReadsText text) left left'
-    → IsTextFailure reading.rules table name text failure → IsFileFailure reading table name failure
-file_fails reading table name text left left' failure reads fails = inr (text, text_told reading.holds name text left left' reads, fails)
+pub file_fails : (reading : Reading) (listed : Listed) (name text : List ℕ) (left left' : Option (List ℕ)) (failure : Failure) → OfName reading.holds name (ReadsText text) left left'
+    → IsListedFailure reading.rules listed name text failure → IsFileFailure reading listed name failure
+file_fails reading listed name text left left' failure reads fails = inr (text, text_told reading.holds name text left left' reads, fails)

@@ -92,7 +92,7 @@ module _ {O Z E : Type 0} (Writes : Writers Z) (K : SinkGhosts E) (U : Places O 
         let alike : why ≡ failure = cc in
         let may : MayFail call ⊥ why = elim of [
           | inl strict ↦ inr (inr (inr (inl (load, left, between, loaded, strict))))
-          | inr (inl refused) ↦ inr (inr (inr (inr (inl (load.secrets, left, loaded.between, loaded.secrets, refused)))))
+          | inr (inl refused) ↦ inr (inr (inr (inr (inl (load, left, _, loaded, refused)))))
           | inr (inr memory) ↦ may_fail call ⊥ why (inl memory)
         ] in
         subst (λ (o : O). CalledPlaces Writes K U call left (Err failure) outputs o first new) (sym same)

@@ -1,9 +1,9 @@
 -- What is loaded can be searched for.
 use Rattle.std.proofs.Common.{◌≡◌, inl, inr, ℕ, ◌≤◌, Bool, false, true, List, [], ◌∷◌, Option, length, map, refl, sym, ap, subst, ◌∙◌, arith}
-use Rattle.std.specs.Prelude.{◌||◌, codes, if◌then◌else◌, nat_eq, nat_lt, option_and_then, unwrap_or, Result, Ok, Err, IsOk, Some, None}
+use Rattle.std.specs.Prelude.{MatchBool, ◌||◌, codes, if◌then◌else◌, nat_eq, nat_lt, option_and_then, unwrap_or, Result, Ok, Err, IsOk, Some, None}
 use Rattle.std.specs.Io.BufRead.{strip_last}
 use Rattle.std.specs.Borrow.{Bor}
-use Rattle.std.specs.List.{AllZip, flat_map, slice_split}
+use Rattle.std.specs.List.{AllZip, filter_map, flat_map, slice_split}
 use Rattle.std.proofs.lemmas.Bool.{ltb-false}
 use Rattle.std.proofs.lemmas.List.{length-map}
 use Rattle.std.proofs.lemmas.Slice.Eq.{bytes_eq-Decides}
@@ -17,15 +17,16 @@ use Rattle.aho_core.specs.declared.search.MatchKind.TheVariants.{Standard}
 use Rattle.aho_automaton.specs.declared.automaton.Automaton.{Ghosts}
 use Rattle.programs.specs.Arguments.{kind_by}
 use Rattle.acredact.specs.Arguments.{Given, GivesNoPattern, covers_asked, has, is_cover, kind_asked, last_value}
-use Rattle.acredact.specs.Calls.{gives_pattern}
+use Rattle.acredact.specs.Calls.{gives_pattern, gives_value}
 use Rattle.acredact.specs.Forms.{forms_from}
-use Rattle.acredact.specs.Loading.{AreGiven, AreRead, OptionGives, Reading, Rules, reading_of_lists, rules_for}
+use Rattle.acredact.specs.Loading.{AreGiven, AreRead, OptionGives, Reading, Rules, form_by, reading_of_lists, rules_for, values_in_text}
 use Rattle.acredact.specs.Looks.{CanLook}
-use Rattle.acredact.specs.Parts.{ArePartsBy, line_secrets, secret_given}
+use Rattle.acredact.specs.Parts.{ArePartsBy, GivesPattern, line_secrets, secret_given}
 use Rattle.acredact.specs.Secrets.{CanRedact}
 use Rattle.acredact.specs.Tables.{HaveNoEmpty, HoldsBy, Secret, patterns_in}
+use Rattle.acredact.specs.Values.{GiveEach, no_bytes, value_of_entry, whole_in}
 use Rattle.acredact.specs.declared.arguments.Word.{Word}
-use Rattle.acredact.specs.declared.arguments.Word.TheVariants.{IgnoreCase, Kind, Pattern, Patterns as PatternFile, Table, With, Pseudonym, Forms, Output, InPlace, Count, Summary, Crlf, AllowEmpty, Strict, Check, Help, Version, File}
+use Rattle.acredact.specs.declared.arguments.Word.TheVariants.{IgnoreCase, Kind, Pattern, Patterns as PatternFile, Table, Env, EnvFile, Whole, With, Pseudonym, Forms, Output, InPlace, Count, Summary, Crlf, AllowEmpty, Strict, Check, Help, Version, File}
 use Rattle.acredact.specs.declared.folder.Folder.{Ghosts as Folders}
 use Rattle.acredact.specs.declared.load.Lists.{Lists}
 use Rattle.acredact.specs.declared.patterns.Form.{Form}
@@ -65,11 +66,27 @@ parts_some false list value parts are = none_some parts are
 parts_some true list value parts (inl are) = none_some parts are.1
 parts_some true list value parts (inr are) = subst HaveNoEmpty (sym are.1) (all_lines_some list (slice_split (λ b. nat_eq b 10) value))
 
+pattern_some : (parts : Bool) (value : List ℕ) (secrets : List Secret) → GivesPattern parts value secrets → HaveNoEmpty secrets
+pattern_some parts value secrets gives =
+    subst HaveNoEmpty (sym gives.are) (All-cons IsSomeSecret gives.secret gives.parts gives.held.some (parts_some parts gives.secret.list value gives.parts gives.lines))
+
+-- nor a value
+value_some : (none parts : Bool) (value : List ℕ) (secrets : List Secret) → MatchBool none (secrets ≡ []) (GivesPattern parts value secrets) → HaveNoEmpty secrets
+value_some true parts value secrets none = none_some secrets none
+value_some false parts value secrets gives = pattern_some parts value secrets gives
+
+each_some : (parts : Bool) (values : List (List ℕ)) (secrets : List Secret) → GiveEach parts values secrets → HaveNoEmpty secrets
+each_some parts [] secrets none = none_some secrets none
+each_some parts (value ∷ values) secrets (first, rest, are, gives, others) =
+    subst HaveNoEmpty (sym are) (All-append IsSomeSecret first rest (value_some (no_bytes value) parts value first gives) (each_some parts values rest others))
+
 option_some : (reading : Reading) (word : Word) (value : List ℕ) (secrets : List Secret) (left left' : Option (List ℕ)) → OptionGives reading word value secrets left left' → HaveNoEmpty secrets
-option_some reading Pattern value secrets left left' (gives, same) =
-    subst HaveNoEmpty (sym gives.are) (All-cons IsSomeSecret gives.secret gives.parts gives.held.some (parts_some reading.rules.parts gives.secret.list value gives.parts gives.lines))
+option_some reading Pattern value secrets left left' (gives, same) = pattern_some reading.rules.parts value secrets gives
 option_some reading PatternFile value secrets left left' gives = lines_some _ _ secrets gives.held.held
 option_some reading Table value secrets left left' gives = lines_some _ _ secrets gives.held.held
+option_some reading Env value secrets left left' ((entries, of, gives), same) = each_some reading.rules.parts (filter_map (value_of_entry value) entries) secrets gives.given
+option_some reading EnvFile value secrets left left' gives = each_some reading.rules.parts (values_in_text reading.rules gives.text) secrets gives.held.given.given
+option_some reading Whole value secrets left left' gives = each_some reading.rules.parts (whole_in (form_by reading.rules false) gives.text ∷ []) secrets gives.held.given.given
 option_some reading IgnoreCase value secrets left left' gives = none_some secrets gives.0
 option_some reading Kind value secrets left left' gives = none_some secrets gives.0
 option_some reading With value secrets left left' gives = none_some secrets gives.0
@@ -134,10 +151,10 @@ look_ready G automaton p of are starts some =
 
 -- lists are read alike
 pub reading_from : {F X : Type 0} (D : Folders F X) (lists : Lists F) (folder : F) (rules : Rules) → lists.folder.now ≡ folder → rules_for lists ≡ rules → (P : Reading → Type 0)
-    → P (reading_of_lists D lists) → P (record { holds = D.holds folder; refuses = D.refuses folder; rules = rules })
+    → P (reading_of_lists D lists) → P (record { holds = D.holds folder; refuses = D.refuses folder; environment = D.environment folder; rules = rules })
 reading_from {F} D lists folder rules same alike P is =
-    subst (λ (f : F). P (record { holds = D.holds f; refuses = D.refuses f; rules = rules })) same
-    (subst (λ (r : Rules). P (record { holds = D.holds lists.folder.now; refuses = D.refuses lists.folder.now; rules = r })) alike is)
+    subst (λ (f : F). P (record { holds = D.holds f; refuses = D.refuses f; environment = D.environment f; rules = rules })) same
+    (subst (λ (r : Rules). P (record { holds = D.holds lists.folder.now; refuses = D.refuses lists.folder.now; environment = D.environment lists.folder.now; rules = r })) alike is)
 
 -- none of three is so
 none_of : (a b c : Bool) → (a || b || c) ≡ false → (a ≡ false) × (b ≡ false) × (c ≡ false)
@@ -146,5 +163,16 @@ none_of false false true none = absurd (cc)
 none_of false true c none = absurd (cc)
 none_of true b c none = absurd (cc)
 
+-- nor one of some others
+or_none : (a b c d : Bool) → (a || b || c || d) ≡ false → ((a || b || c) ≡ false) × (d ≡ false)
+or_none false false false d none = (refl, none)
+or_none false false true d none = absurd (cc)
+or_none false true c d none = absurd (cc)
+or_none true b c d none = absurd (cc)
+
 pub gives_none : (given : List Given) → gives_pattern given ≡ false → GivesNoPattern given
-gives_none given none = let (a, b, c) = none_of (has Pattern given) (has PatternFile given) (has Table given) none in record { no_pattern = a; no_patterns = b; no_table = c }
+gives_none given none =
+    let (patterns, values) = or_none (has Pattern given) (has PatternFile given) (has Table given) (gives_value given) none in
+    let (a, b, c) = none_of (has Pattern given) (has PatternFile given) (has Table given) patterns in
+    let (d, e, f) = none_of (has Env given) (has EnvFile given) (has Whole given) values in
+    record { no_pattern = a; no_patterns = b; no_table = c; no_env = d; no_env_file = e; no_whole = f }

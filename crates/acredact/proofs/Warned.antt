@@ -257,7 +257,7 @@ module _ {R : Type 0} {Reads : Readers R} {W E : Type 0} (Writes : Writers W) (K
         (subst (λ (f : Failure). CallOutcome Writes K call left (Err f) (record old { errors = first }) old) alike
         (elim of [
           | inl strict ↦ call_behind why (λ unclean is. strict.2) (inr (inr (inr (inl (load, left, bytes_left old.input, loaded, strict)))))
-          | inr (inl refused) ↦ call_behind why (λ unclean is. absurd (build_other _ why unclean refused is)) (inr (inr (inr (inr (inl (load.secrets, left, loaded.between, loaded.secrets, refused))))))
+          | inr (inl refused) ↦ call_behind why (λ unclean is. absurd (build_other _ why unclean refused is)) (inr (inr (inr (inr (inl (load, left, _, loaded, refused))))))
           | inr (inr run) ↦ call_behind why (λ unclean is. absurd (run_other _ why unclean run is)) (may_fail call _ why run)
         ]))
     call_cut failure (inr (errors, told, run)) =

@@ -9,16 +9,13 @@ use Rattle.programs.specs.declared.failure.Failure.TheVariants.{OutOfMemory, Usa
 use Rattle.acredact.specs.Arguments.{Given, ItemsSoFar, all_asked, by_argument, has}
 use Rattle.acredact.specs.Calls.{gives_pattern}
 use Rattle.acredact.specs.Messages.{line_about}
+use Rattle.acredact.specs.Reads.{bytes_of_names}
 use Rattle.acredact.specs.declared.apart.Apart.{Apart}
 use Rattle.acredact.specs.declared.apart.Told.{Told}
 use Rattle.acredact.specs.declared.apart.Told.TheVariants.{Nothing, Each, EachAlone}
 use Rattle.acredact.specs.declared.arguments.Expects.{Expects}
 use Rattle.acredact.specs.declared.arguments.Expects.TheVariants.{Any, Value, Name}
 use Rattle.acredact.specs.declared.arguments.Word.TheVariants.{File, Help, Output, Version}
-
--- the bytes of each name
-abbrev pub bytes_of_names : {Z : Type 0} → List (Vec ℕ Z) → List (List ℕ)
-bytes_of_names names = map (λ name. name.items) names
 
 -- what is expected behind an argument; behind one that is wrong that does not matter
 abbrev pub expected_by : Option ItemsSoFar → Expects

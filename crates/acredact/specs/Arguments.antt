@@ -7,13 +7,14 @@ use Rattle.programs.specs.Arguments.{kind_by, texts}
 use Rattle.call_options.specs.Forms.{Form, argument_form, joined_letters, long_name, long_with, no_more, no_option}
 use Rattle.acredact.specs.Forms.{are_forms}
 use Rattle.acredact.specs.Long.{word_by_name}
+use Rattle.acredact.specs.Values.{is_variable_name}
 use Rattle.acredact.specs.declared.arguments.Word.{Word}
-use Rattle.acredact.specs.declared.arguments.Word.TheVariants.{IgnoreCase, Kind, Pattern, Patterns, Table, With, Pseudonym, Forms, Output, InPlace, Count, Summary, Crlf, AllowEmpty, Strict, Check, Help, Version, File}
+use Rattle.acredact.specs.declared.arguments.Word.TheVariants.{IgnoreCase, Kind, Pattern, Patterns, Table, Env, EnvFile, Whole, With, Pseudonym, Forms, Output, InPlace, Count, Summary, Crlf, AllowEmpty, Strict, Check, Help, Version, File}
 use Rattle.acredact.specs.declared.arguments.Expects.{Expects}
 use Rattle.acredact.specs.declared.arguments.Expects.TheVariants.{Any, Value, Name}
 use Rattle.acredact.specs.declared.arguments.Item.{Item}
 use Rattle.acredact.specs.declared.arguments.Mixture.{Mixture}
-use Rattle.acredact.specs.declared.arguments.Mixture.TheVariants.{StrictKind, PseudonymKind, PseudonymWith, PseudonymTable, FormsKind, FormsPseudonym, CountCheck, SummaryCheck, OutputCheck, InPlaceCheck, InPlaceOutput}
+use Rattle.acredact.specs.declared.arguments.Mixture.TheVariants.{StrictKind, PseudonymKind, PseudonymWith, PseudonymTable, FormsKind, CountCheck, SummaryCheck, OutputCheck, InPlaceCheck, InPlaceOutput}
 
 -- an option with its value, or a file with its name
 pub record Given : Type 0 where
@@ -35,6 +36,9 @@ takes_value Kind = true
 takes_value Pattern = true
 takes_value Patterns = true
 takes_value Table = true
+takes_value Env = true
+takes_value EnvFile = true
+takes_value Whole = true
 takes_value With = true
 takes_value Pseudonym = true
 takes_value Forms = true
@@ -59,10 +63,13 @@ is_cover name = bytes_eq name (codes "cover")
 abbrev pub is_value_of : Word → List ℕ → Bool
 is_value_of Kind value = is_cover value || is_some (kind_by value)
 is_value_of Forms value = are_forms value
+is_value_of Env value = is_variable_name value
 is_value_of IgnoreCase value = true
 is_value_of Pattern value = true
 is_value_of Patterns value = true
 is_value_of Table value = true
+is_value_of EnvFile value = true
+is_value_of Whole value = true
 is_value_of With value = true
 is_value_of Pseudonym value = true
 is_value_of Output value = true
@@ -172,6 +179,9 @@ is_same Kind Kind = true
 is_same Pattern Pattern = true
 is_same Patterns Patterns = true
 is_same Table Table = true
+is_same Env Env = true
+is_same EnvFile EnvFile = true
+is_same Whole Whole = true
 is_same With With = true
 is_same Pseudonym Pseudonym = true
 is_same Forms Forms = true
@@ -212,6 +222,9 @@ option_name Kind = codes "--kind"
 option_name Pattern = codes "-e"
 option_name Patterns = codes "-f"
 option_name Table = codes "-t"
+option_name Env = codes "--env"
+option_name EnvFile = codes "--env-file"
+option_name Whole = codes "--whole"
 option_name With = codes "--with"
 option_name Pseudonym = codes "--pseudonym"
 option_name Forms = codes "--forms"
@@ -263,7 +276,6 @@ mixture_of given =
     else if has Pseudonym given && has With given then Some PseudonymWith
     else if has Pseudonym given && has Table given then Some PseudonymTable
     else if has Forms given && not (covers_asked given) then Some FormsKind
-    else if has Forms given && has Pseudonym given then Some FormsPseudonym
     else if has Count given && has Check given then Some CountCheck
     else if has Summary given && has Check given then Some SummaryCheck
     else if has Output given && has Check given then Some OutputCheck
@@ -307,6 +319,9 @@ pub record GivesNoPattern (given : List Given) : Type 0 where
   pub no_pattern : has Pattern given ≡ false
   pub no_patterns : has Patterns given ≡ false
   pub no_table : has Table given ≡ false
+  pub no_env : has Env given ≡ false
+  pub no_env_file : has EnvFile given ≡ false
+  pub no_whole : has Whole given ≡ false
 
 -- what holds of the options and files that are given, where they ask for a redaction
 abbrev pub IfAsked : {Z : Type 0} → List (String Z) → (List Given → Type 0) → Type 0

@@ -1,5 +1,5 @@
 -- What a call does, by what its arguments ask for, and what it tells.
-use Rattle.std.specs.Prelude.{◌≡◌, ◌⊎◌, ℕ, ◌<◌, ◌≤◌, slice_index, ◌||◌, Bool, MatchBool, true, false, List, [], ◌∷◌, Option, Result, Ok, Err, IfErr, IfOk, OnErr, codes, is_some, length, map, option_map, unwrap_or, if◌then◌else◌}
+use Rattle.std.specs.Prelude.{◌≡◌, ◌⊎◌, ℕ, ◌<◌, ◌≤◌, slice_index, ◌||◌, Bool, MatchBool, true, false, List, [], ◌∷◌, Option, Some, Result, Ok, Err, IfErr, IfOk, OnErr, codes, is_some, length, map, option_map, unwrap_or, if◌then◌else◌}
 use Rattle.std.specs.Borrow.{Bor}
 use Rattle.std.specs.declared.io.traits.Read.{Ghosts as Readers}
 use Rattle.std.specs.declared.io.traits.Write.{Ghosts as Writers}
@@ -25,7 +25,8 @@ use Rattle.acredact.specs.Doubts.{IsDoubtFailure, TellsDoubts, TellsWarnings, al
 use Rattle.acredact.specs.Failures.{IsFailureLine}
 use Rattle.acredact.specs.Forms.{forms_asked}
 use Rattle.acredact.specs.Files.{AreCut, AreDone, AreFree, AreRedacted, Does, Work, are_none, redactor_of, unread_line, work_of}
-use Rattle.acredact.specs.Loading.{AreGiven, AreLoaded, CannotLoadKey, CannotLoadOne, Loaded, Reading, Rules, key_lent, loaded_as}
+use Rattle.acredact.specs.Hidden.{AreHidden}
+use Rattle.acredact.specs.Loading.{AreGiven, AreLoaded, CannotLoadKey, CannotLoadOne, IsKeyGiven, Loaded, Reading, Rules, key_lent, loaded_as}
 use Rattle.acredact.specs.Messages.{output_line, unclean_line}
 use Rattle.acredact.specs.Mistakes.{IsMistakeOfCall}
 use Rattle.acredact.specs.Pieces.{IsUncleanBy, TellsOfPieces}
@@ -36,7 +37,7 @@ use Rattle.acredact.specs.Summaries.{no_volume, totals_text}
 use Rattle.acredact.specs.Totals.{AreTotals, NamesHaveRanges}
 use Rattle.acredact.specs.Volumes.{ReadsVolume}
 use Rattle.acredact.specs.declared.arguments.Mistake.TheVariants.{NoPattern, OutOfMemory as NoRoom}
-use Rattle.acredact.specs.declared.arguments.Word.TheVariants.{Crlf, Forms, AllowEmpty, IgnoreCase, Strict, File, Pattern as PatternOption, Patterns as PatternFile, Table, With}
+use Rattle.acredact.specs.declared.arguments.Word.TheVariants.{Crlf, Forms, AllowEmpty, IgnoreCase, Strict, File, Pattern as PatternOption, Patterns as PatternFile, Table, Env, EnvFile, Whole, With, Pseudonym}
 use Rattle.acredact.specs.declared.clean.Unclean.{Unclean}
 use Rattle.acredact.specs.declared.failure.Failure.{Failure}
 use Rattle.acredact.specs.declared.failure.Failure.TheVariants.{NotText, Arguments, Unclean as UncleanPiece, Counts, Other}
@@ -47,25 +48,30 @@ use Rattle.acredact.specs.declared.streams.Streams.{Streams}
 use Rattle.acredact.specs.declared.summary.Volume.{Volume}
 
 -- the options and files that are given, and what the folder holds under a name, why it may refuse to open it, and whether the output
--- may go to it
+-- may go to it; and what may be the entries of the environment
 pub record Call : Type 1 where
   pub holds : List ℕ → Option (List ℕ)
   pub refuses : List ℕ → Reason → Type 0
   pub meets : List ℕ → Bool → Type 0
+  pub environment : List (List ℕ) → Type 0
   pub given : List Given
 
 abbrev pub call_of : {F X : Type 0} → Folders F X → F → List Given → Call
-call_of D folder given = record { holds = D.holds folder; refuses = D.refuses folder; meets = D.meets folder; given = given }
+call_of D folder given = record { holds = D.holds folder; refuses = D.refuses folder; meets = D.meets folder; environment = D.environment folder; given = given }
+
+-- whether an option gives values that are patterns
+abbrev pub gives_value : List Given → Bool
+gives_value given = has Env given || has EnvFile given || has Whole given
 
 -- whether an option gives patterns
 abbrev pub gives_pattern : List Given → Bool
-gives_pattern given = has PatternOption given || has PatternFile given || has Table given
+gives_pattern given = has PatternOption given || has PatternFile given || has Table given || gives_value given
 
 abbrev pub rules_asked : List Given → Rules
 rules_asked given = record { crlf = has Crlf given; allow_empty = has AllowEmpty given; parts = covers_asked given; forms = forms_asked (last_value Forms given) }
 
 abbrev pub reading_by : Call → Reading
-reading_by call = record { holds = call.holds; refuses = call.refuses; rules = rules_asked call.given }
+reading_by call = record { holds = call.holds; refuses = call.refuses; environment = call.environment; rules = rules_asked call.given }
 
 -- the names of the files, in order
 abbrev pub names_given : List Given → List (List ℕ)
@@ -153,9 +159,9 @@ IsDoubtedCall call failure = (load : Loaded) × (left : Option (List ℕ)) × (b
 
 -- those that were loaded are refused
 abbrev pub IsRefusedCall : Call → Failure → Type 0
-IsRefusedCall call failure = (secrets : List Secret) × (left : Option (List ℕ)) × (between : Option (List ℕ))
-    × AreGiven (reading_by call) call.given secrets left between
-    × IsBuildRefusal (patterns_by_given call.given (patterns_in secrets)) failure
+IsRefusedCall call failure = (load : Loaded) × (left : Option (List ℕ)) × (between : Option (List ℕ))
+    × AreLoaded (reading_by call) call.given load left between
+    × IsBuildRefusal (patterns_by_given call.given (patterns_in load.secrets)) failure
 
 -- why a call ends early: there is no pattern, one of the options or the key cannot be loaded, the counts cannot be written, a piece is not clean,
 -- the patterns are refused, the files are not redacted, or a pattern of a list is refused
@@ -300,6 +306,14 @@ module _ {R : Type 0} {Reads : Readers R} {W : Type 0} (Writes : Writers W) wher
       pub free : AreFree (work_by call load) (names_asked call.given) between (bytes_left streams'.input)
           (output_bytes Writes streams.output) (output_bytes Writes streams'.output)
 
+    -- and no form shows a secret in what was written
+    pub record HidesCall : Type 0 where
+      pub load : Loaded
+      pub between : Option (List ℕ)
+      pub loaded : AreLoaded (reading_by call) call.given load left between
+      pub hidden : AreHidden (forms_asked (last_value Forms call.given)) loaded.given_all.plain (work_by call load) (names_asked call.given) between (bytes_left streams'.input)
+          (output_bytes Writes streams.output) (output_bytes Writes streams'.output)
+
     -- all patterns were loaded, and of some first files the redaction or a beginning of it was written
     pub record BeginsFiles : Type 0 where
       pub load : Loaded
@@ -408,6 +422,13 @@ module _ {R : Type 0} {Reads : Readers R} {W : Type 0} (Writes : Writers W) wher
         → AreGiven (reading_by (call_of D folder given)) given (secrets_of rules) left (bytes_left streams.input)
         → CallOutcome (call_of D folder given) left result streams streams'
 
+    -- the same once the bytes of the key were read too
+    abbrev pub KeyedOutcome : {F X : Type 0} → Folders F X → F → List Given → List Rule → (key : List ℕ) → Result Bool Failure → (streams streams' : Streams R W E Reads) → Type 0
+    KeyedOutcome D folder given rules key result streams streams' = (left between : Option (List ℕ))
+        → AreGiven (reading_by (call_of D folder given)) given (secrets_of rules) left between
+        → IsKeyGiven (reading_by (call_of D folder given)) (last_value Pseudonym given) (Some key) between (bytes_left streams.input)
+        → CallOutcome (call_of D folder given) left result streams streams'
+
     -- and of a call whose patterns are to be loaded
     abbrev pub AskedOutcome : {F X : Type 0} → Folders F X → F → List Given → Result Bool Failure → (streams streams' : Streams R W E Reads) → Type 0
     AskedOutcome D folder given result streams streams' = CallOutcome (call_of D folder given) (bytes_left streams.input) result streams streams'
@@ -419,6 +440,10 @@ module _ {R : Type 0} {Reads : Readers R} {W : Type 0} (Writes : Writers W) wher
   -- and no pattern is left
   abbrev pub LeavesNoneAsked : {E F X : Type 0} → Folders F X → F → List Given → (streams streams' : Streams R W E Reads) → Type 0
   LeavesNoneAsked D folder given streams streams' = LeavesNone (call_of D folder given) (bytes_left streams.input) streams streams'
+
+  -- and no form shows one
+  abbrev pub HidesAsked : {E F X : Type 0} → Folders F X → F → List Given → (streams streams' : Streams R W E Reads) → Type 0
+  HidesAsked D folder given streams streams' = HidesCall (call_of D folder given) (bytes_left streams.input) streams streams'
 
   -- and counted
   abbrev pub CountsAsked : {E F X : Type 0} → SinkGhosts E → Folders F X → F → List Given → (streams streams' : Streams R W E Reads) → Type 0

@@ -14,7 +14,7 @@ use Rattle.programs.specs.declared.failure.Failure.TheVariants.{OutOfMemory}
 use Rattle.programs.specs.declared.reason.Reason.{Reason}
 use Rattle.acredact.specs.Arguments.{AsksToCheck, Given, GivesNoPattern, has}
 use Rattle.acredact.specs.Builds.{patterns_by_given}
-use Rattle.acredact.specs.Calls.{Call, IsBuildRefusal, IsRefusedCall, IsUnreadLine, call_of, gives_pattern, names_asked, reading_by}
+use Rattle.acredact.specs.Calls.{Call, IsBuildRefusal, IsUnreadLine, call_of, gives_pattern, names_asked, reading_by}
 use Rattle.acredact.specs.Doubts.{IsDoubtFailure, TellsDoubts, all_doubt_lines}
 use Rattle.acredact.specs.Failures.{IsFailureLine}
 use Rattle.acredact.specs.Faults.{IsReadReason}
@@ -95,12 +95,18 @@ abbrev pub IsDoubtedCheck : Call → Failure → Type 0
 IsDoubtedCheck call failure = (secrets : List Secret) × (left : Option (List ℕ)) × (between : Option (List ℕ))
     × AreGiven (reading_by call) call.given secrets left between × IsDoubtFailure (has Strict call.given) call.given secrets failure
 
+-- those that were loaded are refused
+abbrev pub IsRefusedCheck : Call → Failure → Type 0
+IsRefusedCheck call failure = (secrets : List Secret) × (left : Option (List ℕ)) × (between : Option (List ℕ))
+    × AreGiven (reading_by call) call.given secrets left between
+    × IsBuildRefusal (patterns_by_given call.given (patterns_in secrets)) failure
+
 -- why a check ends early: there is no pattern, one of the options cannot be loaded, the patterns are refused, memory runs out, or a
 -- pattern of a list is refused
 abbrev pub CheckFails : Call → Failure → Type 0
 CheckFails call failure =
     ((failure ≡ Arguments NoRoom) ⊎ ((failure ≡ Arguments NoPattern) × GivesNoPattern call.given))
-    ⊎ (CannotLoadOne (reading_by call) call.given failure ⊎ (IsRefusedCall call failure ⊎ ((failure ≡ Other OutOfMemory) ⊎ IsDoubtedCheck call failure)))
+    ⊎ (CannotLoadOne (reading_by call) call.given failure ⊎ (IsRefusedCheck call failure ⊎ ((failure ≡ Other OutOfMemory) ⊎ IsDoubtedCheck call failure)))
 
 -- a line that warns of a pattern of a list that was loaded, where such a one is not refused
 abbrev pub WarnsOfList : Call → List ℕ → Type 0

@@ -1,5 +1,5 @@
 -- What becomes of files that are replaced in place: of each a new one is filled, and takes its place where all was done.
-use Rattle.std.specs.Prelude.{◌≡◌, ◌⊎◌, ℕ, Bool, true, false, List, [], ◌∷◌, ◌++◌, Option, Result, Ok, Err, IfErr, IfOk, IfSome, OnErr}
+use Rattle.std.specs.Prelude.{◌≡◌, ◌⊎◌, ℕ, Bool, true, false, List, [], ◌∷◌, ◌++◌, Option, Some, Result, Ok, Err, IfErr, IfOk, IfSome, OnErr}
 use Rattle.std.specs.Borrow.{Bor}
 use Rattle.std.specs.List.{All, concat}
 use Rattle.std.specs.declared.io.traits.Read.{Ghosts as Readers}
@@ -17,13 +17,13 @@ use Rattle.programs.specs.Telling.{Tells, TellsBytes, TellsSome}
 use Rattle.programs.specs.declared.errors.Errors.{Errors}
 use Rattle.programs.specs.declared.failure.Failure.TheVariants.{OutOfMemory}
 use Rattle.programs.specs.declared.reason.Reason.{Reason}
-use Rattle.acredact.specs.Arguments.{Given, RefusesUnclean, all_given, counts_asked, has}
+use Rattle.acredact.specs.Arguments.{Given, RefusesUnclean, all_given, counts_asked, has, last_value}
 use Rattle.acredact.specs.Calls.{Call, IsBuildRefusal, IsLineOf, IsStrictFailure, MayFail, TellsTotals, WarnsCall, call_of, names_asked, reading_by, redactor_by_given, work_by}
 use Rattle.acredact.specs.Doubts.{TellsDoubts, TellsWarnings}
 use Rattle.acredact.specs.Failures.{IsFailureLine}
 use Rattle.acredact.specs.Files.{AreFree, AreRedacted, Work, are_none, redactor_of, unread_line, work_of}
 use Rattle.acredact.specs.Into.{IsSpared}
-use Rattle.acredact.specs.Loading.{AreGiven, AreLoaded, Loaded, key_lent, loaded_as}
+use Rattle.acredact.specs.Loading.{AreGiven, AreLoaded, IsKeyGiven, Loaded, key_lent, loaded_as}
 use Rattle.acredact.specs.Messages.{no_file_line, output_line}
 use Rattle.acredact.specs.Pieces.{TellsOfPieces, pieces_by}
 use Rattle.acredact.specs.Summaries.{no_volume}
@@ -31,7 +31,7 @@ use Rattle.acredact.specs.Tables.{secrets_of}
 use Rattle.acredact.specs.Totals.{CountsOfName, CountsWork, NamesHaveRanges}
 use Rattle.acredact.specs.Volumes.{ReadsVolume}
 use Rattle.acredact.specs.declared.arguments.Item.{Item}
-use Rattle.acredact.specs.declared.arguments.Word.TheVariants.{Strict}
+use Rattle.acredact.specs.declared.arguments.Word.TheVariants.{Pseudonym, Strict}
 use Rattle.acredact.specs.declared.clean.Judge.{Judge}
 use Rattle.acredact.specs.declared.failure.Failure.{Failure}
 use Rattle.acredact.specs.declared.failure.Failure.TheVariants.{Other}
@@ -301,7 +301,14 @@ module _ {F X O Z E R : Type 0} {Reads : Readers R} (Writes : Writers Z) (K : Si
       → AreGiven (reading_by (call_of D folder (all_given items))) (all_given items) (secrets_of rules) left (bytes_left streams.input)
       → CalledPlaces Writes K U (call_of D folder (all_given items)) left result outputs outputs' streams.errors streams'.errors
 
-  -- or once that was loaded too
+  -- or once the bytes of the key were read too
+  abbrev pub KeyedPlaces : List Item → List Rule → (key : List ℕ) → Result Bool Failure → (outputs outputs' : O) → (streams streams' : Streams R Z E Reads) → Type 0
+  KeyedPlaces items rules key result outputs outputs' streams streams' = (left between : Option (List ℕ))
+      → AreGiven (reading_by (call_of D folder (all_given items))) (all_given items) (secrets_of rules) left between
+      → IsKeyGiven (reading_by (call_of D folder (all_given items))) (last_value Pseudonym (all_given items)) (Some key) between (bytes_left streams.input)
+      → CalledPlaces Writes K U (call_of D folder (all_given items)) left result outputs outputs' streams.errors streams'.errors
+
+  -- or once that was loaded
   abbrev pub LoadedPlaces : List Item → List Rule → Option (Bor (List ℕ)) → Result Bool Failure → (outputs outputs' : O) → (streams streams' : Streams R Z E Reads) → Type 0
   LoadedPlaces items rules key result outputs outputs' streams streams' = (left : Option (List ℕ))
       → AreLoaded (reading_by (call_of D folder (all_given items))) (all_given items) (loaded_as rules (key_lent key)) left (bytes_left streams.input)

@@ -8,6 +8,8 @@ pub mod Tables
 pub mod LineFaults
 pub mod Forms
 pub mod Parts
+pub mod Values
+pub mod Named
 -- which patterns a pseudonym can spell
 pub mod Spelling
 -- what a redaction is, and that no secret is passed on
@@ -21,6 +23,7 @@ pub mod Pieces
 -- what is written of files
 pub mod Reads
 pub mod Files
+pub mod Hidden
 -- how often the text of each pattern was written
 pub mod Totals
 -- how much was read, and a summary

@@ -6,7 +6,7 @@ use Rattle.acredact.specs.Tables.{IsWithout, in_table, stripped_by}
 use Rattle.acredact.specs.declared.patterns.BadLine.{BadLine}
 use Rattle.acredact.specs.declared.patterns.Form.{Form}
 use Rattle.acredact.specs.declared.patterns.LineFault.{LineFault}
-use Rattle.acredact.specs.declared.patterns.LineFault.TheVariants.{EmptyPattern, NoTab, SecondTab, BadEscape, CarriageReturn, ByteOrderMark, Utf16, ZeroByte, Blank, Quotes, OutOfMemory}
+use Rattle.acredact.specs.declared.patterns.LineFault.TheVariants.{EmptyPattern, NoTab, SecondTab, BadEscape, CarriageReturn, ByteOrderMark, Utf16, ZeroByte, Blank, Quotes, NoEquals, EmptyValue, OutOfMemory}
 
 -- behind a backslash stands none of 't', 'n' and a backslash
 abbrev pub NamesNone : List ℕ → Type 0
@@ -25,6 +25,8 @@ IsBadStart text Utf16 = ⊥
 IsBadStart text ZeroByte = ⊥
 IsBadStart text Blank = ⊥
 IsBadStart text Quotes = ⊥
+IsBadStart text NoEquals = ⊥
+IsBadStart text EmptyValue = ⊥
 IsBadStart text OutOfMemory = ⊥
 
 -- that is so of a text behind some bytes, or memory runs out
@@ -86,4 +88,6 @@ line_fault_text Utf16 = codes "UTF-16: give UTF-8, or what the files hold"
 line_fault_text ZeroByte = codes "zero byte: is this UTF-16?"
 line_fault_text Blank = codes "a blank at an end of the pattern is a part of it"
 line_fault_text Quotes = codes "the quotes around the pattern are a part of it"
+line_fault_text NoEquals = codes "no equals sign"
+line_fault_text EmptyValue = codes "empty value: give --allow-empty to pass it over"
 line_fault_text OutOfMemory = codes "out of memory"

@@ -1,27 +1,33 @@
 -- What the options give, one after another, and why they do not.
-use Rattle.std.specs.Prelude.{◌≡◌, ◌⊎◌, ℕ, ◌<◌, ◌≤◌, Bool, true, false, List, [], ◌∷◌, ◌++◌, Option, Some, None, IfSome, Result, Ok, Err, length, option_map, Vec}
+use Rattle.std.specs.Prelude.{◌≡◌, ◌⊎◌, ℕ, ◌<◌, ◌≤◌, Bool, true, false, List, [], ◌∷◌, ◌++◌, Option, Some, None, IfSome, Result, Ok, Err, if◌then◌else◌, length, option_map, Vec}
 use Rattle.std.specs.Borrow.{Bor}
-use Rattle.std.specs.List.{AllZip}
+use Rattle.std.specs.List.{AllZip, filter_map}
 use Rattle.std.specs.declared.io.traits.Read.{Ghosts as Readers}
 use Rattle.aho_devices.specs.declared.adapters.FromRead.{FromRead}
+use Rattle.pseudonyms.specs.Pseudonyms.{pseudonym_rule}
 use Rattle.secret_forms.specs.declared.form.Form.{Form as SecretForm}
 use Rattle.programs.specs.Names.{is_input}
 use Rattle.programs.specs.Streams.{bytes_left}
 use Rattle.programs.specs.declared.failure.Failure.TheVariants.{OutOfMemory as NoMemory}
 use Rattle.programs.specs.declared.reason.Reason.{Reason}
 use Rattle.programs.specs.declared.reason.Reason.TheVariants.{NotFound, Denied, Directory, Irregular, NoDirectory, Links, LongName, Invalid, Full, TooLarge, Quota, Interrupted, Unavailable, Locked, NoLock, Changed, Owner, Closed, OutOfMemory, PositionLimit, ReadFault, Fault}
-use Rattle.acredact.specs.Arguments.{Given, last_value}
+use Rattle.acredact.specs.Arguments.{Given, has, last_value}
 use Rattle.acredact.specs.Forms.{HideSecrets, forms_asked, with_forms}
 use Rattle.acredact.specs.LineFaults.{IsLineFault, IsListFault, mark_in}
-use Rattle.acredact.specs.Parts.{GivesPattern}
+use Rattle.acredact.specs.Named.{all_named}
+use Rattle.acredact.specs.Parts.{AddsSome, GivesPattern}
 use Rattle.acredact.specs.Reads.{OfName, ReadsText}
-use Rattle.acredact.specs.Tables.{HaveLines, HoldsBy, Secret, lines_in, secrets_of}
+use Rattle.acredact.specs.Tables.{HaveLines, HoldsBy, Secret, lines_in, secrets_of, stripped_by}
+use Rattle.acredact.specs.Values.{GiveEach, are_refused, first_fault, value_in_line, value_of_entry, whole_in}
 use Rattle.acredact.specs.declared.arguments.Word.{Word}
-use Rattle.acredact.specs.declared.arguments.Word.TheVariants.{IgnoreCase, Kind, Pattern, Patterns, Table, With, Pseudonym, Forms, Output, InPlace, Count, Summary, Crlf, AllowEmpty, Strict, Check, Help, Version, File}
+use Rattle.acredact.specs.declared.arguments.Word.TheVariants.{IgnoreCase, Kind, Pattern, Patterns, Table, Env, EnvFile, Whole, With, Pseudonym, Forms, Output, InPlace, Count, Summary, Crlf, AllowEmpty, Strict, Check, Help, Version, File}
 use Rattle.acredact.specs.declared.failure.Failure.{Failure}
-use Rattle.acredact.specs.declared.failure.Failure.TheVariants.{NotText, Arguments, Pattern as BadPattern, Unread, Empty, ShortKey, Line, Short, Unclean, Counts, Other}
+use Rattle.acredact.specs.declared.failure.Failure.TheVariants.{NotText, Arguments, Pattern as BadPattern, Unread, Empty, NoValue, ShortKey, Line, Short, Unclean, Counts, Other}
 use Rattle.acredact.specs.declared.folder.Folder.{Ghosts as Folders}
+use Rattle.acredact.specs.declared.load.Listed.{Listed}
+use Rattle.acredact.specs.declared.load.Listed.TheVariants.{Plain, Rows, Variables, Whole as WholeFile}
 use Rattle.acredact.specs.declared.load.Lists.{Lists}
+use Rattle.acredact.specs.declared.patterns.BadLine.{BadLine}
 use Rattle.acredact.specs.declared.patterns.Form.{Form}
 use Rattle.acredact.specs.declared.patterns.Rule.{Rule}
 
@@ -35,14 +41,15 @@ pub record Rules : Type 0 where
 abbrev pub rules_for : {F : Type 0} → Lists F → Rules
 rules_for lists = record { crlf = lists.crlf; allow_empty = lists.allow_empty; parts = lists.parts; forms = forms_asked (option_map (λ value. value.now) lists.forms) }
 
--- and by which folder
+-- and by which folder and which environment
 pub record Reading : Type 1 where
   pub holds : List ℕ → Option (List ℕ)
   pub refuses : List ℕ → Reason → Type 0
+  pub environment : List (List ℕ) → Type 0
   pub rules : Rules
 
 abbrev pub reading_of_lists : {F X : Type 0} → Folders F X → Lists F → Reading
-reading_of_lists D lists = record { holds = D.holds lists.folder.now; refuses = D.refuses lists.folder.now; rules = rules_for lists }
+reading_of_lists D lists = record { holds = D.holds lists.folder.now; refuses = D.refuses lists.folder.now; environment = D.environment lists.folder.now; rules = rules_for lists }
 
 abbrev pub form_by : Rules → Bool → Form
 form_by rules table = record { table = table; crlf = rules.crlf }
@@ -54,17 +61,51 @@ pub record HoldsSecrets (rules : Rules) (table : Bool) (text : List ℕ) (secret
   pub held : AllZip (HoldsBy (form_by rules table)) (lines_in text) secrets
   pub numbered : HaveLines 0 secrets
 
--- the list of this name was read, and it holds these
-pub record GivesSecrets (reading : Reading) (table : Bool) (name : List ℕ) (secrets : List Secret) (left left' : Option (List ℕ)) : Type 0 where
+-- some values give these; they may lack one only where that is allowed
+pub record GivesValues (rules : Rules) (values : List (List ℕ)) (secrets : List Secret) : Type 0 where
+  pub some : are_refused rules.allow_empty values ≡ false
+  pub given : GiveEach rules.parts values secrets
+
+-- the values in a text of variables
+abbrev pub values_in_text : Rules → List ℕ → List (List ℕ)
+values_in_text rules text = filter_map (λ line. value_in_line (stripped_by (form_by rules false) line)) (lines_in text)
+
+-- such a text holds these: no line of it is wrong
+pub record HoldsVariables (rules : Rules) (text : List ℕ) (secrets : List Secret) : Type 0 where
+  pub unmarked : mark_in text ≡ None
+  pub right : first_fault rules.allow_empty (form_by rules false) 1 (lines_in text) ≡ None
+  pub given : GivesValues rules (values_in_text rules text) secrets
+
+-- and so does the text of a file that is one pattern
+pub record HoldsWhole (rules : Rules) (text : List ℕ) (secrets : List Secret) : Type 0 where
+  pub unmarked : mark_in text ≡ None
+  pub given : GivesValues rules (whole_in (form_by rules false) text ∷ []) secrets
+
+-- by what kind of file it is
+abbrev pub HoldsListed : Rules → Listed → List ℕ → List Secret → Type 0
+HoldsListed rules Plain text secrets = HoldsSecrets rules false text secrets
+HoldsListed rules Rows text secrets = HoldsSecrets rules true text secrets
+HoldsListed rules Variables text secrets = HoldsVariables rules text secrets
+HoldsListed rules WholeFile text secrets = HoldsWhole rules text secrets
+
+-- the file of this name was read, and it holds these
+pub record GivesSecrets (reading : Reading) (listed : Listed) (name : List ℕ) (secrets : List Secret) (left left' : Option (List ℕ)) : Type 0 where
   pub text : List ℕ
   pub reads : OfName reading.holds name (ReadsText text) left left'
-  pub held : HoldsSecrets reading.rules table text secrets
+  pub held : HoldsListed reading.rules listed text secrets
+
+-- the values of the entries of this name give these
+abbrev pub GivesEnvironment : Reading → List ℕ → List Secret → Type 0
+GivesEnvironment reading name secrets = (entries : List (List ℕ)) × reading.environment entries × GivesValues reading.rules (filter_map (value_of_entry name) entries) secrets
 
 -- the secrets that an option gives
 abbrev pub OptionGives : Reading → Word → List ℕ → List Secret → (left left' : Option (List ℕ)) → Type 0
 OptionGives reading Pattern value secrets left left' = GivesPattern reading.rules.parts value secrets × (left' ≡ left)
-OptionGives reading Patterns value secrets left left' = GivesSecrets reading false value secrets left left'
-OptionGives reading Table value secrets left left' = GivesSecrets reading true value secrets left left'
+OptionGives reading Patterns value secrets left left' = GivesSecrets reading Plain value secrets left left'
+OptionGives reading Table value secrets left left' = GivesSecrets reading Rows value secrets left left'
+OptionGives reading Env value secrets left left' = GivesEnvironment reading value secrets × (left' ≡ left)
+OptionGives reading EnvFile value secrets left left' = GivesSecrets reading Variables value secrets left left'
+OptionGives reading Whole value secrets left left' = GivesSecrets reading WholeFile value secrets left left'
 OptionGives reading IgnoreCase value secrets left left' = (secrets ≡ []) × (left' ≡ left)
 OptionGives reading Kind value secrets left left' = (secrets ≡ []) × (left' ≡ left)
 OptionGives reading With value secrets left left' = (secrets ≡ []) × (left' ≡ left)
@@ -107,15 +148,23 @@ abbrev pub IsKeyGiven : Reading → Option (List ℕ) → Option (List ℕ) → 
 IsKeyGiven reading None key left left' = (key ≡ None) × (left' ≡ left)
 IsKeyGiven reading (Some name) key left left' = GivesKey reading name key left left'
 
--- what is read before any file is redacted: the secrets, and then the key of pseudonyms
+-- what is read before any file is redacted: the secrets, and then the key of pseudonyms. Where forms are asked for, that names each secret
 pub record Loaded : Type 0 where
   pub secrets : List Secret
   pub key : Option (List ℕ)
 
+abbrev pub loaded_by : List Given → List Secret → Option (List ℕ) → Loaded
+loaded_by given secrets None = record { secrets = secrets; key = None }
+loaded_by given secrets (Some key) =
+    if has Forms given then record { secrets = all_named (pseudonym_rule (has IgnoreCase given) key) secrets; key = None } else record { secrets = secrets; key = Some key }
+
 pub record AreLoaded (reading : Reading) (given : List Given) (loaded : Loaded) (left left' : Option (List ℕ)) : Type 0 where
   pub between : Option (List ℕ)
-  pub secrets : AreGiven reading given loaded.secrets left between
-  pub key : IsKeyGiven reading (last_value Pseudonym given) loaded.key between left'
+  pub secrets : List Secret
+  pub given_all : AreGiven reading given secrets left between
+  pub key : Option (List ℕ)
+  pub key_given : IsKeyGiven reading (last_value Pseudonym given) key between left'
+  pub is : loaded ≡ loaded_by given secrets key
 
 -- the key of some memory, and of some bytes
 abbrev pub key_in : {Z : Type 0} → Option (Vec ℕ Z) → Option (List ℕ)
@@ -128,16 +177,11 @@ key_lent key = option_map (λ bytes. bytes.now) key
 abbrev pub loaded_as : List Rule → Option (List ℕ) → Loaded
 loaded_as rules key = record { secrets = secrets_of rules; key = key }
 
--- what a list holds is added
-pub record IsAddedText (rules : Rules) (table : Bool) (text : List ℕ) (old new : List Secret) : Type 0 where
+-- what a file holds is added
+pub record IsAddedFile (reading : Reading) (listed : Listed) (name : List ℕ) (old new : List Secret) (left left' : Option (List ℕ)) : Type 0 where
   pub more : List Secret
   pub grown : new ≡ old ++ more
-  pub held : HoldsSecrets rules table text more
-
-pub record IsAddedFile (reading : Reading) (table : Bool) (name : List ℕ) (old new : List Secret) (left left' : Option (List ℕ)) : Type 0 where
-  pub more : List Secret
-  pub grown : new ≡ old ++ more
-  pub held : GivesSecrets reading table name more left left'
+  pub held : GivesSecrets reading listed name more left left'
 
 -- what an option gives is added
 pub record IsAddedItem (reading : Reading) (item : Given) (old new : List Secret) (left left' : Option (List ℕ)) : Type 0 where
@@ -146,13 +190,13 @@ pub record IsAddedItem (reading : Reading) (item : Given) (old new : List Secret
   pub of : OptionGives reading item.word item.value more left left'
 
 -- the same, of the rules and of the input before and after
-abbrev pub AddsList : {F Z : Type 0} → Lists F → Bool → List ℕ → (rules rules' : Vec Rule Z) → Type 0
-AddsList lists table text rules rules' = IsAddedText (rules_for lists) table text (secrets_of rules.items) (secrets_of rules'.items)
+abbrev pub AddsList : {F Z : Type 0} → Lists F → Listed → List ℕ → (rules rules' : Vec Rule Z) → Type 0
+AddsList lists listed text rules rules' = AddsSome (HoldsListed (rules_for lists) listed text) rules rules'
 
 module _ {F X R Z : Type 0} {Reads : Readers R} (D : Folders F X) (lists : Lists F) where
-  abbrev pub AddsFile : Bool → List ℕ → (rules rules' : Vec Rule Z) → (input input' : FromRead R Reads) → Type 0
-  AddsFile table name rules rules' input input' =
-      IsAddedFile (reading_of_lists D lists) table name (secrets_of rules.items) (secrets_of rules'.items) (bytes_left input) (bytes_left input')
+  abbrev pub AddsFile : Listed → List ℕ → (rules rules' : Vec Rule Z) → (input input' : FromRead R Reads) → Type 0
+  AddsFile listed name rules rules' input input' =
+      IsAddedFile (reading_of_lists D lists) listed name (secrets_of rules.items) (secrets_of rules'.items) (bytes_left input) (bytes_left input')
 
   abbrev pub AddsItem : Given → (rules rules' : Vec Rule Z) → (input input' : FromRead R Reads) → Type 0
   AddsItem item rules rules' input input' =
@@ -219,6 +263,7 @@ IsPatternFailure value (Arguments mistake) = ⊥
 IsPatternFailure value (BadPattern fault) = IsLineFault false value fault
 IsPatternFailure value (Unread name reason) = ⊥
 IsPatternFailure value (Empty name) = ⊥
+IsPatternFailure value (NoValue name) = ⊥
 IsPatternFailure value (ShortKey name) = ⊥
 IsPatternFailure value (Line name bad) = ⊥
 IsPatternFailure value (Short number) = ⊥
@@ -233,6 +278,7 @@ IsTextFailure rules table file text (Arguments mistake) = ⊥
 IsTextFailure rules table file text (BadPattern fault) = ⊥
 IsTextFailure rules table file text (Unread name reason) = ⊥
 IsTextFailure rules table file text (Empty name) = (name.now ≡ file) × (text ≡ []) × (rules.allow_empty ≡ false)
+IsTextFailure rules table file text (NoValue name) = ⊥
 IsTextFailure rules table file text (ShortKey name) = ⊥
 IsTextFailure rules table file text (Line name bad) =
     (name.now ≡ file) × (((bad.number ≡ 1) × (mark_in text ≡ Some bad.fault)) ⊎ IsListFault (form_by rules table) (lines_in text) bad)
@@ -241,15 +287,46 @@ IsTextFailure rules table file text (Unclean unclean) = ⊥
 IsTextFailure rules table file text Counts = ⊥
 IsTextFailure rules table file text (Other failure) = ⊥
 
+-- there is no value of what has this name, or an empty one; or memory runs out
+abbrev pub IsValuesFailure : Rules → List ℕ → List (List ℕ) → Failure → Type 0
+IsValuesFailure rules file values failure =
+    ((name : _) × (failure ≡ NoValue name) × (name.now ≡ file) × (are_refused rules.allow_empty values ≡ true)) ⊎ (failure ≡ Other NoMemory)
+
+-- the first line of a text is marked
+abbrev pub IsMarkFailure : List ℕ → List ℕ → Failure → Type 0
+IsMarkFailure file text failure = (name : _) × (bad : BadLine) × (failure ≡ Line name bad) × (name.now ≡ file) × (bad.number ≡ 1) × (mark_in text ≡ Some bad.fault)
+
+-- a text of variables does not give its values
+abbrev pub IsVariablesFailure : Rules → List ℕ → List ℕ → Failure → Type 0
+IsVariablesFailure rules file text failure =
+    IsMarkFailure file text failure
+    ⊎ (((name : _) × (bad : BadLine) × (failure ≡ Line name bad) × (name.now ≡ file) × (first_fault rules.allow_empty (form_by rules false) 1 (lines_in text) ≡ Some bad))
+    ⊎ IsValuesFailure rules file (values_in_text rules text) failure)
+
+-- nor does one that is one pattern
+abbrev pub IsWholeFailure : Rules → List ℕ → List ℕ → Failure → Type 0
+IsWholeFailure rules file text failure = IsMarkFailure file text failure ⊎ IsValuesFailure rules file (whole_in (form_by rules false) text ∷ []) failure
+
+abbrev pub IsListedFailure : Rules → Listed → List ℕ → List ℕ → Failure → Type 0
+IsListedFailure rules Plain file text failure = IsTextFailure rules false file text failure
+IsListedFailure rules Rows file text failure = IsTextFailure rules true file text failure
+IsListedFailure rules Variables file text failure = IsVariablesFailure rules file text failure
+IsListedFailure rules WholeFile file text failure = IsWholeFailure rules file text failure
+
+-- nor do the values of the environment
+abbrev pub IsEnvironmentFailure : Reading → List ℕ → Failure → Type 0
+IsEnvironmentFailure reading name failure =
+    ((entries : List (List ℕ)) × reading.environment entries × IsValuesFailure reading.rules name (filter_map (value_of_entry name) entries) failure) ⊎ (failure ≡ Other NoMemory)
+
 -- the text is that of the list, where the folder tells it
 abbrev pub IsListText : Reading → List ℕ → List ℕ → Type 0
 IsListText reading file text = is_input file ≡ false → IfSome (reading.holds file) (λ bytes. text ≡ bytes)
 
 -- the list of a name cannot be read, or its text holds none
-abbrev pub IsFileFailure : Reading → Bool → List ℕ → Failure → Type 0
-IsFileFailure reading table file failure =
+abbrev pub IsFileFailure : Reading → Listed → List ℕ → Failure → Type 0
+IsFileFailure reading listed file failure =
     ((name : _) × (reason : Reason) × (failure ≡ Unread name reason) × (name.now ≡ file) × CannotRead reading file reason)
-    ⊎ ((text : List ℕ) × IsListText reading file text × IsTextFailure reading.rules table file text failure)
+    ⊎ ((text : List ℕ) × IsListText reading file text × IsListedFailure reading.rules listed file text failure)
 
 -- the file of a name gives no key: it cannot be read, or has less than 16 bytes
 abbrev pub IsKeyFailure : Reading → List ℕ → Failure → Type 0
@@ -265,8 +342,11 @@ CannotLoadKey reading given failure = IfSome (last_value Pseudonym given) (λ fi
 abbrev pub CannotLoad : Reading → Given → Failure → Type 0
 CannotLoad reading item failure =
     ((item.word ≡ Pattern) × IsPatternFailure item.value failure)
-    ⊎ (((item.word ≡ Patterns) × IsFileFailure reading false item.value failure)
-    ⊎ ((item.word ≡ Table) × IsFileFailure reading true item.value failure))
+    ⊎ (((item.word ≡ Patterns) × IsFileFailure reading Plain item.value failure)
+    ⊎ (((item.word ≡ Table) × IsFileFailure reading Rows item.value failure)
+    ⊎ (((item.word ≡ Env) × IsEnvironmentFailure reading item.value failure)
+    ⊎ (((item.word ≡ EnvFile) × IsFileFailure reading Variables item.value failure)
+    ⊎ ((item.word ≡ Whole) × IsFileFailure reading WholeFile item.value failure)))))
 
 -- one of them does not
 abbrev pub CannotLoadOne : Reading → List Given → Failure → Type 0

@@ -13,11 +13,11 @@ use Rattle.acredact.specs.declared.arguments.Expects.{Expects}
 use Rattle.acredact.specs.declared.arguments.Expects.TheVariants.{Any, Value, Name}
 use Rattle.acredact.specs.declared.arguments.Item.{Item}
 use Rattle.acredact.specs.declared.arguments.Mistake.{Mistake}
-use Rattle.acredact.specs.declared.arguments.Mistake.TheVariants.{UnknownLetter, NotFound, NoValue, TakesNone, UnknownKind, UnknownForm, NoPattern, Mixed, OutOfMemory}
+use Rattle.acredact.specs.declared.arguments.Mistake.TheVariants.{UnknownLetter, NotFound, NoValue, TakesNone, UnknownKind, UnknownForm, BadName, NoPattern, Mixed, OutOfMemory}
 use Rattle.acredact.specs.declared.arguments.Mixture.{Mixture}
-use Rattle.acredact.specs.declared.arguments.Mixture.TheVariants.{StrictKind, PseudonymKind, PseudonymWith, PseudonymTable, FormsKind, FormsPseudonym, CountCheck, SummaryCheck, OutputCheck, InPlaceCheck, InPlaceOutput}
+use Rattle.acredact.specs.declared.arguments.Mixture.TheVariants.{StrictKind, PseudonymKind, PseudonymWith, PseudonymTable, FormsKind, CountCheck, SummaryCheck, OutputCheck, InPlaceCheck, InPlaceOutput}
 use Rattle.acredact.specs.declared.arguments.Word.{Word}
-use Rattle.acredact.specs.declared.arguments.Word.TheVariants.{Forms}
+use Rattle.acredact.specs.declared.arguments.Word.TheVariants.{Env, Forms}
 
 -- what is told of options that do not go together
 abbrev pub mixture_text : Mixture → List ℕ
@@ -26,7 +26,6 @@ mixture_text PseudonymKind = codes "--pseudonym needs --kind cover: other kinds 
 mixture_text PseudonymWith = codes "--pseudonym and --with do not go together: each says what is written"
 mixture_text PseudonymTable = codes "--pseudonym and -t do not go together: a table says what is written"
 mixture_text FormsKind = codes "--forms needs --kind cover: by other kinds a part of a form can stay"
-mixture_text FormsPseudonym = codes "--forms and --pseudonym do not go together: a secret would have several pseudonyms"
 mixture_text SummaryCheck = codes "--summary and --check do not go together: a check counts nothing"
 mixture_text OutputCheck = codes "--output and --check do not go together: a check writes nothing"
 mixture_text InPlaceCheck = codes "--in-place and --check do not go together: a check writes nothing"
@@ -53,9 +52,13 @@ kind_line = told_line (alone (codes "option '--kind' takes cover, first, longest
 abbrev pub form_line : List ℕ
 form_line = told_line (alone (codes "option '--forms' takes all, or some of base64,hex,url,json,xml,shell,lines"))
 
+-- nor can a variable have such a name
+abbrev pub variable_line : List ℕ
+variable_line = told_line (alone (codes "option '--env' takes a name of letters, digits and '_', and at its end a star"))
+
 -- an option cannot have a value
 abbrev pub value_line : Word → List ℕ
-value_line word = if is_same Forms word then form_line else kind_line
+value_line word = if is_same Forms word then form_line else if is_same Env word then variable_line else kind_line
 
 -- the line that tells a mistake
 abbrev pub mistake_line : Mistake → List ℕ
@@ -65,6 +68,7 @@ mistake_line (NoValue word) = misuse_line NoArgument (option_name word)
 mistake_line (TakesNone name) = misuse_line Argued name.now
 mistake_line UnknownKind = kind_line
 mistake_line UnknownForm = form_line
+mistake_line BadName = variable_line
 mistake_line NoPattern = told_line (alone (codes "no pattern: give -e, -f or -t, or --help"))
 mistake_line (Mixed mixture) = told_line (alone (mixture_text mixture))
 mistake_line OutOfMemory = told_line (alone (codes "out of memory"))

@@ -1,7 +1,11 @@
 -- What is read of the file of a name.
-use Rattle.std.specs.Prelude.{◌≡◌, ℕ, MatchBool, List, Option}
+use Rattle.std.specs.Prelude.{◌≡◌, ℕ, MatchBool, List, Option, Vec, map}
 use Rattle.std.specs.Io.KnownBytes.{Consumes, IsAtEnd}
 use Rattle.programs.specs.Names.{is_input}
+
+-- the bytes of each of some texts
+abbrev pub bytes_of_names : {Z : Type 0} → List (Vec ℕ Z) → List (List ℕ)
+bytes_of_names names = map (λ name. name.items) names
 
 -- it is what the input has left, or what the folder holds under the name
 abbrev pub OfName : (holds : List ℕ → Option (List ℕ)) → List ℕ → (Option (List ℕ) → Option (List ℕ) → Type 0) → (left left' : Option (List ℕ)) → Type 0

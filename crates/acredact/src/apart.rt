@@ -4,7 +4,8 @@ ghost use Rattle.std.specs.Prelude.{◌≡◌, ◌⊎◌, ℕ, List, IfErr, IfOk
 ghost use Rattle.programs.specs.Arguments.{texts};
 ghost use Rattle.programs.specs.Telling.{TellsBytes};
 ghost use Rattle.programs.specs.declared.failure.Failure.TheVariants.{OutOfMemory, Usage};
-ghost use Rattle.acredact.specs.Apart.{IsSetApart, IsNotApart, IsToldOf, Puts, bytes_of_names, names_file, next_behind, status_behind, told_by, told_lines, unnamed_lines};
+ghost use Rattle.acredact.specs.Apart.{IsSetApart, IsNotApart, IsToldOf, Puts, names_file, next_behind, status_behind, told_by, told_lines, unnamed_lines};
+ghost use Rattle.acredact.specs.Reads.{bytes_of_names};
 ghost use Rattle.acredact.specs.Arguments.{all_given};
 ghost use Rattle.acredact.specs.Calls.{IsWrongFailure};
 ghost use Rattle.acredact.specs.declared.arguments.Expects.TheVariants.{Any};

@@ -8,6 +8,7 @@ ghost use Rattle.acredact.specs.Mistakes.{FailsAs, IsMistake, IsMistakeOfCall, T
 
 use crate::forms::are_forms;
 use crate::long::option_of;
+use crate::values::is_variable_name;
 use aho_core::search::MatchKind;
 use call_options::argument::{Argument, text_argument_of};
 use call_options::found::NotFound;
@@ -26,6 +27,12 @@ pub enum Word {
     Patterns,
     /// `-t`: a table of patterns with their replacements.
     Table,
+    /// `--env`: a variable of the environment, or several, whose values are patterns.
+    Env,
+    /// `--env-file`: a file of variables whose values are patterns.
+    EnvFile,
+    /// `--whole`: a file whose bytes are one pattern.
+    Whole,
     /// `--with`: the replacement of each pattern that has none of its own.
     With,
     /// `--pseudonym`: the file of the key by which the text in the place of each run is made of its bytes.
@@ -42,7 +49,7 @@ pub enum Word {
     Summary,
     /// `--crlf`: a carriage return at the end of a line of a file of patterns or of a table is left out.
     Crlf,
-    /// `--allow-empty`: a file of patterns or a table may be empty.
+    /// `--allow-empty`: a file of patterns or a table may be empty, and so may a value.
     AllowEmpty,
     /// `--strict`: a replacement that is not clean is refused.
     Strict,
@@ -89,8 +96,6 @@ pub enum Mixture {
     PseudonymTable,
     /// `--forms` with another kind than cover: by other kinds a part of a form can stay.
     FormsKind,
-    /// `--forms` with `--pseudonym`: one run would have as many pseudonyms as forms.
-    FormsPseudonym,
     /// `--count` with `--check`, which counts nothing.
     CountCheck,
     /// `--summary` with `--check`.
@@ -118,7 +123,9 @@ pub enum Mistake<'a> {
     UnknownKind,
     /// The value of `--forms` names no forms. It is not told either.
     UnknownForm,
-    /// There is no pattern, no file of patterns and no table.
+    /// The value of `--env` can be no name of a variable. It is not told: it may be the value of one.
+    BadName,
+    /// No option gives a pattern.
     NoPattern,
     /// These options do not go together.
     Mixed(Mixture),
@@ -144,6 +151,9 @@ pub fn name_of(word: Word) -> &'static str
         Word::Kind => "--kind",
         Word::Patterns => "-f",
         Word::Table => "-t",
+        Word::Env => "--env",
+        Word::EnvFile => "--env-file",
+        Word::Whole => "--whole",
         Word::With => "--with",
         Word::Pseudonym => "--pseudonym",
         Word::Forms => "--forms",
@@ -162,6 +172,9 @@ pub fn takes_value(word: Word) -> bool
             | Word::Pattern
             | Word::Patterns
             | Word::Table
+            | Word::Env
+            | Word::EnvFile
+            | Word::Whole
             | Word::With
             | Word::Pseudonym
             | Word::Forms
@@ -212,9 +225,6 @@ fn mixture_of(items: &[Item<'_>]) -> Option<Mixture>
     }
     if has(items, Word::Forms) && !covers(items) {
         return Some(Mixture::FormsKind);
-    }
-    if has(items, Word::Forms) && has(items, Word::Pseudonym) {
-        return Some(Mixture::FormsPseudonym);
     }
     if has(items, Word::Count) && has(items, Word::Check) {
         return Some(Mixture::CountCheck);
@@ -413,6 +423,9 @@ fn unknown_value<'a>(word: Word) -> Mistake<'a>
     if is_same(Word::Forms, word) {
         return Mistake::UnknownForm;
     }
+    if is_same(Word::Env, word) {
+        return Mistake::BadName;
+    }
     Mistake::UnknownKind
 }
 
@@ -423,13 +436,15 @@ fn is_cover(name: &str) -> bool
     name == "cover"
 }
 
-/// Whether an option can have this value: that of `--kind` is `cover` or a match kind, and that of `--forms` names forms.
+/// Whether an option can have this value: that of `--kind` is `cover` or a match kind, that of `--forms` names forms, and that of
+/// `--env` variables.
 fn is_value_of(word: Word, value: &str) -> bool
     ensures is { result ≡ is_value_of word value.now }
 {
     match word {
         Word::Kind => is_cover(value) || kind_by(value).is_some(),
         Word::Forms => are_forms(value),
+        Word::Env => is_variable_name(value),
         _ => true,
     }
 }

@@ -34,6 +34,8 @@ pub enum Failure<'a> {
     Unread(&'a str, Reason),
     /// A file of patterns or a table is empty.
     Empty(&'a str),
+    /// A variable has no value, or none that is not empty, or a file holds no such one.
+    NoValue(&'a str),
     /// The file of a key has too few bytes.
     ShortKey(&'a str),
     /// A line of a file of patterns or of a table is wrong.
@@ -152,6 +154,11 @@ pub fn tell_failure<E: Sink>(errors: &mut Errors<'_, E>, failure: &Failure<'_>)
             name,
             "no pattern: give --allow-empty to allow it",
         ),
+        Failure::NoValue(name) => tell_about(
+            errors,
+            name,
+            "no value: give --allow-empty to pass it over",
+        ),
         Failure::ShortKey(name) => tell_about(errors, name, "key of less than 16 bytes"),
         Failure::Line(name, line) => tell_line(errors, name, *line),
         Failure::Short(number) => tell_short(errors, *number),
@@ -255,6 +262,10 @@ fn tell_mistake<E: Sink>(errors: &mut Errors<'_, E>, mistake: Mistake<'_>)
             errors,
             "option '--forms' takes all, or some of base64,hex,url,json,xml,shell,lines",
         ),
+        Mistake::BadName => tell_alone(
+            errors,
+            "option '--env' takes a name of letters, digits and '_', and at its end a star",
+        ),
         Mistake::NoPattern => tell_alone(errors, "no pattern: give -e, -f or -t, or --help"),
         Mistake::Mixed(mixture) => tell_alone(errors, mixture_text(mixture)),
         Mistake::OutOfMemory => tell_alone(errors, "out of memory"),
@@ -295,9 +306,6 @@ fn mixture_text(mixture: Mixture) -> &'static str
         }
         Mixture::FormsKind =>
             "--forms needs --kind cover: by other kinds a part of a form can stay",
-        Mixture::FormsPseudonym => {
-            "--forms and --pseudonym do not go together: a secret would have several pseudonyms"
-        }
         Mixture::SummaryCheck => {
             "--summary and --check do not go together: a check counts nothing"
         }
@@ -343,6 +351,8 @@ fn text_of(fault: LineFault) -> &'static str
         LineFault::ZeroByte => "zero byte: is this UTF-16?",
         LineFault::Blank => "a blank at an end of the pattern is a part of it",
         LineFault::Quotes => "the quotes around the pattern are a part of it",
+        LineFault::NoEquals => "no equals sign",
+        LineFault::EmptyValue => "empty value: give --allow-empty to pass it over",
         LineFault::OutOfMemory => "out of memory",
     }
 }

@@ -1,18 +1,22 @@
-//! Where files are opened: that of the process.
+//! Where files are opened, and what the environment holds: that of the process.
 
 ghost use Rattle.std.specs.Prelude.{ℕ, Bool, List, Option, None, IfErr, IfOk, ⊤};
 ghost use Rattle.std.specs.Io.KnownBytes.{Keeps};
 ghost use Rattle.programs.specs.declared.reason.Reason.{Reason};
+ghost use Rattle.acredact.specs.Reads.{bytes_of_names};
 
+use crate::environment::environment;
 use programs::reason::Reason;
+use std::alloc::{AllocError, Global};
 use std::cell::Cell;
+use std::env::Env;
 use std::fs;
 use std::fs::{Metadata, OpenFile};
 use std::io::Read;
 use std::os::unix::fs::MetadataExt;
 use std::rt::Files;
 
-/// What opens files by their names.
+/// What opens files by their names, and tells the environment.
 pub trait Folder {
     /// An opened file.
     type File: Read + Drop;
@@ -26,6 +30,9 @@ pub trait Folder {
     /// What may be answered of the file of this name: whether standard output goes to it.
     ghost meets: { Self → List ℕ → Bool → Type 0 };
 
+    /// What may be the entries of the environment.
+    ghost environment: { Self → List (List ℕ) → Type 0 };
+
     /// Opens the file of this name to be read.
     fn open(&self, name: &str) -> Result<Self::File, Reason>
         ensures told { IfOk result (λ file.
@@ -35,6 +42,14 @@ pub trait Folder {
     /// Whether standard output goes to the file of this name, or to what standard input is, where the name is `-`.
     fn is_output(&self, name: &str) -> bool
         ensures { meets self.now name.now result };
+
+    /// The entries of the environment, each `NAME=value`.
+    ///
+    /// # Errors
+    ///
+    /// Where memory runs out.
+    fn entries(&self, alloc: Global) -> Result<Vec<Vec<u8>>, AllocError>
+        ensures of { IfOk result (λ entries. environment self.now (bytes_of_names entries.items)) };
 }
 
 /// A regular file of the system, by its device and its number there.
@@ -100,7 +115,7 @@ fn place_of<R: Files>(rt: &R, name: &str) -> Option<Place> {
     }
 }
 
-impl<R: Files> Folder for Host<'_, '_, '_, R> {
+impl<R: Files + Env> Folder for Host<'_, '_, '_, R> {
     type File = R::File;
 
     // What the process can read is told by nothing, and neither is what it cannot.
@@ -109,6 +124,8 @@ impl<R: Files> Folder for Host<'_, '_, '_, R> {
     ghost refuses = { λ folder name reason. ⊤ };
 
     ghost meets = { λ folder name answer. ⊤ };
+
+    ghost environment = { λ folder entries. ⊤ };
 
     fn open(&self, name: &str) -> Result<R::File, Reason> {
         let file = match fs::open(self.rt, name) {
@@ -132,5 +149,9 @@ impl<R: Files> Folder for Host<'_, '_, '_, R> {
             Some(output) => place_of(self.rt, name) == Some(output),
             None => false,
         }
+    }
+
+    fn entries(&self, alloc: Global) -> Result<Vec<Vec<u8>>, AllocError> {
+        environment(self.rt, alloc)
     }
 }

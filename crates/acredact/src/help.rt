@@ -14,12 +14,16 @@ Patterns, one at least:
   -f, --file FILE       redact each line of FILE
   -t, --table TABLE     redact by TABLE: each line is a pattern, a TAB and its
                         replacement, where \\t, \\n and \\\\ stand for bytes
+  --env NAME            redact the value of NAME in the environment; NAME* is
+                        each that begins so
+  --env-file FILE       redact the value in each line NAME=VALUE of FILE
+  --whole FILE          redact what FILE holds, without a line end behind it
   -i, --ignore-case     ASCII letters are the same in both cases
   --forms FORMS         redact encoded patterns too: FORMS is all, or some of
                         base64,hex,url,json,xml,shell,lines
   --crlf                a carriage return at the end of a line of FILE or TABLE
                         is no part of it
-  --allow-empty         FILE and TABLE may have no line
+  --allow-empty         FILE and TABLE may have no line, and variables no value
 
 Replacements:
   --kind KIND           what is replaced: cover (the default), each byte of each
@@ -28,7 +32,8 @@ Replacements:
   --with TEXT           the replacement of patterns that have none of their own,
                         not '[redacted]'
   --pseudonym KEYFILE   replace each run by 12 digits, which are the same for
-                        equal runs: HMAC-SHA-256 by the key in KEYFILE
+                        equal runs: HMAC-SHA-256 by the key in KEYFILE; with
+                        --forms, for equal secrets, in whatever form they are
   --strict              refuse replacements that can spell a pattern with what
                         stands beside them, and doubtful lines of lists
 

@@ -10,7 +10,7 @@ ghost use Rattle.acredact.specs.Back.{AreBoth, IfBackIs};
 ghost use Rattle.acredact.specs.Calls.{IsWrongFailure, IsWrongLine, ReadsAsked};
 ghost use Rattle.acredact.specs.Counts.{zeros};
 ghost use Rattle.acredact.specs.Files.{CanDo};
-ghost use Rattle.acredact.specs.InPlace.{AskedPlaces, CallCounts, CallPlaces, DoubtedPlaces, FreesAll, KeepsEach, KeylessPlaces, LoadedPlaces, NameCounts, NameVolume, PlaceJob, PlacesAll, PlacesCount, PlacesJob, PlacesReach, PlacesTell, SaysOfPlaces, WarnsPlaces};
+ghost use Rattle.acredact.specs.InPlace.{AskedPlaces, CallCounts, CallPlaces, DoubtedPlaces, FreesAll, KeepsEach, KeyedPlaces, KeylessPlaces, LoadedPlaces, NameCounts, NameVolume, PlaceJob, PlacesAll, PlacesCount, PlacesJob, PlacesReach, PlacesTell, SaysOfPlaces, WarnsPlaces};
 ghost use Rattle.acredact.specs.Into.{IsKept, TellsUnread, WarnsAll};
 ghost use Rattle.acredact.specs.Pieces.{IfOfAll};
 ghost use Rattle.acredact.specs.Secrets.{IfOf};
@@ -27,11 +27,12 @@ use crate::failure::{Failure, tell_no_file, tell_unread};
 use crate::files::{Job, both, is_input};
 use crate::folder::Folder;
 use crate::load::{key_of, lists_of, rules};
+use crate::named::named_rules;
 use crate::outputs::Outputs;
 use crate::patterns::{Rule, patterns_of, replacements_of};
 use crate::rows::build;
 use crate::run::{
-    FAILED, gives_pattern, key_by, names, redact_by, report, tell_counted, text_of, warn,
+    FAILED, gives_pattern, key_by, name_key, names, redact_by, report, tell_counted, text_of, warn,
 };
 use crate::streams::Streams;
 use crate::summary::Volume;
@@ -162,12 +163,42 @@ fn load_key<'a, F: Folder, O: Outputs, I: Read, E: Sink>(
     let lists = lists_of(alloc, given, folder);
     match key_of(&lists, given, &mut streams.input) {
         Ok(Some(key)) => {
-            let key = Some(key.as_slice());
-            place_loaded(alloc, given, rules, key, folder, outputs, streams)
+            let key = key.as_slice();
+            place_by_key(alloc, given, rules, key, folder, outputs, streams)
         }
         Ok(None) => place_loaded(alloc, given, rules, None, folder, outputs, streams),
         Err(failure) => Err(failure),
     }
+}
+
+/// Replaces each file by these rules and this key, and answers whether all were replaced. Where forms are asked for, each form has the
+/// pseudonym of its secret.
+fn place_by_key<'a, F: Folder, O: Outputs, I: Read, E: Sink>(
+    alloc: Global,
+    given: &[Item<'a>],
+    rules: &[Rule],
+    key: &[u8],
+    folder: &F,
+    outputs: &mut O,
+    streams: &mut Streams<'_, I, O::File, E>,
+) -> Result<bool, Failure<'a>>
+    requires some { HaveNoEmpty (secrets_of rules.now) }
+    ensures outcome { KeyedPlaces O.File.Write E.Sink F.Folder O.Outputs
+        folder.now given.now rules.now key.now result outputs.old outputs.new streams.old streams.new }
+{
+    if !has(given, Word::Forms) {
+        return place_loaded(alloc, given, rules, Some(key), folder, outputs, streams);
+    }
+    let named = named_rules(alloc, rules, name_key(given, key))?;
+    place_loaded(
+        alloc,
+        given,
+        named.as_slice(),
+        None,
+        folder,
+        outputs,
+        streams,
+    )
 }
 
 /// Tells of doubtful patterns of lists, or refuses the first, replaces each file by these rules, and answers whether all were

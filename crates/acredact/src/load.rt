@@ -1,14 +1,16 @@
 //! The rules of all patterns, files and tables that are given.
 
-ghost use Rattle.std.specs.Prelude.{◌≡◌, ℕ, List, Option, Some, IfErr, IfOk, OnOk};
+ghost use Rattle.std.specs.Prelude.{◌≡◌, ℕ, List, Option, Some, IfErr, IfOk, OnOk, false};
+ghost use Rattle.aho_core.specs.Replacement.{pieces_of};
 ghost use Rattle.aho_devices.specs.Counts.{counted};
 ghost use Rattle.programs.specs.Streams.{bytes_left};
 ghost use Rattle.acredact.specs.Arguments.{all_given, given_of};
 ghost use Rattle.acredact.specs.Calls.{rules_asked};
 ghost use Rattle.acredact.specs.Forms.{HaveForms, forms_asked};
-ghost use Rattle.acredact.specs.Loading.{AddsFile, AddsItem, AddsList, CannotLoad, CannotLoadAll, CannotLoadKey, CannotLoadOne, CannotRead, GivesRules, IsFileFailure, IsKeyFailure, IsPatternFailure, IsTextFailure, IsTextReason, LoadsKey, ReadsKey, ReadsList, ReadsRules, is_failed_text, reading_of_lists, rules_for};
+ghost use Rattle.acredact.specs.Loading.{AddsFile, AddsItem, AddsList, CannotLoad, CannotLoadAll, CannotLoadKey, CannotLoadOne, CannotRead, GivesEnvironment, GivesRules, GivesValues, HoldsSecrets, HoldsVariables, HoldsWhole, IsEnvironmentFailure, IsFileFailure, IsKeyFailure, IsListedFailure, IsValuesFailure, IsVariablesFailure, IsWholeFailure, IsPatternFailure, IsTextFailure, IsTextReason, LoadsKey, ReadsKey, ReadsList, ReadsRules, form_by, is_failed_text, reading_of_lists, rules_for};
 ghost use Rattle.acredact.specs.Parts.{AddsSome, ArePartsBy, GivesPattern};
 ghost use Rattle.acredact.specs.Reads.{ReadsText};
+ghost use Rattle.acredact.specs.Values.{GiveEach, GivesValue};
 ghost use Rattle.acredact.specs.declared.failure.Failure.TheVariants.{Other, Pattern};
 ghost use Rattle.programs.specs.declared.failure.Failure.TheVariants.{OutOfMemory as OutOfMemoryFailure};
 ghost use Rattle.acredact.specs.declared.patterns.LineFault.TheVariants.{OutOfMemory};
@@ -20,11 +22,12 @@ use crate::folder::Folder;
 use crate::forms::add_forms;
 use crate::parts::add_parts;
 use crate::patterns::{BadLine, Form, LineFault, Place, Rule, add_line, add_lines, mark_of};
+use crate::values::{are_refused, first_fault, values_in_text, values_of_entries, whole_in};
 use aho_devices::adapters::FromRead;
 use aho_devices::device::Source;
 use programs::failure;
 use programs::reason::Reason;
-use std::alloc::Global;
+use std::alloc::{AllocError, Global};
 use std::io::Read;
 
 /// How many bytes of a list are read at once.
@@ -32,6 +35,19 @@ const PIECE: usize = 16 * 1024;
 
 /// How many bytes a key has at least.
 const LEAST_KEY: usize = 16;
+
+/// What a file is that gives patterns.
+#[derive(Clone, Copy)]
+pub enum Listed {
+    /// A file of patterns.
+    Plain,
+    /// A table.
+    Rows,
+    /// A file of variables.
+    Variables,
+    /// A file that is one pattern.
+    Whole,
+}
 
 /// How files of patterns and tables are read.
 #[derive(Clone, Copy)]
@@ -42,7 +58,7 @@ pub struct Lists<'f, 'v, F> {
     pub folder: &'f F,
     /// Whether a carriage return at the end of a line is left out.
     pub crlf: bool,
-    /// Whether a file may be empty.
+    /// Whether a file may be empty, and a value.
     pub allow_empty: bool,
     /// Whether long lines of a pattern that has line ends are patterns too.
     pub parts: bool,
@@ -190,27 +206,103 @@ fn add_item<'a, F: Folder, I: Read>(
         rules.old rules.new input.old input.new) }
     ensures fails { IfErr result (CannotLoad (reading_of_lists F.Folder lists.now) (given_of item.entry)) }
 {
+    let name = item.value;
     match item.word {
-        Word::Pattern => add_pattern(lists, rules, item.value, number),
-        Word::Patterns => add_file(lists, rules, item.value, false, number, input),
-        Word::Table => add_file(lists, rules, item.value, true, number, input),
+        Word::Pattern => add_pattern(lists, rules, name.as_bytes(), number),
+        Word::Env => add_environment(lists, rules, name, number),
+        Word::Patterns => add_file(lists, rules, name, Listed::Plain, number, input),
+        Word::Table => add_file(lists, rules, name, Listed::Rows, number, input),
+        Word::EnvFile => add_file(lists, rules, name, Listed::Variables, number, input),
+        Word::Whole => add_file(lists, rules, name, Listed::Whole, number, input),
         _ => Ok(()),
     }
 }
 
-/// Adds the rule of a pattern among the arguments.
+/// Adds the rules of the values of variables of the environment.
+fn add_environment<'a, F: Folder>(
+    lists: &Lists<'_, '_, F>,
+    rules: &mut Vec<Rule>,
+    name: &'a str,
+    list: usize,
+) -> Result<(), Failure<'a>>
+    ensures added { OnOk result (AddsSome
+        (GivesEnvironment (reading_of_lists F.Folder lists.now) name.now) rules.old rules.new) }
+    ensures fails { IfErr result (IsEnvironmentFailure (reading_of_lists F.Folder lists.now) name.now) }
+{
+    let entries = lists.folder.entries(lists.alloc)?;
+    let values = values_of_entries(lists.alloc, entries.as_slice(), name.as_bytes())?;
+    add_values(lists, rules, name, values.as_slice(), list)
+}
+
+/// Adds the rules of some values, of what has this name; or refuses them, where there is none, or an empty one.
+fn add_values<'a, F>(
+    lists: &Lists<'_, '_, F>,
+    rules: &mut Vec<Rule>,
+    name: &'a str,
+    values: &[&[u8]],
+    list: usize,
+) -> Result<(), Failure<'a>>
+    ensures added { OnOk result (AddsSome
+        (GivesValues (rules_for lists.now) (pieces_of values.now)) rules.old rules.new) }
+    ensures fails { IfErr result (IsValuesFailure (rules_for lists.now) name.now (pieces_of values.now)) }
+{
+    if are_refused(lists.allow_empty, values) {
+        return Err(Failure::NoValue(name));
+    }
+    match add_each(lists, rules, values, list) {
+        Ok(()) => Ok(()),
+        Err(_) => Err(Failure::Other(failure::Failure::OutOfMemory)),
+    }
+}
+
+/// Adds the rules of these values, where they are not empty.
+fn add_each<F>(
+    lists: &Lists<'_, '_, F>,
+    rules: &mut Vec<Rule>,
+    values: &[&[u8]],
+    list: usize,
+) -> Result<(), AllocError>
+    ensures added { OnOk result (AddsSome
+        (GiveEach lists.now.parts (pieces_of values.now)) rules.old rules.new) }
+{
+    let mut rest = values;
+    while !rest.is_empty() {
+        add_value(lists, rules, rest[0], list)?;
+        rest = &rest[1..];
+    }
+    Ok(())
+}
+
+/// Adds the rule of a value, if that is not empty.
+fn add_value<F>(
+    lists: &Lists<'_, '_, F>,
+    rules: &mut Vec<Rule>,
+    value: &[u8],
+    list: usize,
+) -> Result<(), AllocError>
+    ensures added { OnOk result (AddsSome (GivesValue lists.now.parts value.now) rules.old rules.new) }
+{
+    if value.is_empty() {
+        return Ok(());
+    }
+    match add_pattern(lists, rules, value, list) {
+        Ok(()) => Ok(()),
+        Err(_) => Err(AllocError),
+    }
+}
+
+/// Adds the rule of a pattern that stands in no list.
 fn add_pattern<'a, F>(
     lists: &Lists<'_, '_, F>,
     rules: &mut Vec<Rule>,
-    pattern: &'a str,
+    pattern: &[u8],
     list: usize,
 ) -> Result<(), Failure<'a>>
     ensures added { OnOk result (AddsSome (GivesPattern lists.now.parts pattern.now) rules.old rules.new) }
     ensures fails { IfErr result (IsPatternFailure pattern.now) }
 {
-    let bytes = pattern.as_bytes();
-    match add_line(lists.alloc, rules, bytes, false, Place { list, line: 0 }) {
-        Ok(()) => add_parts_of(lists, rules, bytes, list),
+    match add_line(lists.alloc, rules, pattern, false, Place { list, line: 0 }) {
+        Ok(()) => add_parts_of(lists, rules, pattern, list),
         Err(fault) => Err(Failure::Pattern(fault)),
     }
 }
@@ -234,21 +326,21 @@ fn add_parts_of<'a, F>(
     }
 }
 
-/// Adds the rules of a file: of a table, or of a file of patterns.
+/// Adds the rules of a file.
 fn add_file<'a, F: Folder, I: Read>(
     lists: &Lists<'_, '_, F>,
     rules: &mut Vec<Rule>,
     name: &'a str,
-    table: bool,
+    listed: Listed,
     list: usize,
     input: &mut FromRead<I>,
 ) -> Result<(), Failure<'a>>
-    ensures added { OnOk result (AddsFile F.Folder lists.now table name.now
+    ensures added { OnOk result (AddsFile F.Folder lists.now listed name.now
         rules.old rules.new input.old input.new) }
-    ensures fails { IfErr result (IsFileFailure (reading_of_lists F.Folder lists.now) table name.now) }
+    ensures fails { IfErr result (IsFileFailure (reading_of_lists F.Folder lists.now) listed name.now) }
 {
     match read_list(lists, name, input) {
-        Ok(text) => add_text(lists, rules, name, table, list, text.as_slice()),
+        Ok(text) => add_text(lists, rules, name, listed, list, text.as_slice()),
         Err(reason) => Err(Failure::Unread(name, reason)),
     }
 }
@@ -258,11 +350,83 @@ fn add_text<'a, F>(
     lists: &Lists<'_, '_, F>,
     rules: &mut Vec<Rule>,
     name: &'a str,
+    listed: Listed,
+    list: usize,
+    text: &[u8],
+) -> Result<(), Failure<'a>>
+    ensures added { OnOk result (AddsList lists.now listed text.now rules.old rules.new) }
+    ensures fails { IfErr result (IsListedFailure (rules_for lists.now) listed name.now text.now) }
+{
+    match listed {
+        Listed::Plain => add_lines_of(lists, rules, name, false, list, text),
+        Listed::Rows => add_lines_of(lists, rules, name, true, list, text),
+        Listed::Variables => add_variables(lists, rules, name, list, text),
+        Listed::Whole => add_whole(lists, rules, name, list, text),
+    }
+}
+
+/// Adds the rules of the text of a file of variables.
+fn add_variables<'a, F>(
+    lists: &Lists<'_, '_, F>,
+    rules: &mut Vec<Rule>,
+    name: &'a str,
+    list: usize,
+    text: &[u8],
+) -> Result<(), Failure<'a>>
+    ensures added { OnOk result (AddsSome (HoldsVariables (rules_for lists.now) text.now) rules.old rules.new) }
+    ensures fails { IfErr result (IsVariablesFailure (rules_for lists.now) name.now text.now) }
+{
+    match mark_of(text) {
+        Some(fault) => return Err(Failure::Line(name, BadLine { number: 1, fault })),
+        None => {}
+    }
+    let form = form_of(lists);
+    if let Some(line) = first_fault(lists.allow_empty, form, text) {
+        return Err(Failure::Line(name, line));
+    }
+    let values = values_in_text(lists.alloc, form, text)?;
+    add_values(lists, rules, name, values.as_slice(), list)
+}
+
+/// Adds the rule of the text of a file that is one pattern.
+fn add_whole<'a, F>(
+    lists: &Lists<'_, '_, F>,
+    rules: &mut Vec<Rule>,
+    name: &'a str,
+    list: usize,
+    text: &[u8],
+) -> Result<(), Failure<'a>>
+    ensures added { OnOk result (AddsSome (HoldsWhole (rules_for lists.now) text.now) rules.old rules.new) }
+    ensures fails { IfErr result (IsWholeFailure (rules_for lists.now) name.now text.now) }
+{
+    match mark_of(text) {
+        Some(fault) => return Err(Failure::Line(name, BadLine { number: 1, fault })),
+        None => {}
+    }
+    let whole = whole_in(form_of(lists), text);
+    add_values(lists, rules, name, &[whole], list)
+}
+
+/// How the lines of a file are read that is no table.
+fn form_of<F>(lists: &Lists<'_, '_, F>) -> Form
+    ensures form { result ≡ form_by (rules_for lists.now) false }
+{
+    Form {
+        table: false,
+        crlf: lists.crlf,
+    }
+}
+
+/// Adds the rules of the text of a file that has one in each line.
+fn add_lines_of<'a, F>(
+    lists: &Lists<'_, '_, F>,
+    rules: &mut Vec<Rule>,
+    name: &'a str,
     table: bool,
     list: usize,
     text: &[u8],
 ) -> Result<(), Failure<'a>>
-    ensures added { OnOk result (AddsList lists.now table text.now rules.old rules.new) }
+    ensures added { OnOk result (AddsSome (HoldsSecrets (rules_for lists.now) table text.now) rules.old rules.new) }
     ensures fails { IfErr result (IsTextFailure (rules_for lists.now) table name.now text.now) }
 {
     if text.is_empty() && !lists.allow_empty {

@@ -1,4 +1,4 @@
-//! `acredact [-i] [--kind KIND] (-e PATTERN | -f FILE | -t TABLE).. [--with TEXT | --pseudonym KEYFILE] [--output FILE | --in-place] [--count] [--summary] [--check] [FILE]..` writes each FILE with a
+//! `acredact [-i] [--kind KIND] (-e PATTERN | -f FILE | -t TABLE | --env NAME | --env-file FILE | --whole FILE).. [--with TEXT | --pseudonym KEYFILE] [--output FILE | --in-place] [--count] [--summary] [--check] [FILE]..` writes each FILE with a
 //! text in the place of each match of some patterns: `[redacted]`, TEXT, the pattern's own of a TABLE, or a pseudonym by the key of
 //! KEYFILE. No FILE, or `-`, is standard
 //! input.
@@ -16,6 +16,7 @@ mod check;
 mod clean;
 mod counts;
 mod doubts;
+mod environment;
 mod failure;
 mod files;
 mod folder;
@@ -29,6 +30,7 @@ mod load;
 mod long;
 mod look;
 mod meter;
+mod named;
 mod outputs;
 mod parts;
 mod patterns;
@@ -42,6 +44,7 @@ mod spelled;
 mod streams;
 mod summary;
 mod sums;
+mod values;
 mod ways;
 
 ghost use Rattle.std.specs.Prelude.{◌≡◌, ◌≤◌, IfErr, IfOk, false, true};

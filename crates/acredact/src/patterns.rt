@@ -65,6 +65,10 @@ pub enum LineFault {
     Blank,
     /// Quotes stand around its pattern.
     Quotes,
+    /// There is no equals sign in a line of a file of variables.
+    NoEquals,
+    /// The value of a variable is empty.
+    EmptyValue,
     /// Memory runs out.
     OutOfMemory,
 }
@@ -317,7 +321,7 @@ fn add_listed(
 }
 
 /// A line as its rule stands in it: without a carriage return at its end, where those are left out.
-fn stripped_by(form: Form, line: &[u8]) -> &[u8]
+pub fn stripped_by(form: Form, line: &[u8]) -> &[u8]
     ensures line { result.now ≡ stripped_by form line.now }
 {
     if form.crlf {
@@ -327,7 +331,7 @@ fn stripped_by(form: Form, line: &[u8]) -> &[u8]
 }
 
 /// Whether a line ends in a carriage return.
-fn ends_in_return(line: &[u8]) -> bool
+pub fn ends_in_return(line: &[u8]) -> bool
     ensures ends { result ≡ ends_with_byte 13 line.now }
 {
     matches!(line.split_last(), Some((b'\r', _)))

@@ -9,7 +9,7 @@ ghost use Rattle.programs.specs.Telling.{Tells, TellsBytes, TellsSome};
 ghost use Rattle.acredact.specs.Arguments.{AreMistaken, AsksToRedact, GivesNoPattern, IfAsked, IfChecking, IfNoCheck, IsCheck, RefusesUnclean, all_given, checks_asked, counts_asked, counts_given, has};
 ghost use Rattle.acredact.specs.Back.{AreBoth, FilesJob, IfBackIs, RowsCounts, RowsOutcome};
 ghost use Rattle.acredact.specs.Bounds.{JobNumbers};
-ghost use Rattle.acredact.specs.Calls.{AskedOutcome, BeginsAsked, CountsAsked, DoubtedOutcome, IsCountsFailure, IsCountsLine, IsPrintFailure, IsRefusedLine, IsWrongLine, KeylessOutcome, LeavesNoneAsked, LoadOutcome, NumbersAsked, NumbersToldAsked, OutputFails, ReadsAsked, RedactsAsked, TellsAsked, TellsAnyCounts, WarnedJob, WarnedOutcome, WarnsAsked, call_of, gives_pattern, keyed_as, names_asked, text_asked, work_by};
+ghost use Rattle.acredact.specs.Calls.{AskedOutcome, BeginsAsked, CountsAsked, DoubtedOutcome, HidesAsked, IsCountsFailure, IsCountsLine, IsPrintFailure, IsRefusedLine, IsWrongLine, KeyedOutcome, KeylessOutcome, LeavesNoneAsked, LoadOutcome, NumbersAsked, NumbersToldAsked, OutputFails, ReadsAsked, RedactsAsked, TellsAsked, TellsAnyCounts, WarnedJob, WarnedOutcome, WarnsAsked, call_of, gives_pattern, gives_value, keyed_as, names_asked, text_asked, work_by};
 ghost use Rattle.acredact.specs.Checks.{MatchedAsked, SaysOfCheck, TellsListsAsked, TellsUncheckedAsked, UnmatchedAsked};
 ghost use Rattle.acredact.specs.Counts.{PutsText, lines_of_rules, secret_lines, zeros};
 ghost use Rattle.acredact.specs.Failures.{IsFailureLine};
@@ -25,7 +25,7 @@ ghost use Rattle.acredact.specs.Totals.{CountsWork, JobCounts};
 ghost use Rattle.acredact.specs.Volumes.{JobVolume};
 ghost use Rattle.acredact.specs.declared.clean.Unclean.{Unclean};
 ghost use Rattle.acredact.specs.declared.failure.Failure.TheVariants.{Unclean as UncleanPiece};
-ghost use Rattle.acredact.specs.declared.arguments.Word.TheVariants.{Strict};
+ghost use Rattle.acredact.specs.declared.arguments.Word.TheVariants.{Forms, IgnoreCase, Strict};
 
 use crate::arguments::{
     Item, Mistake, Word, checks, counts, covers, has, is_same, items, last_value,
@@ -40,6 +40,7 @@ use crate::files::{Job, back_files, redact_files};
 use crate::folder::Folder;
 use crate::help::{HELP, VERSION};
 use crate::load::{key_of, lists_of, rules};
+use crate::named::named_rules;
 use crate::patterns::{Rule, patterns_of, replacements_of};
 use crate::rows::build;
 use crate::streams::Streams;
@@ -91,6 +92,10 @@ pub fn run<F: Folder, I: Read, W: Write, E: Sink>(
     // Where the status is 0, the files were redacted, one after another, and no secret is left.
     ensures redacts { IfAsked arguments.now (λ given. result ≡ 0
         → RedactsAsked W.Write F.Folder folder.now given streams.old streams.new) }
+
+    // Where forms are asked for, each character that shows a bit of a secret in one of them lies in a range that was replaced.
+    ensures hides { IfAsked arguments.now (λ given. has Forms given ≡ true → result ≡ 0
+        → HidesAsked W.Write F.Folder folder.now given streams.old streams.new) }
 
     // Whatever the status is, each file's redaction was written or a beginning of it, one after another, and nothing else. Where a
     // read failed, of a cover all was written but for what lies in a match or may.
@@ -227,7 +232,17 @@ fn redact_asked<'a, F: Folder, I: Read, W: Write, E: Sink>(
 pub fn gives_pattern(given: &[Item<'_>]) -> bool
     ensures gives { result ≡ gives_pattern (all_given given.now) }
 {
-    has(given, Word::Pattern) || has(given, Word::Patterns) || has(given, Word::Table)
+    has(given, Word::Pattern)
+        || has(given, Word::Patterns)
+        || has(given, Word::Table)
+        || gives_value(given)
+}
+
+/// Whether an option gives values that are patterns.
+fn gives_value(given: &[Item<'_>]) -> bool
+    ensures gives { result ≡ gives_value (all_given given.now) }
+{
+    has(given, Word::Env) || has(given, Word::EnvFile) || has(given, Word::Whole)
 }
 
 /// Writes a text whole, and answers that nothing was left out.
@@ -275,9 +290,42 @@ fn load_key<'a, F: Folder, I: Read, W: Write, E: Sink>(
 {
     let lists = lists_of(alloc, given, folder);
     match key_of(&lists, given, &mut streams.input) {
-        Ok(Some(key)) => redact_loaded(alloc, given, rules, Some(key.as_slice()), folder, streams),
+        Ok(Some(key)) => redact_by_key(alloc, given, rules, key.as_slice(), folder, streams),
         Ok(None) => redact_loaded(alloc, given, rules, None, folder, streams),
         Err(failure) => Err(failure),
+    }
+}
+
+/// Redacts all files by these rules and this key, and answers whether all were read. Where forms are asked for, each form has the
+/// pseudonym of its secret.
+fn redact_by_key<'a, F: Folder, I: Read, W: Write, E: Sink>(
+    alloc: Global,
+    given: &[Item<'a>],
+    rules: &[Rule],
+    key: &[u8],
+    folder: &F,
+    streams: &mut Streams<'_, I, W, E>,
+) -> Result<bool, Failure<'a>>
+    requires some { HaveNoEmpty (secrets_of rules.now) }
+    ensures outcome { KeyedOutcome W.Write E.Sink F.Folder
+        folder.now (all_given given.now) rules.now key.now result streams.old streams.new }
+    ensures flushed { OnOk result (streams.new.output.device.flushed ≡ true) }
+{
+    if !has(given, Word::Forms) {
+        return redact_loaded(alloc, given, rules, Some(key), folder, streams);
+    }
+    let named = named_rules(alloc, rules, name_key(given, key))?;
+    redact_loaded(alloc, given, named.as_slice(), None, folder, streams)
+}
+
+/// A key, by the case rule that is given.
+pub fn name_key<'k>(given: &[Item<'_>], bytes: &'k [u8]) -> Key<'k>
+    ensures case { result.ignore_case ≡ has IgnoreCase (all_given given.now) }
+    ensures bytes { result.bytes.now ≡ bytes.entry.now }
+{
+    Key {
+        bytes,
+        ignore_case: has(given, Word::IgnoreCase),
     }
 }
 

@@ -1,7 +1,8 @@
 -- One argument more is set apart.
 use Rattle.std.proofs.Common.{rules, ◌≡◌, ℕ, List, ◌∷◌, length, ap, subst, ◌∙◌}
 use Rattle.programs.specs.Arguments.{texts}
-use Rattle.acredact.specs.Apart.{IsWrong, PutsName, PutsText, bytes_of_names}
+use Rattle.acredact.specs.Apart.{IsWrong, PutsName, PutsText}
+use Rattle.acredact.specs.Reads.{bytes_of_names}
 use Rattle.std.specs.Prelude.{◌⊎◌}
 use Rattle.acredact.proofs.SetApart.{ApartSoFar, apart_all, apart_put}
 use Rattle.acredact.proofs.ShownNames.{nil_of}

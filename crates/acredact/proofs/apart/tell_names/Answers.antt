@@ -2,7 +2,8 @@
 use Rattle.std.proofs.Common.{rules, ◌≡◌, ℕ, List, [], ◌++◌, length, refl, sym, ap, subst, ◌∙◌, append-nil, append_assoc}
 use Rattle.programs.specs.Telling.{TellsBytes}
 use Rattle.programs.proofs.Tellings.{tells-later}
-use Rattle.acredact.specs.Apart.{bytes_of_names, unnamed_line, unnamed_lines}
+use Rattle.acredact.specs.Apart.{unnamed_line, unnamed_lines}
+use Rattle.acredact.specs.Reads.{bytes_of_names}
 use Rattle.acredact.proofs.Done.{tells_none}
 use Rattle.acredact.proofs.ShownNames.{nil_of}
 use Rattle.acredact.proofs.apart.tell_names.Goals as goal

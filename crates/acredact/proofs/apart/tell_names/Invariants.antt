@@ -1,7 +1,8 @@
 -- The first names are told.
 use Rattle.std.proofs.Common.{◌≡◌, ℕ, List, ◌++◌, length}
 use Rattle.programs.specs.Telling.{TellsBytes}
-use Rattle.acredact.specs.Apart.{bytes_of_names, unnamed_lines}
+use Rattle.acredact.specs.Apart.{unnamed_lines}
+use Rattle.acredact.specs.Reads.{bytes_of_names}
 use Rattle.acredact.proofs.apart.tell_names.Given as goal
 
 abbrev pub invariant-loop-name : goal.invariant-loop-name

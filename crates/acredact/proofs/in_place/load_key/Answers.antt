@@ -1,5 +1,5 @@
 -- What was loaded is what is redacted, by the key, where there is one.
-use Rattle.std.proofs.Common.{inl, inr, List, ℕ, sym, subst}
+use Rattle.std.proofs.Common.{inl, inr, List, ℕ, refl, sym, subst}
 use Rattle.std.specs.Prelude.{None, Option, Some}
 use Rattle.programs.specs.Streams.{bytes_left}
 use Rattle.acredact.specs.Arguments.{all_given, last_value}
@@ -21,9 +21,9 @@ returns-in-Ok-Some g c = record {
       let of_lists = subst (λ (k : Option _). IsKeyGiven (reading_of_lists g.F.Folder c.lists_of-lists.result) asked (key_in k) old new) c.in-Ok-Some.field-0-is c.in-Ok-Some.ensures.key in
       let of_call = reading_from g.F.Folder c.lists_of-lists.result c.args.folder.now (rules_asked (all_given c.args.given.now)) c.lists_of-lists.ensures.folder c.lists_of-lists.ensures.rules
       (λ r. IsKeyGiven r asked (Some c.in-Ok-Some.key.items) old new) of_lists in
-      let key : IsKeyGiven (reading_by call) asked (Some c.as_slice.result.now) old new =
-      subst (λ (l : List ℕ). IsKeyGiven (reading_by call) asked (Some l) old new) (sym c.as_slice.ensures.value) of_call in
-      c.place_loaded.ensures.outcome left (record { between = old; secrets = given; key = key });
+      let key : IsKeyGiven (reading_by call) asked (Some c.as_slice-key.result.now) old new =
+      subst (λ (l : List ℕ). IsKeyGiven (reading_by call) asked (Some l) old new) (sym c.as_slice-key.ensures.value) of_call in
+      c.place_by_key.ensures.outcome left old given key;
 }
 
 pub returns-in-Ok-None : goal.returns-in-Ok-None
@@ -38,7 +38,7 @@ returns-in-Ok-None g c = record {
       let key : IsKeyGiven (reading_by call) asked None old new =
       reading_from g.F.Folder c.lists_of-lists.result c.args.folder.now (rules_asked (all_given c.args.given.now)) c.lists_of-lists.ensures.folder c.lists_of-lists.ensures.rules
       (λ r. IsKeyGiven r asked None old new) of_lists in
-      c.place_loaded-in-Ok-None.ensures.outcome left (record { between = old; secrets = given; key = key });
+      c.place_loaded.ensures.outcome left (record { between = old; secrets = _; given_all = given; key = None; key_given = key; is = refl });
 }
 
 pub returns-in-Err : goal.returns-in-Err

@@ -1,5 +1,5 @@
 -- What was loaded is redacted by the key, where there is one.
-use Rattle.std.proofs.Common.{inl, inr, List, ℕ, sym, subst}
+use Rattle.std.proofs.Common.{inl, inr, List, ℕ, refl, sym, subst}
 use Rattle.std.specs.Prelude.{None, Option, Some}
 use Rattle.programs.specs.Streams.{bytes_left}
 use Rattle.acredact.specs.Arguments.{all_given, last_value}
@@ -21,8 +21,8 @@ returns-in-Ok-Some-clause-outcome g c = λ left given.
     (λ r. IsKeyGiven r asked (Some c.in-Ok-Some.key.items) old new) of_lists in
     let key : IsKeyGiven (reading_by call) asked (Some c.as_slice.result.now) old new =
     subst (λ (l : List ℕ). IsKeyGiven (reading_by call) asked (Some l) old new) (sym c.as_slice.ensures.value) of_call in
-    call_from g.W.Write g.E.Sink call left c.args.streams.now c.redact_loaded.new.streams c.key_of.new.input c.redact_loaded.result
-    (c.redact_loaded.ensures.outcome left (record { between = old; secrets = given; key = key }))
+    call_from g.W.Write g.E.Sink call left c.args.streams.now c.redact_by_key.new.streams c.key_of.new.input c.redact_by_key.result
+    (c.redact_by_key.ensures.outcome left old given key)
 
 pub returns-in-Ok-None-clause-outcome : goal.returns-in-Ok-None-clause-outcome
 returns-in-Ok-None-clause-outcome g c = λ left given.
@@ -34,8 +34,8 @@ returns-in-Ok-None-clause-outcome g c = λ left given.
     let key : IsKeyGiven (reading_by call) asked None old new =
     reading_from g.F.Folder c.lists_of-lists.result c.args.folder.now (rules_asked (all_given c.args.given.now)) c.lists_of-lists.ensures.folder c.lists_of-lists.ensures.rules
     (λ r. IsKeyGiven r asked None old new) of_lists in
-    call_from g.W.Write g.E.Sink call left c.args.streams.now c.redact_loaded-in-Ok-None.new.streams c.key_of.new.input c.redact_loaded-in-Ok-None.result
-    (c.redact_loaded-in-Ok-None.ensures.outcome left (record { between = old; secrets = given; key = key }))
+    call_from g.W.Write g.E.Sink call left c.args.streams.now c.redact_loaded.new.streams c.key_of.new.input c.redact_loaded.result
+    (c.redact_loaded.ensures.outcome left (record { between = old; secrets = _; given_all = given; key = None; key_given = key; is = refl }))
 
 pub returns-in-Err-clause-outcome : goal.returns-in-Err-clause-outcome
 returns-in-Err-clause-outcome g c = λ left given.

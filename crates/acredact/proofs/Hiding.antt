@@ -1,0 +1,212 @@
+-- What shows a secret in a form lies in a replaced range.
+use Rattle.std.proofs.Common.{◌≡◌, ◌⊎◌, inl, inr, ℕ, zero, suc, ◌+◌, ◌-◌, ◌<◌, ◌≤◌, Bool, true, false, cond, List, [], ◌∷◌, ◌++◌, Option, length, length-append, map, take, drop, refl, sym, ap, subst, ◌∙◌, append_assoc, arith}
+use Rattle.std.specs.Prelude.{All, Contains, MatchBool, Some, None, chars, flat_map, if◌then◌else◌, nat_lt, slice_index_or, slice_range}
+use Rattle.std.specs.Borrow.{Bor}
+use Rattle.std.specs.declared.io.traits.Read.{Ghosts as Readers}
+use Rattle.std.specs.declared.io.traits.Write.{Ghosts as Writers}
+use Rattle.std.proofs.lemmas.Bool.{ltb-true}
+use Rattle.std.proofs.lemmas.List.Elements.{All-contains, Contains-append_left, Contains-append_right}
+use Rattle.std.proofs.Math.Seq.{take-append_seam}
+use Rattle.base64.specs.Engines.{standard, standard_no_pad, url_safe, url_safe_no_pad}
+use Rattle.base64.specs.GeneralPurpose.{encode_of}
+use Rattle.hex.specs.Hex.{encode_lower, encode_upper}
+use Rattle.aho_core.specs.Bytes.{IsSameWord, folded_word}
+use Rattle.aho_core.specs.Cover.{IsCovered}
+use Rattle.aho_core.specs.Listing.{IsMember}
+use Rattle.aho_core.specs.Occurrence.{Occurrence}
+use Rattle.aho_core.specs.Occurs.{OccursIn}
+use Rattle.aho_core.specs.Patterns.{Patterns, pattern_at}
+use Rattle.aho_core.specs.Search.{plain_search}
+use Rattle.secret_forms.specs.Forms.{HidesForm}
+use Rattle.secret_forms.specs.Json.{HidesCharacters, json_spellings, json_ways}
+use Rattle.secret_forms.specs.Law.{HidesBits, HidesEach, IsHidden}
+use Rattle.secret_forms.specs.Lines.{HidesLine, line_patterns}
+use Rattle.secret_forms.specs.Spelling.{HidesSpelled, shell_spellings, url_spellings, xml_spellings}
+use Rattle.secret_forms.specs.declared.bytewise.Spelling.{Spelling}
+use Rattle.secret_forms.specs.declared.form.Form.{Form}
+use Rattle.secret_forms.specs.declared.form.Form.TheVariants.{Base64, Hex, Url, Json, Xml, Shell, Lines}
+use Rattle.acredact.specs.Files.{AreRedacted, RedactsText, Work, WritesText}
+use Rattle.acredact.specs.Forms.{HideSecrets, HidesSecret, form_patterns_of, form_secret, forms_from, forms_of, with_forms}
+use Rattle.acredact.specs.Hidden.{AreHidden, HidesForms, NoneShows, ShowsBits, SpellsEach, ShowsForm, SpellsForm}
+use Rattle.acredact.specs.Secrets.{IsRedaction, NoByteIsKept, NoneIsWhole, Redactor}
+use Rattle.acredact.specs.Tables.{Secret, patterns_in}
+use Rattle.programs.specs.Streams.{bytes_left}
+use Rattle.aho_cover.specs.Pieces.{PieceRule}
+use Rattle.pseudonyms.specs.Pseudonyms.{pseudonym_rule}
+use Rattle.acredact.specs.Arguments.{Given, covers_asked, has, last_value}
+use Rattle.acredact.specs.Calls.{Call, HidesCall, RedactsCall, names_asked, work_by}
+use Rattle.acredact.specs.Loading.{Loaded, loaded_by}
+use Rattle.acredact.specs.Named.{all_named, named_secret}
+use Rattle.acredact.specs.declared.arguments.Word.TheVariants.{Forms as FormsOption, IgnoreCase}
+use Rattle.acredact.specs.declared.streams.Streams.{Streams}
+use Rattle.acredact.proofs.Free.{named_as}
+
+-- what a form hides is hidden where it shows
+module _ (patterns : List (List ℕ)) (secret text : List ℕ) (place : ℕ) where
+  hidden_at : (other : List ℕ) (at : ℕ) → text ≡ other → place ≡ at → IsHidden patterns other at → IsHidden patterns text place
+  hidden_at other at is there hidden = subst (λ (l : List ℕ). IsHidden patterns l place) (sym is) (subst (IsHidden patterns other) (sym there) hidden)
+
+  bits_hidden : (width : ℕ) (encode : List ℕ → List ℕ) → HidesBits width encode patterns secret → ShowsBits width encode secret text place → IsHidden patterns text place
+  bits_hidden width encode law shows = hidden_at _ _ shows.stands shows.there (law shows.before shows.after shows.ahead shows.behind shows.at shows.of_bytes shows.bit)
+
+  each_hidden : (write : ℕ → List ℕ) (part : List ℕ) → HidesEach write patterns part → SpellsEach write part text place → IsHidden patterns text place
+  each_hidden write part law shows = hidden_at _ _ shows.stands shows.there (law shows.before shows.after shows.ahead shows.behind shows.at shows.after_start shows.before_end)
+
+  spelled_hidden : (spellings : List Spelling) → All (HidesSpelled patterns secret) spellings → SpellsForm spellings secret text place → IsHidden patterns text place
+  spelled_hidden spellings law (spelling, listed, shows) = each_hidden _ secret (All-contains (HidesSpelled patterns secret) spellings spelling law listed) shows
+
+  form_hidden : (form : Form) → HidesForm patterns secret form → ShowsForm form secret text place → IsHidden patterns text place
+  form_hidden Base64 (a, b, c, d) (inl shows) = bits_hidden 6 (encode_of standard) a shows
+  form_hidden Base64 (a, b, c, d) (inr (inl shows)) = bits_hidden 6 (encode_of standard_no_pad) b shows
+  form_hidden Base64 (a, b, c, d) (inr (inr (inl shows))) = bits_hidden 6 (encode_of url_safe) c shows
+  form_hidden Base64 (a, b, c, d) (inr (inr (inr shows))) = bits_hidden 6 (encode_of url_safe_no_pad) d shows
+  form_hidden Hex (a, b) (inl shows) = bits_hidden 4 encode_lower a shows
+  form_hidden Hex (a, b) (inr shows) = bits_hidden 4 encode_upper b shows
+  form_hidden Url law shows = spelled_hidden url_spellings law shows
+  form_hidden Json (law, others) (inl shows) = spelled_hidden json_spellings law shows
+  form_hidden Json (law, others) (inr (utf8, way, listed, shows)) = each_hidden _ (chars secret) (All-contains (HidesCharacters patterns secret) json_ways way (others utf8) listed) shows
+  form_hidden Xml law shows = spelled_hidden xml_spellings law shows
+  form_hidden Shell law shows = spelled_hidden shell_spellings law shows
+  form_hidden Lines law (line, listed, shows) = each_hidden _ line (All-contains (HidesLine patterns) (line_patterns secret) line law listed) shows
+
+-- a pattern that stands in a text occurs there
+drop_seam : (xs ys : List ℕ) → drop (length xs) (xs ++ ys) ≡ ys
+drop_seam [] ys = refl
+drop_seam (x ∷ xs) ys = drop_seam xs ys
+
+range_between : (ahead pattern behind : List ℕ) → slice_range (ahead ++ (pattern ++ behind)) (length ahead) (length ahead + length pattern) ≡ pattern
+range_between ahead pattern behind =
+    let count : length ahead + length pattern - length ahead ≡ length pattern = omega arith in
+    ap (λ (n : ℕ). take n (drop (length ahead) (ahead ++ (pattern ++ behind)))) count ∙ ap (take (length pattern)) (drop_seam ahead (pattern ++ behind)) ∙ take-append_seam pattern behind
+
+occurs_there : (p : Patterns) (text : List ℕ) (number : ℕ) (pattern ahead behind : List ℕ) → number < length p.words → pattern_at p number ≡ pattern → text ≡ ahead ++ (pattern ++ behind)
+    → OccursIn p (plain_search text) (record { pattern = number; start = length ahead; end = length ahead + length pattern })
+occurs_there p text number pattern ahead behind numbered at is = record {
+  numbered = numbered;
+  after_start = omega arith;
+  before_end = omega (arith, ap length is, length-append ahead (pattern ++ behind), length-append pattern behind);
+  sized = ap (λ l. length ahead + length l) at;
+  same = ap (folded_word p) (at ∙ sym (range_between ahead pattern behind) ∙ ap (λ l. slice_range l (length ahead) (length ahead + length pattern)) (sym is));
+  admitted = λ yes. absurd (cc);
+}
+
+default_alike : (words : List (List ℕ)) (number : ℕ) (d e : List ℕ) → number < length words → slice_index_or words number d ≡ slice_index_or words number e
+default_alike [] number d e below = absurd (omega (arith, below))
+default_alike (word ∷ words) zero d e below = refl
+default_alike (word ∷ words) (suc number) d e below = default_alike words number d e (omega (arith, below))
+
+-- so what is hidden by some of the patterns that are searched for is covered
+hidden_covered : (p : Patterns) (patterns : List (List ℕ)) (text : List ℕ) (place : ℕ) → ((pattern : List ℕ) → Contains patterns pattern → Contains p.words pattern)
+    → IsHidden patterns text place → IsCovered (OccursIn p (plain_search text)) place
+hidden_covered p patterns text place within hidden =
+    let (number, below, is) = within hidden.pattern hidden.listed in record {
+      found = record { pattern = number; start = length hidden.ahead; end = length hidden.ahead + length hidden.pattern };
+      member = occurs_there p text number hidden.pattern hidden.ahead hidden.behind below (default_alike p.words number [] hidden.pattern below ∙ is) hidden.occurs;
+      after_start = hidden.after_start;
+      before_end = hidden.before_end;
+    }
+
+-- the patterns of a secret's forms are among all
+contains_head : (xs : List (List ℕ)) (x : List ℕ) → Contains (x ∷ xs) x
+contains_head xs x = (0, omega arith, refl)
+
+contains_tail : (xs : List (List ℕ)) (y x : List ℕ) → Contains xs x → Contains (y ∷ xs) x
+contains_tail xs y x (k, below, is) = (suc k, omega (arith, below), is)
+
+patterns_both : (xs ys : List Secret) → patterns_in (xs ++ ys) ≡ patterns_in xs ++ patterns_in ys
+patterns_both [] ys = refl
+patterns_both (x ∷ xs) ys = ap (λ l. x.pattern ∷ l) (patterns_both xs ys)
+
+patterns_made : (number : ℕ) (secret : Secret) (patterns : List (List ℕ)) → patterns_in (map (form_secret number secret) patterns) ≡ patterns
+patterns_made number secret [] = refl
+patterns_made number secret (p ∷ patterns) = ap (λ l. p ∷ l) (patterns_made number secret patterns)
+
+forms_within : (forms : List Form) (number : ℕ) (secret : Secret) → 4 ≤ length secret.pattern → patterns_in (forms_of forms number secret) ≡ form_patterns_of forms secret.pattern
+forms_within forms number secret long = by (nat_lt (length secret.pattern) 4) refl
+  where
+    by : (b : Bool) → nat_lt (length secret.pattern) 4 ≡ b → patterns_in (if b then [] else map (form_secret number secret) (form_patterns_of forms secret.pattern)) ≡ form_patterns_of forms secret.pattern
+    by true is = absurd (omega (arith, long, ltb-true _ _ is))
+    by false is = patterns_made number secret (form_patterns_of forms secret.pattern)
+
+all_within : (forms : List Form) (number : ℕ) (secrets : List Secret) (secret : Secret) (k : ℕ) → k < length secrets → slice_index_or secrets k secret ≡ secret → 4 ≤ length secret.pattern
+    → (pattern : List ℕ) → Contains (form_patterns_of forms secret.pattern) pattern → Contains (patterns_in (forms_from forms number secrets)) pattern
+all_within forms number [] secret k below is long pattern listed = absurd (omega (arith, below))
+all_within forms number (first ∷ secrets) secret zero below is long pattern listed =
+    let same : first ≡ secret = is in
+    let own : Contains (patterns_in (forms_of forms number first)) pattern =
+    subst (λ (l : List (List ℕ)). Contains l pattern) (sym (ap (λ s. patterns_in (forms_of forms number s)) same ∙ forms_within forms number secret long)) listed in
+    subst (λ (l : List (List ℕ)). Contains l pattern) (sym (patterns_both (forms_of forms number first) (forms_from forms (number + 1) secrets)))
+    (Contains-append_left (patterns_in (forms_of forms number first)) (patterns_in (forms_from forms (number + 1) secrets)) pattern own)
+all_within forms number (first ∷ secrets) secret (suc k) below is long pattern listed =
+    subst (λ (l : List (List ℕ)). Contains l pattern) (sym (patterns_both (forms_of forms number first) (forms_from forms (number + 1) secrets)))
+    (Contains-append_right (patterns_in (forms_of forms number first)) (patterns_in (forms_from forms (number + 1) secrets)) pattern
+    (all_within forms (number + 1) secrets secret k (omega (arith, below)) is long pattern listed))
+
+pub with_within : (forms : List Form) (secrets : List Secret) (secret : Secret) → Contains secrets secret → 4 ≤ length secret.pattern
+    → (pattern : List ℕ) → Contains (form_patterns_of forms secret.pattern) pattern → Contains (patterns_in (with_forms forms secrets)) pattern
+with_within forms secrets secret (k, below, is) long pattern listed =
+    subst (λ (l : List (List ℕ)). Contains l pattern) (sym (patterns_both secrets (forms_from forms 0 secrets)))
+    (Contains-append_right (patterns_in secrets) (patterns_in (forms_from forms 0 secrets)) pattern (all_within forms 0 secrets secret k below is long pattern listed))
+
+-- no form shows what stays of a text
+module _ (forms : List Form) (secrets : List Secret) (r : Redactor) (covers : r.covers ≡ true) (words : r.patterns.words ≡ patterns_in (with_forms forms secrets)) (laws : HideSecrets forms secrets) where
+  none_shows : (text : List ℕ) (ranges : List Occurrence) → NoByteIsKept r.patterns text ranges → NoneShows forms secrets text ranges
+  none_shows text ranges kept form secret place asked listed long shows =
+      let patterns = form_patterns_of forms secret.pattern in
+      let law : HidesForm patterns secret.pattern form = All-contains (HidesForm patterns secret.pattern) forms form (All-contains (HidesSecret forms) secrets secret laws listed long) asked in
+      kept.hidden place
+      (hidden_covered r.patterns patterns text place
+      (λ pattern one. subst (λ (l : List (List ℕ)). Contains l pattern) (sym words) (with_within forms secrets secret listed long pattern one))
+      (form_hidden patterns secret.pattern text place form law shows))
+
+  text_hidden : (left left' held held' : Option (List ℕ)) → RedactsText r left left' held held' → WritesText (HidesForms forms secrets r) left left' held held'
+  text_hidden left left' held held' of =
+      let is = of.redacts in
+      record {
+        text = of.text;
+        reads = of.reads;
+        redaction = of.redaction;
+        redacts = record { redacts = is; none = none_shows of.text is.ranges (subst (λ (b : Bool). MatchBool b (NoByteIsKept r.patterns of.text is.ranges) (NoneIsWhole r.patterns of.text is.ranges)) covers is.safe) };
+        written = of.written;
+      }
+
+-- nor what stays of any file
+pub hidden_of : (forms : List Form) (secrets : List Secret) (work : Work) → work.redactor.covers ≡ true → work.redactor.patterns.words ≡ patterns_in (with_forms forms secrets) → HideSecrets forms secrets
+    → (names : List (List ℕ)) (left left' held held' : Option (List ℕ)) → AreRedacted work names left left' held held' → AreHidden forms secrets work names left left' held held'
+hidden_of forms secrets work covers words laws [] left left' held held' are = are
+hidden_of forms secrets work covers words laws (name ∷ names) left left' held held' (between, meanwhile, apart, is, others) = (
+  between,
+  meanwhile,
+  named_as work.holds name (λ l l'. RedactsText work.redactor l l' held meanwhile) (λ l l'. WritesText (HidesForms forms secrets work.redactor) l l' held meanwhile)
+      (λ l l' of. text_hidden forms secrets work.redactor covers words laws l l' held meanwhile of) left between is,
+  hidden_of forms secrets work covers words laws names between left' meanwhile held' others,
+)
+
+-- a name changes no pattern
+named_patterns : (rule : PieceRule) (all secrets : List Secret) → patterns_in (map (named_secret rule all) secrets) ≡ patterns_in secrets
+named_patterns rule all [] = refl
+named_patterns rule all (secret ∷ secrets) = ap (λ l. secret.pattern ∷ l) (named_patterns rule all secrets)
+
+abbrev loaded_if : List Given → List Secret → List ℕ → Bool → Loaded
+loaded_if given secrets key b = if b then record { secrets = all_named (pseudonym_rule (has IgnoreCase given) key) secrets; key = None } else record { secrets = secrets; key = Some key }
+
+loaded_patterns : (given : List Given) (secrets : List Secret) (key : Option (List ℕ)) → patterns_in (loaded_by given secrets key).secrets ≡ patterns_in secrets
+loaded_patterns given secrets None = refl
+loaded_patterns given secrets (Some key) = by (has FormsOption given)
+  where
+    by : (b : Bool) → patterns_in (loaded_if given secrets key b).secrets ≡ patterns_in secrets
+    by true = named_patterns (pseudonym_rule (has IgnoreCase given) key) secrets secrets
+    by false = refl
+
+-- so no form shows a secret that a call redacts by a cover
+pub call_hides : {R W E : Type 0} {Reads : Readers R} (Writes : Writers W) (call : Call) (left : Option (List ℕ)) (streams streams' : Streams R W E Reads) → covers_asked call.given ≡ true
+    → RedactsCall Writes call left streams streams' → HidesCall Writes call left streams streams'
+call_hides Writes call left streams streams' covers of =
+    let all = of.loaded.given_all in
+    record {
+      load = of.load;
+      between = of.between;
+      loaded = of.loaded;
+      hidden = hidden_of _ all.plain (work_by call of.load) covers
+          (ap (λ (l : Loaded). patterns_in l.secrets) of.loaded.is ∙ loaded_patterns call.given of.loaded.secrets of.loaded.key ∙ ap patterns_in all.are) all.hidden (names_asked call.given) _ _ _ _ of.redacted;
+    }

@@ -1,0 +1,35 @@
+-- What is loaded where a key names the secrets.
+use Rattle.std.proofs.Common.{◌≡◌, ℕ, ◌≤◌, Bool, true, false, List, Option, length, map, refl, sym, ap, subst, ◌∙◌}
+use Rattle.std.specs.Prelude.{Some, None, if◌then◌else◌}
+use Rattle.std.proofs.lemmas.List.Elements.{All-map}
+use Rattle.aho_cover.specs.Pieces.{PieceRule}
+use Rattle.pseudonyms.specs.Pseudonyms.{pseudonym_rule}
+use Rattle.acredact.specs.Arguments.{Given, has}
+use Rattle.acredact.specs.Loading.{Loaded, loaded_by}
+use Rattle.acredact.specs.Named.{all_named, named_secret}
+use Rattle.acredact.specs.Tables.{HaveNoEmpty, Secret}
+use Rattle.acredact.specs.declared.arguments.Word.TheVariants.{Forms, IgnoreCase}
+use Rattle.acredact.proofs.Ready.{IsSomeSecret}
+
+-- no pattern that is named is empty
+pub named_some : (rule : PieceRule) (secrets named : List Secret) → named ≡ all_named rule secrets → HaveNoEmpty secrets → HaveNoEmpty named
+named_some rule secrets named is are = subst HaveNoEmpty (sym is) (All-map IsSomeSecret (named_secret rule secrets) secrets are)
+
+abbrev pub loaded_of : List Secret → Option (List ℕ) → Loaded
+loaded_of secrets key = record { secrets = secrets; key = key }
+
+module _ (given : List Given) (secrets : List Secret) (key : List ℕ) where
+  abbrev by_forms : Bool → Loaded
+  by_forms forms = if forms then loaded_of (all_named (pseudonym_rule (has IgnoreCase given) key) secrets) None else loaded_of secrets (Some key)
+
+  -- without forms the key names runs
+  pub loaded_plain : has Forms given ≡ false → loaded_of secrets (Some key) ≡ loaded_by given secrets (Some key)
+  loaded_plain none = sym (ap by_forms none)
+
+  -- with forms it names secrets
+  pub loaded_named : (named : List Secret) (ignore_case : Bool) (bytes : List ℕ) → has Forms given ≡ true → ignore_case ≡ has IgnoreCase given → bytes ≡ key
+      → named ≡ all_named (pseudonym_rule ignore_case bytes) secrets → loaded_of named None ≡ loaded_by given secrets (Some key)
+  loaded_named named ignore_case bytes asked case same is =
+      let by_key : named ≡ all_named (pseudonym_rule (has IgnoreCase given) key) secrets =
+      is ∙ ap (λ (b : Bool). all_named (pseudonym_rule b bytes) secrets) case ∙ ap (λ (l : List ℕ). all_named (pseudonym_rule (has IgnoreCase given) l) secrets) same in
+      ap (λ (l : List Secret). loaded_of l None) by_key ∙ sym (ap by_forms asked)

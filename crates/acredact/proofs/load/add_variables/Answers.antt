@@ -1,0 +1,40 @@
+-- The text is right, and its values are added.
+use Rattle.std.proofs.Common.{rules, ◌≡◌, inr, List, ℕ, false, sym, ap, subst, ◌∙◌}
+use Rattle.std.specs.Prelude.{None}
+use Rattle.std.specs.List.{filter_map}
+use Rattle.std.proofs.lemmas.Result.{IfErr-weaker, on_ok_weaker}
+use Rattle.aho_core.specs.Replacement.{pieces_of}
+use Rattle.acredact.specs.Loading.{GivesValues, IsValuesFailure, form_by, rules_for, values_in_text}
+use Rattle.acredact.specs.Tables.{lines_in, stripped_by}
+use Rattle.acredact.specs.Values.{first_fault, value_in_line}
+use Rattle.acredact.specs.declared.patterns.Form.{Form}
+use Rattle.acredact.proofs.load.add_variables.Goals as goal
+
+pub returns-clause-added : goal.returns-clause-added
+returns-clause-added g c =
+    let how = rules_for c.args.lists.now in
+    let text = c.args.text.now in
+    let form : c.form_of-form.result ≡ form_by how false = c.form_of-form.ensures.form in
+    let none : c.first_fault.result ≡ None = search rules in
+    let right : first_fault how.allow_empty (form_by how false) 1 (lines_in text) ≡ None =
+    ap (λ (f : Form). first_fault how.allow_empty f 1 (lines_in text)) (sym form) ∙ sym c.first_fault.ensures.first ∙ none in
+    let values : pieces_of c.as_slice.result.now ≡ values_in_text how text =
+    ap pieces_of c.as_slice.ensures.value ∙ c.in_ok-values.ensures.values ∙ ap (λ (f : Form). filter_map (λ line. value_in_line (stripped_by f line)) (lines_in text)) form in
+    on_ok_weaker c.add_values.result
+    (λ added. record {
+      more = added.more;
+      grown = added.grown;
+      of = record { unmarked = sym c.in-None.ensures.mark; right = right; given = subst (λ (l : List (List ℕ)). GivesValues how l added.more) values added.of };
+    })
+    c.add_values.ensures.added
+
+pub returns-clause-fails : goal.returns-clause-fails
+returns-clause-fails g c =
+    let how = rules_for c.args.lists.now in
+    let text = c.args.text.now in
+    let form : c.form_of-form.result ≡ form_by how false = c.form_of-form.ensures.form in
+    let values : pieces_of c.as_slice.result.now ≡ values_in_text how text =
+    ap pieces_of c.as_slice.ensures.value ∙ c.in_ok-values.ensures.values ∙ ap (λ (f : Form). filter_map (λ line. value_in_line (stripped_by f line)) (lines_in text)) form in
+    IfErr-weaker c.add_values.result _ _
+    (λ failure fails. inr (inr (subst (λ (l : List (List ℕ)). IsValuesFailure how c.args.name.now l failure) values fails)))
+    c.add_values.ensures.fails
