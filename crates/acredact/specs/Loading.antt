@@ -293,19 +293,19 @@ IsValuesFailure rules file values failure =
     ((name : _) × (failure ≡ NoValue name) × (name.now ≡ file) × (are_refused rules.allow_empty values ≡ true)) ⊎ (failure ≡ Other NoMemory)
 
 -- the first line of a text is marked
-abbrev pub IsMarkFailure : List ℕ → List ℕ → Failure → Type 0
-IsMarkFailure file text failure = (name : _) × (bad : BadLine) × (failure ≡ Line name bad) × (name.now ≡ file) × (bad.number ≡ 1) × (mark_in text ≡ Some bad.fault)
+abbrev pub IsMarkedFailure : List ℕ → List ℕ → Failure → Type 0
+IsMarkedFailure file text failure = (name : _) × (bad : BadLine) × (failure ≡ Line name bad) × (name.now ≡ file) × (bad.number ≡ 1) × (mark_in text ≡ Some bad.fault)
 
 -- a text of variables does not give its values
 abbrev pub IsVariablesFailure : Rules → List ℕ → List ℕ → Failure → Type 0
 IsVariablesFailure rules file text failure =
-    IsMarkFailure file text failure
+    IsMarkedFailure file text failure
     ⊎ (((name : _) × (bad : BadLine) × (failure ≡ Line name bad) × (name.now ≡ file) × (first_fault rules.allow_empty (form_by rules false) 1 (lines_in text) ≡ Some bad))
     ⊎ IsValuesFailure rules file (values_in_text rules text) failure)
 
 -- nor does one that is one pattern
 abbrev pub IsWholeFailure : Rules → List ℕ → List ℕ → Failure → Type 0
-IsWholeFailure rules file text failure = IsMarkFailure file text failure ⊎ IsValuesFailure rules file (whole_in (form_by rules false) text ∷ []) failure
+IsWholeFailure rules file text failure = IsMarkedFailure file text failure ⊎ IsValuesFailure rules file (whole_in (form_by rules false) text ∷ []) failure
 
 abbrev pub IsListedFailure : Rules → Listed → List ℕ → List ℕ → Failure → Type 0
 IsListedFailure rules Plain file text failure = IsTextFailure rules false file text failure

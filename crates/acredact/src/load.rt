@@ -27,7 +27,7 @@ use aho_devices::adapters::FromRead;
 use aho_devices::device::Source;
 use programs::failure;
 use programs::reason::Reason;
-use std::alloc::{AllocError, Global};
+use std::alloc::Global;
 use std::io::Read;
 
 /// How many bytes of a list are read at once.
@@ -256,12 +256,12 @@ fn add_values<'a, F>(
 }
 
 /// Adds the rules of these values, where they are not empty.
-fn add_each<F>(
+fn add_each<'a, F>(
     lists: &Lists<'_, '_, F>,
     rules: &mut Vec<Rule>,
     values: &[&[u8]],
     list: usize,
-) -> Result<(), AllocError>
+) -> Result<(), Failure<'a>>
     ensures added { OnOk result (AddsSome
         (GiveEach lists.now.parts (pieces_of values.now)) rules.old rules.new) }
 {
@@ -274,21 +274,18 @@ fn add_each<F>(
 }
 
 /// Adds the rule of a value, if that is not empty.
-fn add_value<F>(
+fn add_value<'a, F>(
     lists: &Lists<'_, '_, F>,
     rules: &mut Vec<Rule>,
     value: &[u8],
     list: usize,
-) -> Result<(), AllocError>
+) -> Result<(), Failure<'a>>
     ensures added { OnOk result (AddsSome (GivesValue lists.now.parts value.now) rules.old rules.new) }
 {
     if value.is_empty() {
         return Ok(());
     }
-    match add_pattern(lists, rules, value, list) {
-        Ok(()) => Ok(()),
-        Err(_) => Err(AllocError),
-    }
+    add_pattern(lists, rules, value, list)
 }
 
 /// Adds the rule of a pattern that stands in no list.
