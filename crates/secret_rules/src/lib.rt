@@ -1,0 +1,17 @@
+//! Secrets that nobody listed, by rules: where a keyword stands in a line, an expression says what is secret.
+#![tactic(auto)]
+
+mod error;
+mod expression;
+mod keywords;
+mod marks;
+mod reader;
+mod readers;
+mod rule;
+mod rules;
+
+pub use error::{MarkError, RulesError};
+pub use marks::Mark;
+pub use regex_syntax::{Error as RegexError, ErrorKind as RegexErrorKind, Span as RegexSpan};
+pub use rule::{Rule, RuleFault};
+pub use rules::Rules;
