@@ -18,3 +18,9 @@ pub mod Placed
 pub mod Soundness
 -- where rules apply
 pub mod Applying
+-- the turns of rules at a line, one after another
+pub mod Turns
+-- marks as members of a list
+pub mod Marked
+-- matches that go on from line to line
+pub mod Onward

@@ -22,3 +22,5 @@ pub mod Places
 pub mod Markers
 -- what some rules are held with
 pub mod Searching
+-- what a marker is after some lines
+pub mod Marking

@@ -1,7 +1,8 @@
-use Rattle.std.specs.Prelude.{◌≡◌, ◌⊎◌, ◌↔◌, ℕ, Bool, false, List, IsTrue, if◌then◌else◌, [], length, slice_index_or}
+-- What the steps of a marker add, and which rules go on behind a line.
+use Rattle.std.specs.Prelude.{◌≡◌, ◌⊎◌, ◌↔◌, ℕ, Bool, false, List, IsSome, IsTrue, if◌then◌else◌, [], length, slice_index_or}
 use Rattle.aho_core.specs.Listing.{IsMember}
 use Rattle.secret_rules.specs.MarkLists.{mark_at, onward_marks}
-use Rattle.secret_rules.specs.Marks.{IsRuleAt}
+use Rattle.secret_rules.specs.Marks.{IsRuleAt, MarksRange, StaysOpen}
 use Rattle.secret_rules.specs.Rules.{AppliesTo}
 use Rattle.secret_rules.specs.declared.marks.Mark.{Mark}
 use Rattle.secret_rules.specs.declared.rule.Rule.{Rule}
@@ -26,3 +27,18 @@ whole_mark goes_on number line = if goes_on then mark_at number (0, length line)
 -- those from each match of the rule on, if it applies
 abbrev pub applied_marks : Bool → ℕ → Rule → List ℕ → List Mark
 applied_marks applies number rule line = if applies then onward_marks number rule line else []
+
+-- a mark of the line, where these flags tell of which rules a match of an earlier line goes on
+pub record IsMarkWith (rules : List Rule) (flags : List Bool) (line : List ℕ) (mark : Mark) : Type 0 where
+  pub rule : Rule
+  pub numbered : IsRuleAt rules mark.rule rule
+  pub marks : MarksRange rule (IsTrue (flag_at flags mark.rule)) line (mark.start, mark.end)
+
+-- these are all marks of it
+abbrev pub AreMarksWith : List Rule → List Bool → List ℕ → List Mark → Type 0
+AreMarksWith rules flags line marks = (mark : Mark) → IsMember marks mark ↔ IsMarkWith rules flags line mark
+
+-- the new flags tell of which rules with `until` a match goes on behind the line, where the old ones tell it of those before
+abbrev pub AreFlagsBehind : List Rule → List Bool → List Bool → List ℕ → Type 0
+AreFlagsBehind rules old new line = (number : ℕ) (rule : Rule) → IsRuleAt rules number rule → IsSome rule.until
+    → IsTrue (flag_at new number) ↔ StaysOpen rule (IsTrue (flag_at old number)) line

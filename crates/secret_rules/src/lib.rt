@@ -4,6 +4,8 @@
 mod error;
 mod expression;
 mod keywords;
+mod marker;
+mod marking;
 mod marks;
 mod reader;
 mod readers;
@@ -11,6 +13,7 @@ mod rule;
 mod rules;
 
 pub use error::{MarkError, RulesError};
+pub use marker::Marker;
 pub use marks::Mark;
 pub use regex_syntax::{Error as RegexError, ErrorKind as RegexErrorKind, Span as RegexSpan};
 pub use rule::{Rule, RuleFault};

@@ -1,10 +1,13 @@
 //! Marks: which ranges of a line one rule marks.
 
 ghost use Rattle.std.specs.Prelude.{◌≡◌, ◌↔◌, ◌⊎◌, ◌<◌, ◌++◌, IfOk, IsTrue, OnOk, map};
+ghost use Rattle.std.specs.List.Sorted.{IsNonDecreasingBy};
+ghost use Rattle.aho_core.specs.Listing.{IsMember};
 ghost use Rattle.secret_rules.specs.Expressions.{group_total};
 ghost use Rattle.secret_rules.specs.MarkLists.{HasOneOpen, mark_at, marks_at, onward};
 ghost use Rattle.secret_rules.specs.Secrets.{match_ranges, secrets_in};
 ghost use Rattle.secret_rules.specs.Standing.{StandsFrom};
+ghost use Rattle.secret_rules.specs.declared.marks.Mark.{Mark};
 
 use crate::reader::Reader;
 use memchr::memmem;
@@ -34,6 +37,14 @@ pub(crate) fn push_mark(
         marks.push(Mark { rule, start, end })?;
     }
     Ok(())
+}
+
+/// Puts marks into the order in which they start.
+pub(crate) fn put_in_order(marks: &mut Vec<Mark>)
+    ensures order { IsNonDecreasingBy (λ (mark : Mark). mark.start) marks.new.items }
+    ensures same { (mark : Mark) → IsMember marks.new.items mark ↔ IsMember marks.old.items mark }
+{
+    marks.sort_unstable_by_key(|mark| mark.start);
 }
 
 /// Adds the marks of all secrets in a line.
