@@ -24,3 +24,5 @@ pub mod Turns
 pub mod Marked
 -- matches that go on from line to line
 pub mod Onward
+-- texts and tables of an array, one after another
+pub mod Texts

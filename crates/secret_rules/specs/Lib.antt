@@ -24,3 +24,5 @@ pub mod Markers
 pub mod Searching
 -- what a marker is after some lines
 pub mod Marking
+-- which rules a text of TOML gives
+pub mod Tables
