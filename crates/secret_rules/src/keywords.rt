@@ -9,8 +9,8 @@ use std::alloc::{AllocError, Global};
 
 /// Adds the keywords of a rule.
 fn push_words<'r>(words: &mut Vec<&'r [u8]>, rule: &'r Rule) -> Result<(), AllocError>
-    ensures { OnOk result (map (λ word. word.now) words.new.items
-        ≡ map (λ word. word.now) words.old.items ++ keywords_of rule.entry.now) }
+    ensures { OnOk result (map (λ w. w.now) words.new.items
+        ≡ map (λ w. w.now) words.old.items ++ keywords_of rule.entry.now) }
 {
     for keyword in &rule.keywords {
         words.push(keyword.as_bytes())?;

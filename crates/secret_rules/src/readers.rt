@@ -62,7 +62,7 @@ fn place_of<'r>(
     requires within { number < length rules.now }
     requires are { ArePlacesOf rules.now readers.old.items places.old }
     ensures are { ArePlacesOf rules.entry.now readers.new.items places.new }
-    ensures place { ForRuleAt rules.entry.now number (λ rule. IfOk result (λ place. slice_get readers.new.items place ≡ Some (regex_of rule))) }
+    ensures place { ForRuleAt rules.entry.now number (λ rule. IfOk result (λ at. slice_get readers.new.items at ≡ Some (regex_of rule))) }
     ensures sound { AreSound rules.entry.now }
     ensures refused { IfErr result (IsMarkFailure number) }
 {
