@@ -1,6 +1,7 @@
 //! Secrets that nobody listed, by rules: where a keyword stands in a line, an expression says what is secret.
 #![tactic(auto)]
 
+mod builtin;
 mod error;
 mod expression;
 mod keywords;
@@ -13,6 +14,7 @@ mod readers;
 mod rule;
 mod rules;
 
+pub use builtin::BUILTIN;
 pub use error::{MarkError, RulesError};
 pub use marker::Marker;
 pub use marks::Mark;
