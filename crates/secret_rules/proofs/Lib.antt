@@ -1,0 +1,28 @@
+-- what a compiled expression matches
+pub mod Compiled
+-- what searches find by expressions that match alike
+pub mod Alike
+-- the groups of a match
+pub mod Groups
+-- walks over the matches of a line
+pub mod Matching
+-- members of lists, as a walk comes along them
+pub mod Membership
+-- where a text stands behind a place of a line
+pub mod Behind
+-- which rule each keyword is of
+pub mod Owners
+-- places of readers
+pub mod Placed
+-- rules with which nothing is wrong
+pub mod Soundness
+-- where rules apply
+pub mod Applying
+-- the turns of rules at a line, one after another
+pub mod Turns
+-- marks as members of a list
+pub mod Marked
+-- matches that go on from line to line
+pub mod Onward
+-- texts and tables of an array, one after another
+pub mod Texts

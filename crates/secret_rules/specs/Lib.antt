@@ -1,0 +1,28 @@
+-- what the text of an expression is read as
+pub mod Expressions
+-- which part of a match is its secret
+pub mod Secrets
+-- where a text stands in a line
+pub mod Standing
+-- what a rule is, and to which lines it applies
+pub mod Rules
+-- what may be wrong with rules
+pub mod Faults
+-- which ranges of a line rules mark
+pub mod Marks
+-- what a reader searches for
+pub mod Readers
+-- the marks of some ranges, in order
+pub mod MarkLists
+-- the keywords of all rules, and which rule each is of
+pub mod Keywords
+-- where the readers of some rules stand
+pub mod Places
+-- what the steps of a marker add
+pub mod Markers
+-- what some rules are held with
+pub mod Searching
+-- what a marker is after some lines
+pub mod Marking
+-- which rules a text of TOML gives
+pub mod Tables

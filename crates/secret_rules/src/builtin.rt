@@ -1,0 +1,170 @@
+//! A list of rules of our own.
+
+/// Rules for the formats that issuers publish, as a text for `parse`.
+pub const BUILTIN: &str = r##"[[rules]]
+id = "github-token"
+regex = '''\b(?:ghp|gho|ghu|ghs|ghr)_[0-9A-Za-z]{36,255}\b'''
+keywords = ["ghp_", "gho_", "ghu_", "ghs_", "ghr_"]
+
+[[rules]]
+id = "github-fine-grained-token"
+regex = '''\bgithub_pat_[0-9A-Za-z_]{22,255}\b'''
+keywords = ["github_pat_"]
+
+[[rules]]
+id = "gitlab-token"
+regex = '''\b(?:glpat|gldt|glrt|glcbt|glptt|glft|glimt|glagent|gloas|glsoat|glffct)-[0-9A-Za-z_.-]{20,}'''
+keywords = ["glpat-", "gldt-", "glrt-", "glcbt-", "glptt-", "glft-", "glimt-", "glagent-", "gloas-", "glsoat-", "glffct-"]
+
+[[rules]]
+id = "aws-access-key-id"
+regex = '''\b(?:AKIA|ASIA|ABIA|ACCA)[0-9A-Z]{16}\b'''
+keywords = ["AKIA", "ASIA", "ABIA", "ACCA"]
+
+[[rules]]
+id = "aws-secret-access-key"
+regex = '''(?i)aws_?(?:secret_?)?(?:access_?)?key(?:_?id)?["']?\s*[=:]>?\s*["']?([0-9A-Za-z/+]{40})(?:[^0-9A-Za-z/+=]|$)'''
+keywords = ["aws"]
+
+[[rules]]
+id = "google-api-key"
+regex = '''\bAIza[0-9A-Za-z_-]{35}'''
+keywords = ["AIza"]
+
+[[rules]]
+id = "google-oauth"
+regex = '''\b(?:ya29\.[0-9A-Za-z_-]{20,}|GOCSPX-[0-9A-Za-z_-]{28}|1//0[0-9A-Za-z_-]{30,})'''
+keywords = ["ya29.", "GOCSPX-", "1//0"]
+
+[[rules]]
+id = "azure-storage-key"
+regex = '''(?i)(?:AccountKey|SharedAccessKey)\s*=\s*([0-9A-Za-z+/]{40,}={0,2})'''
+keywords = ["AccountKey", "SharedAccessKey"]
+
+[[rules]]
+id = "azure-client-secret"
+regex = '''(?:^|[^0-9A-Za-z_~.-])([0-9A-Za-z_~.]{3}\dQ~[0-9A-Za-z_~.-]{31,34})(?:[^0-9A-Za-z_~.-]|$)'''
+keywords = ["Q~"]
+
+[[rules]]
+id = "azure-sas"
+regex = '''[?&]sig=([0-9A-Za-z%+/=]{40,})'''
+keywords = ["sig="]
+
+[[rules]]
+id = "slack-token"
+regex = '''\bxox[abeoprs](?:\.xox[bp])?-[0-9A-Za-z-]{10,}'''
+keywords = ["xox"]
+
+[[rules]]
+id = "slack-app-token"
+regex = '''\bxapp-\d-[0-9A-Z]+-\d+-[0-9a-f]+'''
+keywords = ["xapp-"]
+
+[[rules]]
+id = "slack-webhook"
+regex = '''hooks\.slack\.com/(?:services|workflows|triggers)/([0-9A-Za-z+/]{20,})'''
+keywords = ["hooks.slack.com"]
+
+[[rules]]
+id = "stripe-key"
+regex = '''\b(?:sk|rk|pk)_(?:live|test)_[0-9A-Za-z]{10,}\b'''
+keywords = ["sk_live_", "sk_test_", "rk_live_", "rk_test_", "pk_live_", "pk_test_"]
+
+[[rules]]
+id = "stripe-webhook-secret"
+regex = '''\bwhsec_[0-9A-Za-z+/=]{24,}'''
+keywords = ["whsec_"]
+
+[[rules]]
+id = "twilio-key"
+regex = '''\b(?:SK|AC)[0-9a-f]{32}\b'''
+keywords = ["SK0", "SK1", "SK2", "SK3", "SK4", "SK5", "SK6", "SK7", "SK8", "SK9", "SKa", "SKb", "SKc", "SKd", "SKe", "SKf", "AC0", "AC1", "AC2", "AC3", "AC4", "AC5", "AC6", "AC7", "AC8", "AC9", "ACa", "ACb", "ACc", "ACd", "ACe", "ACf"]
+
+[[rules]]
+id = "sendgrid-key"
+regex = '''\bSG\.[0-9A-Za-z_-]{22}\.[0-9A-Za-z_-]{43}'''
+keywords = ["SG."]
+
+[[rules]]
+id = "npm-token"
+regex = '''\bnpm_[0-9A-Za-z]{36}\b'''
+keywords = ["npm_"]
+
+[[rules]]
+id = "npmrc-auth"
+regex = '''(?i)_(?:authToken|auth|password)\s*=\s*["']?([^\s"'$]{8,})'''
+keywords = ["_authToken", "_auth", "_password"]
+
+[[rules]]
+id = "pypi-token"
+regex = '''\bpypi-AgE[0-9A-Za-z_-]{50,}'''
+keywords = ["pypi-AgE"]
+
+[[rules]]
+id = "docker-token"
+regex = '''\bdckr_(?:pat|oat)_[0-9A-Za-z_-]{27,}'''
+keywords = ["dckr_pat_", "dckr_oat_"]
+
+[[rules]]
+id = "docker-config-auth"
+regex = '''"auth"\s*:\s*"([0-9A-Za-z+/=]{8,})"'''
+keywords = ['"auth"']
+
+[[rules]]
+id = "openai-key"
+regex = '''\bsk-(?:(?:proj|svcacct|admin|None)-)?[0-9A-Za-z_-]{20,}'''
+keywords = ["sk-"]
+
+[[rules]]
+id = "anthropic-key"
+regex = '''\bsk-ant-[0-9A-Za-z_-]{20,}'''
+keywords = ["sk-ant-"]
+
+[[rules]]
+id = "hugging-face-token"
+regex = '''\b(?:hf_[0-9A-Za-z]{30,}|api_org_[0-9A-Za-z]{30,})\b'''
+keywords = ["hf_", "api_org_"]
+
+[[rules]]
+id = "json-web-token"
+regex = '''\beyJ[0-9A-Za-z_-]{8,}\.eyJ[0-9A-Za-z_-]{4,}\.[0-9A-Za-z_-]*'''
+keywords = ["eyJ"]
+
+[[rules]]
+id = "private-key"
+regex = '''-----BEGIN [0-9A-Z ]{0,40}PRIVATE KEY(?: BLOCK)?-----'''
+keywords = ["PRIVATE KEY"]
+until = "-----END"
+
+[[rules]]
+id = "putty-private-key"
+regex = '''PuTTY-User-Key-File-\d'''
+keywords = ["PuTTY-User-Key-File-"]
+until = "Private-MAC:"
+
+[[rules]]
+id = "password-in-url"
+regex = '''(?i)\b[a-z][0-9a-z+.-]*://[^\s/?#:@"']*:([^\s/?#"']+)@'''
+keywords = ["://"]
+
+[[rules]]
+id = "authorization-header"
+regex = '''(?i)\b(?:proxy-)?authorization\\*["']?\s*[:=]\s*\\*["']?(?:(?:basic|bearer|token|digest|negotiate|apikey|aws4-hmac-sha256)\s+)?([^\s"',;\\](?:="[^"]*"|[^"'\r\\])*)'''
+keywords = ["authorization"]
+
+[[rules]]
+id = "bearer-token"
+regex = '''(?i)\bbearer\s+([0-9a-z._~+/-]{16,}=*)'''
+keywords = ["bearer"]
+
+[[rules]]
+id = "assigned-secret"
+regex = '''(?i)(?:passwd|password|passphrase|pwd|secret|token|api[_-]?key|access[_-]?key|private[_-]?key|credentials?|auth[_-]?key)[0-9a-z_.-]{0,30}\\*["']?\s*(?:=>|:=|=|:)\s*(?:"((?:[^"\\]|\\.)+)|'((?:[^'\\]|\\.)+)|\\"((?:[^"\\]|\\\\\\"|\\[^"])+)|([^\s"'&,;)\]}]+))'''
+keywords = ["passwd", "password", "passphrase", "pwd", "secret", "token", "api_key", "apikey", "api-key", "access_key", "accesskey", "access-key", "private_key", "privatekey", "private-key", "credential", "auth_key", "authkey", "auth-key"]
+
+[[rules]]
+id = "session-cookie"
+regex = '''(?i)\b(?:[0-9a-z_.-]*sess(?:ion)?[0-9a-z_.-]*|connect\.sid|sid|csrf[0-9a-z_-]*|xsrf[0-9a-z_-]*|remember[0-9a-z_-]*)=([^\s;,"']+)'''
+keywords = ["sess", "sid", "csrf", "xsrf", "remember"]
+"##;

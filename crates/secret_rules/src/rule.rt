@@ -1,0 +1,74 @@
+//! Rules: what is looked for, and what of it is marked.
+
+ghost use Rattle.std.specs.Prelude.{◌↔◌, IfOk, IsTrue, MatchOption, [], map, string_bytes};
+ghost use Rattle.aho_core.specs.Listing.{IsMember};
+
+use crate::expression::groups_of;
+use regex_syntax::{Error, ErrorKind};
+use std::alloc::{AllocError, Global};
+
+/// A rule.
+#[derive(Debug, Drop)]
+pub struct Rule {
+    /// Its name.
+    pub id: String,
+    /// The text of its expression.
+    pub regex: String,
+    /// Its keywords. It applies to lines in which one occurs, ASCII letters the same in both cases; to all lines where it has none.
+    pub keywords: Vec<String>,
+    /// The group of the expression that is the secret. With 0 it is the first group that takes part in a match and is not empty.
+    pub secret_group: usize,
+    /// If given, it marks from a match on to the end of the first line from there in which this text stands.
+    pub until: Option<String>,
+    /// What stands in place of what it marks, if that is its own.
+    pub with: Option<String>,
+}
+
+/// Why a rule is none.
+#[derive(Clone, Copy, Debug, PartialEq, Eq)]
+pub enum RuleFault {
+    /// A keyword is empty.
+    EmptyKeyword,
+    /// The text of its expression is none, with the place in it and the reason.
+    Regex(Error),
+    /// Its expression has no group of that number.
+    UnknownGroup,
+}
+
+/// Whether a keyword is empty.
+fn has_empty(keywords: &[String]) -> bool
+    ensures { IsTrue result ↔ IsMember (map string_bytes keywords.now) [] }
+{
+    for keyword in keywords {
+        if keyword.is_empty() {
+            return true;
+        }
+    }
+    false
+}
+
+impl Rule {
+    ghost use Rattle.secret_rules.specs.Faults.{IsFaultOf};
+    ghost use Rattle.secret_rules.specs.Rules.{IsSoundRule};
+
+    /// What is wrong with it, if something is.
+    ///
+    /// # Errors
+    ///
+    /// Out of memory.
+    pub fn fault(&self, alloc: Global) -> Result<Option<RuleFault>, AllocError>
+        ensures sound { IfOk result (λ fault. MatchOption fault (IsSoundRule self.now) (IsFaultOf self.now)) }
+    {
+        if has_empty(&self.keywords) {
+            return Ok(Some(RuleFault::EmptyKeyword));
+        }
+        match groups_of(alloc, self.regex.as_str()) {
+            Ok(groups) if self.secret_group < groups => Ok(None),
+            Ok(_) => Ok(Some(RuleFault::UnknownGroup)),
+            Err(error) => match error.kind {
+                ErrorKind::OutOfMemory => Err(AllocError),
+                _ => Ok(Some(RuleFault::Regex(error))),
+            },
+        }
+    }
+}
