@@ -256,12 +256,12 @@ fn add_values<'a, F>(
 }
 
 /// Adds the rules of these values, where they are not empty.
-fn add_each<'a, F>(
+fn add_each<F>(
     lists: &Lists<'_, '_, F>,
     rules: &mut Vec<Rule>,
     values: &[&[u8]],
     list: usize,
-) -> Result<(), Failure<'a>>
+) -> Result<(), LineFault>
     ensures added { OnOk result (AddsSome
         (GiveEach lists.now.parts (pieces_of values.now)) rules.old rules.new) }
 {
@@ -274,18 +274,21 @@ fn add_each<'a, F>(
 }
 
 /// Adds the rule of a value, if that is not empty.
-fn add_value<'a, F>(
+fn add_value<F>(
     lists: &Lists<'_, '_, F>,
     rules: &mut Vec<Rule>,
     value: &[u8],
     list: usize,
-) -> Result<(), Failure<'a>>
+) -> Result<(), LineFault>
     ensures added { OnOk result (AddsSome (GivesValue lists.now.parts value.now) rules.old rules.new) }
 {
     if value.is_empty() {
         return Ok(());
     }
-    add_pattern(lists, rules, value, list)
+    match add_pattern(lists, rules, value, list) {
+        Ok(()) => Ok(()),
+        Err(_) => Err(LineFault::OutOfMemory),
+    }
 }
 
 /// Adds the rule of a pattern that stands in no list.
