@@ -34,12 +34,12 @@ no_texts [] i d within none = λ are. absurd (omega (arith, within))
 no_texts (value ∷ values) zero d within none = λ are. grind (arith, none, are.0)
 no_texts (value ∷ values) (suc i) d within none = λ are. no_texts values i d (omega (arith, within)) none are.1
 
-rules-push : (tables : Items) (rules : List Rule) (table : Data) (rule : Rule) → AreRulesIn tables rules → IsRuleOf table rule
-    → AreRulesIn (push_item tables table) (rules ++ rule ∷ [])
-rules-push no_items [] table rule are is = (is, tt)
-rules-push (item t tables) (r ∷ rules) table rule are is = (are.0, rules-push tables rules table rule are.1 is)
-rules-push no_items (r ∷ rules) table rule are is = absurd are
-rules-push (item t tables) [] table rule are is = absurd are
+rules-push : (tables : Items) (rules : List Rule) (pairs : Data) (rule : Rule) → AreRulesIn tables rules → IsRuleOf pairs rule
+    → AreRulesIn (push_item tables pairs) (rules ++ rule ∷ [])
+rules-push no_items [] pairs rule are is = (is, tt)
+rules-push (item t tables) (r ∷ rules) pairs rule are is = (are.0, rules-push tables rules pairs rule are.1 is)
+rules-push no_items (r ∷ rules) pairs rule are is = absurd are
+rules-push (item t tables) [] pairs rule are is = absurd are
 
 pub rules-more : (values : List Value) (rules : List Rule) (i : ℕ) (d : Value) (rule : Rule) → i < length values
     → AreRulesIn (items_view (take i values)) rules → IsRuleOf (view (get_or values i d)) rule

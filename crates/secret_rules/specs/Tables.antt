@@ -22,25 +22,25 @@ key_name With = codes "with"
 
 -- what a table has at a key
 abbrev pub held_at : Key → Data → Option Data
-held_at key table = get (key_name key) table
+held_at key pairs = get (key_name key) pairs
 
 -- an array of texts
 abbrev pub text_items : List (List ℕ) → Items
 text_items texts = items_of (map string texts)
 
 -- a table gives a rule: its texts stand at their keys, or neither is there; without the key there are no keywords, and the group is 0
-pub record IsRuleOf (table : Data) (rule : Rule) : Type 0 where
-  pub id : held_at Id table ≡ Some (string (string_bytes rule.id))
-  pub regex : held_at Regex table ≡ Some (string (regex_of rule))
-  pub keywords : unwrap_or (held_at Keywords table) (array no_items) ≡ array (text_items (keywords_of rule))
-  pub secret_group : unwrap_or (held_at SecretGroup table) (integer (pos 0)) ≡ integer (pos rule.secret_group)
-  pub until : held_at Until table ≡ option_map (λ text. string (string_bytes text)) rule.until
-  pub with : held_at With table ≡ option_map (λ text. string (string_bytes text)) rule.with
+pub record IsRuleOf (pairs : Data) (rule : Rule) : Type 0 where
+  pub id : held_at Id pairs ≡ Some (string (string_bytes rule.id))
+  pub regex : held_at Regex pairs ≡ Some (string (regex_of rule))
+  pub keywords : unwrap_or (held_at Keywords pairs) (array no_items) ≡ array (text_items (keywords_of rule))
+  pub secret_group : unwrap_or (held_at SecretGroup pairs) (integer (pos 0)) ≡ integer (pos rule.secret_group)
+  pub until : held_at Until pairs ≡ option_map (λ text. string (string_bytes text)) rule.until
+  pub with : held_at With pairs ≡ option_map (λ text. string (string_bytes text)) rule.with
 
 -- each table of an array gives the rule at its place
 abbrev pub AreRulesIn : Items → List Rule → Type 0
 AreRulesIn no_items [] = Unit {0}
-AreRulesIn (item table tables) (rule ∷ rules) = IsRuleOf table rule × AreRulesIn tables rules
+AreRulesIn (item pairs tables) (rule ∷ rules) = IsRuleOf pairs rule × AreRulesIn tables rules
 AreRulesIn tables rules = ⊥
 
 -- the array `rules` of a text of TOML
@@ -76,14 +76,14 @@ IsNeeded key = ⊥
 
 -- the table of the rule of this number gives none
 abbrev pub IsTableFault : ℕ → Data → ParseError → Type 0
-IsTableFault number table (Missing told key) = (told ≡ number) × IsNeeded key × (held_at key table ≡ None)
-IsTableFault number table (WrongType told key) = (told ≡ number) × IsSomeAnd (held_at key table) (λ value. ¬ (Suits key value))
-IsTableFault number table OutOfMemory = Unit {0}
-IsTableFault number table error = ⊥
+IsTableFault number pairs (Missing told key) = (told ≡ number) × IsNeeded key × (held_at key pairs ≡ None)
+IsTableFault number pairs (WrongType told key) = (told ≡ number) × IsSomeAnd (held_at key pairs) (λ value. ¬ (Suits key value))
+IsTableFault number pairs OutOfMemory = Unit {0}
+IsTableFault number pairs error = ⊥
 
 -- it is so of the table at this place of an array
 abbrev pub IsFaultAt : Items → ℕ → ParseError → Type 0
-IsFaultAt tables number error = IsSomeAnd (get_item number tables) (λ table. IsTableFault number table error)
+IsFaultAt tables number error = IsSomeAnd (get_item number tables) (λ pairs. IsTableFault number pairs error)
 
 -- an array of tables gives no rules, for a fault of one of them
 abbrev pub IsFaultIn : Items → ParseError → Type 0
