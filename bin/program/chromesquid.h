@@ -130,8 +130,8 @@ typedef struct cs_options {
     uint64_t later_d;
 } cs_options;
 
-/* Start each with it. A later version names what here is 0 and must be: a program that was compiled with this header asks it for nothing
- * new, and one that asks this library for what only a later one knows gets CS_NO_OPTION. */
+/* Start each with it. A later version names what here is 0 and must be. A program that was compiled with this header asks it for nothing
+ * new. One that asks this library for what only a later one knows gets CS_NO_OPTION. */
 #define CS_OPTIONS_INIT { CS_OPTIONS_SIZE, CS_STANDARD, CS_UNANCHORED, false, true, CS_BY_RULE, SIZE_MAX, SIZE_MAX, SIZE_MAX, 0, 0, 0, 0 }
 
 /* Why a build failed. What nothing is said of here is 0. */
@@ -177,7 +177,7 @@ uint32_t cs_build(const cs_slice *patterns, size_t patterns_len, const cs_option
 /* The same, and where it does not answer CS_DONE, puts into `error` why; else `error` is as it was. */
 uint32_t cs_try_build(const cs_slice *patterns, size_t patterns_len, const cs_options *options, cs_searcher *out, cs_error *error);
 
-/* The text of an error, with no line end and no zero: CS_DONE, the bytes in `room`, and in `len` how many they are; CS_NO_ROOM where
+/* The text of an error, with no line end and no zero: CS_DONE, the bytes in `room`, and in `len` how many they are. CS_NO_ROOM where
  * they are more than `room` holds: `len` is how many. Of what is no error there are none. The text is made in memory of its own first,
  * but for that of CS_NO_MEMORY.
  * Else CS_NO_MEMORY: `len` is as it was. If not CS_DONE, `room` is. */
@@ -203,8 +203,8 @@ uint32_t cs_find(cs_searcher *searcher, const uint8_t *haystack, size_t haystack
 uint32_t cs_search(cs_searcher *searcher, const uint8_t *haystack, size_t haystack_len, size_t start, size_t end, bool anchored,
                    bool earliest, cs_match *found);
 
-/* All matches, each searched for from the end of the one before: CS_DONE, the first of them in `room`, as many as it holds, and in
- * `count` how many there are.
+/* All matches, each searched for from the end of the one before: CS_DONE, and in `count` how many there are. `room` has the first of
+ * them, as many as it holds.
  * Else as cs_is_match: `room` and `count` are as they were. */
 uint32_t cs_find_all(cs_searcher *searcher, const uint8_t *haystack, size_t haystack_len, cs_match *room, size_t room_len,
                      size_t *count);
@@ -220,16 +220,16 @@ uint32_t cs_overlapping(cs_searcher *searcher, const uint8_t *haystack, size_t h
 uint32_t cs_replace_all(cs_searcher *searcher, const uint8_t *haystack, size_t haystack_len, const cs_slice *replace_with,
                         size_t replace_with_len, uint8_t *room, size_t room_len, size_t *len);
 
-/* The haystack with each run of bytes that lie in matches replaced, so that no byte of a match is left, whichever overlap or touch:
- * by the bytes for the longest pattern that begins where the run does, of equal ones the first. CS_DONE and CS_NO_ROOM as
+/* The haystack with each run of bytes that lie in matches replaced, so that no byte of a match is left, whichever overlap or touch.
+ * In its place stand the bytes for the longest pattern that begins where the run does, of equal ones the first. CS_DONE and CS_NO_ROOM as
  * cs_replace_all.
  * Else CS_NO_SEARCHER; CS_NOT_ONE_EACH; CS_REFUSED where the match kind is not CS_STANDARD; CS_EMPTY_PATTERN; CS_REFUSED as
  * cs_is_match; CS_NO_MEMORY: `len` is as it was. If not CS_DONE, `room` is. */
 uint32_t cs_cover_all(cs_searcher *searcher, const uint8_t *haystack, size_t haystack_len, const cs_slice *replace_with,
                       size_t replace_with_len, uint8_t *room, size_t room_len, size_t *len);
 
-/* The patterns of a secret by these forms, CS_FORM_BASE64 and so on, each once: wherever the secret stands encoded so in a text, alone or
- * within other bytes, each character that holds a bit of it lies in an occurrence of a pattern. Cover them, and the secret itself, by
+/* The patterns of a secret by these forms, CS_FORM_BASE64 and so on, each once. Let the secret stand encoded so in a text, alone or
+ * within other bytes: each character that holds a bit of it lies in an occurrence of a pattern. Cover them, and the secret itself, by
  * cs_cover_all. CS_DONE, the patterns one behind the other in `room`, the place behind each in `ends`, how many bytes they have in `len`
  * and how many they are in `count`. CS_NO_ROOM where `room` holds fewer bytes or `ends` fewer places: `len` and `count` are what is
  * wanted. The patterns are made in memory of their own first.
@@ -242,7 +242,7 @@ uint32_t cs_forms(const uint8_t *secret, size_t secret_len, uint32_t forms, uint
 uint32_t cs_info(cs_searcher *searcher, cs_facts *out);
 
 /* The state in which a search begins, for who reads bytes one by one: CS_DONE, and its number in `state`. A number is that of a state of
- * all handles that share the searcher, and of no other: give cs_next_state, cs_state_is and cs_match_pattern no number but what this
+ * all handles that share the searcher, and of no other. Give cs_next_state, cs_state_is and cs_match_pattern no number but what this
  * call or cs_next_state has put.
  * Else CS_NO_SEARCHER; CS_REFUSED where it was not built for searches of this anchoring: `state` is as it was. */
 uint32_t cs_start_state(cs_searcher *searcher, bool anchored, uint32_t *state);
@@ -274,11 +274,11 @@ uint32_t cs_stream_push(cs_stream *stream, const uint8_t *bytes, size_t bytes_le
 /* The next match of all bytes pushed so far, searched for from the end of the one before: CS_FOUND, and the match by its place in the
  * stream. CS_DONE where no match is certain yet, or none is left: `found` is as it was.
  * With CS_STANDARD a match is certain with its last byte. Else it is so with the first byte behind it with which nothing goes on that
- * could take its place, or at the end: it waits for one byte more even where nothing could.
+ * could take its place, or at the end. So it waits for one byte more even where nothing could.
  * Else CS_NO_SEARCHER. */
 uint32_t cs_stream_next(cs_stream *stream, cs_match *found);
 
-/* The next part of what was pushed so far with each match replaced by the bytes for its pattern: CS_FOUND, the bytes in `room`, and in
+/* The next part of what was pushed so far with each match replaced by the bytes for its pattern. CS_FOUND: the bytes are in `room`, and in
  * `len` how many they are, which may be none. CS_DONE where no more is certain yet, or all is told: so all parts, one behind the other,
  * are the replacement. Use it in the place of cs_stream_next, for all of a stream.
  * CS_NO_ROOM where the room holds less than was pushed and not told yet, or less than the longest replacement: `len` is what is wanted,
