@@ -13,6 +13,8 @@ mod reader;
 mod readers;
 mod rule;
 mod rules;
+#[cfg(test)]
+mod tests;
 
 pub use builtin::BUILTIN;
 pub use error::{MarkError, RulesError};
