@@ -50,7 +50,7 @@ kind_line = told_line (alone (codes "option '--kind' takes cover, first, longest
 
 -- nor are there such forms
 abbrev pub form_line : List ℕ
-form_line = told_line (alone (codes "option '--forms' takes all, or some of base64,hex,url,json,xml,shell,lines"))
+form_line = told_line (alone (codes "option '--forms' takes all, or some of base64,hex,url,json,xml,shell,lines, or two as json+base64"))
 
 -- nor can a variable have such a name
 abbrev pub variable_line : List ℕ

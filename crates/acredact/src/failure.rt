@@ -260,7 +260,7 @@ fn tell_mistake<E: Sink>(errors: &mut Errors<'_, E>, mistake: Mistake<'_>)
         ),
         Mistake::UnknownForm => tell_alone(
             errors,
-            "option '--forms' takes all, or some of base64,hex,url,json,xml,shell,lines",
+            "option '--forms' takes all, or some of base64,hex,url,json,xml,shell,lines, or two as json+base64",
         ),
         Mistake::BadName => tell_alone(
             errors,
