@@ -1,12 +1,14 @@
 -- The forms of rules, one after another.
 use Rattle.std.proofs.Common.{◌≡◌, ◌≤◌, ℕ, ◌+◌, ◌-◌, List, [], ◌∷◌, ◌++◌, length, map, take, drop, get_or, refl, sym, ap, subst, ◌∙◌, append-nil, append_assoc, arith}
-use Rattle.std.specs.Prelude.{Bool, true, false, nat_lt, Result, Ok, Err, OnOk, is_ok, if◌then◌else◌}
+use Rattle.std.specs.Prelude.{Bool, true, false, nat_lt, None, Some, Result, Ok, Err, OnOk, is_ok, if◌then◌else◌}
 use Rattle.std.proofs.Math.Seq.{take-length}
 use Rattle.std.proofs.lemmas.List.{map-append}
 use Rattle.std.proofs.lemmas.List.Elements.{All-cons, All-nil}
-use Rattle.secret_forms.specs.declared.form.Form.{Form as SecretForm}
-use Rattle.acredact.specs.Forms.{HideSecrets, HaveForms, HidesSecret, form_patterns_of, forms_from, forms_of}
+use Rattle.acredact.specs.Forms.{AskedForms, HideSecrets, HaveForms, HidesNestedForm, HidesSecret, asked_by, forms_asked, forms_from, forms_named, forms_of, nested_named, once_patterns}
 use Rattle.secret_forms.specs.Forms.{HidesForm}
+use Rattle.secret_forms.specs.declared.form.Form.{Form as SecretForm}
+use Rattle.acredact.specs.declared.forms.Asked.{Asked}
+use Rattle.acredact.specs.declared.forms.Nested.{Nested}
 use Rattle.acredact.specs.Tables.{Secret, secret_of, secrets_of}
 use Rattle.acredact.specs.declared.patterns.Rule.{Rule}
 
@@ -16,7 +18,7 @@ behind_first rule rest =
     let count : length (rule ∷ rest) - 1 ≡ length rest = omega arith in
     ap (λ n. take n rest) count ∙ take-length rest
 
-module _ (wanted : List SecretForm) where
+module _ (wanted : AskedForms) where
   -- the forms of one rule more are added
   pub forms_next : (rest : List Rule) (other : Rule) (number : ℕ) (all old new more : List Secret) → 1 ≤ length rest → all ≡ old ++ forms_from wanted number (secrets_of rest) → new ≡ old ++ more
       → more ≡ forms_of wanted number (secret_of (get_or rest 0 other)) → all ≡ new ++ forms_from wanted (number + 1) (secrets_of (take (length rest - 1) (drop 1 rest)))
@@ -40,12 +42,16 @@ rules_next make (rule ∷ rest) other all old new more some is grown are =
     is ∙ ap (λ l. old ++ (l ++ map make (secrets_of rest))) (sym are) ∙ sym (append_assoc old more (map make (secrets_of rest)))
     ∙ ap (λ l. l ++ map make (secrets_of rest)) (sym grown) ∙ ap (λ l. new ++ map make (secrets_of l)) (sym (behind_first rule rest))
 
+-- the forms that a value names, of both kinds
+pub asked_both : (asked : Asked) (value : List ℕ) → asked.forms.now ≡ forms_named value → asked.nested.now ≡ nested_named value → asked_by asked ≡ forms_asked (Some value)
+asked_both asked value forms nested = ap (λ (l : List SecretForm). record { forms = l; nested = asked.nested.now }) forms ∙ ap (λ (l : List Nested). record { forms = forms_named value; nested = l }) nested
+
 -- the forms stand behind these rules
-pub have_forms : {X : Type 0} (forms asked : List SecretForm) (old more new : List Rule) (result : Result (Unit {0}) X) → forms ≡ asked → secrets_of more ≡ forms_from forms 0 (secrets_of old) → HideSecrets forms (secrets_of old)
+pub have_forms : {X : Type 0} (forms asked : AskedForms) (old more new : List Rule) (result : Result (Unit {0}) X) → forms ≡ asked → secrets_of more ≡ forms_from forms 0 (secrets_of old) → HideSecrets forms (secrets_of old)
     → new ≡ (if is_ok result then old ++ more else old) → OnOk result (HaveForms asked old new)
 have_forms forms asked old more new (Ok done) same made hidden grown = record {
   are = ap secrets_of grown ∙ map-append secret_of old more ∙ ap (λ l. secrets_of old ++ l) (made ∙ ap (λ f. forms_from f 0 (secrets_of old)) same);
-  hidden = subst (λ (f : List SecretForm). HideSecrets f (secrets_of old)) same hidden;
+  hidden = subst (λ (f : AskedForms). HideSecrets f (secrets_of old)) same hidden;
 }
 have_forms forms asked old more new (Err error) same made hidden grown = tt
 
@@ -54,15 +60,19 @@ same_either : {A : Type 0} (b : Bool) (x : A) → (if b then x else x) ≡ x
 same_either true x = refl
 same_either false x = refl
 
-forms_none : (number : ℕ) (secrets : List Secret) → forms_from [] number secrets ≡ []
+abbrev none_asked : AskedForms
+none_asked = forms_asked None
+
+forms_none : (number : ℕ) (secrets : List Secret) → forms_from none_asked number secrets ≡ []
 forms_none number [] = refl
-forms_none number (secret ∷ secrets) = ap (λ l. l ++ forms_from [] (number + 1) secrets) (same_either (nat_lt (length secret.pattern) 4) []) ∙ forms_none (number + 1) secrets
+forms_none number (secret ∷ secrets) = ap (λ l. l ++ forms_from none_asked (number + 1) secrets) (same_either (nat_lt (length secret.pattern) 4) []) ∙ forms_none (number + 1) secrets
 
-hidden_none : (secrets : List Secret) → HideSecrets [] secrets
-hidden_none [] = All-nil (HidesSecret [])
-hidden_none (secret ∷ secrets) = All-cons (HidesSecret []) secret secrets (λ long. All-nil (HidesForm (form_patterns_of [] secret.pattern) secret.pattern)) (hidden_none secrets)
+hidden_none : (secrets : List Secret) → HideSecrets none_asked secrets
+hidden_none [] = All-nil (HidesSecret none_asked)
+hidden_none (secret ∷ secrets) =
+    All-cons (HidesSecret none_asked) secret secrets (λ long. (All-nil (HidesForm (once_patterns [] secret.pattern) secret.pattern), All-nil (HidesNestedForm secret.pattern))) (hidden_none secrets)
 
-pub have_none : (rules : List Rule) → HaveForms [] rules rules
+pub have_none : (rules : List Rule) → HaveForms none_asked rules rules
 have_none rules = record {
   are = sym (ap (λ l. secrets_of rules ++ l) (forms_none 0 (secrets_of rules)) ∙ append-nil (secrets_of rules));
   hidden = hidden_none (secrets_of rules);

@@ -128,8 +128,11 @@ abbrev pub HidesOnce : List SecretForm → List ℕ → Type 0
 HidesOnce forms pattern = All (HidesForm (once_patterns forms pattern) pattern) forms
 
 -- nor shows a form of a form one that holds a bit of what the inner one makes of it
+abbrev pub HidesNestedForm : List ℕ → Nested → Type 0
+HidesNestedForm pattern one = All (HidesNested (twice_patterns pattern one) one.outer) (form_patterns pattern one.inner)
+
 abbrev pub HidesTwice : List Nested → List ℕ → Type 0
-HidesTwice nested pattern = All (λ (one : Nested). All (HidesNested (twice_patterns pattern one) one.outer) (form_patterns pattern one.inner)) nested
+HidesTwice nested pattern = All (HidesNestedForm pattern) nested
 
 abbrev pub HidesSecret : AskedForms → Secret → Type 0
 HidesSecret asked secret = 4 ≤ length secret.pattern → HidesOnce asked.forms secret.pattern × HidesTwice asked.nested secret.pattern

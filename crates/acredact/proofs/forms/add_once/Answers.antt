@@ -3,14 +3,13 @@ use Rattle.std.proofs.Common.{List, ℕ, subst}
 use Rattle.std.specs.List.{All}
 use Rattle.std.proofs.lemmas.Result.{on_ok_weaker}
 use Rattle.secret_forms.specs.Forms.{HidesForm}
-use Rattle.acredact.specs.Forms.{HidesSecret, form_patterns_of}
-use Rattle.acredact.specs.Tables.{secret_of}
-use Rattle.acredact.proofs.forms.add_forms_of.Goals as goal
+use Rattle.acredact.specs.Forms.{HidesOnce, once_patterns}
+use Rattle.acredact.proofs.forms.add_once.Goals as goal
 
 pub returns-in-Ok-clause-hidden : goal.returns-in-Ok-clause-hidden
 returns-in-Ok-clause-hidden c =
     on_ok_weaker c.add_patterns.result
-    (λ added long.
-    subst (λ (b : List ℕ). All (HidesForm (form_patterns_of c.args.wanted.now b) b) c.args.wanted.now) c.as_slice.ensures.value
+    (λ added.
+    subst (λ (b : List ℕ). All (HidesForm (once_patterns c.args.wanted.now b) b) c.args.wanted.now) c.as_slice.ensures.value
     (subst (λ (l : List (List ℕ)). All (HidesForm l c.as_slice.result.now) c.args.wanted.now) c.in-Ok.ensures.value c.in-Ok.ensures.law))
     c.add_patterns.ensures.added
