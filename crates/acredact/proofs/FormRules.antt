@@ -1,10 +1,10 @@
 -- The forms of rules, one after another.
 use Rattle.std.proofs.Common.{◌≡◌, ◌≤◌, ℕ, ◌+◌, ◌-◌, List, [], ◌∷◌, ◌++◌, length, map, take, drop, get_or, refl, sym, ap, subst, ◌∙◌, append-nil, append_assoc, arith}
-use Rattle.std.specs.Prelude.{Bool, true, false, nat_lt, None, Some, Result, Ok, Err, OnOk, is_ok, if◌then◌else◌}
+use Rattle.std.specs.Prelude.{Bool, true, false, nat_lt, None, Some, Result, Ok, Err, OnOk, flat_map, is_ok, if◌then◌else◌}
 use Rattle.std.proofs.Math.Seq.{take-length}
 use Rattle.std.proofs.lemmas.List.{map-append}
-use Rattle.std.proofs.lemmas.List.Elements.{All-cons, All-nil}
-use Rattle.acredact.specs.Forms.{AskedForms, HideSecrets, HaveForms, HidesNestedForm, HidesSecret, asked_by, forms_asked, forms_from, forms_named, forms_of, nested_named, once_patterns}
+use Rattle.std.proofs.lemmas.List.Elements.{All-cons, All-head, All-nil, filter-append}
+use Rattle.acredact.specs.Forms.{AskedForms, HideSecrets, HaveForms, HidesNestedForm, HidesSecret, HidesTwice, asked_by, filled, forms_asked, forms_from, forms_named, forms_of, nested_named, once_patterns}
 use Rattle.secret_forms.specs.Forms.{HidesForm}
 use Rattle.secret_forms.specs.declared.form.Form.{Form as SecretForm}
 use Rattle.acredact.specs.declared.forms.Asked.{Asked}
@@ -33,6 +33,39 @@ module _ (wanted : AskedForms) where
   hidden_next [] all other some known one others = absurd (omega (arith, some))
   hidden_next (rule ∷ rest) all other some known one others =
       known (All-cons (HidesSecret wanted) (secret_of rule) (secrets_of rest) one (subst (λ (l : List Rule). HideSecrets wanted (secrets_of l)) (behind_first rule rest) others))
+
+-- those of one form of a form more are added
+rest_of_nested : (one : Nested) (rest : List Nested) → take (length (one ∷ rest) - 1) rest ≡ rest
+rest_of_nested one rest =
+    let count : length (one ∷ rest) - 1 ≡ length rest = omega arith in
+    ap (λ n. take n rest) count ∙ take-length rest
+
+pub nested_next : (patterns : Nested → List (List ℕ)) (make : List ℕ → Secret) (rest : List Nested) (other : Nested) (all old new more : List Secret) → 1 ≤ length rest
+    → old ++ map make (filled (flat_map patterns rest)) ≡ all → new ≡ old ++ more → more ≡ map make (filled (patterns (get_or rest 0 other)))
+    → new ++ map make (filled (flat_map patterns (take (length rest - 1) (drop 1 rest)))) ≡ all
+nested_next patterns make [] other all old new more some is grown are = absurd (omega (arith, some))
+nested_next patterns make (one ∷ rest) other all old new more some is grown are =
+    let both : map make (filled (patterns one ++ flat_map patterns rest)) ≡ map make (filled (patterns one)) ++ map make (filled (flat_map patterns rest)) =
+    ap (map make) (filter-append (λ pattern. nat_lt 0 (length pattern)) (patterns one) (flat_map patterns rest)) ∙ map-append make (filled (patterns one)) (filled (flat_map patterns rest)) in
+    ap (λ l. new ++ map make (filled (flat_map patterns l))) (rest_of_nested one rest)
+    ∙ ap (λ l. l ++ map make (filled (flat_map patterns rest))) (grown ∙ ap (λ l. old ++ l) are)
+    ∙ append_assoc old (map make (filled (patterns one))) (map make (filled (flat_map patterns rest)))
+    ∙ ap (λ l. old ++ l) (sym both) ∙ is
+
+pub twice_next : (pattern : List ℕ) (rest all : List Nested) (other : Nested) → 1 ≤ length rest → (HidesTwice rest pattern → HidesTwice all pattern)
+    → HidesTwice (get_or rest 0 other ∷ []) pattern → HidesTwice (take (length rest - 1) (drop 1 rest)) pattern → HidesTwice all pattern
+twice_next pattern [] all other some known one others = absurd (omega (arith, some))
+twice_next pattern (first ∷ rest) all other some known one others =
+    known (All-cons (HidesNestedForm pattern) first rest (All-head (HidesNestedForm pattern) first [] one) (subst (λ (l : List Nested). HidesTwice l pattern) (rest_of_nested first rest) others))
+
+-- behind the last one nothing is left to hide
+pub twice_end : (pattern : List ℕ) (rest all : List Nested) → length rest ≡ 0 → (HidesTwice rest pattern → HidesTwice all pattern) → HidesTwice all pattern
+twice_end pattern [] all none known = known (All-nil (HidesNestedForm pattern))
+twice_end pattern (one ∷ rest) all none known = absurd (omega (arith, none))
+
+pub hidden_end : (wanted : AskedForms) (rest all : List Rule) → length rest ≡ 0 → (HideSecrets wanted (secrets_of rest) → HideSecrets wanted (secrets_of all)) → HideSecrets wanted (secrets_of all)
+hidden_end wanted [] all none known = known (All-nil (HidesSecret wanted))
+hidden_end wanted (rule ∷ rest) all none known = absurd (omega (arith, none))
 
 -- what is made of one rule more is added
 pub rules_next : (make : Secret → Secret) (rest : List Rule) (other : Rule) (all old new more : List Secret) → 1 ≤ length rest → all ≡ old ++ map make (secrets_of rest) → new ≡ old ++ more

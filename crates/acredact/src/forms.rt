@@ -2,7 +2,7 @@
 
 ghost use Rattle.std.specs.Prelude.{◌≡◌, ◌∷◌, ◌++◌, ◌≤◌, [], IfOk, OnOk, Some, flat_map, length, map};
 ghost use Rattle.std.specs.List.{filter, filter_map, list_all};
-ghost use Rattle.acredact.specs.Forms.{HaveForms, HideSecrets, HidesOnce, HidesSecret, HidesTwice, all_forms, are_forms, asked_by, asks_for, filled, form_called, form_secret, forms_asked, forms_from, forms_named, forms_of, is_all, is_asked, is_called, name_of, names_form, names_in, nested_called, nested_named, once_patterns, twice_patterns};
+ghost use Rattle.acredact.specs.Forms.{HaveForms, HideSecrets, HidesOnce, HidesSecret, HidesTwice, all_forms, are_forms, asked_by, asks_for, filled, form_called, form_secret, forms_asked, forms_from, forms_named, forms_of, is_all, is_asked, is_called, name_of, names_form, names_in, nested_by, nested_called, nested_named, once_patterns, twice_patterns};
 ghost use Rattle.acredact.specs.Parts.{AddsSome};
 ghost use Rattle.acredact.specs.Tables.{secret_of, secrets_of};
 ghost use Rattle.secret_forms.specs.Patterns.{pattern_bytes};
@@ -73,14 +73,24 @@ pub struct Nested {
     pub outer: Form,
 }
 
+/// A form of a form, where both are there.
+fn nested_by(inner: Option<Form>, outer: Option<Form>) -> Option<Nested>
+    ensures nested { result ≡ nested_by inner outer }
+{
+    match (inner, outer) {
+        (Some(inner), Some(outer)) => Some(Nested { inner, outer }),
+        _ => None,
+    }
+}
+
 /// The two forms whose names stand so: the inner one, `+`, and the outer one.
 fn nested_called(name: &[u8]) -> Option<Nested>
     ensures called { result ≡ nested_called name.now }
 {
-    let (inner, outer) = split_at(name, b'+')?;
-    let inner = form_called(inner)?;
-    let outer = form_called(outer)?;
-    Some(Nested { inner, outer })
+    match split_at(name, b'+') {
+        Some((inner, outer)) => nested_by(form_called(inner), form_called(outer)),
+        None => None,
+    }
 }
 
 /// Whether this names all forms.
@@ -173,7 +183,7 @@ fn push_asked(forms: &mut Vec<Form>, value: &[u8], form: Form) -> Result<(), All
 }
 
 /// The forms of forms that a value names, in order.
-fn nested_by(alloc: Global, value: &[u8]) -> Result<Vec<Nested>, AllocError>
+fn nested_named(alloc: Global, value: &[u8]) -> Result<Vec<Nested>, AllocError>
     ensures nested { IfOk result (λ nested. nested.items ≡ nested_named value.now) }
 {
     let mut nested = Vec::new(alloc);
@@ -212,7 +222,7 @@ pub fn add_forms(alloc: Global, rules: &mut Vec<Rule>, value: &str) -> Result<()
     ensures formed { OnOk result (HaveForms (forms_asked (Some value.now)) rules.old.items rules.new.items) }
 {
     let forms = forms_by(alloc, value.as_bytes())?;
-    let nested = nested_by(alloc, value.as_bytes())?;
+    let nested = nested_named(alloc, value.as_bytes())?;
     let asked = Asked {
         forms: forms.as_slice(),
         nested: nested.as_slice(),
@@ -224,8 +234,8 @@ pub fn add_forms(alloc: Global, rules: &mut Vec<Rule>, value: &str) -> Result<()
 /// Those of all these rules.
 fn forms_of_rules(alloc: Global, rules: &[Rule], asked: Asked<'_>) -> Result<Vec<Rule>, AllocError>
     ensures made { IfOk result (λ more.
-        secrets_of more.items ≡ forms_from (asked_by asked) 0 (secrets_of rules.now)) }
-    ensures hidden { OnOk result (HideSecrets (asked_by asked) (secrets_of rules.now)) }
+        secrets_of more.items ≡ forms_from (asked_by asked.entry) 0 (secrets_of rules.now)) }
+    ensures hidden { OnOk result (HideSecrets (asked_by asked.entry) (secrets_of rules.now)) }
 {
     let mut more = Vec::new(alloc);
     let mut number: usize = 0;
@@ -247,8 +257,8 @@ fn add_forms_of(
     asked: Asked<'_>,
 ) -> Result<(), AllocError>
     ensures added { OnOk result (AddsSome (λ some. some
-        ≡ forms_of (asked_by asked) number (secret_of rule.now)) more.old more.new) }
-    ensures hidden { OnOk result (HidesSecret (asked_by asked) (secret_of rule.now)) }
+        ≡ forms_of (asked_by asked.entry) number (secret_of rule.now)) more.old more.new) }
+    ensures hidden { OnOk result (HidesSecret (asked_by asked.entry) (secret_of rule.now)) }
 {
     if rule.pattern.len() < SHORTEST {
         return Ok(());

@@ -3,7 +3,7 @@ use Rattle.std.proofs.Common.{rules, ◌≡◌, ◌≤◌, ◌+◌, ◌-◌, Lis
 use Rattle.acredact.specs.Forms.{HidesSecret, asked_by, forms_of}
 use Rattle.acredact.specs.Tables.{Secret, secret_of, secrets_of}
 use Rattle.acredact.specs.declared.patterns.Rule.{Rule}
-use Rattle.acredact.proofs.FormRules.{forms_next, hidden_next}
+use Rattle.acredact.proofs.FormRules.{forms_next, hidden_end, hidden_next}
 use Rattle.acredact.proofs.forms.forms_of_rules.Goals as goal
 
 pub loop-rest-preserved : goal.loop-rest-preserved
@@ -20,3 +20,8 @@ loop-rest-preserved c =
       count = search rules;
       hidden = hidden_next (asked_by c.args.asked) c.loop-rest.rest.now c.args.rules.now c.index-rest-0.result some inv.hidden hidden;
     }
+
+pub returns-clause-hidden : goal.returns-clause-hidden
+returns-clause-hidden c =
+    let none : length c.loop-rest.rest.now ≡ 0 = search rules in
+    hidden_end (asked_by c.args.asked) c.loop-rest.rest.now c.args.rules.now none c.loop-rest.invariant.hidden
