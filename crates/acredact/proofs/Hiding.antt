@@ -32,8 +32,9 @@ use Rattle.acredact.specs.Secrets.{IsRedaction, NoByteIsKept, NoneIsWhole, Redac
 use Rattle.acredact.specs.Tables.{Secret, patterns_in}
 use Rattle.programs.specs.Streams.{bytes_left}
 use Rattle.aho_cover.specs.Pieces.{PieceRule}
+use Rattle.aho_cover.specs.Words.{CountsIn}
 use Rattle.pseudonyms.specs.Pseudonyms.{pseudonym_rule}
-use Rattle.acredact.specs.Arguments.{Given, covers_asked, has, last_value}
+use Rattle.acredact.specs.Arguments.{Given, covers_asked, has, last_value, words_asked}
 use Rattle.acredact.specs.Calls.{Call, HidesCall, RedactsCall, names_asked, work_by}
 use Rattle.acredact.specs.Loading.{Loaded, loaded_by}
 use Rattle.acredact.specs.Named.{all_named, named_secret}
@@ -149,15 +150,16 @@ with_within forms secrets secret (k, below, is) long pattern listed =
     (Contains-append_right (patterns_in secrets) (patterns_in (forms_from forms 0 secrets)) pattern (all_within forms 0 secrets secret k below is long pattern listed))
 
 -- no form shows what stays of a text
-module _ (forms : List Form) (secrets : List Secret) (r : Redactor) (covers : r.covers ≡ true) (words : r.patterns.words ≡ patterns_in (with_forms forms secrets)) (laws : HideSecrets forms secrets) where
-  none_shows : (text : List ℕ) (ranges : List Occurrence) → NoByteIsKept r.patterns text ranges → NoneShows forms secrets text ranges
+module _ (forms : List Form) (secrets : List Secret) (r : Redactor) (covers : r.covers ≡ true) (all : r.words ≡ false) (words : r.patterns.words ≡ patterns_in (with_forms forms secrets)) (laws : HideSecrets forms secrets) where
+  none_shows : (text : List ℕ) (ranges : List Occurrence) → NoByteIsKept r text ranges → NoneShows forms secrets text ranges
   none_shows text ranges kept form secret place asked listed long shows =
       let patterns = form_patterns_of forms secret.pattern in
       let law : HidesForm patterns secret.pattern form = All-contains (HidesForm patterns secret.pattern) forms form (All-contains (HidesSecret forms) secrets secret laws listed long) asked in
       kept.hidden place
+      (subst (λ (b : Bool). IsCovered (CountsIn b r.patterns text) place) (sym all)
       (hidden_covered r.patterns patterns text place
       (λ pattern one. subst (λ (l : List (List ℕ)). Contains l pattern) (sym words) (with_within forms secrets secret listed long pattern one))
-      (form_hidden patterns secret.pattern text place form law shows))
+      (form_hidden patterns secret.pattern text place form law shows)))
 
   text_hidden : (left left' held held' : Option (List ℕ)) → RedactsText r left left' held held' → WritesText (HidesForms forms secrets r) left left' held held'
   text_hidden left left' held held' of =
@@ -166,20 +168,20 @@ module _ (forms : List Form) (secrets : List Secret) (r : Redactor) (covers : r.
         text = of.text;
         reads = of.reads;
         redaction = of.redaction;
-        redacts = record { redacts = is; none = none_shows of.text is.ranges (subst (λ (b : Bool). MatchBool b (NoByteIsKept r.patterns of.text is.ranges) (NoneIsWhole r.patterns of.text is.ranges)) covers is.safe) };
+        redacts = record { redacts = is; none = none_shows of.text is.ranges (subst (λ (b : Bool). MatchBool b (NoByteIsKept r of.text is.ranges) (NoneIsWhole r.patterns of.text is.ranges)) covers is.safe) };
         written = of.written;
       }
 
 -- nor what stays of any file
-pub hidden_of : (forms : List Form) (secrets : List Secret) (work : Work) → work.redactor.covers ≡ true → work.redactor.patterns.words ≡ patterns_in (with_forms forms secrets) → HideSecrets forms secrets
+pub hidden_of : (forms : List Form) (secrets : List Secret) (work : Work) → work.redactor.covers ≡ true → work.redactor.words ≡ false → work.redactor.patterns.words ≡ patterns_in (with_forms forms secrets) → HideSecrets forms secrets
     → (names : List (List ℕ)) (left left' held held' : Option (List ℕ)) → AreRedacted work names left left' held held' → AreHidden forms secrets work names left left' held held'
-hidden_of forms secrets work covers words laws [] left left' held held' are = are
-hidden_of forms secrets work covers words laws (name ∷ names) left left' held held' (between, meanwhile, apart, is, others) = (
+hidden_of forms secrets work covers all words laws [] left left' held held' are = are
+hidden_of forms secrets work covers all words laws (name ∷ names) left left' held held' (between, meanwhile, apart, is, others) = (
   between,
   meanwhile,
   named_as work.holds name (λ l l'. RedactsText work.redactor l l' held meanwhile) (λ l l'. WritesText (HidesForms forms secrets work.redactor) l l' held meanwhile)
-      (λ l l' of. text_hidden forms secrets work.redactor covers words laws l l' held meanwhile of) left between is,
-  hidden_of forms secrets work covers words laws names between left' meanwhile held' others,
+      (λ l l' of. text_hidden forms secrets work.redactor covers all words laws l l' held meanwhile of) left between is,
+  hidden_of forms secrets work covers all words laws names between left' meanwhile held' others,
 )
 
 -- a name changes no pattern
@@ -199,14 +201,14 @@ loaded_patterns given secrets (Some key) = by (has FormsOption given)
     by false = refl
 
 -- so no form shows a secret that a call redacts by a cover
-pub call_hides : {R W E : Type 0} {Reads : Readers R} (Writes : Writers W) (call : Call) (left : Option (List ℕ)) (streams streams' : Streams R W E Reads) → covers_asked call.given ≡ true
+pub call_hides : {R W E : Type 0} {Reads : Readers R} (Writes : Writers W) (call : Call) (left : Option (List ℕ)) (streams streams' : Streams R W E Reads) → covers_asked call.given ≡ true → words_asked call.given ≡ false
     → RedactsCall Writes call left streams streams' → HidesCall Writes call left streams streams'
-call_hides Writes call left streams streams' covers of =
+call_hides Writes call left streams streams' covers every of =
     let all = of.loaded.given_all in
     record {
       load = of.load;
       between = of.between;
       loaded = of.loaded;
-      hidden = hidden_of _ all.plain (work_by call of.load) covers
+      hidden = hidden_of _ all.plain (work_by call of.load) covers every
           (ap (λ (l : Loaded). patterns_in l.secrets) of.loaded.is ∙ loaded_patterns call.given of.loaded.secrets of.loaded.key ∙ ap patterns_in all.are) all.hidden (names_asked call.given) _ _ _ _ of.redacted;
     }
