@@ -379,7 +379,7 @@ fn read_letters<'a>(items: &mut Vec<Item<'a>>, letters: &'a str) -> Result<Expec
     ensures wrong { TellsAs (line_of_letters letters.now) result }
 {
     let mut rest = letters;
-    loop {
+    'letters: loop {
         if let Some(behind) = rest.strip_prefix('i') {
             add(items, Word::IgnoreCase, "")?;
             rest = behind;
