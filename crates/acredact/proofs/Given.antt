@@ -8,8 +8,8 @@ use Rattle.acredact.specs.declared.arguments.Expects.TheVariants.{Any, Value, Na
 use Rattle.acredact.specs.declared.arguments.Mistake.{Mistake}
 use Rattle.acredact.specs.declared.arguments.Mistake.TheVariants.{OutOfMemory}
 use Rattle.acredact.specs.declared.arguments.Mixture.{Mixture}
-use Rattle.acredact.specs.declared.arguments.Mixture.TheVariants.{StrictKind, PseudonymKind, PseudonymWith, PseudonymTable, FormsKind, WordsCheck, WordsForms, WordsKind}
-use Rattle.acredact.specs.declared.arguments.Word.TheVariants.{Check, Forms, Pseudonym, Strict, Table, With, Words}
+use Rattle.acredact.specs.declared.arguments.Mixture.TheVariants.{StrictKind, PseudonymKind, PseudonymWith, PseudonymTable, FormsKind, WordsForms, WordsKind}
+use Rattle.acredact.specs.declared.arguments.Word.TheVariants.{Forms, Pseudonym, Strict, Table, With, Words}
 
 some_same : {A : Type 0} (x y : A) → Some x ≡ Some y → x ≡ y
 some_same x y e = cc
@@ -66,18 +66,18 @@ rest_of : (b : Bool) {mixture : Mixture} {rest : Option Mixture} → (if b then 
 rest_of true none = absurd (cc)
 rest_of false none = none
 
-no_words : (covers words forms checks : Bool) (rest : Option Mixture)
-    → (if words && not covers then Some WordsKind else if words && forms then Some WordsForms else if words && checks then Some WordsCheck else rest) ≡ None
+no_words : (covers words forms : Bool) (rest : Option Mixture)
+    → (if words && not covers then Some WordsKind else if words && forms then Some WordsForms else rest) ≡ None
     → forms ≡ true → (covers && words) ≡ false
-no_words false words forms checks rest none asked = refl
-no_words true false forms checks rest none asked = refl
-no_words true true true checks rest none asked = absurd (cc)
-no_words true true false checks rest none asked = absurd (cc)
+no_words false words forms rest none asked = refl
+no_words true false forms rest none asked = refl
+no_words true true true rest none asked = absurd (cc)
+no_words true true false rest none asked = absurd (cc)
 
 pub forms_unworded : (arguments : List (List ℕ)) (given : List Given) → all_asked arguments ≡ Some given → has Forms given ≡ true → words_asked given ≡ false
 forms_unworded arguments given asked forms =
     let none = (read_fits (given_by arguments) given asked).1 in
-    no_words (covers_asked given) (has Words given) (has Forms given) (has Check given) _ (rest_of _ (rest_of _ (rest_of _ (rest_of _ (rest_of _ (rest_of _ (rest_of _ (rest_of _ none)))))))) forms
+    no_words (covers_asked given) (has Words given) (has Forms given) _ (rest_of _ (rest_of _ (rest_of _ (rest_of _ (rest_of _ (rest_of _ (rest_of _ (rest_of _ none)))))))) forms
 
 -- nothing is wrong with right arguments but that memory runs out
 pub memory_alone : (arguments : List (List ℕ)) (given : List Given) (mistake : Mistake) → all_asked arguments ≡ Some given → IsMistakeOfCall arguments mistake → mistake ≡ OutOfMemory

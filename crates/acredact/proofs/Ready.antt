@@ -145,10 +145,11 @@ ready_of G automaton p covers replacements of are kind standard starts some one 
     }
 
 -- or to look
-pub look_ready : {A : Type 0} (G : Ghosts A) (automaton : A) (p : Patterns) → G.is_of automaton p → G.lengths automaton ≡ map length p.words → IsOk (G.start automaton No) → 1 ≤ shortest (map length p.words) → CanLook G automaton
-look_ready G automaton p of are starts some =
+pub look_ready : {A : Type 0} (G : Ghosts A) (automaton : A) (p : Patterns) (words : Bool) → G.is_of automaton p → G.lengths automaton ≡ map length p.words → G.kind automaton ≡ p.kind
+    → (words ≡ true → p.kind ≡ Standard) → IsOk (G.start automaton No) → 1 ≤ shortest (map length p.words) → CanLook G automaton words
+look_ready G automaton p words of are kind standard starts some =
     let start = started (G.start automaton No) starts in
-    record { patterns = p; of = of; begins = (start.0, subst (λ (ns : List ℕ). 1 ≤ shortest ns) (sym are) some, start.1) }
+    record { patterns = p; of = of; begins = (start.0, subst (λ (ns : List ℕ). 1 ≤ shortest ns) (sym are) some, start.1); standard = λ is. kind ∙ standard is }
 
 -- lists are read alike
 pub reading_from : {F X : Type 0} (D : Folders F X) (lists : Lists F) (folder : F) (rules : Rules) → lists.folder.now ≡ folder → rules_for lists ≡ rules → (P : Reading → Type 0)

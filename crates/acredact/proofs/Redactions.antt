@@ -44,7 +44,7 @@ use Rattle.acredact.proofs.MadeClean.{made-free}
 use Rattle.acredact.proofs.NoneSpelled.{pseudonyms_clean}
 
 -- some bytes with an end that was seen are all
-all_of : (given text : List ℕ) → MayBe given true text → text ≡ given
+pub all_of : (given text : List ℕ) → MayBe given true text → text ≡ given
 all_of given text may = may.1 ∙ ap (λ more. given ++ more) may.2 ∙ append-nil given
 
 module _ (r : Redactor) (text : List ℕ) where

@@ -14,7 +14,7 @@ use Rattle.acredact.specs.declared.arguments.Expects.{Expects}
 use Rattle.acredact.specs.declared.arguments.Expects.TheVariants.{Any, Value, Name}
 use Rattle.acredact.specs.declared.arguments.Item.{Item}
 use Rattle.acredact.specs.declared.arguments.Mixture.{Mixture}
-use Rattle.acredact.specs.declared.arguments.Mixture.TheVariants.{StrictKind, PseudonymKind, PseudonymWith, PseudonymTable, FormsKind, WordsKind, WordsForms, WordsCheck, CountCheck, SummaryCheck, OutputCheck, InPlaceCheck, InPlaceOutput}
+use Rattle.acredact.specs.declared.arguments.Mixture.TheVariants.{StrictKind, PseudonymKind, PseudonymWith, PseudonymTable, FormsKind, WordsKind, WordsForms, CountCheck, SummaryCheck, OutputCheck, InPlaceCheck, InPlaceOutput}
 
 -- an option with its value, or a file with its name
 pub record Given : Type 0 where
@@ -281,7 +281,6 @@ abbrev pub words_mixture_of : List Given → Option Mixture
 words_mixture_of given =
     if has Words given && not (covers_asked given) then Some WordsKind
     else if has Words given && has Forms given then Some WordsForms
-    else if has Words given && has Check given then Some WordsCheck
     else in_place_mixture_of given
 
 -- the options that do not go together, where some do not: pieces are refused of covers alone, pseudonyms are of covers and leave no

@@ -15,7 +15,7 @@ use Rattle.acredact.specs.declared.arguments.Item.{Item}
 use Rattle.acredact.specs.declared.arguments.Mistake.{Mistake}
 use Rattle.acredact.specs.declared.arguments.Mistake.TheVariants.{UnknownLetter, NotFound, NoValue, TakesNone, UnknownKind, UnknownForm, BadName, NoPattern, Mixed, OutOfMemory}
 use Rattle.acredact.specs.declared.arguments.Mixture.{Mixture}
-use Rattle.acredact.specs.declared.arguments.Mixture.TheVariants.{StrictKind, PseudonymKind, PseudonymWith, PseudonymTable, FormsKind, WordsKind, WordsForms, WordsCheck, CountCheck, SummaryCheck, OutputCheck, InPlaceCheck, InPlaceOutput}
+use Rattle.acredact.specs.declared.arguments.Mixture.TheVariants.{StrictKind, PseudonymKind, PseudonymWith, PseudonymTable, FormsKind, WordsKind, WordsForms, CountCheck, SummaryCheck, OutputCheck, InPlaceCheck, InPlaceOutput}
 use Rattle.acredact.specs.declared.arguments.Word.{Word}
 use Rattle.acredact.specs.declared.arguments.Word.TheVariants.{Env, Forms}
 
@@ -28,7 +28,6 @@ mixture_text PseudonymTable = codes "--pseudonym and -t do not go together: a ta
 mixture_text FormsKind = codes "--forms needs --kind cover: by other kinds a part of a form can stay"
 mixture_text WordsKind = codes "--word needs --kind cover: by other kinds a match that is no word can hide one"
 mixture_text WordsForms = codes "--word and --forms do not go together: a form can stand within a word"
-mixture_text WordsCheck = codes "--word and --check do not go together: a check looks for all that occurs"
 mixture_text SummaryCheck = codes "--summary and --check do not go together: a check counts nothing"
 mixture_text OutputCheck = codes "--output and --check do not go together: a check writes nothing"
 mixture_text InPlaceCheck = codes "--in-place and --check do not go together: a check writes nothing"

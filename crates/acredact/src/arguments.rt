@@ -2,7 +2,7 @@
 
 ghost use Rattle.std.specs.Prelude.{◌≡◌, ◌++◌, [], ◌∷◌, Some, None, IfErr, IfOk, OnOk, option_map, string_bytes};
 ghost use Rattle.programs.specs.Arguments.{kind_by, texts};
-ghost use Rattle.acredact.specs.Arguments.{ReadsAs, all_asked, all_given, by_any, by_argument, checks_asked, counts_asked, covers_asked, given, given_by, has, in_place_asked, in_place_mixture_of, is_cover, is_same, is_value_of, by_joined, kind_asked, last_value, by_letter, by_letters, mixture_of, by_name, option_name, output_asked, by_taken, takes_value, words_mixture_of, by_value};
+ghost use Rattle.acredact.specs.Arguments.{ReadsAs, all_asked, all_given, by_any, by_argument, checks_asked, counts_asked, covers_asked, given, given_by, has, in_place_asked, in_place_mixture_of, is_cover, is_same, is_value_of, by_joined, kind_asked, last_value, by_letter, by_letters, mixture_of, by_name, option_name, output_asked, by_taken, takes_value, words_asked, words_mixture_of, by_value};
 ghost use Rattle.acredact.specs.Long.{word_by_name};
 ghost use Rattle.acredact.specs.Mistakes.{FailsAs, IsMistake, IsMistakeOfCall, TellsAs, line_of_any, line_of_argument, line_of_joined, line_of_letter, line_of_letters, line_of_name, mistake_line, value_line};
 
@@ -102,8 +102,6 @@ pub enum Mixture {
     WordsKind,
     /// `--word` with `--forms`: a form can stand within a word.
     WordsForms,
-    /// `--word` with `--check`, which looks for all that occurs.
-    WordsCheck,
     /// `--count` with `--check`, which counts nothing.
     CountCheck,
     /// `--summary` with `--check`.
@@ -255,9 +253,6 @@ fn words_mixture_of(items: &[Item<'_>]) -> Option<Mixture>
     }
     if has(items, Word::Words) && has(items, Word::Forms) {
         return Some(Mixture::WordsForms);
-    }
-    if has(items, Word::Words) && has(items, Word::Check) {
-        return Some(Mixture::WordsCheck);
     }
     in_place_mixture_of(items)
 }
@@ -540,6 +535,13 @@ pub fn covers(items: &[Item<'_>]) -> bool
         Some(name) => is_cover(name),
         None => true,
     }
+}
+
+/// Whether words alone count: of a cover.
+pub fn words(items: &[Item<'_>]) -> bool
+    ensures words { result ≡ words_asked (all_given items.now) }
+{
+    covers(items) && has(items, Word::Words)
 }
 
 /// The match kind that is searched by. A cover needs all matches, so for it that is `Standard`.

@@ -312,9 +312,6 @@ fn mixture_text(mixture: Mixture) -> &'static str
         Mixture::WordsForms => {
             "--word and --forms do not go together: a form can stand within a word"
         }
-        Mixture::WordsCheck => {
-            "--word and --check do not go together: a check looks for all that occurs"
-        }
         Mixture::SummaryCheck => {
             "--summary and --check do not go together: a check counts nothing"
         }
