@@ -40,8 +40,10 @@ use Rattle.acredact.specs.Secrets.{Redactor}
 use Rattle.acredact.proofs.Covered.{occurs_some}
 use Rattle.acredact.proofs.Redactions.{all_of}
 
-ok_is : (a b : Bool) → Ok a ≡ Ok b → a ≡ b
-ok_is a b e = cc
+-- what is answered
+answered : Result Bool StreamError → Bool
+answered (Ok found) = found
+answered (Err error) = false
 
 -- the first find is the answer of the search
 first_answer : (p : Patterns) (bytes : List ℕ) (found : Option Occurrence) → IsNextFind p (plain_search bytes) None found → IsAnswer p (plain_search bytes) found
@@ -180,9 +182,9 @@ module _ {R : Type 0} (S : SourceGhosts R) (p : Patterns) (AreSearched : Pattern
     given = whole.given;
     ended = true;
     gives = whole.gives;
-    unmatched = λ is. (refl, none_stands (none (ok_is found false is)));
+    unmatched = λ is. (refl, none_stands (none (ap answered is)));
     matched = λ is bytes may.
-        let (number, within, more) = one (ok_is found true is) in
+        let (number, within, more) = one (ap answered is) in
         subst (λ (l : List ℕ). SomeCounts (sought p true) l) (sym (all_of whole.given bytes may)) (one_stands number within more);
     read_failed = failed;
     only = tt;
@@ -198,7 +200,7 @@ fault_looks Memory is failed nothing = tt
 fault_looks PositionLimit is failed nothing = tt
 
 pub looks_cut : {R W : Type 0} (S : SourceGhosts R) (K : SinkGhosts W) (p : Patterns) (AreSearched : Patterns → Type 0) (rule : PieceRule) (source source' : R) (sink sink' : W) (counts counts' : List ℕ) (error : StreamError)
-    → CountsWrittenWith S K AreSearched true rule source source' sink sink' counts counts' → CountsErrors S K {A = Unit {0}} source source' sink sink' (Err error) → IsStreamFault error
+    → CountsWrittenWith S K AreSearched true rule source source' sink sink' counts counts' → CountsErrors {A = Unit {0}} S K source source' sink sink' (Err error) → IsStreamFault error
     → ((sink : W) → K.failures sink ≡ 0) → ((sink : W) → K.empty_writes sink ≡ 0) → LooksAt S (sought p true) (Err error) source source'
 looks_cut S K p AreSearched rule source source' sink sink' counts counts' error written errors is unfailed takes = record {
   given = written.given;

@@ -35,7 +35,7 @@ use Rattle.acredact.proofs.OneFile.{named_none}
 
 module _ {A : Type 0} (G : Ghosts A) where
   -- a cover counts what it was asked to
-  begun_as : (automaton : A) (progress : CoverProgress) (words : Bool) → IsUnbegunWith words G automaton progress → IsUnbegunWith progress.words G automaton progress
+  pub begun_as : (automaton : A) (progress : CoverProgress) (words : Bool) → IsUnbegunWith words G automaton progress → IsUnbegunWith progress.words G automaton progress
   begun_as automaton progress words unbegun = subst (λ (b : Bool). IsUnbegunWith b G automaton progress) (sym unbegun.chosen) unbegun
 
   -- a cover is as before after a stream
