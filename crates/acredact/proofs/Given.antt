@@ -9,7 +9,7 @@ use Rattle.acredact.specs.declared.arguments.Mistake.{Mistake}
 use Rattle.acredact.specs.declared.arguments.Mistake.TheVariants.{OutOfMemory}
 use Rattle.acredact.specs.declared.arguments.Mixture.{Mixture}
 use Rattle.acredact.specs.declared.arguments.Mixture.TheVariants.{StrictKind, PseudonymKind, PseudonymWith, PseudonymTable, FormsKind, WordsForms, WordsKind}
-use Rattle.acredact.specs.declared.arguments.Word.TheVariants.{Forms, Pseudonym, Strict, Table, With, Words}
+use Rattle.acredact.specs.declared.arguments.Word.TheVariants.{Forms, Pseudonym, Strict, Table, With, AsWord}
 
 some_same : {A : Type 0} (x y : A) → Some x ≡ Some y → x ≡ y
 some_same x y e = cc
@@ -77,7 +77,7 @@ no_words true true false rest none asked = absurd (cc)
 pub forms_unworded : (arguments : List (List ℕ)) (given : List Given) → all_asked arguments ≡ Some given → has Forms given ≡ true → words_asked given ≡ false
 forms_unworded arguments given asked forms =
     let none = (read_fits (given_by arguments) given asked).1 in
-    no_words (covers_asked given) (has Words given) (has Forms given) _ (rest_of _ (rest_of _ (rest_of _ (rest_of _ (rest_of _ (rest_of _ (rest_of _ (rest_of _ none)))))))) forms
+    no_words (covers_asked given) (has AsWord given) (has Forms given) _ (rest_of _ (rest_of _ (rest_of _ (rest_of _ (rest_of _ (rest_of _ (rest_of _ (rest_of _ none)))))))) forms
 
 -- nothing is wrong with right arguments but that memory runs out
 pub memory_alone : (arguments : List (List ℕ)) (given : List Given) (mistake : Mistake) → all_asked arguments ≡ Some given → IsMistakeOfCall arguments mistake → mistake ≡ OutOfMemory

@@ -26,7 +26,7 @@ use Rattle.acredact.specs.Secrets.{CanRedact}
 use Rattle.acredact.specs.Tables.{HaveNoEmpty, HoldsBy, Secret, patterns_in}
 use Rattle.acredact.specs.Values.{GiveEach, no_bytes, value_of_entry, whole_in}
 use Rattle.acredact.specs.declared.arguments.Word.{Word}
-use Rattle.acredact.specs.declared.arguments.Word.TheVariants.{IgnoreCase, Kind, Pattern, Patterns as PatternFile, Table, Env, EnvFile, Whole, With, Pseudonym, Forms, Words, Output, InPlace, Count, Summary, Crlf, AllowEmpty, Strict, Check, Help, Version, File}
+use Rattle.acredact.specs.declared.arguments.Word.TheVariants.{IgnoreCase, Kind, Pattern, Patterns as PatternFile, Table, Env, EnvFile, Whole, With, Pseudonym, Forms, AsWord, Output, InPlace, Count, Summary, Crlf, AllowEmpty, Strict, Check, Help, Version, File}
 use Rattle.acredact.specs.declared.folder.Folder.{Ghosts as Folders}
 use Rattle.acredact.specs.declared.load.Lists.{Lists}
 use Rattle.acredact.specs.declared.patterns.Form.{Form}
@@ -98,7 +98,7 @@ option_some reading Summary value secrets left left' gives = none_some secrets g
 option_some reading Crlf value secrets left left' gives = none_some secrets gives.0
 option_some reading InPlace value secrets left left' gives = none_some secrets gives.0
 option_some reading AllowEmpty value secrets left left' gives = none_some secrets gives.0
-option_some reading Words value secrets left left' gives = none_some secrets gives.0
+option_some reading AsWord value secrets left left' gives = none_some secrets gives.0
 option_some reading Strict value secrets left left' gives = none_some secrets gives.0
 option_some reading Check value secrets left left' gives = none_some secrets gives.0
 option_some reading Help value secrets left left' gives = none_some secrets gives.0

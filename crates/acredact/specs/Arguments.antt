@@ -9,7 +9,7 @@ use Rattle.acredact.specs.Forms.{are_forms}
 use Rattle.acredact.specs.Long.{word_by_name}
 use Rattle.acredact.specs.Values.{is_variable_name}
 use Rattle.acredact.specs.declared.arguments.Word.{Word}
-use Rattle.acredact.specs.declared.arguments.Word.TheVariants.{IgnoreCase, Kind, Pattern, Patterns, Table, Env, EnvFile, Whole, With, Pseudonym, Forms, Words, Output, InPlace, Count, Summary, Crlf, AllowEmpty, Strict, Check, Help, Version, File}
+use Rattle.acredact.specs.declared.arguments.Word.TheVariants.{IgnoreCase, Kind, Pattern, Patterns, Table, Env, EnvFile, Whole, With, Pseudonym, Forms, AsWord, Output, InPlace, Count, Summary, Crlf, AllowEmpty, Strict, Check, Help, Version, File}
 use Rattle.acredact.specs.declared.arguments.Expects.{Expects}
 use Rattle.acredact.specs.declared.arguments.Expects.TheVariants.{Any, Value, Name}
 use Rattle.acredact.specs.declared.arguments.Item.{Item}
@@ -44,7 +44,7 @@ takes_value Pseudonym = true
 takes_value Forms = true
 takes_value Output = true
 takes_value IgnoreCase = false
-takes_value Words = false
+takes_value AsWord = false
 takes_value InPlace = false
 takes_value Count = false
 takes_value Summary = false
@@ -66,7 +66,7 @@ is_value_of Kind value = is_cover value || is_some (kind_by value)
 is_value_of Forms value = are_forms value
 is_value_of Env value = is_variable_name value
 is_value_of IgnoreCase value = true
-is_value_of Words value = true
+is_value_of AsWord value = true
 is_value_of Pattern value = true
 is_value_of Patterns value = true
 is_value_of Table value = true
@@ -136,7 +136,7 @@ abbrev pub by_letters : List ℕ → List Given → Option ItemsSoFar
 by_letters [] items = items_so_far Any items
 by_letters (letter ∷ rest) items =
     if letter == 105 then by_letters rest (items ++ (given IgnoreCase [] ∷ []))
-    else if letter == 119 then by_letters rest (items ++ (given Words [] ∷ []))
+    else if letter == 119 then by_letters rest (items ++ (given AsWord [] ∷ []))
     else by_letter (letter ∷ rest) items
 
 -- an argument that stands where an option may, by what it is; behind '--' there are files alone
@@ -188,7 +188,7 @@ is_same Whole Whole = true
 is_same With With = true
 is_same Pseudonym Pseudonym = true
 is_same Forms Forms = true
-is_same Words Words = true
+is_same AsWord AsWord = true
 is_same Output Output = true
 is_same InPlace InPlace = true
 is_same Count Count = true
@@ -234,7 +234,7 @@ option_name Pseudonym = codes "--pseudonym"
 option_name Forms = codes "--forms"
 option_name Output = codes "--output"
 option_name IgnoreCase = codes "-e"
-option_name Words = codes "-e"
+option_name AsWord = codes "-e"
 option_name InPlace = codes "-e"
 option_name Count = codes "-e"
 option_name Summary = codes "-e"
@@ -267,7 +267,7 @@ counts_given items = counts_asked (all_given items)
 
 -- whether words alone count: of a cover
 abbrev pub words_asked : List Given → Bool
-words_asked items = covers_asked items && has Words items
+words_asked items = covers_asked items && has AsWord items
 
 -- those of --in-place
 abbrev pub in_place_mixture_of : List Given → Option Mixture
@@ -279,8 +279,8 @@ in_place_mixture_of given =
 -- and those of --word
 abbrev pub words_mixture_of : List Given → Option Mixture
 words_mixture_of given =
-    if has Words given && not (covers_asked given) then Some WordsKind
-    else if has Words given && has Forms given then Some WordsForms
+    if has AsWord given && not (covers_asked given) then Some WordsKind
+    else if has AsWord given && has Forms given then Some WordsForms
     else in_place_mixture_of given
 
 -- the options that do not go together, where some do not: pieces are refused of covers alone, pseudonyms are of covers and leave no

@@ -1,5 +1,5 @@
 -- Whether something counts in what is read: what a check looks for.
-use Rattle.std.specs.Prelude.{◌≡◌, ℕ, ◌||◌, ◌&&◌, not, Bool, true, false, List, Option, Some, Result, Ok, Err, IfErr, alloc_error}
+use Rattle.std.specs.Prelude.{◌≡◌, ℕ, ◌||◌, ◌&&◌, not, Bool, true, false, List, [], Option, Some, Result, Ok, Err, IfErr, alloc_error}
 use Rattle.std.specs.Io.KnownBytes.{Consumes, IsAtEnd}
 use Rattle.std.specs.declared.alloc.AllocError.{AllocError}
 use Rattle.aho_core.specs.Occurrence.{Occurrence}

@@ -40,7 +40,7 @@ pub enum Word {
     /// `--forms`: which forms of each pattern are patterns too.
     Forms,
     /// `-w`: an occurrence counts where no letter, digit or `_` stands beside it.
-    Words,
+    AsWord,
     /// `--output`: the file that is written, in the place of standard output.
     Output,
     /// `--in-place`: each file is replaced, and nothing goes to standard output.
@@ -248,10 +248,10 @@ fn mixture_of(items: &[Item<'_>]) -> Option<Mixture>
 fn words_mixture_of(items: &[Item<'_>]) -> Option<Mixture>
     ensures mixture { result ≡ words_mixture_of (all_given items.now) }
 {
-    if has(items, Word::Words) && !covers(items) {
+    if has(items, Word::AsWord) && !covers(items) {
         return Some(Mixture::WordsKind);
     }
-    if has(items, Word::Words) && has(items, Word::Forms) {
+    if has(items, Word::AsWord) && has(items, Word::Forms) {
         return Some(Mixture::WordsForms);
     }
     in_place_mixture_of(items)
@@ -379,7 +379,7 @@ fn read_letters<'a>(items: &mut Vec<Item<'a>>, letters: &'a str) -> Result<Expec
             add(items, Word::IgnoreCase, "")?;
             rest = behind;
         } else if let Some(behind) = rest.strip_prefix('w') {
-            add(items, Word::Words, "")?;
+            add(items, Word::AsWord, "")?;
             rest = behind;
         } else {
             return read_letter(items, rest);
@@ -541,7 +541,7 @@ pub fn covers(items: &[Item<'_>]) -> bool
 pub fn words(items: &[Item<'_>]) -> bool
     ensures words { result ≡ words_asked (all_given items.now) }
 {
-    covers(items) && has(items, Word::Words)
+    covers(items) && has(items, Word::AsWord)
 }
 
 /// The match kind that is searched by. A cover needs all matches, so for it that is `Standard`.

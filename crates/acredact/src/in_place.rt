@@ -313,7 +313,7 @@ fn place_all<'a, F: Folder, O: Outputs, I: Read, E: Sink>(
     let words = patterns.as_slice();
     let nfa = build(alloc, given, words)?;
     let ignore_case = has(given, Word::IgnoreCase);
-    let only_words = has(given, Word::Words);
+    let only_words = has(given, Word::AsWord);
     let rows = rows_of(alloc, &nfa, ignore_case, words)?;
     let back = back_of(alloc, given, words, &nfa)?;
     let job = Job {

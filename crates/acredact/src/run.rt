@@ -552,7 +552,7 @@ fn redact_all<'a, F: Folder, I: Read, W: Write, E: Sink>(
     let words = patterns.as_slice();
     let nfa = build(alloc, given, words)?;
     let ignore_case = has(given, Word::IgnoreCase);
-    let only_words = has(given, Word::Words);
+    let only_words = has(given, Word::AsWord);
     let rows = rows_of(alloc, &nfa, ignore_case, words)?;
     let back = back_of(alloc, given, words, &nfa)?;
     let job = Job {

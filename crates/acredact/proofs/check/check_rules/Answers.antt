@@ -20,7 +20,7 @@ use Rattle.acredact.specs.Calls.{call_of, names_asked}
 use Rattle.acredact.specs.Checks.{IsBuildFailure, SeesFiles, quest_by, quest_of}
 use Rattle.acredact.specs.Looks.{CanLook}
 use Rattle.acredact.specs.Tables.{patterns_in, secrets_of}
-use Rattle.acredact.specs.declared.arguments.Word.TheVariants.{Words}
+use Rattle.acredact.specs.declared.arguments.Word.TheVariants.{AsWord}
 use Rattle.acredact.specs.declared.failure.Failure.{Failure}
 use Rattle.acredact.specs.declared.failure.Failure.TheVariants.{Other}
 use Rattle.acredact.specs.declared.look.Verdict.{Verdict}
@@ -68,7 +68,7 @@ look_by-requires g c =
     let starts = lent c.in_ok-rows.rows c.as_ref.result (λ rows. IsOk (HybridGhosts.start rows No)) c.as_ref.ensures.value c.in_ok-rows.ensures.starts in
     let laws = nfa-laws c.in_ok-nfa.nfa p (nfa_is g after) in
     let given = all_given c.args.given.now in
-    let standard : c.words.result ≡ true → p.kind ≡ Standard = λ is. covers_standard given (words_cover (covers_asked given) (has Words given) (sym c.words.ensures.words ∙ is)) in
+    let standard : c.words.result ≡ true → p.kind ≡ Standard = λ is. covers_standard given (words_cover (covers_asked given) (has AsWord given) (sym c.words.ensures.words ∙ is)) in
     record {
       ready = look_ready NFAGhosts c.in_ok-nfa.nfa p c.words.result (nfa_is g after) laws.lengths_are laws.kind_is standard c.in_ok-nfa.ensures.starts some;
       rows = rows_ready c.as_ref.result p c.words.result (rows_are g after) starts standard some;
