@@ -33,8 +33,9 @@ use Rattle.acredact.specs.Tables.{Secret, patterns_in}
 use Rattle.acredact.specs.declared.forms.Nested.{Nested}
 use Rattle.programs.specs.Streams.{bytes_left}
 use Rattle.aho_cover.specs.Pieces.{PieceRule}
+use Rattle.aho_cover.specs.Words.{CountsIn}
 use Rattle.pseudonyms.specs.Pseudonyms.{pseudonym_rule}
-use Rattle.acredact.specs.Arguments.{Given, covers_asked, has, last_value}
+use Rattle.acredact.specs.Arguments.{Given, covers_asked, has, last_value, words_asked}
 use Rattle.acredact.specs.Calls.{Call, HidesCall, RedactsCall, names_asked, work_by}
 use Rattle.acredact.specs.Loading.{Loaded, loaded_by}
 use Rattle.acredact.specs.Named.{all_named, named_secret}
@@ -170,32 +171,36 @@ with_within asked secrets secret (k, below, is) long pattern some listed =
     (all_within asked 0 secrets secret k below is long pattern (contains_filled (patterns_asked asked secret.pattern) pattern some listed)))
 
 -- no form shows what stays of a text
-module _ (asked : AskedForms) (secrets : List Secret) (r : Redactor) (covers : r.covers ≡ true) (words : r.patterns.words ≡ patterns_in (with_forms asked secrets)) (laws : HideSecrets asked secrets) where
+module _ (asked : AskedForms) (secrets : List Secret) (r : Redactor) (covers : r.covers ≡ true) (all : r.words ≡ false) (words : r.patterns.words ≡ patterns_in (with_forms asked secrets)) (laws : HideSecrets asked secrets) where
   asked_within : (secret : Secret) → Contains secrets secret → 4 ≤ length secret.pattern → (pattern : List ℕ) → 1 ≤ length pattern → Contains (patterns_asked asked secret.pattern) pattern → Contains r.patterns.words pattern
   asked_within secret listed long pattern some one = subst (λ (l : List (List ℕ)). Contains l pattern) (sym words) (with_within asked secrets secret listed long pattern some one)
 
-  none_once : (text : List ℕ) (ranges : List Occurrence) → NoByteIsKept r.patterns text ranges → NoneShowsOnce asked.forms secrets text ranges
+  -- what some of the patterns hide lies in a replaced range
+  none_kept : (text : List ℕ) (ranges : List Occurrence) (place : ℕ) (patterns : List (List ℕ)) → NoByteIsKept r text ranges → ((pattern : List ℕ) → 1 ≤ length pattern → Contains patterns pattern → Contains r.patterns.words pattern)
+      → IsHidden patterns text place → IsCovered (IsMember ranges) place
+  none_kept text ranges place patterns kept within hidden =
+      kept.hidden place (subst (λ (b : Bool). IsCovered (CountsIn b r.patterns text) place) (sym all) (hidden_covered r.patterns patterns text place within hidden))
+
+  none_once : (text : List ℕ) (ranges : List Occurrence) → NoByteIsKept r text ranges → NoneShowsOnce asked.forms secrets text ranges
   none_once text ranges kept form secret place among listed long shows =
       let patterns = once_patterns asked.forms secret.pattern in
       let nested = flat_map (twice_patterns secret.pattern) asked.nested in
       let law : HidesForm patterns secret.pattern form = All-contains (HidesForm patterns secret.pattern) asked.forms form (All-contains (HidesSecret asked) secrets secret laws listed long).0 among in
-      kept.hidden place
-      (hidden_covered r.patterns patterns text place
+      none_kept text ranges place patterns kept
       (λ pattern some one. asked_within secret listed long pattern some (Contains-append_left patterns nested pattern one))
-      (form_hidden patterns secret.pattern text place form law shows))
+      (form_hidden patterns secret.pattern text place form law shows)
 
-  none_twice : (text : List ℕ) (ranges : List Occurrence) → NoByteIsKept r.patterns text ranges → NoneShowsTwice asked.nested secrets text ranges
+  none_twice : (text : List ℕ) (ranges : List Occurrence) → NoByteIsKept r text ranges → NoneShowsTwice asked.nested secrets text ranges
   none_twice text ranges kept one secret made place (k, below, is) listed long of shows =
       let patterns = twice_patterns secret.pattern one in
       let law : HidesNestedForm secret.pattern one =
       All-contains (HidesNestedForm secret.pattern) asked.nested one (All-contains (HidesSecret asked) secrets secret laws listed long).1 (k, below, is) in
-      kept.hidden place
-      (hidden_covered r.patterns patterns text place
+      none_kept text ranges place patterns kept
       (λ pattern some among. asked_within secret listed long pattern some
       (Contains-append_right (once_patterns asked.forms secret.pattern) (flat_map (twice_patterns secret.pattern) asked.nested) pattern (contains_each secret.pattern asked.nested one k below is pattern among)))
-      (form_hidden patterns made text place one.outer (All-contains (HidesNested patterns one.outer) (form_patterns secret.pattern one.inner) made law of) shows))
+      (form_hidden patterns made text place one.outer (All-contains (HidesNested patterns one.outer) (form_patterns secret.pattern one.inner) made law of) shows)
 
-  none_shows : (text : List ℕ) (ranges : List Occurrence) → NoByteIsKept r.patterns text ranges → NoneShows asked secrets text ranges
+  none_shows : (text : List ℕ) (ranges : List Occurrence) → NoByteIsKept r text ranges → NoneShows asked secrets text ranges
   none_shows text ranges kept = record { once = none_once text ranges kept; twice = none_twice text ranges kept }
 
   text_hidden : (left left' held held' : Option (List ℕ)) → RedactsText r left left' held held' → WritesText (HidesForms asked secrets r) left left' held held'
@@ -205,20 +210,20 @@ module _ (asked : AskedForms) (secrets : List Secret) (r : Redactor) (covers : r
         text = of.text;
         reads = of.reads;
         redaction = of.redaction;
-        redacts = record { redacts = is; none = none_shows of.text is.ranges (subst (λ (b : Bool). MatchBool b (NoByteIsKept r.patterns of.text is.ranges) (NoneIsWhole r.patterns of.text is.ranges)) covers is.safe) };
+        redacts = record { redacts = is; none = none_shows of.text is.ranges (subst (λ (b : Bool). MatchBool b (NoByteIsKept r of.text is.ranges) (NoneIsWhole r.patterns of.text is.ranges)) covers is.safe) };
         written = of.written;
       }
 
 -- nor what stays of any file
-pub hidden_of : (asked : AskedForms) (secrets : List Secret) (work : Work) → work.redactor.covers ≡ true → work.redactor.patterns.words ≡ patterns_in (with_forms asked secrets) → HideSecrets asked secrets
-    → (names : List (List ℕ)) (left left' held held' : Option (List ℕ)) → AreRedacted work names left left' held held' → AreHidden asked secrets work names left left' held held'
-hidden_of asked secrets work covers words laws [] left left' held held' are = are
-hidden_of asked secrets work covers words laws (name ∷ names) left left' held held' (between, meanwhile, apart, is, others) = (
+pub hidden_of : (asked : AskedForms) (secrets : List Secret) (work : Work) → work.redactor.covers ≡ true → work.redactor.words ≡ false → work.redactor.patterns.words ≡ patterns_in (with_forms asked secrets)
+    → HideSecrets asked secrets → (names : List (List ℕ)) (left left' held held' : Option (List ℕ)) → AreRedacted work names left left' held held' → AreHidden asked secrets work names left left' held held'
+hidden_of asked secrets work covers all words laws [] left left' held held' are = are
+hidden_of asked secrets work covers all words laws (name ∷ names) left left' held held' (between, meanwhile, apart, is, others) = (
   between,
   meanwhile,
   named_as work.holds name (λ l l'. RedactsText work.redactor l l' held meanwhile) (λ l l'. WritesText (HidesForms asked secrets work.redactor) l l' held meanwhile)
-      (λ l l' of. text_hidden asked secrets work.redactor covers words laws l l' held meanwhile of) left between is,
-  hidden_of asked secrets work covers words laws names between left' meanwhile held' others,
+      (λ l l' of. text_hidden asked secrets work.redactor covers all words laws l l' held meanwhile of) left between is,
+  hidden_of asked secrets work covers all words laws names between left' meanwhile held' others,
 )
 
 -- a name changes no pattern
@@ -238,14 +243,14 @@ loaded_patterns given secrets (Some key) = by (has FormsOption given)
     by false = refl
 
 -- so no form shows a secret that a call redacts by a cover
-pub call_hides : {R W E : Type 0} {Reads : Readers R} (Writes : Writers W) (call : Call) (left : Option (List ℕ)) (streams streams' : Streams R W E Reads) → covers_asked call.given ≡ true
+pub call_hides : {R W E : Type 0} {Reads : Readers R} (Writes : Writers W) (call : Call) (left : Option (List ℕ)) (streams streams' : Streams R W E Reads) → covers_asked call.given ≡ true → words_asked call.given ≡ false
     → RedactsCall Writes call left streams streams' → HidesCall Writes call left streams streams'
-call_hides Writes call left streams streams' covers of =
+call_hides Writes call left streams streams' covers every of =
     let all = of.loaded.given_all in
     record {
       load = of.load;
       between = of.between;
       loaded = of.loaded;
-      hidden = hidden_of _ all.plain (work_by call of.load) covers
+      hidden = hidden_of _ all.plain (work_by call of.load) covers every
           (ap (λ (l : Loaded). patterns_in l.secrets) of.loaded.is ∙ loaded_patterns call.given of.loaded.secrets of.loaded.key ∙ ap patterns_in all.are) all.hidden (names_asked call.given) _ _ _ _ of.redacted;
     }

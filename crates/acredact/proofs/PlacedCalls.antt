@@ -144,7 +144,7 @@ module _ {O Z E : Type 0} (Writes : Writers Z) (K : SinkGhosts E) (U : Places O 
               load = load;
               between = between;
               loaded = loaded;
-              freed = freed_all Writes K U work asked.covers (clean_pieces K (has Strict call.given) (redactor_by_given call.given load) old warned asked.strict pieces asked.covers) (names_asked call.given) outputs outputs' (replaced so);
+              freed = freed_all Writes K U work asked.covers asked.all (clean_pieces K (has Strict call.given) (redactor_by_given call.given load) old warned asked.strict pieces asked.covers) (names_asked call.given) outputs outputs' (replaced so);
             };
             keeps = inr (record { load = load; between = between; loaded = loaded; whole = placed_whole Writes K U work (names_asked call.given) lines outputs outputs' placed });
             quiet = λ none (is : Ok all ≡ Ok true).

@@ -19,7 +19,7 @@ use Rattle.acredact.specs.Reads.{OfName, ReadsText}
 use Rattle.acredact.specs.Tables.{HaveLines, HoldsBy, Secret, lines_in, secrets_of, stripped_by}
 use Rattle.acredact.specs.Values.{GiveEach, are_refused, first_fault, value_in_line, value_of_entry, whole_in}
 use Rattle.acredact.specs.declared.arguments.Word.{Word}
-use Rattle.acredact.specs.declared.arguments.Word.TheVariants.{IgnoreCase, Kind, Pattern, Patterns, Table, Env, EnvFile, Whole, With, Pseudonym, Forms, Output, InPlace, Count, Summary, Crlf, AllowEmpty, Strict, Check, Help, Version, File}
+use Rattle.acredact.specs.declared.arguments.Word.TheVariants.{IgnoreCase, Kind, Pattern, Patterns, Table, Env, EnvFile, Whole, With, Pseudonym, Forms, AsWord, Output, InPlace, Count, Summary, Crlf, AllowEmpty, Strict, Check, Help, Version, File}
 use Rattle.acredact.specs.declared.failure.Failure.{Failure}
 use Rattle.acredact.specs.declared.failure.Failure.TheVariants.{NotText, Arguments, Pattern as BadPattern, Unread, Empty, NoValue, ShortKey, Line, Short, Unclean, Counts, Other}
 use Rattle.acredact.specs.declared.folder.Folder.{Ghosts as Folders}
@@ -106,6 +106,7 @@ OptionGives reading Env value secrets left left' = GivesEnvironment reading valu
 OptionGives reading EnvFile value secrets left left' = GivesSecrets reading Variables value secrets left left'
 OptionGives reading Whole value secrets left left' = GivesSecrets reading WholeFile value secrets left left'
 OptionGives reading IgnoreCase value secrets left left' = (secrets ≡ []) × (left' ≡ left)
+OptionGives reading AsWord value secrets left left' = (secrets ≡ []) × (left' ≡ left)
 OptionGives reading Kind value secrets left left' = (secrets ≡ []) × (left' ≡ left)
 OptionGives reading With value secrets left left' = (secrets ≡ []) × (left' ≡ left)
 OptionGives reading Pseudonym value secrets left left' = (secrets ≡ []) × (left' ≡ left)
