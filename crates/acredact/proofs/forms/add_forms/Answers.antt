@@ -1,7 +1,7 @@
 -- The forms of all rules stand behind these.
-use Rattle.std.proofs.Common.{◌≡◌, List, ℕ, ap, subst, ◌∙◌}
+use Rattle.std.proofs.Common.{◌≡◌, List, ap, subst, ◌∙◌}
 use Rattle.std.specs.Prelude.{Some}
-use Rattle.acredact.specs.Forms.{AskedForms, HideSecrets, asked_by, forms_asked, forms_from, forms_named, nested_named}
+use Rattle.acredact.specs.Forms.{HideSecrets, asked_by, forms_asked, forms_from, forms_named, nested_named}
 use Rattle.acredact.specs.Tables.{secrets_of}
 use Rattle.acredact.specs.declared.forms.Asked.{Asked}
 use Rattle.acredact.specs.declared.patterns.Rule.{Rule}

@@ -3,7 +3,7 @@ use Rattle.std.proofs.Common.{List, ℕ, subst}
 use Rattle.std.specs.List.{All}
 use Rattle.std.proofs.lemmas.Result.{on_ok_weaker}
 use Rattle.secret_forms.specs.Forms.{HidesForm}
-use Rattle.acredact.specs.Forms.{HidesOnce, once_patterns}
+use Rattle.acredact.specs.Forms.{once_patterns}
 use Rattle.acredact.proofs.forms.add_once.Goals as goal
 
 pub returns-in-Ok-clause-hidden : goal.returns-in-Ok-clause-hidden

@@ -1,5 +1,5 @@
 -- The patterns in front of what is left have their rules.
-use Rattle.std.proofs.Common.{◌≡◌, ◌++◌, List, ℕ, length, map}
+use Rattle.std.proofs.Common.{◌≡◌, ◌++◌, length, map}
 use Rattle.acredact.specs.Forms.{filled, form_secret}
 use Rattle.acredact.specs.Tables.{secret_of, secrets_of}
 use Rattle.secret_forms.specs.Patterns.{pattern_bytes}

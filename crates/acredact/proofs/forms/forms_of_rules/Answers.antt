@@ -1,7 +1,7 @@
 -- One rule more.
-use Rattle.std.proofs.Common.{rules, ◌≡◌, ◌≤◌, ◌+◌, ◌-◌, List, get_or, length, subst}
+use Rattle.std.proofs.Common.{rules, ◌≡◌, ◌≤◌, get_or, length, subst}
 use Rattle.acredact.specs.Forms.{HidesSecret, asked_by, forms_of}
-use Rattle.acredact.specs.Tables.{Secret, secret_of, secrets_of}
+use Rattle.acredact.specs.Tables.{secret_of}
 use Rattle.acredact.specs.declared.patterns.Rule.{Rule}
 use Rattle.acredact.proofs.FormRules.{forms_next, hidden_end, hidden_next}
 use Rattle.acredact.proofs.forms.forms_of_rules.Goals as goal

@@ -1,5 +1,5 @@
 -- What is left gives the other forms.
-use Rattle.std.proofs.Common.{◌≡◌, ◌+◌, ◌++◌, List, length}
+use Rattle.std.proofs.Common.{◌≡◌, ◌+◌, ◌++◌, length}
 use Rattle.acredact.specs.Forms.{HideSecrets, asked_by, forms_from}
 use Rattle.acredact.specs.Tables.{secrets_of}
 use Rattle.acredact.proofs.forms.forms_of_rules.Given as goal

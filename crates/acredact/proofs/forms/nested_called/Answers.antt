@@ -1,5 +1,5 @@
 -- The first plus sign stands between the two names.
-use Rattle.std.proofs.Common.{◌≡◌, List, ℕ, ap, sym, ◌∙◌}
+use Rattle.std.proofs.Common.{ap, sym, ◌∙◌}
 use Rattle.acredact.specs.Forms.{form_called, nested_by}
 use Rattle.acredact.proofs.FormNames.{nested_at, nested_none}
 use Rattle.acredact.proofs.forms.nested_called.Goals as goal
