@@ -11,11 +11,12 @@ IsSome secret = 1 ≤ length secret.pattern
 
 filled_some : (number : ℕ) (secret : Secret) (patterns : List (List ℕ)) → HaveNoEmpty (map (form_secret number secret) (filled patterns))
 filled_some number secret [] = All-nil IsSome
-filled_some number secret (p ∷ patterns) = by (nat_lt 0 (length p)) refl
+filled_some number secret (p ∷ patterns) = by (nat_lt 0 (length p)) refl (filled_some number secret patterns)
   where
-    by : (b : Bool) → nat_lt 0 (length p) ≡ b → HaveNoEmpty (map (form_secret number secret) (cond b (p ∷ filled patterns) (filled patterns)))
-    by true is = All-cons IsSome (form_secret number secret p) (map (form_secret number secret) (filled patterns)) (omega (arith, ltb-true _ _ is)) (filled_some number secret patterns)
-    by false is = filled_some number secret patterns
+    by : (b : Bool) → nat_lt 0 (length p) ≡ b → HaveNoEmpty (map (form_secret number secret) (filled patterns))
+        → HaveNoEmpty (map (form_secret number secret) (cond b (p ∷ filled patterns) (filled patterns)))
+    by true is rest = All-cons IsSome (form_secret number secret p) (map (form_secret number secret) (filled patterns)) (omega (arith, ltb-true _ _ is)) rest
+    by false is rest = rest
 
 forms_some : (asked : AskedForms) (number : ℕ) (secret : Secret) → HaveNoEmpty (forms_of asked number secret)
 forms_some asked number secret = by_length (nat_lt (length secret.pattern) 4)
