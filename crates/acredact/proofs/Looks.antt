@@ -41,7 +41,7 @@ use Rattle.acredact.proofs.Covered.{occurs_some}
 use Rattle.acredact.proofs.Redactions.{all_of}
 
 -- what is answered
-answered : Result Bool StreamError → Bool
+abbrev answered : Result Bool StreamError → Bool
 answered (Ok found) = found
 answered (Err error) = false
 
