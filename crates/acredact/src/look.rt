@@ -279,8 +279,8 @@ fn has_next<'a, 'r, A: Automaton, R: Source>(
     requires along { (p : Patterns) → A.is_of (automaton_of finds.old.chunks) p → FindsAlong R.Source
         ⟦<StreamFindIter<'a, 'r, A, R> as Iterator>⟧.next_gives p finds.old }
     ensures same_source { finds.new.chunks.source.ghost_name ≡ finds.old.chunks.source.ghost_name }
-    ensures looks { (p : Patterns) → A.is_of (automaton_of finds.old.chunks) p → LooksAt R.Source (sought p false) result
-        finds.old.chunks.source.now finds.new.chunks.source.now }
+    ensures looks { (p : Patterns) → A.is_of (automaton_of finds.old.chunks) p →
+        LooksAt R.Source (sought p false) result finds.old.chunks.source.now finds.new.chunks.source.now }
 {
     match finds.next() {
         None => Ok(false),
