@@ -1,7 +1,9 @@
 -- What stands for all that is covered of a line.
-use Rattle.std.proofs.Common.{◌≡◌, inl, inr, ℕ, zero, suc, ◌+◌, ◌<◌, ◌≤◌, Bool, true, false, List, [], ◌∷◌, ◌++◌, length, map, refl, sym, ◌∙◌, ap, subst, arith}
+use Rattle.std.proofs.Common.{◌≡◌, inl, inr, ℕ, zero, suc, ◌+◌, ◌<◌, ◌≤◌, Bool, true, false, List, [], ◌∷◌, ◌++◌, append_assoc, get_or, length, map, take, refl, sym, ◌∙◌, ap, subst, arith}
 use Rattle.std.specs.Prelude.{◌⊎◌, ◌-◌, nat_lt, Option, None, Some, IfSome, slice_index_or}
 use Rattle.std.specs.Borrow.{Bor}
+use Rattle.std.proofs.lemmas.List.{map-append, take_more}
+use Rattle.std.proofs.lemmas.Option.{slice_get_within}
 use Rattle.std.proofs.lemmas.Bool.{cond-true, cond-false, lt-ltb, le-ltb}
 use Rattle.aho_core.specs.Cover.{AreRunsOf, IsCovered, IsRunOf}
 use Rattle.aho_core.specs.Laws.{Reads, shortest}
@@ -10,6 +12,7 @@ use Rattle.aho_core.specs.Occurrence.{Occurrence}
 use Rattle.aho_core.specs.Occurs.{OccursIn}
 use Rattle.aho_core.specs.Patterns.{Patterns, pattern_at}
 use Rattle.aho_core.specs.Search.{plain_search}
+use Rattle.aho_core.specs.declared.search.MatchKind.TheVariants.{Standard}
 use Rattle.aho_automaton.specs.declared.automaton.Automaton.{Ghosts as Automata}
 use Rattle.aho_cover.specs.Words.{CountsIn}
 use Rattle.aho_laws.specs.CoverLaws.{StandApart}
@@ -19,13 +22,14 @@ use Rattle.aho_laws.proofs.Members.{member-map, member-of_map}
 use Rattle.secret_rules.specs.Covering.{CoveredIn, Covering, IsMarked, covering_by, marked, seen_line, whole_line}
 use Rattle.secret_rules.specs.LineCovers.{AreSearched}
 use Rattle.secret_rules.specs.Marks.{AreAllMarks, IsMarkOf, IsRuleAt}
-use Rattle.secret_rules.specs.OpenLines.{CanSearch}
+use Rattle.secret_rules.specs.OpenLines.{CanSearch, IsSetting}
 use Rattle.secret_rules.specs.Picking.{HasFor, StandForAll}
 use Rattle.secret_rules.specs.Writing.{LieFrom}
 use Rattle.secret_rules.specs.declared.marks.Mark.{Mark}
+use Rattle.secret_rules.specs.declared.open_line.Setting.{Setting}
 use Rattle.secret_rules.specs.declared.rule.Rule.{Rule}
 use Rattle.secret_rules.proofs.Joined.{IsNamed}
-use Rattle.secret_rules.proofs.Picked.{counts-occurs, stands-itself}
+use Rattle.secret_rules.proofs.Picked.{AreRunsOf-standing, counts-occurs, stands-itself}
 
 -- no pattern is shorter than the shortest
 shortest-least : (words : List (List ℕ)) (number : ℕ) → number < length words → shortest (map length words) ≤ length (slice_index_or words number [])
@@ -149,3 +153,71 @@ seen-long most line long = cond-true (nat_lt most (length line)) [] line (lt-ltb
 
 pub seen-short : (most : ℕ) (line : List ℕ) → length line ≤ most → seen_line most line ≡ line
 seen-short most line short = cond-false (nat_lt most (length line)) [] line (le-ltb most (length line) short)
+
+-- there are patterns that are searched for
+pub some-searched : {A : Type 0} (G : Automata A) (automaton : Option (Bor A)) → IfSome automaton (λ a. CanSearch G a.now) → (p : Patterns) × AreSearched G automaton p
+some-searched G None can = (record { words = []; kind = Standard; ignore_case = false }, refl)
+some-searched G (Some a) can = can.of
+
+-- without patterns nothing counts
+pub none-standing : (words : Bool) (p : Patterns) (line : List ℕ) → p.words ≡ [] → StandForAll (CountsIn words p line) []
+none-standing words p line none = record {
+  only = λ m there. absurd there;
+  has = λ m counts.
+      let occurs = (counts-occurs words p line m counts).0 in
+      absurd (omega (arith, occurs.numbered, ap length none));
+}
+
+-- what was found of a line by a setting and rules
+module _ {A : Type 0} (G : Automata A) (setting : Setting A) (rules : List Rule) (is : IsSetting G setting rules) (before : List (List ℕ)) (line : List ℕ) (short : length line ≤ setting.most)
+  (marks : List Mark) (all : AreAllMarks rules before line marks) (p : Patterns) (searched : AreSearched G setting.automaton p)
+  (laws : (a : A) → G.is_of a p → G.lengths a ≡ map length p.words)
+  (found found' : List Occurrence) (stand : StandForAll (CountsIn setting.words p line) found) (pushed : found' ≡ found ++ map (marked setting.patterns) marks) where
+  found-is : found' ≡ found ++ map (marked (length p.words)) marks
+  found-is = pushed ∙ ap (λ (n : ℕ). found ++ map (marked n) marks) (sym (is.patterns p searched))
+
+  pub setting-standing : StandForAll (CoveredIn (covering_by setting.words rules setting.most p) before line) found'
+  setting-standing = subst (StandForAll (CoveredIn (covering_by setting.words rules setting.most p) before line)) (sym found-is)
+      (covered-standing (covering_by setting.words rules setting.most p) before line short found marks stand all)
+
+  pub setting-full : (m : Occurrence) → CoveredIn (covering_by setting.words rules setting.most p) before line m → m.start < m.end
+  setting-full m member = covered-full (covering_by setting.words rules setting.most p) before line short found marks stand all
+      (λ x counts. searched-full G setting.automaton p laws is.searches searched setting.words line x counts) m member
+
+  pub setting-runs : (runs : List Occurrence) → AreRunsOf (IsMember found') runs → AreRunsOf (CoveredIn (covering_by setting.words rules setting.most p) before line) runs
+  setting-runs runs are = AreRunsOf-standing (CoveredIn (covering_by setting.words rules setting.most p) before line) found' setting-standing runs setting-full are
+
+  pub setting-lie : (runs : List Occurrence) → ((mark : Mark) → IsMember marks mark → mark.end ≤ length line) → AreRunsOf (IsMember found') runs → LieFrom line 0 runs
+  setting-lie runs within are = runs-lie (IsMember found') line runs
+      (λ m there. found-within (covering_by setting.words rules setting.most p) before line short found marks stand all within m (subst (λ (xs : List Occurrence). IsMember xs m) found-is there)) are
+
+-- the numbers of marks fit
+pub marks-numbered : (rules : List Rule) (before : List (List ℕ)) (line : List ℕ) (marks : List Mark) (patterns most : ℕ) → AreAllMarks rules before line marks → patterns + length rules ≤ most
+    → (mark : Mark) → IsMember marks mark → patterns + mark.rule ≤ most
+marks-numbered rules before line marks patterns most all few mark there =
+    (let is = (all mark).0 there in
+    omega (arith, few, slice_get_within rules mark.rule is.rule is.numbered))
+
+pub marks-ordered : (rules : List Rule) (before : List (List ℕ)) (line : List ℕ) (marks : List Mark) → AreAllMarks rules before line marks → (mark : Mark) → IsMember marks mark → mark.start ≤ mark.end
+marks-ordered rules before line marks all mark there = (let is = (all mark).0 there in omega (arith, is.marks.0))
+
+-- one mark more was added
+take-here : (marks : List Mark) (i : ℕ) (mark : Mark) → i < length marks → mark ≡ get_or marks i mark → take (i + 1) marks ≡ take i marks ++ mark ∷ []
+take-here marks i mark within is = take_more marks i mark within ∙ ap (λ (m : Mark). take i marks ++ m ∷ []) (sym is)
+
+pub pushed-more : (old found found' : List Occurrence) (patterns : ℕ) (marks : List Mark) (i : ℕ) (mark : Mark) → i < length marks → mark ≡ get_or marks i mark
+    → found ≡ old ++ map (marked patterns) (take i marks) → found' ≡ found ++ marked patterns mark ∷ [] → found' ≡ old ++ map (marked patterns) (take (i + 1) marks)
+pushed-more old found found' patterns marks i mark within is were more =
+    more
+    ∙ ap (λ (xs : List Occurrence). xs ++ marked patterns mark ∷ []) were
+    ∙ append_assoc old (map (marked patterns) (take i marks)) (marked patterns mark ∷ [])
+    ∙ ap (λ (xs : List Occurrence). old ++ xs) (sym (map-append (marked patterns) (take i marks) (mark ∷ [])))
+    ∙ ap (λ (ms : List Mark). old ++ map (marked patterns) ms) (sym (take-here marks i mark within is))
+
+pub within-more : (marks : List Mark) (i most : ℕ) (mark : Mark) → i < length marks → mark ≡ get_or marks i mark → ((m : Mark) → IsMember (take i marks) m → m.end ≤ most) → mark.end ≤ most
+    → (m : Mark) → IsMember (take (i + 1) marks) m → m.end ≤ most
+within-more marks i most mark within is were own m there =
+    elim (member-of_append (take i marks) (mark ∷ []) m (subst (λ (ms : List Mark). IsMember ms m) (take-here marks i mark within is) there)) [
+      | inl old ↦ were m old
+      | inr one ↦ elim one [ inl e ↦ subst (λ (x : Mark). x.end ≤ most) (sym e) own | inr none ↦ absurd none ]
+    ]

@@ -3,7 +3,7 @@ use Rattle.std.proofs.Common.{◌≡◌, inl, inr, ℕ, ◌+◌, ◌<◌, ◌≤
 use Rattle.std.specs.Prelude.{◌⊎◌, Option, None, Some, max}
 use Rattle.std.proofs.lemmas.Bool.{cases_lt}
 use Rattle.aho_core.specs.declared.search.MatchKind.TheVariants.{LeftmostLongest}
-use Rattle.aho_core.specs.Cover.{AreRunsOf, IsCovered, IsLongestFrom}
+use Rattle.aho_core.specs.Cover.{AreRunsOf, IsCovered, IsLongestFrom, IsRunOf}
 use Rattle.aho_core.specs.Listing.{IsListedBy, IsMember}
 use Rattle.aho_core.specs.Occurrence.{Occurrence}
 use Rattle.aho_core.specs.Order.{IsBefore}
@@ -327,3 +327,28 @@ WereJoined-runs found runs (Some hand) were = AreRunsOf-joined (IsMember found) 
 -- a run in hand is not empty
 pub hand-ordered : (found runs : List Occurrence) (hand : Open) → WereJoined found runs (Some hand) → hand.longest.start < hand.end
 hand-ordered found runs hand were = were.some
+
+-- the runs of the same members are the same
+pub AreRunsOf-same : (One Other : Occurrence → Type 0) (runs : List Occurrence) → ((x : Occurrence) → One x → Other x) → ((x : Occurrence) → Other x → One x) → AreRunsOf One runs → AreRunsOf Other runs
+AreRunsOf-same One Other runs to back are = record {
+  in_order = are.in_order;
+  members = λ run. (
+    λ there. (let is = (are.members run).0 there in run-same One Other to back run is),
+    λ is. (are.members run).1 (run-same Other One back to run is),
+  );
+} where
+  covered-same : (P Q : Occurrence → Type 0) (at : ℕ) → ((x : Occurrence) → P x → Q x) → IsCovered P at → IsCovered Q at
+  covered-same P Q at f c = record { found = c.found; member = f c.found c.member; after_start = c.after_start; before_end = c.before_end }
+
+  run-same : (P Q : Occurrence → Type 0) → ((x : Occurrence) → P x → Q x) → ((x : Occurrence) → Q x → P x) → (run : Occurrence) → IsRunOf P run → IsRunOf Q run
+  run-same P Q f h run is = record {
+    stretch = record {
+      some = is.stretch.some;
+      covered = λ at after before. covered-same P Q at f (is.stretch.covered at after before);
+      begins = λ at next c. is.stretch.begins at next (covered-same Q P at h c);
+      ends = λ c. is.stretch.ends (covered-same Q P run.end h c);
+    };
+    longest = is.longest;
+    longest_is = ((f is.longest is.longest_is.0.0, is.longest_is.0.1), λ other o. is.longest_is.1 other (h other o.0, o.1));
+    named = is.named;
+  }

@@ -35,7 +35,7 @@ pub mod Picked
 -- the lines of a text, as they come, with their runs
 pub mod LineRuns
 -- what was written of a line
-pub mod Lines
+pub mod WrittenLines
 -- what stands for all that is covered of a line
 pub mod Covered
 -- lines that come to their ends, some after others
@@ -48,3 +48,5 @@ pub mod Taking
 pub mod Ending
 -- the bytes of a line as they are read
 pub mod Reading
+-- what is said of one setting is said of the same
+pub mod Same

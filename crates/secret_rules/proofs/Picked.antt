@@ -17,7 +17,7 @@ use Rattle.aho_laws.proofs.Listings.{all_occurrences-has, all_occurrences-listed
 use Rattle.aho_laws.proofs.Orders.{same_occurrence}
 use Rattle.secret_rules.specs.Picking.{HasFor, Picks, PicksOne, StandForAll, StandsFor, is_counted}
 
-stands-itself : (m : Occurrence) → StandsFor m m
+pub stands-itself : (m : Occurrence) → StandsFor m m
 stands-itself m = (refl, inr (refl, omega arith))
 
 -- of two that end together the one that is listed first stands for the other

@@ -42,3 +42,5 @@ pub mod LineCovers
 pub mod OpenLines
 -- what a cover of lines is of
 pub mod Ready
+-- the expression of what stands behind a keyword
+pub mod After

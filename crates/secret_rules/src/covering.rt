@@ -29,8 +29,8 @@ const MAX_POSITION: u64 = 9_223_372_036_854_775_807;
 
 /// How many patterns an automaton has; none where there is none.
 fn pattern_count<A: Automaton>(automaton: Option<&A>) -> usize
-    ensures count { IfSome automaton (λ a. result ≡ length (A.lengths a.now)) }
-    ensures none { automaton ≡ None → result ≡ 0 }
+    ensures count { IfSome automaton.entry (λ a. result ≡ length (A.lengths a.now)) }
+    ensures none { automaton.entry ≡ None → result ≡ 0 }
 {
     match automaton {
         Some(automaton) => automaton.patterns_len(),

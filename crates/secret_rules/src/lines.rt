@@ -12,11 +12,13 @@ ghost use Rattle.aho_devices.specs.Counts.{AppendsBeginning};
 ghost use Rattle.secret_rules.specs.Covering.{CoveredIn, covering_by, marked, seen_line};
 ghost use Rattle.secret_rules.specs.LineCovers.{AreSearched};
 ghost use Rattle.secret_rules.specs.Lines.{line_with};
+ghost use Rattle.secret_rules.specs.Marks.{AreAllMarks};
 ghost use Rattle.secret_rules.specs.Marking.{HasMarked, IsLineFailure};
 ghost use Rattle.secret_rules.specs.OpenLines.{CanSearch, GoesOnBehind, HasRead, IsSetting, StandsBehind, StopsInLine, StopsInLines, TellsLine, WritesLine, WritesLines, rules_in};
 ghost use Rattle.secret_rules.specs.Picking.{StandForAll};
 ghost use Rattle.secret_rules.specs.Writing.{LieFrom};
 ghost use Rattle.secret_rules.specs.declared.marks.Mark.{Mark};
+ghost use Rattle.secret_rules.specs.declared.rule.Rule.{Rule};
 
 use crate::error::{LineError, MarkError};
 use crate::joining::join;
@@ -92,6 +94,29 @@ fn find_patterns<A: Automaton>(
     }
 }
 
+/// Finds the runs of a line that is not too long, of which these are all marks.
+fn runs_in<A: Automaton>(
+    setting: &Setting<'_, A>,
+    line: &[u8],
+    marks: &[Mark],
+    found: &mut Vec<Match>,
+    runs: &mut Vec<Match>,
+) -> Result<(), AllocError>
+    requires short { length line.now ≤ setting.now.most }
+    requires marks { (rules : List Rule) × (before : List (List ℕ)) × IsSetting A.Automaton setting.now rules
+        × AreAllMarks rules before line.now marks.now }
+    ensures runs { (rules : List Rule) (before : List (List ℕ)) (p : Patterns) → IsSetting A.Automaton setting.now rules
+        → AreAllMarks rules before line.now marks.now → AreSearched A.Automaton setting.now.automaton p
+        → OnOk result (AreRunsOf (CoveredIn (covering_by setting.now.words rules setting.now.most p) before line.now)
+        runs.new.items) }
+    ensures lie { OnOk result (LieFrom line.now 0 runs.new.items) }
+{
+    let _whole = setting.whole.as_usize();
+    find_patterns(setting, line, found)?;
+    push_marks(setting.patterns, line, marks, found)?;
+    join(found, runs)
+}
+
 /// Writes the piece of a run that has ended, and an end behind it.
 fn write_piece<W: Sink, P: Pieces>(
     sink: &mut W,
@@ -138,7 +163,7 @@ impl<'r, 'a, A: Automaton> OpenLine<'r, 'a, A> {
         }
         if self.line.len() + bytes.len() > self.setting.most {
             pieces.begin();
-            pieces.feed(&self.line);
+            pieces.feed(self.line.as_slice());
             pieces.feed(bytes);
             self.line.clear();
             self.long = true;
@@ -165,11 +190,10 @@ impl<'r, 'a, A: Automaton> OpenLine<'r, 'a, A> {
         ensures setting { self.new.setting ≡ self.old.setting }
         ensures rules { rules_in self.new ≡ rules_in self.old }
     {
-        let _whole = self.setting.whole.as_usize();
-        self.marker.mark(&self.line, &mut self.marks)?;
-        find_patterns(&self.setting, &self.line, &mut self.found)?;
-        push_marks(self.setting.patterns, &self.line, &self.marks, &mut self.found)?;
-        Ok(join(&mut self.found, &mut self.runs)?)
+        let line = self.line.as_slice();
+        self.marker.mark(line, &mut self.marks)?;
+        let marks = self.marks.as_slice();
+        Ok(runs_in(&self.setting, line, marks, &mut self.found, &mut self.runs)?)
     }
 
     /// Writes the cover of the line, which is not too long, with this end, and begins the next.
@@ -199,8 +223,9 @@ impl<'r, 'a, A: Automaton> OpenLine<'r, 'a, A> {
         ensures rule { P.rule pieces.new ≡ P.rule pieces.old }
     {
         self.find_runs()?;
-        write_line(sink, pieces, &self.line, &self.runs, end)?;
-        count_runs(counts, &self.runs);
+        let runs = self.runs.as_slice();
+        write_line(sink, pieces, self.line.as_slice(), runs, end)?;
+        count_runs(counts, runs);
         self.line.clear();
         Ok(())
     }

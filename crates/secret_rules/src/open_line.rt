@@ -6,7 +6,7 @@ use crate::marks::Mark;
 use aho_core::search::{Match, PatternID};
 
 /// How lines are covered.
-#[derive(Clone, Copy)]
+#[derive(Drop)]
 pub(crate) struct Setting<'a, A> {
     /// Searches for the patterns, if there are some.
     pub(crate) automaton: Option<&'a A>,

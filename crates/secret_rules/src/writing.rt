@@ -52,6 +52,7 @@ fn write_run<W: Sink, P: Pieces>(
     run: &Match,
 ) -> Result<(), StreamError>
     requires after { from ≤ run.now.start }
+    requires ordered { run.now.start ≤ run.now.end }
     requires within { run.now.end ≤ length line.now }
     ensures whole { OnOk result (Appends (W.taken sink.old) (W.taken sink.new)
         (slice_range line.now from run.now.start ++ piece_in (P.rule pieces.old) line.now run.now)) }

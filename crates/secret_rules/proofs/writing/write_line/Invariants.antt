@@ -5,7 +5,7 @@ use Rattle.aho_core.specs.Replacement.{replaced_by, replaced_from}
 use Rattle.aho_cover.specs.Pieces.{piece_in}
 use Rattle.aho_cover.specs.Writes.{TellsWrites}
 use Rattle.secret_rules.specs.Writing.{LieFrom}
-use Rattle.secret_rules.proofs.Lines.{HasWritten}
+use Rattle.secret_rules.proofs.WrittenLines.{HasWritten}
 use Rattle.secret_rules.proofs.writing.write_line.Given as goal
 
 abbrev pub invariant-loop-run : goal.invariant-loop-run

@@ -2,7 +2,7 @@ use Rattle.std.proofs.Common.{◌≡◌, length}
 use Rattle.secret_rules.specs.LineCovers.{AreSearched}
 use Rattle.secret_rules.specs.OpenLines.{rules_in}
 use Rattle.secret_rules.proofs.Taking.{HasTaken}
-use Rattle.secret_rules.proofs.lines.OpenLine.take_in.Given as goal
+use Rattle.secret_rules.proofs.open_line.OpenLine.take_in.Given as goal
 
 abbrev pub invariant-lines : goal.invariant-lines
 invariant-lines g l = record {
