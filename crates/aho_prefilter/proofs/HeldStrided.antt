@@ -8,7 +8,7 @@ use Rattle.aho_core.specs.declared.search.MatchKind.{MatchKind}
 use Rattle.aho_core.specs.Patterns.{Patterns}
 use Rattle.aho_prefilter.specs.Prefilter.{AreHeadsOf, AreMarksOf, IsPrefilterOf, heads_or_strided, held_or_packed, if_sparse, packed_heads_for, quickest_for, strided_for, yields}
 use Rattle.aho_prefilter.specs.PackedHeads.{packed_heads_of}
-use Rattle.aho_prefilter.specs.Sizes.{gram_for, heads_for, is_few, is_many, least_head, is_crowded, is_small, shape_of, sizes_for, stride_for, takes, tested_for}
+use Rattle.aho_prefilter.specs.Sizes.{gram_for, has_lines, heads_for, is_few, is_many, least_head, is_crowded, is_small, shape_of, sizes_for, stride_for, takes, tested_for, words_for}
 use Rattle.aho_prefilter.specs.Strided.{AreStrideSizes, marks_of, no_marks}
 use Rattle.aho_prefilter.specs.declared.packed_heads.PackedHeads.{PackedHeads as Fingerprints}
 use Rattle.aho_prefilter.specs.declared.prefilter.Searcher.{Searcher}
@@ -39,7 +39,7 @@ least_head-each words k below = least-each words 16 k below
 pub sizes_for-sized : (s : Shape) (sizes : Sizes) → s.head ≤ 16 → sizes_for s ≡ Some sizes → AreStrideSizes sizes × (sizes.head ≡ s.head) × (sizes.ignore_case ≡ s.ignore_case)
 sizes_for-sized s sizes few held = by_tests (is_small s) (is_crowded s) refl held
   where
-    made : 5 ≤ s.head → AreStrideSizes (record { gram = gram_for s; stride = stride_for s; head = s.head; ignore_case = s.ignore_case })
+    made : 5 ≤ s.head → AreStrideSizes (record { gram = gram_for s; stride = stride_for s; head = s.head; ignore_case = s.ignore_case; lines = has_lines s; words = words_for s })
     made long = record {
       some = omega arith;
       gram = omega arith;
@@ -50,12 +50,12 @@ sizes_for-sized s sizes few held = by_tests (is_small s) (is_crowded s) refl hel
     }
 
     by_tests : (small crowded : Bool) → is_small s ≡ small
-        → (if small then Nothing else if crowded then Nothing else Some (record { gram = gram_for s; stride = stride_for s; head = s.head; ignore_case = s.ignore_case })) ≡ Some sizes
+        → (if small then Nothing else if crowded then Nothing else Some (record { gram = gram_for s; stride = stride_for s; head = s.head; ignore_case = s.ignore_case; lines = has_lines s; words = words_for s })) ≡ Some sizes
         → AreStrideSizes sizes × (sizes.head ≡ s.head) × (sizes.ignore_case ≡ s.ignore_case)
     by_tests true crowded is other = cc
     by_tests false true is other = cc
     by_tests false false is other =
-        let e : sizes ≡ record { gram = gram_for s; stride = stride_for s; head = s.head; ignore_case = s.ignore_case } = cc in
+        let e : sizes ≡ record { gram = gram_for s; stride = stride_for s; head = s.head; ignore_case = s.ignore_case; lines = has_lines s; words = words_for s } = cc in
         let long : 5 ≤ s.head = grind (arith, nat_tests, is) in
         (subst AreStrideSizes (sym e) (made long), ap (λ (t : Sizes). t.head) e, ap (λ (t : Sizes). t.ignore_case) e)
 
