@@ -235,6 +235,9 @@ impl Strided {
     pub(crate) fn find(&self, bytes: &[u8]) -> Option<usize>
         ensures first { IsFirstMarked self.now bytes.now result }
     {
+        if bytes.len() < self.sizes.head {
+            return None;
+        }
         let turns = self.sizes.strides_in(bytes.len().saturating_sub(BEHIND));
         match self.find_in_turns(bytes, turns) {
             Some(place) => Some(place),
