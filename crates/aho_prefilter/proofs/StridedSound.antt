@@ -1,5 +1,5 @@
 -- The bits of words that were added to a strided search are set, so it stops wherever one of them stands.
-use Rattle.std.proofs.Common.{◌≡◌, ℕ, ◌+◌, ◌-◌, ◌*◌, ◌/◌, ◌%◌, ◌^◌, ◌<◌, ◌≤◌, zero, suc, inl, inr, Bool, List, [], ◌∷◌, get_or, length, refl, sym, ap, subst, ◌∙◌, arith, min, max}
+use Rattle.std.proofs.Common.{◌≡◌, ℕ, ◌+◌, ◌-◌, ◌*◌, ◌/◌, ◌%◌, ◌^◌, ◌<◌, ◌≤◌, zero, suc, inl, inr, Bool, true, false, List, [], ◌∷◌, get_or, length, refl, sym, ap, subst, ◌∙◌, arith, min, max}
 use Rattle.std.specs.List.{fold}
 use Rattle.std.proofs.Math.Nat.{mul-lt-mul_of_pos_right}
 use Rattle.std.proofs.lemmas.Bool.{cases_eq}
