@@ -80,7 +80,7 @@ fn caseless(ignore_case: bool, byte: u8) -> u8
 }
 
 /// The byte of a pattern at a place, and behind its end a zero.
-fn byte_at(pattern: &[u8], place: usize) -> u8
+pub(crate) fn byte_at(pattern: &[u8], place: usize) -> u8
     ensures byte { result ≡ slice_index pattern.now place }
 {
     match pattern.get(place) {

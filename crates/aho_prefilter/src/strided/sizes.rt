@@ -241,7 +241,7 @@ impl Shape {
 }
 
 /// How many bytes the shortest of these patterns has, but sixteen at most.
-fn least_head(patterns: &[&[u8]]) -> usize
+pub(crate) fn least_head(patterns: &[&[u8]]) -> usize
     ensures head { result ≡ least_head (pieces_of patterns.now) }
 {
     let mut head = 16;
