@@ -148,6 +148,14 @@ windows_for-of p searcher held =
         } in
         rw e made
 
+-- where it is held
+pub windows_for-some : (p : Patterns) → length p.words ≤ 8 → 0 < most_before p.ignore_case p.words → most_before p.ignore_case p.words ≤ 64 → 4 ≤ least_head (windows_of p.ignore_case p.words)
+    → Some (Windows (windows_search_of p.ignore_case LowFour (least_head (windows_of p.ignore_case p.words)) p.words)) ≡ windows_for p
+windows_for-some p few some near long =
+    let many : (nat_lt 8 (length p.words) || (nat_eq (most_before p.ignore_case p.words) 0 || nat_lt 64 (most_before p.ignore_case p.words))) ≡ false = grind (arith, nat_tests, few, some, near) in
+    let small : nat_lt (least_head (windows_of p.ignore_case p.words)) 4 ≡ false = grind (arith, nat_tests, long) in
+    rw (many, small) refl
+
 windows_or_other-of : (p : Patterns) (searcher : Searcher) → windows_or_other p ≡ Some searcher → IsPrefilterOf searcher p
 windows_or_other-of p searcher held = by_windows (windows_for p) refl held
   where

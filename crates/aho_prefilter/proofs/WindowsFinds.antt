@@ -57,10 +57,10 @@ length_window : (rule : Bool) (word : List ℕ) → length (window_of rule word)
 length_window rule word = length_part word (bytes_before rule word) (length word) (omega arith)
 
 module _ (p : Patterns) (windows : Windows) (are : AreWindowsOf p windows) where
-  all : List (List ℕ)
+  abbrev all : List (List ℕ)
   all = windows_of p.ignore_case p.words
 
-  made : PackedHeads
+  abbrev made : PackedHeads
   made = packed_heads_of p.ignore_case are.tested are.size all
 
   numbered : (k : ℕ) → k < length p.words → k < length all
@@ -75,14 +75,14 @@ module _ (p : Patterns) (windows : Windows) (are : AreWindowsOf p windows) where
       omega (arith, long, are.some, ap (λ (w : List ℕ). length w) (is_window k below), length_window p.ignore_case (pattern_at p k))
 
   -- how many bytes stand before the window of the pattern that occurs
-  before : Occurrence → ℕ
+  abbrev before : Occurrence → ℕ
   before m = bytes_before p.ignore_case (pattern_at p m.pattern)
 
   before-most : (m : Occurrence) → m.pattern < length p.words → before m ≤ windows.before
   before-most m below = omega (arith, most-each p.ignore_case p.words 0 m.pattern below, ap (λ (w : Windows). w.before) are.made)
 
   module _ (haystack : List ℕ) (start end : ℕ) (ordered : start ≤ end) (within : end ≤ length haystack) where
-    part : List ℕ
+    abbrev part : List ℕ
     part = slice_range haystack start end
 
     -- where a pattern occurs, its window stands

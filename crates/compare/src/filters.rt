@@ -227,7 +227,7 @@ const ROWS: [Row; 25] = [
         name: "windows of words",
         count: 8,
         begins: b"eat",
-        letters: (b'n', 4),
+        letters: (b'n', 2),
         sizes: (4, 9),
         ends: b"b",
     },
