@@ -6,7 +6,6 @@ use Rattle.std.proofs.lemmas.Bool.{cases_lt}
 use Rattle.std.proofs.lemmas.Nat.{div-add-mod', div-mul-add, div_below, mod_below}
 use Rattle.memchr.specs.Find.{IsFirst, Nowhere}
 use Rattle.aho_prefilter.specs.Strided.{HasBits, HasGram, HasGramIn, HasMark, IsMarkedAt, AreStrideSizes, Marks, MayStartAt, caseless, gram_hash, gram_place, half_of, hash_at, hash_of_head, head_hash, last_of_stride, line_hash, place_of}
-use Rattle.aho_prefilter.specs.declared.strided.grams.Place.{Place}
 use Rattle.aho_prefilter.specs.declared.strided.sizes.Sizes.{Sizes}
 use Rattle.aho_prefilter.proofs.Firsts.{first_after, first_within}
 use Rattle.aho_prefilter.proofs.Hashes.{AreSame, hash_at-same}

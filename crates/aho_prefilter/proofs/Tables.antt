@@ -2,7 +2,7 @@
 use Rattle.std.proofs.Common.{◌≡◌, ℕ, ◌+◌, ◌<◌, ◌≤◌, zero, suc, List, [], ◌∷◌, get_or, length, refl, ap, ◌∙◌, arith}
 use Rattle.std.specs.List.{fold}
 use Rattle.std.proofs.lemmas.List.{length-set}
-use Rattle.aho_prefilter.specs.Strided.{AreStrideSizes, IsTable, Marks, caseless, gram_place, head_hash, marks_with, with_bits, with_gram, with_grams, with_mark}
+use Rattle.aho_prefilter.specs.Strided.{AreStrideSizes, IsTable, Marks, caseless, head_hash, marks_with, with_bits, with_gram, with_grams, with_mark}
 use Rattle.aho_prefilter.specs.declared.strided.sizes.Sizes.{Sizes}
 use Rattle.aho_prefilter.specs.declared.strided.grams.Place.{Place}
 use Rattle.aho_prefilter.proofs.Strides.{gram_place-same, head_hash-same}

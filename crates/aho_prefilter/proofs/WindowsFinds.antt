@@ -13,7 +13,7 @@ use Rattle.aho_core.specs.Patterns.{Patterns, pattern_at}
 use Rattle.aho_prefilter.specs.Candidate.{IsPossibleStart, NothingOccurs}
 use Rattle.aho_prefilter.specs.PackedHeads.{IsFirstHeaded, MayStartAt, packed_heads_of}
 use Rattle.aho_prefilter.specs.Prefilter.{AreWindowsOf}
-use Rattle.aho_prefilter.specs.Windows.{FindsWindow, begins_often, bytes_before, most_before, window_of, windows_of}
+use Rattle.aho_prefilter.specs.Windows.{FindsWindow, begins_often, bytes_before, window_of, windows_of}
 use Rattle.aho_prefilter.specs.declared.packed_heads.PackedHeads.{PackedHeads}
 use Rattle.aho_prefilter.specs.declared.windows.Windows.{Windows}
 use Rattle.aho_prefilter.proofs.HeadsSound.{MayStartAt-stands}

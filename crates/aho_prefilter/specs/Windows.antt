@@ -1,5 +1,5 @@
 -- What a search for windows looks for: of each word the rest that begins with its first four bytes that do not all stand often in texts.
-use Rattle.std.specs.Prelude.{◌≡◌, ℕ, zero, suc, ◌-◌, max, Bool, ◌&&◌, ◌||◌, List, [], ◌∷◌, length, map, slice_index, slice_range, nat_eq, if◌then◌else◌, Option}
+use Rattle.std.specs.Prelude.{◌≡◌, ℕ, suc, ◌-◌, max, Bool, ◌&&◌, ◌||◌, List, [], ◌∷◌, length, map, slice_index, slice_range, nat_eq, if◌then◌else◌, Option}
 use Rattle.std.specs.List.{fold}
 use Rattle.std.specs.Option.{option_map}
 use Rattle.aho_core.specs.Bytes.{opposite}

@@ -13,8 +13,10 @@
 //! each byte, and both cases of a letter have the same low half. Where patterns are short, or many, that would meet too many
 //! places, and both halves of four bytes are looked up. Where some of these places meet a group, each of them is looked at once
 //! more, by its head: the first bytes of a pattern, as many as the shortest one has, and sixteen at most. A hash of them has its
-//! bit set for each pattern. A place that is found may still start no pattern, since different bytes may have the same bit. The
-//! last places, behind which too few bytes stand, are copied in front of zeros, so nothing is read past the end.
+//! bit set for each pattern. A place that is found may still start no pattern, since different bytes may have the same bit.
+//!
+//! The last block ends where the bytes end, and overlaps the one before. Where some of the last places meet a group, they are copied
+//! in front of zeros, so nothing is read past the end.
 
 ghost use Rattle.std.specs.Prelude.{◌≡◌, ℕ, ◌+◌, ◌-◌, ◌*◌, ◌<◌, ◌≤◌, length, slice_index, IsTrue};
 ghost use Rattle.std.specs.Int.{bit_at};

@@ -3,13 +3,13 @@
 //! # The tables
 //!
 //! Of each pattern the first bytes are looked at, as many as the shortest one has, and sixteen at most: its head. For each of
-//! the first `stride` places of a head the gram that begins there has its bit in the table of grams, and the head has one in
-//! the table of heads. Which bit that is, a hash tells.
+//! the first `stride` places of a head the gram that begins there has its bits in the table of grams, and the head has one in
+//! the table of heads. Which bits these are, hashes tell.
 //!
 //! # The search
 //!
 //! Whatever starts at one of `stride` places in a row has a gram at the last of them. So one gram is looked up for all of
-//! them. Where its bit is set, each of these places is looked at once more, by its head. A place that is found may start no
+//! them. Where its bits are set, each of these places is looked at once more, by its head. A place that is found may start no
 //! pattern, since different bytes may have the same bit. The last places, behind which too few bytes stand, are copied in front
 //! of zeros, so nothing is read past the end.
 

@@ -30,7 +30,7 @@ struct Row {
     ends: &'static [u8],
 }
 
-const ROWS: [Row; 25] = [
+const ROWS: &[Row] = &[
     Row {
         name: "the whole of a pattern",
         count: 1,
@@ -287,23 +287,25 @@ impl Row {
         let mut numbers = Numbers::new(self.count as u64);
         let patterns = self.patterns(alloc, &mut numbers)?;
         let mut words = Vec::new(alloc);
-        for pattern in &patterns {
+        for pattern in patterns.as_slice() {
             words.push(pattern.as_slice())?;
         }
         if words.len() > PatternID::MAX.as_usize() {
             bail!("too many patterns");
         }
-        let Some(prefilter) = Prefilter::quickest(alloc, ignore_case, &words)? else {
+        let held = Prefilter::quickest(alloc, ignore_case, words.as_slice())?;
+        let Some(prefilter) = held else {
             bail!("no prefilter is held");
         };
+        let set = PatternSet::new(words.as_slice(), MatchKind::LeftmostFirst, ignore_case);
         let filter = Filter {
             row: self,
-            words: &words,
+            words: words.as_slice(),
             ignore_case,
             prefilter: &prefilter,
-            patterns: &PatternSet::new(&words, MatchKind::LeftmostFirst, ignore_case),
+            patterns: &set,
         };
-        for length in 0..=LONGEST {
+        for length in 0..LONGEST + 1 {
             filter.compare(alloc, length, &mut numbers, count)?;
         }
         Ok(())
@@ -311,15 +313,15 @@ impl Row {
 }
 
 /// A prefilter, and for which patterns it is held.
-struct Filter<'f, 'w> {
-    row: &'f Row,
+struct Filter<'r, 'p, 's, 'w> {
+    row: &'r Row,
     words: &'w [&'w [u8]],
     ignore_case: bool,
-    prefilter: &'f Prefilter,
-    patterns: &'f PatternSet<'w>,
+    prefilter: &'p Prefilter,
+    patterns: &'s PatternSet<'w>,
 }
 
-impl Filter<'_, '_> {
+impl Filter<'_, '_, '_, '_> {
     /// One of the patterns, under the case rule in some letters of the other case.
     fn word(&self, alloc: Global, numbers: &mut Numbers) -> Result<Vec<u8>, AllocError> {
         let mut word = Vec::new(alloc);
@@ -344,7 +346,8 @@ impl Filter<'_, '_> {
     ) -> Result<Vec<u8>, AllocError> {
         let mut text = Vec::new(alloc);
         self.row.push_letters(numbers, place, &mut text)?;
-        text.extend_from_slice(&self.word(alloc, numbers)?)?;
+        let word = self.word(alloc, numbers)?;
+        text.extend_from_slice(word.as_slice())?;
         let left = length.saturating_add(2 * AROUND).saturating_sub(text.len());
         self.row.push_letters(numbers, left, &mut text)?;
         Ok(text)
@@ -364,7 +367,7 @@ impl Filter<'_, '_> {
             let start = AROUND.min(text.len());
             let end = start.saturating_add(length).min(text.len());
             let span = Span { start, end };
-            compare_candidate(self.prefilter, self.patterns, &text, span, count)?;
+            compare_candidate(self.prefilter, self.patterns, text.as_slice(), span, count)?;
         }
         Ok(())
     }
@@ -372,7 +375,7 @@ impl Filter<'_, '_> {
 
 /// Compares each of them.
 pub(crate) fn compare_filters(alloc: Global, count: &mut Count) -> Result<()> {
-    for row in &ROWS {
+    for row in ROWS {
         for ignore_case in [false, true] {
             let compared = row.compare(alloc, ignore_case, count);
             compared.map_err(|error| error.context(row.name))?;

@@ -1,4 +1,4 @@
-use Rattle.std.proofs.Common.{◌≡◌, ℕ, subst, arith}
+use Rattle.std.proofs.Common.{◌≡◌, subst, arith}
 use Rattle.std.proofs.lemmas.Bool.Decides.{nat_tests}
 use Rattle.aho_prefilter.specs.PackedHeads.{AreBitsOf}
 use Rattle.aho_prefilter.proofs.Blocks.{Nowhere-zero}

@@ -1,8 +1,8 @@
 use Rattle.std.proofs.Common.{◌≡◌, ℕ, ◌+◌, ◌-◌, ◌*◌, ◌/◌, ◌<◌, ◌≤◌, get_or, length, sym, ap, subst, arith}
 use Rattle.std.specs.Prelude.{Some}
 use Rattle.std.proofs.lemmas.Nat.{div-add-mod', mod_below}
-use Rattle.memchr.specs.Find.{IsFirst, Nowhere}
-use Rattle.aho_prefilter.specs.Strided.{IsMarkedAt, AreSoundMarks, Marks, MayStartAt}
+use Rattle.memchr.specs.Find.{IsFirst}
+use Rattle.aho_prefilter.specs.Strided.{AreSoundMarks, Marks, MayStartAt}
 use Rattle.aho_prefilter.specs.declared.strided.sizes.Sizes.{Sizes}
 use Rattle.aho_prefilter.proofs.Strides.{IsFirst-original, Nowhere-original}
 use Rattle.aho_prefilter.proofs.strided.Strided.find_in_rest.Goals as goal

@@ -1,6 +1,6 @@
 use Rattle.std.proofs.Common.{◌≡◌, List, ℕ, length, sym, ap, ◌∙◌}
 use Rattle.std.proofs.lemmas.List.{length-set}
-use Rattle.aho_prefilter.specs.Strided.{gram_place, with_bits, with_gram}
+use Rattle.aho_prefilter.specs.Strided.{with_bits, with_gram}
 use Rattle.aho_prefilter.specs.declared.strided.grams.Place.{Place}
 use Rattle.aho_prefilter.proofs.Tables.{IsTable-long, with_grams-more}
 use Rattle.aho_prefilter.proofs.strided.sizes.Sizes.mark_grams.Goals as goal
