@@ -6,7 +6,7 @@ use Rattle.std.proofs.lemmas.Bool.{cases_eq}
 use Rattle.std.proofs.lemmas.List.{length-replicate}
 use Rattle.std.proofs.lemmas.Nat.{div-add-mod', div_below, mod_below}
 use Rattle.std.proofs.lemmas.Nat.Bits.{bit_at-pow_same}
-use Rattle.aho_prefilter.specs.Strided.{HasBits, HasMark, HasMarksOf, AreStrideSizes, AreSoundMarks, IsTable, Marks, MayStartAt, caseless, empty_table, gram_hash, gram_place, hash_at, head_hash, head_words, last_of_stride, line_hash, marks_of, marks_with, no_marks, place_in, place_of, with_bits, with_gram, with_grams, with_mark}
+use Rattle.aho_prefilter.specs.Strided.{HasBits, HasMark, HasMarksOf, AreStrideSizes, AreSoundMarks, IsTable, Marks, MayStartAt, caseless, empty_table, gram_hash, gram_place, hash_at, head_hash, head_words, last_of_stride, line_hash, marks_of, marks_with, no_marks, place_in, place_by, with_bits, with_gram, with_grams, with_mark}
 use Rattle.aho_prefilter.specs.declared.strided.grams.Place.{Place}
 use Rattle.aho_prefilter.specs.declared.strided.sizes.Sizes.{Sizes}
 use Rattle.aho_prefilter.proofs.PackedSound.{HasBit, HasBit-or_left, HasBit-or_right, Keeps, Keeps-set, Keeps-then, set-has}
@@ -62,7 +62,7 @@ HasBits-with table place within = record {
 }
 
 -- the word of a gram stands within the table
-word_within : (lines : Bool) (words line hash : ℕ) → 8 ≤ words → line < 2 ^ 64 → hash < 2 ^ 64 → (place_of lines words line hash).word < words
+word_within : (lines : Bool) (words line hash : ℕ) → 8 ≤ words → line < 2 ^ 64 → hash < 2 ^ 64 → (place_by lines words line hash).word < words
 word_within false words line hash some low high = place_within words hash (omega arith) high
 word_within true words line hash some low high =
     let rows = words / 8 in

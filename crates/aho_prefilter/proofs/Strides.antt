@@ -5,7 +5,7 @@ use Rattle.std.proofs.Math.Nat.{le-div_iff_mul-le, mul-le-mul_right}
 use Rattle.std.proofs.lemmas.Bool.{cases_lt}
 use Rattle.std.proofs.lemmas.Nat.{div-add-mod', div-mul-add, div_below, mod_below}
 use Rattle.memchr.specs.Find.{IsFirst, Nowhere}
-use Rattle.aho_prefilter.specs.Strided.{HasBits, HasGram, HasGramIn, HasMark, IsMarkedAt, AreStrideSizes, Marks, MayStartAt, caseless, gram_hash, gram_place, half_of, hash_at, hash_of_head, head_hash, last_of_stride, line_hash, place_of}
+use Rattle.aho_prefilter.specs.Strided.{HasBits, HasGram, HasGramIn, HasMark, IsMarkedAt, AreStrideSizes, Marks, MayStartAt, caseless, gram_hash, gram_place, half_of, hash_at, hash_of_head, head_hash, last_of_stride, line_hash, place_by}
 use Rattle.aho_prefilter.specs.declared.strided.sizes.Sizes.{Sizes}
 use Rattle.aho_prefilter.proofs.Firsts.{first_after, first_within}
 use Rattle.aho_prefilter.proofs.Hashes.{AreSame, hash_at-same}
@@ -23,7 +23,7 @@ pub gram_place-same : (sizes : Sizes) (words : ℕ) (xs : List ℕ) (i : ℕ) (y
 gram_place-same sizes words xs i ys j long same =
     let line : line_hash sizes xs i ≡ line_hash sizes ys j = hash_at-same sizes.ignore_case 0xA076_1D64_78BD_642F 3 xs i ys j (λ k below. same k (omega arith)) in
     let gram : gram_hash sizes xs i ≡ gram_hash sizes ys j = hash_at-same sizes.ignore_case 0x9E37_79B9_7F4A_7C15 sizes.gram xs i ys j same in
-    ap (λ n. place_of sizes.lines words n (gram_hash sizes xs i)) line ∙ ap (λ n. place_of sizes.lines words (line_hash sizes ys j) n) gram
+    ap (λ n. place_by sizes.lines words n (gram_hash sizes xs i)) line ∙ ap (λ n. place_by sizes.lines words (line_hash sizes ys j) n) gram
 
 module _ (marks : Marks) (bytes : List ℕ) where
   module _ (turn : ℕ) where

@@ -72,16 +72,30 @@ with_mark table hash =
 abbrev pub line_hash : Sizes → List ℕ → ℕ → ℕ
 line_hash sizes bytes at = hash_at sizes.ignore_case 0xA076_1D64_78BD_642F 3 bytes at
 
--- where the bits of a gram are in a table of so many words, by two hashes: that of its first three bytes tells a line of eight
--- words, and its own one of them and two bits of it; or its own tells one bit
-abbrev pub place_of : Bool → ℕ → ℕ → ℕ → Place
-place_of lines words line hash =
-    if lines then record { word = line / 2 ^ 32 * (words / 8) / 2 ^ 32 * 8 + hash / 2 ^ 61; first = hash / 2 ^ 55 % 64; second = hash / 2 ^ 49 % 64 }
-    else record { word = place_in words hash / 64; first = place_in words hash % 64; second = place_in words hash % 64 }
+-- where the bits of a gram are in a table of so many words: a hash of its first three bytes tells a line of eight words, and its own one
+-- of them and two bits of it
+abbrev pub place_in_line : ℕ → ℕ → ℕ → Place
+place_in_line words line hash = record {
+  word = line / 2 ^ 32 * (words / 8) / 2 ^ 32 * 8 + hash / 2 ^ 61;
+  first = hash / 2 ^ 55 % 64;
+  second = hash / 2 ^ 49 % 64;
+}
+
+-- the same where its own hash tells one bit
+abbrev pub single_place : ℕ → ℕ → Place
+single_place words hash = record {
+  word = place_in words hash / 64;
+  first = place_in words hash % 64;
+  second = place_in words hash % 64;
+}
+
+-- whichever it is
+abbrev pub place_by : Bool → ℕ → ℕ → ℕ → Place
+place_by lines words line hash = if lines then place_in_line words line hash else single_place words hash
 
 -- the same of the gram at a place
 abbrev pub gram_place : Sizes → ℕ → List ℕ → ℕ → Place
-gram_place sizes words bytes at = place_of sizes.lines words (line_hash sizes bytes at) (gram_hash sizes bytes at)
+gram_place sizes words bytes at = place_by sizes.lines words (line_hash sizes bytes at) (gram_hash sizes bytes at)
 
 -- both bits are set
 pub record HasBits (table : List ℕ) (place : Place) : Type 0 where

@@ -91,9 +91,9 @@ const ROWS: &[Row] = &[
         name: "both halves of four bytes, where few places meet them",
         count: 150,
         begins: b"",
-        letters: (b'A', 26),
+        letters: (0x80, 26),
         sizes: (3, 9),
-        ends: b"",
+        ends: b"q",
     },
     Row {
         name: "low halves of four bytes",
@@ -313,6 +313,7 @@ impl Row {
 }
 
 /// A prefilter, and for which patterns it is held.
+#[derive(Clone, Copy)]
 struct Filter<'r, 'p, 's, 'w> {
     row: &'r Row,
     words: &'w [&'w [u8]],

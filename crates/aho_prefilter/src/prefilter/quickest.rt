@@ -25,11 +25,12 @@ impl Prefilter {
     /// both cases.
     ///
     /// It is a search for windows for up to eight patterns, some of which begin with four bytes of which texts are full, where each
-    /// has four others that do not lie behind the first 64. Else it is a packed search with heads for up to thirty-two patterns of four bytes or more each (two, for eight and more), and for
-    /// up to a hundred where the shortest has three to five, or six or seven and they are made of nine to thirty-two different
-    /// bytes. It is one too for more patterns of two bytes or more each, of nine different bytes or more, where by an estimate few
-    /// places of a text meet its fingerprints: one in sixty-four, or fewer. Else it is a strided search, if there are more patterns, and each has five bytes or more
-    /// (six, for up to a hundred and for more than 8,192 patterns). But it is the one of a `PackedBuilder` where that one searches for first bytes of which words are
+    /// has four others that do not lie behind the first 64. Else it is a packed search with heads for up to thirty-two patterns of
+    /// four bytes or more each (two, for eight and more), and for up to a hundred where the shortest has three to five, or six or
+    /// seven and they are made of nine to thirty-two different bytes. It is one too for more patterns of two bytes or more each, of
+    /// nine different bytes or more, where by an estimate few places of a text meet its fingerprints: one in sixty-four, or fewer.
+    /// Else it is a strided search, if there are more patterns, and each has five bytes or more (six, for up to a hundred and for
+    /// more than 8,192 patterns). But it is the one of a `PackedBuilder` where that one searches for first bytes of which words are
     /// not made, and for fewer patterns, or where too many grams of a few letters would be marked.
     ///
     /// # Errors

@@ -4,7 +4,7 @@
 //! which its first three bytes tell. A text has few different runs of three bytes, so the rows that it asks for stay at hand.
 
 ghost use Rattle.std.specs.Prelude.{◌≡◌, ◌↔◌, ◌+◌, ◌<◌, ◌≤◌, ◌^◌, length, IsTrue};
-ghost use Rattle.aho_prefilter.specs.Strided.{AreStrideSizes, HasBits, IsTable, gram_place, place_of, with_bits, with_grams};
+ghost use Rattle.aho_prefilter.specs.Strided.{AreStrideSizes, HasBits, IsTable, gram_place, place_by, with_bits, with_grams};
 
 use crate::strided::sizes::Sizes;
 use crate::strided::{GRAM, HIGH, bits_kept, factor_for, place_in, word_at};
@@ -25,10 +25,10 @@ pub(crate) struct Place {
 
 /// Where the bits of a gram are in a table of so many words, by a hash of its first bytes and one of all of them.
 #[inline(always)]
-fn place_of(lines: bool, words: usize, line: u64, hash: u64) -> Place
+fn place_by(lines: bool, words: usize, line: u64, hash: u64) -> Place
     requires some { 8 ≤ words }
     requires few { words ≤ 2 ^ 18 }
-    ensures place { result ≡ place_of lines words line hash }
+    ensures place { result ≡ place_by lines words line hash }
     ensures within { result.word < words }
     ensures first { result.first < 64 }
     ensures second { result.second < 64 }
@@ -90,7 +90,7 @@ impl Sizes {
         let word = word_at(bytes, at, bits_kept(self.ignore_case));
         let line = word.wrapping_mul(factor_for(HIGH, LINE_BYTES));
         let hash = word.wrapping_mul(factor_for(GRAM, self.gram));
-        place_of(lines, words, line, hash)
+        place_by(lines, words, line, hash)
     }
 
     /// Sets the bits of the grams at the first places of these bytes.
