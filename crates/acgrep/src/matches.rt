@@ -1,14 +1,13 @@
 //! Writing the matches of a line.
 
 ghost use Rattle.std.specs.Iterator.{IsFinite};
-ghost use Rattle.std.specs.Prelude.{◌≡◌, IfOk, IfSome, None, OnOk, false, true};
+ghost use Rattle.std.specs.Prelude.{◌≡◌, IfOk, IfSome, None, true};
 ghost use Rattle.aho_core.specs.Iteration.{AreFinds};
 ghost use Rattle.aho_core.specs.Patterns.{Patterns};
 ghost use Rattle.aho_core.specs.Search.{plain_search};
-ghost use Rattle.chromesquid.specs.Backward.{IsBackwardFor};
 ghost use Rattle.chromesquid.specs.Searcher.{ForItsPatterns, IsBuiltFromSome};
 ghost use Rattle.acgrep.specs.Alone.{asks_alone};
-ghost use Rattle.acgrep.specs.Matches.{PutsColored, PutsMatches, WritesMatches, behind_by, found_by, rest_behind, shown_from};
+ghost use Rattle.acgrep.specs.Matches.{PutsColored, PutsMatches, behind_by, found_by, rest_behind, shown_from};
 ghost use Rattle.acgrep.specs.Printed.{Puts, PutsEach};
 
 use crate::alone::{behind_alone, next_alone};
@@ -16,7 +15,7 @@ use crate::failure::Stop;
 use crate::json::put_object;
 use crate::print::{Place, Style, part, put_head, put_match, put_up_to};
 use crate::select::Job;
-use chromesquid::{AhoCorasick, Automaton, Backward, Input, Match};
+use chromesquid::{AhoCorasick, Match};
 use std::alloc::Global;
 use std::io;
 use std::io::Write;
@@ -73,10 +72,9 @@ pub fn put_matches<W: Write>(
         put_listed(output, shape, style, place, line, found.as_slice())?;
         return Ok(());
     }
-    match searcher.rows() {
-        Some(rows) => put_found_by(rows, output, shape, style, place, line),
-        None => put_found_by(searcher.itself(), output, shape, style, place, line),
-    }
+    let matches = searcher.try_find_iter(line)?;
+    put_each(output, shape, style, place, line, matches)?;
+    Ok(())
 }
 
 /// All finds of a line, as iteration gives them one after another; none where iteration is to give them, because it is as fast
@@ -86,43 +84,16 @@ fn list_finds(alloc: Global, searcher: &AhoCorasick, line: &[u8]) -> Option<Vec<
     ensures listed { ForItsPatterns searcher.now (λ p.
         IfSome result (λ found. AreFinds p (plain_search line.now) None found.items)) }
 {
-    match searcher.backward() {
-        Some(backward) => finds_back(alloc, backward, line),
-        None => None,
-    }
-}
-
-/// All finds of a line by a walk backward, if there is memory for them.
-fn finds_back(alloc: Global, backward: &Backward, line: &[u8]) -> Option<Vec<Match>>
-    requires of { (p : Patterns) × IsBackwardFor backward.now p }
-    ensures listed { (p : Patterns) → IsBackwardFor backward.now p
-        → IfSome result (λ found. AreFinds p (plain_search line.now) None found.items) }
-{
+    let Some(backward) = searcher.backward() else {
+        return None;
+    };
     match backward.find_all(alloc, line) {
         Ok(found) => Some(found),
         Err(_) => None,
     }
 }
 
-/// Writes each match of a line, as an automaton finds them one after another.
-fn put_found_by<A: Automaton, W: Write>(
-    automaton: &A,
-    output: &mut W,
-    shape: Shape,
-    style: &Style<'_>,
-    place: Place,
-    line: &[u8],
-) -> Result<(), Stop>
-    requires of { (p : Patterns) × A.is_of automaton.now p }
-    ensures written { (p : Patterns) → A.is_of automaton.now p → OnOk result (WritesMatches
-        (W.contents output.old) (W.contents output.new) p shape false style.now place line.now) }
-{
-    let matches = automaton.try_find_iter(Input::new(line))?;
-    put_each(output, shape, style, place, line, matches)?;
-    Ok(())
-}
-
-/// The same of the matches that stand alone.
+/// Writes each match of a line that stands alone.
 fn put_alone<W: Write>(
     searcher: &AhoCorasick,
     output: &mut W,

@@ -3,7 +3,7 @@
 ghost use Rattle.std.specs.Prelude.{◌≡◌, IfOk};
 ghost use Rattle.aho_core.specs.Replacement.{pieces_of};
 ghost use Rattle.chromesquid.specs.Searcher.{IsBuiltFrom};
-ghost use Rattle.acgrep.specs.Searchers.{patterns_asked, settings_asked};
+ghost use Rattle.acgrep.specs.Searchers.{building_asked, patterns_asked};
 
 use chromesquid::{AhoCorasick, AhoCorasickBuilder, BuildError, MatchKind};
 use std::alloc::Global;
@@ -28,7 +28,7 @@ pub fn searcher_of(
 
 /// How it is built.
 fn builder_for(kind: MatchKind, ignore_case: bool, listed: bool) -> AhoCorasickBuilder
-    ensures settings { result.settings ≡ settings_asked kind ignore_case }
+    ensures asked { result ≡ building_asked kind ignore_case listed }
 {
     AhoCorasickBuilder::new()
         .match_kind(kind)

@@ -2,4 +2,4 @@
 use Rattle.acgrep.proofs.searcher.searcher_of.Goals as goal
 
 pub returns-clause-of : goal.returns-clause-of
-returns-clause-of c = rw c.builder_for.ensures.settings at c.build.ensures.of
+returns-clause-of c = rw c.builder_for.ensures.asked at c.build.ensures.of
