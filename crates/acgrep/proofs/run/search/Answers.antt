@@ -36,7 +36,7 @@ returns-in-Ok-searcher_of-clause-searches g c low =
     c.sought-words.ensures.words ∙ ap (words_sought flags) (ap pieces_of c.as_slice-all.ensures.value ∙ c.in-Ok.ensures.lines ∙ ap (lines 10) c.as_slice.ensures.value) in
     let free : AreFreeOf (ending_by flags) sought = subst (AreFreeOf (ending_by flags)) same (subst (λ (n : ℕ). AreFreeOf n (pieces_of c.sought-words.result.now)) c.ending.ensures.ending (c.first_holding.ensures.none c.in_default-first_holding.is)) in
     let asked = patterns_asked (kind_sought flags) flags.ignore_case sought in
-    let built : IsBuiltFrom c.in-Ok-searcher_of.searcher asked = rw c.kind_sought.ensures same at c.in-Ok-searcher_of.ensures.of in
+    let built : IsBuiltFrom c.in-Ok-searcher_of.searcher asked = rw (c.kind_sought.ensures, same) at c.in-Ok-searcher_of.ensures.of in
     let some : knows_none flags sought ≡ false = ap (knows_none flags) (sym same) ∙ sym c.knows_none.ensures ∙ c.if-knows_none.false in
     let all : pieces_of c.as_slice-all.result.now ≡ lines 10 text = ap pieces_of c.as_slice-all.ensures.value ∙ c.in-Ok.ensures.lines ∙ ap (lines 10) c.as_slice.ensures.value in
     let known = known_by g.F.Open g.F.Folders c.args.files.now in
@@ -97,7 +97,7 @@ returns-in-Ok-searcher_of-clause-begins g c =
     c.sought-words.ensures.words ∙ ap (words_sought flags) (ap pieces_of c.as_slice-all.ensures.value ∙ c.in-Ok.ensures.lines ∙ ap (lines 10) c.as_slice.ensures.value) in
     let free : AreFreeOf (ending_by flags) sought = subst (AreFreeOf (ending_by flags)) same (subst (λ (n : ℕ). AreFreeOf n (pieces_of c.sought-words.result.now)) c.ending.ensures.ending (c.first_holding.ensures.none c.in_default-first_holding.is)) in
     let asked = patterns_asked (kind_sought flags) flags.ignore_case sought in
-    let built : IsBuiltFrom c.in-Ok-searcher_of.searcher asked = rw c.kind_sought.ensures same at c.in-Ok-searcher_of.ensures.of in
+    let built : IsBuiltFrom c.in-Ok-searcher_of.searcher asked = rw (c.kind_sought.ensures, same) at c.in-Ok-searcher_of.ensures.of in
     let all : pieces_of c.as_slice-all.result.now ≡ lines 10 text = ap pieces_of c.as_slice-all.ensures.value ∙ c.in-Ok.ensures.lines ∙ ap (lines 10) c.as_slice.ensures.value in
     let known = known_by g.F.Open g.F.Folders c.args.files.now in
     let given = said c.args.given.now in
