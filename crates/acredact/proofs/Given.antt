@@ -62,9 +62,9 @@ forms_cover arguments given asked forms =
     cover_by (has Strict given) (has Pseudonym given) (has With given) (has Table given) (covers_asked given) (has Forms given) _ none forms
 
 -- nor do forms go with words
-rest_of : (b : Bool) {mixture : Mixture} {rest : Option Mixture} → (if b then Some mixture else rest) ≡ None → rest ≡ None
-rest_of true none = absurd (cc)
-rest_of false none = none
+rest_of : (b : Bool) (mixture : Mixture) (rest : Option Mixture) → (if b then Some mixture else rest) ≡ None → rest ≡ None
+rest_of true mixture rest none = absurd (cc)
+rest_of false mixture rest none = none
 
 no_words : (covers words forms : Bool) (rest : Option Mixture)
     → (if words && not covers then Some WordsKind else if words && forms then Some WordsForms else rest) ≡ None
@@ -77,7 +77,7 @@ no_words true true false rest none asked = absurd (cc)
 pub forms_unworded : (arguments : List (List ℕ)) (given : List Given) → all_asked arguments ≡ Some given → has Forms given ≡ true → words_asked given ≡ false
 forms_unworded arguments given asked forms =
     let none = (read_fits (given_by arguments) given asked).1 in
-    no_words (covers_asked given) (has AsWord given) (has Forms given) _ (rest_of _ (rest_of _ (rest_of _ (rest_of _ (rest_of _ (rest_of _ (rest_of _ (rest_of _ none)))))))) forms
+    no_words (covers_asked given) (has AsWord given) (has Forms given) _ (rest_of _ _ _ (rest_of _ _ _ (rest_of _ _ _ (rest_of _ _ _ (rest_of _ _ _ (rest_of _ _ _ (rest_of _ _ _ (rest_of _ _ _ none)))))))) forms
 
 -- nothing is wrong with right arguments but that memory runs out
 pub memory_alone : (arguments : List (List ℕ)) (given : List Given) (mistake : Mistake) → all_asked arguments ≡ Some given → IsMistakeOfCall arguments mistake → mistake ≡ OutOfMemory
