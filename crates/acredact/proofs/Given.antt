@@ -8,8 +8,8 @@ use Rattle.acredact.specs.declared.arguments.Expects.TheVariants.{Any, Value, Na
 use Rattle.acredact.specs.declared.arguments.Mistake.{Mistake}
 use Rattle.acredact.specs.declared.arguments.Mistake.TheVariants.{OutOfMemory}
 use Rattle.acredact.specs.declared.arguments.Mixture.{Mixture}
-use Rattle.acredact.specs.declared.arguments.Mixture.TheVariants.{StrictKind, PseudonymKind, PseudonymWith, PseudonymTable, FormsKind, WordsForms, WordsKind}
-use Rattle.acredact.specs.declared.arguments.Word.TheVariants.{Forms, Pseudonym, Strict, Table, With, AsWord}
+use Rattle.acredact.specs.declared.arguments.Mixture.TheVariants.{StrictKind, PseudonymKind, PseudonymWith, PseudonymTable, FormsKind, CountCheck, SummaryCheck, OutputCheck, WordsForms, WordsKind}
+use Rattle.acredact.specs.declared.arguments.Word.TheVariants.{Forms, Pseudonym, Strict, Table, With, AsWord, Count, Summary, Output, Check}
 
 some_same : {A : Type 0} (x y : A) → Some x ≡ Some y → x ≡ y
 some_same x y e = cc
