@@ -7,6 +7,7 @@ complete -c acredact -l env-file -rF -d 'redact the value in each line NAME=VALU
 complete -c acredact -l whole -rF -d 'redact what FILE holds, without a line end behind it'
 complete -c acredact -s i -l ignore-case -d 'ASCII letters are the same in both cases'
 complete -c acredact -l forms -x -d 'redact encoded patterns too'
+complete -c acredact -s w -l word -d 'redact what no letter, digit or \'_\' stands beside'
 complete -c acredact -l crlf -d 'a carriage return at the end of a line of FILE or TABLE is no part of it'
 complete -c acredact -l allow-empty -d 'FILE and TABLE may have no line, and variables no value'
 complete -c acredact -l kind -x -a 'cover first longest standard' -d 'what is replaced'

@@ -73,6 +73,7 @@ module _ {A R W : Type 0} (G : Ghosts A) (S : SourceGhosts R) (K : SinkGhosts W)
   }
 
 -- a searcher and an automaton that suits redact by the patterns of both
-pub backing_is : {A B : Type 0} (G : Ghosts A) (H : Ghosts B) (searcher : Backward B) (automaton : A) (p : Patterns) (covers : Bool) (replacements : List (Bor (List ℕ))) (key : Option Keyed) → G.is_of automaton p → IsBackwardOf H searcher p → covers ≡ false → key ≡ None
-    → CanRedact G automaton covers replacements → IsBacking G H searcher automaton replacements (record { patterns = p; covers = covers; pieces = pieces_of replacements; key = key })
-backing_is G H searcher automaton p covers replacements key of back is none ready = record { backward = back; forward = redactor_is G automaton p covers false replacements key of is none ready }
+pub backing_is : {A B : Type 0} (G : Ghosts A) (H : Ghosts B) (searcher : Backward B) (automaton : A) (p : Patterns) (covers words : Bool) (replacements : List (Bor (List ℕ))) (key : Option Keyed) → G.is_of automaton p → IsBackwardOf H searcher p → covers ≡ false → words ≡ false → key ≡ None
+    → CanRedact G automaton covers replacements → IsBacking G H searcher automaton replacements (record { patterns = p; covers = covers; words = words; pieces = pieces_of replacements; key = key })
+backing_is G H searcher automaton p covers words replacements key of back is alike none ready =
+    record { backward = back; forward = redactor_is G automaton p covers false words false replacements key of is alike none ready }

@@ -1,34 +1,31 @@
 -- No number grows by more than was read.
 use Rattle.std.proofs.Common.{◌≡◌, inl, inr, ℕ, ◌+◌, ◌-◌, ◌<◌, ◌≤◌, Bool, List, [], ◌∷◌, ◌++◌, Option, true, false, length, map, refl, sym, ap, subst, ◌∙◌, arith, length-append, le_refl}
-use Rattle.std.specs.Prelude.{None, Some, Ok, Err, Result, MatchBool, nat_eq, not, ◌^◌, min, slice_range, drop, is_some, replicate}
-use Rattle.std.specs.List.{filter}
+use Rattle.std.specs.Prelude.{None, Some, Ok, Err, Result, MatchBool, nat_eq, not, slice_range, replicate}
 use Rattle.std.specs.Io.KnownBytes.{Consumes, Keeps}
 use Rattle.std.proofs.lemmas.List.{length-replicate}
 use Rattle.std.proofs.lemmas.List.Filters.{length-filter_both}
 use Rattle.std.specs.Fn.{Mut}
 use Rattle.aho_core.specs.ClosureRun.{CalledOn, ClosureRun}
-use Rattle.aho_core.specs.Cover.{AreRuns}
-use Rattle.aho_core.specs.Laws.{shortest}
 use Rattle.aho_core.specs.Occurrence.{Occurrence}
 use Rattle.aho_core.specs.Patterns.{Patterns}
 use Rattle.aho_core.specs.declared.error.stream.StreamError.{StreamError}
 use Rattle.aho_core.specs.declared.error.stream.StreamError.TheVariants.{Memory}
 use Rattle.aho_core.specs.Search.{plain_search}
 use Rattle.aho_automaton.specs.declared.automaton.Automaton.{Ghosts}
+use Rattle.aho_cover.proofs.Chosen.{all-covers, all-made}
 use Rattle.aho_cover.proofs.Counted.{counts_none, counts_then}
 use Rattle.aho_devices.specs.Counts.{counted}
 use Rattle.std.specs.Borrow.{Bor, MutBor}
 use Rattle.std.proofs.KnownBytes.{Consumes-nil}
-use Rattle.aho_laws.specs.CoverLaws.{AreInOrder, runs_upto}
+use Rattle.aho_laws.specs.CoverLaws.{AreInOrder}
 use Rattle.aho_laws.proofs.Iterations.{finds-exist}
 use Rattle.aho_laws.proofs.SettledRuns.{few-open}
-use Rattle.aho_laws.proofs.TextRuns.{runs-made, upto-covers}
 use Rattle.aho_cover.specs.Counting.{CountsThese, runs_named}
-use Rattle.aho_cover.specs.Covers.{CountsRuns, CountsWritten, LeavesCounted}
+use Rattle.aho_cover.specs.Covers.{CountsRunsWith, CountsWrittenWith, LeavesCountedWith}
 use Rattle.aho_cover.specs.Pieces.{PieceRule}
+use Rattle.aho_cover.specs.Words.{all_runs}
 use Rattle.aho_devices.specs.declared.device.Sink.{Ghosts as SinkGhosts}
 use Rattle.aho_devices.specs.declared.device.Source.{Ghosts as SourceGhosts}
-use Rattle.aho_stream.specs.Replacing.{SourceGave}
 use Rattle.aho_stream.specs.StreamRun.{CallsOn, CanBegin, RefusesAllUntouched, RunsAndLeaves, RunsLent, SinkTakes}
 use Rattle.programs.specs.Names.{is_input}
 use Rattle.acredact.specs.Bounds.{Bounded, GrowAtMost, NumbersGiven, NumbersOfAll, NumbersOfName, NumbersRead, ReadInAll, ReadsSome}
@@ -61,33 +58,33 @@ pub grow_none : (counts : List ℕ) (most : ℕ) → GrowAtMost most counts coun
 grow_none counts most = record { as_many = refl; each = λ number within. omega arith; together = omega arith }
 
 -- a text has no more runs than bytes
-runs_few : (p : Patterns) (text : List ℕ) → length (runs_upto p text (length text)) ≤ length text
-runs_few p text =
-    let ordered : AreInOrder (runs_upto p text (length text)) (length text) = (upto-covers p text (length text) (le_refl (length text))).ordered in
-    omega (arith, few-open (runs_upto p text (length text)) 1 (length text) ordered (λ x there. omega (arith, ordered.full x there)))
+runs_few : (words : Bool) (p : Patterns) (text : List ℕ) → length (all_runs words p text) ≤ length text
+runs_few words p text =
+    let ordered : AreInOrder (all_runs words p text) (length text) = (all-covers p text words).ordered in
+    omega (arith, few-open (all_runs words p text) 1 (length text) ordered (λ x there. omega (arith, ordered.full x there)))
 
 -- so a cover counts no more than were given
-module _ {R W : Type 0} (S : SourceGhosts R) (K : SinkGhosts W) (AreSearched : Patterns → Type 0) (p : Patterns) (of : AreSearched p) (rule : PieceRule) (source source' : R) (sink sink' : W) (counts counts' : List ℕ) where
-  runs_given : CountsRuns S AreSearched source source' counts counts' → Bounded S source source' counts counts'
+module _ {R W : Type 0} (S : SourceGhosts R) (K : SinkGhosts W) (AreSearched : Patterns → Type 0) (p : Patterns) (of : AreSearched p) (words : Bool) (rule : PieceRule) (source source' : R) (sink sink' : W) (counts counts' : List ℕ) where
+  runs_given : CountsRunsWith S AreSearched words source source' counts counts' → Bounded S source source' counts counts'
   runs_given whole = record {
     given = whole.given;
     ended = true;
     gives = whole.gives;
-    counted = grow_few (runs_upto p whole.given (length whole.given)) counts counts' (length whole.given) (whole.counted p (runs_upto p whole.given (length whole.given)) of (runs-made p whole.given)) (runs_few p whole.given);
+    counted = grow_few (all_runs words p whole.given) counts counts' (length whole.given) (whole.counted p (all_runs words p whole.given) of (all-made p whole.given words)) (runs_few words p whole.given);
   }
 
-  written_given : CountsWritten S K AreSearched rule source source' sink sink' counts counts' → Bounded S source source' counts counts'
+  written_given : CountsWrittenWith S K AreSearched words rule source source' sink sink' counts counts' → Bounded S source source' counts counts'
   written_given some =
-      let parts = some.beginning p some.given (runs_upto p some.given (length some.given)) of (no_more some.given some.ended) (runs-made p some.given) in
-      let sizes : length (runs_upto p some.given (length some.given)) ≡ length some.first + length parts.0 = ap length parts.1 ∙ length-append some.first parts.0 in
+      let parts = some.beginning p some.given (all_runs words p some.given) of (no_more some.given some.ended) (all-made p some.given words) in
+      let sizes : length (all_runs words p some.given) ≡ length some.first + length parts.0 = ap length parts.1 ∙ length-append some.first parts.0 in
       record {
         given = some.given;
         ended = some.ended;
         gives = some.gives;
-        counted = grow_few some.first counts counts' (length some.given) some.counted (omega (arith, sizes, runs_few p some.given));
+        counted = grow_few some.first counts counts' (length some.given) some.counted (omega (arith, sizes, runs_few words p some.given));
       }
 
-  pub cover_given : (result : Result (Unit {0}) StreamError) → LeavesCounted S K AreSearched rule source source' sink sink' counts counts' result → Bounded S source source' counts counts'
+  pub cover_given : (result : Result (Unit {0}) StreamError) → LeavesCountedWith S K AreSearched words rule source source' sink sink' counts counts' result → Bounded S source source' counts counts'
   cover_given (Ok x) leaves = runs_given leaves.counted
   cover_given (Err error) leaves = written_given leaves.begun
 

@@ -296,14 +296,15 @@ module _ {R : Type 0} {Reads : Readers R} {W E : Type 0} (Writes : Writers W) (K
         rest_untold all errors failure run (subst (λ (b : Bool). IsCountsFailure b failure) is fails) told bounded totals
 
 -- what holds of some work holds of the same with the same names, pieces, key and way
-pub work_as : (holds : List ℕ → Option (List ℕ)) (refuses : List ℕ → Reason → Type 0) (meets : List ℕ → Bool → Type 0) (p : Patterns) (names names' pieces pieces' : List (List ℕ)) (covers covers' : Bool) (key key' : Option Keyed) → names ≡ names' → covers ≡ covers' → pieces ≡ pieces' → key ≡ key'
-    → (P : Work → Type 0) → P (record { holds = holds; refuses = refuses; meets = meets; names = names; redactor = record { patterns = p; covers = covers; pieces = pieces; key = key } })
-    → P (record { holds = holds; refuses = refuses; meets = meets; names = names'; redactor = record { patterns = p; covers = covers'; pieces = pieces'; key = key' } })
-work_as holds refuses meets p names names' pieces pieces' covers covers' key key' same by alike keyed P is =
-    subst (λ (k : Option Keyed). P (record { holds = holds; refuses = refuses; meets = meets; names = names'; redactor = record { patterns = p; covers = covers'; pieces = pieces'; key = k } })) keyed
-    (subst (λ (l : List (List ℕ)). P (record { holds = holds; refuses = refuses; meets = meets; names = names'; redactor = record { patterns = p; covers = covers'; pieces = l; key = key } })) alike
-    (subst (λ (b : Bool). P (record { holds = holds; refuses = refuses; meets = meets; names = names'; redactor = record { patterns = p; covers = b; pieces = pieces; key = key } })) by
-    (subst (λ (l : List (List ℕ)). P (record { holds = holds; refuses = refuses; meets = meets; names = l; redactor = record { patterns = p; covers = covers; pieces = pieces; key = key } })) same is)))
+pub work_as : (holds : List ℕ → Option (List ℕ)) (refuses : List ℕ → Reason → Type 0) (meets : List ℕ → Bool → Type 0) (p : Patterns) (names names' pieces pieces' : List (List ℕ)) (covers covers' words words' : Bool) (key key' : Option Keyed) → names ≡ names' → covers ≡ covers' → words ≡ words' → pieces ≡ pieces' → key ≡ key'
+    → (P : Work → Type 0) → P (record { holds = holds; refuses = refuses; meets = meets; names = names; redactor = record { patterns = p; covers = covers; words = words; pieces = pieces; key = key } })
+    → P (record { holds = holds; refuses = refuses; meets = meets; names = names'; redactor = record { patterns = p; covers = covers'; words = words'; pieces = pieces'; key = key' } })
+work_as holds refuses meets p names names' pieces pieces' covers covers' words words' key key' same by chosen alike keyed P is =
+    subst (λ (k : Option Keyed). P (record { holds = holds; refuses = refuses; meets = meets; names = names'; redactor = record { patterns = p; covers = covers'; words = words'; pieces = pieces'; key = k } })) keyed
+    (subst (λ (l : List (List ℕ)). P (record { holds = holds; refuses = refuses; meets = meets; names = names'; redactor = record { patterns = p; covers = covers'; words = words'; pieces = l; key = key } })) alike
+    (subst (λ (b : Bool). P (record { holds = holds; refuses = refuses; meets = meets; names = names'; redactor = record { patterns = p; covers = covers'; words = b; pieces = pieces; key = key } })) chosen
+    (subst (λ (b : Bool). P (record { holds = holds; refuses = refuses; meets = meets; names = names'; redactor = record { patterns = p; covers = b; words = words; pieces = pieces; key = key } })) by
+    (subst (λ (l : List (List ℕ)). P (record { holds = holds; refuses = refuses; meets = meets; names = l; redactor = record { patterns = p; covers = covers; words = words; pieces = pieces; key = key } })) same is))))
 
 -- a call as it is from a state whose input was read further
 module _ {R : Type 0} {Reads : Readers R} {W E : Type 0} (Writes : Writers W) (K : SinkGhosts E) (call : Call) (left : Option (List ℕ)) where

@@ -5,7 +5,6 @@ use Rattle.std.specs.Io.KnownBytes.{Keeps}
 use Rattle.std.specs.List.{All, concat}
 use Rattle.std.proofs.KnownBytes.{Consumes-nil}
 use Rattle.std.proofs.lemmas.List.Elements.{All-append, All-cons, All-nil, All-weaker}
-use Rattle.aho_core.specs.Patterns.{Patterns}
 use Rattle.aho_devices.specs.declared.device.Sink.{Ghosts as SinkGhosts}
 use Rattle.programs.specs.Names.{IsOneOf, is_input}
 use Rattle.programs.specs.Telling.{Tells, TellsBytes}
@@ -23,6 +22,7 @@ use Rattle.acredact.specs.Files.{are_none, unread_line}
 use Rattle.acredact.specs.Loading.{AreGiven, CannotLoadAll}
 use Rattle.acredact.specs.Looks.{IsLook, HoldsNoMatch, is_found, is_unread_look, verdict_with}
 use Rattle.acredact.specs.Reads.{OfName}
+use Rattle.acredact.specs.Secrets.{Redactor}
 use Rattle.acredact.specs.Statuses.{check_status}
 use Rattle.acredact.specs.Tables.{Secret, patterns_in}
 use Rattle.acredact.specs.declared.arguments.Word.TheVariants.{Strict}
@@ -36,31 +36,32 @@ use Rattle.acredact.proofs.OneFile.{known_read, of_folder, of_input}
 use Rattle.acredact.proofs.Warned.{all_members, tells_both}
 
 -- a look at what is known of a file, for reasons that may be more
-known_look : (p : Patterns) (Few Many : Reason → Type 0) (told left left' : Option (List ℕ)) → Keeps told left → ((reason : Reason) → Few reason → Many reason) → (look : Look) → IsLook p Few look left left' → IsLook p Many look told left'
-known_look p Few Many told left left' kept more Clean (text, reads, none) = (text, record { read = known_read told left left' text kept reads.read; ended = reads.ended }, none)
-known_look p Few Many told left left' kept more Found (given, reads, some) = (given, known_read told left left' given kept reads, some)
-known_look p Few Many told left left' kept more (Unread reason) (why, (given, reads)) = (more reason why, (given, known_read told left left' given kept reads))
+known_look : (r : Redactor) (Few Many : Reason → Type 0) (told left left' : Option (List ℕ)) → Keeps told left → ((reason : Reason) → Few reason → Many reason) → (look : Look) → IsLook r Few look left left' → IsLook r Many look told left'
+known_look r Few Many told left left' kept more Clean (text, reads, none) = (text, record { read = known_read told left left' text kept reads.read; ended = reads.ended }, none)
+known_look r Few Many told left left' kept more Found holds =
+    record { given = holds.given; ended = holds.ended; read = known_read told left left' holds.given kept holds.read; at_end = holds.at_end; some = holds.some }
+known_look r Few Many told left left' kept more (Unread reason) (why, (given, reads)) = (more reason why, (given, known_read told left left' given kept reads))
 
-same_look : (p : Patterns) (Few Many : Reason → Type 0) (left left' : Option (List ℕ)) → ((reason : Reason) → Few reason → Many reason) → (look : Look) → IsLook p Few look left left' → IsLook p Many look left left'
-same_look p Few Many left left' more Clean is = is
-same_look p Few Many left left' more Found is = is
-same_look p Few Many left left' more (Unread reason) is = (more reason is.0, is.1)
+same_look : (r : Redactor) (Few Many : Reason → Type 0) (left left' : Option (List ℕ)) → ((reason : Reason) → Few reason → Many reason) → (look : Look) → IsLook r Few look left left' → IsLook r Many look left left'
+same_look r Few Many left left' more Clean is = is
+same_look r Few Many left left' more Found is = is
+same_look r Few Many left left' more (Unread reason) is = (more reason is.0, is.1)
 
 -- the file of a name is that of the input, or of the folder, or cannot be opened
 module _ (quest : Quest) (name : List ℕ) where
   abbrev MayBeTold : Reason → Type 0
   MayBeTold reason = IsReadReason reason ⊎ quest.refuses name reason
 
-  pub look_input : (look : Look) (left left' : Option (List ℕ)) → is_input name ≡ true → IsLook quest.patterns IsReadReason look left left' → IsLookOf quest name look left left'
-  look_input look left left' is looks = of_input quest.holds name (IsLook quest.patterns MayBeTold look) left left' is (same_look quest.patterns IsReadReason MayBeTold left left' (λ reason why. inl why) look looks)
+  pub look_input : (look : Look) (left left' : Option (List ℕ)) → is_input name ≡ true → IsLook quest.redactor IsReadReason look left left' → IsLookOf quest name look left left'
+  look_input look left left' is looks = of_input quest.holds name (IsLook quest.redactor MayBeTold look) left left' is (same_look quest.redactor IsReadReason MayBeTold left left' (λ reason why. inl why) look looks)
 
-  pub look_opened : (look : Look) (given left left' rest : Option (List ℕ)) → is_input name ≡ false → left' ≡ left → Keeps (quest.holds name) given → IsLook quest.patterns IsReadReason look given rest → IsLookOf quest name look left left'
+  pub look_opened : (look : Look) (given left left' rest : Option (List ℕ)) → is_input name ≡ false → left' ≡ left → Keeps (quest.holds name) given → IsLook quest.redactor IsReadReason look given rest → IsLookOf quest name look left left'
   look_opened look given left left' rest is same kept looks =
-      of_folder quest.holds name (IsLook quest.patterns MayBeTold look) left left' is same rest (known_look quest.patterns IsReadReason MayBeTold (quest.holds name) given rest kept (λ reason why. inl why) look looks)
+      of_folder quest.holds name (IsLook quest.redactor MayBeTold look) left left' is same rest (known_look quest.redactor IsReadReason MayBeTold (quest.holds name) given rest kept (λ reason why. inl why) look looks)
 
   pub look_refused : (reason : Reason) (left left' : Option (List ℕ)) → is_input name ≡ false → left' ≡ left → quest.refuses name reason → IsLookOf quest name (Unread reason) left left'
   look_refused reason left left' is same why =
-      of_folder quest.holds name (IsLook quest.patterns MayBeTold (Unread reason)) left left' is same (quest.holds name) (inr why, ([], Consumes-nil (quest.holds name)))
+      of_folder quest.holds name (IsLook quest.redactor MayBeTold (Unread reason)) left left' is same (quest.holds name) (inr why, ([], Consumes-nil (quest.holds name)))
 
 -- the lines of a look
 look_are : (name : List ℕ) (names : List (List ℕ)) (look : Look) → IsOneOf name names → All (IsUnreadLine names) (look_lines name look)
@@ -151,15 +152,16 @@ pub seen_refused : {E X : Type 0} (K : SinkGhosts E) (quest : Quest) (names : Li
 seen_refused K quest names error left left' errors = record { seen = tt; quiet = tt; told = tells_same K (IsUnreadLine names) errors errors refl }
 
 -- what is seen of files stays so, with another error
-pub seen_fails : {E X Y : Type 0} (K : SinkGhosts E) (quest : Quest) (names names' : List (List ℕ)) (error : X) (other : Y) (left left' : Option (List ℕ)) (errors errors' : Errors E) → names ≡ names'
-    → SeesFiles K quest names (Err error) left left' errors errors' → SeesFiles K quest names' (Err other) left left' errors errors'
-seen_fails K quest names names' error other left left' errors errors' same sees =
-    subst (λ (l : List (List ℕ)). SeesFiles K quest l (Err other) left left' errors errors') same (record { seen = tt; quiet = tt; told = sees.told })
+pub seen_fails : {E X Y : Type 0} (K : SinkGhosts E) (quest quest' : Quest) (names names' : List (List ℕ)) (error : X) (other : Y) (left left' : Option (List ℕ)) (errors errors' : Errors E) → names ≡ names'
+    → SeesFiles K quest names (Err error) left left' errors errors' → SeesFiles K quest' names' (Err other) left left' errors errors'
+seen_fails K quest quest' names names' error other left left' errors errors' same sees =
+    subst (λ (l : List (List ℕ)). SeesFiles K quest' l (Err other) left left' errors errors') same (record { seen = tt; quiet = tt; told = sees.told })
 
-pub seen_whole : {E X Y : Type 0} (K : SinkGhosts E) (quest : Quest) (names names' : List (List ℕ)) (verdict : Verdict) (left left' : Option (List ℕ)) (errors errors' : Errors E) → names ≡ names'
-    → SeesFiles K {X = X} quest names (Ok verdict) left left' errors errors' → SeesFiles K {X = Y} quest names' (Ok verdict) left left' errors errors'
-seen_whole {Y = Y} K quest names names' verdict left left' errors errors' same sees =
-    subst (λ (l : List (List ℕ)). SeesFiles K {X = Y} quest l (Ok verdict) left left' errors errors') same (record { seen = sees.seen; quiet = sees.quiet; told = tt })
+pub seen_whole : {E X Y : Type 0} (K : SinkGhosts E) (quest quest' : Quest) (names names' : List (List ℕ)) (verdict : Verdict) (left left' : Option (List ℕ)) (errors errors' : Errors E) → quest ≡ quest' → names ≡ names'
+    → SeesFiles K {X = X} quest names (Ok verdict) left left' errors errors' → SeesFiles K {X = Y} quest' names' (Ok verdict) left left' errors errors'
+seen_whole {Y = Y} K quest quest' names names' verdict left left' errors errors' alike same sees =
+    subst (λ (q : Quest). SeesFiles K {X = Y} q names' (Ok verdict) left left' errors errors') alike
+    (subst (λ (l : List (List ℕ)). SeesFiles K {X = Y} quest l (Ok verdict) left left' errors errors') same (record { seen = sees.seen; quiet = sees.quiet; told = tt }))
 
 -- where nothing was found and nothing told, each file was read to its end and has no match
 none_found : (a b : Bool) → false ≡ (a || b) → (a ≡ false) × (b ≡ false)
@@ -171,7 +173,7 @@ none_told : (xs ys : List (List ℕ)) → [] ≡ xs ++ ys → (xs ≡ []) × (ys
 none_told [] ys is = (refl, sym is)
 none_told (x ∷ xs) ys is = absurd (cc)
 
-is_clean : (quest : Quest) (name : List ℕ) (look : Look) (left left' : Option (List ℕ)) → is_found look ≡ false → look_lines name look ≡ [] → IsLookOf quest name look left left' → OfName quest.holds name (HoldsNoMatch quest.patterns) left left'
+is_clean : (quest : Quest) (name : List ℕ) (look : Look) (left left' : Option (List ℕ)) → is_found look ≡ false → look_lines name look ≡ [] → IsLookOf quest name look left left' → OfName quest.holds name (HoldsNoMatch quest.redactor) left left'
 is_clean quest name Clean left left' found told looks = looks
 is_clean quest name Found left left' found told looks = absurd (cc)
 is_clean quest name (Unread reason) left left' found told looks = absurd (cc)

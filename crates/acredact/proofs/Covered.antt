@@ -41,7 +41,7 @@ shortest_bounds (w ∷ ws) (suc k) within = omega (arith, shortest_bounds ws k (
 
 module _ (p : Patterns) (no_empty : 1 ≤ shortest (map length p.words)) (bytes : List ℕ) where
   -- what occurs has a byte
-  occurs_some : (from : ℕ) (m : Occurrence) → Occurs p No bytes from (length bytes) m → m.start < m.end
+  pub occurs_some : (from : ℕ) (m : Occurrence) → Occurs p No bytes from (length bytes) m → m.start < m.end
   occurs_some from m occurs = omega (arith, occurs.sized, shortest_bounds p.words m.pattern occurs.numbered, no_empty)
 
   -- so no answer is an empty match at the last match's end

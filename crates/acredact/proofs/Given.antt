@@ -1,15 +1,15 @@
 -- Right arguments have nothing wrong.
 use Rattle.std.proofs.Common.{◌≡◌, inl, inr, ℕ, List, [], ◌∷◌, Option, refl, sym, ap, ◌∙◌}
 use Rattle.std.specs.Prelude.{◌&&◌, not, Bool, true, false, Some, None, if◌then◌else◌, option_and_then}
-use Rattle.acredact.specs.Arguments.{Given, ItemsSoFar, all_asked, by_argument, covers_asked, fitting_by, given_by, given_from, has, mixture_of}
+use Rattle.acredact.specs.Arguments.{Given, ItemsSoFar, all_asked, by_argument, covers_asked, fitting_by, given_by, given_from, has, mixture_of, words_asked}
 use Rattle.acredact.specs.Mistakes.{IsMistakeOfCall, line_of_argument, first_mistake_line, line_from, line_or}
 use Rattle.acredact.specs.declared.arguments.Expects.{Expects}
 use Rattle.acredact.specs.declared.arguments.Expects.TheVariants.{Any, Value, Name}
 use Rattle.acredact.specs.declared.arguments.Mistake.{Mistake}
 use Rattle.acredact.specs.declared.arguments.Mistake.TheVariants.{OutOfMemory}
 use Rattle.acredact.specs.declared.arguments.Mixture.{Mixture}
-use Rattle.acredact.specs.declared.arguments.Mixture.TheVariants.{StrictKind, PseudonymKind, PseudonymWith, PseudonymTable, FormsKind}
-use Rattle.acredact.specs.declared.arguments.Word.TheVariants.{Forms, Pseudonym, Strict, Table, With}
+use Rattle.acredact.specs.declared.arguments.Mixture.TheVariants.{StrictKind, PseudonymKind, PseudonymWith, PseudonymTable, FormsKind, CountCheck, SummaryCheck, OutputCheck, WordsForms, WordsKind}
+use Rattle.acredact.specs.declared.arguments.Word.TheVariants.{Forms, Pseudonym, Strict, Table, With, AsWord, Count, Summary, Output, Check}
 
 some_same : {A : Type 0} (x y : A) → Some x ≡ Some y → x ≡ y
 some_same x y e = cc
@@ -60,6 +60,24 @@ pub forms_cover : (arguments : List (List ℕ)) (given : List Given) → all_ask
 forms_cover arguments given asked forms =
     let (same, none) = read_fits (given_by arguments) given asked in
     cover_by (has Strict given) (has Pseudonym given) (has With given) (has Table given) (covers_asked given) (has Forms given) _ none forms
+
+-- nor do forms go with words
+rest_of : (b : Bool) (mixture : Mixture) (rest : Option Mixture) → (if b then Some mixture else rest) ≡ None → rest ≡ None
+rest_of true mixture rest none = absurd (cc)
+rest_of false mixture rest none = none
+
+no_words : (covers words forms : Bool) (rest : Option Mixture)
+    → (if words && not covers then Some WordsKind else if words && forms then Some WordsForms else rest) ≡ None
+    → forms ≡ true → (covers && words) ≡ false
+no_words false words forms rest none asked = refl
+no_words true false forms rest none asked = refl
+no_words true true true rest none asked = absurd (cc)
+no_words true true false rest none asked = absurd (cc)
+
+pub forms_unworded : (arguments : List (List ℕ)) (given : List Given) → all_asked arguments ≡ Some given → has Forms given ≡ true → words_asked given ≡ false
+forms_unworded arguments given asked forms =
+    let none = (read_fits (given_by arguments) given asked).1 in
+    no_words (covers_asked given) (has AsWord given) (has Forms given) _ (rest_of (has Output given && has Check given) OutputCheck _ (rest_of (has Summary given && has Check given) SummaryCheck _ (rest_of (has Count given && has Check given) CountCheck _ (rest_of (has Forms given && not (covers_asked given)) FormsKind _ (rest_of (has Pseudonym given && has Table given) PseudonymTable _ (rest_of (has Pseudonym given && has With given) PseudonymWith _ (rest_of (has Pseudonym given && not (covers_asked given)) PseudonymKind _ (rest_of (has Strict given && not (covers_asked given)) StrictKind _ none)))))))) forms
 
 -- nothing is wrong with right arguments but that memory runs out
 pub memory_alone : (arguments : List (List ℕ)) (given : List Given) (mistake : Mistake) → all_asked arguments ≡ Some given → IsMistakeOfCall arguments mistake → mistake ≡ OutOfMemory

@@ -1,23 +1,22 @@
 -- What shows a secret in a form lies in a replaced range.
-use Rattle.std.proofs.Common.{◌≡◌, ◌⊎◌, inl, inr, ℕ, zero, suc, ◌+◌, ◌-◌, ◌<◌, ◌≤◌, Bool, true, false, cond, List, [], ◌∷◌, ◌++◌, Option, length, length-append, map, take, drop, refl, sym, ap, subst, ◌∙◌, append_assoc, arith}
+use Rattle.std.proofs.Common.{◌≡◌, inl, inr, ℕ, zero, suc, ◌+◌, ◌-◌, ◌<◌, ◌≤◌, Bool, true, false, cond, List, [], ◌∷◌, ◌++◌, Option, length, length-append, map, take, drop, refl, sym, ap, subst, ◌∙◌, arith}
 use Rattle.std.specs.Prelude.{All, Contains, MatchBool, Some, None, chars, flat_map, if◌then◌else◌, nat_lt, slice_index_or, slice_range}
-use Rattle.std.specs.Borrow.{Bor}
 use Rattle.std.specs.declared.io.traits.Read.{Ghosts as Readers}
 use Rattle.std.specs.declared.io.traits.Write.{Ghosts as Writers}
-use Rattle.std.proofs.lemmas.Bool.{ltb-true}
+use Rattle.std.proofs.lemmas.Bool.{lt-ltb, ltb-true}
 use Rattle.std.proofs.lemmas.List.Elements.{All-contains, Contains-append_left, Contains-append_right}
 use Rattle.std.proofs.Math.Seq.{take-append_seam}
 use Rattle.base64.specs.Engines.{standard, standard_no_pad, url_safe, url_safe_no_pad}
 use Rattle.base64.specs.GeneralPurpose.{encode_of}
 use Rattle.hex.specs.Hex.{encode_lower, encode_upper}
-use Rattle.aho_core.specs.Bytes.{IsSameWord, folded_word}
+use Rattle.aho_core.specs.Bytes.{folded_word}
 use Rattle.aho_core.specs.Cover.{IsCovered}
 use Rattle.aho_core.specs.Listing.{IsMember}
 use Rattle.aho_core.specs.Occurrence.{Occurrence}
 use Rattle.aho_core.specs.Occurs.{OccursIn}
 use Rattle.aho_core.specs.Patterns.{Patterns, pattern_at}
 use Rattle.aho_core.specs.Search.{plain_search}
-use Rattle.secret_forms.specs.Forms.{HidesForm}
+use Rattle.secret_forms.specs.Forms.{HidesForm, HidesNested, form_patterns}
 use Rattle.secret_forms.specs.Json.{HidesCharacters, json_spellings, json_ways}
 use Rattle.secret_forms.specs.Law.{HidesBits, HidesEach, IsHidden}
 use Rattle.secret_forms.specs.Lines.{HidesLine, line_patterns}
@@ -26,14 +25,15 @@ use Rattle.secret_forms.specs.declared.bytewise.Spelling.{Spelling}
 use Rattle.secret_forms.specs.declared.form.Form.{Form}
 use Rattle.secret_forms.specs.declared.form.Form.TheVariants.{Base64, Hex, Url, Json, Xml, Shell, Lines}
 use Rattle.acredact.specs.Files.{AreRedacted, RedactsText, Work, WritesText}
-use Rattle.acredact.specs.Forms.{HideSecrets, HidesSecret, form_patterns_of, form_secret, forms_from, forms_of, with_forms}
-use Rattle.acredact.specs.Hidden.{AreHidden, HidesForms, NoneShows, ShowsBits, SpellsEach, ShowsForm, SpellsForm}
-use Rattle.acredact.specs.Secrets.{IsRedaction, NoByteIsKept, NoneIsWhole, Redactor}
+use Rattle.acredact.specs.Forms.{AskedForms, HideSecrets, HidesNestedForm, HidesSecret, filled, form_secret, forms_from, forms_of, once_patterns, asked_form_patterns, twice_patterns, with_forms}
+use Rattle.acredact.specs.Hidden.{AreHidden, HidesForms, NoneShows, NoneShowsOnce, NoneShowsTwice, ShowsBits, SpellsEach, ShowsForm, SpellsForm}
+use Rattle.acredact.specs.Secrets.{NoByteIsKept, NoneIsWhole, Redactor}
 use Rattle.acredact.specs.Tables.{Secret, patterns_in}
-use Rattle.programs.specs.Streams.{bytes_left}
+use Rattle.acredact.specs.declared.forms.Nested.{Nested}
 use Rattle.aho_cover.specs.Pieces.{PieceRule}
+use Rattle.aho_cover.specs.Words.{CountsIn}
 use Rattle.pseudonyms.specs.Pseudonyms.{pseudonym_rule}
-use Rattle.acredact.specs.Arguments.{Given, covers_asked, has, last_value}
+use Rattle.acredact.specs.Arguments.{Given, covers_asked, has, words_asked}
 use Rattle.acredact.specs.Calls.{Call, HidesCall, RedactsCall, names_asked, work_by}
 use Rattle.acredact.specs.Loading.{Loaded, loaded_by}
 use Rattle.acredact.specs.Named.{all_named, named_secret}
@@ -96,10 +96,10 @@ default_alike (word ∷ words) zero d e below = refl
 default_alike (word ∷ words) (suc number) d e below = default_alike words number d e (omega (arith, below))
 
 -- so what is hidden by some of the patterns that are searched for is covered
-hidden_covered : (p : Patterns) (patterns : List (List ℕ)) (text : List ℕ) (place : ℕ) → ((pattern : List ℕ) → Contains patterns pattern → Contains p.words pattern)
+hidden_covered : (p : Patterns) (patterns : List (List ℕ)) (text : List ℕ) (place : ℕ) → ((pattern : List ℕ) → 1 ≤ length pattern → Contains patterns pattern → Contains p.words pattern)
     → IsHidden patterns text place → IsCovered (OccursIn p (plain_search text)) place
 hidden_covered p patterns text place within hidden =
-    let (number, below, is) = within hidden.pattern hidden.listed in record {
+    let (number, below, is) = within hidden.pattern (omega (arith, hidden.after_start, hidden.before_end)) hidden.listed in record {
       found = record { pattern = number; start = length hidden.ahead; end = length hidden.ahead + length hidden.pattern };
       member = occurs_there p text number hidden.pattern hidden.ahead hidden.behind below (default_alike p.words number [] hidden.pattern below ∙ is) hidden.occurs;
       after_start = hidden.after_start;
@@ -107,11 +107,29 @@ hidden_covered p patterns text place within hidden =
     }
 
 -- the patterns of a secret's forms are among all
-contains_head : (xs : List (List ℕ)) (x : List ℕ) → Contains (x ∷ xs) x
-contains_head xs x = (0, omega arith, refl)
-
 contains_tail : (xs : List (List ℕ)) (y x : List ℕ) → Contains xs x → Contains (y ∷ xs) x
 contains_tail xs y x (k, below, is) = (suc k, omega (arith, below), is)
+
+-- one that is not empty stays among those that are not
+contains_filled : (patterns : List (List ℕ)) (pattern : List ℕ) → 1 ≤ length pattern → Contains patterns pattern → Contains (filled patterns) pattern
+contains_filled [] pattern some (k, below, is) = absurd (omega (arith, below))
+contains_filled (p ∷ patterns) pattern some (zero, below, is) =
+    let long : nat_lt 0 (length p) ≡ true = lt-ltb _ _ (omega (arith, some, ap length is)) in
+    subst (λ (b : Bool). Contains (cond b (p ∷ filled patterns) (filled patterns)) pattern) (sym long) (0, omega arith, is)
+contains_filled (p ∷ patterns) pattern some (suc k, below, is) = by (nat_lt 0 (length p)) (contains_filled patterns pattern some (k, omega (arith, below), is))
+  where
+    by : (b : Bool) → Contains (filled patterns) pattern → Contains (cond b (p ∷ filled patterns) (filled patterns)) pattern
+    by true listed = contains_tail (filled patterns) p pattern listed
+    by false listed = listed
+
+-- those of a form of a form are among those of all
+contains_each : (pattern : List ℕ) (nested : List Nested) (one : Nested) (k : ℕ) → k < length nested → slice_index_or nested k one ≡ one
+    → (made : List ℕ) → Contains (twice_patterns pattern one) made → Contains (flat_map (twice_patterns pattern) nested) made
+contains_each pattern [] one k below is made listed = absurd (omega (arith, below))
+contains_each pattern (first ∷ nested) one zero below is made listed =
+    Contains-append_left (twice_patterns pattern first) (flat_map (twice_patterns pattern) nested) made (subst (λ (n : Nested). Contains (twice_patterns pattern n) made) (sym is) listed)
+contains_each pattern (first ∷ nested) one (suc k) below is made listed =
+    Contains-append_right (twice_patterns pattern first) (flat_map (twice_patterns pattern) nested) made (contains_each pattern nested one k (omega (arith, below)) is made listed)
 
 patterns_both : (xs ys : List Secret) → patterns_in (xs ++ ys) ≡ patterns_in xs ++ patterns_in ys
 patterns_both [] ys = refl
@@ -121,65 +139,89 @@ patterns_made : (number : ℕ) (secret : Secret) (patterns : List (List ℕ)) �
 patterns_made number secret [] = refl
 patterns_made number secret (p ∷ patterns) = ap (λ l. p ∷ l) (patterns_made number secret patterns)
 
-forms_within : (forms : List Form) (number : ℕ) (secret : Secret) → 4 ≤ length secret.pattern → patterns_in (forms_of forms number secret) ≡ form_patterns_of forms secret.pattern
-forms_within forms number secret long = by (nat_lt (length secret.pattern) 4) refl
+forms_within : (asked : AskedForms) (number : ℕ) (secret : Secret) → 4 ≤ length secret.pattern → patterns_in (forms_of asked number secret) ≡ filled (asked_form_patterns asked secret.pattern)
+forms_within asked number secret long = by (nat_lt (length secret.pattern) 4) refl
   where
-    by : (b : Bool) → nat_lt (length secret.pattern) 4 ≡ b → patterns_in (if b then [] else map (form_secret number secret) (form_patterns_of forms secret.pattern)) ≡ form_patterns_of forms secret.pattern
+    by : (b : Bool) → nat_lt (length secret.pattern) 4 ≡ b
+        → patterns_in (if b then [] else map (form_secret number secret) (filled (asked_form_patterns asked secret.pattern))) ≡ filled (asked_form_patterns asked secret.pattern)
     by true is = absurd (omega (arith, long, ltb-true _ _ is))
-    by false is = patterns_made number secret (form_patterns_of forms secret.pattern)
+    by false is = patterns_made number secret (filled (asked_form_patterns asked secret.pattern))
 
-all_within : (forms : List Form) (number : ℕ) (secrets : List Secret) (secret : Secret) (k : ℕ) → k < length secrets → slice_index_or secrets k secret ≡ secret → 4 ≤ length secret.pattern
-    → (pattern : List ℕ) → Contains (form_patterns_of forms secret.pattern) pattern → Contains (patterns_in (forms_from forms number secrets)) pattern
-all_within forms number [] secret k below is long pattern listed = absurd (omega (arith, below))
-all_within forms number (first ∷ secrets) secret zero below is long pattern listed =
+all_within : (asked : AskedForms) (number : ℕ) (secrets : List Secret) (secret : Secret) (k : ℕ) → k < length secrets → slice_index_or secrets k secret ≡ secret → 4 ≤ length secret.pattern
+    → (pattern : List ℕ) → Contains (filled (asked_form_patterns asked secret.pattern)) pattern → Contains (patterns_in (forms_from asked number secrets)) pattern
+all_within asked number [] secret k below is long pattern listed = absurd (omega (arith, below))
+all_within asked number (first ∷ secrets) secret zero below is long pattern listed =
     let same : first ≡ secret = is in
-    let own : Contains (patterns_in (forms_of forms number first)) pattern =
-    subst (λ (l : List (List ℕ)). Contains l pattern) (sym (ap (λ s. patterns_in (forms_of forms number s)) same ∙ forms_within forms number secret long)) listed in
-    subst (λ (l : List (List ℕ)). Contains l pattern) (sym (patterns_both (forms_of forms number first) (forms_from forms (number + 1) secrets)))
-    (Contains-append_left (patterns_in (forms_of forms number first)) (patterns_in (forms_from forms (number + 1) secrets)) pattern own)
-all_within forms number (first ∷ secrets) secret (suc k) below is long pattern listed =
-    subst (λ (l : List (List ℕ)). Contains l pattern) (sym (patterns_both (forms_of forms number first) (forms_from forms (number + 1) secrets)))
-    (Contains-append_right (patterns_in (forms_of forms number first)) (patterns_in (forms_from forms (number + 1) secrets)) pattern
-    (all_within forms (number + 1) secrets secret k (omega (arith, below)) is long pattern listed))
+    let own : Contains (patterns_in (forms_of asked number first)) pattern =
+    subst (λ (l : List (List ℕ)). Contains l pattern) (sym (ap (λ s. patterns_in (forms_of asked number s)) same ∙ forms_within asked number secret long)) listed in
+    subst (λ (l : List (List ℕ)). Contains l pattern) (sym (patterns_both (forms_of asked number first) (forms_from asked (number + 1) secrets)))
+    (Contains-append_left (patterns_in (forms_of asked number first)) (patterns_in (forms_from asked (number + 1) secrets)) pattern own)
+all_within asked number (first ∷ secrets) secret (suc k) below is long pattern listed =
+    subst (λ (l : List (List ℕ)). Contains l pattern) (sym (patterns_both (forms_of asked number first) (forms_from asked (number + 1) secrets)))
+    (Contains-append_right (patterns_in (forms_of asked number first)) (patterns_in (forms_from asked (number + 1) secrets)) pattern
+    (all_within asked (number + 1) secrets secret k (omega (arith, below)) is long pattern listed))
 
-pub with_within : (forms : List Form) (secrets : List Secret) (secret : Secret) → Contains secrets secret → 4 ≤ length secret.pattern
-    → (pattern : List ℕ) → Contains (form_patterns_of forms secret.pattern) pattern → Contains (patterns_in (with_forms forms secrets)) pattern
-with_within forms secrets secret (k, below, is) long pattern listed =
-    subst (λ (l : List (List ℕ)). Contains l pattern) (sym (patterns_both secrets (forms_from forms 0 secrets)))
-    (Contains-append_right (patterns_in secrets) (patterns_in (forms_from forms 0 secrets)) pattern (all_within forms 0 secrets secret k below is long pattern listed))
+with_within : (asked : AskedForms) (secrets : List Secret) (secret : Secret) → Contains secrets secret → 4 ≤ length secret.pattern
+    → (pattern : List ℕ) → 1 ≤ length pattern → Contains (asked_form_patterns asked secret.pattern) pattern → Contains (patterns_in (with_forms asked secrets)) pattern
+with_within asked secrets secret (k, below, is) long pattern some listed =
+    subst (λ (l : List (List ℕ)). Contains l pattern) (sym (patterns_both secrets (forms_from asked 0 secrets)))
+    (Contains-append_right (patterns_in secrets) (patterns_in (forms_from asked 0 secrets)) pattern
+    (all_within asked 0 secrets secret k below is long pattern (contains_filled (asked_form_patterns asked secret.pattern) pattern some listed)))
 
 -- no form shows what stays of a text
-module _ (forms : List Form) (secrets : List Secret) (r : Redactor) (covers : r.covers ≡ true) (words : r.patterns.words ≡ patterns_in (with_forms forms secrets)) (laws : HideSecrets forms secrets) where
-  none_shows : (text : List ℕ) (ranges : List Occurrence) → NoByteIsKept r.patterns text ranges → NoneShows forms secrets text ranges
-  none_shows text ranges kept form secret place asked listed long shows =
-      let patterns = form_patterns_of forms secret.pattern in
-      let law : HidesForm patterns secret.pattern form = All-contains (HidesForm patterns secret.pattern) forms form (All-contains (HidesSecret forms) secrets secret laws listed long) asked in
-      kept.hidden place
-      (hidden_covered r.patterns patterns text place
-      (λ pattern one. subst (λ (l : List (List ℕ)). Contains l pattern) (sym words) (with_within forms secrets secret listed long pattern one))
-      (form_hidden patterns secret.pattern text place form law shows))
+module _ (asked : AskedForms) (secrets : List Secret) (r : Redactor) (covers : r.covers ≡ true) (all : r.words ≡ false) (words : r.patterns.words ≡ patterns_in (with_forms asked secrets)) (laws : HideSecrets asked secrets) where
+  asked_within : (secret : Secret) → Contains secrets secret → 4 ≤ length secret.pattern → (pattern : List ℕ) → 1 ≤ length pattern → Contains (asked_form_patterns asked secret.pattern) pattern → Contains r.patterns.words pattern
+  asked_within secret listed long pattern some one = subst (λ (l : List (List ℕ)). Contains l pattern) (sym words) (with_within asked secrets secret listed long pattern some one)
 
-  text_hidden : (left left' held held' : Option (List ℕ)) → RedactsText r left left' held held' → WritesText (HidesForms forms secrets r) left left' held held'
+  -- what some of the patterns hide lies in a replaced range
+  none_kept : (text : List ℕ) (ranges : List Occurrence) (place : ℕ) (patterns : List (List ℕ)) → NoByteIsKept r text ranges → ((pattern : List ℕ) → 1 ≤ length pattern → Contains patterns pattern → Contains r.patterns.words pattern)
+      → IsHidden patterns text place → IsCovered (IsMember ranges) place
+  none_kept text ranges place patterns kept within hidden =
+      kept.hidden place (subst (λ (b : Bool). IsCovered (CountsIn b r.patterns text) place) (sym all) (hidden_covered r.patterns patterns text place within hidden))
+
+  none_once : (text : List ℕ) (ranges : List Occurrence) → NoByteIsKept r text ranges → NoneShowsOnce asked.forms secrets text ranges
+  none_once text ranges kept form secret place among listed long shows =
+      let patterns = once_patterns asked.forms secret.pattern in
+      let nested = flat_map (twice_patterns secret.pattern) asked.nested in
+      let law : HidesForm patterns secret.pattern form = All-contains (HidesForm patterns secret.pattern) asked.forms form (All-contains (HidesSecret asked) secrets secret laws listed long).0 among in
+      none_kept text ranges place patterns kept
+      (λ pattern some one. asked_within secret listed long pattern some (Contains-append_left patterns nested pattern one))
+      (form_hidden patterns secret.pattern text place form law shows)
+
+  none_twice : (text : List ℕ) (ranges : List Occurrence) → NoByteIsKept r text ranges → NoneShowsTwice asked.nested secrets text ranges
+  none_twice text ranges kept one secret made place (k, below, is) listed long of shows =
+      let patterns = twice_patterns secret.pattern one in
+      let law : HidesNestedForm secret.pattern one =
+      All-contains (HidesNestedForm secret.pattern) asked.nested one (All-contains (HidesSecret asked) secrets secret laws listed long).1 (k, below, is) in
+      none_kept text ranges place patterns kept
+      (λ pattern some among. asked_within secret listed long pattern some
+      (Contains-append_right (once_patterns asked.forms secret.pattern) (flat_map (twice_patterns secret.pattern) asked.nested) pattern (contains_each secret.pattern asked.nested one k below is pattern among)))
+      (form_hidden patterns made text place one.outer (All-contains (HidesNested patterns one.outer) (form_patterns secret.pattern one.inner) made law of) shows)
+
+  none_shows : (text : List ℕ) (ranges : List Occurrence) → NoByteIsKept r text ranges → NoneShows asked secrets text ranges
+  none_shows text ranges kept = record { once = none_once text ranges kept; twice = none_twice text ranges kept }
+
+  text_hidden : (left left' held held' : Option (List ℕ)) → RedactsText r left left' held held' → WritesText (HidesForms asked secrets r) left left' held held'
   text_hidden left left' held held' of =
       let is = of.redacts in
       record {
         text = of.text;
         reads = of.reads;
         redaction = of.redaction;
-        redacts = record { redacts = is; none = none_shows of.text is.ranges (subst (λ (b : Bool). MatchBool b (NoByteIsKept r.patterns of.text is.ranges) (NoneIsWhole r.patterns of.text is.ranges)) covers is.safe) };
+        redacts = record { redacts = is; none = none_shows of.text is.ranges (subst (λ (b : Bool). MatchBool b (NoByteIsKept r of.text is.ranges) (NoneIsWhole r.patterns of.text is.ranges)) covers is.safe) };
         written = of.written;
       }
 
 -- nor what stays of any file
-pub hidden_of : (forms : List Form) (secrets : List Secret) (work : Work) → work.redactor.covers ≡ true → work.redactor.patterns.words ≡ patterns_in (with_forms forms secrets) → HideSecrets forms secrets
-    → (names : List (List ℕ)) (left left' held held' : Option (List ℕ)) → AreRedacted work names left left' held held' → AreHidden forms secrets work names left left' held held'
-hidden_of forms secrets work covers words laws [] left left' held held' are = are
-hidden_of forms secrets work covers words laws (name ∷ names) left left' held held' (between, meanwhile, apart, is, others) = (
+pub hidden_of : (asked : AskedForms) (secrets : List Secret) (work : Work) → work.redactor.covers ≡ true → work.redactor.words ≡ false → work.redactor.patterns.words ≡ patterns_in (with_forms asked secrets)
+    → HideSecrets asked secrets → (names : List (List ℕ)) (left left' held held' : Option (List ℕ)) → AreRedacted work names left left' held held' → AreHidden asked secrets work names left left' held held'
+hidden_of asked secrets work covers all words laws [] left left' held held' are = are
+hidden_of asked secrets work covers all words laws (name ∷ names) left left' held held' (between, meanwhile, apart, is, others) = (
   between,
   meanwhile,
-  named_as work.holds name (λ l l'. RedactsText work.redactor l l' held meanwhile) (λ l l'. WritesText (HidesForms forms secrets work.redactor) l l' held meanwhile)
-      (λ l l' of. text_hidden forms secrets work.redactor covers words laws l l' held meanwhile of) left between is,
-  hidden_of forms secrets work covers words laws names between left' meanwhile held' others,
+  named_as work.holds name (λ l l'. RedactsText work.redactor l l' held meanwhile) (λ l l'. WritesText (HidesForms asked secrets work.redactor) l l' held meanwhile)
+      (λ l l' of. text_hidden asked secrets work.redactor covers all words laws l l' held meanwhile of) left between is,
+  hidden_of asked secrets work covers all words laws names between left' meanwhile held' others,
 )
 
 -- a name changes no pattern
@@ -199,14 +241,14 @@ loaded_patterns given secrets (Some key) = by (has FormsOption given)
     by false = refl
 
 -- so no form shows a secret that a call redacts by a cover
-pub call_hides : {R W E : Type 0} {Reads : Readers R} (Writes : Writers W) (call : Call) (left : Option (List ℕ)) (streams streams' : Streams R W E Reads) → covers_asked call.given ≡ true
+pub call_hides : {R W E : Type 0} {Reads : Readers R} (Writes : Writers W) (call : Call) (left : Option (List ℕ)) (streams streams' : Streams R W E Reads) → covers_asked call.given ≡ true → words_asked call.given ≡ false
     → RedactsCall Writes call left streams streams' → HidesCall Writes call left streams streams'
-call_hides Writes call left streams streams' covers of =
+call_hides Writes call left streams streams' covers every of =
     let all = of.loaded.given_all in
     record {
       load = of.load;
       between = of.between;
       loaded = of.loaded;
-      hidden = hidden_of _ all.plain (work_by call of.load) covers
+      hidden = hidden_of _ all.plain (work_by call of.load) covers every
           (ap (λ (l : Loaded). patterns_in l.secrets) of.loaded.is ∙ loaded_patterns call.given of.loaded.secrets of.loaded.key ∙ ap patterns_in all.are) all.hidden (names_asked call.given) _ _ _ _ of.redacted;
     }

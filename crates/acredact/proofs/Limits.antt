@@ -1,5 +1,5 @@
 -- Sums of counts that begin at zero are no greater than what was read.
-use Rattle.std.proofs.Common.{◌≡◌, ℕ, zero, suc, ◌<◌, ◌≤◌, List, [], ◌∷◌, Option, true, false, length, refl, subst, arith}
+use Rattle.std.proofs.Common.{◌≡◌, ℕ, List, [], ◌∷◌, Option, true, false, refl, arith}
 use Rattle.std.specs.Prelude.{Bool}
 use Rattle.std.specs.List.{sum}
 use Rattle.acredact.specs.Bounds.{NumbersOfAll}

@@ -1,40 +1,53 @@
--- What a look at a stream says, by what the first call of an iterator over its matches answers.
-use Rattle.std.proofs.Common.{◌≡◌, ◌≢◌, ℕ, List, [], ◌∷◌, Option, true, false, refl, sym, ap, subst, ◌∙◌, append-nil, arith}
-use Rattle.std.specs.Prelude.{Bool, None, Some, Result, Ok, Err, IfOk}
+-- What a look at a stream says, by what the first call of an iterator over its matches answers, or by what a cover of its words counts.
+use Rattle.std.proofs.Common.{◌≡◌, ◌≢◌, inl, ℕ, ◌<◌, ◌≤◌, List, [], ◌∷◌, Option, true, false, length, map, refl, sym, ap, subst, ◌∙◌, arith, le_refl}
+use Rattle.std.specs.Prelude.{Bool, None, Some, Result, Ok, Err, IfOk, filter, nat_eq, slice_index}
 use Rattle.std.specs.Io.KnownBytes.{Consumes, IsAtEnd}
 use Rattle.std.proofs.KnownBytes.{Consumes-nil}
+use Rattle.std.proofs.lemmas.Bool.{eq-eqb}
 use Rattle.aho_core.specs.Answer.{IsAnswer}
 use Rattle.aho_core.specs.Iteration.{IsNextFind}
+use Rattle.aho_core.specs.Laws.{shortest}
+use Rattle.aho_core.specs.Listing.{IsMember}
 use Rattle.aho_core.specs.Occurrence.{Occurrence}
 use Rattle.aho_core.specs.Patterns.{Patterns}
 use Rattle.aho_core.specs.Search.{plain_search}
 use Rattle.aho_core.specs.declared.error.stream.StreamError.{StreamError}
 use Rattle.aho_core.specs.declared.search.Anchored.TheVariants.{No}
 use Rattle.aho_core.specs.declared.error.stream.StreamError.TheVariants.{Match as Refused, Read, Write, WriteZero, Memory, PositionLimit}
+use Rattle.aho_cover.specs.Counting.{CountsThese, runs_named}
+use Rattle.aho_cover.specs.Covers.{CountsRunsWith, CountsWrittenWith}
+use Rattle.aho_cover.specs.Pieces.{PieceRule}
+use Rattle.aho_cover.specs.Words.{AreRunsWith, IsWordIn, all_runs}
+use Rattle.aho_cover.proofs.Chosen.{all-covers, all-made}
 use Rattle.aho_devices.specs.Counts.{counted}
-use Rattle.aho_devices.specs.Refusals.{is_read_fault}
+use Rattle.aho_devices.specs.Errors.{CountsErrors}
+use Rattle.aho_devices.specs.Refusals.{is_read_fault, is_write_fault, is_write_of_nothing}
+use Rattle.aho_devices.specs.declared.device.Sink.{Ghosts as SinkGhosts}
 use Rattle.aho_devices.specs.declared.device.Source.{Ghosts as SourceGhosts}
 use Rattle.aho_automaton.specs.declared.automaton.Automaton.{Ghosts}
-use Rattle.aho_stream.specs.After.{MayFollow}
 use Rattle.aho_stream.specs.FindRuns.{FindsAlong, FindsAll, FindsSoFar}
 use Rattle.aho_stream.specs.Finds.{FindsError, FindsNextInStream}
 use Rattle.aho_stream.specs.Iterators.{CanGoOn}
-use Rattle.aho_stream.specs.Replacing.{Refuses}
+use Rattle.aho_stream.specs.Replacing.{IsStreamFault, Refuses}
 use Rattle.aho_stream.specs.StreamRun.{CanBegin}
 use Rattle.aho_stream.specs.declared.finds.StreamFindIter.{StreamFindIter}
 use Rattle.aho_stream.specs.declared.progress.StreamProgress.{StreamProgress}
+use Rattle.aho_laws.proofs.Members.{member-filter}
 use Rattle.aho_stream.proofs.FindRuns.{find_steps}
 use Rattle.acredact.specs.Faults.{IsReadReason}
-use Rattle.acredact.specs.Looks.{IsLook, IsLookEnd, LooksAt, is_failed_look, look_of}
+use Rattle.acredact.specs.Looks.{IsLook, IsLookEnd, LooksAt, SomeCounts, is_failed_look, look_of, sought}
+use Rattle.acredact.specs.Secrets.{Redactor}
+use Rattle.acredact.proofs.Covered.{occurs_some}
+use Rattle.acredact.proofs.Redactions.{all_of}
+
+-- what is answered
+abbrev answered : Result Bool StreamError → Bool
+answered (Ok found) = found
+answered (Err error) = false
 
 -- the first find is the answer of the search
 first_answer : (p : Patterns) (bytes : List ℕ) (found : Option Occurrence) → IsNextFind p (plain_search bytes) None found → IsAnswer p (plain_search bytes) found
 first_answer p bytes found (answer, is, same) = subst (IsAnswer p (plain_search bytes)) (sym same) is
-
--- nothing may always follow
-nothing_follows : (ended : Bool) → MayFollow ended []
-nothing_follows true = refl
-nothing_follows false = tt
 
 -- an error of the iterator is one of a look
 error_ends : (p : Patterns) (s s' : StreamProgress) (given : List ℕ) (error : StreamError) → FindsError p s s' given error → IsLookEnd error
@@ -55,7 +68,7 @@ fault_same A B PositionLimit = refl
 
 module _ {A R : Type 0} (G : Ghosts A) (S : SourceGhosts R) (p : Patterns) (it rest : StreamFindIter A R) (along : FindsAlong S (find_steps G S) p it) (can : CanGoOn G it.chunks) where
   -- there is none
-  pub looks_none : FindsNextInStream G S it.chunks rest.chunks None → LooksAt S p (Ok false) it.chunks.source.now rest.chunks.source.now
+  pub looks_none : FindsNextInStream G S it.chunks rest.chunks None → LooksAt S (sought p false) (Ok false) it.chunks.source.now rest.chunks.source.now
   looks_none step =
       let all : FindsAll S p it.chunks.source.now rest.chunks.source.now [] = along.all [] rest (it, refl, step) refl in
       record {
@@ -69,23 +82,24 @@ module _ {A R : Type 0} (G : Ghosts A) (S : SourceGhosts R) (p : Patterns) (it r
       }
 
   -- there is one
-  pub looks_some : (m : Occurrence) → FindsNextInStream G S it.chunks rest.chunks (Some (Ok m)) → LooksAt S p (Ok true) it.chunks.source.now rest.chunks.source.now
+  pub looks_some : (m : Occurrence) → FindsNextInStream G S it.chunks rest.chunks (Some (Ok m)) → LooksAt S (sought p false) (Ok true) it.chunks.source.now rest.chunks.source.now
   looks_some m step =
       let so : FindsSoFar S p it.chunks.source.now rest.chunks.source.now (Ok m ∷ []) = along.so_far (Ok m ∷ []) rest (rest, step, refl) in
-      let first : IsNextFind p (plain_search so.given) None (Some m) =
-      subst (λ (bytes : List ℕ). IsNextFind p (plain_search bytes) None (Some m)) (append-nil so.given) (so.first [] (nothing_follows so.ended)).0 in
       record {
         given = so.given;
         ended = so.ended;
         gives = so.gives;
         unmatched = λ (is : Ok true ≡ Ok false). absurd (cc);
-        matched = λ is. (m, (first_answer p so.given (Some m) first).0);
+        matched = λ is bytes may. (
+          m,
+          (first_answer p bytes (Some m) (subst (λ (l : List ℕ). IsNextFind p (plain_search l) None (Some m)) (sym may.1) (so.first may.0 may.2).0)).0,
+        );
         read_failed = step.call.read_failed;
         only = tt;
       }
 
   -- the stream cannot be read on
-  pub looks_error : (error : StreamError) → FindsNextInStream G S it.chunks rest.chunks (Some (Err error)) → LooksAt S p (Err error) it.chunks.source.now rest.chunks.source.now
+  pub looks_error : (error : StreamError) → FindsNextInStream G S it.chunks rest.chunks (Some (Err error)) → LooksAt S (sought p false) (Err error) it.chunks.source.now rest.chunks.source.now
   looks_error error step =
       let so : FindsSoFar S p it.chunks.source.now rest.chunks.source.now (Err error ∷ []) = along.so_far (Err error ∷ []) rest (rest, step, refl) in
       record {
@@ -99,8 +113,8 @@ module _ {A R : Type 0} (G : Ghosts A) (S : SourceGhosts R) (p : Patterns) (it r
       }
 
 -- nothing was read, since there was no memory
-pub looks_memory : {R : Type 0} (S : SourceGhosts R) (p : Patterns) (source : R) → LooksAt S p (Err Memory) source source
-looks_memory S p source = record {
+pub looks_memory : {R : Type 0} (S : SourceGhosts R) (r : Redactor) (source : R) → LooksAt S r (Err Memory) source source
+looks_memory S r source = record {
   given = [];
   ended = false;
   gives = record { bytes = Consumes-nil (S.remaining source); end = refl };
@@ -114,8 +128,94 @@ looks_memory S p source = record {
 pub memory_of : {A T : Type 0} (G : Ghosts A) (automaton : A) (error : StreamError) → CanBegin G automaton → Refuses {A = T} (G.lengths automaton) (G.start automaton No) (Err error) → error ≡ Memory
 memory_of G automaton error can refuses = refuses.memory can.0 can.1 can.2
 
+-- a count of runs tells of one
+run_of : (number : ℕ) (runs : List Occurrence) → 1 ≤ runs_named number runs → (run : Occurrence) × IsMember runs run
+run_of number [] some = let none : runs_named number [] ≡ 0 = refl in absurd (omega (arith, some, none))
+run_of number (run ∷ runs) some = (run, inl refl)
+
+-- and one is counted
+some_listed : (xs : List Occurrence) (x : Occurrence) → IsMember xs x → 1 ≤ length xs
+some_listed [] x member = absurd member
+some_listed (y ∷ xs) x member = omega arith
+
+named_some : (run : Occurrence) (runs : List Occurrence) → IsMember runs run → 1 ≤ runs_named run.pattern runs
+named_some run runs member =
+    let test = λ (other : Occurrence). nat_eq other.pattern run.pattern in
+    some_listed (filter test runs) run (member-filter test runs run (eq-eqb run.pattern run.pattern refl) member)
+
+module _ {R : Type 0} (S : SourceGhosts R) (p : Patterns) (AreSearched : Patterns → Type 0) (of : AreSearched p) (some : 1 ≤ shortest (map length p.words)) (source source' : R) (zeros counts : List ℕ)
+    (sized : length zeros ≡ length p.words) (zero : (number : ℕ) → number < length zeros → slice_index zeros number ≡ 0) (whole : CountsRunsWith S AreSearched true source source' zeros counts) where
+  abbrev Runs : List Occurrence
+  Runs = all_runs true p whole.given
+
+  runs_are : AreRunsWith true p whole.given Runs
+  runs_are = all-made p whole.given true
+
+  counted_so : CountsThese Runs zeros counts
+  counted_so = whole.counted p Runs of runs_are
+
+  -- a run has a count
+  run_numbered : (run : Occurrence) → IsMember Runs run → run.pattern < length zeros
+  run_numbered run member = let is_run = (runs_are.members run).0 member in omega (arith, is_run.named, is_run.longest_is.0.0.occurs.numbered, sized)
+
+  -- where all counts stay zero no word stands in what was given
+  none_stands : ((number : ℕ) → number < length counts → slice_index counts number ≡ 0) → (m : Occurrence) → IsWordIn p whole.given m → ⊥
+  none_stands none m word =
+      let full = occurs_some p some whole.given 0 m word.occurs in
+      let covered = (all-covers p whole.given true).has m.start (record { found = m; member = word; after_start = le_refl m.start; before_end = full }) in
+      let run = covered.found in
+      let within = run_numbered run covered.member in
+      omega (arith, named_some run Runs covered.member, counted_so.grown run.pattern within, zero run.pattern within, none run.pattern (omega (arith, within, counted_so.as_many)))
+
+  -- and where one does not some word does
+  one_stands : (number : ℕ) → number < length counts → 1 ≤ slice_index counts number → SomeCounts (sought p true) whole.given
+  one_stands number within one =
+      let below : number < length zeros = omega (arith, within, counted_so.as_many) in
+      let (run, member) = run_of number Runs (omega (arith, one, counted_so.grown number below, zero number below)) in
+      let is_run = (runs_are.members run).0 member in
+      (is_run.longest, is_run.longest_is.0.0)
+
+  -- so a look for words says what the counts do
+  pub looks_counted : (found : Bool) → (found ≡ true → (number : ℕ) × (number < length counts) × (1 ≤ slice_index counts number)) → (found ≡ false → (number : ℕ) → number < length counts → slice_index counts number ≡ 0)
+      → S.failures source' ≡ S.failures source → LooksAt S (sought p true) (Ok found) source source'
+  looks_counted found one none failed = record {
+    given = whole.given;
+    ended = true;
+    gives = whole.gives;
+    unmatched = λ is. (refl, none_stands (none (ap answered is)));
+    matched = λ is bytes may.
+        let (number, within, more) = one (ap answered is) in
+        subst (λ (l : List ℕ). SomeCounts (sought p true) l) (sym (all_of whole.given bytes may)) (one_stands number within more);
+    read_failed = failed;
+    only = tt;
+  }
+
+-- why a cover that writes to nowhere ends early
+fault_looks : (error : StreamError) → IsStreamFault error → 0 ≡ counted (is_write_fault {A = Unit {0}} (Err error)) 0 → 0 ≡ counted (is_write_of_nothing {A = Unit {0}} (Err error)) 0 → IsLookEnd error
+fault_looks (Refused cause) is failed nothing = absurd is
+fault_looks (Read fault) is failed nothing = tt
+fault_looks (Write fault) is failed nothing = absurd (omega (arith, failed))
+fault_looks WriteZero is failed nothing = absurd (omega (arith, nothing))
+fault_looks Memory is failed nothing = tt
+fault_looks PositionLimit is failed nothing = tt
+
+pub looks_cut : {R W : Type 0} (S : SourceGhosts R) (K : SinkGhosts W) (p : Patterns) (AreSearched : Patterns → Type 0) (rule : PieceRule) (source source' : R) (sink sink' : W) (counts counts' : List ℕ) (error : StreamError)
+    → CountsWrittenWith S K AreSearched true rule source source' sink sink' counts counts' → CountsErrors {A = Unit {0}} S K source source' sink sink' (Err error) → IsStreamFault error
+    → ((sink : W) → K.failures sink ≡ 0) → ((sink : W) → K.empty_writes sink ≡ 0) → LooksAt S (sought p true) (Err error) source source'
+looks_cut S K p AreSearched rule source source' sink sink' counts counts' error written errors is unfailed takes = record {
+  given = written.given;
+  ended = written.ended;
+  gives = written.gives;
+  unmatched = λ (is : Err error ≡ Ok false). absurd (cc);
+  matched = λ (is : Err error ≡ Ok true). absurd (cc);
+  read_failed = errors.read_failed ∙ ap (λ (b : Bool). counted b (S.failures source)) (fault_same (Unit {0}) Bool error);
+  only = fault_looks error is
+      (sym (unfailed sink') ∙ errors.write_failed ∙ ap (counted (is_write_fault {A = Unit {0}} (Err error))) (unfailed sink))
+      (sym (takes sink') ∙ errors.took_nothing ∙ ap (counted (is_write_of_nothing {A = Unit {0}} (Err error))) (takes sink));
+}
+
 -- what a look at a stream means for its file
-module _ {R : Type 0} (S : SourceGhosts R) (p : Patterns) (source source' : R) (before : Option (List ℕ)) (left : S.remaining source ≡ before) (none : S.empty_reads source ≡ 0)
+module _ {R : Type 0} (S : SourceGhosts R) (r : Redactor) (source source' : R) (before : Option (List ℕ)) (left : S.remaining source ≡ before) (none : S.empty_reads source ≡ 0)
     (ends : S.empty_reads source' ≢ 0 → IsAtEnd (S.remaining source')) where
   at_end_by : (ended : Bool) → ended ≡ true → S.empty_reads source' ≡ counted ended (S.empty_reads source) → IsAtEnd (S.remaining source')
   at_end_by ended is count =
@@ -124,8 +224,14 @@ module _ {R : Type 0} (S : SourceGhosts R) (p : Patterns) (source source' : R) (
   read_by : (given : List ℕ) → Consumes (S.remaining source) (S.remaining source') given → Consumes before (S.remaining source') given
   read_by given consumes = subst (λ bytes. Consumes bytes (S.remaining source') given) left consumes
 
-  pub look_is : (occurs : Result Bool StreamError) → LooksAt S p occurs source source' → IfOk (look_of occurs) (λ look. IsLook p IsReadReason look before (S.remaining source'))
-  look_is (Ok true) looks = (looks.given, read_by looks.given looks.gives.bytes, looks.matched refl)
+  pub look_is : (occurs : Result Bool StreamError) → LooksAt S r occurs source source' → IfOk (look_of occurs) (λ look. IsLook r IsReadReason look before (S.remaining source'))
+  look_is (Ok true) looks = record {
+    given = looks.given;
+    ended = looks.ended;
+    read = read_by looks.given looks.gives.bytes;
+    at_end = λ is. at_end_by looks.ended is looks.gives.end;
+    some = looks.matched refl;
+  }
   look_is (Ok false) looks =
       let clean = looks.unmatched refl in
       (looks.given, record { read = read_by looks.given looks.gives.bytes; ended = at_end_by looks.ended clean.0 looks.gives.end }, clean.1)

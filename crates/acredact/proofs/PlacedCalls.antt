@@ -1,11 +1,10 @@
 -- What comes of a call that replaces files, by what comes of these.
-use Rattle.std.proofs.Common.{◌≡◌, inl, inr, ℕ, List, [], ◌∷◌, ◌++◌, Option, true, false, refl, sym, ap, subst, ◌∙◌, arith}
-use Rattle.std.specs.Prelude.{Bool, MatchBool, None, Some, Result, Ok, Err, IfErr, IfOk, OnErr, OnOk}
+use Rattle.std.proofs.Common.{◌≡◌, inl, inr, ℕ, List, [], ◌∷◌, ◌++◌, Option, true, false, refl, sym, subst, ◌∙◌, arith}
+use Rattle.std.specs.Prelude.{Bool, MatchBool, Result, Ok, Err, IfErr, IfOk, OnOk}
 use Rattle.std.specs.List.{All, concat}
 use Rattle.std.specs.declared.io.traits.Write.{Ghosts as Writers}
-use Rattle.std.proofs.lemmas.List.Elements.{All-append, All-cons, All-head, All-nil, All-tail, All-weaker}
+use Rattle.std.proofs.lemmas.List.Elements.{All-append, All-head, All-tail, All-weaker}
 use Rattle.aho_devices.specs.declared.device.Sink.{Ghosts as SinkGhosts}
-use Rattle.programs.specs.Names.{IsOneOf}
 use Rattle.programs.specs.Telling.{Tells, TellsBytes, TellsSome}
 use Rattle.programs.specs.declared.errors.Errors.{Errors}
 use Rattle.programs.specs.declared.failure.Failure.TheVariants.{OutOfMemory}
@@ -144,7 +143,7 @@ module _ {O Z E : Type 0} (Writes : Writers Z) (K : SinkGhosts E) (U : Places O 
               load = load;
               between = between;
               loaded = loaded;
-              freed = freed_all Writes K U work asked.covers (clean_pieces K (has Strict call.given) (redactor_by_given call.given load) old warned asked.strict pieces asked.covers) (names_asked call.given) outputs outputs' (replaced so);
+              freed = freed_all Writes K U work asked.covers asked.all (clean_pieces K (has Strict call.given) (redactor_by_given call.given load) old warned asked.strict pieces asked.covers) (names_asked call.given) outputs outputs' (replaced so);
             };
             keeps = inr (record { load = load; between = between; loaded = loaded; whole = placed_whole Writes K U work (names_asked call.given) lines outputs outputs' placed });
             quiet = λ none (is : Ok all ≡ Ok true).

@@ -1,7 +1,6 @@
 -- What is told where a new file does not take a place.
-use Rattle.std.proofs.Common.{◌≡◌, inl, inr, ℕ, zero, suc, List, refl, sym, subst, true, false, arith, ◌≤◌}
+use Rattle.std.proofs.Common.{◌≡◌, inl, inr, ℕ, zero, suc, List, refl, subst, true, false, arith, ◌≤◌}
 use Rattle.std.specs.Prelude.{Bool, Some}
-use Rattle.std.specs.List.{All}
 use Rattle.std.specs.declared.io.traits.Read.{Ghosts as Readers}
 use Rattle.std.specs.declared.io.traits.Write.{Ghosts as Writers}
 use Rattle.std.proofs.lemmas.List.Elements.{All-weaker}
@@ -11,11 +10,10 @@ use Rattle.programs.specs.Telling.{Tells, TellsBytes, TellsSome}
 use Rattle.programs.specs.declared.errors.Errors.{Errors}
 use Rattle.programs.specs.declared.reason.Reason.{Reason}
 use Rattle.acredact.specs.Sums.{sums_of}
-use Rattle.acredact.specs.Arguments.{AsksToCheck, AsksToRedact, Given, all_asked, checks_asked, counts_asked, has}
-use Rattle.acredact.specs.Calls.{Call, CountsCall, IsCountsLine, IsLineOf, OutputFails, WarnsCall}
+use Rattle.acredact.specs.Arguments.{AsksToCheck, AsksToRedact, Given, all_asked, checks_asked, counts_asked}
+use Rattle.acredact.specs.Calls.{Call, CountsCall, IsCountsLine, IsLineOf, WarnsCall}
 use Rattle.acredact.specs.Files.{unread_line}
 use Rattle.acredact.specs.Into.{IsOutputLine}
-use Rattle.acredact.specs.declared.arguments.Word.TheVariants.{Strict}
 use Rattle.acredact.specs.declared.streams.Streams.{Streams}
 use Rattle.acredact.proofs.Calls.{tells_counts, tells_last}
 use Rattle.acredact.proofs.Given.{same_given}

@@ -26,7 +26,7 @@ use Rattle.acredact.specs.Secrets.{CanRedact}
 use Rattle.acredact.specs.Tables.{HaveNoEmpty, HoldsBy, Secret, patterns_in}
 use Rattle.acredact.specs.Values.{GiveEach, no_bytes, value_of_entry, whole_in}
 use Rattle.acredact.specs.declared.arguments.Word.{Word}
-use Rattle.acredact.specs.declared.arguments.Word.TheVariants.{IgnoreCase, Kind, Pattern, Patterns as PatternFile, Table, Env, EnvFile, Whole, With, Pseudonym, Forms, Output, InPlace, Count, Summary, Crlf, AllowEmpty, Strict, Check, Help, Version, File}
+use Rattle.acredact.specs.declared.arguments.Word.TheVariants.{IgnoreCase, Kind, Pattern, Patterns as PatternFile, Table, Env, EnvFile, Whole, With, Pseudonym, Forms, AsWord, Output, InPlace, Count, Summary, Crlf, AllowEmpty, Strict, Check, Help, Version, File}
 use Rattle.acredact.specs.declared.folder.Folder.{Ghosts as Folders}
 use Rattle.acredact.specs.declared.load.Lists.{Lists}
 use Rattle.acredact.specs.declared.patterns.Form.{Form}
@@ -98,6 +98,7 @@ option_some reading Summary value secrets left left' gives = none_some secrets g
 option_some reading Crlf value secrets left left' gives = none_some secrets gives.0
 option_some reading InPlace value secrets left left' gives = none_some secrets gives.0
 option_some reading AllowEmpty value secrets left left' gives = none_some secrets gives.0
+option_some reading AsWord value secrets left left' gives = none_some secrets gives.0
 option_some reading Strict value secrets left left' gives = none_some secrets gives.0
 option_some reading Check value secrets left left' gives = none_some secrets gives.0
 option_some reading Help value secrets left left' gives = none_some secrets gives.0
@@ -144,10 +145,11 @@ ready_of G automaton p covers replacements of are kind standard starts some one 
     }
 
 -- or to look
-pub look_ready : {A : Type 0} (G : Ghosts A) (automaton : A) (p : Patterns) → G.is_of automaton p → G.lengths automaton ≡ map length p.words → IsOk (G.start automaton No) → 1 ≤ shortest (map length p.words) → CanLook G automaton
-look_ready G automaton p of are starts some =
+pub look_ready : {A : Type 0} (G : Ghosts A) (automaton : A) (p : Patterns) (words : Bool) → G.is_of automaton p → G.lengths automaton ≡ map length p.words → G.kind automaton ≡ p.kind
+    → (words ≡ true → p.kind ≡ Standard) → IsOk (G.start automaton No) → 1 ≤ shortest (map length p.words) → CanLook G automaton words
+look_ready G automaton p words of are kind standard starts some =
     let start = started (G.start automaton No) starts in
-    record { patterns = p; of = of; begins = (start.0, subst (λ (ns : List ℕ). 1 ≤ shortest ns) (sym are) some, start.1) }
+    record { patterns = p; of = of; begins = (start.0, subst (λ (ns : List ℕ). 1 ≤ shortest ns) (sym are) some, start.1); standard = λ is. kind ∙ standard is }
 
 -- lists are read alike
 pub reading_from : {F X : Type 0} (D : Folders F X) (lists : Lists F) (folder : F) (rules : Rules) → lists.folder.now ≡ folder → rules_for lists ≡ rules → (P : Reading → Type 0)

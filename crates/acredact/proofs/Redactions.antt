@@ -4,7 +4,7 @@ use Rattle.std.specs.Prelude.{Bool, MatchBool, Option, None, Some, Result, Ok, E
 use Rattle.std.specs.Io.{StartsWith}
 use Rattle.std.specs.Io.KnownBytes.{Appends}
 use Rattle.std.proofs.Math.Seq.{take-length}
-use Rattle.aho_core.specs.Cover.{AreRuns}
+use Rattle.aho_core.specs.Cover.{AreRuns, AreRunsOf}
 use Rattle.aho_core.specs.Iteration.{AreFinds}
 use Rattle.aho_core.specs.Laws.{shortest}
 use Rattle.aho_core.specs.Occurrence.{Occurrence}
@@ -20,22 +20,23 @@ use Rattle.aho_devices.specs.Errors.{CountsErrors}
 use Rattle.aho_devices.specs.Refusals.{is_read_fault, is_write_fault, is_write_of_nothing}
 use Rattle.aho_devices.specs.declared.device.Sink.{Ghosts as SinkGhosts}
 use Rattle.aho_devices.specs.declared.device.Source.{Ghosts as SourceGhosts}
-use Rattle.aho_laws.specs.CoverLaws.{runs_upto}
 use Rattle.aho_laws.proofs.CoverClean.{cover-free}
-use Rattle.aho_laws.proofs.CoverKept.{kept-uncovered, runs-cover}
+use Rattle.aho_laws.proofs.CoverKept.{kept-uncovered}
+use Rattle.aho_laws.proofs.CoverRuns.{Covers}
 use Rattle.aho_laws.proofs.Iterations.{finds-exist}
-use Rattle.aho_laws.proofs.TextRuns.{runs-made}
 use Rattle.aho_automaton.specs.declared.automaton.Automaton.{Ghosts}
 use Rattle.aho_stream.specs.After.{greatest_position}
 use Rattle.aho_stream.specs.Refills.{is_limit}
 use Rattle.aho_stream.specs.Replacing.{BeginsReplacing, GaveAsMany, IsStreamFault, MayBe, ReplacesStream}
 use Rattle.aho_stream.specs.StreamRun.{CanBegin}
 use Rattle.acredact.specs.Faults.{IsStreamEnd}
-use Rattle.aho_cover.specs.Covers.{BeginsCoveringBy, CountsRuns, CoversStreamBy, CoversStreamUpToBy, IsUnbegunCover, LeavesCoveredBy}
+use Rattle.aho_cover.specs.Covers.{BeginsCoveringWith, CountsRunsWith, CoversStreamUpToWith, CoversStreamWith, IsUnbegunWith, LeavesCoveredWith}
 use Rattle.aho_cover.specs.declared.progress.CoverProgress.{CoverProgress}
-use Rattle.aho_cover.specs.Pieces.{IsCoverBy, piece_in}
+use Rattle.aho_cover.specs.Pieces.{IsCoverWith, piece_in}
+use Rattle.aho_cover.specs.Words.{AreRunsWith, all_runs}
+use Rattle.aho_cover.proofs.Chosen.{all-are, all-covers, all-made}
 use Rattle.pseudonyms.specs.Pseudonyms.{pseudonym_rule}
-use Rattle.acredact.specs.Secrets.{AreCleanBy, AreReplaced, BeginsRedaction, IsRedaction, Keyed, NoByteIsKept, NoneIsWhole, NoneOccurs, Redactor, rule_by, rule_of}
+use Rattle.acredact.specs.Secrets.{AreCleanBy, AreReplaced, BeginsRedaction, CountsFor, IsRedaction, Keyed, NoByteIsKept, NoneIsWhole, NoneOccurs, Redactor, rule_by, rule_of}
 use Rattle.acredact.specs.Streams.{ReachesStream, RedactsStream, StartsStream, StreamOutcome}
 use Rattle.acredact.specs.Totals.{CountsOfStream}
 use Rattle.acredact.proofs.Covered.{none_left}
@@ -43,36 +44,43 @@ use Rattle.acredact.proofs.MadeClean.{made-free}
 use Rattle.acredact.proofs.NoneSpelled.{pseudonyms_clean}
 
 -- some bytes with an end that was seen are all
-all_of : (given text : List ℕ) → MayBe given true text → text ≡ given
+pub all_of : (given text : List ℕ) → MayBe given true text → text ≡ given
 all_of given text may = may.1 ∙ ap (λ more. given ++ more) may.2 ∙ append-nil given
 
-module _ (p : Patterns) (text : List ℕ) where
-  -- the runs of a text hold each byte of what occurs in it
-  runs_hide : (runs : List Occurrence) → AreRuns p text runs → NoByteIsKept p text runs
-  runs_hide runs are = record { hidden = (runs-cover p text runs are).has; stays = kept-uncovered p text runs are }
+module _ (r : Redactor) (text : List ℕ) where
+  -- where all that occurs counts, runs are those of that
+  plain_runs : (runs : List Occurrence) → r.words ≡ false → AreRunsOf (CountsFor r text) runs → AreRuns r.patterns text runs
+  plain_runs runs all are = subst (λ (b : Bool). AreRunsWith b r.patterns text runs) all are
+
+  -- the runs of a text hold each byte of what counts in it
+  runs_hide : (runs : List Occurrence) → AreRunsOf (CountsFor r text) runs → NoByteIsKept r text runs
+  runs_hide runs are =
+      let covers : Covers (CountsFor r text) runs (length text) =
+      subst (λ (xs : List Occurrence). Covers (CountsFor r text) xs (length text)) (sym (all-are r.patterns text r.words runs are)) (all-covers r.patterns text r.words) in
+      record { hidden = covers.has; only = covers.only; stays = λ all. kept-uncovered r.patterns text runs (plain_runs runs all are) }
 
   -- so no secret is left, by either way
-  safe_by : (covers : Bool) (ranges : List Occurrence) → 1 ≤ shortest (map length p.words) → MatchBool covers (AreRuns p text ranges) (AreFinds p (plain_search text) None ranges)
-      → MatchBool covers (NoByteIsKept p text ranges) (NoneIsWhole p text ranges)
+  safe_by : (covers : Bool) (ranges : List Occurrence) → 1 ≤ shortest (map length r.patterns.words) → MatchBool covers (AreRunsOf (CountsFor r text) ranges) (AreFinds r.patterns (plain_search text) None ranges)
+      → MatchBool covers (NoByteIsKept r text ranges) (NoneIsWhole r.patterns text ranges)
   safe_by true ranges some found = runs_hide ranges found
-  safe_by false ranges some found = none_left p some text ranges found
+  safe_by false ranges some found = none_left r.patterns some text ranges found
 
-  ranges_exist : (covers : Bool) → (ranges : List Occurrence) × MatchBool covers (AreRuns p text ranges) (AreFinds p (plain_search text) None ranges)
-  ranges_exist true = (runs_upto p text (length text), runs-made p text)
-  ranges_exist false = finds-exist p (plain_search text) None (le_refl (length text))
+  ranges_exist : (covers : Bool) → (ranges : List Occurrence) × MatchBool covers (AreRunsOf (CountsFor r text) ranges) (AreFinds r.patterns (plain_search text) None ranges)
+  ranges_exist true = (all_runs r.words r.patterns text, all-made r.patterns text r.words)
+  ranges_exist false = finds-exist r.patterns (plain_search text) None (le_refl (length text))
 
 -- what is replaced where there is no cover, and where there is one
 pub of_finds : (r : Redactor) → r.covers ≡ false → (text : List ℕ) (ms : List Occurrence) → AreFinds r.patterns (plain_search text) None ms → AreReplaced r text ms
-of_finds r plain text ms found = subst (λ (b : Bool). MatchBool b (AreRuns r.patterns text ms) (AreFinds r.patterns (plain_search text) None ms)) (sym plain) found
+of_finds r plain text ms found = subst (λ (b : Bool). MatchBool b (AreRunsOf (CountsFor r text) ms) (AreFinds r.patterns (plain_search text) None ms)) (sym plain) found
 
 pub to_finds : (r : Redactor) → r.covers ≡ false → (text : List ℕ) (ms : List Occurrence) → AreReplaced r text ms → AreFinds r.patterns (plain_search text) None ms
-to_finds r plain text ms found = subst (λ (b : Bool). MatchBool b (AreRuns r.patterns text ms) (AreFinds r.patterns (plain_search text) None ms)) plain found
+to_finds r plain text ms found = subst (λ (b : Bool). MatchBool b (AreRunsOf (CountsFor r text) ms) (AreFinds r.patterns (plain_search text) None ms)) plain found
 
-of_runs : (r : Redactor) → r.covers ≡ true → (text : List ℕ) (ms : List Occurrence) → AreRuns r.patterns text ms → AreReplaced r text ms
-of_runs r covers text ms found = subst (λ (b : Bool). MatchBool b (AreRuns r.patterns text ms) (AreFinds r.patterns (plain_search text) None ms)) (sym covers) found
+of_runs : (r : Redactor) → r.covers ≡ true → (text : List ℕ) (ms : List Occurrence) → AreRunsOf (CountsFor r text) ms → AreReplaced r text ms
+of_runs r covers text ms found = subst (λ (b : Bool). MatchBool b (AreRunsOf (CountsFor r text) ms) (AreFinds r.patterns (plain_search text) None ms)) (sym covers) found
 
-to_runs : (r : Redactor) → r.covers ≡ true → (text : List ℕ) (ms : List Occurrence) → AreReplaced r text ms → AreRuns r.patterns text ms
-to_runs r covers text ms found = subst (λ (b : Bool). MatchBool b (AreRuns r.patterns text ms) (AreFinds r.patterns (plain_search text) None ms)) covers found
+to_runs : (r : Redactor) → r.covers ≡ true → (text : List ℕ) (ms : List Occurrence) → AreReplaced r text ms → AreRunsOf (CountsFor r text) ms
+to_runs r covers text ms found = subst (λ (b : Bool). MatchBool b (AreRunsOf (CountsFor r text) ms) (AreFinds r.patterns (plain_search text) None ms)) covers found
 
 -- a text with ranges replaced
 abbrev pub redacted : Redactor → List ℕ → List Occurrence → List ℕ
@@ -95,9 +103,9 @@ module _ (r : Redactor) (some : 1 ≤ shortest (map length r.patterns.words)) wh
   redaction_by text ranges found = record {
     ranges = ranges;
     found = found;
-    safe = safe_by r.patterns text r.covers ranges some found;
+    safe = safe_by r text r.covers ranges some found;
     is = refl;
-    clean = λ covers are m. clean_by r.key r.patterns r.pieces are text ranges (to_runs r covers text ranges found) m;
+    clean = λ covers all are m. clean_by r.key r.patterns r.pieces are text ranges (plain_runs r text ranges all (to_runs r covers text ranges found)) m;
   }
 
   -- what begins the replacement of each text that may come begins its redaction
@@ -105,7 +113,7 @@ module _ (r : Redactor) (some : 1 ≤ shortest (map length r.patterns.words)) wh
       → ((text : List ℕ) (ranges : List Occurrence) → MayBe given ended text → AreReplaced r text ranges → StartsWith (redacted r text ranges) part)
       → BeginsRedaction r given ended part
   begins_by given ended part beginning text may =
-      let ranges = ranges_exist r.patterns text r.covers in
+      let ranges = ranges_exist r text r.covers in
       (redacted r text ranges.0, redaction_by text ranges.0 ranges.1, beginning text ranges.0 may ranges.1)
 
   -- nothing begins each
@@ -215,16 +223,16 @@ fault_ends Memory is = tt
 fault_ends PositionLimit is = tt
 
 -- no pattern is empty where a cover can begin
-pub some_cover : {A : Type 0} (G : Ghosts A) (automaton : A) {progress : CoverProgress} (p : Patterns) → G.lengths automaton ≡ map length p.words → IsUnbegunCover G automaton progress
+pub some_cover : {A : Type 0} (G : Ghosts A) (automaton : A) {words : Bool} {progress : CoverProgress} (p : Patterns) → G.lengths automaton ≡ map length p.words → IsUnbegunWith words G automaton progress
     → 1 ≤ shortest (map length p.words)
 some_cover G automaton p are can = subst (λ (ns : List ℕ). 1 ≤ shortest ns) are can.no_empty
 
 -- the same of a cover
 module _ {R W : Type 0} (S : SourceGhosts R) (K : SinkGhosts W) (r : Redactor) (covers : r.covers ≡ true) (AreSearched : Patterns → Type 0) (of : AreSearched r.patterns)
     (some : 1 ≤ shortest (map length r.patterns.words)) (source source' : R) (sink sink' : W) where
-  covered_of : CoversStreamBy S K AreSearched (rule_of r) source source' sink sink' → RedactsStream S K r source source' sink sink'
+  covered_of : CoversStreamWith S K AreSearched r.words (rule_of r) source source' sink sink' → RedactsStream S K r source source' sink sink'
   covered_of whole =
-      let cover : IsCoverBy r.patterns whole.given (rule_of r) whole.output = whole.covers r.patterns of in
+      let cover : IsCoverWith r.words r.patterns whole.given (rule_of r) whole.output = whole.covers r.patterns of in
       record {
         text = whole.given;
         gives = whole.gives;
@@ -233,7 +241,7 @@ module _ {R W : Type 0} (S : SourceGhosts R) (K : SinkGhosts W) (r : Redactor) (
         written = whole.writes;
       }
 
-  covering_of : BeginsCoveringBy S K AreSearched (rule_of r) source source' sink sink' → StartsStream S K r source source' sink sink'
+  covering_of : BeginsCoveringWith S K AreSearched r.words (rule_of r) source source' sink sink' → StartsStream S K r source source' sink sink'
   covering_of begun = record {
     given = begun.given;
     ended = begun.ended;
@@ -244,7 +252,7 @@ module _ {R W : Type 0} (S : SourceGhosts R) (K : SinkGhosts W) (r : Redactor) (
     written = begun.writes;
   }
 
-  reaching_of : CoversStreamUpToBy S K AreSearched (rule_of r) source source' sink sink' → ReachesStream S K r source source' sink sink'
+  reaching_of : CoversStreamUpToWith S K AreSearched r.words (rule_of r) source source' sink sink' → ReachesStream S K r source source' sink sink'
   reaching_of up = record {
     given = up.given;
     ended = up.ended;
@@ -255,7 +263,7 @@ module _ {R W : Type 0} (S : SourceGhosts R) (K : SinkGhosts W) (r : Redactor) (
     written = λ text ranges may found. up.writes r.patterns text ranges of may (to_runs r covers text ranges found);
   }
 
-  pub outcome_of_cover : (result : Result (Unit {0}) StreamError) → LeavesCoveredBy S K AreSearched (rule_of r) source source' sink sink' result
+  pub outcome_of_cover : (result : Result (Unit {0}) StreamError) → LeavesCoveredWith S K AreSearched r.words (rule_of r) source source' sink sink' result
       → CountsErrors S K source source' sink sink' result
       → IfErr result IsStreamFault
       → StreamOutcome S K r result source source' sink sink'
@@ -282,10 +290,10 @@ module _ {R W : Type 0} (S : SourceGhosts R) (K : SinkGhosts W) (r : Redactor) (
 
 -- what a cover counts
 pub counts_of_cover : {R : Type 0} (S : SourceGhosts R) (r : Redactor) → r.covers ≡ true → (AreSearched : Patterns → Type 0) → AreSearched r.patterns → (source source' : R) (counts counts' : List ℕ)
-    → CountsRuns S AreSearched source source' counts counts' → CountsOfStream S r source source' counts counts'
+    → CountsRunsWith S AreSearched r.words source source' counts counts' → CountsOfStream S r source source' counts counts'
 counts_of_cover S r covers AreSearched of source source' counts counts' whole =
-    let runs = runs_upto r.patterns whole.given (length whole.given) in
-    let are = runs-made r.patterns whole.given in
+    let runs = all_runs r.words r.patterns whole.given in
+    let are = all-made r.patterns whole.given r.words in
     record { text = whole.given; gives = whole.gives; ranges = runs; found = of_runs r covers whole.given runs are; counted = whole.counted r.patterns runs of are }
 
 -- and where there are no counts

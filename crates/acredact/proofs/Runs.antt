@@ -1,7 +1,7 @@
 -- Sums are no greater than all counts, and these grow by no more than there are runs.
-use Rattle.std.proofs.Common.{◌≡◌, ℕ, ◌+◌, ◌-◌, ◌<◌, ◌≤◌, Bool, true, false, List, [], ◌∷◌, length, map, get_or, refl, sym, ap, subst, ◌∙◌, arith, zero, suc}
+use Rattle.std.proofs.Common.{◌≡◌, ℕ, ◌+◌, ◌-◌, ◌<◌, ◌≤◌, Bool, true, false, List, [], ◌∷◌, length, refl, sym, subst, arith, suc}
 use Rattle.std.specs.Prelude.{◌^◌, min, nat_eq, nat_lt, not, slice_index, if◌then◌else◌}
-use Rattle.std.specs.List.{filter, fold, range_with_len, sum}
+use Rattle.std.specs.List.{filter, fold, sum}
 use Rattle.std.proofs.lemmas.Grind.{common_steps}
 use Rattle.std.proofs.lemmas.List.Filters.{length-filter_both}
 use Rattle.std.proofs.lemmas.List.FromFn.{get_or-map-range_with_len, length-map-range_with_len}

@@ -1,5 +1,5 @@
 -- Names as they stand in messages, byte after byte, and messages part after part.
-use Rattle.std.proofs.Common.{◌≡◌, ℕ, ◌-◌, ◌≤◌, Bool, true, false, List, [], ◌∷◌, ◌++◌, length, take, drop, refl, sym, ap, subst, ◌∙◌, append-nil, append_assoc, arith}
+use Rattle.std.proofs.Common.{◌≡◌, ℕ, ◌-◌, ◌≤◌, Bool, true, false, List, [], ◌∷◌, ◌++◌, length, take, drop, refl, sym, ap, ◌∙◌, append-nil, append_assoc, arith}
 use Rattle.std.specs.Prelude.{◌/◌, ◌%◌, if◌then◌else◌, codes, slice_index}
 use Rattle.std.proofs.Math.Seq.{take-length}
 use Rattle.acredact.specs.Messages.{digit_of, escaped_of, is_control, shown}

@@ -1,6 +1,6 @@
 -- How an automaton redacts streams.
 use Rattle.std.proofs.Common.{◌≡◌, inl, ℕ, ◌≤◌, List, [], ◌∷◌, Option, true, false, length, map, refl, sym, ap, subst, ◌∙◌, arith}
-use Rattle.std.specs.Prelude.{Bool, None, Some, Result, Ok, Err, if◌then◌else◌}
+use Rattle.std.specs.Prelude.{Bool, ◌&&◌, None, Some, Result, Ok, Err, if◌then◌else◌}
 use Rattle.std.specs.Borrow.{Bor}
 use Rattle.std.proofs.KnownBytes.{Keeps-refl}
 use Rattle.std.specs.declared.io.traits.Read.{Ghosts as Readers}
@@ -18,7 +18,7 @@ use Rattle.aho_core.specs.declared.search.MatchKind.{MatchKind}
 use Rattle.aho_core.specs.declared.search.MatchKind.TheVariants.{Standard}
 use Rattle.aho_automaton.specs.Covering.{cover_refusal}
 use Rattle.aho_automaton.specs.declared.automaton.Automaton.{Ghosts}
-use Rattle.aho_cover.specs.Covers.{IsUnbegunCover, RefusesStreamCover}
+use Rattle.aho_cover.specs.Covers.{IsUnbegunWith, RefusesStreamCover}
 use Rattle.aho_cover.specs.Pieces.{PieceRule}
 use Rattle.aho_cover.specs.declared.progress.CoverProgress.{CoverProgress}
 use Rattle.aho_devices.specs.declared.device.Sink.{Ghosts as SinkGhosts}
@@ -34,46 +34,55 @@ use Rattle.acredact.proofs.Done.{tells_none}
 use Rattle.acredact.proofs.OneFile.{named_none}
 
 module _ {A : Type 0} (G : Ghosts A) where
+  -- a cover counts what it was asked to
+  pub begun_as : (automaton : A) (progress : CoverProgress) (words : Bool) → IsUnbegunWith words G automaton progress → IsUnbegunWith progress.words G automaton progress
+  begun_as automaton progress words unbegun = subst (λ (b : Bool). IsUnbegunWith b G automaton progress) (sym unbegun.chosen) unbegun
+
   -- a cover is as before after a stream
   pub covering_still : (automaton automaton' : A) (progress progress' : CoverProgress) (replacements : List (Bor (List ℕ))) (r : Redactor) → automaton' ≡ automaton
-      → IsUnbegunCover G automaton' progress' → IsCovering G automaton progress replacements r → IsCovering G automaton' progress' replacements r
-  covering_still automaton automaton' progress progress' replacements r same unbegun is =
-      record { redactor = subst (λ (a : A). IsRedactor G a true replacements r) (sym same) is.redactor; unbegun = unbegun }
+      → IsUnbegunWith progress.words G automaton' progress' → IsCovering G automaton progress replacements r → IsCovering G automaton' progress' replacements r
+  covering_still automaton automaton' progress progress' replacements r same unbegun is = record {
+    redactor = subst (λ (a : A). IsRedactor G a true progress'.words replacements r) (sym same)
+        (subst (λ (b : Bool). IsRedactor G automaton true b replacements r) (sym unbegun.chosen) is.redactor);
+    unbegun = begun_as automaton' progress' progress.words unbegun;
+  }
 
   -- an automaton that suits redacts by its patterns
-  pub redactor_is : (automaton : A) (p : Patterns) (covers wanted : Bool) (replacements : List (Bor (List ℕ))) (key : Option Keyed) → G.is_of automaton p → covers ≡ wanted → key ≡ None
-      → CanRedact G automaton covers replacements → IsRedactor G automaton wanted replacements (record { patterns = p; covers = covers; pieces = pieces_of replacements; key = key })
-  redactor_is automaton p covers wanted replacements key of is none ready = record {
+  pub redactor_is : (automaton : A) (p : Patterns) (covers wanted words chosen : Bool) (replacements : List (Bor (List ℕ))) (key : Option Keyed) → G.is_of automaton p → covers ≡ wanted → words ≡ chosen → key ≡ None
+      → CanRedact G automaton covers replacements → IsRedactor G automaton wanted chosen replacements (record { patterns = p; covers = covers; words = words; pieces = pieces_of replacements; key = key })
+  redactor_is automaton p covers wanted words chosen replacements key of is alike none ready = record {
     of = of;
-    is = ap (λ (b : Bool). record { patterns = p; covers = b; pieces = pieces_of replacements; key = key }) is
-        ∙ ap (λ (k : Option Keyed). record { patterns = p; covers = wanted; pieces = pieces_of replacements; key = k }) none;
+    is = ap (λ (b : Bool). record { patterns = p; covers = b; words = words; pieces = pieces_of replacements; key = key }) is
+        ∙ ap (λ (b : Bool). record { patterns = p; covers = wanted; words = b; pieces = pieces_of replacements; key = key }) alike
+        ∙ ap (λ (k : Option Keyed). record { patterns = p; covers = wanted; words = chosen; pieces = pieces_of replacements; key = k }) none;
     ready = subst (λ (b : Bool). CanRedact G automaton b replacements) is ready;
   }
 
   -- and by a cover that has not begun
-  pub covering_is : (automaton automaton' : A) (p : Patterns) (covers : Bool) (replacements : List (Bor (List ℕ))) (key : Option Keyed) (progress : CoverProgress) → G.is_of automaton p → covers ≡ true → key ≡ None
-      → CanRedact G automaton covers replacements → automaton' ≡ automaton → IsUnbegunCover G automaton progress
-      → IsCovering G automaton' progress replacements (record { patterns = p; covers = covers; pieces = pieces_of replacements; key = key })
-  covering_is automaton automaton' p covers replacements key progress of is none ready same unbegun = record {
-    redactor = subst (λ (a : A). IsRedactor G a true replacements (record { patterns = p; covers = covers; pieces = pieces_of replacements; key = key })) (sym same)
-        (redactor_is automaton p covers true replacements key of is none ready);
-    unbegun = subst (λ (a : A). IsUnbegunCover G a progress) (sym same) unbegun;
+  pub covering_is : (automaton automaton' : A) (p : Patterns) (covers words wanted : Bool) (replacements : List (Bor (List ℕ))) (key : Option Keyed) (progress : CoverProgress) → G.is_of automaton p → covers ≡ true → words ≡ wanted → key ≡ None
+      → CanRedact G automaton covers replacements → automaton' ≡ automaton → IsUnbegunWith wanted G automaton progress
+      → IsCovering G automaton' progress replacements (record { patterns = p; covers = covers; words = words; pieces = pieces_of replacements; key = key })
+  covering_is automaton automaton' p covers words wanted replacements key progress of is alike none ready same unbegun = record {
+    redactor = subst (λ (a : A). IsRedactor G a true progress.words replacements (record { patterns = p; covers = covers; words = words; pieces = pieces_of replacements; key = key })) (sym same)
+        (redactor_is automaton p covers true words progress.words replacements key of is (alike ∙ sym unbegun.chosen) none ready);
+    unbegun = subst (λ (a : A). IsUnbegunWith progress.words G a progress) (sym same) (begun_as automaton progress wanted unbegun);
   }
 
   -- or one by pieces that a key makes
-  pub naming_is : (automaton automaton' : A) (rule : PieceRule) (r : Redactor) (progress : CoverProgress) → G.is_of automaton r.patterns → r.covers ≡ true → rule_of r ≡ rule
-      → automaton' ≡ automaton → IsUnbegunCover G automaton progress → IsNamedCover G automaton' progress rule r
-  naming_is automaton automaton' rule r progress of covers is same unbegun = record {
-    coverer = subst (λ (a : A). IsCoverer G a rule r) (sym same) (record { of = of; covers = covers; is = is });
-    unbegun = subst (λ (a : A). IsUnbegunCover G a progress) (sym same) unbegun;
+  pub naming_is : (automaton automaton' : A) (wanted : Bool) (rule : PieceRule) (r : Redactor) (progress : CoverProgress) → G.is_of automaton r.patterns → r.covers ≡ true → r.words ≡ wanted → rule_of r ≡ rule
+      → automaton' ≡ automaton → IsUnbegunWith wanted G automaton progress → IsNamedCover G automaton' progress rule r
+  naming_is automaton automaton' wanted rule r progress of covers alike is same unbegun = record {
+    coverer = subst (λ (a : A). IsCoverer G a progress.words rule r) (sym same) (record { of = of; covers = covers; chosen = alike ∙ sym unbegun.chosen; is = is });
+    unbegun = subst (λ (a : A). IsUnbegunWith progress.words G a progress) (sym same) (begun_as automaton progress wanted unbegun);
   }
 
   -- it is as before after a stream
   pub naming_still : (automaton automaton' : A) (progress progress' : CoverProgress) (rule rule' : PieceRule) (r : Redactor) → automaton' ≡ automaton → rule' ≡ rule
-      → IsUnbegunCover G automaton' progress' → IsNamedCover G automaton progress rule r → IsNamedCover G automaton' progress' rule' r
+      → IsUnbegunWith progress.words G automaton' progress' → IsNamedCover G automaton progress rule r → IsNamedCover G automaton' progress' rule' r
   naming_still automaton automaton' progress progress' rule rule' r same alike unbegun is = record {
-    coverer = subst (λ (a : A). IsCoverer G a rule' r) (sym same) (record { of = is.coverer.of; covers = is.coverer.covers; is = is.coverer.is ∙ sym alike });
-    unbegun = unbegun;
+    coverer = subst (λ (a : A). IsCoverer G a progress'.words rule' r) (sym same)
+        (record { of = is.coverer.of; covers = is.coverer.covers; chosen = is.coverer.chosen ∙ sym unbegun.chosen; is = is.coverer.is ∙ sym alike });
+    unbegun = begun_as automaton' progress' progress.words unbegun;
   }
 
   -- by a standard automaton without empty patterns no cover is refused
@@ -108,6 +117,13 @@ module _ {R W E : Type 0} {Reads : Readers R} (Writes : Writers W) (K : SinkGhos
     quiet = λ (is : Err Memory ≡ Ok true). absurd (cc);
     fails = record { write_failed = refl; took_nothing = refl; only = tt };
   }
+
+-- words alone count of covers, and of a cover where that is asked for
+pub words_of_plain : (covers words : Bool) → covers ≡ false → (covers && words) ≡ false
+words_of_plain covers words is = ap (λ (b : Bool). b && words) is
+
+pub words_of_cover : (covers words : Bool) → covers ≡ true → (covers && words) ≡ words
+words_of_cover covers words is = ap (λ (b : Bool). b && words) is
 
 -- without a cover there is no key
 pub key_of_plain : (covers : Bool) (key : Option Key) → covers ≡ false → key_for covers key ≡ None

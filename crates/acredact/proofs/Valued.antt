@@ -1,7 +1,7 @@
 -- Values of variables, one after another.
 use Rattle.std.proofs.Common.{◌≡◌, ℕ, ◌+◌, ◌-◌, ◌^◌, ◌<◌, ◌≤◌, Bool, true, false, List, [], ◌∷◌, ◌++◌, Option, length, take, drop, get_or, refl, sym, ap, subst, ◌∙◌, append-nil, append_assoc, arith}
-use Rattle.std.specs.Prelude.{Some, None, MatchBool, if◌then◌else◌, min, nat_eq, nat_lt, slice_index_or}
-use Rattle.std.specs.List.{All, cons_option, filter_map, slice_split}
+use Rattle.std.specs.Prelude.{Some, None, if◌then◌else◌, min, nat_eq, nat_lt, slice_index_or}
+use Rattle.std.specs.List.{cons_option, slice_split}
 use Rattle.std.proofs.lemmas.Grind.{common_steps}
 use Rattle.std.proofs.lemmas.List.{get_or-map, length-map}
 use Rattle.std.proofs.lemmas.List.Elements.{All-head, All-tail}
@@ -12,7 +12,6 @@ use Rattle.aho_core.specs.Replacement.{pieces_of}
 use Rattle.acredact.specs.Parts.{IsAddedSome}
 use Rattle.acredact.specs.Tables.{IsWithout, Secret, patterns_in, secret_of, secrets_of, stripped_by}
 use Rattle.acredact.specs.Values.{GiveEach, GivesValue, bad_or, before_equals, behind_equals, fault_of_line, first_fault, is_named, value_of_entry, values_with}
-use Rattle.acredact.specs.declared.patterns.BadLine.{BadLine}
 use Rattle.acredact.specs.declared.patterns.Form.{Form}
 use Rattle.acredact.specs.declared.patterns.LineFault.{LineFault}
 use Rattle.acredact.specs.declared.patterns.Rule.{Rule}

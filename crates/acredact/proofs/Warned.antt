@@ -217,7 +217,7 @@ module _ {R : Type 0} {Reads : Readers R} {W E : Type 0} (Writes : Writers W) (K
             load = load;
             between = bytes_left old.input;
             loaded = loaded;
-            free = free_of (work_by call load) asked.covers (clean_pieces K (has Strict call.given) (redactor_by_given call.given load) old.errors errors asked.strict told asked.covers) (names_asked call.given) _ _ _ _ (rest.redacts is);
+            free = free_of (work_by call load) asked.covers asked.all (clean_pieces K (has Strict call.given) (redactor_by_given call.given load) old.errors errors asked.strict told asked.covers) (names_asked call.given) _ _ _ _ (rest.redacts is);
           };
           refused = refused_other (record old { errors = first }) new result rest.other;
           begins = elim rest.begins [

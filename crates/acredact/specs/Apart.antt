@@ -1,5 +1,5 @@
 -- Arguments that are not UTF-8: which of them name files, and what is told of these.
-use Rattle.std.specs.Prelude.{◌≡◌, ◌⊎◌, ℕ, ◌++◌, ◌||◌, not, Bool, true, false, List, [], ◌∷◌, Option, Some, None, Result, IfOk, String, Vec, codes, map, if◌then◌else◌}
+use Rattle.std.specs.Prelude.{◌≡◌, ◌⊎◌, ℕ, ◌++◌, ◌||◌, not, Bool, true, false, List, [], ◌∷◌, Option, Some, None, Result, IfOk, codes, map, if◌then◌else◌}
 use Rattle.std.specs.List.{concat}
 use Rattle.std.specs.Str.{IsUtf8}
 use Rattle.call_options.specs.Forms.{Form, argument_form, joined_letters, long_name, long_with, no_more, no_option}

@@ -9,12 +9,12 @@ use Rattle.acredact.specs.Forms.{are_forms}
 use Rattle.acredact.specs.Long.{word_by_name}
 use Rattle.acredact.specs.Values.{is_variable_name}
 use Rattle.acredact.specs.declared.arguments.Word.{Word}
-use Rattle.acredact.specs.declared.arguments.Word.TheVariants.{IgnoreCase, Kind, Pattern, Patterns, Table, Env, EnvFile, Whole, With, Pseudonym, Forms, Output, InPlace, Count, Summary, Crlf, AllowEmpty, Strict, Check, Help, Version, File}
+use Rattle.acredact.specs.declared.arguments.Word.TheVariants.{IgnoreCase, Kind, Pattern, Patterns, Table, Env, EnvFile, Whole, With, Pseudonym, Forms, AsWord, Output, InPlace, Count, Summary, Crlf, AllowEmpty, Strict, Check, Help, Version, File}
 use Rattle.acredact.specs.declared.arguments.Expects.{Expects}
 use Rattle.acredact.specs.declared.arguments.Expects.TheVariants.{Any, Value, Name}
 use Rattle.acredact.specs.declared.arguments.Item.{Item}
 use Rattle.acredact.specs.declared.arguments.Mixture.{Mixture}
-use Rattle.acredact.specs.declared.arguments.Mixture.TheVariants.{StrictKind, PseudonymKind, PseudonymWith, PseudonymTable, FormsKind, CountCheck, SummaryCheck, OutputCheck, InPlaceCheck, InPlaceOutput}
+use Rattle.acredact.specs.declared.arguments.Mixture.TheVariants.{StrictKind, PseudonymKind, PseudonymWith, PseudonymTable, FormsKind, WordsKind, WordsForms, CountCheck, SummaryCheck, OutputCheck, InPlaceCheck, InPlaceOutput}
 
 -- an option with its value, or a file with its name
 pub record Given : Type 0 where
@@ -44,6 +44,7 @@ takes_value Pseudonym = true
 takes_value Forms = true
 takes_value Output = true
 takes_value IgnoreCase = false
+takes_value AsWord = false
 takes_value InPlace = false
 takes_value Count = false
 takes_value Summary = false
@@ -65,6 +66,7 @@ is_value_of Kind value = is_cover value || is_some (kind_by value)
 is_value_of Forms value = are_forms value
 is_value_of Env value = is_variable_name value
 is_value_of IgnoreCase value = true
+is_value_of AsWord value = true
 is_value_of Pattern value = true
 is_value_of Patterns value = true
 is_value_of Table value = true
@@ -134,6 +136,7 @@ abbrev pub by_letters : List ℕ → List Given → Option ItemsSoFar
 by_letters [] items = items_so_far Any items
 by_letters (letter ∷ rest) items =
     if letter == 105 then by_letters rest (items ++ (given IgnoreCase [] ∷ []))
+    else if letter == 119 then by_letters rest (items ++ (given AsWord [] ∷ []))
     else by_letter (letter ∷ rest) items
 
 -- an argument that stands where an option may, by what it is; behind '--' there are files alone
@@ -185,6 +188,7 @@ is_same Whole Whole = true
 is_same With With = true
 is_same Pseudonym Pseudonym = true
 is_same Forms Forms = true
+is_same AsWord AsWord = true
 is_same Output Output = true
 is_same InPlace InPlace = true
 is_same Count Count = true
@@ -230,6 +234,7 @@ option_name Pseudonym = codes "--pseudonym"
 option_name Forms = codes "--forms"
 option_name Output = codes "--output"
 option_name IgnoreCase = codes "-e"
+option_name AsWord = codes "-e"
 option_name InPlace = codes "-e"
 option_name Count = codes "-e"
 option_name Summary = codes "-e"
@@ -260,12 +265,23 @@ counts_asked items = has Count items || has Summary items
 abbrev pub counts_given : List Item → Bool
 counts_given items = counts_asked (all_given items)
 
+-- whether words alone count: of a cover
+abbrev pub words_asked : List Given → Bool
+words_asked items = covers_asked items && has AsWord items
+
 -- those of --in-place
 abbrev pub in_place_mixture_of : List Given → Option Mixture
 in_place_mixture_of given =
     if has InPlace given && has Check given then Some InPlaceCheck
     else if has InPlace given && has Output given then Some InPlaceOutput
     else None
+
+-- and those of --word
+abbrev pub words_mixture_of : List Given → Option Mixture
+words_mixture_of given =
+    if has AsWord given && not (covers_asked given) then Some WordsKind
+    else if has AsWord given && has Forms given then Some WordsForms
+    else in_place_mixture_of given
 
 -- the options that do not go together, where some do not: pieces are refused of covers alone, pseudonyms are of covers and leave no
 -- choice of what is written, and a check counts nothing
@@ -279,7 +295,7 @@ mixture_of given =
     else if has Count given && has Check given then Some CountCheck
     else if has Summary given && has Check given then Some SummaryCheck
     else if has Output given && has Check given then Some OutputCheck
-    else in_place_mixture_of given
+    else words_mixture_of given
 
 -- all options and files, where they go together
 abbrev pub fitting_by : Option Mixture → List Given → Option (List Given)
@@ -309,10 +325,11 @@ checks_asked given = has Check given && not (has Help given) && not (has Version
 abbrev pub in_place_asked : List Given → Bool
 in_place_asked given = has InPlace given && not (has Help given) && not (has Version given)
 
--- pieces of a cover that are not clean are to be refused
+-- pieces of a cover that are not clean are to be refused, and all that occurs counts
 pub record RefusesUnclean (given : List Given) : Type 0 where
   pub strict : has Strict given ≡ true
   pub covers : covers_asked given ≡ true
+  pub all : words_asked given ≡ false
 
 -- no option gives patterns
 pub record GivesNoPattern (given : List Given) : Type 0 where

@@ -28,12 +28,12 @@ IsBackAsked G given words searcher = IfSome searcher (λ searcher. IsBackwardOf 
 -- what comes of a stream that it redacts by its patterns, with these replacements
 abbrev pub BackStream : {A R W : Type 0} → Ghosts A → SourceGhosts R → SinkGhosts W → Backward A → List (Bor (List ℕ)) → Result (Unit {0}) StreamError → (source source' : R) (sink sink' : W) → Type 0
 BackStream G S K searcher replacements result source source' sink sink' =
-    (p : Patterns) → IsBackwardOf G searcher p → StreamOutcome S K (redactor_by p false replacements) result source source' sink sink'
+    (p : Patterns) → IsBackwardOf G searcher p → StreamOutcome S K (redactor_by p false false replacements) result source source' sink sink'
 
 -- it and an automaton redact so, with these replacements
 pub record IsBacking {A B : Type 0} (G : Ghosts A) (H : Ghosts B) (searcher : Backward B) (automaton : A) (replacements : List (Bor (List ℕ))) (r : Redactor) : Type 0 where
   pub backward : IsBackwardOf H searcher r.patterns
-  pub forward : IsRedactor G automaton false replacements r
+  pub forward : IsRedactor G automaton false false replacements r
 
 -- a searcher, where there is one, and an automaton are of the same patterns
 abbrev pub AreBoth : {A B : Type 0} → Ghosts A → Ghosts B → A → Option (Bor (Backward B)) → Type 0

@@ -1,5 +1,5 @@
 -- How great the numbers are that are told: none has grown by more than the bytes that were read, whether all were read or not.
-use Rattle.std.specs.Prelude.{◌≡◌, ℕ, ◌+◌, ◌<◌, ◌≤◌, Bool, List, [], ◌∷◌, Option, Result, IfOk, length, slice_index}
+use Rattle.std.specs.Prelude.{◌≡◌, ℕ, ◌+◌, ◌<◌, ◌≤◌, Bool, List, [], ◌∷◌, Option, length, slice_index}
 use Rattle.std.specs.Io.KnownBytes.{Consumes}
 use Rattle.std.specs.List.{sum}
 use Rattle.std.specs.declared.io.traits.Read.{Ghosts as Readers}

@@ -17,7 +17,7 @@ use Rattle.programs.specs.declared.errors.Errors.{Errors}
 use Rattle.programs.specs.declared.failure.Failure.{Failure as OtherFailure}
 use Rattle.programs.specs.declared.failure.Failure.TheVariants.{Build, OutOfMemory, Write, WriteZero}
 use Rattle.programs.specs.declared.reason.Reason.{Reason}
-use Rattle.acredact.specs.Arguments.{Given, GivesNoPattern, RefusesUnclean, counts_asked, covers_asked, has, is_same, last_value}
+use Rattle.acredact.specs.Arguments.{Given, GivesNoPattern, RefusesUnclean, counts_asked, covers_asked, has, is_same, last_value, words_asked}
 use Rattle.acredact.specs.Bounds.{NumbersOfAll, ReadInAll}
 use Rattle.acredact.specs.Builds.{RefusesPatterns, patterns_by_given}
 use Rattle.acredact.specs.Counts.{secret_lines, lines_of_rules}
@@ -110,6 +110,7 @@ abbrev pub redactor_by_given : List Given → Loaded → Redactor
 redactor_by_given given loaded = record {
   patterns = patterns_by_given given (patterns_in loaded.secrets);
   covers = covers_asked given;
+  words = words_asked given;
   pieces = pieces_asked given loaded.secrets;
   key = key_asked given loaded.key;
 }

@@ -12,7 +12,7 @@ use Rattle.programs.specs.Telling.{Tells, TellsBytes}
 use Rattle.programs.specs.declared.errors.Errors.{Errors}
 use Rattle.programs.specs.declared.failure.Failure.TheVariants.{OutOfMemory}
 use Rattle.programs.specs.declared.reason.Reason.{Reason}
-use Rattle.acredact.specs.Arguments.{AsksToCheck, Given, GivesNoPattern, has}
+use Rattle.acredact.specs.Arguments.{AsksToCheck, Given, GivesNoPattern, has, words_asked}
 use Rattle.acredact.specs.Builds.{patterns_by_given}
 use Rattle.acredact.specs.Calls.{Call, IsBuildRefusal, IsUnreadLine, call_of, gives_pattern, names_asked, reading_by}
 use Rattle.acredact.specs.Doubts.{IsDoubtFailure, TellsDoubts, all_doubt_lines}
@@ -20,8 +20,9 @@ use Rattle.acredact.specs.Failures.{IsFailureLine}
 use Rattle.acredact.specs.Faults.{IsReadReason}
 use Rattle.acredact.specs.Files.{are_none, unread_line}
 use Rattle.acredact.specs.Loading.{AreGiven, CannotLoadOne}
-use Rattle.acredact.specs.Looks.{IsLook, HoldsNoMatch, is_found}
+use Rattle.acredact.specs.Looks.{IsLook, HoldsNoMatch, is_found, sought}
 use Rattle.acredact.specs.Reads.{OfName}
+use Rattle.acredact.specs.Secrets.{Redactor}
 use Rattle.acredact.specs.Tables.{Secret, patterns_in, secrets_of}
 use Rattle.acredact.specs.declared.arguments.Mistake.TheVariants.{NoPattern, OutOfMemory as NoRoom}
 use Rattle.acredact.specs.declared.arguments.Word.TheVariants.{Strict}
@@ -39,17 +40,21 @@ use Rattle.acredact.specs.declared.streams.Streams.{Streams}
 pub record Quest : Type 1 where
   pub holds : List ℕ → Option (List ℕ)
   pub refuses : List ℕ → Reason → Type 0
-  pub patterns : Patterns
+  pub redactor : Redactor
 
-abbrev pub quest_of : {F X : Type 0} → Folders F X → F → Patterns → Quest
-quest_of D folder p = record { holds = D.holds folder; refuses = D.refuses folder; patterns = p }
+abbrev pub quest_of : {F X : Type 0} → Folders F X → F → (words : Bool) → Patterns → Quest
+quest_of D folder words p = record { holds = D.holds folder; refuses = D.refuses folder; redactor = sought p words }
 
 abbrev pub quest_by : Call → List Secret → Quest
-quest_by call secrets = record { holds = call.holds; refuses = call.refuses; patterns = patterns_by_given call.given (patterns_in secrets) }
+quest_by call secrets = record {
+  holds = call.holds;
+  refuses = call.refuses;
+  redactor = sought (patterns_by_given call.given (patterns_in secrets)) (words_asked call.given);
+}
 
 -- the file of this name was found to be this: what may be told of one is that a read fails, or that the folder refuses it
 abbrev pub IsLookOf : Quest → List ℕ → Look → (left left' : Option (List ℕ)) → Type 0
-IsLookOf quest name look left left' = OfName quest.holds name (IsLook quest.patterns (λ reason. IsReadReason reason ⊎ quest.refuses name reason) look) left left'
+IsLookOf quest name look left left' = OfName quest.holds name (IsLook quest.redactor (λ reason. IsReadReason reason ⊎ quest.refuses name reason) look) left left'
 
 -- what is told of it
 abbrev pub look_lines : List ℕ → Look → List (List ℕ)
@@ -57,18 +62,18 @@ look_lines name Clean = []
 look_lines name Found = []
 look_lines name (Unread reason) = unread_line name reason ∷ []
 
--- each file was looked at, one after another: whether some pattern was found in one, and the lines that were told
+-- each file was looked at, one after another: whether something was found in one, and the lines that were told
 abbrev pub AreSeen : Quest → List (List ℕ) → (found : Bool) → (lines : List (List ℕ)) → (left left' : Option (List ℕ)) → Type 0
 AreSeen quest [] found lines left left' = (found ≡ false) × (lines ≡ []) × (left' ≡ left)
 AreSeen quest (name ∷ names) found lines left left' =
     (look : Look) × (others : Bool) × (rest : List (List ℕ)) × (found ≡ (is_found look || others)) × (lines ≡ look_lines name look ++ rest)
     × (between : Option (List ℕ)) × IsLookOf quest name look left between × AreSeen quest names others rest between left'
 
--- each file was read to its end, one after another, and no pattern occurs in any
+-- each file was read to its end, one after another, and nothing counts in any
 abbrev pub AreUnmatched : Quest → List (List ℕ) → (left left' : Option (List ℕ)) → Type 0
 AreUnmatched quest [] left left' = left' ≡ left
 AreUnmatched quest (name ∷ names) left left' =
-    (between : Option (List ℕ)) × OfName quest.holds name (HoldsNoMatch quest.patterns) left between × AreUnmatched quest names between left'
+    (between : Option (List ℕ)) × OfName quest.holds name (HoldsNoMatch quest.redactor) left between × AreUnmatched quest names between left'
 
 -- of a call whose patterns were loaded each file was looked at so
 pub record SeesCall (call : Call) (found : Bool) (lines : List (List ℕ)) (left left' : Option (List ℕ)) : Type 0 where
@@ -78,7 +83,7 @@ pub record SeesCall (call : Call) (found : Bool) (lines : List (List ℕ)) (left
   pub loaded : AreGiven (reading_by call) call.given secrets left between
   pub seen : AreSeen (quest_by call secrets) (names_asked call.given) found lines between left'
 
--- and no pattern occurs in any
+-- and nothing counts in any
 pub record IsUnmatchedCall (call : Call) (left left' : Option (List ℕ)) : Type 0 where
   pub some : gives_pattern call.given ≡ true
   pub secrets : List Secret
@@ -175,7 +180,7 @@ module _ {E F Y R : Type 0} {Reads : Readers R} (K : SinkGhosts E) (D : Folders 
   -- what comes of looking for patterns in some files
   abbrev pub SeesSearched : {X : Type 0} → Searched F → Patterns → Result Verdict X → (input input' : FromRead R Reads) → (errors errors' : Errors E) → Type 0
   SeesSearched files p result input input' errors errors' =
-      SeesFiles K (quest_of D files.folder.now p) (name_bytes files.names.now) result (bytes_left input) (bytes_left input') errors errors'
+      SeesFiles K (quest_of D files.folder.now files.words p) (name_bytes files.names.now) result (bytes_left input) (bytes_left input') errors errors'
 
   -- and for those of some rules in the files that are asked for
   abbrev pub SeesRules : F → List Given → List Rule → Result Verdict Failure → (input input' : FromRead R Reads) → (errors errors' : Errors E) → Type 0
@@ -206,11 +211,11 @@ abbrev pub SaysOfCheck : {R W E F X : Type 0} {Reads : Readers R} → SinkGhosts
 SaysOfCheck K D folder given status streams streams' = AsksToCheck given → ChecksAlone K (call_of D folder given) status streams streams'
 
 module _ {R W E F X : Type 0} {Reads : Readers R} (D : Folders F X) (folder : F) (given : List Given) (streams streams' : Streams R W E Reads) where
-  -- of a call that asks for this each file was read to its end, and no pattern occurs in any
+  -- of a call that asks for this each file was read to its end, and nothing counts in any
   abbrev pub UnmatchedAsked : Type 0
   UnmatchedAsked = IsUnmatchedCall (call_of D folder given) (bytes_left streams.input) (bytes_left streams'.input)
 
-  -- each file was read to its end or to a match, and there is one
+  -- each file was read to its end or up to what counts, and there is that in one
   abbrev pub MatchedAsked : Type 0
   MatchedAsked = SeesCall (call_of D folder given) true [] (bytes_left streams.input) (bytes_left streams'.input)
 

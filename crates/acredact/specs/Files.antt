@@ -1,5 +1,5 @@
 -- What is written of files, one after another, and what is told of those that cannot be read.
-use Rattle.std.specs.Prelude.{◌≡◌, ◌⊎◌, ℕ, ◌≤◌, length, Bool, true, false, List, [], ◌∷◌, ◌++◌, Option, None, Result, Ok, IfErr, IfOk, IfSome, OnErr, option_map}
+use Rattle.std.specs.Prelude.{◌≡◌, ◌⊎◌, ℕ, ◌≤◌, ◌&&◌, length, Bool, true, false, List, [], ◌∷◌, ◌++◌, Option, None, Result, Ok, IfErr, IfOk, IfSome, OnErr, option_map}
 use Rattle.std.specs.Io.KnownBytes.{Appends, Consumes, IsAtEnd, Keeps}
 use Rattle.std.specs.List.{concat}
 use Rattle.std.specs.declared.io.traits.Read.{Ghosts as Readers}
@@ -46,6 +46,7 @@ abbrev pub redactor_of : {F : Type 0} → Job F → Patterns → Redactor
 redactor_of job p = record {
   patterns = p;
   covers = job.covers;
+  words = job.covers && job.words;
   pieces = pieces_of job.replacements.now;
   key = key_for job.covers job.key;
 }

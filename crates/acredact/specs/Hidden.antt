@@ -7,6 +7,7 @@ use Rattle.std.specs.Io.KnownBytes.{Keeps}
 use Rattle.aho_core.specs.Cover.{IsCovered}
 use Rattle.aho_core.specs.Listing.{IsMember}
 use Rattle.aho_core.specs.Occurrence.{Occurrence}
+use Rattle.secret_forms.specs.Forms.{form_patterns}
 use Rattle.secret_forms.specs.Json.{json_char, json_spellings, json_ways}
 use Rattle.secret_forms.specs.Law.{HoldsBit, IsOfBytes}
 use Rattle.secret_forms.specs.Lines.{line_patterns}
@@ -16,9 +17,11 @@ use Rattle.secret_forms.specs.declared.bytewise.Spelling.{Spelling}
 use Rattle.secret_forms.specs.declared.form.Form.{Form}
 use Rattle.secret_forms.specs.declared.form.Form.TheVariants.{Base64, Hex, Url, Json, Xml, Shell, Lines}
 use Rattle.acredact.specs.Files.{Work, WritesText}
+use Rattle.acredact.specs.Forms.{AskedForms}
 use Rattle.acredact.specs.Reads.{OfName}
 use Rattle.acredact.specs.Secrets.{IsRedaction, Redactor}
 use Rattle.acredact.specs.Tables.{Secret}
+use Rattle.acredact.specs.declared.forms.Nested.{Nested}
 
 -- in a text stands what was encoded by characters of `width` bits each, the secret within, and the character at a place holds a bit of that
 pub record ShowsBits (width : ℕ) (encode : List ℕ → List ℕ) (secret text : List ℕ) (place : ℕ) : Type 0 where
@@ -67,18 +70,28 @@ ShowsForm Shell secret text place = SpellsForm shell_spellings secret text place
 ShowsForm Lines secret text place = (line : List ℕ) × Contains (line_patterns secret) line × SpellsEach (λ byte. byte ∷ []) line text place
 
 -- where a form of some secret of four bytes or more shows, it lies in a range that is replaced
-abbrev pub NoneShows : List Form → List Secret → List ℕ → List Occurrence → Type 0
-NoneShows forms secrets text ranges = (form : Form) (secret : Secret) (place : ℕ) → Contains forms form → Contains secrets secret → 4 ≤ length secret.pattern
+abbrev pub NoneShowsOnce : List Form → List Secret → List ℕ → List Occurrence → Type 0
+NoneShowsOnce forms secrets text ranges = (form : Form) (secret : Secret) (place : ℕ) → Contains forms form → Contains secrets secret → 4 ≤ length secret.pattern
     → ShowsForm form secret.pattern text place → IsCovered (IsMember ranges) place
 
+-- and so does a form of what another form makes of one
+abbrev pub NoneShowsTwice : List Nested → List Secret → List ℕ → List Occurrence → Type 0
+NoneShowsTwice nested secrets text ranges = (one : Nested) (secret : Secret) (made : List ℕ) (place : ℕ) → Contains nested one → Contains secrets secret → 4 ≤ length secret.pattern
+    → Contains (form_patterns secret.pattern one.inner) made → ShowsForm one.outer made text place → IsCovered (IsMember ranges) place
+
+-- neither shows elsewhere
+pub record NoneShows (asked : AskedForms) (secrets : List Secret) (text : List ℕ) (ranges : List Occurrence) : Type 0 where
+  pub once : NoneShowsOnce asked.forms secrets text ranges
+  pub twice : NoneShowsTwice asked.nested secrets text ranges
+
 -- the redaction of a text in which none stays
-pub record HidesForms (forms : List Form) (secrets : List Secret) (r : Redactor) (text redaction : List ℕ) : Type 0 where
+pub record HidesForms (asked : AskedForms) (secrets : List Secret) (r : Redactor) (text redaction : List ℕ) : Type 0 where
   pub redacts : IsRedaction r text redaction
-  pub none : NoneShows forms secrets text redacts.ranges
+  pub none : NoneShows asked secrets text redacts.ranges
 
 -- that of each file, one after another
-abbrev pub AreHidden : List Form → List Secret → Work → List (List ℕ) → (left left' held held' : Option (List ℕ)) → Type 0
-AreHidden forms secrets work [] left left' held held' = (left' ≡ left) × Keeps held held'
-AreHidden forms secrets work (name ∷ names) left left' held held' = (between : Option (List ℕ)) × (meanwhile : Option (List ℕ))
-    × OfName work.holds name (λ l l'. WritesText (HidesForms forms secrets work.redactor) l l' held meanwhile) left between
-    × AreHidden forms secrets work names between left' meanwhile held'
+abbrev pub AreHidden : AskedForms → List Secret → Work → List (List ℕ) → (left left' held held' : Option (List ℕ)) → Type 0
+AreHidden asked secrets work [] left left' held held' = (left' ≡ left) × Keeps held held'
+AreHidden asked secrets work (name ∷ names) left left' held held' = (between : Option (List ℕ)) × (meanwhile : Option (List ℕ))
+    × OfName work.holds name (λ l l'. WritesText (HidesForms asked secrets work.redactor) l l' held meanwhile) left between
+    × AreHidden asked secrets work names between left' meanwhile held'

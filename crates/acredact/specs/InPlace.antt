@@ -11,7 +11,7 @@ use Rattle.aho_core.specs.declared.error.stream.StreamError.{StreamError}
 use Rattle.aho_core.specs.declared.error.stream.StreamError.TheVariants.{Memory}
 use Rattle.aho_devices.specs.declared.adapters.FromWrite.{FromWrite}
 use Rattle.aho_devices.specs.declared.device.Sink.{Ghosts as SinkGhosts}
-use Rattle.programs.specs.Names.{IsOneOf, is_input, name_bytes}
+use Rattle.programs.specs.Names.{IsOneOf, is_input}
 use Rattle.programs.specs.Streams.{bytes_left, output_bytes}
 use Rattle.programs.specs.Telling.{Tells, TellsBytes, TellsSome}
 use Rattle.programs.specs.declared.errors.Errors.{Errors}

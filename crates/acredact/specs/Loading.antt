@@ -5,14 +5,13 @@ use Rattle.std.specs.List.{AllZip, filter_map}
 use Rattle.std.specs.declared.io.traits.Read.{Ghosts as Readers}
 use Rattle.aho_devices.specs.declared.adapters.FromRead.{FromRead}
 use Rattle.pseudonyms.specs.Pseudonyms.{pseudonym_rule}
-use Rattle.secret_forms.specs.declared.form.Form.{Form as SecretForm}
 use Rattle.programs.specs.Names.{is_input}
 use Rattle.programs.specs.Streams.{bytes_left}
 use Rattle.programs.specs.declared.failure.Failure.TheVariants.{OutOfMemory as NoMemory}
 use Rattle.programs.specs.declared.reason.Reason.{Reason}
 use Rattle.programs.specs.declared.reason.Reason.TheVariants.{NotFound, Denied, Directory, Irregular, NoDirectory, Links, LongName, Invalid, Full, TooLarge, Quota, Interrupted, Unavailable, Locked, NoLock, Changed, Owner, Closed, OutOfMemory, PositionLimit, ReadFault, Fault}
 use Rattle.acredact.specs.Arguments.{Given, has, last_value}
-use Rattle.acredact.specs.Forms.{HideSecrets, forms_asked, with_forms}
+use Rattle.acredact.specs.Forms.{AskedForms, HideSecrets, forms_asked, with_forms}
 use Rattle.acredact.specs.LineFaults.{IsLineFault, IsListFault, mark_in}
 use Rattle.acredact.specs.Named.{all_named}
 use Rattle.acredact.specs.Parts.{AddsSome, GivesPattern}
@@ -20,7 +19,7 @@ use Rattle.acredact.specs.Reads.{OfName, ReadsText}
 use Rattle.acredact.specs.Tables.{HaveLines, HoldsBy, Secret, lines_in, secrets_of, stripped_by}
 use Rattle.acredact.specs.Values.{GiveEach, are_refused, first_fault, value_in_line, value_of_entry, whole_in}
 use Rattle.acredact.specs.declared.arguments.Word.{Word}
-use Rattle.acredact.specs.declared.arguments.Word.TheVariants.{IgnoreCase, Kind, Pattern, Patterns, Table, Env, EnvFile, Whole, With, Pseudonym, Forms, Output, InPlace, Count, Summary, Crlf, AllowEmpty, Strict, Check, Help, Version, File}
+use Rattle.acredact.specs.declared.arguments.Word.TheVariants.{IgnoreCase, Kind, Pattern, Patterns, Table, Env, EnvFile, Whole, With, Pseudonym, Forms, AsWord, Output, InPlace, Count, Summary, Crlf, AllowEmpty, Strict, Check, Help, Version, File}
 use Rattle.acredact.specs.declared.failure.Failure.{Failure}
 use Rattle.acredact.specs.declared.failure.Failure.TheVariants.{NotText, Arguments, Pattern as BadPattern, Unread, Empty, NoValue, ShortKey, Line, Short, Unclean, Counts, Other}
 use Rattle.acredact.specs.declared.folder.Folder.{Ghosts as Folders}
@@ -36,7 +35,7 @@ pub record Rules : Type 0 where
   pub crlf : Bool
   pub allow_empty : Bool
   pub parts : Bool
-  pub forms : List SecretForm
+  pub forms : AskedForms
 
 abbrev pub rules_for : {F : Type 0} → Lists F → Rules
 rules_for lists = record { crlf = lists.crlf; allow_empty = lists.allow_empty; parts = lists.parts; forms = forms_asked (option_map (λ value. value.now) lists.forms) }
@@ -107,6 +106,7 @@ OptionGives reading Env value secrets left left' = GivesEnvironment reading valu
 OptionGives reading EnvFile value secrets left left' = GivesSecrets reading Variables value secrets left left'
 OptionGives reading Whole value secrets left left' = GivesSecrets reading WholeFile value secrets left left'
 OptionGives reading IgnoreCase value secrets left left' = (secrets ≡ []) × (left' ≡ left)
+OptionGives reading AsWord value secrets left left' = (secrets ≡ []) × (left' ≡ left)
 OptionGives reading Kind value secrets left left' = (secrets ≡ []) × (left' ≡ left)
 OptionGives reading With value secrets left left' = (secrets ≡ []) × (left' ≡ left)
 OptionGives reading Pseudonym value secrets left left' = (secrets ≡ []) × (left' ≡ left)

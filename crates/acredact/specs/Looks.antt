@@ -1,37 +1,44 @@
--- Whether some pattern occurs in what is read: what a check looks for.
-use Rattle.std.specs.Prelude.{◌≡◌, ℕ, ◌||◌, ◌&&◌, not, Bool, true, false, List, Option, Some, Result, Ok, Err, IfErr, alloc_error}
-use Rattle.std.specs.Io.KnownBytes.{Consumes}
+-- Whether something counts in what is read: what a check looks for.
+use Rattle.std.specs.Prelude.{◌≡◌, ℕ, ◌||◌, ◌&&◌, not, Bool, true, false, List, [], Option, Some, Result, Ok, Err, IfErr, alloc_error}
+use Rattle.std.specs.Io.KnownBytes.{Consumes, IsAtEnd}
 use Rattle.std.specs.declared.alloc.AllocError.{AllocError}
 use Rattle.aho_core.specs.Occurrence.{Occurrence}
-use Rattle.aho_core.specs.Occurs.{OccursIn}
 use Rattle.aho_core.specs.Patterns.{Patterns}
-use Rattle.aho_core.specs.Search.{plain_search}
 use Rattle.aho_core.specs.declared.error.stream.StreamError.{StreamError}
 use Rattle.aho_core.specs.declared.error.stream.StreamError.TheVariants.{Match, Read, Write, WriteZero, Memory, PositionLimit}
+use Rattle.aho_core.specs.declared.search.MatchKind.TheVariants.{Standard}
 use Rattle.aho_automaton.specs.declared.automaton.Automaton.{Ghosts}
 use Rattle.aho_devices.specs.Counts.{counted}
 use Rattle.aho_devices.specs.Refusals.{is_read_fault}
 use Rattle.aho_devices.specs.declared.device.Source.{Ghosts as SourceGhosts}
-use Rattle.aho_stream.specs.Replacing.{SourceGave}
+use Rattle.aho_stream.specs.Replacing.{MayBe, SourceGave}
 use Rattle.aho_stream.specs.StreamRun.{CanBegin}
 use Rattle.programs.specs.declared.reason.Reason.{Reason}
 use Rattle.programs.specs.declared.reason.Reason.TheVariants.{PositionLimit as TooLong, ReadFault}
 use Rattle.acredact.specs.Faults.{is_unread}
 use Rattle.acredact.specs.Reads.{ReadsText}
-use Rattle.acredact.specs.Secrets.{NoneOccurs}
+use Rattle.acredact.specs.Secrets.{CountsFor, Redactor, redactor_by}
 use Rattle.acredact.specs.declared.look.Look.{Look}
 use Rattle.acredact.specs.declared.look.Look.TheVariants.{Clean, Found, Unread}
 use Rattle.acredact.specs.declared.look.Verdict.{Verdict}
 
--- an automaton of some patterns can search streams
-pub record CanLook {A : Type 0} (G : Ghosts A) (automaton : A) : Type 0 where
+-- an automaton of some patterns can search streams, for all that occurs or for words
+pub record CanLook {A : Type 0} (G : Ghosts A) (automaton : A) (words : Bool) : Type 0 where
   pub patterns : Patterns
   pub of : G.is_of automaton patterns
   pub begins : CanBegin G automaton
+  pub standard : words ≡ true → G.kind automaton ≡ Standard
 
--- some pattern occurs in these bytes
-abbrev pub SomeOccurs : Patterns → List ℕ → Type 0
-SomeOccurs p bytes = (m : Occurrence) × OccursIn p (plain_search bytes) m
+-- what counts for a check counts for a cover: all that occurs, or words alone
+abbrev pub sought : Patterns → (words : Bool) → Redactor
+sought p words = redactor_by p true words []
+
+-- something counts in these bytes, or nothing does
+abbrev pub SomeCounts : Redactor → List ℕ → Type 0
+SomeCounts r bytes = (m : Occurrence) × CountsFor r bytes m
+
+abbrev pub NoneCounts : Redactor → List ℕ → Type 0
+NoneCounts r bytes = (m : Occurrence) → CountsFor r bytes m → ⊥
 
 -- why a stream is not looked through: a read fails, it is too long, or memory runs out
 abbrev pub IsLookEnd : StreamError → Type 0
@@ -42,14 +49,14 @@ IsLookEnd WriteZero = ⊥
 IsLookEnd Memory = Unit {0}
 IsLookEnd PositionLimit = Unit {0}
 
--- a source gave some bytes. It was read to its end and no pattern occurs in them, or some pattern does; a read fault is answered
--- exactly where a read failed
-pub record LooksAt {R : Type 0} (S : SourceGhosts R) (p : Patterns) (result : Result Bool StreamError) (source source' : R) : Type 0 where
+-- a source gave some bytes. It was read to its end and nothing counts in them, or something does, whatever bytes may follow; a read
+-- fault is answered exactly where a read failed
+pub record LooksAt {R : Type 0} (S : SourceGhosts R) (r : Redactor) (result : Result Bool StreamError) (source source' : R) : Type 0 where
   pub given : List ℕ
   pub ended : Bool
   pub gives : SourceGave S source source' given ended
-  pub unmatched : result ≡ Ok false → (ended ≡ true) × NoneOccurs p given
-  pub matched : result ≡ Ok true → SomeOccurs p given
+  pub unmatched : result ≡ Ok false → (ended ≡ true) × NoneCounts r given
+  pub matched : result ≡ Ok true → (bytes : List ℕ) → MayBe given ended bytes → SomeCounts r bytes
   pub read_failed : S.failures source' ≡ counted (is_read_fault result) (S.failures source)
   pub only : IfErr result IsLookEnd
 
@@ -87,16 +94,20 @@ is_unread_look (Unread reason) = true
 abbrev pub verdict_with : Verdict → Look → Verdict
 verdict_with verdict look = record { found = verdict.found || is_found look; all = verdict.all && not (is_unread_look look) }
 
--- a text was read to its end, and no pattern occurs in it
-abbrev pub HoldsNoMatch : Patterns → (left left' : Option (List ℕ)) → Type 0
-HoldsNoMatch p left left' = (text : List ℕ) × ReadsText text left left' × NoneOccurs p text
+-- a text was read to its end, and nothing counts in it
+abbrev pub HoldsNoMatch : Redactor → (left left' : Option (List ℕ)) → Type 0
+HoldsNoMatch r left left' = (text : List ℕ) × ReadsText text left left' × NoneCounts r text
 
--- a text was read up to some place, and some pattern occurs in front of that
-abbrev pub HoldsMatch : Patterns → (left left' : Option (List ℕ)) → Type 0
-HoldsMatch p left left' = (given : List ℕ) × Consumes left left' given × SomeOccurs p given
+-- a text was read up to some place, and something counts in it, whatever bytes may follow
+pub record HoldsMatch (r : Redactor) (left left' : Option (List ℕ)) : Type 0 where
+  pub given : List ℕ
+  pub ended : Bool
+  pub read : Consumes left left' given
+  pub at_end : ended ≡ true → IsAtEnd left'
+  pub some : (bytes : List ℕ) → MayBe given ended bytes → SomeCounts r bytes
 
 -- what is so of a text that was found to be this; it may be told as unread for some reasons
-abbrev pub IsLook : Patterns → (MayBe : Reason → Type 0) → Look → (left left' : Option (List ℕ)) → Type 0
-IsLook p MayBe Clean left left' = HoldsNoMatch p left left'
-IsLook p MayBe Found left left' = HoldsMatch p left left'
-IsLook p MayBe (Unread reason) left left' = MayBe reason × ((given : List ℕ) × Consumes left left' given)
+abbrev pub IsLook : Redactor → (Why : Reason → Type 0) → Look → (left left' : Option (List ℕ)) → Type 0
+IsLook r Why Clean left left' = HoldsNoMatch r left left'
+IsLook r Why Found left left' = HoldsMatch r left left'
+IsLook r Why (Unread reason) left left' = Why reason × ((given : List ℕ) × Consumes left left' given)

@@ -15,7 +15,7 @@ use Rattle.acredact.specs.declared.arguments.Item.{Item}
 use Rattle.acredact.specs.declared.arguments.Mistake.{Mistake}
 use Rattle.acredact.specs.declared.arguments.Mistake.TheVariants.{UnknownLetter, NotFound, NoValue, TakesNone, UnknownKind, UnknownForm, BadName, NoPattern, Mixed, OutOfMemory}
 use Rattle.acredact.specs.declared.arguments.Mixture.{Mixture}
-use Rattle.acredact.specs.declared.arguments.Mixture.TheVariants.{StrictKind, PseudonymKind, PseudonymWith, PseudonymTable, FormsKind, CountCheck, SummaryCheck, OutputCheck, InPlaceCheck, InPlaceOutput}
+use Rattle.acredact.specs.declared.arguments.Mixture.TheVariants.{StrictKind, PseudonymKind, PseudonymWith, PseudonymTable, FormsKind, WordsKind, WordsForms, CountCheck, SummaryCheck, OutputCheck, InPlaceCheck, InPlaceOutput}
 use Rattle.acredact.specs.declared.arguments.Word.{Word}
 use Rattle.acredact.specs.declared.arguments.Word.TheVariants.{Env, Forms}
 
@@ -26,6 +26,8 @@ mixture_text PseudonymKind = codes "--pseudonym needs --kind cover: other kinds 
 mixture_text PseudonymWith = codes "--pseudonym and --with do not go together: each says what is written"
 mixture_text PseudonymTable = codes "--pseudonym and -t do not go together: a table says what is written"
 mixture_text FormsKind = codes "--forms needs --kind cover: by other kinds a part of a form can stay"
+mixture_text WordsKind = codes "--word needs --kind cover: by other kinds a match that is no word can hide one"
+mixture_text WordsForms = codes "--word and --forms do not go together: a form can stand within a word"
 mixture_text SummaryCheck = codes "--summary and --check do not go together: a check counts nothing"
 mixture_text OutputCheck = codes "--output and --check do not go together: a check writes nothing"
 mixture_text InPlaceCheck = codes "--in-place and --check do not go together: a check writes nothing"
@@ -50,7 +52,7 @@ kind_line = told_line (alone (codes "option '--kind' takes cover, first, longest
 
 -- nor are there such forms
 abbrev pub form_line : List ℕ
-form_line = told_line (alone (codes "option '--forms' takes all, or some of base64,hex,url,json,xml,shell,lines"))
+form_line = told_line (alone (codes "option '--forms' takes all, or some of base64,hex,url,json,xml,shell,lines, or two as json+base64"))
 
 -- nor can a variable have such a name
 abbrev pub variable_line : List ℕ
@@ -94,7 +96,7 @@ line_of_letter (letter ∷ rest) = letter_line letter
 -- of joined letters: of the first that no option has
 abbrev pub line_of_letters : List ℕ → List ℕ
 line_of_letters [] = []
-line_of_letters (letter ∷ rest) = if letter == 105 then line_of_letters rest else letter_line letter
+line_of_letters (letter ∷ rest) = if letter == 105 then line_of_letters rest else if letter == 119 then line_of_letters rest else letter_line letter
 
 -- of an argument that stands where an option may, by what it is; a file's name is never wrong
 abbrev pub line_of_form : Form → List ℕ

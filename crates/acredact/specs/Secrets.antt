@@ -3,7 +3,7 @@ use Rattle.std.specs.Prelude.{◌≡◌, ℕ, ◌<◌, ◌≤◌, Bool, MatchBoo
 use Rattle.std.specs.Borrow.{Bor}
 use Rattle.std.specs.Io.{StartsWith}
 use Rattle.std.specs.Io.KnownBytes.{Appends}
-use Rattle.aho_core.specs.Cover.{AreRuns, IsCovered}
+use Rattle.aho_core.specs.Cover.{AreRunsOf, IsCovered}
 use Rattle.aho_core.specs.Iteration.{AreFinds}
 use Rattle.aho_core.specs.Listing.{IsMember}
 use Rattle.aho_core.specs.Occurrence.{Occurrence}
@@ -16,6 +16,7 @@ use Rattle.aho_core.specs.declared.search.MatchKind.TheVariants.{Standard}
 use Rattle.aho_laws.specs.CoverLaws.{AreClean, kept, uncovered}
 use Rattle.aho_cover.specs.Covers.{MayGoOn, covered_up_to}
 use Rattle.aho_cover.specs.Pieces.{PieceRule, fixed_rule, piece_in}
+use Rattle.aho_cover.specs.Words.{CountsIn, decided_of}
 use Rattle.aho_automaton.specs.declared.automaton.Automaton.{Ghosts}
 use Rattle.pseudonyms.specs.Pseudonyms.{pseudonym_rule}
 use Rattle.acredact.specs.Spelling.{NoneAreSpelled}
@@ -34,12 +35,6 @@ IsTouched ms o = (m : Occurrence) × IsMember ms m × Overlaps m o
 pub record NoneIsWhole (p : Patterns) (bytes : List ℕ) (ranges : List Occurrence) : Type 0 where
   pub touched : (o : Occurrence) → Occurs p No bytes 0 (length bytes) o → IsTouched ranges o
 
--- wherever a pattern occurs in the bytes, all bytes of it lie in ranges that are replaced: what is kept are just the bytes that
--- lie in no occurrence
-pub record NoByteIsKept (p : Patterns) (bytes : List ℕ) (ranges : List Occurrence) : Type 0 where
-  pub hidden : (at : ℕ) → IsCovered (OccursIn p (plain_search bytes)) at → IsCovered (IsMember ranges) at
-  pub stays : kept bytes ranges ≡ uncovered p bytes
-
 -- no pattern occurs anywhere
 abbrev pub NoneOccurs : Patterns → List ℕ → Type 0
 NoneOccurs p bytes = (m : Occurrence) → OccursIn p (plain_search bytes) m → ⊥
@@ -49,16 +44,28 @@ pub record Keyed : Type 0 where
   pub bytes : List ℕ
   pub ignore_case : Bool
 
--- what is redacted: some patterns, whether by a cover, and the text that is written in the place of each; or, of a cover, by a key a
--- pseudonym in the place of each run
+-- what is redacted: some patterns, whether by a cover, whether of that words alone, and the text that is written in the place of each
+-- pattern; or, of a cover, by a key a pseudonym in the place of each run
 pub record Redactor : Type 0 where
   pub patterns : Patterns
   pub covers : Bool
+  pub words : Bool
   pub pieces : List (List ℕ)
   pub key : Option Keyed
 
-abbrev pub redactor_by : Patterns → Bool → List (Bor (List ℕ)) → Redactor
-redactor_by p covers replacements = record { patterns = p; covers = covers; pieces = pieces_of replacements; key = None }
+abbrev pub redactor_by : Patterns → (covers words : Bool) → List (Bor (List ℕ)) → Redactor
+redactor_by p covers words replacements = record { patterns = p; covers = covers; words = words; pieces = pieces_of replacements; key = None }
+
+-- what counts in a text: each occurrence of a pattern, or each that is a word, beside which no letter, digit or `_` stands
+abbrev pub CountsFor : Redactor → List ℕ → Occurrence → Type 0
+CountsFor r text = CountsIn r.words r.patterns text
+
+-- all bytes of what counts lie in ranges that are replaced, and no other byte does. Where all that occurs counts, what is kept are
+-- just the bytes that lie in no occurrence
+pub record NoByteIsKept (r : Redactor) (text : List ℕ) (ranges : List Occurrence) : Type 0 where
+  pub hidden : (at : ℕ) → IsCovered (CountsFor r text) at → IsCovered (IsMember ranges) at
+  pub only : (at : ℕ) → IsCovered (IsMember ranges) at → IsCovered (CountsFor r text) at
+  pub stays : r.words ≡ false → kept text ranges ≡ uncovered r.patterns text
 
 -- a key is that of covers alone
 abbrev pub key_of_cover : Bool → Option Keyed → Option Keyed
@@ -84,28 +91,31 @@ IfOf G automaton Holds = (p : Patterns) → G.is_of automaton p → Holds p
 
 -- the ranges of a text that are replaced: the runs of its cover, or else its finds
 abbrev pub AreReplaced : Redactor → List ℕ → List Occurrence → Type 0
-AreReplaced r text ranges = MatchBool r.covers (AreRuns r.patterns text ranges) (AreFinds r.patterns (plain_search text) None ranges)
+AreReplaced r text ranges = MatchBool r.covers (AreRunsOf (CountsFor r text) ranges) (AreFinds r.patterns (plain_search text) None ranges)
 
 -- no secret is left: of a cover no byte of one, and else none whole
 abbrev pub NoSecretLeft : Redactor → List ℕ → List Occurrence → Type 0
-NoSecretLeft r text ranges = MatchBool r.covers (NoByteIsKept r.patterns text ranges) (NoneIsWhole r.patterns text ranges)
+NoSecretLeft r text ranges = MatchBool r.covers (NoByteIsKept r text ranges) (NoneIsWhole r.patterns text ranges)
 
--- a text with its ranges replaced, and no secret left. Where what is written in their places is clean, a cover's output has none either
+-- a text with its ranges replaced, and no secret left. Where what is written in their places is clean, a cover's output has none either,
+-- but for one of words alone: there what was no word may be one beside such a text
 pub record IsRedaction (r : Redactor) (text redaction : List ℕ) : Type 0 where
   pub ranges : List Occurrence
   pub found : AreReplaced r text ranges
   pub safe : NoSecretLeft r text ranges
   pub is : redaction ≡ replaced_by text ranges (piece_in (rule_of r) text)
-  pub clean : r.covers ≡ true → AreCleanBy (is_some r.key) r.patterns r.pieces → NoneOccurs r.patterns redaction
+  pub clean : r.covers ≡ true → r.words ≡ false → AreCleanBy (is_some r.key) r.patterns r.pieces → NoneOccurs r.patterns redaction
 
 -- a beginning of the redaction of a text of which these bytes were read, whatever bytes follow: none once its end was seen
 abbrev pub BeginsRedaction : Redactor → List ℕ → Bool → List ℕ → Type 0
 BeginsRedaction r given ended part =
     (text : List ℕ) → MayBe given ended text → (redaction : List ℕ) × IsRedaction r text redaction × StartsWith redaction part
 
--- each byte given from a place on lies in a match, or is among the last ones, that begin a pattern
+-- each byte given from a place on lies in what counts, or is among the last ones, that begin a pattern. Where words alone count, the last
+-- byte that was given waits for the next
 abbrev pub IsPromptUpTo : Redactor → List ℕ → ℕ → Type 0
-IsPromptUpTo r given place = (at : ℕ) → place ≤ at → at < length given → (IsCovered (OccursIn r.patterns (plain_search given)) at → ⊥) → MayGoOn r.patterns given at
+IsPromptUpTo r given place = (at : ℕ) → place ≤ at → at < length (decided_of r.words given) → (IsCovered (CountsFor r given) at → ⊥)
+    → MayGoOn r.patterns (decided_of r.words given) at
 
 -- the redaction was written up to a place of all texts that begin with the bytes given
 abbrev pub IsWrittenUpTo : Redactor → List ℕ → Bool → ℕ → (held held' : Option (List ℕ)) → Type 0

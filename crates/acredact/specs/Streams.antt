@@ -62,7 +62,7 @@ module _ {R W : Type 0} (S : SourceGhosts R) (K : SinkGhosts W) where
     pub limit : is_limit result ≡ true → GaveAsMany S source source' greatest_position
     pub only : IfErr result IsStreamEnd
 
--- of one that is redacted by the patterns of an automaton, by a cover or not, with these replacements
-abbrev pub ComesOf : {A R W : Type 0} → Ghosts A → SourceGhosts R → SinkGhosts W → A → (covers : Bool) → List (Bor (List ℕ)) → Result (Unit {0}) StreamError → (source source' : R) (sink sink' : W) → Type 0
-ComesOf G S K automaton covers replacements result source source' sink sink' =
-    IfOf G automaton (λ p. StreamOutcome S K (redactor_by p covers replacements) result source source' sink sink')
+-- of one that is redacted by the patterns of an automaton, by a cover or not, of words alone or not, with these replacements
+abbrev pub ComesOf : {A R W : Type 0} → Ghosts A → SourceGhosts R → SinkGhosts W → A → (covers words : Bool) → List (Bor (List ℕ)) → Result (Unit {0}) StreamError → (source source' : R) (sink sink' : W) → Type 0
+ComesOf G S K automaton covers words replacements result source source' sink sink' =
+    IfOf G automaton (λ p. StreamOutcome S K (redactor_by p covers words replacements) result source source' sink sink')

@@ -1,5 +1,5 @@
 -- What is counted for each pattern that was given: its own count, and those of its forms.
-use Rattle.std.specs.Prelude.{◌≡◌, ℕ, ◌+◌, ◌-◌, ◌<◌, ◌^◌, min, Bool, List, [], ◌∷◌, is_some, length, map, nat_eq, not, replicate, slice_index, unwrap_or, Vec, if◌then◌else◌}
+use Rattle.std.specs.Prelude.{◌≡◌, ℕ, ◌+◌, ◌-◌, ◌<◌, ◌^◌, min, List, [], ◌∷◌, is_some, length, map, nat_eq, not, replicate, slice_index, unwrap_or, Vec, if◌then◌else◌}
 use Rattle.std.specs.List.{filter, range_with_len}
 use Rattle.aho_cover.specs.Counting.{grown_count}
 use Rattle.acredact.specs.Tables.{Secret, secrets_of}

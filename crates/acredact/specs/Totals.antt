@@ -68,10 +68,10 @@ abbrev pub CountsOpened : Option (List ℕ) → (counts counts' : List ℕ) → 
 CountsOpened left counts counts' r = (rest : Option (List ℕ)) × CountsOfText left rest counts counts' r
 
 -- what an automaton counts in a stream that it covers or not, where that has ended
-abbrev pub CountsBy : {A R : Type 0} → Ghosts A → SourceGhosts R → A → (covers : Bool) → List (Bor (List ℕ)) → Result (Unit {0}) StreamError
+abbrev pub CountsBy : {A R : Type 0} → Ghosts A → SourceGhosts R → A → (covers words : Bool) → List (Bor (List ℕ)) → Result (Unit {0}) StreamError
     → (source source' : R) → (counts counts' : List ℕ) → Type 0
-CountsBy G S automaton covers replacements result source source' counts counts' =
-    IfOf G automaton (λ p. OnOk result (CountsOfStream S (redactor_by p covers replacements) source source' counts counts'))
+CountsBy G S automaton covers words replacements result source source' counts counts' =
+    IfOf G automaton (λ p. OnOk result (CountsOfStream S (redactor_by p covers words replacements) source source' counts counts'))
 
 module _ {R : Type 0} {Reads : Readers R} where
   module _ {F X : Type 0} (D : Folders F X) (job : Job F) where

@@ -3,37 +3,38 @@ use Rattle.std.specs.Prelude.{◌≡◌, ℕ, ◌≤◌, Bool, true, List, lengt
 use Rattle.std.specs.Borrow.{Bor}
 use Rattle.aho_core.specs.Laws.{shortest}
 use Rattle.aho_automaton.specs.declared.automaton.Automaton.{Ghosts}
-use Rattle.aho_cover.specs.Covers.{IsUnbegunCover}
+use Rattle.aho_cover.specs.Covers.{IsUnbegunWith}
 use Rattle.aho_cover.specs.Pieces.{PieceRule}
 use Rattle.aho_cover.specs.declared.progress.CoverProgress.{CoverProgress}
 use Rattle.acredact.specs.Secrets.{CanRedact, Redactor, redactor_by, rule_of}
 use Rattle.acredact.specs.declared.ways.Way.{Ghosts as Ways}
 
 -- an automaton redacts so, with these replacements
-pub record IsRedactor {A : Type 0} (G : Ghosts A) (automaton : A) (covers : Bool) (replacements : List (Bor (List ℕ))) (r : Redactor) : Type 0 where
+pub record IsRedactor {A : Type 0} (G : Ghosts A) (automaton : A) (covers words : Bool) (replacements : List (Bor (List ℕ))) (r : Redactor) : Type 0 where
   pub of : G.is_of automaton r.patterns
-  pub is : r ≡ redactor_by r.patterns covers replacements
+  pub is : r ≡ redactor_by r.patterns covers words replacements
   pub ready : CanRedact G automaton covers replacements
 
 -- and by a cover that has not begun
 pub record IsCovering {A : Type 0} (G : Ghosts A) (automaton : A) (progress : CoverProgress) (replacements : List (Bor (List ℕ))) (r : Redactor) : Type 0 where
-  pub redactor : IsRedactor G automaton true replacements r
-  pub unbegun : IsUnbegunCover G automaton progress
+  pub redactor : IsRedactor G automaton true progress.words replacements r
+  pub unbegun : IsUnbegunWith progress.words G automaton progress
 
--- an automaton covers so, with pieces that are made by this rule
-pub record IsCoverer {A : Type 0} (G : Ghosts A) (automaton : A) (rule : PieceRule) (r : Redactor) : Type 0 where
+-- an automaton covers so, of words alone or not, with pieces that are made by this rule
+pub record IsCoverer {A : Type 0} (G : Ghosts A) (automaton : A) (words : Bool) (rule : PieceRule) (r : Redactor) : Type 0 where
   pub of : G.is_of automaton r.patterns
   pub covers : r.covers ≡ true
+  pub chosen : r.words ≡ words
   pub is : rule_of r ≡ rule
 
 -- and the cover has not begun
 pub record IsNamedCover {A : Type 0} (G : Ghosts A) (automaton : A) (progress : CoverProgress) (rule : PieceRule) (r : Redactor) : Type 0 where
-  pub coverer : IsCoverer G automaton rule r
-  pub unbegun : IsUnbegunCover G automaton progress
+  pub coverer : IsCoverer G automaton progress.words rule r
+  pub unbegun : IsUnbegunWith progress.words G automaton progress
 
 -- what holds of all that an automaton covers so
-abbrev pub IfCoverer : {A : Type 0} → Ghosts A → A → PieceRule → (Redactor → Type 0) → Type 0
-IfCoverer G automaton rule Holds = (r : Redactor) → IsCoverer G automaton rule r → Holds r
+abbrev pub IfCoverer : {A : Type 0} → Ghosts A → A → (words : Bool) → PieceRule → (Redactor → Type 0) → Type 0
+IfCoverer G automaton words rule Holds = (r : Redactor) → IsCoverer G automaton words rule r → Holds r
 
 -- a way redacts so, and no pattern is empty
 pub record Redacts {X : Type 0} (G : Ways X) (way : X) (r : Redactor) : Type 0 where

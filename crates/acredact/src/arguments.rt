@@ -2,7 +2,7 @@
 
 ghost use Rattle.std.specs.Prelude.{◌≡◌, ◌++◌, [], ◌∷◌, Some, None, IfErr, IfOk, OnOk, option_map, string_bytes};
 ghost use Rattle.programs.specs.Arguments.{kind_by, texts};
-ghost use Rattle.acredact.specs.Arguments.{ReadsAs, all_asked, all_given, by_any, by_argument, checks_asked, counts_asked, covers_asked, given, given_by, has, in_place_asked, in_place_mixture_of, is_cover, is_same, is_value_of, by_joined, kind_asked, last_value, by_letter, by_letters, mixture_of, by_name, option_name, output_asked, by_taken, takes_value, by_value};
+ghost use Rattle.acredact.specs.Arguments.{ReadsAs, all_asked, all_given, by_any, by_argument, checks_asked, counts_asked, covers_asked, given, given_by, has, in_place_asked, in_place_mixture_of, is_cover, is_same, is_value_of, by_joined, kind_asked, last_value, by_letter, by_letters, mixture_of, by_name, option_name, output_asked, by_taken, takes_value, words_asked, words_mixture_of, by_value};
 ghost use Rattle.acredact.specs.Long.{word_by_name};
 ghost use Rattle.acredact.specs.Mistakes.{FailsAs, IsMistake, IsMistakeOfCall, TellsAs, line_of_any, line_of_argument, line_of_joined, line_of_letter, line_of_letters, line_of_name, mistake_line, value_line};
 
@@ -39,6 +39,8 @@ pub enum Word {
     Pseudonym,
     /// `--forms`: which forms of each pattern are patterns too.
     Forms,
+    /// `-w`: an occurrence counts where no letter, digit or `_` stands beside it.
+    AsWord,
     /// `--output`: the file that is written, in the place of standard output.
     Output,
     /// `--in-place`: each file is replaced, and nothing goes to standard output.
@@ -96,6 +98,10 @@ pub enum Mixture {
     PseudonymTable,
     /// `--forms` with another kind than cover: by other kinds a part of a form can stay.
     FormsKind,
+    /// `--word` with another kind than cover: a match that is no word could hide a word from another kind.
+    WordsKind,
+    /// `--word` with `--forms`: a form can stand within a word.
+    WordsForms,
     /// `--count` with `--check`, which counts nothing.
     CountCheck,
     /// `--summary` with `--check`.
@@ -235,6 +241,19 @@ fn mixture_of(items: &[Item<'_>]) -> Option<Mixture>
     if has(items, Word::Output) && has(items, Word::Check) {
         return Some(Mixture::OutputCheck);
     }
+    words_mixture_of(items)
+}
+
+/// That of `--word` with another option, where they do not go together.
+fn words_mixture_of(items: &[Item<'_>]) -> Option<Mixture>
+    ensures mixture { result ≡ words_mixture_of (all_given items.now) }
+{
+    if has(items, Word::AsWord) && !covers(items) {
+        return Some(Mixture::WordsKind);
+    }
+    if has(items, Word::AsWord) && has(items, Word::Forms) {
+        return Some(Mixture::WordsForms);
+    }
     in_place_mixture_of(items)
 }
 
@@ -355,11 +374,17 @@ fn read_letters<'a>(items: &mut Vec<Item<'a>>, letters: &'a str) -> Result<Expec
     ensures wrong { TellsAs (line_of_letters letters.now) result }
 {
     let mut rest = letters;
-    while let Some(behind) = rest.strip_prefix('i') {
-        add(items, Word::IgnoreCase, "")?;
-        rest = behind;
+    'letters: loop {
+        if let Some(behind) = rest.strip_prefix('i') {
+            add(items, Word::IgnoreCase, "")?;
+            rest = behind;
+        } else if let Some(behind) = rest.strip_prefix('w') {
+            add(items, Word::AsWord, "")?;
+            rest = behind;
+        } else {
+            return read_letter(items, rest);
+        }
     }
-    read_letter(items, rest)
 }
 
 /// Reads the letter of an option with a value, and what stands behind it.
@@ -510,6 +535,13 @@ pub fn covers(items: &[Item<'_>]) -> bool
         Some(name) => is_cover(name),
         None => true,
     }
+}
+
+/// Whether words alone count: of a cover.
+pub fn words(items: &[Item<'_>]) -> bool
+    ensures words { result ≡ words_asked (all_given items.now) }
+{
+    covers(items) && has(items, Word::AsWord)
 }
 
 /// The match kind that is searched by. A cover needs all matches, so for it that is `Standard`.

@@ -9,7 +9,7 @@ ghost use Rattle.acredact.specs.Secrets.{IfOf};
 ghost use Rattle.acredact.specs.Statuses.{check_status};
 ghost use Rattle.acredact.specs.Tables.{HaveNoEmpty, patterns_in, secrets_of};
 
-use crate::arguments::{Item, Mistake, Word, has};
+use crate::arguments::{Item, Mistake, Word, has, words};
 use crate::doubts::warn_of_lists;
 use crate::failure::Failure;
 use crate::folder::Folder;
@@ -30,7 +30,7 @@ use std::io::Read;
 const FOUND: u8 = 1;
 
 /// Tells of doubtful patterns of lists, looks for the patterns in each file, tells those that cannot be read, and answers the exit status: 1 where a pattern occurs in
-/// one, 0 where none does, and 2 where not each was read to its end or up to a match.
+/// one, or stands as a word where words are asked for, 0 where none does, and 2 where not each was read to its end or up to a match.
 pub fn check<F: Folder, I: Read, E: Sink>(
     alloc: Global,
     given: &[Item<'_>],
@@ -119,13 +119,14 @@ fn check_rules<'a, F: Folder, I: Read, E: Sink>(
 {
     let patterns = patterns_of(alloc, rules)?;
     let names = names(alloc, given)?;
-    let words = patterns.as_slice();
-    let nfa = build(alloc, given, words)?;
-    let rows = rows_of(alloc, &nfa, has(given, Word::IgnoreCase), words)?;
+    let texts = patterns.as_slice();
+    let nfa = build(alloc, given, texts)?;
+    let rows = rows_of(alloc, &nfa, has(given, Word::IgnoreCase), texts)?;
     let files = Searched {
         alloc,
         folder,
         names: names.as_slice(),
+        words: words(given),
     };
     Ok(look_by(&nfa, rows.as_ref(), &files, input, errors)?)
 }
@@ -138,8 +139,8 @@ fn look_by<A: Automaton, B: Automaton, F: Folder, I: Read, E: Sink>(
     input: &mut FromRead<I>,
     errors: &mut Errors<'_, E>,
 ) -> Result<Verdict, AllocError>
-    requires ready { CanLook A.Automaton automaton.now }
-    requires rows { IfSome rows (λ rows. CanLook B.Automaton rows.now) }
+    requires ready { CanLook A.Automaton automaton.now files.now.words }
+    requires rows { IfSome rows (λ rows. CanLook B.Automaton rows.now files.now.words) }
     ensures sees { IfOf A.Automaton automaton.now (λ p. IfSome rows.entry (λ rows. B.is_of rows.now p)
         → SeesSearched E.Sink F.Folder files.now p result input.old input.new errors.old errors.new) }
 {

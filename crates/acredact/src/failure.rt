@@ -260,7 +260,7 @@ fn tell_mistake<E: Sink>(errors: &mut Errors<'_, E>, mistake: Mistake<'_>)
         ),
         Mistake::UnknownForm => tell_alone(
             errors,
-            "option '--forms' takes all, or some of base64,hex,url,json,xml,shell,lines",
+            "option '--forms' takes all, or some of base64,hex,url,json,xml,shell,lines, or two as json+base64",
         ),
         Mistake::BadName => tell_alone(
             errors,
@@ -306,6 +306,12 @@ fn mixture_text(mixture: Mixture) -> &'static str
         }
         Mixture::FormsKind =>
             "--forms needs --kind cover: by other kinds a part of a form can stay",
+        Mixture::WordsKind => {
+            "--word needs --kind cover: by other kinds a match that is no word can hide one"
+        }
+        Mixture::WordsForms => {
+            "--word and --forms do not go together: a form can stand within a word"
+        }
         Mixture::SummaryCheck => {
             "--summary and --check do not go together: a check counts nothing"
         }

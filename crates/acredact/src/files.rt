@@ -50,6 +50,8 @@ pub struct Job<'s, 't, F> {
     pub key: Option<Key<'s>>,
     /// Whether all bytes of all matches are replaced, and not only matches that share no byte.
     pub covers: bool,
+    /// Whether words alone are, by a cover: matches beside which no letter, digit or `_` stands.
+    pub words: bool,
 }
 
 /// Redacts all files, and flushes. It answers whether all were read to their ends: one that was not is told, and the others are
@@ -126,7 +128,7 @@ fn cover_alike<A: Automaton, F: Folder, I: Read, W: Write, E: Sink>(
         volume.old volume.new streams.old streams.new) }
     ensures flushed { OnOk result (streams.new.output.device.flushed ≡ true) }
 {
-    let start = StreamCoverStart::new(job.alloc, automaton)?;
+    let start = StreamCoverStart::new_with(job.alloc, automaton, job.words)?;
     let mut way = Covering {
         start,
         replacements: job.replacements,
@@ -155,7 +157,7 @@ fn name_files<A: Automaton, F: Folder, I: Read, W: Write, E: Sink>(
         volume.old volume.new streams.old streams.new) }
     ensures flushed { OnOk result (streams.new.output.device.flushed ≡ true) }
 {
-    let start = StreamCoverStart::new(job.alloc, automaton)?;
+    let start = StreamCoverStart::new_with(job.alloc, automaton, job.words)?;
     let pieces = Pseudonyms::new(key.bytes, key.ignore_case);
     let mut way = Naming { start, pieces };
     redact_flushed(&mut way, job, counts, volume, streams)

@@ -1,15 +1,18 @@
 //! Forms of patterns: how a secret that is encoded gets into a log. Which patterns a form has is told by `secret_forms`.
 
-ghost use Rattle.std.specs.Prelude.{◌≡◌, ◌∷◌, ◌++◌, [], IfOk, OnOk, Some, map};
-ghost use Rattle.std.specs.List.{filter, list_all};
-ghost use Rattle.acredact.specs.Forms.{HaveForms, HideSecrets, HidesSecret, all_forms, are_forms, asks_for, form_secret, forms_asked, forms_from, forms_named, forms_of, is_all, is_among, is_called, is_form_name, name_of, names_in};
+ghost use Rattle.std.specs.Prelude.{◌≡◌, ◌∷◌, ◌++◌, ◌≤◌, [], IfOk, OnOk, Some, flat_map, length, map};
+ghost use Rattle.std.specs.List.{filter, filter_map, list_all};
+ghost use Rattle.acredact.specs.Forms.{HaveForms, HideSecrets, HidesOnce, HidesSecret, HidesTwice, all_forms, are_forms, asked_forms, asks_for, filled, form_called, form_secret, forms_asked, forms_from, forms_named, forms_of, is_all, is_asked, is_called, name_of, names_form, names_in, nested_by, nested_called, nested_named, once_patterns, twice_patterns};
 ghost use Rattle.acredact.specs.Parts.{AddsSome};
 ghost use Rattle.acredact.specs.Tables.{secret_of, secrets_of};
 ghost use Rattle.secret_forms.specs.Patterns.{pattern_bytes};
 
 use crate::patterns::{Rule, copy_of, split_at};
-use secret_forms::{Form, FormError, forms};
+use secret_forms::{Form, FormError, forms, nested_forms};
 use std::alloc::{AllocError, Global};
+
+/// A pattern of fewer bytes has no forms.
+const SHORTEST: usize = 4;
 
 /// How a form is called.
 fn name_of(form: Form) -> &'static [u8]
@@ -33,67 +36,117 @@ fn is_called(name: &[u8], form: Form) -> bool
     name == name_of(form)
 }
 
-/// Whether some form is called so.
-fn is_form_name(name: &[u8]) -> bool
-    ensures name { result ≡ is_form_name name.now }
+/// The form that is called so.
+fn form_called(name: &[u8]) -> Option<Form>
+    ensures called { result ≡ form_called name.now }
 {
-    is_called(name, Form::Base64)
-        || is_called(name, Form::Hex)
-        || is_called(name, Form::Url)
-        || is_called(name, Form::Json)
-        || is_called(name, Form::Xml)
-        || is_called(name, Form::Shell)
-        || is_called(name, Form::Lines)
+    if is_called(name, Form::Base64) {
+        return Some(Form::Base64);
+    }
+    if is_called(name, Form::Hex) {
+        return Some(Form::Hex);
+    }
+    if is_called(name, Form::Url) {
+        return Some(Form::Url);
+    }
+    if is_called(name, Form::Json) {
+        return Some(Form::Json);
+    }
+    if is_called(name, Form::Xml) {
+        return Some(Form::Xml);
+    }
+    if is_called(name, Form::Shell) {
+        return Some(Form::Shell);
+    }
+    if is_called(name, Form::Lines) {
+        return Some(Form::Lines);
+    }
+    None
+}
+
+/// A form of what another one makes of a secret.
+#[derive(Clone, Copy)]
+pub struct Nested {
+    /// How the secret is encoded.
+    pub inner: Form,
+    /// How that is encoded.
+    pub outer: Form,
+}
+
+/// A form of a form, where both are there.
+fn nested_by(inner: Option<Form>, outer: Option<Form>) -> Option<Nested>
+    ensures nested { result ≡ nested_by inner outer }
+{
+    match (inner, outer) {
+        (Some(inner), Some(outer)) => Some(Nested { inner, outer }),
+        _ => None,
+    }
+}
+
+/// The two forms whose names stand so: the inner one, `+`, and the outer one.
+fn nested_called(name: &[u8]) -> Option<Nested>
+    ensures called { result ≡ nested_called name.now }
+{
+    match split_at(name, b'+') {
+        Some((inner, outer)) => nested_by(form_called(inner), form_called(outer)),
+        None => None,
+    }
 }
 
 /// Whether this names all forms.
-fn is_all(value: &[u8]) -> bool
-    ensures all { result ≡ is_all value.now }
+fn is_all(name: &[u8]) -> bool
+    ensures all { result ≡ is_all name.now }
 {
-    value == b"all".as_slice()
+    name == b"all".as_slice()
 }
 
-/// Whether a value names forms: `all`, or their names with commas between them.
+/// Whether this names a form, all of them, or a form of a form.
+fn is_asked(name: &[u8]) -> bool
+    ensures asked { result ≡ is_asked name.now }
+{
+    is_all(name) || form_called(name).is_some() || nested_called(name).is_some()
+}
+
+/// Whether a value names forms, with commas between them.
 pub fn are_forms(value: &str) -> bool
     ensures are { result ≡ are_forms value.now }
 {
-    let value = value.as_bytes();
-    is_all(value) || are_names(value)
+    are_names(value.as_bytes())
 }
 
-/// Whether a value is names of forms with commas between them.
+/// The same, of the value's bytes.
 fn are_names(value: &[u8]) -> bool
-    ensures are { result ≡ list_all is_form_name (names_in value.now) }
+    ensures are { result ≡ list_all is_asked (names_in value.now) }
 {
     let mut rest = value;
     while let Some((name, behind)) = split_at(rest, b',') {
-        if !is_form_name(name) {
+        if !is_asked(name) {
             return false;
         }
         rest = behind;
     }
-    is_form_name(rest)
+    is_asked(rest)
+}
+
+/// Whether this names the form, by itself or with all.
+fn names_form(name: &[u8], form: Form) -> bool
+    ensures names { result ≡ names_form name.now form }
+{
+    is_all(name) || is_called(name, form)
 }
 
 /// Whether a value names this form.
 fn asks_for(value: &[u8], form: Form) -> bool
     ensures asks { result ≡ asks_for value.now form }
 {
-    is_all(value) || is_among(value, form)
-}
-
-/// Whether the name of this form stands in a value.
-fn is_among(value: &[u8], form: Form) -> bool
-    ensures among { result ≡ is_among value.now form }
-{
     let mut rest = value;
     while let Some((name, behind)) = split_at(rest, b',') {
-        if is_called(name, form) {
+        if names_form(name, form) {
             return true;
         }
         rest = behind;
     }
-    is_called(rest, form)
+    names_form(rest, form)
 }
 
 /// The forms that a value names, each once.
@@ -129,27 +182,66 @@ fn push_asked(forms: &mut Vec<Form>, value: &[u8], form: Form) -> Result<(), All
     Ok(())
 }
 
+/// The forms of forms that a value names, in order.
+fn nested_named(alloc: Global, value: &[u8]) -> Result<Vec<Nested>, AllocError>
+    ensures nested { IfOk result (λ v. v.items ≡ nested_named value.now) }
+{
+    let mut nested = Vec::new(alloc);
+    let mut rest = value;
+    while let Some((name, behind)) = split_at(rest, b',') {
+        push_nested(&mut nested, name)?;
+        rest = behind;
+    }
+    push_nested(&mut nested, rest)?;
+    Ok(nested)
+}
+
+/// Adds the form of a form that is called so, if one is.
+fn push_nested(nested: &mut Vec<Nested>, name: &[u8]) -> Result<(), AllocError>
+    ensures pushed { OnOk result (nested.new.items
+        ≡ nested.old.items ++ filter_map nested_called (name.now ∷ [])) }
+{
+    if let Some(one) = nested_called(name) {
+        nested.push(one)?;
+    }
+    Ok(())
+}
+
+/// Which forms are asked for.
+#[derive(Clone, Copy)]
+pub struct Asked<'a> {
+    /// Of secrets.
+    pub forms: &'a [Form],
+    /// Of what other forms make of them.
+    pub nested: &'a [Nested],
+}
+
 /// Adds the patterns of the forms that a value names, for each rule in order: each is replaced as the rule's own pattern is, and
 /// counts for it. A pattern of fewer than four bytes has none.
 pub fn add_forms(alloc: Global, rules: &mut Vec<Rule>, value: &str) -> Result<(), AllocError>
     ensures formed { OnOk result (HaveForms (forms_asked (Some value.now)) rules.old.items rules.new.items) }
 {
     let forms = forms_by(alloc, value.as_bytes())?;
-    let mut more = forms_of_rules(alloc, rules.as_slice(), forms.as_slice())?;
+    let nested = nested_named(alloc, value.as_bytes())?;
+    let asked = Asked {
+        forms: forms.as_slice(),
+        nested: nested.as_slice(),
+    };
+    let mut more = forms_of_rules(alloc, rules.as_slice(), asked)?;
     rules.append(&mut more)
 }
 
 /// Those of all these rules.
-fn forms_of_rules(alloc: Global, rules: &[Rule], wanted: &[Form]) -> Result<Vec<Rule>, AllocError>
+fn forms_of_rules(alloc: Global, rules: &[Rule], asked: Asked<'_>) -> Result<Vec<Rule>, AllocError>
     ensures made { IfOk result (λ more.
-        secrets_of more.items ≡ forms_from wanted.now 0 (secrets_of rules.now)) }
-    ensures hidden { OnOk result (HideSecrets wanted.now (secrets_of rules.now)) }
+        secrets_of more.items ≡ forms_from (asked_forms asked.entry) 0 (secrets_of rules.now)) }
+    ensures hidden { OnOk result (HideSecrets (asked_forms asked.entry) (secrets_of rules.now)) }
 {
     let mut more = Vec::new(alloc);
     let mut number: usize = 0;
     let mut rest = rules;
     while !rest.is_empty() {
-        add_forms_of(alloc, &mut more, &rest[0], number, wanted)?;
+        add_forms_of(alloc, &mut more, &rest[0], number, asked)?;
         number += 1;
         rest = &rest[1..];
     }
@@ -162,20 +254,81 @@ fn add_forms_of(
     more: &mut Vec<Rule>,
     rule: &Rule,
     number: usize,
-    wanted: &[Form],
+    asked: Asked<'_>,
 ) -> Result<(), AllocError>
     ensures added { OnOk result (AddsSome (λ some. some
-        ≡ forms_of wanted.now number (secret_of rule.now)) more.old more.new) }
-    ensures hidden { OnOk result (HidesSecret wanted.now (secret_of rule.now)) }
+        ≡ forms_of (asked_forms asked.entry) number (secret_of rule.now)) more.old more.new) }
+    ensures hidden { OnOk result (HidesSecret (asked_forms asked.entry) (secret_of rule.now)) }
+{
+    if rule.pattern.len() < SHORTEST {
+        return Ok(());
+    }
+    add_once(alloc, more, rule, number, asked.forms)?;
+    add_nested(alloc, more, rule, number, asked.nested)
+}
+
+/// Adds those of the rule's own pattern by some forms.
+fn add_once(
+    alloc: Global,
+    more: &mut Vec<Rule>,
+    rule: &Rule,
+    number: usize,
+    wanted: &[Form],
+) -> Result<(), AllocError>
+    requires long { 4 ≤ length rule.now.pattern.items }
+    ensures added { OnOk result (AddsSome (λ some. some ≡ map (form_secret number (secret_of rule.now))
+        (filled (once_patterns wanted.now rule.now.pattern.items))) more.old more.new) }
+    ensures hidden { OnOk result (HidesOnce wanted.now rule.now.pattern.items) }
 {
     match forms(alloc, rule.pattern.as_slice(), wanted) {
         Ok(patterns) => add_patterns(alloc, more, rule, number, patterns.as_slice()),
-        Err(FormError::TooShort) => Ok(()),
-        Err(FormError::OutOfMemory) => Err(AllocError),
+        // The pattern is long enough, so memory is wanting.
+        Err(FormError::TooShort | FormError::OutOfMemory) => Err(AllocError),
     }
 }
 
-/// Adds a rule for each of some patterns that are forms of a rule.
+/// Adds those of what other forms make of it.
+fn add_nested(
+    alloc: Global,
+    more: &mut Vec<Rule>,
+    rule: &Rule,
+    number: usize,
+    nested: &[Nested],
+) -> Result<(), AllocError>
+    requires long { 4 ≤ length rule.now.pattern.items }
+    ensures added { OnOk result (AddsSome (λ some. some ≡ map (form_secret number (secret_of rule.now))
+        (filled (flat_map (twice_patterns rule.now.pattern.items) nested.now))) more.old more.new) }
+    ensures hidden { OnOk result (HidesTwice nested.now rule.now.pattern.items) }
+{
+    let mut rest = nested;
+    while !rest.is_empty() {
+        add_twice(alloc, more, rule, number, rest[0])?;
+        rest = &rest[1..];
+    }
+    Ok(())
+}
+
+/// Adds those of one form of a form.
+fn add_twice(
+    alloc: Global,
+    more: &mut Vec<Rule>,
+    rule: &Rule,
+    number: usize,
+    nested: Nested,
+) -> Result<(), AllocError>
+    requires long { 4 ≤ length rule.now.pattern.items }
+    ensures added { OnOk result (AddsSome (λ some. some ≡ map (form_secret number (secret_of rule.now))
+        (filled (twice_patterns rule.now.pattern.items nested))) more.old more.new) }
+    ensures hidden { OnOk result (HidesTwice (nested ∷ []) rule.now.pattern.items) }
+{
+    match nested_forms(alloc, rule.pattern.as_slice(), nested.inner, nested.outer) {
+        Ok(patterns) => add_patterns(alloc, more, rule, number, patterns.as_slice()),
+        // The pattern is long enough, so memory is wanting.
+        Err(FormError::TooShort | FormError::OutOfMemory) => Err(AllocError),
+    }
+}
+
+/// Adds a rule for each of some patterns that are forms of a rule, but for empty ones.
 fn add_patterns(
     alloc: Global,
     more: &mut Vec<Rule>,
@@ -183,13 +336,30 @@ fn add_patterns(
     number: usize,
     patterns: &[Vec<u8>],
 ) -> Result<(), AllocError>
-    ensures added { OnOk result (AddsSome (λ some. some
-        ≡ map (form_secret number (secret_of rule.now)) (pattern_bytes patterns.now)) more.old more.new) }
+    ensures added { OnOk result (AddsSome (λ some. some ≡ map (form_secret number (secret_of rule.now))
+        (filled (pattern_bytes patterns.now))) more.old more.new) }
 {
     let mut rest = patterns;
     while !rest.is_empty() {
-        more.push(form_of(alloc, rule, number, rest[0].as_slice())?)?;
+        add_pattern(alloc, more, rule, number, rest[0].as_slice())?;
         rest = &rest[1..];
+    }
+    Ok(())
+}
+
+/// Adds a rule for one of them, unless it is empty.
+fn add_pattern(
+    alloc: Global,
+    more: &mut Vec<Rule>,
+    rule: &Rule,
+    number: usize,
+    pattern: &[u8],
+) -> Result<(), AllocError>
+    ensures added { OnOk result (AddsSome (λ some. some ≡ map (form_secret number (secret_of rule.now))
+        (filled (pattern.now ∷ []))) more.old more.new) }
+{
+    if !pattern.is_empty() {
+        more.push(form_of(alloc, rule, number, pattern)?)?;
     }
     Ok(())
 }

@@ -20,7 +20,8 @@ Patterns, one at least:
   --whole FILE          redact what FILE holds, without a line end behind it
   -i, --ignore-case     ASCII letters are the same in both cases
   --forms FORMS         redact encoded patterns too: FORMS is all, or some of
-                        base64,hex,url,json,xml,shell,lines
+                        base64,hex,url,json,xml,shell,lines,json+base64
+  -w, --word            redact what no letter, digit or '_' stands beside
   --crlf                a carriage return at the end of a line of FILE or TABLE
                         is no part of it
   --allow-empty         FILE and TABLE may have no line, and variables no value

@@ -313,6 +313,7 @@ fn place_all<'a, F: Folder, O: Outputs, I: Read, E: Sink>(
     let words = patterns.as_slice();
     let nfa = build(alloc, given, words)?;
     let ignore_case = has(given, Word::IgnoreCase);
+    let only_words = has(given, Word::AsWord);
     let rows = rows_of(alloc, &nfa, ignore_case, words)?;
     let back = back_of(alloc, given, words, &nfa)?;
     let job = Job {
@@ -322,6 +323,7 @@ fn place_all<'a, F: Folder, O: Outputs, I: Read, E: Sink>(
         replacements: replacements.as_slice(),
         key: key_by(key, ignore_case),
         covers: covers(given),
+        words: only_words,
     };
     let judge = Judge {
         words,

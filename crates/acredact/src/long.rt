@@ -44,6 +44,7 @@ fn or_patterns(found: Found<Word>, name: &[u8]) -> Found<Word>
         .or(name, b"with", Word::With)
         .or(name, b"pseudonym", Word::Pseudonym)
         .or(name, b"forms", Word::Forms)
+        .or(name, b"word", Word::AsWord)
         .or(name, b"crlf", Word::Crlf)
         .or(name, b"allow-empty", Word::AllowEmpty)
 }

@@ -1,6 +1,6 @@
 //! Whether some pattern occurs in files: what a check looks for.
 
-ghost use Rattle.std.specs.Prelude.{◌≡◌, ℕ, List, Option, IfErr, IfOk, false};
+ghost use Rattle.std.specs.Prelude.{◌≡◌, ◌<◌, ◌≤◌, ℕ, List, Option, IfErr, IfOk, false, length, slice_index, true};
 ghost use Rattle.std.specs.List.{concat};
 ghost use Rattle.aho_core.specs.Patterns.{Patterns};
 ghost use Rattle.aho_devices.specs.Counts.{counted};
@@ -10,7 +10,7 @@ ghost use Rattle.programs.specs.Streams.{bytes_left};
 ghost use Rattle.programs.specs.Telling.{TellsBytes};
 ghost use Rattle.acredact.specs.Checks.{IsLookOf, SeesSearched, look_lines, quest_of};
 ghost use Rattle.acredact.specs.Faults.{IsReadReason};
-ghost use Rattle.acredact.specs.Looks.{CanLook, IsLook, IsLookEnd, LooksAt, is_failed_look, is_unread_look, look_of, verdict_with};
+ghost use Rattle.acredact.specs.Looks.{CanLook, IsLook, IsLookEnd, LooksAt, is_failed_look, is_unread_look, look_of, sought, verdict_with};
 ghost use Rattle.acredact.specs.Secrets.{IfOf};
 
 use crate::failure::tell_unread;
@@ -18,8 +18,12 @@ use crate::files::is_input;
 use crate::folder::Folder;
 use aho_automaton::automaton::Automaton;
 use aho_core::error::StreamError;
+use aho_cover::pieces::PatternPieces;
+use aho_cover::start::StreamCoverStart;
+use aho_cover::stream::cover_with;
 use aho_devices::adapters::FromRead;
 use aho_devices::device::{Sink, Source};
+use aho_devices::write::Nowhere;
 use aho_stream::finds::StreamFindIter;
 use aho_stream::start::StreamStart;
 use programs::errors::Errors;
@@ -30,9 +34,9 @@ use std::io::Read;
 /// What a file is found to be.
 #[derive(Clone, Copy)]
 pub enum Look {
-    /// It was read to its end, and no pattern occurs in it.
+    /// It was read to its end, and nothing in it counts.
     Clean,
-    /// A pattern occurs in it.
+    /// A pattern occurs in it, or stands there as a word where words alone count.
     Found,
     /// It was not read to its end, for this reason.
     Unread(Reason),
@@ -41,7 +45,7 @@ pub enum Look {
 /// What is seen of all files.
 #[derive(Clone, Copy)]
 pub struct Verdict {
-    /// Whether a pattern occurs in one.
+    /// Whether something counts in one.
     pub found: bool,
     /// Whether each was read to its end, or up to a match.
     pub all: bool,
@@ -56,9 +60,12 @@ pub struct Searched<'s, 't, F> {
     pub folder: &'s F,
     /// The names of the files.
     pub names: &'s [&'t str],
+    /// Whether words alone count.
+    pub words: bool,
 }
 
-/// Looks at all files, and tells each that cannot be read. Each is read up to the first match at most.
+/// Looks at all files, and tells each that cannot be read. Each is read up to the first match at most, or where words alone count to its
+/// end.
 ///
 /// # Errors
 ///
@@ -69,7 +76,7 @@ pub fn look_at_files<A: Automaton, F: Folder, I: Read, E: Sink>(
     input: &mut FromRead<I>,
     errors: &mut Errors<'_, E>,
 ) -> Result<Verdict, AllocError>
-    requires ready { CanLook A.Automaton automaton.now }
+    requires ready { CanLook A.Automaton automaton.now files.now.words }
     ensures sees { IfOf A.Automaton automaton.now (λ p. SeesSearched E.Sink F.Folder files.now p
         result input.old input.new errors.old errors.new) }
 {
@@ -121,16 +128,16 @@ fn look_at_file<A: Automaton, F: Folder, I: Read>(
     name: &str,
     input: &mut FromRead<I>,
 ) -> Result<Look, AllocError>
-    requires ready { CanLook A.Automaton automaton.now }
+    requires ready { CanLook A.Automaton automaton.now files.now.words }
     ensures looks { IfOf A.Automaton automaton.now (λ p. IfOk result (λ look.
-        IsLookOf (quest_of F.Folder files.now.folder.now p) name.now look
+        IsLookOf (quest_of F.Folder files.now.folder.now files.now.words p) name.now look
         (bytes_left input.old) (bytes_left input.new))) }
 {
     if is_input(name) {
-        return look_at_input(files.alloc, automaton, input);
+        return look_at_input(files.alloc, automaton, files.words, input);
     }
     match files.folder.open(name) {
-        Ok(file) => look_at_opened(files.alloc, automaton, file),
+        Ok(file) => look_at_opened(files.alloc, automaton, files.words, file),
         Err(reason) => Ok(Look::Unread(reason)),
     }
 }
@@ -139,30 +146,32 @@ fn look_at_file<A: Automaton, F: Folder, I: Read>(
 fn look_at_opened<A: Automaton, I: Read + Drop>(
     alloc: Global,
     automaton: &A,
+    words: bool,
     reader: I,
 ) -> Result<Look, AllocError>
-    requires ready { CanLook A.Automaton automaton.now }
+    requires ready { CanLook A.Automaton automaton.now words }
     ensures looks { IfOf A.Automaton automaton.now (λ p. IfOk result (λ look.
-        (rest : Option (List ℕ)) × IsLook p IsReadReason look (I.remaining reader) rest)) }
+        (rest : Option (List ℕ)) × IsLook (sought p words) IsReadReason look (I.remaining reader) rest)) }
 {
     let mut source = FromRead::new(reader);
-    look_at_input(alloc, automaton, &mut source)
+    look_at_input(alloc, automaton, words, &mut source)
 }
 
 /// Looks at what the input gives.
 fn look_at_input<A: Automaton, I: Read>(
     alloc: Global,
     automaton: &A,
+    words: bool,
     input: &mut FromRead<I>,
 ) -> Result<Look, AllocError>
-    requires ready { CanLook A.Automaton automaton.now }
+    requires ready { CanLook A.Automaton automaton.now words }
     ensures looks { IfOf A.Automaton automaton.now (λ p. IfOk result (λ look.
-        IsLook p IsReadReason look (bytes_left input.old) (bytes_left input.new))) }
+        IsLook (sought p words) IsReadReason look (bytes_left input.old) (bytes_left input.new))) }
     // A read fault is answered exactly where a read failed.
     ensures failed { input.new.failures ≡ counted (is_failed_look result) input.old.failures }
 {
     input.restart();
-    look_of(occurs_in(alloc, automaton, input))
+    look_of(counts_in(alloc, automaton, words, input))
 }
 
 /// What a file is found to be, by what is answered of its stream.
@@ -180,19 +189,79 @@ fn look_of(occurs: Result<bool, StreamError>) -> Result<Look, AllocError>
     }
 }
 
-/// Whether some pattern occurs in what the source gives. It is read until a match is settled, or to its end.
+/// Whether something counts in what the source gives: some pattern, or one that stands as a word.
 ///
 /// # Errors
 ///
 /// `Read` exactly where a read fails, `PositionLimit` where the source gave 2^63 - 1 bytes, and `Memory`.
+fn counts_in<A: Automaton, R: Source>(
+    alloc: Global,
+    automaton: &A,
+    words: bool,
+    source: &mut R,
+) -> Result<bool, StreamError>
+    requires ready { CanLook A.Automaton automaton.now words }
+    ensures looks { IfOf A.Automaton automaton.now (λ p.
+        LooksAt R.Source (sought p words) result source.old source.new) }
+{
+    if words {
+        return stands_in(alloc, automaton, source);
+    }
+    occurs_in(alloc, automaton, source)
+}
+
+/// Whether some pattern stands as a word in what the source gives. It is read to its end.
+///
+/// # Errors
+///
+/// As `counts_in`.
+fn stands_in<A: Automaton, R: Source>(
+    alloc: Global,
+    automaton: &A,
+    source: &mut R,
+) -> Result<bool, StreamError>
+    requires ready { CanLook A.Automaton automaton.now true }
+    ensures looks { IfOf A.Automaton automaton.now (λ p.
+        LooksAt R.Source (sought p true) result source.old source.new) }
+{
+    let mut start = StreamCoverStart::new_with(alloc, automaton, true)?;
+    let mut counts: Vec<u64> = vec![in alloc; 0; automaton.patterns_len()]?;
+    let mut pieces = PatternPieces::new(&[]);
+    let tally = counts.as_mut_slice();
+    cover_with(&mut start, source, &mut Nowhere, &mut pieces, tally)?;
+    Ok(is_some_counted(tally))
+}
+
+/// Whether some count is not zero.
+fn is_some_counted(counts: &[u64]) -> bool
+    ensures some { result ≡ true → (number : ℕ) × (number < length counts.now)
+        × (1 ≤ slice_index counts.now number) }
+    ensures none { result ≡ false → (number : ℕ) → number < length counts.now
+        → slice_index counts.now number ≡ 0 }
+{
+    let mut at = 0;
+    while at < counts.len() {
+        if counts[at] != 0 {
+            return true;
+        }
+        at += 1;
+    }
+    false
+}
+
+/// Whether some pattern occurs in what the source gives. It is read until a match is settled, or to its end.
+///
+/// # Errors
+///
+/// As `counts_in`.
 fn occurs_in<A: Automaton, R: Source>(
     alloc: Global,
     automaton: &A,
     source: &mut R,
 ) -> Result<bool, StreamError>
-    requires ready { CanLook A.Automaton automaton.now }
+    requires ready { CanLook A.Automaton automaton.now false }
     ensures looks { IfOf A.Automaton automaton.now (λ p.
-        LooksAt R.Source p result source.old source.new) }
+        LooksAt R.Source (sought p false) result source.old source.new) }
 {
     // Not by `try_stream_find_iter`, which does not say that a refusal leaves the source as it was.
     let start = StreamStart::new(alloc, automaton)?;
@@ -210,8 +279,8 @@ fn has_next<'a, 'r, A: Automaton, R: Source>(
     requires along { (p : Patterns) → A.is_of (automaton_of finds.old.chunks) p → FindsAlong R.Source
         ⟦<StreamFindIter<'a, 'r, A, R> as Iterator>⟧.next_gives p finds.old }
     ensures same_source { finds.new.chunks.source.ghost_name ≡ finds.old.chunks.source.ghost_name }
-    ensures looks { (p : Patterns) → A.is_of (automaton_of finds.old.chunks) p → LooksAt R.Source p result
-        finds.old.chunks.source.now finds.new.chunks.source.now }
+    ensures looks { (p : Patterns) → A.is_of (automaton_of finds.old.chunks) p →
+        LooksAt R.Source (sought p false) result finds.old.chunks.source.now finds.new.chunks.source.now }
 {
     match finds.next() {
         None => Ok(false),

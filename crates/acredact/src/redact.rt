@@ -4,7 +4,7 @@ ghost use Rattle.std.specs.Prelude.{◌≡◌, ◌∷◌, [], OnOk, false, slice
 ghost use Rattle.aho_core.specs.Patterns.{Patterns};
 ghost use Rattle.aho_core.specs.Replacement.{pieces_of};
 ghost use Rattle.aho_cover.specs.Counting.{CountsThese};
-ghost use Rattle.aho_cover.specs.Covers.{IsUnbegunCover};
+ghost use Rattle.aho_cover.specs.Covers.{IsUnbegunWith};
 ghost use Rattle.acredact.specs.Bounds.{Bounded};
 ghost use Rattle.acredact.specs.Secrets.{CanRedact};
 ghost use Rattle.acredact.specs.Streams.{ComesOf, StreamOutcome, WritesPiece};
@@ -14,16 +14,17 @@ ghost use Rattle.acredact.specs.Ways.{IfCoverer};
 use aho_automaton::automaton::Automaton;
 use aho_core::error::StreamError;
 use aho_core::search::Match;
-use aho_cover::pieces::Pieces;
+use aho_cover::pieces::{PatternPieces, Pieces};
 use aho_cover::start::StreamCoverStart;
-use aho_cover::stream::{cover_counted, cover_made};
+use aho_cover::stream::cover_with;
 use aho_devices::device::{Sink, Source};
 use aho_devices::write::write_whole;
 use aho_stream::replace::{try_stream_replace_all, try_stream_replace_all_with_mut};
 use std::alloc::Global;
 
 /// Writes what the source gives to the sink, but in the place of each run of bytes that lie in matches the replacement of the
-/// longest that begins with the run. The runs of each pattern that has a count are counted.
+/// longest that begins with the run. The start says whether only words count: matches beside which no letter, digit or `_` stands.
+/// The runs of each pattern that has a count are counted.
 ///
 /// It takes no memory but that of the start, which is then as before.
 ///
@@ -38,16 +39,19 @@ pub fn cover<A: Automaton, R: Source, W: Sink>(
     sink: &mut W,
 ) -> Result<(), StreamError>
     requires ready { CanRedact A.Automaton start.old.automaton.now true replacements.now }
-    requires unbegun { IsUnbegunCover A.Automaton start.old.automaton.now start.old.progress }
+    requires unbegun { IsUnbegunWith start.old.progress.words A.Automaton
+        start.old.automaton.now start.old.progress }
     ensures outcome { ComesOf A.Automaton R.Source W.Sink start.old.automaton.now true
-        replacements.now result source.old source.new sink.old sink.new }
-    ensures counted { CountsBy A.Automaton R.Source start.old.automaton.now true replacements.now
-        result source.old source.new counts.old counts.new }
+        start.old.progress.words replacements.now result source.old source.new sink.old sink.new }
+    ensures counted { CountsBy A.Automaton R.Source start.old.automaton.now true
+        start.old.progress.words replacements.now result source.old source.new counts.old counts.new }
     ensures most { Bounded R.Source source.old source.new counts.old counts.new }
     ensures same { start.new.automaton.now ≡ start.old.automaton.now }
-    ensures unbegun { IsUnbegunCover A.Automaton start.new.automaton.now start.new.progress }
+    ensures unbegun { IsUnbegunWith start.old.progress.words A.Automaton
+        start.new.automaton.now start.new.progress }
 {
-    cover_counted(start, source, sink, replacements, counts)
+    let mut pieces = PatternPieces::new(replacements);
+    cover_with(start, source, sink, &mut pieces, counts)
 }
 
 /// The same, where the text in the place of each run is made of its bytes.
@@ -63,17 +67,19 @@ pub fn cover_by_pieces<A: Automaton, R: Source, W: Sink, P: Pieces>(
     sink: &mut W,
 ) -> Result<(), StreamError>
     requires of { (p : Patterns) × A.is_of start.old.automaton.now p }
-    requires unbegun { IsUnbegunCover A.Automaton start.old.automaton.now start.old.progress }
-    ensures outcome { IfCoverer A.Automaton start.old.automaton.now (P.rule pieces.old)
+    requires unbegun { IsUnbegunWith start.old.progress.words A.Automaton
+        start.old.automaton.now start.old.progress }
+    ensures outcome { IfCoverer A.Automaton start.old.automaton.now start.old.progress.words (P.rule pieces.old)
         (λ r. StreamOutcome R.Source W.Sink r result source.old source.new sink.old sink.new) }
-    ensures counted { IfCoverer A.Automaton start.old.automaton.now (P.rule pieces.old)
+    ensures counted { IfCoverer A.Automaton start.old.automaton.now start.old.progress.words (P.rule pieces.old)
         (λ r. OnOk result (CountsOfStream R.Source r source.old source.new counts.old counts.new)) }
     ensures most { Bounded R.Source source.old source.new counts.old counts.new }
     ensures same { start.new.automaton.now ≡ start.old.automaton.now }
-    ensures unbegun { IsUnbegunCover A.Automaton start.new.automaton.now start.new.progress }
+    ensures unbegun { IsUnbegunWith start.old.progress.words A.Automaton
+        start.new.automaton.now start.new.progress }
     ensures rule { P.rule pieces.new ≡ P.rule pieces.old }
 {
-    cover_made(start, source, sink, pieces, counts)
+    cover_with(start, source, sink, pieces, counts)
 }
 
 /// Writes what the source gives to the sink, with its replacement in the place of each match.
@@ -90,7 +96,7 @@ pub fn redact<A: Automaton, R: Source, W: Sink>(
     sink: &mut W,
 ) -> Result<(), StreamError>
     requires ready { CanRedact A.Automaton automaton.now false replacements.now }
-    ensures outcome { ComesOf A.Automaton R.Source W.Sink automaton.now false replacements.now
+    ensures outcome { ComesOf A.Automaton R.Source W.Sink automaton.now false false replacements.now
         result source.old source.new sink.old sink.new }
 {
     try_stream_replace_all(alloc, automaton, source, sink, replacements)
@@ -106,9 +112,9 @@ pub fn redact_counting<A: Automaton, R: Source, W: Sink>(
     sink: &mut W,
 ) -> Result<(), StreamError>
     requires ready { CanRedact A.Automaton automaton.now false replacements.now }
-    ensures outcome { ComesOf A.Automaton R.Source W.Sink automaton.now false replacements.now
+    ensures outcome { ComesOf A.Automaton R.Source W.Sink automaton.now false false replacements.now
         result source.old source.new sink.old sink.new }
-    ensures counted { CountsBy A.Automaton R.Source automaton.now false replacements.now
+    ensures counted { CountsBy A.Automaton R.Source automaton.now false false replacements.now
         result source.old source.new counts.old counts.new }
     ensures most { Bounded R.Source source.old source.new counts.old counts.new }
 {

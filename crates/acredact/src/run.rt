@@ -102,7 +102,7 @@ pub fn run<F: Folder, I: Read, W: Write, E: Sink>(
     ensures begins { IfAsked arguments.now (λ given.
         BeginsAsked W.Write F.Folder folder.now given streams.old streams.new) }
 
-    // Where pieces that are not clean are refused, no pattern occurs in what was written of a file.
+    // Where pieces that are not clean are refused, and all that occurs counts, no pattern occurs in what was written of a file.
     ensures strict { IfAsked arguments.now (λ given. RefusesUnclean given → result ≡ 0
         → LeavesNoneAsked W.Write F.Folder folder.now given streams.old streams.new) }
 
@@ -122,7 +122,8 @@ pub fn run<F: Folder, I: Read, W: Write, E: Sink>(
     ensures numbers { IfAsked arguments.now (λ given.
         NumbersToldAsked E.Sink F.Folder folder.now given streams.old streams.new) }
 
-    // A check: at status 0 each file was read to its end, and no pattern occurs in any. At status 1 one does, in some file.
+    // A check: at status 0 each file was read to its end, and nothing counts in any: no pattern occurs, or with `-w` none stands as a word.
+    // At status 1 one does, in some file.
     ensures unmatched { IfChecking arguments.now (λ given. result ≡ 0
         → UnmatchedAsked F.Folder folder.now given streams.old streams.new) }
     ensures matched { IfChecking arguments.now (λ given. result ≡ 1
@@ -551,6 +552,7 @@ fn redact_all<'a, F: Folder, I: Read, W: Write, E: Sink>(
     let words = patterns.as_slice();
     let nfa = build(alloc, given, words)?;
     let ignore_case = has(given, Word::IgnoreCase);
+    let only_words = has(given, Word::AsWord);
     let rows = rows_of(alloc, &nfa, ignore_case, words)?;
     let back = back_of(alloc, given, words, &nfa)?;
     let job = Job {
@@ -560,6 +562,7 @@ fn redact_all<'a, F: Folder, I: Read, W: Write, E: Sink>(
         replacements: replacements.as_slice(),
         key: key_by(key, ignore_case),
         covers: covers(given),
+        words: only_words,
     };
     let judge = Judge {
         words,

@@ -116,7 +116,7 @@ impl<A: Automaton> Way for Replacing<'_, '_, A> {
     ghost use Rattle.acredact.specs.Ways.{IsRedactor};
     ghost use Rattle.std.specs.Prelude.{false};
 
-    ghost by = { λ way r. IsRedactor A.Automaton way.automaton.now false way.replacements.now r };
+    ghost by = { λ way r. IsRedactor A.Automaton way.automaton.now false false way.replacements.now r };
 
     /// Where nothing is counted the output is flushed before each read.
     fn redact<R: Source, W: Sink>(

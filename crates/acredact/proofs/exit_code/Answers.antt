@@ -1,5 +1,5 @@
 -- The status is that of the call, but for what was told of names.
-use Rattle.std.proofs.Common.{◌≡◌, ℕ, IfOk, true, sym, subst, ◌∙◌}
+use Rattle.std.proofs.Common.{◌≡◌, IfOk, true, sym, subst, ◌∙◌}
 use Rattle.std.specs.Process.{exit_status}
 use Rattle.acredact.specs.Apart.{status_behind}
 use Rattle.acredact.specs.Arguments.{AreMistaken, IfAsked, IfChecking, IfNoCheck, RefusesUnclean}

@@ -8,15 +8,17 @@ use Rattle.acredact.specs.declared.arguments.Mistake.TheVariants.{OutOfMemory}
 use Rattle.acredact.proofs.Readings.{last_letter, last_wrong}
 use Rattle.acredact.proofs.arguments.read_letters.Goals as goal
 
-pub returns-clause-refused : goal.returns-clause-refused
-returns-clause-refused c =
-    let rest = c.loop-behind.rest.now in
+pub returns-in_default-strip_prefix-clause-refused : goal.returns-in_default-strip_prefix-clause-refused
+returns-in_default-strip_prefix-clause-refused c =
+    let rest = c.letters.rest.now in
     let lacks = strip_prefix_char 105 rest None c.in_default.ensures.cases (lit< tt) in
+    let other = strip_prefix_char 119 rest None c.in_default-strip_prefix.ensures.cases (lit< tt) in
     subst (λ (o : Option ItemsSoFar). IfErr c.read_letter.result (λ mistake. (mistake ≡ OutOfMemory) ⊎ (o ≡ None)))
-    (sym (last_letter rest (all_given c.loop-behind.items.items) lacks) ∙ c.loop-behind.invariant.read) c.read_letter.ensures.refused
+    (sym (last_letter rest (all_given c.letters.items.items) lacks other) ∙ c.letters.invariant.read) c.read_letter.ensures.refused
 
-pub returns-clause-wrong : goal.returns-clause-wrong
-returns-clause-wrong c =
-    let rest = c.loop-behind.rest.now in
+pub returns-in_default-strip_prefix-clause-wrong : goal.returns-in_default-strip_prefix-clause-wrong
+returns-in_default-strip_prefix-clause-wrong c =
+    let rest = c.letters.rest.now in
     let lacks = strip_prefix_char 105 rest None c.in_default.ensures.cases (lit< tt) in
-    subst (λ (line : List ℕ). TellsAs line c.read_letter.result) (sym (last_wrong rest lacks) ∙ c.loop-behind.invariant.mistake) c.read_letter.ensures.wrong
+    let other = strip_prefix_char 119 rest None c.in_default-strip_prefix.ensures.cases (lit< tt) in
+    subst (λ (line : List ℕ). TellsAs line c.read_letter.result) (sym (last_wrong rest lacks other) ∙ c.letters.invariant.mistake) c.read_letter.ensures.wrong

@@ -6,12 +6,12 @@ use Rattle.acredact.specs.Arguments.{all_given, by_letters}
 use Rattle.acredact.specs.Mistakes.{line_of_letters}
 use Rattle.acredact.proofs.arguments.read_letters.Given as goal
 
-abbrev pub invariant-loop-behind : goal.invariant-loop-behind
-invariant-loop-behind l = record {
+abbrev pub invariant-letters : goal.invariant-letters
+invariant-letters l = record {
   read : by_letters l.rest (all_given l.items.items) ≡ by_letters l.fn.letters (all_given l.initial.items.items);
   mistake : line_of_letters l.rest ≡ line_of_letters l.fn.letters;
   text : shadow (Utf8 l.rest);
 }
 
-abbrev pub decreases-loop-behind : goal.decreases-loop-behind
-decreases-loop-behind l = length l.rest
+abbrev pub decreases-letters : goal.decreases-letters
+decreases-letters l = length l.rest

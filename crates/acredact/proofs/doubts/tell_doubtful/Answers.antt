@@ -1,5 +1,5 @@
 -- Of one more it is told.
-use Rattle.std.proofs.Common.{rules, ◌≡◌, ℕ, ◌≤◌, List, [], ◌++◌, length, refl, sym, ap, subst, ◌∙◌, append-nil}
+use Rattle.std.proofs.Common.{rules, ◌≡◌, ◌≤◌, [], ◌++◌, length, refl, sym, ap, subst, ◌∙◌, append-nil}
 use Rattle.std.specs.List.{concat}
 use Rattle.programs.specs.Telling.{TellsBytes}
 use Rattle.programs.proofs.Tellings.{tells-later}

@@ -2,7 +2,7 @@
 use Rattle.std.proofs.Common.{rules, ◌≡◌, false}
 use Rattle.acredact.specs.Files.{redactor_of}
 use Rattle.acredact.proofs.Backed.{backing_is, some_back}
-use Rattle.acredact.proofs.Suited.{key_of_plain}
+use Rattle.acredact.proofs.Suited.{key_of_plain, words_of_plain}
 use Rattle.acredact.proofs.files.back_files.Goals as goal
 
 pub redact_flushed-requires : goal.redact_flushed-requires
@@ -13,7 +13,7 @@ redact_flushed-requires g c =
       ready = (
         redactor_of c.args.job.now p,
         record {
-          by = backing_is g.A.Automaton g.B.Automaton _ _ p _ _ _ of back plain (key_of_plain _ c.args.job.now.key plain) c.requires.ready;
+          by = backing_is g.A.Automaton g.B.Automaton _ _ p _ _ _ _ of back plain (words_of_plain _ c.args.job.now.words plain) (key_of_plain _ c.args.job.now.key plain) c.requires.ready;
           some = some_back g.B.Automaton _ p back;
         },
       );
@@ -23,7 +23,7 @@ pub returns-clause-outcome : goal.returns-clause-outcome
 returns-clause-outcome g c =
     let plain : c.args.job.now.covers ≡ false = search rules in λ p of back.
     c.redact_flushed.ensures.outcome (redactor_of c.args.job.now p) (record {
-      by = backing_is g.A.Automaton g.B.Automaton _ _ p _ _ _ of back plain (key_of_plain _ c.args.job.now.key plain) c.requires.ready;
+      by = backing_is g.A.Automaton g.B.Automaton _ _ p _ _ _ _ of back plain (words_of_plain _ c.args.job.now.words plain) (key_of_plain _ c.args.job.now.key plain) c.requires.ready;
       some = some_back g.B.Automaton _ p back;
     })
 
@@ -31,6 +31,6 @@ pub returns-clause-counted : goal.returns-clause-counted
 returns-clause-counted g c =
     let plain : c.args.job.now.covers ≡ false = search rules in λ p of back.
     c.redact_flushed.ensures.counted (redactor_of c.args.job.now p) (record {
-      by = backing_is g.A.Automaton g.B.Automaton _ _ p _ _ _ of back plain (key_of_plain _ c.args.job.now.key plain) c.requires.ready;
+      by = backing_is g.A.Automaton g.B.Automaton _ _ p _ _ _ _ of back plain (words_of_plain _ c.args.job.now.words plain) (key_of_plain _ c.args.job.now.key plain) c.requires.ready;
       some = some_back g.B.Automaton _ p back;
     })

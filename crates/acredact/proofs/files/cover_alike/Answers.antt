@@ -5,7 +5,7 @@ use Rattle.aho_core.specs.declared.error.stream.StreamError.{StreamError}
 use Rattle.aho_core.specs.declared.error.stream.StreamError.TheVariants.{Memory}
 use Rattle.acredact.specs.Files.{FilesOutcome, redactor_of, work_of}
 use Rattle.acredact.proofs.Redactions.{some_of}
-use Rattle.acredact.proofs.Suited.{covering_is, files_memory, key_of_none, only_memory}
+use Rattle.acredact.proofs.Suited.{covering_is, files_memory, key_of_none, only_memory, words_of_cover}
 use Rattle.acredact.proofs.files.cover_alike.Goals as goal
 
 pub returns-in_err-start-clause-outcome : goal.returns-in_err-start-clause-outcome
@@ -23,7 +23,7 @@ redact_flushed-requires g c =
       ready = (
         redactor_of c.args.job.now p,
         record {
-          by = covering_is g.A.Automaton _ _ p _ _ _ _ of c.requires.covers (key_of_none _ c.args.job.now.key c.requires.covers c.requires.unnamed) c.requires.ready c.in_ok-start.ensures.of c.in_ok-start.ensures.unbegun;
+          by = covering_is g.A.Automaton _ _ p _ _ _ _ _ _ of c.requires.covers (words_of_cover _ c.args.job.now.words c.requires.covers) (key_of_none _ c.args.job.now.key c.requires.covers c.requires.unnamed) c.requires.ready c.in_ok-start.ensures.of c.in_ok-start.ensures.unbegun;
           some = some_of g.A.Automaton _ p (g.met.A.Automaton.laws _ _ of).lengths_are c.requires.ready.begins;
         },
       );
@@ -32,13 +32,13 @@ redact_flushed-requires g c =
 pub returns-clause-outcome : goal.returns-clause-outcome
 returns-clause-outcome g c = λ p of.
     c.redact_flushed.ensures.outcome (redactor_of c.args.job.now p) (record {
-      by = covering_is g.A.Automaton _ _ p _ _ _ _ of c.requires.covers (key_of_none _ c.args.job.now.key c.requires.covers c.requires.unnamed) c.requires.ready c.in_ok-start.ensures.of c.in_ok-start.ensures.unbegun;
+      by = covering_is g.A.Automaton _ _ p _ _ _ _ _ _ of c.requires.covers (words_of_cover _ c.args.job.now.words c.requires.covers) (key_of_none _ c.args.job.now.key c.requires.covers c.requires.unnamed) c.requires.ready c.in_ok-start.ensures.of c.in_ok-start.ensures.unbegun;
       some = some_of g.A.Automaton _ p (g.met.A.Automaton.laws _ _ of).lengths_are c.requires.ready.begins;
     })
 
 pub returns-clause-counted : goal.returns-clause-counted
 returns-clause-counted g c = λ p of.
     c.redact_flushed.ensures.counted (redactor_of c.args.job.now p) (record {
-      by = covering_is g.A.Automaton _ _ p _ _ _ _ of c.requires.covers (key_of_none _ c.args.job.now.key c.requires.covers c.requires.unnamed) c.requires.ready c.in_ok-start.ensures.of c.in_ok-start.ensures.unbegun;
+      by = covering_is g.A.Automaton _ _ p _ _ _ _ _ _ of c.requires.covers (words_of_cover _ c.args.job.now.words c.requires.covers) (key_of_none _ c.args.job.now.key c.requires.covers c.requires.unnamed) c.requires.ready c.in_ok-start.ensures.of c.in_ok-start.ensures.unbegun;
       some = some_of g.A.Automaton _ p (g.met.A.Automaton.laws _ _ of).lengths_are c.requires.ready.begins;
     })

@@ -3,8 +3,7 @@ use Rattle.std.proofs.Common.{List, ℕ, subst}
 use Rattle.std.specs.List.{All}
 use Rattle.std.proofs.lemmas.Result.{on_ok_weaker}
 use Rattle.secret_forms.specs.Forms.{HidesForm}
-use Rattle.acredact.specs.Forms.{HidesSecret, form_patterns_of}
-use Rattle.acredact.specs.Tables.{secret_of}
+use Rattle.acredact.specs.Forms.{form_patterns_of}
 use Rattle.acredact.proofs.forms.add_forms_of.Goals as goal
 
 pub returns-in-Ok-clause-hidden : goal.returns-in-Ok-clause-hidden

@@ -1,5 +1,5 @@
 -- What is left gives the other forms that the value names.
-use Rattle.std.proofs.Common.{◌≡◌, ◌++◌, List, length}
+use Rattle.std.proofs.Common.{◌≡◌, ◌++◌, length}
 use Rattle.std.specs.List.{filter}
 use Rattle.acredact.specs.Forms.{all_forms, asks_for}
 use Rattle.acredact.proofs.forms.forms_by.Given as goal

@@ -1,6 +1,6 @@
 -- The pieces are looked at, and then the files are replaced.
 use Rattle.std.proofs.Common.{rules, ◌≡◌, ℕ, inl, inr, refl, sym, subst}
-use Rattle.std.specs.Prelude.{Bool, Err, IsOk, Option, Result, Some}
+use Rattle.std.specs.Prelude.{Bool, Err, IsOk, Option, Result}
 use Rattle.aho_core.specs.declared.error.MatchErrorKind.{MatchErrorKind}
 use Rattle.programs.specs.Failures.{failure_of_stream}
 use Rattle.acredact.specs.Files.{redactor_of, work_of}

@@ -17,4 +17,5 @@ returns c =
     let e10 = then_option asked _ _ _ _ _ e9 c.or-10.ensures.found in
     let e11 = then_option asked _ _ _ _ _ e10 c.or-11.ensures.found in
     let e12 = then_option asked _ _ _ _ _ e11 c.or-12.ensures.found in
-    record { found = then_option asked _ _ _ _ _ e12 c.or-13.ensures.found }
+    let e13 = then_option asked _ _ _ _ _ e12 c.or-13.ensures.found in
+    record { found = then_option asked _ _ _ _ _ e13 c.or-14.ensures.found }

@@ -11,11 +11,11 @@ use Rattle.acredact.proofs.Done.{names_cut, names_end}
 use Rattle.acredact.proofs.look.look_at_files.Goals as goal
 
 pub loop-rest-init : goal.loop-rest-init
-loop-rest-init g c = λ p of. seen_none g.E.Sink (quest_of g.F.Folder c.args.files.now.folder.now p) _ _ _
+loop-rest-init g c = λ p of. seen_none g.E.Sink (quest_of g.F.Folder c.args.files.now.folder.now c.args.files.now.words p) _ _ _
 
 pub loop-rest-preserved : goal.loop-rest-preserved
 loop-rest-preserved g c = λ p of.
-    let quest = quest_of g.F.Folder c.args.files.now.folder.now p in
+    let quest = quest_of g.F.Folder c.args.files.now.folder.now c.args.files.now.words p in
     let names = name_bytes c.args.files.now.names.now in
     let some : 1 ≤ length c.loop-rest.rest.now = search rules in
     let so = subst (λ (l : List (List ℕ)). SeenSoFar g.E.Sink quest names c.args.errors.now (bytes_left c.args.input.now) l c.loop-rest.verdict (bytes_left c.loop-rest.input) c.loop-rest.errors)
@@ -29,7 +29,7 @@ returns-in_err-look g c =
     let is : c.from_residual.result ≡ Err c.in_err-look.field-0.0 = search rules in
     record {
       sees = λ p of.
-          subst (λ (r : Result Verdict AllocError). SeesFiles g.E.Sink (quest_of g.F.Folder c.args.files.now.folder.now p) (name_bytes c.args.files.now.names.now) r (bytes_left c.args.input.now) (bytes_left c.look_at_file.new.input) c.args.errors.now c.loop-rest.errors) (sym is)
+          subst (λ (r : Result Verdict AllocError). SeesFiles g.E.Sink (quest_of g.F.Folder c.args.files.now.folder.now c.args.files.now.words p) (name_bytes c.args.files.now.names.now) r (bytes_left c.args.input.now) (bytes_left c.look_at_file.new.input) c.args.errors.now c.loop-rest.errors) (sym is)
           (seen_cut g.E.Sink _ _ _ _ _ _ c.loop-rest.verdict _ _ _ (c.loop-rest.invariant p of));
     }
 
@@ -39,6 +39,6 @@ returns g c =
     record {
       sees = λ p of.
           seen_all g.E.Sink _ _ _ _ c.loop-rest.verdict _ _
-          (subst (λ (l : List (List ℕ)). SeenSoFar g.E.Sink (quest_of g.F.Folder c.args.files.now.folder.now p) (name_bytes c.args.files.now.names.now) c.args.errors.now (bytes_left c.args.input.now) l c.loop-rest.verdict (bytes_left c.loop-rest.input) c.loop-rest.errors)
+          (subst (λ (l : List (List ℕ)). SeenSoFar g.E.Sink (quest_of g.F.Folder c.args.files.now.folder.now c.args.files.now.words p) (name_bytes c.args.files.now.names.now) c.args.errors.now (bytes_left c.args.input.now) l c.loop-rest.verdict (bytes_left c.loop-rest.input) c.loop-rest.errors)
           (names_end c.loop-rest.rest.now none) (c.loop-rest.invariant p of));
     }

@@ -8,7 +8,7 @@ use Rattle.acredact.proofs.Checks.{SeenSoFar}
 use Rattle.acredact.proofs.look.look_at_files.Given as goal
 
 abbrev pub invariant-loop-rest : goal.invariant-loop-rest
-invariant-loop-rest g l = IfOf g.A.Automaton l.fn.automaton (λ p. SeenSoFar g.E.Sink (quest_of g.F.Folder l.fn.files.folder.now p) (name_bytes l.fn.files.names.now) l.initial.errors (bytes_left l.initial.input)
+invariant-loop-rest g l = IfOf g.A.Automaton l.fn.automaton (λ p. SeenSoFar g.E.Sink (quest_of g.F.Folder l.fn.files.folder.now l.fn.files.words p) (name_bytes l.fn.files.names.now) l.initial.errors (bytes_left l.initial.input)
     (name_bytes l.rest) l.verdict (bytes_left l.input) l.errors)
 
 abbrev pub decreases-loop-rest : goal.decreases-loop-rest

@@ -1,6 +1,5 @@
 -- There is a line end, or none.
-use Rattle.std.proofs.Common.{[], inl, inr, refl, sym, append-nil}
-use Rattle.std.proofs.lemmas.Result.{on_ok_weaker}
+use Rattle.std.proofs.Common.{[], inl, refl, sym, append-nil}
 use Rattle.acredact.specs.Tables.{secrets_of}
 use Rattle.acredact.proofs.parts.add_parts.Goals as goal
 

@@ -1,7 +1,7 @@
 -- Both automata are of the patterns that are asked for, and there is a replacement for each.
 use Rattle.std.proofs.Common.{rules, refl, ◌≡◌, ◌≤◌, ◌∙◌, ap, sym, subst, length, map, true, List, ℕ}
 use Rattle.std.specs.Option.{option_map}
-use Rattle.std.specs.Prelude.{Bool, IfSome, IsOk, None, Option, Some, Err, Result}
+use Rattle.std.specs.Prelude.{◌&&◌, Bool, IfSome, IsOk, None, Option, Some, Err, Result}
 use Rattle.std.specs.Borrow.{Bor}
 use Rattle.std.proofs.lemmas.List.{length-map}
 use Rattle.aho_core.specs.Laws.{shortest}
@@ -20,7 +20,7 @@ use Rattle.aho_backward.specs.declared.backward.Backward.{Backward}
 use Rattle.programs.specs.Asked.{ArePatterns}
 use Rattle.programs.specs.Names.{name_bytes}
 use Rattle.programs.specs.Streams.{bytes_left}
-use Rattle.acredact.specs.Arguments.{Given, all_given, covers_asked, has}
+use Rattle.acredact.specs.Arguments.{Given, all_given, covers_asked, has, words_asked}
 use Rattle.acredact.specs.Back.{AreBoth, IsBackAsked}
 use Rattle.acredact.specs.Builds.{RefusesPatterns, patterns_by_given}
 use Rattle.acredact.specs.Calls.{WarnedOutcome, call_of, key_asked, keyed_as, names_asked, pieces_asked, work_by}
@@ -55,6 +55,9 @@ names_are g c = ap name_bytes c.as_slice.ensures.value ∙ c.in_ok-names.ensures
 
 covers_are : (g : Over) (c : After-as_ref g) → c.covers.result ≡ covers_asked (all_given c.args.given.now)
 covers_are g c = c.covers.ensures.covers
+
+chosen_are : (g : Over) (c : After-as_ref g) → (c.covers.result && c.has-only_words.result) ≡ words_asked (all_given c.args.given.now)
+chosen_are g c = ap (λ (b : Bool). b && c.has-only_words.result) (covers_are g c) ∙ ap (λ (b : Bool). covers_asked (all_given c.args.given.now) && b) c.has-only_words.ensures.has
 
 key_is : (g : Over) (c : After-as_ref g) → key_for c.covers.result c.key_by.result ≡ key_asked (all_given c.args.given.now) (key_lent c.args.key)
 key_is g c =
@@ -137,7 +140,7 @@ pub returns-clause-counted : goal.returns-clause-counted
 returns-clause-counted g c =
     let p = patterns_by_given (all_given c.args.given.now) (patterns_in (secrets_of c.args.rules.now)) in
     let after = (goal.at.returns-clause-counted g c).After-as_ref in
-    work_as (g.F.Folder.holds c.args.folder.now) (g.F.Folder.refuses c.args.folder.now) (g.F.Folder.meets c.args.folder.now) p _ _ _ _ _ _ _ _ (names_are g after) (covers_are g after) (pieces_are g after) (key_is g after)
+    work_as (g.F.Folder.holds c.args.folder.now) (g.F.Folder.refuses c.args.folder.now) (g.F.Folder.meets c.args.folder.now) p _ _ _ _ _ _ _ _ _ _ (names_are g after) (covers_are g after) (chosen_are g after) (pieces_are g after) (key_is g after)
     (λ w. CountsWork w c.redact_warned.result c.args.streams.now c.redact_warned.new.streams c.args.counts.now c.redact_warned.new.counts) (c.redact_warned.ensures.counted p (nfa_is g after) (patterns_are g after) (rows_are g after)
     (back_is (all_given c.args.given.now) _ _ c.in_ok-back.back c.as_ref-2.result (words_are g after) c.as_ref-2.ensures.value c.in_ok-back.ensures.of))
 
@@ -147,7 +150,7 @@ returns-clause-outcome g c =
     let after = (goal.at.returns-clause-outcome g c).After-as_ref in
     let work = work_by (call_of g.F.Folder c.args.folder.now (all_given c.args.given.now)) (loaded_as c.args.rules.now (key_lent c.args.key)) in
     subst (λ (b : Bool). WarnedOutcome g.W.Write g.E.Sink b work c.redact_warned.result c.args.streams.now c.redact_warned.new.streams) c.has-strict.ensures.has
-    (work_as (g.F.Folder.holds c.args.folder.now) (g.F.Folder.refuses c.args.folder.now) (g.F.Folder.meets c.args.folder.now) p _ _ _ _ _ _ _ _ (names_are g after) (covers_are g after) (pieces_are g after) (key_is g after)
+    (work_as (g.F.Folder.holds c.args.folder.now) (g.F.Folder.refuses c.args.folder.now) (g.F.Folder.meets c.args.folder.now) p _ _ _ _ _ _ _ _ _ _ (names_are g after) (covers_are g after) (chosen_are g after) (pieces_are g after) (key_is g after)
     (λ w. WarnedOutcome g.W.Write g.E.Sink c.has-strict.result w c.redact_warned.result c.args.streams.now c.redact_warned.new.streams) (c.redact_warned.ensures.outcome p (nfa_is g after) (patterns_are g after) (rows_are g after)
     (back_is (all_given c.args.given.now) _ _ c.in_ok-back.back c.as_ref-2.result (words_are g after) c.as_ref-2.ensures.value c.in_ok-back.ensures.of)))
 

@@ -1,6 +1,6 @@
 -- The key names runs, or with forms the secrets.
 use Rattle.std.proofs.Common.{rules, ◌≡◌, inl, Bool, true, false, refl, sym, ap, subst, ◌∙◌}
-use Rattle.std.specs.Prelude.{Err, Result, Some, None}
+use Rattle.std.specs.Prelude.{Err, Result, Some}
 use Rattle.programs.specs.declared.failure.Failure.TheVariants.{OutOfMemory}
 use Rattle.pseudonyms.specs.Pseudonyms.{pseudonym_rule}
 use Rattle.acredact.specs.Arguments.{all_given, has}

@@ -1,5 +1,5 @@
 -- Of doubtful patterns it is told before anything else, or the first is refused.
-use Rattle.std.proofs.Common.{inl, inr, List, ℕ, ap, subst, sym}
+use Rattle.std.proofs.Common.{inr, subst, sym}
 use Rattle.std.specs.Prelude.{Bool, Err}
 use Rattle.programs.specs.Streams.{bytes_left}
 use Rattle.programs.specs.declared.errors.Errors.{Errors}

@@ -10,7 +10,7 @@ use Rattle.acredact.specs.Statuses.{CallStatus}
 use Rattle.acredact.specs.declared.failure.Failure.TheVariants.{Arguments}
 use Rattle.acredact.proofs.Calls.{call_refused}
 use Rattle.acredact.proofs.Checks.{check_refused, status_ended}
-use Rattle.acredact.proofs.Given.{forms_cover, memory_alone, same_given}
+use Rattle.acredact.proofs.Given.{forms_cover, forms_unworded, memory_alone, same_given}
 use Rattle.acredact.proofs.Hiding.{call_hides}
 use Rattle.acredact.proofs.Statuses.{bound_by, flushed_by, one_by, status_failed, tells_one}
 use Rattle.acredact.proofs.run.run.Goals as goal
@@ -37,7 +37,7 @@ returns-in-Ok g c =
       check_patternless = λ given right asks. (checked given right asks).patternless;
       check_idle = λ given right asks none. record { unread = (checked given right asks).unread none; unwritten = (checked given right asks).unwritten };
       redacts = λ given right asks. (redacted given right asks).redacts;
-      hides = λ given right asks forms zero. call_hides g.W.Write (call_of g.F.Folder c.args.folder.now given) _ _ _ (forms_cover (texts c.args.arguments.now) given right forms) ((redacted given right asks).redacts zero);
+      hides = λ given right asks forms zero. call_hides g.W.Write (call_of g.F.Folder c.args.folder.now given) _ _ _ (forms_cover (texts c.args.arguments.now) given right forms) (forms_unworded (texts c.args.arguments.now) given right forms) ((redacted given right asks).redacts zero);
       begins = λ given right asks. (redacted given right asks).begins;
       strict = λ given right asks. (redacted given right asks).strict;
       quiet = λ given right asks. (redacted given right asks).quiet;
@@ -78,7 +78,7 @@ returns-in-Err g c =
       check_patternless = λ given right asks none. c.report.ensures.failed;
       check_idle = λ given right asks none. record { unread = refl; unwritten = refl };
       redacts = λ given right asks. (redacted given right).redacts;
-      hides = λ given right asks forms zero. call_hides g.W.Write (call_of g.F.Folder c.args.folder.now given) _ _ _ (forms_cover (texts c.args.arguments.now) given right forms) ((redacted given right).redacts zero);
+      hides = λ given right asks forms zero. call_hides g.W.Write (call_of g.F.Folder c.args.folder.now given) _ _ _ (forms_cover (texts c.args.arguments.now) given right forms) (forms_unworded (texts c.args.arguments.now) given right forms) ((redacted given right).redacts zero);
       begins = λ given right asks. (redacted given right).begins;
       strict = λ given right asks. (redacted given right).strict;
       quiet = λ given right asks. (redacted given right).quiet;

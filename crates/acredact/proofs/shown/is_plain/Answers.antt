@@ -1,5 +1,5 @@
 -- One byte more is, and at the end all are.
-use Rattle.std.proofs.Common.{rules, ◌≡◌, ℕ, ◌≤◌, List, [], ◌∷◌, ◌++◌, length, refl, sym, ap, ◌∙◌, false}
+use Rattle.std.proofs.Common.{rules, ◌≡◌, ◌≤◌, [], ◌∷◌, ◌++◌, length, refl, sym, ap, ◌∙◌, false}
 use Rattle.std.specs.Prelude.{slice_index}
 use Rattle.acredact.specs.Messages.{is_control, shown}
 use Rattle.acredact.proofs.ShownNames.{nil_of, plain_next}

@@ -1,5 +1,5 @@
 -- One byte more is written.
-use Rattle.std.proofs.Common.{rules, ◌≡◌, ℕ, ◌≤◌, List, [], ◌++◌, length, refl, sym, ap, subst, ◌∙◌, append-nil}
+use Rattle.std.proofs.Common.{rules, ◌≡◌, ◌≤◌, [], ◌++◌, length, refl, sym, ap, subst, ◌∙◌, append-nil}
 use Rattle.std.specs.Prelude.{slice_index}
 use Rattle.programs.specs.Telling.{TellsBytes}
 use Rattle.programs.proofs.Tellings.{tells-later}

@@ -1,8 +1,8 @@
 -- One count more.
-use Rattle.std.proofs.Common.{rules, ◌≡◌, ◌≤◌, ◌<◌, ℕ, ◌+◌, ◌-◌, List, get_or, length, drop, take, refl, sym, ap, subst, ◌∙◌, arith}
+use Rattle.std.proofs.Common.{rules, ◌≡◌, ◌≤◌, ◌-◌, get_or, length, refl, subst, arith}
 use Rattle.std.proofs.lemmas.Grind.{common_steps}
-use Rattle.acredact.specs.Sums.{HaveGrown, counts_for, share, sum_for}
-use Rattle.acredact.specs.Tables.{Secret, secret_of, secrets_of}
+use Rattle.acredact.specs.Sums.{HaveGrown, counts_for, share}
+use Rattle.acredact.specs.Tables.{secret_of, secrets_of}
 use Rattle.acredact.specs.declared.patterns.Rule.{Rule}
 use Rattle.acredact.proofs.Summing.{grown_nothing, grown_then, sum_next, sum_none, sum_past}
 use Rattle.acredact.proofs.sums.add_counts.Goals as goal

@@ -1,5 +1,5 @@
 -- The counts are added to zeros.
-use Rattle.std.proofs.Common.{rules, ◌≡◌, ℕ, List, length, sym, ap, subst, ◌∙◌}
+use Rattle.std.proofs.Common.{rules, ◌≡◌, ℕ, List, length, subst, ◌∙◌}
 use Rattle.acredact.specs.Sums.{HaveGrown, sum_for}
 use Rattle.acredact.specs.Tables.{secrets_of}
 use Rattle.acredact.proofs.Summing.{sums_are, written_over}

@@ -1,5 +1,5 @@
 -- A line without a fault is passed, and the first with one is told.
-use Rattle.std.proofs.Common.{rules, ◌≡◌, ◌≤◌, ℕ, ◌+◌, ◌-◌, ◌^◌, List, [], Option, length, sym, ap, ◌∙◌, arith}
+use Rattle.std.proofs.Common.{rules, ◌≡◌, ◌≤◌, ℕ, ◌+◌, ◌-◌, ◌^◌, Option, length, sym, ap, ◌∙◌, arith}
 use Rattle.std.specs.Prelude.{Some, None, min, nat_eq}
 use Rattle.std.specs.List.{slice_split}
 use Rattle.acredact.specs.Tables.{stripped_by}

@@ -1,0 +1,16 @@
+-- The forms of forms in front of what is left have their rules.
+use Rattle.std.proofs.Common.{◌≡◌, ◌++◌, length, map}
+use Rattle.std.specs.List.{flat_map}
+use Rattle.acredact.specs.Forms.{HidesTwice, filled, form_secret, twice_patterns}
+use Rattle.acredact.specs.Tables.{secret_of, secrets_of}
+use Rattle.acredact.proofs.forms.add_nested.Given as goal
+
+abbrev pub invariant-loop-rest : goal.invariant-loop-rest
+invariant-loop-rest l = record {
+  made : secrets_of l.more.items ++ map (form_secret l.fn.number (secret_of l.fn.rule)) (filled (flat_map (twice_patterns l.fn.rule.pattern.items) l.rest))
+      ≡ secrets_of l.initial.more.items ++ map (form_secret l.fn.number (secret_of l.fn.rule)) (filled (flat_map (twice_patterns l.fn.rule.pattern.items) l.fn.nested));
+  hidden : HidesTwice l.rest l.fn.rule.pattern.items → HidesTwice l.fn.nested l.fn.rule.pattern.items;
+}
+
+abbrev pub decreases-loop-rest : goal.decreases-loop-rest
+decreases-loop-rest l = length l.rest
