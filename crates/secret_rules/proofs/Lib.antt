@@ -26,3 +26,27 @@ pub mod Marked
 pub mod Onward
 -- texts and tables of an array, one after another
 pub mod Texts
+-- members of lists, by their places
+pub mod Members
+-- occurrences that are joined to runs
+pub mod Joined
+-- occurrences that stand for all that count
+pub mod Picked
+-- the lines of a text, as they come, with their runs
+pub mod LineRuns
+-- what was written of a line
+pub mod WrittenLines
+-- what stands for all that is covered of a line
+pub mod Covered
+-- lines that come to their ends, some after others
+pub mod Advancing
+-- how far the cover of a stream has come
+pub mod Streaming
+-- bytes of a text that are taken in
+pub mod Taking
+-- a line that comes to its end
+pub mod Ending
+-- the bytes of a line as they are read
+pub mod Reading
+-- what is said of one setting is said of the same
+pub mod Same

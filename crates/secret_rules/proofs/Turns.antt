@@ -1,9 +1,7 @@
 -- The turns of rules at a line, one after another.
-use Rattle.std.proofs.Common.{◌≡◌, ◌≢◌, ◌∙◌, ◌⊎◌, ◌↔◌, ℕ, zero, suc, ◌+◌, ◌<◌, ◌≤◌, Bool, false, List, [], ◌∷◌, ◌++◌, None, Option, Some, IfOk, IsSome, IsTrue, Result, Ok, Err, String, Global, All, ap, get_or, length, refl, slice_set, subst, sym, inl, inr, arith}
+use Rattle.std.proofs.Common.{◌≡◌, ◌≢◌, ◌∙◌, ◌⊎◌, ◌↔◌, ℕ, zero, suc, ◌+◌, ◌<◌, ◌≤◌, Bool, false, List, [], ◌∷◌, ◌++◌, None, Option, Some, IfOk, IsSome, IsTrue, Result, Ok, Err, String, Global, ap, get_or, length, refl, slice_set, subst, sym, inl, inr, arith}
 use Rattle.std.proofs.lemmas.Bool.{cases_eq, cases_lt, false≢true}
-use Rattle.std.proofs.lemmas.List.Sorted.{All-permutation, IsPermutation-sym}
 use Rattle.std.proofs.lemmas.Option.{same_Some, slice_get-get_or, slice_get_within}
-use Rattle.std.specs.List.Sorted.{IsPermutation}
 use Rattle.aho_core.specs.Listing.{IsMember}
 use Rattle.secret_rules.specs.Faults.{IsMarkFailure}
 use Rattle.secret_rules.specs.Markers.{AddsMarks, AreFlagsBehind, AreMarksWith, IsMarkWith, flag_at}
@@ -18,7 +16,6 @@ use Rattle.secret_rules.specs.declared.error.MarkError.TheVariants.{OutOfMemory,
 use Rattle.secret_rules.specs.declared.marks.Mark.{Mark}
 use Rattle.secret_rules.specs.declared.rule.Rule.{Rule}
 use Rattle.secret_rules.proofs.Onward.{GoesOnAfter-next, StaysOpen-of_next}
-use Rattle.secret_rules.proofs.Owners.{member-get_or}
 
 -- the flag that was read at a number
 pub flag-read : (flags : List Bool) (number : ℕ) (flag : Bool) → number < length flags → flag ≡ get_or flags number flag → flag ≡ flag_at flags number
@@ -30,21 +27,6 @@ pub flag-set : (flags : List Bool) (number : ℕ) (flag : Bool) → number < len
 flag-set [] number flag within = absurd (omega (arith, within))
 flag-set (first ∷ flags) zero flag within = refl
 flag-set (first ∷ flags) (suc number) flag within = flag-set flags number flag (omega (arith, within))
-
--- members after a sort
-pub member-permuted : (xs ys : List Mark) → IsPermutation xs ys → (x : Mark) → IsMember ys x ↔ IsMember xs x
-member-permuted xs ys moved = λ x. (from xs ys moved x, from ys xs (IsPermutation-sym xs ys moved) x)
-  where
-    all-members : (zs : List Mark) → All (IsMember zs) zs
-    all-members zs = λ k d within. member-get_or zs k d within
-
-    one : (P : Mark → Type 0) (zs : List Mark) (x : Mark) → All P zs → IsMember zs x → P x
-    one P [] x all is = absurd is
-    one P (z ∷ zs) x all (inl same) = subst P (sym same) (all 0 z (omega arith))
-    one P (z ∷ zs) x all (inr later) = one P zs x (λ k d within. all (suc k) d (omega (arith, within))) later
-
-    from : (xs ys : List Mark) → IsPermutation xs ys → (x : Mark) → IsMember ys x → IsMember xs x
-    from xs ys moved x is = one (IsMember xs) ys x (All-permutation (IsMember xs) xs ys moved (all-members xs)) is
 
 -- whether a match that begins goes on, where the rule applies
 pub begun-told : {E : Type 0} (result : Result Bool E) (Applies Leaves : Type 0) → Applies → IfOk result (λ begun. IsTrue begun ↔ Leaves)

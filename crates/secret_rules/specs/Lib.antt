@@ -26,3 +26,21 @@ pub mod Searching
 pub mod Marking
 -- which rules a text of TOML gives
 pub mod Tables
+-- the lines of a text
+pub mod Lines
+-- how occurrences are joined to runs
+pub mod Joining
+-- which occurrences of a line stand for all that count
+pub mod Picking
+-- what is written of a line
+pub mod Writing
+-- what is covered of the lines of a text, by patterns and by rules
+pub mod Covering
+-- what the cover of a stream leaves, line by line
+pub mod LineCovers
+-- the line that is being read, and how far a cover has come
+pub mod OpenLines
+-- what a cover of lines is of
+pub mod Ready
+-- the expression of what stands behind a keyword
+pub mod After

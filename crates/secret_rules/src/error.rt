@@ -1,6 +1,7 @@
 //! Why rules are none, and why a line is not marked.
 
 use crate::rule::RuleFault;
+use aho_core::error::StreamError;
 use chromesquid::BuildError;
 use std::alloc::AllocError;
 
@@ -43,5 +44,48 @@ impl From<AllocError> for MarkError {
 
     fn from(_error: AllocError) -> MarkError {
         MarkError::OutOfMemory
+    }
+}
+
+/// Why a stream is not covered line by line.
+#[derive(Clone, Copy, Debug, PartialEq, Eq)]
+pub enum LineError {
+    /// A device failed, or the limit of bytes was met.
+    Stream(StreamError),
+    /// A line is not marked, or an allocation failed.
+    Mark(MarkError),
+}
+
+impl From<StreamError> for LineError {
+    ghost use Rattle.std.specs.Prelude.{◌≡◌};
+    ghost use Rattle.secret_rules.specs.declared.error.LineError.TheVariants.{Stream};
+
+    ghost from_gives = { λ error made. made ≡ Stream error };
+
+    fn from(error: StreamError) -> LineError {
+        LineError::Stream(error)
+    }
+}
+
+impl From<MarkError> for LineError {
+    ghost use Rattle.std.specs.Prelude.{◌≡◌};
+    ghost use Rattle.secret_rules.specs.declared.error.LineError.TheVariants.{Mark};
+
+    ghost from_gives = { λ error made. made ≡ Mark error };
+
+    fn from(error: MarkError) -> LineError {
+        LineError::Mark(error)
+    }
+}
+
+impl From<AllocError> for LineError {
+    ghost use Rattle.std.specs.Prelude.{◌≡◌};
+    ghost use Rattle.secret_rules.specs.declared.error.LineError.TheVariants.{Mark};
+    ghost use Rattle.secret_rules.specs.declared.error.MarkError.TheVariants.{OutOfMemory};
+
+    ghost from_gives = { λ _ error. error ≡ Mark OutOfMemory };
+
+    fn from(_error: AllocError) -> LineError {
+        LineError::Mark(MarkError::OutOfMemory)
     }
 }

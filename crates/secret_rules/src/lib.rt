@@ -2,20 +2,29 @@
 #![tactic(auto)]
 
 mod builtin;
+mod covering;
 mod error;
 mod expression;
+mod joining;
 mod keywords;
+mod line_cover;
+mod lines;
 mod marker;
 mod marking;
 mod marks;
+mod occurrences;
+mod open_line;
 mod parsing;
 mod reader;
 mod readers;
 mod rule;
 mod rules;
+mod writing;
 
 pub use builtin::BUILTIN;
-pub use error::{MarkError, RulesError};
+pub use error::{LineError, MarkError, RulesError};
+pub use covering::cover_lines;
+pub use line_cover::LineCover;
 pub use marker::Marker;
 pub use marks::Mark;
 pub use parsing::{Key, ParseError, parse};

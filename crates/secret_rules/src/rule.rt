@@ -1,10 +1,11 @@
 //! Rules: what is looked for, and what of it is marked.
 
-ghost use Rattle.std.specs.Prelude.{◌↔◌, IfOk, IsTrue, MatchOption, [], map, string_bytes};
+ghost use Rattle.std.specs.Prelude.{◌≡◌, ◌↔◌, ◌++◌, ◌∷◌, IfOk, IsTrue, MatchOption, None, [], map, string_bytes};
 ghost use Rattle.aho_core.specs.Listing.{IsMember};
+ghost use Rattle.secret_rules.specs.After.{after_expression};
 
 use crate::expression::groups_of;
-use regex_syntax::{Error, ErrorKind};
+use regex_syntax::{Error, ErrorKind, escape};
 use std::alloc::{AllocError, Global};
 
 /// A rule.
@@ -47,9 +48,56 @@ fn has_empty(keywords: &[String]) -> bool
     false
 }
 
+/// The expression of what stands behind a keyword.
+fn expression_after(alloc: Global, keyword: &str) -> Result<String, AllocError>
+    ensures { IfOk result (λ made. string_bytes made ≡ after_expression keyword.now) }
+{
+    let literal = escape(alloc, keyword)?;
+    let mut made = String::new(alloc);
+    made.push_str("(?i)")?;
+    made.push_str(literal.as_str())?;
+    made.push_str("[\\s\"'=:]*([^\\s\"',;&)\\]}]+)")?;
+    Ok(made)
+}
+
+/// A text of its own.
+fn owned(alloc: Global, text: &str) -> Result<String, AllocError>
+    ensures { IfOk result (λ made. string_bytes made ≡ text.now) }
+{
+    let mut made = String::new(alloc);
+    made.push_str(text)?;
+    Ok(made)
+}
+
 impl Rule {
     ghost use Rattle.secret_rules.specs.Faults.{IsFaultOf};
-    ghost use Rattle.secret_rules.specs.Rules.{IsSoundRule};
+    ghost use Rattle.secret_rules.specs.Rules.{IsSoundRule, keywords_of, regex_of};
+
+    /// A rule that marks what stands behind a keyword, past blanks, quotes, `=` and `:`, up to the next blank, quote, comma, semicolon,
+    /// `&` or closing bracket. Its name is the keyword.
+    ///
+    /// # Errors
+    ///
+    /// Out of memory.
+    pub fn after(alloc: Global, keyword: &str) -> Result<Rule, AllocError>
+        ensures id { IfOk result (λ rule. string_bytes rule.id ≡ keyword.now) }
+        ensures regex { IfOk result (λ rule. regex_of rule ≡ after_expression keyword.now) }
+        ensures keywords { IfOk result (λ rule. keywords_of rule ≡ keyword.now ∷ []) }
+        ensures group { IfOk result (λ rule. rule.secret_group ≡ 1) }
+        ensures line { IfOk result (λ rule. rule.until ≡ None) }
+        ensures own { IfOk result (λ rule. rule.with ≡ None) }
+    {
+        let mut keywords = Vec::new(alloc);
+        keywords.push(owned(alloc, keyword)?)?;
+        Ok(Rule {
+            id: owned(alloc, keyword)?,
+            regex: expression_after(alloc, keyword)?,
+            keywords,
+            secret_group: 1,
+            until: None,
+            with: None,
+        })
+    }
 
     /// What is wrong with it, if something is.
     ///

@@ -1,6 +1,6 @@
 use Rattle.std.proofs.Common.{rules}
 use Rattle.std.proofs.lemmas.List.Sorted.{IsNonDecreasingBy-from_sort_by_key}
-use Rattle.secret_rules.proofs.Turns.{member-permuted}
+use Rattle.secret_rules.proofs.Members.{member-permuted}
 use Rattle.secret_rules.proofs.marks.put_in_order.Goals as goal
 
 pub returns-clause-order : goal.returns-clause-order

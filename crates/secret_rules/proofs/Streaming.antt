@@ -1,0 +1,223 @@
+-- How far the cover of a stream has come, line by line, from one read to the next.
+use Rattle.std.proofs.Common.{◌≡◌, ℕ, Bool, true, false, List, [], ◌∷◌, ◌++◌, length, refl, sym, ◌∙◌, ap, subst, arith, append_assoc}
+use Rattle.std.specs.Prelude.{Result, Ok, Err, IfErr, IsErrAnd, OnErr, OnOk}
+use Rattle.std.specs.Io.KnownBytes.{Appends, Consumes, Keeps}
+use Rattle.std.proofs.KnownBytes.{Appends-kept, Appends-nil, Appends-trans, Consumes-nil, Consumes-trans}
+use Rattle.std.proofs.lemmas.Grind.{flat_map-append}
+use Rattle.std.proofs.lemmas.List.{append-nil}
+use Rattle.aho_core.specs.Cover.{AreRunsOf}
+use Rattle.aho_core.specs.Occurrence.{Occurrence}
+use Rattle.aho_core.specs.Patterns.{Patterns}
+use Rattle.aho_core.specs.declared.error.stream.StreamError.{StreamError}
+use Rattle.aho_devices.specs.Counts.{counted}
+use Rattle.aho_devices.specs.declared.device.Sink.{Ghosts as SinkGhosts}
+use Rattle.aho_devices.specs.declared.device.Source.{Ghosts as SourceGhosts}
+use Rattle.aho_stream.specs.After.{MayFollow}
+use Rattle.aho_stream.specs.Replacing.{MayBe, SourceGave}
+use Rattle.aho_stream.proofs.Replacings.{gives_nothing, gives_on}
+use Rattle.aho_cover.specs.Counting.{CountsThese}
+use Rattle.aho_cover.specs.Pieces.{PieceRule}
+use Rattle.aho_cover.specs.declared.pieces.Pieces.{Ghosts as PieceGhosts}
+use Rattle.aho_cover.proofs.Counted.{counts_none, counts_then}
+use Rattle.secret_rules.specs.Covering.{AreLineRuns, CoveredIn, covering_by, lines_cover, seen_line}
+use Rattle.secret_rules.specs.LineCovers.{BeginsLines, CoversLines, CoversWholeLines, GoesOnWith, IsReadFailure, LeavesLines, all_of}
+use Rattle.secret_rules.specs.Lines.{Line, last_line, lines_from, lines_of}
+use Rattle.secret_rules.specs.OpenLines.{GoesOnBehind, StandsBehind, StopsInLine, StopsInLines, WritesLine, WritesLines}
+use Rattle.secret_rules.specs.Writing.{line_cover}
+use Rattle.secret_rules.specs.declared.error.LineError.{LineError}
+use Rattle.secret_rules.specs.declared.error.LineError.TheVariants.{Mark, Stream}
+use Rattle.secret_rules.specs.declared.open_line.OpenLine.{OpenLine}
+use Rattle.secret_rules.specs.declared.rule.Rule.{Rule}
+use Rattle.secret_rules.proofs.Advancing.{GoesOnWith-behind, StopsInLines-none, StopsInLines-then, WritesLines-part, WritesLines-then}
+use Rattle.secret_rules.proofs.LineRuns.{NoEnds, lines_cover-append, runs-append, runs-split}
+
+module _ {A R W P : Type 0} (S : SourceGhosts R) (K : SinkGhosts W) (Q : PieceGhosts P) (Searched : Patterns → Type 0) (words : Bool) (rules : List Rule) (most : ℕ) (rule : PieceRule) (first : R) (begun : W) (zeros : List ℕ) where
+  -- so much was given, written and counted
+  pub record Going (line : OpenLine A) (pieces : P) (source : R) (sink : W) (counts : List ℕ) : Type 0 where
+    pub given : List ℕ
+    pub gives : SourceGave S first source given false
+    pub before : List (List ℕ)
+    pub read : List ℕ
+    pub writes : WritesLines K Searched words rules most rule begun sink zeros counts [] [] given before read
+    pub stands : StandsBehind Q line pieces before read
+
+  abbrev Begins : R → W → List ℕ → Type 0
+  Begins source sink counts = BeginsLines S K Searched words rules most rule first source begun sink zeros counts
+
+  abbrev Leaves : R → W → List ℕ → Result (Unit {0}) LineError → Type 0
+  Leaves source sink counts result = LeavesLines S K Searched words rules most rule first source begun sink zeros counts result
+
+  -- nothing was given yet
+  pub going-first : (line : OpenLine A) (pieces : P) → StandsBehind Q line pieces [] [] → Going line pieces first begun zeros
+  going-first line pieces stands = record {
+    given = [];
+    gives = gives_nothing S first false refl;
+    before = [];
+    read = [];
+    writes = WritesLines-part K Searched words rules most rule begun zeros [] [] [] (λ k low high. absurd (omega (arith, high)));
+    stands = stands;
+  }
+
+  -- the sink has what it had
+  pub going-kept : (line : OpenLine A) (pieces : P) (source : R) (sink sink' : W) (counts : List ℕ) → Going line pieces source sink counts → Keeps (K.taken sink) (K.taken sink') → Going line pieces source sink' counts
+  going-kept line pieces source sink sink' counts going kept = record {
+    given = going.given;
+    gives = going.gives;
+    before = going.before;
+    read = going.read;
+    writes = record {
+      lines = going.writes.lines;
+      runs = going.writes.runs;
+      as_many = going.writes.as_many;
+      splits = going.writes.splits;
+      seen = going.writes.seen;
+      runs_are = going.writes.runs_are;
+      writes = Appends-kept (K.taken begun) (K.taken sink) (K.taken sink') (lines_cover rule going.writes.lines going.writes.runs) going.writes.writes kept;
+      counted = going.writes.counted;
+    };
+    stands = going.stands;
+  }
+
+  -- more was given, and taken in
+  pub going-more : (line line' : OpenLine A) (pieces pieces' : P) (source source' : R) (sink sink' : W) (counts counts' bytes : List ℕ) (going : Going line pieces source sink counts)
+      → Consumes (S.remaining source) (S.remaining source') bytes → S.empty_reads source' ≡ counted false (S.empty_reads source)
+      → GoesOnBehind K Q Searched words rules most rule sink sink' counts counts' line' pieces' going.before going.read bytes → Going line' pieces' source' sink' counts'
+  going-more line line' pieces pieces' source source' sink sink' counts counts' bytes going read ended behind = record {
+    given = going.given ++ bytes;
+    gives = gives_on S first source source' going.given bytes false false going.gives read ended (λ e. e);
+    before = behind.before';
+    read = behind.read';
+    writes = WritesLines-then K Searched words rules most rule begun sink sink' zeros counts counts' [] going.before behind.before' [] going.read behind.read' going.given bytes going.writes behind.writes;
+    stands = behind.stands;
+  }
+
+  -- a beginning is what was written where some lines were, and a part of the next
+  begins-lines : (source : R) (sink : W) (counts given : List ℕ) (ended : Bool) → SourceGave S first source given ended → StopsInLines K Searched words rules most rule begun sink zeros counts [] [] given → Begins source sink counts
+  begins-lines source sink counts given ended gives stops = record {
+    given = given;
+    ended = ended;
+    gives = gives;
+    lines = stops.lines;
+    runs = stops.runs;
+    part = stops.part;
+    as_many = stops.as_many;
+    runs_are = stops.runs_are;
+    writes = stops.writes;
+    counted = stops.counted;
+    goes_on = λ p bytes all searched may are.
+        subst (λ (ls : List Line). GoesOnWith rule stops.lines stops.runs stops.part ls all) (sym (ap lines_of may.1))
+        (stops.goes_on p may.0 all searched (subst (λ (ls : List Line). AreLineRuns (covering_by words rules most p) [] ls all) (ap lines_of may.1) are));
+  }
+
+  -- nothing more was written
+  pub going-begins : (line : OpenLine A) (pieces : P) (source : R) (sink : W) (counts : List ℕ) → Going line pieces source sink counts → Begins source sink counts
+  going-begins line pieces source sink counts going =
+      begins-lines source sink counts (going.given ++ []) false (subst (λ (g : List ℕ). SourceGave S first source g false) (sym (append-nil going.given)) going.gives)
+      (StopsInLines-then K Searched words rules most rule begun sink sink zeros counts counts [] going.before [] going.read going.given [] going.writes (StopsInLines-none K Searched words rules most rule sink counts going.before going.read []))
+
+  -- more was given, and of it some first lines and a part of the next were written
+  pub going-stops : (line : OpenLine A) (pieces : P) (source source' : R) (sink sink' : W) (counts counts' bytes : List ℕ) (going : Going line pieces source sink counts)
+      → Consumes (S.remaining source) (S.remaining source') bytes → S.empty_reads source' ≡ counted false (S.empty_reads source)
+      → StopsInLines K Searched words rules most rule sink sink' counts counts' going.before going.read bytes → Begins source' sink' counts'
+  going-stops line pieces source source' sink sink' counts counts' bytes going read ended stops =
+      begins-lines source' sink' counts' (going.given ++ bytes) false (gives_on S first source source' going.given bytes false false going.gives read ended (λ e. e))
+      (StopsInLines-then K Searched words rules most rule begun sink sink' zeros counts counts' [] going.before [] going.read going.given bytes going.writes stops)
+
+  -- a read failed: all lines whose ends were given were written
+  pub going-whole : (line : OpenLine A) (pieces : P) (source : R) (sink : W) (counts : List ℕ) → Going line pieces source sink counts
+      → CoversWholeLines S K Searched words rules most rule first source begun sink zeros counts
+  going-whole line pieces source sink counts going = record {
+    given = going.given;
+    gives = going.gives;
+    lines = going.writes.lines;
+    last = last_line going.read;
+    runs = going.writes.runs;
+    lines_are = ap lines_of (sym (append-nil going.given)) ∙ going.writes.splits [];
+    runs_are = going.writes.runs_are;
+    writes = going.writes.writes;
+    counted = going.writes.counted;
+  }
+
+  -- the source gave nothing: a read that failed, or its end
+  pub going-read : (line : OpenLine A) (pieces : P) (source source' : R) (sink : W) (counts : List ℕ) → Going line pieces source sink counts
+      → Consumes (S.remaining source) (S.remaining source') [] → S.empty_reads source' ≡ counted false (S.empty_reads source) → Going line pieces source' sink counts
+  going-read line pieces source source' sink counts going read ended = record {
+    given = going.given;
+    gives = subst (λ (g : List ℕ). SourceGave S first source' g false) (append-nil going.given) (gives_on S first source source' going.given [] false false going.gives read ended (λ e. e));
+    before = going.before;
+    read = going.read;
+    writes = going.writes;
+    stands = going.stands;
+  }
+
+  -- at the end the last line was written
+  pub going-covers : (line : OpenLine A) (pieces : P) (source source' : R) (sink sink' : W) (counts counts' : List ℕ) (going : Going line pieces source sink counts)
+      → Consumes (S.remaining source) (S.remaining source') [] → S.empty_reads source' ≡ counted true (S.empty_reads source)
+      → WritesLine K Searched words rules most rule sink sink' counts counts' going.before (last_line going.read)
+      → CoversLines S K Searched words rules most rule first source' begun sink' zeros counts'
+  going-covers line pieces source source' sink sink' counts counts' going read ended wrote =
+      let lines = ap lines_of (sym (append-nil going.given)) ∙ going.writes.splits [] in
+      let all = going.writes.runs ++ wrote.runs ∷ [] in
+      record {
+        given = going.given;
+        gives = subst (λ (g : List ℕ). SourceGave S first source' g true) (append-nil going.given) (gives_on S first source source' going.given [] false true going.gives read ended (λ e. refl));
+        runs = all;
+        runs_are = λ p searched. subst (λ (ls : List Line). AreLineRuns (covering_by words rules most p) [] ls all) (sym lines)
+            (runs-append (covering_by words rules most p) [] going.writes.lines (last_line going.read ∷ []) going.writes.runs (wrote.runs ∷ []) (going.writes.runs_are p searched)
+            (subst (λ (b : List (List ℕ)). AreLineRuns (covering_by words rules most p) b (last_line going.read ∷ []) (wrote.runs ∷ [])) going.writes.seen (wrote.runs_are p searched, tt)));
+        writes = subst (λ (ls : List Line). Appends (K.taken begun) (K.taken sink') (lines_cover rule ls all)) (sym lines)
+            (subst (Appends (K.taken begun) (K.taken sink')) (sym (lines_cover-append rule going.writes.lines (last_line going.read ∷ []) going.writes.runs (wrote.runs ∷ []) going.writes.as_many))
+            (Appends-trans (K.taken begun) (K.taken sink) (K.taken sink') (lines_cover rule going.writes.lines going.writes.runs) (line_cover rule (last_line going.read) wrote.runs ++ []) going.writes.writes
+            (subst (Appends (K.taken sink) (K.taken sink')) (sym (append-nil (line_cover rule (last_line going.read) wrote.runs))) wrote.writes)));
+        counted = subst (λ (rs : List Occurrence). CountsThese rs zeros counts') (sym (flat_map-append (λ (own : List Occurrence). own) going.writes.runs (wrote.runs ∷ [])))
+            (counts_then (all_of going.writes.runs) (wrote.runs ++ []) zeros counts counts' going.writes.counted (subst (λ (rs : List Occurrence). CountsThese rs counts counts') (sym (append-nil wrote.runs)) wrote.counted));
+      }
+
+  -- or a beginning of it was
+  pub going-ends : (line : OpenLine A) (pieces : P) (source source' : R) (sink sink' : W) (counts counts' : List ℕ) (going : Going line pieces source sink counts)
+      → Consumes (S.remaining source) (S.remaining source') [] → S.empty_reads source' ≡ counted true (S.empty_reads source)
+      → StopsInLine K Searched words rules most rule sink sink' counts counts' going.before (last_line going.read) → Begins source' sink' counts'
+  going-ends line pieces source source' sink sink' counts counts' going read ended stops = record {
+    given = going.given;
+    ended = true;
+    gives = subst (λ (g : List ℕ). SourceGave S first source' g true) (append-nil going.given) (gives_on S first source source' going.given [] false true going.gives read ended (λ e. refl));
+    lines = going.writes.lines;
+    runs = going.writes.runs;
+    part = stops.part;
+    as_many = going.writes.as_many;
+    runs_are = going.writes.runs_are;
+    writes = Appends-trans (K.taken begun) (K.taken sink) (K.taken sink') (lines_cover rule going.writes.lines going.writes.runs) stops.part going.writes.writes stops.writes;
+    counted = subst (CountsThese (all_of going.writes.runs) zeros) (sym stops.counted) going.writes.counted;
+    goes_on = λ p bytes all searched may are.
+        let lines = ap lines_of (may.1 ∙ ap (λ (xs : List ℕ). going.given ++ xs) may.2) ∙ going.writes.splits [] in
+        let parts = runs-split (covering_by words rules most p) [] going.writes.lines (last_line going.read ∷ []) going.writes.runs all (going.writes.runs_are p searched)
+            (subst (λ (ls : List Line). AreLineRuns (covering_by words rules most p) [] ls all) lines are) in
+        let last = last-of p parts.0 (subst (λ (b : List (List ℕ)). AreLineRuns (covering_by words rules most p) b (last_line going.read ∷ []) parts.0) (sym going.writes.seen) parts.2) in
+        record {
+          next = last_line going.read;
+          later = [];
+          own = last.0;
+          more = [];
+          lines_are = lines;
+          runs_are = parts.1 ∙ ap (λ (rs : List (List Occurrence)). going.writes.runs ++ rs) last.1;
+          begins = stops.begins p last.0 searched last.2;
+        };
+  } where
+    last-of : (p : Patterns) (rest : List (List Occurrence)) → AreLineRuns (covering_by words rules most p) going.before (last_line going.read ∷ []) rest
+        → (own : List Occurrence) × (rest ≡ own ∷ []) × AreRunsOf (CoveredIn (covering_by words rules most p) going.before going.read) own
+    last-of p [] are = absurd are
+    last-of p (own ∷ []) are = (own, refl, are.0)
+    last-of p (own ∷ other ∷ rest) are = absurd are.1
+
+  -- what a failure of a device leaves
+  pub leaves-read : (source : R) (sink : W) (counts : List ℕ) (error : LineError) → Begins source sink counts → CoversWholeLines S K Searched words rules most rule first source begun sink zeros counts
+      → Leaves source sink counts (Err error)
+  leaves-read source sink counts error begins whole = record { covered = tt; begun = begins; whole = λ failed. whole }
+
+  pub leaves-written : (source : R) (sink : W) (counts : List ℕ) (error : LineError) → Begins source sink counts → (IsReadFailure error → ⊥) → Leaves source sink counts (Err error)
+  leaves-written source sink counts error begins other = record { covered = tt; begun = begins; whole = λ failed. absurd (other failed) }
+
+  pub leaves-ended : (source : R) (sink : W) (counts : List ℕ) (result : Result (Unit {0}) LineError) → OnOk result (CoversLines S K Searched words rules most rule first source begun sink zeros counts)
+      → OnErr result (Begins source sink counts) → IfErr result (λ error. IsReadFailure error → ⊥) → Leaves source sink counts result
+  leaves-ended source sink counts (Ok done) covers begins other = record { covered = covers; begun = tt; whole = tt }
+  leaves-ended source sink counts (Err error) covers begins other = record { covered = tt; begun = begins; whole = λ failed. absurd (other failed) }

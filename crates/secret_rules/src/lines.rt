@@ -1,0 +1,329 @@
+//! Covering a text line by line.
+
+ghost use Rattle.std.specs.Prelude.{◌≡◌, ◌+◌, ◌<◌, ◌≤◌, ◌++◌, ◌∷◌, [], ℕ, List, IfErr, IfOk, IfSome, OnErr, OnOk, false, length, map, true};
+ghost use Rattle.aho_core.specs.Cover.{AreRunsOf};
+ghost use Rattle.aho_core.specs.Listing.{IsMember};
+ghost use Rattle.aho_core.specs.Numbers.{greatest_index};
+ghost use Rattle.aho_core.specs.Patterns.{Patterns};
+ghost use Rattle.std.specs.Io.KnownBytes.{Appends};
+ghost use Rattle.aho_cover.specs.Words.{CountsIn};
+ghost use Rattle.aho_cover.specs.Writes.{TellsWrites};
+ghost use Rattle.aho_devices.specs.Counts.{AppendsBeginning};
+ghost use Rattle.secret_rules.specs.Covering.{CoveredIn, covering_by, marked, seen_line};
+ghost use Rattle.secret_rules.specs.LineCovers.{AreSearched};
+ghost use Rattle.secret_rules.specs.Lines.{line_with};
+ghost use Rattle.secret_rules.specs.Marks.{AreAllMarks};
+ghost use Rattle.secret_rules.specs.Marking.{HasMarked, IsLineFailure};
+ghost use Rattle.secret_rules.specs.OpenLines.{CanSearch, GoesOnBehind, HasRead, IsSetting, StandsBehind, StopsInLine, StopsInLines, TellsLine, WritesLine, WritesLines, rules_in};
+ghost use Rattle.secret_rules.specs.Picking.{StandForAll};
+ghost use Rattle.secret_rules.specs.Writing.{LieFrom};
+ghost use Rattle.secret_rules.specs.declared.marks.Mark.{Mark};
+ghost use Rattle.secret_rules.specs.declared.rule.Rule.{Rule};
+
+use crate::error::{LineError, MarkError};
+use crate::joining::join;
+use crate::marks::Mark;
+use crate::occurrences::push_patterns;
+use crate::open_line::{OpenLine, Setting};
+use crate::writing::{count_number, count_runs, write_both, write_line};
+use aho_automaton::automaton::Automaton;
+use aho_core::error::StreamError;
+use aho_core::search::{Match, PatternID, Span};
+use aho_cover::pieces::Pieces;
+use aho_devices::device::Sink;
+use memchr::memchr;
+use std::alloc::AllocError;
+
+/// Adds a mark of a line as an occurrence, whose number is behind those of so many patterns.
+fn push_mark(
+    patterns: usize,
+    line: &[u8],
+    mark: &Mark,
+    found: &mut Vec<Match>,
+) -> Result<(), AllocError>
+    requires numbered { patterns + mark.now.rule ≤ greatest_index }
+    requires ordered { mark.now.start ≤ mark.now.end }
+    ensures pushed { OnOk result (found.new.items ≡ found.old.items ++ marked patterns mark.now ∷ []) }
+    ensures within { OnOk result (mark.now.end ≤ length line.now) }
+{
+    // It always is: what a match spans lies in the line.
+    if mark.end > line.len() {
+        return Err(AllocError);
+    }
+    let range = Span {
+        start: mark.start,
+        end: mark.end,
+    };
+    let number = PatternID::new_unchecked(patterns + mark.rule);
+    found.push(Match::new(number, range))?;
+    Ok(())
+}
+
+/// Adds the marks of a line as occurrences.
+fn push_marks(
+    patterns: usize,
+    line: &[u8],
+    marks: &[Mark],
+    found: &mut Vec<Match>,
+) -> Result<(), AllocError>
+    requires numbered { (mark : Mark) → IsMember marks.now mark → patterns + mark.rule ≤ greatest_index }
+    requires ordered { (mark : Mark) → IsMember marks.now mark → mark.start ≤ mark.end }
+    ensures pushed { OnOk result (found.new.items ≡ found.old.items ++ map (marked patterns) marks.now) }
+    ensures within { OnOk result ((mark : Mark) → IsMember marks.now mark → mark.end ≤ length line.now) }
+{
+    for mark in marks {
+        push_mark(patterns, line, mark, found)?;
+    }
+    Ok(())
+}
+
+/// Gives what stands for all that counts of the patterns in a line, if there are some.
+fn find_patterns<A: Automaton>(
+    setting: &Setting<'_, A>,
+    line: &[u8],
+    found: &mut Vec<Match>,
+) -> Result<(), AllocError>
+    requires searches { IfSome setting.now.automaton (λ a. CanSearch A.Automaton a.now) }
+    ensures stand { (p : Patterns) → AreSearched A.Automaton setting.now.automaton p
+        → OnOk result (StandForAll (CountsIn setting.now.words p line.now) found.new.items) }
+{
+    found.clear();
+    match setting.automaton {
+        Some(automaton) => push_patterns(automaton, setting.words, line, found),
+        None => Ok(()),
+    }
+}
+
+/// Finds the runs of a line that is not too long, of which these are all marks.
+fn runs_in<A: Automaton>(
+    setting: &Setting<'_, A>,
+    line: &[u8],
+    marks: &[Mark],
+    found: &mut Vec<Match>,
+    runs: &mut Vec<Match>,
+) -> Result<(), AllocError>
+    requires short { length line.now ≤ setting.now.most }
+    requires marks { (rules : List Rule) × (before : List (List ℕ)) × IsSetting A.Automaton setting.now rules
+        × AreAllMarks rules before line.now marks.now }
+    ensures runs { (rules : List Rule) (before : List (List ℕ)) (p : Patterns) → IsSetting A.Automaton setting.now rules
+        → AreAllMarks rules before line.now marks.now → AreSearched A.Automaton setting.now.automaton p
+        → OnOk result (AreRunsOf (CoveredIn (covering_by setting.now.words rules setting.now.most p) before line.now)
+        runs.new.items) }
+    ensures lie { OnOk result (LieFrom line.now 0 runs.new.items) }
+{
+    let _whole = setting.whole.as_usize();
+    find_patterns(setting, line, found)?;
+    push_marks(setting.patterns, line, marks, found)?;
+    join(found, runs)
+}
+
+/// Writes the piece of a run that has ended, and an end behind it.
+fn write_piece<W: Sink, P: Pieces>(
+    sink: &mut W,
+    pieces: &mut P,
+    number: PatternID,
+    end: &[u8],
+) -> Result<(), StreamError>
+    ensures whole { (fed : List ℕ) → P.holds pieces.old fed → OnOk result
+        (Appends (W.taken sink.old) (W.taken sink.new) (P.rule pieces.old number fed ++ end.now)) }
+    ensures beginning { (fed : List ℕ) → P.holds pieces.old fed → OnErr result
+        (AppendsBeginning (W.taken sink.old) (W.taken sink.new) (P.rule pieces.old number fed ++ end.now)) }
+    ensures tells { TellsWrites W.Sink sink.old sink.new result }
+    ensures rule { P.rule pieces.new ≡ P.rule pieces.old }
+{
+    pieces.end(number);
+    write_both(sink, pieces.piece(number), end)
+}
+
+impl<'r, 'a, A: Automaton> OpenLine<'r, 'a, A> {
+    /// Begins another text.
+    pub(crate) fn restart(&mut self)
+        ensures marked { HasMarked self.new.marker [] }
+        ensures empty { self.new.line.items ≡ [] }
+        ensures short { self.new.long ≡ false }
+        ensures setting { self.new.setting ≡ self.old.setting }
+        ensures rules { rules_in self.new ≡ rules_in self.old }
+    {
+        self.marker.restart();
+        self.line.clear();
+        self.long = false;
+    }
+
+    /// Adds bytes that hold no line end.
+    pub(crate) fn add<P: Pieces>(&mut self, bytes: &[u8], pieces: &mut P) -> Result<(), AllocError>
+        ensures read { (read : List ℕ) → HasRead P.Pieces self.old pieces.old read → OnOk result
+            (HasRead P.Pieces self.new pieces.new (read ++ bytes.now)) }
+        ensures marker { self.new.marker ≡ self.old.marker }
+        ensures setting { self.new.setting ≡ self.old.setting }
+        ensures rule { P.rule pieces.new ≡ P.rule pieces.old }
+    {
+        if self.long {
+            pieces.feed(bytes);
+            return Ok(());
+        }
+        if self.line.len() + bytes.len() > self.setting.most {
+            pieces.begin();
+            pieces.feed(self.line.as_slice());
+            pieces.feed(bytes);
+            self.line.clear();
+            self.long = true;
+            return Ok(());
+        }
+        self.line.extend_from_slice(bytes)
+    }
+
+    /// Finds the runs of the line, which is not too long.
+    fn find_runs(&mut self) -> Result<(), MarkError>
+        requires setting { IsSetting A.Automaton self.old.setting (rules_in self.old) }
+        requires marked { (before : List (List ℕ)) × HasMarked self.old.marker before }
+        requires short { length self.old.line.items ≤ self.old.setting.most }
+        ensures runs { (p : Patterns) (before : List (List ℕ)) → AreSearched A.Automaton self.old.setting.automaton p
+            → HasMarked self.old.marker before → OnOk result (AreRunsOf
+            (CoveredIn (covering_by self.old.setting.words (rules_in self.old) self.old.setting.most p) before self.old.line.items)
+            self.new.runs.items) }
+        ensures lie { OnOk result (LieFrom self.old.line.items 0 self.new.runs.items) }
+        ensures marked { (before : List (List ℕ)) → HasMarked self.old.marker before
+            → OnOk result (HasMarked self.new.marker (before ++ self.old.line.items ∷ [])) }
+        ensures refused { IfErr result (IsLineFailure (rules_in self.old)) }
+        ensures line { self.new.line ≡ self.old.line }
+        ensures long { self.new.long ≡ self.old.long }
+        ensures setting { self.new.setting ≡ self.old.setting }
+        ensures rules { rules_in self.new ≡ rules_in self.old }
+    {
+        let line = self.line.as_slice();
+        self.marker.mark(line, &mut self.marks)?;
+        let marks = self.marks.as_slice();
+        Ok(runs_in(&self.setting, line, marks, &mut self.found, &mut self.runs)?)
+    }
+
+    /// Writes the cover of the line, which is not too long, with this end, and begins the next.
+    fn end_short<W: Sink, P: Pieces>(
+        &mut self,
+        end: &[u8],
+        sink: &mut W,
+        pieces: &mut P,
+        counts: &mut [u64],
+    ) -> Result<(), LineError>
+        requires setting { IsSetting A.Automaton self.old.setting (rules_in self.old) }
+        requires long { self.old.long ≡ false }
+        requires stands { (before : List (List ℕ)) × (read : List ℕ) × StandsBehind P.Pieces self.old pieces.old before read }
+        ensures writes { (before : List (List ℕ)) (read : List ℕ) → StandsBehind P.Pieces self.old pieces.old before read
+            → OnOk result (WritesLine W.Sink (AreSearched A.Automaton self.old.setting.automaton) self.old.setting.words
+            (rules_in self.old) self.old.setting.most (P.rule pieces.old) sink.old sink.new counts.old counts.new
+            before (line_with read end.now)) }
+        ensures stops { (before : List (List ℕ)) (read : List ℕ) → StandsBehind P.Pieces self.old pieces.old before read
+            → OnErr result (StopsInLine W.Sink (AreSearched A.Automaton self.old.setting.automaton) self.old.setting.words
+            (rules_in self.old) self.old.setting.most (P.rule pieces.old) sink.old sink.new counts.old counts.new
+            before (line_with read end.now)) }
+        ensures stands { (before : List (List ℕ)) (read : List ℕ) → StandsBehind P.Pieces self.old pieces.old before read
+            → OnOk result (StandsBehind P.Pieces self.new pieces.new (before ++ seen_line self.old.setting.most read ∷ []) []) }
+        ensures tells { TellsLine W.Sink (rules_in self.old) sink.old sink.new result }
+        ensures setting { self.new.setting ≡ self.old.setting }
+        ensures rules { rules_in self.new ≡ rules_in self.old }
+        ensures rule { P.rule pieces.new ≡ P.rule pieces.old }
+    {
+        self.find_runs()?;
+        let runs = self.runs.as_slice();
+        write_line(sink, pieces, self.line.as_slice(), runs, end)?;
+        count_runs(counts, runs);
+        self.line.clear();
+        Ok(())
+    }
+
+    /// Writes the piece of the line, which is too long, with this end, and begins the next.
+    fn end_long<W: Sink, P: Pieces>(
+        &mut self,
+        end: &[u8],
+        sink: &mut W,
+        pieces: &mut P,
+        counts: &mut [u64],
+    ) -> Result<(), LineError>
+        requires setting { IsSetting A.Automaton self.old.setting (rules_in self.old) }
+        requires long { self.old.long ≡ true }
+        ensures writes { (before : List (List ℕ)) (read : List ℕ) → StandsBehind P.Pieces self.old pieces.old before read
+            → OnOk result (WritesLine W.Sink (AreSearched A.Automaton self.old.setting.automaton) self.old.setting.words
+            (rules_in self.old) self.old.setting.most (P.rule pieces.old) sink.old sink.new counts.old counts.new
+            before (line_with read end.now)) }
+        ensures stops { (before : List (List ℕ)) (read : List ℕ) → StandsBehind P.Pieces self.old pieces.old before read
+            → OnErr result (StopsInLine W.Sink (AreSearched A.Automaton self.old.setting.automaton) self.old.setting.words
+            (rules_in self.old) self.old.setting.most (P.rule pieces.old) sink.old sink.new counts.old counts.new
+            before (line_with read end.now)) }
+        ensures stands { (before : List (List ℕ)) (read : List ℕ) → StandsBehind P.Pieces self.old pieces.old before read
+            → OnOk result (StandsBehind P.Pieces self.new pieces.new (before ++ seen_line self.old.setting.most read ∷ []) []) }
+        ensures tells { TellsLine W.Sink (rules_in self.old) sink.old sink.new result }
+        ensures setting { self.new.setting ≡ self.old.setting }
+        ensures rules { rules_in self.new ≡ rules_in self.old }
+        ensures rule { P.rule pieces.new ≡ P.rule pieces.old }
+    {
+        self.marker.mark(&[], &mut self.marks)?;
+        let number = self.setting.whole;
+        write_piece(sink, pieces, number, end)?;
+        count_number(counts, number);
+        self.line.clear();
+        self.long = false;
+        Ok(())
+    }
+
+    /// Writes the cover of the line, with this end, and begins the next.
+    pub(crate) fn end<W: Sink, P: Pieces>(
+        &mut self,
+        end: &[u8],
+        sink: &mut W,
+        pieces: &mut P,
+        counts: &mut [u64],
+    ) -> Result<(), LineError>
+        requires setting { IsSetting A.Automaton self.old.setting (rules_in self.old) }
+        requires stands { (before : List (List ℕ)) × (read : List ℕ) × StandsBehind P.Pieces self.old pieces.old before read }
+        ensures writes { (before : List (List ℕ)) (read : List ℕ) → StandsBehind P.Pieces self.old pieces.old before read
+            → OnOk result (WritesLine W.Sink (AreSearched A.Automaton self.old.setting.automaton) self.old.setting.words
+            (rules_in self.old) self.old.setting.most (P.rule pieces.old) sink.old sink.new counts.old counts.new
+            before (line_with read end.now)) }
+        ensures stops { (before : List (List ℕ)) (read : List ℕ) → StandsBehind P.Pieces self.old pieces.old before read
+            → OnErr result (StopsInLine W.Sink (AreSearched A.Automaton self.old.setting.automaton) self.old.setting.words
+            (rules_in self.old) self.old.setting.most (P.rule pieces.old) sink.old sink.new counts.old counts.new
+            before (line_with read end.now)) }
+        ensures stands { (before : List (List ℕ)) (read : List ℕ) → StandsBehind P.Pieces self.old pieces.old before read
+            → OnOk result (StandsBehind P.Pieces self.new pieces.new (before ++ seen_line self.old.setting.most read ∷ []) []) }
+        ensures tells { TellsLine W.Sink (rules_in self.old) sink.old sink.new result }
+        ensures setting { self.new.setting ≡ self.old.setting }
+        ensures rules { rules_in self.new ≡ rules_in self.old }
+        ensures rule { P.rule pieces.new ≡ P.rule pieces.old }
+    {
+        if self.long {
+            return self.end_long(end, sink, pieces, counts);
+        }
+        self.end_short(end, sink, pieces, counts)
+    }
+
+    /// Takes more bytes of a text.
+    pub(crate) fn take_in<W: Sink, P: Pieces>(
+        &mut self,
+        bytes: &[u8],
+        sink: &mut W,
+        pieces: &mut P,
+        counts: &mut [u64],
+    ) -> Result<(), LineError>
+        requires setting { IsSetting A.Automaton self.old.setting (rules_in self.old) }
+        requires stands { (before : List (List ℕ)) × (read : List ℕ) × StandsBehind P.Pieces self.old pieces.old before read }
+        ensures writes { (before : List (List ℕ)) (read : List ℕ) → StandsBehind P.Pieces self.old pieces.old before read
+            → OnOk result (GoesOnBehind W.Sink P.Pieces (AreSearched A.Automaton self.old.setting.automaton)
+            self.old.setting.words (rules_in self.old) self.old.setting.most (P.rule pieces.old)
+            sink.old sink.new counts.old counts.new self.new pieces.new before read bytes.now) }
+        ensures stops { (before : List (List ℕ)) (read : List ℕ) → StandsBehind P.Pieces self.old pieces.old before read
+            → OnErr result (StopsInLines W.Sink (AreSearched A.Automaton self.old.setting.automaton) self.old.setting.words
+            (rules_in self.old) self.old.setting.most (P.rule pieces.old) sink.old sink.new counts.old counts.new
+            before read bytes.now) }
+        ensures tells { TellsLine W.Sink (rules_in self.old) sink.old sink.new result }
+        ensures setting { self.new.setting ≡ self.old.setting }
+        ensures rules { rules_in self.new ≡ rules_in self.old }
+        ensures rule { P.rule pieces.new ≡ P.rule pieces.old }
+    {
+        let mut rest = bytes;
+        'lines: while let Some(end) = memchr(b'\n', rest) {
+            self.add(&rest[..end], pieces)?;
+            self.end(b"\n", sink, pieces, counts)?;
+            rest = &rest[end + 1..];
+        }
+        Ok(self.add(rest, pieces)?)
+    }
+}
