@@ -9,20 +9,18 @@ ghost use Rattle.acredact.specs.Secrets.{IfOf};
 ghost use Rattle.acredact.specs.Statuses.{check_status};
 ghost use Rattle.acredact.specs.Tables.{HaveNoEmpty, patterns_in, secrets_of};
 
-use crate::arguments::{Item, Mistake, Word, has, words};
+use crate::arguments::{Item, Word, has};
 use crate::doubts::warn_of_lists;
 use crate::failure::Failure;
 use crate::folder::Folder;
-use crate::load::{lists_of, rules};
+use crate::load::{Sought, load_patterns};
 use crate::look::{Searched, Verdict, look_at_files};
-use crate::patterns::{Rule, patterns_of};
-use crate::rows::build;
-use crate::run::{FAILED, gives_pattern, names, report};
+use crate::ready::Ready;
+use crate::run::{FAILED, report};
 use aho_automaton::automaton::Automaton;
 use aho_devices::adapters::FromRead;
 use aho_devices::device::Sink;
 use programs::errors::Errors;
-use programs::rows::rows_of;
 use std::alloc::{AllocError, Global};
 use std::io::Read;
 
@@ -72,12 +70,8 @@ fn check_given<'a, F: Folder, I: Read, E: Sink>(
     ensures outcome { ChecksGiven E.Sink F.Folder folder.now (all_given given.now) result
         input.old input.new errors.old errors.new }
 {
-    if !gives_pattern(given) {
-        return Err(Failure::Arguments(Mistake::NoPattern));
-    }
-    let lists = lists_of(alloc, given, folder);
-    match rules(&lists, given, input) {
-        Ok(rules) => check_loaded(alloc, given, rules.as_slice(), folder, input, errors),
+    match load_patterns(alloc, given, folder, input) {
+        Ok(sought) => check_loaded(alloc, given, &sought, folder, input, errors),
         Err(failure) => Err(failure),
     }
 }
@@ -86,49 +80,40 @@ fn check_given<'a, F: Folder, I: Read, E: Sink>(
 fn check_loaded<'a, F: Folder, I: Read, E: Sink>(
     alloc: Global,
     given: &[Item<'a>],
-    rules: &[Rule],
+    sought: &Sought,
     folder: &F,
     input: &mut FromRead<I>,
     errors: &mut Errors<'_, E>,
 ) -> Result<Verdict, Failure<'a>>
-    requires some { HaveNoEmpty (secrets_of rules.now) }
-    ensures outcome { ChecksLoaded E.Sink F.Folder folder.now (all_given given.now) rules.now result
+    requires some { HaveNoEmpty (secrets_of sought.now.rules.items) }
+    ensures outcome { ChecksLoaded E.Sink F.Folder folder.now (all_given given.now) sought.now.rules.items result
         input.old input.new errors.old errors.new }
 {
     let strict = has(given, Word::Strict);
-    match warn_of_lists(errors, given, rules, strict) {
-        Ok(()) => check_rules(alloc, given, rules, folder, input, errors),
+    match warn_of_lists(errors, given, sought.rules.as_slice(), strict) {
+        Ok(()) => check_sought(alloc, given, sought, folder, input, errors),
         Err(failure) => Err(failure),
     }
 }
 
 /// Looks for the patterns of these rules in each file.
-fn check_rules<'a, F: Folder, I: Read, E: Sink>(
+fn check_sought<'a, F: Folder, I: Read, E: Sink>(
     alloc: Global,
     given: &[Item<'a>],
-    rules: &[Rule],
+    sought: &Sought,
     folder: &F,
     input: &mut FromRead<I>,
     errors: &mut Errors<'_, E>,
 ) -> Result<Verdict, Failure<'a>>
-    requires some { HaveNoEmpty (secrets_of rules.now) }
-    ensures sees { SeesRules E.Sink F.Folder folder.now (all_given given.now) rules.now
+    requires some { HaveNoEmpty (secrets_of sought.now.rules.items) }
+    ensures sees { SeesRules E.Sink F.Folder folder.now (all_given given.now) sought.now.rules.items
         result input.old input.new errors.old errors.new }
     ensures fails { IfErr result (IsBuildFailure
-        (patterns_by_given (all_given given.now) (patterns_in (secrets_of rules.now)))) }
+        (patterns_by_given (all_given given.now) (patterns_in (secrets_of sought.now.rules.items)))) }
 {
-    let patterns = patterns_of(alloc, rules)?;
-    let names = names(alloc, given)?;
-    let texts = patterns.as_slice();
-    let nfa = build(alloc, given, texts)?;
-    let rows = rows_of(alloc, &nfa, has(given, Word::IgnoreCase), texts)?;
-    let files = Searched {
-        alloc,
-        folder,
-        names: names.as_slice(),
-        words: words(given),
-    };
-    Ok(look_by(&nfa, rows.as_ref(), &files, input, errors)?)
+    let ready = Ready::new(alloc, given, sought)?;
+    let files = ready.searched(alloc, given, folder);
+    Ok(look_by(&ready.nfa, ready.rows.as_ref(), &files, input, errors)?)
 }
 
 /// Looks at each file by the automaton with rows, if there is one.

@@ -1,33 +1,36 @@
 //! The rules of all patterns, files and tables that are given.
 
-ghost use Rattle.std.specs.Prelude.{◌≡◌, ℕ, List, Option, Some, IfErr, IfOk, OnOk, false};
+ghost use Rattle.std.specs.Prelude.{◌≡◌, ℕ, List, None, Option, Some, IfErr, IfOk, OnOk, false, ⊥};
 ghost use Rattle.aho_core.specs.Replacement.{pieces_of};
 ghost use Rattle.aho_devices.specs.Counts.{counted};
 ghost use Rattle.programs.specs.Streams.{bytes_left};
-ghost use Rattle.acredact.specs.Arguments.{all_given, given_of};
-ghost use Rattle.acredact.specs.Calls.{rules_asked};
+ghost use Rattle.acredact.specs.Arguments.{GivesNoPattern, all_given, given_of};
+ghost use Rattle.acredact.specs.Calls.{call_of, reading_by, rules_asked};
 ghost use Rattle.acredact.specs.Forms.{HaveForms, forms_asked};
-ghost use Rattle.acredact.specs.Loading.{AddsFile, AddsItem, AddsList, CannotLoad, CannotLoadAll, CannotLoadKey, CannotLoadOne, CannotRead, GivesEnvironment, GivesRules, GivesValues, HoldsSecrets, HoldsVariables, HoldsWhole, IsEnvironmentFailure, IsFileFailure, IsKeyFailure, IsListedFailure, IsValuesFailure, IsVariablesFailure, IsWholeFailure, IsPatternFailure, IsTextFailure, IsTextReason, LoadsKey, ReadsKey, ReadsList, ReadsRules, form_by, is_failed_text, reading_of_lists, rules_for};
+ghost use Rattle.acredact.specs.Loading.{AreGiven, AreLoaded, IsKeyedBy, loaded_by, loaded_of, AddsFile, AddsItem, AddsList, CannotLoad, CannotLoadAll, CannotLoadKey, CannotLoadOne, CannotRead, GivesEnvironment, GivesRules, GivesValues, HoldsSecrets, HoldsVariables, HoldsWhole, IsEnvironmentFailure, IsFileFailure, IsKeyFailure, IsListedFailure, IsValuesFailure, IsVariablesFailure, IsWholeFailure, IsPatternFailure, IsTextFailure, IsTextReason, LoadsKey, ReadsKey, ReadsList, ReadsRules, form_by, is_failed_text, reading_of_lists, rules_for};
 ghost use Rattle.acredact.specs.Parts.{AddsSome, ArePartsBy, GivesPattern};
 ghost use Rattle.acredact.specs.Reads.{ReadsText};
+ghost use Rattle.acredact.specs.Tables.{secrets_of};
 ghost use Rattle.acredact.specs.Values.{GiveEach, GivesValue};
 ghost use Rattle.acredact.specs.declared.failure.Failure.TheVariants.{Other, Pattern};
 ghost use Rattle.programs.specs.declared.failure.Failure.TheVariants.{OutOfMemory as OutOfMemoryFailure};
 ghost use Rattle.acredact.specs.declared.patterns.LineFault.TheVariants.{OutOfMemory};
 
-use crate::arguments::{Item, Word, covers, has, last_value};
+use crate::arguments::{Item, Mistake, Word, covers, has, last_value};
 use crate::failure::Failure;
 use crate::files::is_input;
 use crate::folder::Folder;
 use crate::forms::add_forms;
+use crate::named::named_rules;
 use crate::parts::add_parts;
 use crate::patterns::{BadLine, Form, LineFault, Place, Rule, add_line, add_lines, mark_of};
+use crate::run::{gives_pattern, name_key};
 use crate::values::{are_refused, first_fault, values_in_text, values_of_entries, whole_in};
 use aho_devices::adapters::FromRead;
 use aho_devices::device::Source;
 use programs::failure;
 use programs::reason::Reason;
-use std::alloc::Global;
+use std::alloc::{AllocError, Global};
 use std::io::Read;
 
 /// How many bytes of a list are read at once.
@@ -67,7 +70,7 @@ pub struct Lists<'f, 'v, F> {
 }
 
 /// How the files of patterns and tables are read that are given.
-pub fn lists_of<'f, 'v, F>(alloc: Global, given: &[Item<'v>], folder: &'f F) -> Lists<'f, 'v, F>
+fn lists_of<'f, 'v, F>(alloc: Global, given: &[Item<'v>], folder: &'f F) -> Lists<'f, 'v, F>
     ensures folder { result.folder.now ≡ folder.now }
     ensures rules { rules_for result ≡ rules_asked (all_given given.now) }
 {
@@ -81,12 +84,115 @@ pub fn lists_of<'f, 'v, F>(alloc: Global, given: &[Item<'v>], folder: &'f F) -> 
     }
 }
 
+/// What is sought in files, and what is written in its place.
+#[derive(Drop)]
+pub struct Sought {
+    /// The rules of all patterns. Where forms are asked for and a key is given, these are named by it.
+    pub rules: Vec<Rule>,
+    /// The key by which the text of each run is made of its bytes, where it is.
+    pub key: Option<Vec<u8>>,
+}
+
+/// Loads all patterns, and no key: what a check seeks.
+///
+/// # Errors
+///
+/// No option gives a pattern. Or as `rules`.
+pub fn load_patterns<'a, F: Folder, I: Read>(
+    alloc: Global,
+    given: &[Item<'a>],
+    folder: &F,
+    input: &mut FromRead<I>,
+) -> Result<Sought, Failure<'a>>
+    ensures patternless { GivesNoPattern (all_given given.now) → OnOk result ⊥ }
+    ensures unread { GivesNoPattern (all_given given.now) → input.new ≡ input.old }
+    ensures given { IfOk result (λ sought. AreGiven (reading_by (call_of F.Folder folder.now (all_given given.now)))
+        (all_given given.now) (secrets_of sought.rules.items) (bytes_left input.old) (bytes_left input.new)) }
+    ensures keyless { IfOk result (λ sought. sought.key ≡ None) }
+{
+    if !gives_pattern(given) {
+        return Err(Failure::Arguments(Mistake::NoPattern));
+    }
+    let lists = lists_of(alloc, given, folder);
+    match rules(&lists, given, input) {
+        Ok(rules) => Ok(Sought { rules, key: None }),
+        Err(failure) => Err(failure),
+    }
+}
+
+/// Loads all patterns, and then the key of pseudonyms, where they are asked for.
+///
+/// # Errors
+///
+/// As `load_patterns` and `key_of`.
+pub fn load<'a, F: Folder, I: Read>(
+    alloc: Global,
+    given: &[Item<'a>],
+    folder: &F,
+    input: &mut FromRead<I>,
+) -> Result<Sought, Failure<'a>>
+    ensures patternless { GivesNoPattern (all_given given.now) → OnOk result ⊥ }
+    ensures unread { GivesNoPattern (all_given given.now) → input.new ≡ input.old }
+    ensures loaded { IfOk result (λ sought. AreLoaded (reading_by (call_of F.Folder folder.now (all_given given.now)))
+        (all_given given.now) (loaded_of sought) (bytes_left input.old) (bytes_left input.new)) }
+{
+    match load_patterns(alloc, given, folder, input) {
+        Ok(sought) => with_key(alloc, given, sought, folder, input),
+        Err(failure) => Err(failure),
+    }
+}
+
+/// These patterns with the key of pseudonyms, where they are asked for.
+fn with_key<'a, F: Folder, I: Read>(
+    alloc: Global,
+    given: &[Item<'a>],
+    sought: Sought,
+    folder: &F,
+    input: &mut FromRead<I>,
+) -> Result<Sought, Failure<'a>>
+    requires keyless { sought.key ≡ None }
+    ensures loaded { IfOk result (λ all. IsKeyedBy F.Folder folder.now (all_given given.now)
+        (secrets_of sought.entry.rules.items) all input.old input.new) }
+{
+    let lists = lists_of(alloc, given, folder);
+    match key_of(&lists, given, input) {
+        Ok(Some(key)) => Ok(named_by(alloc, given, sought, key)?),
+        Ok(None) => Ok(sought),
+        Err(failure) => Err(failure),
+    }
+}
+
+/// These patterns with a key: that of each run, or where forms are asked for that by which each pattern and its forms have the pseudonym
+/// of the secret.
+fn named_by(
+    alloc: Global,
+    given: &[Item<'_>],
+    sought: Sought,
+    key: Vec<u8>,
+) -> Result<Sought, AllocError>
+    ensures named { IfOk result (λ all. loaded_of all
+        ≡ loaded_by (all_given given.now) (secrets_of sought.entry.rules.items) key.entry.items) }
+{
+    let Sought { rules, .. } = sought;
+    if !has(given, Word::Forms) {
+        return Ok(Sought {
+            rules,
+            key: Some(key),
+        });
+    }
+    let named = named_rules(alloc, rules.as_slice(), name_key(given, key.as_slice()))?;
+    Ok(Sought {
+        rules: named,
+        key: None,
+    })
+}
+
 /// The rules of all patterns, files of patterns and tables that are given, in order, and then of their forms.
 ///
 /// # Errors
 ///
 /// The first pattern, file or line that gives no rule, with the reason; or memory runs out.
-pub fn rules<'a, F: Folder, I: Read>(
+fn rules<'a, F: Folder, I: Read>(
     lists: &Lists<'_, '_, F>,
     items: &[Item<'a>],
     input: &mut FromRead<I>,
@@ -158,7 +264,7 @@ fn read_rules<'a, F: Folder, I: Read>(
 /// # Errors
 ///
 /// Its file cannot be read, or is empty.
-pub fn key_of<'a, F: Folder, I: Read>(
+fn key_of<'a, F: Folder, I: Read>(
     lists: &Lists<'_, '_, F>,
     items: &[Item<'a>],
     input: &mut FromRead<I>,

@@ -34,6 +34,7 @@ mod named;
 mod outputs;
 mod parts;
 mod patterns;
+mod ready;
 mod redact;
 mod rows;
 mod run;
