@@ -19,9 +19,8 @@ ghost use Rattle.acredact.specs.Tables.{HaveNoEmpty, secrets_of};
 ghost use Rattle.acredact.specs.Totals.{JobCounts};
 ghost use Rattle.acredact.specs.Volumes.{JobVolume};
 
-use crate::arguments::{Item, Word, counts, has, items, replaces_in_place};
+use crate::arguments::{Item, Word, has, items, replaces_in_place};
 use crate::clean::{Judge, unclean_of};
-use crate::counts::counts_of;
 use crate::doubts::warn_of_lists;
 use crate::failure::{Failure, tell_no_file, tell_unread};
 use crate::files::{Job, both, is_input};
@@ -29,6 +28,7 @@ use crate::folder::Folder;
 use crate::load::{Sought, load};
 use crate::outputs::Outputs;
 use crate::ready::{Ready, Texts, job_of, judge_of};
+use crate::rule_counts::tally_of;
 use crate::run::{FAILED, redact_by, report, tell_counted, warn};
 use crate::streams::Streams;
 use crate::summary::Volume;
@@ -171,8 +171,7 @@ fn place_counted<'a, F: Folder, O: Outputs, I: Read, E: Sink>(
     ensures outcome { DoubtedPlaces O.File.Write E.Sink F.Folder O.Outputs
         folder.now given.now (loaded_of sought.now) result outputs.old outputs.new streams.old streams.new }
 {
-    let counted = counts(given);
-    let mut tally = counts_of(alloc, sought.rules.as_slice(), counted)?;
+    let mut tally = tally_of(alloc, given, sought)?;
     place_telling(
         alloc,
         given,
@@ -212,10 +211,15 @@ fn place_telling<'a, F: Folder, O: Outputs, I: Read, E: Sink>(
         outputs,
         streams,
     ) {
-        Ok(all) => {
-            let rules = sought.rules.as_slice();
-            tell_counted(alloc, all, given, rules, tally, volume, &mut streams.errors)
-        }
+        Ok(all) => tell_counted(
+            alloc,
+            all,
+            given,
+            sought,
+            tally,
+            volume,
+            &mut streams.errors,
+        ),
         Err(failure) => Err(failure),
     }
 }

@@ -5,12 +5,11 @@ ghost use Rattle.aho_core.specs.Replacement.{pieces_of};
 ghost use Rattle.aho_devices.specs.Counts.{counted};
 ghost use Rattle.programs.specs.Streams.{bytes_left};
 ghost use Rattle.acredact.specs.Arguments.{GivesNoPattern, all_given, given_of};
-ghost use Rattle.acredact.specs.Calls.{call_of, reading_by, rules_asked};
+ghost use Rattle.acredact.specs.Calls.{rules_asked};
 ghost use Rattle.acredact.specs.Forms.{HaveForms, forms_asked};
-ghost use Rattle.acredact.specs.Loading.{AreGiven, AreLoaded, IsKeyedBy, loaded_by, loaded_of, AddsFile, AddsItem, AddsList, CannotLoad, CannotLoadAll, CannotLoadKey, CannotLoadOne, CannotRead, GivesEnvironment, GivesRules, GivesValues, HoldsSecrets, HoldsVariables, HoldsWhole, IsEnvironmentFailure, IsFileFailure, IsKeyFailure, IsListedFailure, IsValuesFailure, IsVariablesFailure, IsWholeFailure, IsPatternFailure, IsTextFailure, IsTextReason, LoadsKey, ReadsKey, ReadsList, ReadsRules, form_by, is_failed_text, reading_of_lists, rules_for};
+ghost use Rattle.acredact.specs.Loading.{GivesSought, IsKeyedBy, LoadsLines, LoadsSought, loaded_of, loaded_with, AddsFile, AddsItem, AddsList, CannotLoad, CannotLoadAll, CannotLoadKey, CannotLoadOne, CannotRead, GivesEnvironment, GivesRules, GivesValues, HoldsSecrets, HoldsVariables, HoldsWhole, IsEnvironmentFailure, IsFileFailure, IsKeyFailure, IsListedFailure, IsValuesFailure, IsVariablesFailure, IsWholeFailure, IsPatternFailure, IsTextFailure, IsTextReason, LoadsKey, ReadsKey, ReadsList, ReadsRules, form_by, is_failed_text, reading_of_lists, rules_for};
 ghost use Rattle.acredact.specs.Parts.{AddsSome, ArePartsBy, GivesPattern};
 ghost use Rattle.acredact.specs.Reads.{ReadsText};
-ghost use Rattle.acredact.specs.Tables.{secrets_of};
 ghost use Rattle.acredact.specs.Values.{GiveEach, GivesValue};
 ghost use Rattle.acredact.specs.declared.failure.Failure.TheVariants.{Other, Pattern};
 ghost use Rattle.programs.specs.declared.failure.Failure.TheVariants.{OutOfMemory as OutOfMemoryFailure};
@@ -21,6 +20,7 @@ use crate::failure::Failure;
 use crate::files::is_input;
 use crate::folder::Folder;
 use crate::forms::add_forms;
+use crate::line_rules::{LineRules, line_rules_of};
 use crate::named::named_rules;
 use crate::parts::add_parts;
 use crate::patterns::{BadLine, Form, LineFault, Place, Rule, add_line, add_lines, mark_of};
@@ -91,13 +91,17 @@ pub struct Sought {
     pub rules: Vec<Rule>,
     /// The key by which the text of each run is made of its bytes, where it is.
     pub key: Option<Vec<u8>>,
+    /// How many of the first patterns have a text of their own all the same: the pseudonym of their secret.
+    pub fixed: usize,
+    /// The rules by which lines are covered, if some are given.
+    pub lines: Option<LineRules>,
 }
 
-/// Loads all patterns, and no key: what a check seeks.
+/// Loads all patterns and then all rules, and no key: what a check seeks.
 ///
 /// # Errors
 ///
-/// No option gives a pattern. Or as `rules`.
+/// No option gives a pattern or a rule. Or as `rules` and `line_rules_of`.
 pub fn load_patterns<'a, F: Folder, I: Read>(
     alloc: Global,
     given: &[Item<'a>],
@@ -106,8 +110,8 @@ pub fn load_patterns<'a, F: Folder, I: Read>(
 ) -> Result<Sought, Failure<'a>>
     ensures patternless { GivesNoPattern (all_given given.now) → OnOk result ⊥ }
     ensures unread { GivesNoPattern (all_given given.now) → input.new ≡ input.old }
-    ensures given { IfOk result (λ sought. AreGiven (reading_by (call_of F.Folder folder.now (all_given given.now)))
-        (all_given given.now) (secrets_of sought.rules.items) (bytes_left input.old) (bytes_left input.new)) }
+    ensures given { IfOk result (λ sought. GivesSought F.Folder
+        folder.now given.now sought input.old input.new) }
     ensures keyless { IfOk result (λ sought. sought.key ≡ None) }
 {
     if !gives_pattern(given) {
@@ -115,12 +119,35 @@ pub fn load_patterns<'a, F: Folder, I: Read>(
     }
     let lists = lists_of(alloc, given, folder);
     match rules(&lists, given, input) {
-        Ok(rules) => Ok(Sought { rules, key: None }),
+        Ok(rules) => with_lines(&lists, given, rules, input),
         Err(failure) => Err(failure),
     }
 }
 
-/// Loads all patterns, and then the key of pseudonyms, where they are asked for.
+/// These patterns with the rules by which lines are covered, if some are given.
+fn with_lines<'a, F: Folder, I: Read>(
+    lists: &Lists<'_, '_, F>,
+    given: &[Item<'a>],
+    rules: Vec<Rule>,
+    input: &mut FromRead<I>,
+) -> Result<Sought, Failure<'a>>
+    ensures lines { IfOk result (λ sought.
+        LoadsLines F.Folder lists.now (all_given given.now) sought.lines input.old input.new) }
+    ensures rules { IfOk result (λ sought. sought.rules ≡ rules) }
+    ensures keyless { IfOk result (λ sought. sought.key ≡ None) }
+{
+    match line_rules_of(lists, given, input) {
+        Ok(lines) => Ok(Sought {
+            rules,
+            key: None,
+            fixed: 0,
+            lines,
+        }),
+        Err(failure) => Err(failure),
+    }
+}
+
+/// Loads all patterns and rules, and then the key of pseudonyms, where they are asked for.
 ///
 /// # Errors
 ///
@@ -133,8 +160,8 @@ pub fn load<'a, F: Folder, I: Read>(
 ) -> Result<Sought, Failure<'a>>
     ensures patternless { GivesNoPattern (all_given given.now) → OnOk result ⊥ }
     ensures unread { GivesNoPattern (all_given given.now) → input.new ≡ input.old }
-    ensures loaded { IfOk result (λ sought. AreLoaded (reading_by (call_of F.Folder folder.now (all_given given.now)))
-        (all_given given.now) (loaded_of sought) (bytes_left input.old) (bytes_left input.new)) }
+    ensures loaded { IfOk result (λ sought. LoadsSought F.Folder
+        folder.now given.now sought input.old input.new) }
 {
     match load_patterns(alloc, given, folder, input) {
         Ok(sought) => with_key(alloc, given, sought, folder, input),
@@ -151,8 +178,8 @@ fn with_key<'a, F: Folder, I: Read>(
     input: &mut FromRead<I>,
 ) -> Result<Sought, Failure<'a>>
     requires keyless { sought.key ≡ None }
-    ensures loaded { IfOk result (λ all. IsKeyedBy F.Folder folder.now (all_given given.now)
-        (secrets_of sought.entry.rules.items) all input.old input.new) }
+    ensures loaded { IfOk result (λ all. IsKeyedBy F.Folder
+        folder.now given.now sought.entry all input.old input.new) }
 {
     let lists = lists_of(alloc, given, folder);
     match key_of(&lists, given, input) {
@@ -163,7 +190,7 @@ fn with_key<'a, F: Folder, I: Read>(
 }
 
 /// These patterns with a key: that of each run, or where forms are asked for that by which each pattern and its forms have the pseudonym
-/// of the secret.
+/// of the secret, and runs of rules that of their bytes.
 fn named_by(
     alloc: Global,
     given: &[Item<'_>],
@@ -171,19 +198,26 @@ fn named_by(
     key: Vec<u8>,
 ) -> Result<Sought, AllocError>
     ensures named { IfOk result (λ all. loaded_of all
-        ≡ loaded_by (all_given given.now) (secrets_of sought.entry.rules.items) key.entry.items) }
+        ≡ loaded_with given.now sought.entry key.entry.items) }
+    ensures lines { IfOk result (λ all. all.lines ≡ sought.entry.lines) }
 {
-    let Sought { rules, .. } = sought;
+    let Sought { rules, lines, .. } = sought;
     if !has(given, Word::Forms) {
         return Ok(Sought {
             rules,
             key: Some(key),
+            fixed: 0,
+            lines,
         });
     }
     let named = named_rules(alloc, rules.as_slice(), name_key(given, key.as_slice()))?;
+    let fixed = named.len();
+    let key = if lines.is_some() { Some(key) } else { None };
     Ok(Sought {
         rules: named,
-        key: None,
+        key,
+        fixed,
+        lines,
     })
 }
 
@@ -552,7 +586,7 @@ fn add_lines_of<'a, F>(
 }
 
 /// All bytes of a file, or of the input.
-fn read_list<F: Folder, I: Read>(
+pub fn read_list<F: Folder, I: Read>(
     lists: &Lists<'_, '_, F>,
     name: &str,
     input: &mut FromRead<I>,

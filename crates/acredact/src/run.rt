@@ -27,18 +27,18 @@ ghost use Rattle.acredact.specs.declared.clean.Unclean.{Unclean};
 ghost use Rattle.acredact.specs.declared.failure.Failure.TheVariants.{Unclean as UncleanPiece};
 ghost use Rattle.acredact.specs.declared.arguments.Word.TheVariants.{Forms, IgnoreCase, Strict};
 
-use crate::arguments::{Item, Word, checks, counts, has, is_same, items, last_value};
+use crate::arguments::{Item, Word, checks, counts, gives_rules, has, is_same, items, last_value};
 use crate::check::check;
 use crate::clean::{Judge, Unclean, unclean_of};
-use crate::counts::{counts_of, put_counts};
+use crate::counts::put_counts;
 use crate::doubts::warn_of_lists;
 use crate::failure::{Failure, tell_failure, tell_unclean};
 use crate::files::{Job, back_files, redact_files};
 use crate::folder::Folder;
 use crate::help::{HELP, VERSION};
 use crate::load::{Sought, load};
-use crate::patterns::Rule;
 use crate::ready::{Ready, Texts, job_of, judge_of};
+use crate::rule_counts::{counts_behind, put_rule_counts, put_rule_summary, tally_of, tell_long};
 use crate::streams::Streams;
 use crate::summary::{Volume, put_summary};
 use crate::sums::sums_of;
@@ -221,7 +221,7 @@ fn redact_asked<'a, F: Folder, I: Read, W: Write, E: Sink>(
     load_and_redact(alloc, given, folder, streams)
 }
 
-/// Whether an option gives patterns.
+/// Whether an option gives patterns or rules.
 pub fn gives_pattern(given: &[Item<'_>]) -> bool
     ensures gives { result ≡ gives_pattern (all_given given.now) }
 {
@@ -229,6 +229,7 @@ pub fn gives_pattern(given: &[Item<'_>]) -> bool
         || has(given, Word::Patterns)
         || has(given, Word::Table)
         || gives_value(given)
+        || gives_rules(given)
 }
 
 /// Whether an option gives values that are patterns.
@@ -313,8 +314,7 @@ fn redact_counted<'a, F: Folder, I: Read, W: Write, E: Sink>(
         folder.now (all_given given.now) (loaded_of sought.now) result streams.old streams.new }
     ensures flushed { OnOk result (streams.new.output.device.flushed ≡ true) }
 {
-    let counted = counts(given);
-    let mut tally = counts_of(alloc, sought.rules.as_slice(), counted)?;
+    let mut tally = tally_of(alloc, given, sought)?;
     redact_telling(alloc, given, sought, folder, tally.as_mut_slice(), streams)
 }
 
@@ -337,38 +337,44 @@ fn redact_telling<'a, F: Folder, I: Read, W: Write, E: Sink>(
     let mut volume = Volume { files: 0, bytes: 0 };
     // Not by `?`: this error may hold names.
     match redact_all(alloc, given, sought, folder, tally, &mut volume, streams) {
-        Ok(all) => {
-            let rules = sought.rules.as_slice();
-            tell_counted(alloc, all, given, rules, tally, volume, &mut streams.errors)
-        }
+        Ok(all) => tell_counted(
+            alloc,
+            all,
+            given,
+            sought,
+            tally,
+            volume,
+            &mut streams.errors,
+        ),
         Err(failure) => Err(failure),
     }
 }
 
-/// Tells the counts, where they are asked for, and answers whether all files were read.
+/// Tells how many lines were too long, if some were, and the counts, where they are asked for, and answers whether all files were read.
 pub fn tell_counted<'a, E: Sink>(
     alloc: Global,
     all: bool,
     given: &[Item<'_>],
-    rules: &[Rule],
+    sought: &Sought,
     tally: &[u64],
     volume: Volume,
     errors: &mut Errors<'_, E>,
 ) -> Result<bool, Failure<'a>>
     ensures all { IfOk result (λ done. done ≡ all) }
-    ensures told { OnOk result (TellsAnyCounts E.Sink (all_given given.now) rules.now tally.now volume
+    ensures told { OnOk result (TellsAnyCounts E.Sink (all_given given.now) sought.now.rules.items tally.now volume
         errors.old errors.new) }
-    ensures lines { Tells E.Sink (IsCountsLine (all_given given.now) (secrets_of rules.now))
+    ensures lines { Tells E.Sink (IsCountsLine (all_given given.now) (secrets_of sought.now.rules.items))
         errors.old errors.new }
     ensures these { Tells E.Sink (λ line. line ≡ totals_text (all_given given.now)
-        (secret_lines (secrets_of rules.now)) (sums_of (secrets_of rules.now) tally.now) volume)
+        (secret_lines (secrets_of sought.now.rules.items)) (sums_of (secrets_of sought.now.rules.items) tally.now) volume)
         errors.old errors.new }
     ensures fails { IfErr result (IsCountsFailure (counts_given given.now)) }
 {
+    tell_long(errors, sought, tally);
     if !counts(given) {
         return Ok(all);
     }
-    tell_totals(alloc, errors, given, rules, tally, volume)?;
+    tell_totals(alloc, errors, given, sought, tally, volume)?;
     if errors.has_failed() {
         return Err(Failure::Counts);
     }
@@ -384,20 +390,20 @@ fn tell_totals<E: Sink>(
     alloc: Global,
     errors: &mut Errors<'_, E>,
     given: &[Item<'_>],
-    rules: &[Rule],
+    sought: &Sought,
     tally: &[u64],
     volume: Volume,
 ) -> Result<(), AllocError>
     ensures told { OnOk result (TellsBytes E.Sink errors.old errors.new
-        (totals_text (all_given given.now) (lines_of_rules rules.now)
-        (sums_of (secrets_of rules.now) tally.now) volume)) }
+        (totals_text (all_given given.now) (lines_of_rules sought.now.rules.items)
+        (sums_of (secrets_of sought.now.rules.items) tally.now) volume)) }
     ensures untold { OnErr result (errors.new ≡ errors.old) }
 {
-    let sums = sums_of(alloc, rules, tally)?;
+    let sums = sums_of(alloc, sought.rules.as_slice(), tally)?;
     let sums = sums.as_slice();
     let mut text = Vec::new(alloc);
-    put_asked_counts(&mut text, given, rules, sums)?;
-    put_asked_summary(&mut text, given, sums, volume)?;
+    put_asked_counts(&mut text, given, sought, sums, tally)?;
+    put_asked_summary(&mut text, given, sought, sums, tally, volume)?;
     errors.write(&[text.as_slice()]);
     Ok(())
 }
@@ -406,32 +412,44 @@ fn tell_totals<E: Sink>(
 fn put_asked_counts(
     text: &mut Vec<u8>,
     given: &[Item<'_>],
-    rules: &[Rule],
+    sought: &Sought,
+    sums: &[u64],
     tally: &[u64],
 ) -> Result<(), AllocError>
     ensures put { OnOk result (PutsText text.old text.new
-        (counts_told_by (all_given given.now) (lines_of_rules rules.now) tally.now)) }
+        (counts_told_by (all_given given.now) (lines_of_sought sought.now) sums.now tally.now)) }
 {
-    if has(given, Word::Count) {
-        return put_counts(text, rules, tally);
+    if !has(given, Word::Count) {
+        return Ok(());
     }
-    Ok(())
+    put_counts(text, sought.rules.as_slice(), sums)?;
+    match &sought.lines {
+        Some(lines) => put_rule_counts(text, lines, counts_behind(sought, tally)),
+        None => Ok(()),
+    }
 }
 
 /// The summary, if it is asked for.
 fn put_asked_summary(
     text: &mut Vec<u8>,
     given: &[Item<'_>],
+    sought: &Sought,
+    sums: &[u64],
     tally: &[u64],
     volume: Volume,
 ) -> Result<(), AllocError>
     ensures put { OnOk result (PutsText text.old text.new
-        (summary_told_by (all_given given.now) tally.now volume)) }
+        (summary_told_by (all_given given.now) sought.now sums.now tally.now volume)) }
 {
-    if has(given, Word::Summary) {
-        return put_summary(text, volume, tally);
+    if !has(given, Word::Summary) {
+        return Ok(());
     }
-    Ok(())
+    put_summary(text, volume, sums)?;
+    match &sought.lines {
+        Some(lines) => put_rule_summary(text, lines, counts_behind(sought, tally))?,
+        None => {}
+    }
+    text.extend_from_slice(b"}\n")
 }
 
 /// What is written for a pattern that has no replacement of its own.

@@ -8,6 +8,7 @@ ghost use Rattle.chromesquid.specs.Searcher.{Answers, ForItsPatterns, IsBuiltFro
 ghost use Rattle.secret_rules.specs.Faults.{IsFirstFault, IsKeywordFailure, IsMarkFailure, IsRulesFailure};
 ghost use Rattle.secret_rules.specs.Keywords.{HasOwner, is_always};
 ghost use Rattle.secret_rules.specs.Markers.{AreFlagsFor, flag_at};
+ghost use Rattle.secret_rules.specs.Marking.{IsLineFailure};
 ghost use Rattle.secret_rules.specs.Marks.{ForRuleAt};
 ghost use Rattle.secret_rules.specs.Rules.{AreSound, keyword_patterns, regex_of};
 
@@ -151,6 +152,20 @@ impl Rules {
         ensures sound { AreSound self.now }
     {
         &self.rules
+    }
+
+    /// Compiles each expression that was not yet.
+    ///
+    /// # Errors
+    ///
+    /// The first is too big, or memory ran out.
+    pub fn compile(&self, alloc: Global) -> Result<(), MarkError>
+        ensures refused { IfErr result (IsLineFailure self.now) }
+    {
+        for number in 0..self.rules.len() {
+            let _expression = self.expression(alloc, number)?;
+        }
+        Ok(())
     }
 
     /// Of each rule whether it applies to a line.
