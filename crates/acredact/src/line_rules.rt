@@ -27,7 +27,7 @@ const USUAL_MOST: usize = 1024 * 1024;
 /// The rules by which lines are covered.
 #[derive(Drop)]
 pub struct LineRules {
-    /// The rules. Each expression is compiled.
+    /// The rules. Each expression is compiled, or is one of the program's own.
     pub rules: Rules,
     /// How many bytes a line may have that is not covered whole.
     pub most: usize,
@@ -266,17 +266,17 @@ fn flaw_of(alloc: Global, rule: &LineRule, named: bool) -> Result<Option<RuleFla
     }
 }
 
-/// These rules, each with its expression compiled. They stand where the sources say.
+/// These rules, each with its expression compiled, but for those of the program: these all compile, and each only once it is needed. They
+/// stand where the sources say.
 fn compiled<'a>(
     alloc: Global,
     rules: Vec<LineRule>,
     sources: &[&'a str],
 ) -> Result<Rules, Failure<'a>> {
     match Rules::new(alloc, rules) {
-        Ok(rules) => match rules.compile(alloc) {
+        Ok(rules) => match compile_each(alloc, &rules, sources) {
             Ok(()) => Ok(rules),
-            Err(MarkError::TooBig(number)) => Err(too_big(alloc, &rules, number, sources)?),
-            Err(MarkError::OutOfMemory) => Err(Failure::Other(failure::Failure::OutOfMemory)),
+            Err(failure) => Err(failure),
         },
         Err(RulesError::Keywords(error)) => Err(Failure::Keywords(error)),
         // Each rule was looked at before.
@@ -286,22 +286,40 @@ fn compiled<'a>(
     }
 }
 
-/// That the expression of a rule is too big.
-fn too_big<'a>(
+/// Compiles the expression of each rule that is not the program's.
+fn compile_each<'a>(alloc: Global, rules: &Rules, sources: &[&'a str]) -> Result<(), Failure<'a>> {
+    let mut number = 0;
+    while number < sources.len() {
+        // Not by `?`: this error holds names.
+        match compile_one(alloc, rules, number, sources[number]) {
+            Ok(()) => number += 1,
+            Err(failure) => return Err(failure),
+        }
+    }
+    Ok(())
+}
+
+/// Compiles the expression of a rule that stands there, unless it is the program's.
+fn compile_one<'a>(
     alloc: Global,
     rules: &Rules,
     number: usize,
-    sources: &[&'a str],
-) -> Result<Failure<'a>, AllocError> {
-    let name = match sources.get(number) {
-        Some(name) => name,
-        None => "--rules",
-    };
-    let id = String::from_str(alloc, rules.as_slice()[number].id.as_str())?;
-    let bad = BadRule {
-        number: number.saturating_add(1),
-        id: Some(id),
-        flaw: RuleFlaw::TooBig,
-    };
-    Ok(Failure::Rule(name, bad))
+    source: &'a str,
+) -> Result<(), Failure<'a>> {
+    if source == BUILTIN_NAME {
+        return Ok(());
+    }
+    match rules.compile(alloc, number) {
+        Ok(()) => Ok(()),
+        Err(MarkError::TooBig(_)) => {
+            let id = String::from_str(alloc, rules.as_slice()[number].id.as_str())?;
+            let bad = BadRule {
+                number: number.saturating_add(1),
+                id: Some(id),
+                flaw: RuleFlaw::TooBig,
+            };
+            Err(Failure::Rule(source, bad))
+        }
+        Err(MarkError::OutOfMemory) => Err(Failure::Other(failure::Failure::OutOfMemory)),
+    }
 }

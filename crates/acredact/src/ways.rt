@@ -104,7 +104,7 @@ impl<A: Automaton> Coverer for LineCover<'_, '_, A> {
         match cover_lines(self, source, sink, pieces, counts) {
             Ok(()) => Ok(()),
             Err(LineError::Stream(error)) => Err(error),
-            // Each expression was compiled before, so memory ran out.
+            // Each expression was compiled before, or is one of the program's, which all can be. So memory ran out.
             Err(LineError::Mark(_)) => Err(StreamError::Memory),
         }
     }

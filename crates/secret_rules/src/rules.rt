@@ -8,7 +8,6 @@ ghost use Rattle.chromesquid.specs.Searcher.{Answers, ForItsPatterns, IsBuiltFro
 ghost use Rattle.secret_rules.specs.Faults.{IsFirstFault, IsKeywordFailure, IsMarkFailure, IsRulesFailure};
 ghost use Rattle.secret_rules.specs.Keywords.{HasOwner, is_always};
 ghost use Rattle.secret_rules.specs.Markers.{AreFlagsFor, flag_at};
-ghost use Rattle.secret_rules.specs.Marking.{IsLineFailure};
 ghost use Rattle.secret_rules.specs.Marks.{ForRuleAt};
 ghost use Rattle.secret_rules.specs.Rules.{AreSound, keyword_patterns, regex_of};
 
@@ -154,17 +153,16 @@ impl Rules {
         &self.rules
     }
 
-    /// Compiles each expression that was not yet.
+    /// Compiles the expression of a rule, if it was not yet.
     ///
     /// # Errors
     ///
-    /// The first is too big, or memory ran out.
-    pub fn compile(&self, alloc: Global) -> Result<(), MarkError>
-        ensures refused { IfErr result (IsLineFailure self.now) }
+    /// It is too big, or memory ran out.
+    pub fn compile(&self, alloc: Global, number: usize) -> Result<(), MarkError>
+        requires within { number < length self.now }
+        ensures refused { IfErr result (IsMarkFailure number) }
     {
-        for number in 0..self.rules.len() {
-            let _expression = self.expression(alloc, number)?;
-        }
+        let _expression = self.expression(alloc, number)?;
         Ok(())
     }
 
