@@ -115,7 +115,7 @@ pub enum Mixture {
     MaxLineAlone,
     /// `--count` with `--check`, which counts nothing.
     CountCheck,
-    /// `--summary` with `--check`.
+    /// `--summary` with `--check`, where no rules are given.
     SummaryCheck,
     /// `--output` with `--check`, which writes nothing.
     OutputCheck,
