@@ -2,7 +2,7 @@
 use Rattle.std.proofs.Common.{◌≡◌, inl, inr, ℕ, zero, suc, ◌+◌, ◌<◌, ◌≤◌, Bool, true, false, List, [], ◌∷◌, ◌++◌, append_assoc, get_or, length, map, take, refl, sym, ◌∙◌, ap, subst, arith}
 use Rattle.std.specs.Prelude.{◌⊎◌, ◌-◌, nat_lt, Option, None, Some, IfSome, slice_index_or}
 use Rattle.std.specs.Borrow.{Bor}
-use Rattle.std.proofs.lemmas.List.{map-append, take_more}
+use Rattle.std.proofs.lemmas.List.{length-map, map-append, take_more}
 use Rattle.std.proofs.lemmas.Option.{slice_get_within}
 use Rattle.std.proofs.lemmas.Bool.{cond-true, cond-false, lt-ltb, le-ltb}
 use Rattle.aho_core.specs.Cover.{AreRunsOf, IsCovered, IsRunOf}
@@ -159,6 +159,18 @@ pub some-searched : {A : Type 0} (G : Automata A) (automaton : Option (Bor A)) �
 some-searched G None can = (record { words = []; kind = Standard; ignore_case = false }, refl)
 some-searched G (Some a) can = can.of
 
+-- as many patterns as an automaton has, or none without one
+pub patterns-counted : {A : Type 0} (G : Automata A) (automaton : Option (Bor A)) (count : ℕ) → IfSome automaton (λ a. count ≡ length (G.lengths a.now)) → (automaton ≡ None → count ≡ 0)
+    → (p : Patterns) → ((a : A) → G.is_of a p → G.lengths a ≡ map length p.words) → AreSearched G automaton p → length p.words ≡ count
+patterns-counted G None count some none p laws searched = ap length searched ∙ sym (none refl)
+patterns-counted G (Some a) count some none p laws searched = sym (some ∙ ap length (laws a.now searched) ∙ length-map p.words length)
+
+-- their numbers and those of the rules fit
+pub numbers-fit : {A : Type 0} (G : Automata A) (automaton : Option (Bor A)) (count rules most : ℕ) → IfSome automaton (λ a. count ≡ length (G.lengths a.now)) → (automaton ≡ None → count ≡ 0)
+    → IfSome automaton (λ a. length (G.lengths a.now) + rules ≤ most) → rules ≤ most → count + rules ≤ most
+numbers-fit G None count rules most some none few few_rules = omega (arith, none refl, few_rules)
+numbers-fit G (Some a) count rules most some none few few_rules = omega (arith, some, few)
+
 -- without patterns nothing counts
 pub none-standing : (words : Bool) (p : Patterns) (line : List ℕ) → p.words ≡ [] → StandForAll (CountsIn words p line) []
 none-standing words p line none = record {
@@ -213,11 +225,3 @@ pushed-more old found found' patterns marks i mark within is were more =
     ∙ append_assoc old (map (marked patterns) (take i marks)) (marked patterns mark ∷ [])
     ∙ ap (λ (xs : List Occurrence). old ++ xs) (sym (map-append (marked patterns) (take i marks) (mark ∷ [])))
     ∙ ap (λ (ms : List Mark). old ++ map (marked patterns) ms) (sym (take-here marks i mark within is))
-
-pub within-more : (marks : List Mark) (i most : ℕ) (mark : Mark) → i < length marks → mark ≡ get_or marks i mark → ((m : Mark) → IsMember (take i marks) m → m.end ≤ most) → mark.end ≤ most
-    → (m : Mark) → IsMember (take (i + 1) marks) m → m.end ≤ most
-within-more marks i most mark within is were own m there =
-    elim (member-of_append (take i marks) (mark ∷ []) m (subst (λ (ms : List Mark). IsMember ms m) (take-here marks i mark within is) there)) [
-      | inl old ↦ were m old
-      | inr one ↦ elim one [ inl e ↦ subst (λ (x : Mark). x.end ≤ most) (sym e) own | inr none ↦ absurd none ]
-    ]

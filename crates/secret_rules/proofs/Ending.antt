@@ -16,16 +16,23 @@ use Rattle.aho_cover.specs.Counting.{CountsThese}
 use Rattle.aho_cover.specs.Pieces.{PieceRule, piece_in}
 use Rattle.aho_cover.specs.Writes.{TellsWrites}
 use Rattle.aho_laws.proofs.CoverRuns.{runs-unique}
-use Rattle.secret_rules.specs.Covering.{CoveredIn, covering_by}
+use Rattle.aho_automaton.specs.declared.automaton.Automaton.{Ghosts as Automata}
+use Rattle.aho_cover.specs.declared.pieces.Pieces.{Ghosts as PieceGhosts}
+use Rattle.secret_rules.specs.Covering.{CoveredIn, covering_by, seen_line}
+use Rattle.secret_rules.specs.LineCovers.{AreSearched}
 use Rattle.secret_rules.specs.Lines.{Line, line_with}
-use Rattle.secret_rules.specs.Marking.{IsLineFailure}
-use Rattle.secret_rules.specs.OpenLines.{IsLineRefusal, StopsInLine, TellsLine, WritesLine}
-use Rattle.secret_rules.specs.Writing.{line_cover}
+use Rattle.secret_rules.specs.Marking.{HasMarked, IsLineFailure}
+use Rattle.secret_rules.specs.OpenLines.{IsLineRefusal, IsSetting, StandsBehind, StopsInLine, TellsLine, WritesLine}
+use Rattle.secret_rules.specs.Writing.{LieFrom, line_cover}
 use Rattle.secret_rules.specs.declared.error.LineError.{LineError}
 use Rattle.secret_rules.specs.declared.error.LineError.TheVariants.{Mark, Stream}
 use Rattle.secret_rules.specs.declared.error.MarkError.{MarkError}
+use Rattle.secret_rules.specs.declared.marker.Marker.{Marker}
+use Rattle.secret_rules.specs.declared.open_line.OpenLine.{OpenLine}
+use Rattle.secret_rules.specs.declared.open_line.Setting.{Setting}
 use Rattle.secret_rules.specs.declared.rule.Rule.{Rule}
-use Rattle.secret_rules.proofs.Covered.{whole-runs}
+use Rattle.std.proofs.lemmas.Bool.{false≢true}
+use Rattle.secret_rules.proofs.Covered.{seen-long, seen-short, whole-runs}
 
 -- a list starts with the first of its items
 starts-with_first : (xs : List ℕ) (n : ℕ) → n ≤ length xs → StartsWith xs (take n xs)
@@ -95,6 +102,38 @@ module _ {W : Type 0} (K : SinkGhosts W) (Searched : Patterns → Type 0) (words
       (λ p searched. subst (λ (n : ℕ). AreRunsOf (CoveredIn (covering_by words rules most p) before read) (occurrence 0 (length read) n ∷ [])) (sym (numbered p searched))
           (whole-runs (covering_by words rules most p) before read long))
       (subst (AppendsBeginning (K.taken sink) (K.taken sink')) (sym (long-cover read end number)) part)
+
+-- the runs of a line are told of the same bytes
+pub runs-told : (Searched : Patterns → Type 0) (words : Bool) (rules : List Rule) (most : ℕ) (before : List (List ℕ)) (items items' : List ℕ) (own own' : List Occurrence) → items' ≡ items → own' ≡ own
+    → ((p : Patterns) → Searched p → AreRunsOf (CoveredIn (covering_by words rules most p) before items) own)
+    → (p : Patterns) → Searched p → AreRunsOf (CoveredIn (covering_by words rules most p) before items') own'
+runs-told Searched words rules most before items items' own own' same_items same_runs are p searched =
+    subst (λ (xs : List ℕ). AreRunsOf (CoveredIn (covering_by words rules most p) before xs) own') (sym same_items)
+    (subst (AreRunsOf (CoveredIn (covering_by words rules most p) before items)) (sym same_runs) (are p searched))
+
+pub lies-told : (items items' : List ℕ) (own own' : List Occurrence) → items' ≡ items → own' ≡ own → LieFrom items 0 own → LieFrom items' 0 own'
+lies-told items items' own own' same_items same_runs lie =
+    subst (λ (xs : List ℕ). LieFrom xs 0 own') (sym same_items) (subst (LieFrom items 0) (sym same_runs) lie)
+
+-- the next line begins
+pub stands-next : {A P : Type 0} (Q : PieceGhosts P) (line : OpenLine A) (pieces : P) (before : List (List ℕ)) → HasMarked line.marker before → line.line.items ≡ [] → line.long ≡ false → StandsBehind Q line pieces before []
+stands-next Q line pieces before marked empty short = record {
+  marked = marked;
+  has = record { kept = λ is. (empty, omega arith); fed = λ is. absurd (false≢true (sym short ∙ is)) };
+}
+
+-- a line that was marked is one of those before, as rules see it
+pub marked-short : (marker : Marker) (before : List (List ℕ)) (most : ℕ) (items read : List ℕ) → items ≡ read → length read ≤ most → HasMarked marker (before ++ items ∷ []) → HasMarked marker (before ++ seen_line most read ∷ [])
+marked-short marker before most items read same short marked =
+    subst (λ (xs : List ℕ). HasMarked marker (before ++ xs ∷ [])) (same ∙ sym (seen-short most read short)) marked
+
+pub marked-long : (marker : Marker) (before : List (List ℕ)) (most : ℕ) (read : List ℕ) → most < length read → HasMarked marker (before ++ [] ∷ []) → HasMarked marker (before ++ seen_line most read ∷ [])
+marked-long marker before most read long marked =
+    subst (λ (xs : List ℕ). HasMarked marker (before ++ xs ∷ [])) (sym (seen-long most read long)) marked
+
+-- the number of a line that is covered whole
+pub whole-numbered : {A : Type 0} (G : Automata A) (setting : Setting A) (rules : List Rule) → IsSetting G setting rules → (p : Patterns) → AreSearched G setting.automaton p → setting.whole ≡ length p.words + length rules
+whole-numbered G setting rules is p searched = is.whole ∙ ap (λ (n : ℕ). n + length rules) (sym (is.patterns p searched))
 
 module _ {W : Type 0} (K : SinkGhosts W) (rules : List Rule) where
   -- which errors are told

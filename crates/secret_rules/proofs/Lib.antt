@@ -36,6 +36,8 @@ pub mod Picked
 pub mod LineRuns
 -- what was written of a line
 pub mod WrittenLines
+-- what rules mark of a line lies in it
+pub mod Lying
 -- what stands for all that is covered of a line
 pub mod Covered
 -- lines that come to their ends, some after others

@@ -1,9 +1,15 @@
 -- The bytes of a line as they are read.
 use Rattle.std.proofs.Common.{◌≡◌, ℕ, ◌+◌, ◌<◌, ◌≤◌, Bool, true, false, List, [], ◌∷◌, ◌++◌, length, refl, sym, ◌∙◌, ap, subst, arith, length-append}
+use Rattle.std.specs.Prelude.{if◌then◌else◌, is_ok, OnOk, Result, Ok, Err}
 use Rattle.std.proofs.lemmas.Bool.{false≢true}
 use Rattle.aho_cover.specs.declared.pieces.Pieces.{Ghosts as PieceGhosts}
 use Rattle.secret_rules.specs.OpenLines.{HasRead}
 use Rattle.secret_rules.specs.declared.open_line.OpenLine.{OpenLine}
+
+-- more bytes are kept, unless memory ran out
+pub bytes-kept : {E : Type 0} (r : Result (Unit {0}) E) (old more new : List ℕ) → new ≡ (if is_ok r then old ++ more else old) → OnOk r (new ≡ old ++ more)
+bytes-kept (Ok done) old more new is = is
+bytes-kept (Err e) old more new is = tt
 
 module _ {A P : Type 0} (Q : PieceGhosts P) (line line' : OpenLine A) (pieces pieces' : P) (read bytes : List ℕ) (has : HasRead Q line pieces read) (same : line'.setting.most ≡ line.setting.most) where
   -- a line that was too long, and the bytes were fed

@@ -9,7 +9,10 @@ use Rattle.aho_core.specs.Cover.{AreRunsOf}
 use Rattle.aho_core.specs.Occurrence.{Occurrence}
 use Rattle.aho_core.specs.Patterns.{Patterns}
 use Rattle.aho_core.specs.declared.error.stream.StreamError.{StreamError}
+use Rattle.aho_core.specs.declared.error.stream.StreamError.TheVariants.{Match, Read, Write, WriteZero, Memory, PositionLimit}
 use Rattle.aho_devices.specs.Counts.{counted}
+use Rattle.aho_devices.specs.Errors.{CountsErrors}
+use Rattle.aho_devices.specs.Refusals.{IsFillRefusal, IsWriteRefusal, is_read_fault, is_write_fault, is_write_of_nothing}
 use Rattle.aho_devices.specs.declared.device.Sink.{Ghosts as SinkGhosts}
 use Rattle.aho_devices.specs.declared.device.Source.{Ghosts as SourceGhosts}
 use Rattle.aho_stream.specs.After.{MayFollow}
@@ -20,9 +23,9 @@ use Rattle.aho_cover.specs.Pieces.{PieceRule}
 use Rattle.aho_cover.specs.declared.pieces.Pieces.{Ghosts as PieceGhosts}
 use Rattle.aho_cover.proofs.Counted.{counts_none, counts_then}
 use Rattle.secret_rules.specs.Covering.{AreLineRuns, CoveredIn, covering_by, lines_cover, seen_line}
-use Rattle.secret_rules.specs.LineCovers.{BeginsLines, CoversLines, CoversWholeLines, GoesOnWith, IsReadFailure, LeavesLines, all_of}
+use Rattle.secret_rules.specs.LineCovers.{BeginsLines, CoversLines, CoversWholeLines, GoesOnWith, IsCoverFailure, IsReadFailure, LeavesLines, all_of, of_devices}
 use Rattle.secret_rules.specs.Lines.{Line, last_line, lines_from, lines_of}
-use Rattle.secret_rules.specs.OpenLines.{GoesOnBehind, StandsBehind, StopsInLine, StopsInLines, WritesLine, WritesLines}
+use Rattle.secret_rules.specs.OpenLines.{GoesOnBehind, IsLineRefusal, StandsBehind, StopsInLine, StopsInLines, TellsLine, WritesLine, WritesLines}
 use Rattle.secret_rules.specs.Writing.{line_cover}
 use Rattle.secret_rules.specs.declared.error.LineError.{LineError}
 use Rattle.secret_rules.specs.declared.error.LineError.TheVariants.{Mark, Stream}
@@ -30,6 +33,122 @@ use Rattle.secret_rules.specs.declared.open_line.OpenLine.{OpenLine}
 use Rattle.secret_rules.specs.declared.rule.Rule.{Rule}
 use Rattle.secret_rules.proofs.Advancing.{GoesOnWith-behind, StopsInLines-none, StopsInLines-then, WritesLines-part, WritesLines-then}
 use Rattle.secret_rules.proofs.LineRuns.{NoEnds, lines_cover-append, runs-append, runs-split}
+
+-- what a write refuses is no failure of a read, and what a fill refuses none of a write
+written-unread : (error : StreamError) → IsWriteRefusal error → IsFillRefusal error → ⊥
+written-unread (Match cause) written filled = written
+written-unread (Read fault) written filled = written
+written-unread (Write fault) written filled = filled
+written-unread WriteZero written filled = filled
+written-unread Memory written filled = written
+written-unread PositionLimit written filled = filled
+
+pub line-unread : (rules : List Rule) (error : LineError) → IsLineRefusal rules error → IsReadFailure error → ⊥
+line-unread rules (Stream error) refused read = written-unread error refused read
+line-unread rules (Mark error) refused read = read
+
+pub lines-unread : (rules : List Rule) (result : Result (Unit {0}) LineError) → IfErr result (IsLineRefusal rules) → IfErr result (λ error. IsReadFailure error → ⊥)
+lines-unread rules (Ok done) refused = tt
+lines-unread rules (Err error) refused = line-unread rules error refused
+
+-- why a stream is not covered
+pub line-fails : (rules : List Rule) (error : LineError) → IsLineRefusal rules error → IsCoverFailure rules error
+line-fails rules (Mark error) refused = refused
+line-fails rules (Stream (Match cause)) refused = refused
+line-fails rules (Stream (Read fault)) refused = absurd refused
+line-fails rules (Stream (Write fault)) refused = tt
+line-fails rules (Stream WriteZero) refused = tt
+line-fails rules (Stream Memory) refused = refused
+line-fails rules (Stream PositionLimit) refused = absurd refused
+
+pub lines-fail : (rules : List Rule) (result : Result (Unit {0}) LineError) → IfErr result (IsLineRefusal rules) → IfErr result (IsCoverFailure rules)
+lines-fail rules (Ok done) refused = tt
+lines-fail rules (Err error) refused = line-fails rules error refused
+
+pub read-fails : (rules : List Rule) (error : StreamError) → IsFillRefusal error → IsCoverFailure rules (Stream error)
+read-fails rules (Match cause) refused = refused
+read-fails rules (Read fault) refused = tt
+read-fails rules (Write fault) refused = absurd refused
+read-fails rules WriteZero refused = absurd refused
+read-fails rules Memory refused = refused
+read-fails rules PositionLimit refused = tt
+
+-- no read failed where a line was refused
+line-reads : (rules : List Rule) (result : Result (Unit {0}) LineError) → IfErr result (IsLineRefusal rules) → is_read_fault (of_devices result) ≡ false
+line-reads rules (Ok done) refused = refl
+line-reads rules (Err (Mark error)) refused = refl
+line-reads rules (Err (Stream (Match cause))) refused = refl
+line-reads rules (Err (Stream (Read fault))) refused = absurd refused
+line-reads rules (Err (Stream (Write fault))) refused = refl
+line-reads rules (Err (Stream WriteZero)) refused = refl
+line-reads rules (Err (Stream Memory)) refused = refl
+line-reads rules (Err (Stream PositionLimit)) refused = refl
+
+-- the errors of devices are counted
+module _ {R W : Type 0} (S : SourceGhosts R) (K : SinkGhosts W) (rules : List Rule) (first source : R) (begun sink : W) (reads : S.failures source ≡ S.failures first) (failures : K.failures sink ≡ K.failures begun) (empty_writes : K.empty_writes sink ≡ K.empty_writes begun) where
+  pub errors-line : (sink' : W) (result : Result (Unit {0}) LineError) → TellsLine K rules sink sink' result → CountsErrors S K first source begun sink' (of_devices result)
+  errors-line sink' result tells = record {
+    read_failed = reads ∙ sym (ap (λ (b : Bool). counted b (S.failures first)) (line-reads rules result tells.only));
+    write_failed = tells.write_failed ∙ ap (counted (is_write_fault (of_devices result))) failures;
+    took_nothing = tells.took_nothing ∙ ap (counted (is_write_of_nothing (of_devices result))) empty_writes;
+  }
+
+  pub errors-read : (source' : R) (error : StreamError) → S.failures source' ≡ counted (is_read_fault {A = ℕ} (Err error)) (S.failures source) → IsFillRefusal error
+      → CountsErrors {A = Unit {0}} S K first source' begun sink (Err error)
+  errors-read source' (Match cause) failed refused = absurd refused
+  errors-read source' (Read fault) failed refused = record { read_failed = failed ∙ ap (counted true) reads; write_failed = failures; took_nothing = empty_writes }
+  errors-read source' (Write fault) failed refused = absurd refused
+  errors-read source' WriteZero failed refused = absurd refused
+  errors-read source' Memory failed refused = absurd refused
+  errors-read source' PositionLimit failed refused = record { read_failed = failed ∙ reads; write_failed = failures; took_nothing = empty_writes }
+
+-- of a sink that did not flush
+pub tells-flush : {W : Type 0} (K : SinkGhosts W) (rules : List Rule) (sink sink' : W) (error : StreamError) → K.failures sink' ≡ counted (is_write_fault {A = Unit {0}} (Err error)) (K.failures sink)
+    → K.empty_writes sink' ≡ counted (is_write_of_nothing {A = Unit {0}} (Err error)) (K.empty_writes sink) → IsWriteRefusal error → TellsLine K rules sink sink' (Err (Stream error))
+tells-flush K rules sink sink' error failed empty refused = record { write_failed = failed; took_nothing = empty; only = refused }
+
+-- bytes of no length
+pub no-bytes : (bytes : List ℕ) → length bytes ≡ 0 → bytes ≡ []
+no-bytes [] none = refl
+no-bytes (byte ∷ bytes) none = absurd (omega (arith, none))
+
+module _ {R W : Type 0} (S : SourceGhosts R) (K : SinkGhosts W) (Searched : Patterns → Type 0) (words : Bool) (rules : List Rule) (most : ℕ) (rule : PieceRule) (first : R) (begun : W) (zeros : List ℕ) where
+  abbrev Begins : R → W → List ℕ → Type 0
+  Begins source sink counts = BeginsLines S K Searched words rules most rule first source begun sink zeros counts
+
+  abbrev Leaves : R → W → List ℕ → Result (Unit {0}) LineError → Type 0
+  Leaves source sink counts result = LeavesLines S K Searched words rules most rule first source begun sink zeros counts result
+
+  -- a beginning is what was written where some lines were, and a part of the next
+  begins-lines : (source : R) (sink : W) (counts given : List ℕ) (ended : Bool) → SourceGave S first source given ended → StopsInLines K Searched words rules most rule begun sink zeros counts [] [] given → Begins source sink counts
+  begins-lines source sink counts given ended gives stops = record {
+    given = given;
+    ended = ended;
+    gives = gives;
+    lines = stops.lines;
+    runs = stops.runs;
+    part = stops.part;
+    as_many = stops.as_many;
+    runs_are = stops.runs_are;
+    writes = stops.writes;
+    counted = stops.counted;
+    goes_on = λ p bytes all searched may are.
+        subst (λ (ls : List Line). GoesOnWith rule stops.lines stops.runs stops.part ls all) (sym (ap lines_of may.1))
+        (stops.goes_on p may.0 all searched (subst (λ (ls : List Line). AreLineRuns (covering_by words rules most p) [] ls all) (ap lines_of may.1) are));
+  }
+
+  -- what a failure of a device leaves
+  pub leaves-read : (source : R) (sink : W) (counts : List ℕ) (error : LineError) → Begins source sink counts → CoversWholeLines S K Searched words rules most rule first source begun sink zeros counts
+      → Leaves source sink counts (Err error)
+  leaves-read source sink counts error begins whole = record { covered = tt; begun = begins; whole = λ failed. whole }
+
+  pub leaves-written : (source : R) (sink : W) (counts : List ℕ) (error : LineError) → Begins source sink counts → (IsReadFailure error → ⊥) → Leaves source sink counts (Err error)
+  leaves-written source sink counts error begins other = record { covered = tt; begun = begins; whole = λ failed. absurd (other failed) }
+
+  pub leaves-ended : (source : R) (sink : W) (counts : List ℕ) (result : Result (Unit {0}) LineError) → OnOk result (CoversLines S K Searched words rules most rule first source begun sink zeros counts)
+      → OnErr result (Begins source sink counts) → IfErr result (λ error. IsReadFailure error → ⊥) → Leaves source sink counts result
+  leaves-ended source sink counts (Ok done) covers begins other = record { covered = covers; begun = tt; whole = tt }
+  leaves-ended source sink counts (Err error) covers begins other = record { covered = tt; begun = begins; whole = λ failed. absurd (other failed) }
 
 module _ {A R W P : Type 0} (S : SourceGhosts R) (K : SinkGhosts W) (Q : PieceGhosts P) (Searched : Patterns → Type 0) (words : Bool) (rules : List Rule) (most : ℕ) (rule : PieceRule) (first : R) (begun : W) (zeros : List ℕ) where
   -- so much was given, written and counted
@@ -40,12 +159,6 @@ module _ {A R W P : Type 0} (S : SourceGhosts R) (K : SinkGhosts W) (Q : PieceGh
     pub read : List ℕ
     pub writes : WritesLines K Searched words rules most rule begun sink zeros counts [] [] given before read
     pub stands : StandsBehind Q line pieces before read
-
-  abbrev Begins : R → W → List ℕ → Type 0
-  Begins source sink counts = BeginsLines S K Searched words rules most rule first source begun sink zeros counts
-
-  abbrev Leaves : R → W → List ℕ → Result (Unit {0}) LineError → Type 0
-  Leaves source sink counts result = LeavesLines S K Searched words rules most rule first source begun sink zeros counts result
 
   -- nothing was given yet
   pub going-first : (line : OpenLine A) (pieces : P) → StandsBehind Q line pieces [] [] → Going line pieces first begun zeros
@@ -91,36 +204,18 @@ module _ {A R W P : Type 0} (S : SourceGhosts R) (K : SinkGhosts W) (Q : PieceGh
     stands = behind.stands;
   }
 
-  -- a beginning is what was written where some lines were, and a part of the next
-  begins-lines : (source : R) (sink : W) (counts given : List ℕ) (ended : Bool) → SourceGave S first source given ended → StopsInLines K Searched words rules most rule begun sink zeros counts [] [] given → Begins source sink counts
-  begins-lines source sink counts given ended gives stops = record {
-    given = given;
-    ended = ended;
-    gives = gives;
-    lines = stops.lines;
-    runs = stops.runs;
-    part = stops.part;
-    as_many = stops.as_many;
-    runs_are = stops.runs_are;
-    writes = stops.writes;
-    counted = stops.counted;
-    goes_on = λ p bytes all searched may are.
-        subst (λ (ls : List Line). GoesOnWith rule stops.lines stops.runs stops.part ls all) (sym (ap lines_of may.1))
-        (stops.goes_on p may.0 all searched (subst (λ (ls : List Line). AreLineRuns (covering_by words rules most p) [] ls all) (ap lines_of may.1) are));
-  }
-
   -- nothing more was written
-  pub going-begins : (line : OpenLine A) (pieces : P) (source : R) (sink : W) (counts : List ℕ) → Going line pieces source sink counts → Begins source sink counts
+  pub going-begins : (line : OpenLine A) (pieces : P) (source : R) (sink : W) (counts : List ℕ) → Going line pieces source sink counts → Begins S K Searched words rules most rule first begun zeros source sink counts
   going-begins line pieces source sink counts going =
-      begins-lines source sink counts (going.given ++ []) false (subst (λ (g : List ℕ). SourceGave S first source g false) (sym (append-nil going.given)) going.gives)
+      begins-lines S K Searched words rules most rule first begun zeros source sink counts (going.given ++ []) false (subst (λ (g : List ℕ). SourceGave S first source g false) (sym (append-nil going.given)) going.gives)
       (StopsInLines-then K Searched words rules most rule begun sink sink zeros counts counts [] going.before [] going.read going.given [] going.writes (StopsInLines-none K Searched words rules most rule sink counts going.before going.read []))
 
   -- more was given, and of it some first lines and a part of the next were written
   pub going-stops : (line : OpenLine A) (pieces : P) (source source' : R) (sink sink' : W) (counts counts' bytes : List ℕ) (going : Going line pieces source sink counts)
       → Consumes (S.remaining source) (S.remaining source') bytes → S.empty_reads source' ≡ counted false (S.empty_reads source)
-      → StopsInLines K Searched words rules most rule sink sink' counts counts' going.before going.read bytes → Begins source' sink' counts'
+      → StopsInLines K Searched words rules most rule sink sink' counts counts' going.before going.read bytes → Begins S K Searched words rules most rule first begun zeros source' sink' counts'
   going-stops line pieces source source' sink sink' counts counts' bytes going read ended stops =
-      begins-lines source' sink' counts' (going.given ++ bytes) false (gives_on S first source source' going.given bytes false false going.gives read ended (λ e. e))
+      begins-lines S K Searched words rules most rule first begun zeros source' sink' counts' (going.given ++ bytes) false (gives_on S first source source' going.given bytes false false going.gives read ended (λ e. e))
       (StopsInLines-then K Searched words rules most rule begun sink sink' zeros counts counts' [] going.before [] going.read going.given bytes going.writes stops)
 
   -- a read failed: all lines whose ends were given were written
@@ -176,7 +271,7 @@ module _ {A R W P : Type 0} (S : SourceGhosts R) (K : SinkGhosts W) (Q : PieceGh
   -- or a beginning of it was
   pub going-ends : (line : OpenLine A) (pieces : P) (source source' : R) (sink sink' : W) (counts counts' : List ℕ) (going : Going line pieces source sink counts)
       → Consumes (S.remaining source) (S.remaining source') [] → S.empty_reads source' ≡ counted true (S.empty_reads source)
-      → StopsInLine K Searched words rules most rule sink sink' counts counts' going.before (last_line going.read) → Begins source' sink' counts'
+      → StopsInLine K Searched words rules most rule sink sink' counts counts' going.before (last_line going.read) → Begins S K Searched words rules most rule first begun zeros source' sink' counts'
   going-ends line pieces source source' sink sink' counts counts' going read ended stops = record {
     given = going.given;
     ended = true;
@@ -208,16 +303,3 @@ module _ {A R W P : Type 0} (S : SourceGhosts R) (K : SinkGhosts W) (Q : PieceGh
     last-of p [] are = absurd are
     last-of p (own ∷ []) are = (own, refl, are.0)
     last-of p (own ∷ other ∷ rest) are = absurd are.1
-
-  -- what a failure of a device leaves
-  pub leaves-read : (source : R) (sink : W) (counts : List ℕ) (error : LineError) → Begins source sink counts → CoversWholeLines S K Searched words rules most rule first source begun sink zeros counts
-      → Leaves source sink counts (Err error)
-  leaves-read source sink counts error begins whole = record { covered = tt; begun = begins; whole = λ failed. whole }
-
-  pub leaves-written : (source : R) (sink : W) (counts : List ℕ) (error : LineError) → Begins source sink counts → (IsReadFailure error → ⊥) → Leaves source sink counts (Err error)
-  leaves-written source sink counts error begins other = record { covered = tt; begun = begins; whole = λ failed. absurd (other failed) }
-
-  pub leaves-ended : (source : R) (sink : W) (counts : List ℕ) (result : Result (Unit {0}) LineError) → OnOk result (CoversLines S K Searched words rules most rule first source begun sink zeros counts)
-      → OnErr result (Begins source sink counts) → IfErr result (λ error. IsReadFailure error → ⊥) → Leaves source sink counts result
-  leaves-ended source sink counts (Ok done) covers begins other = record { covered = covers; begun = tt; whole = tt }
-  leaves-ended source sink counts (Err error) covers begins other = record { covered = tt; begun = begins; whole = λ failed. absurd (other failed) }

@@ -10,7 +10,9 @@ use Rattle.aho_cover.specs.Pieces.{PieceRule}
 use Rattle.aho_cover.specs.declared.pieces.Pieces.{Ghosts as PieceGhosts}
 use Rattle.secret_rules.specs.Covering.{seen_line}
 use Rattle.secret_rules.specs.Lines.{ended_line}
+use Rattle.secret_rules.specs.Marking.{HasMarked}
 use Rattle.secret_rules.specs.OpenLines.{GoesOnBehind, HasRead, StandsBehind, StopsInLine, StopsInLines, WritesLine, WritesLines}
+use Rattle.secret_rules.specs.declared.marker.Marker.{Marker}
 use Rattle.secret_rules.specs.declared.open_line.OpenLine.{OpenLine}
 use Rattle.secret_rules.specs.declared.rule.Rule.{Rule}
 use Rattle.secret_rules.proofs.Advancing.{StopsInLines-end, StopsInLines-none, StopsInLines-then, WritesLines-end, WritesLines-part, WritesLines-then}
@@ -28,6 +30,15 @@ none-before rest end within none =
     λ k low high ends.
         let short : k < end = omega (arith, high, length-take-le end rest within) in
         none k low short (subst (λ (b : ℕ). (b == 10) ≡ true) (get_or-take end rest k 0 short) ends)
+
+-- bytes up to a line end that was found, the line end, and those behind it
+pub parts-found : (rest later : List ℕ) (end : ℕ) → end < length rest → (slice_index rest end == 10) ≡ true → later ≡ drop (end + 1) rest → rest ≡ take end rest ++ 10 ∷ later
+parts-found rest later end within ends is = parts-at rest end within ends ∙ ap (λ (xs : List ℕ). take end rest ++ 10 ∷ xs) (sym is)
+
+-- more bytes of the same line were read
+pub stands-more : {A P : Type 0} (Q : PieceGhosts P) (line line' : OpenLine A) (pieces pieces' : P) (before : List (List ℕ)) (read bytes : List ℕ) → StandsBehind Q line pieces before read → line'.marker ≡ line.marker
+    → HasRead Q line' pieces' (read ++ bytes) → StandsBehind Q line' pieces' before (read ++ bytes)
+stands-more Q line line' pieces pieces' before read bytes stands same has = record { marked = subst (λ (m : Marker). HasMarked m before) (sym same) stands.marked; has = has }
 
 module _ {A W P : Type 0} (K : SinkGhosts W) (Q : PieceGhosts P) (Searched : Patterns → Type 0) (words : Bool) (rules : List Rule) (most : ℕ) (rule : PieceRule) where
   -- a part of some bytes was taken in, and the others are left

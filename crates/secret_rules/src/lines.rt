@@ -35,21 +35,11 @@ use memchr::memchr;
 use std::alloc::AllocError;
 
 /// Adds a mark of a line as an occurrence, whose number is behind those of so many patterns.
-fn push_mark(
-    patterns: usize,
-    line: &[u8],
-    mark: &Mark,
-    found: &mut Vec<Match>,
-) -> Result<(), AllocError>
+fn push_mark(patterns: usize, mark: &Mark, found: &mut Vec<Match>) -> Result<(), AllocError>
     requires numbered { patterns + mark.now.rule ≤ greatest_index }
     requires ordered { mark.now.start ≤ mark.now.end }
     ensures pushed { OnOk result (found.new.items ≡ found.old.items ++ marked patterns mark.now ∷ []) }
-    ensures within { OnOk result (mark.now.end ≤ length line.now) }
 {
-    // It always is: what a match spans lies in the line.
-    if mark.end > line.len() {
-        return Err(AllocError);
-    }
     let range = Span {
         start: mark.start,
         end: mark.end,
@@ -60,19 +50,13 @@ fn push_mark(
 }
 
 /// Adds the marks of a line as occurrences.
-fn push_marks(
-    patterns: usize,
-    line: &[u8],
-    marks: &[Mark],
-    found: &mut Vec<Match>,
-) -> Result<(), AllocError>
+fn push_marks(patterns: usize, marks: &[Mark], found: &mut Vec<Match>) -> Result<(), AllocError>
     requires numbered { (mark : Mark) → IsMember marks.now mark → patterns + mark.rule ≤ greatest_index }
     requires ordered { (mark : Mark) → IsMember marks.now mark → mark.start ≤ mark.end }
     ensures pushed { OnOk result (found.new.items ≡ found.old.items ++ map (marked patterns) marks.now) }
-    ensures within { OnOk result ((mark : Mark) → IsMember marks.now mark → mark.end ≤ length line.now) }
 {
     for mark in marks {
-        push_mark(patterns, line, mark, found)?;
+        push_mark(patterns, mark, found)?;
     }
     Ok(())
 }
@@ -113,7 +97,7 @@ fn runs_in<A: Automaton>(
 {
     let _whole = setting.whole.as_usize();
     find_patterns(setting, line, found)?;
-    push_marks(setting.patterns, line, marks, found)?;
+    push_marks(setting.patterns, marks, found)?;
     join(found, runs)
 }
 

@@ -2,6 +2,7 @@ use Rattle.std.proofs.Common.{arith}
 use Rattle.aho_core.specs.Numbers.{greatest_index}
 use Rattle.aho_cover.proofs.Written.{if_ok}
 use Rattle.secret_rules.proofs.Covered.{marks-numbered, marks-ordered, setting-full, setting-lie, setting-runs, setting-standing, some-searched}
+use Rattle.secret_rules.proofs.Lying.{marks-within}
 use Rattle.secret_rules.proofs.lines.runs_in.Goals as goal
 
 pub push_marks-requires-clause-numbered : goal.push_marks-requires-clause-numbered
@@ -40,5 +41,5 @@ returns-clause-lie g c =
     let some = some-searched g.A.Automaton setting.automaton stated.2.searches in
     if_ok c.join.result _ _
     (λ are. setting-lie g.A.Automaton setting stated.0 stated.2 stated.1 c.args.line.now c.requires.short c.args.marks.now stated.3 some.0 some.1 (λ a of. (g.met.A.Automaton.laws a some.0 of).lengths_are)
-        c.find_patterns.new.found.items c.push_marks.new.found.items (c.in_ok-find_patterns.ensures.stand some.0 some.1) c.in_ok-push_marks.ensures.pushed c.join.new.runs.items c.in_ok-push_marks.ensures.within are)
+        c.find_patterns.new.found.items c.push_marks.new.found.items (c.in_ok-find_patterns.ensures.stand some.0 some.1) c.in_ok-push_marks.ensures.pushed c.join.new.runs.items (marks-within stated.0 stated.1 c.args.line.now c.args.marks.now stated.3) are)
     c.join.ensures.runs
