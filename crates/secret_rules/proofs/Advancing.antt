@@ -12,7 +12,7 @@ use Rattle.aho_cover.specs.Counting.{CountsThese}
 use Rattle.aho_cover.specs.Pieces.{PieceRule}
 use Rattle.aho_cover.proofs.Counted.{counts_none, counts_then}
 use Rattle.secret_rules.specs.Covering.{AreLineRuns, CoveredIn, covering_by, lines_cover, seen_line}
-use Rattle.secret_rules.specs.LineCovers.{GoesOnWith, all_of}
+use Rattle.secret_rules.specs.LineCovers.{BeginsNextLine, all_of}
 use Rattle.secret_rules.specs.Lines.{Line, ended_line, last_line, lines_from}
 use Rattle.secret_rules.specs.OpenLines.{StopsInLine, StopsInLines, WritesLine, WritesLines}
 use Rattle.secret_rules.specs.Writing.{line_cover}
@@ -20,9 +20,9 @@ use Rattle.secret_rules.specs.declared.rule.Rule.{Rule}
 use Rattle.secret_rules.proofs.LineRuns.{NoEnds, lines-end, lines-part, lines-some, lines_cover-append, runs-append, runs-split, seen_lines}
 
 -- lines that go on with a next one, behind some others
-pub GoesOnWith-behind : (rule : PieceRule) (first lines all : List Line) (runs more rest : List (List Occurrence)) (part : List ℕ) → GoesOnWith rule lines more part all rest
-    → GoesOnWith rule (first ++ lines) (runs ++ more) part (first ++ all) (runs ++ rest)
-GoesOnWith-behind rule first lines all runs more rest part h = record {
+pub BeginsNextLine-behind : (rule : PieceRule) (first lines all : List Line) (runs more rest : List (List Occurrence)) (part : List ℕ) → BeginsNextLine rule lines more part all rest
+    → BeginsNextLine rule (first ++ lines) (runs ++ more) part (first ++ all) (runs ++ rest)
+BeginsNextLine-behind rule first lines all runs more rest part h = record {
   next = h.next;
   later = h.later;
   own = h.own;
@@ -112,9 +112,9 @@ module _ {W : Type 0} (K : SinkGhosts W) (Searched : Patterns → Type 0) (words
             (subst (λ (ls : List Line). AreLineRuns (covering_by words rules most p) before ls all) split are) in
         let later = second.goes_on p rest parts.0 searched
             (subst (λ (b : List (List ℕ)). AreLineRuns (covering_by words rules most p) b (lines_from read' (more ++ rest)) parts.0) (sym first.seen) parts.2) in
-        subst (λ (ls : List Line). GoesOnWith rule (first.lines ++ second.lines) (first.runs ++ second.runs) second.part ls all) (sym split)
-        (subst (GoesOnWith rule (first.lines ++ second.lines) (first.runs ++ second.runs) second.part (first.lines ++ lines_from read' (more ++ rest))) (sym parts.1)
-        (GoesOnWith-behind rule first.lines second.lines (lines_from read' (more ++ rest)) first.runs second.runs parts.0 second.part later));
+        subst (λ (ls : List Line). BeginsNextLine rule (first.lines ++ second.lines) (first.runs ++ second.runs) second.part ls all) (sym split)
+        (subst (BeginsNextLine rule (first.lines ++ second.lines) (first.runs ++ second.runs) second.part (first.lines ++ lines_from read' (more ++ rest))) (sym parts.1)
+        (BeginsNextLine-behind rule first.lines second.lines (lines_from read' (more ++ rest)) first.runs second.runs parts.0 second.part later));
   }
 
   -- nothing of a line was written
@@ -130,7 +130,7 @@ module _ {W : Type 0} (K : SinkGhosts W) (Searched : Patterns → Type 0) (words
     goes_on = λ p more all searched are. starts p (lines_from read (bytes ++ more)) all (lines-some read (bytes ++ more)) are;
   } where
     starts : (p : Patterns) (lines : List Line) (all : List (List Occurrence)) → (next : Line) × (later : List Line) × (lines ≡ next ∷ later) → AreLineRuns (covering_by words rules most p) before lines all
-        → GoesOnWith rule [] [] [] lines all
+        → BeginsNextLine rule [] [] [] lines all
     starts p lines [] some are = absurd (subst (λ (ls : List Line). AreLineRuns (covering_by words rules most p) before ls []) some.2 are)
     starts p lines (own ∷ all) some are = record { next = some.0; later = some.1; own = own; more = all; lines_are = some.2; runs_are = refl; begins = refl }
 
@@ -150,7 +150,7 @@ module _ {W : Type 0} (K : SinkGhosts W) (Searched : Patterns → Type 0) (words
         (ap (lines_from read) (append_assoc part (10 ∷ rest) more) ∙ lines-part read part (10 ∷ (rest ++ more)) none) (rest ++ more) searched are;
   } where
     starts : (p : Patterns) (lines : List Line) (all : List (List Occurrence)) (later : List ℕ) → lines ≡ ended_line (read ++ part) ∷ lines_from [] later → Searched p → AreLineRuns (covering_by words rules most p) before lines all
-        → GoesOnWith rule [] [] stops.part lines all
+        → BeginsNextLine rule [] [] stops.part lines all
     starts p lines [] later e searched are = absurd (subst (λ (ls : List Line). AreLineRuns (covering_by words rules most p) before ls []) e are)
     starts p lines (own ∷ all) later e searched are = record {
       next = ended_line (read ++ part);

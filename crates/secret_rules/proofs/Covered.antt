@@ -19,8 +19,8 @@ use Rattle.aho_laws.specs.CoverLaws.{StandApart}
 use Rattle.aho_laws.proofs.CoverRuns.{runs-covering}
 use Rattle.aho_laws.proofs.Listed.{member-left, member-of_append, member-right}
 use Rattle.aho_laws.proofs.Members.{member-map, member-of_map}
-use Rattle.secret_rules.specs.Covering.{CoveredIn, Covering, IsMarked, covering_by, marked, seen_line, whole_line}
-use Rattle.secret_rules.specs.LineCovers.{AreSearched}
+use Rattle.secret_rules.specs.Covering.{CoveredIn, Covering, IsMarkedIn, covering_by, marked, seen_line, whole_line}
+use Rattle.secret_rules.specs.LineCovers.{AreSearchedFor}
 use Rattle.secret_rules.specs.Marks.{AreAllMarks, IsMarkOf, IsRuleAt}
 use Rattle.secret_rules.specs.OpenLines.{CanSearch, IsSetting}
 use Rattle.secret_rules.specs.Picking.{HasFor, StandForAll}
@@ -45,7 +45,7 @@ counts-full words p line m full counts =
 
 -- no patterns are searched for without an automaton, and none of one is empty
 pub searched-full : {A : Type 0} (G : Automata A) (automaton : Option (Bor A)) (p : Patterns) → ((a : A) → G.is_of a p → G.lengths a ≡ map length p.words)
-    → IfSome automaton (λ a. CanSearch G a.now) → AreSearched G automaton p → (words : Bool) (line : List ℕ) (m : Occurrence) → CountsIn words p line m → m.start < m.end
+    → IfSome automaton (λ a. CanSearch G a.now) → AreSearchedFor G automaton p → (words : Bool) (line : List ℕ) (m : Occurrence) → CountsIn words p line m → m.start < m.end
 searched-full G None p laws can searched words line m counts =
     (let occurs = (counts-occurs words p line m counts).0 in
     absurd (omega (arith, occurs.numbered, ap length searched)))
@@ -126,21 +126,18 @@ runs-lie Member line runs within are =
 -- the one run of a line that is too long
 pub whole-runs : (covering : Covering) (before : List (List ℕ)) (line : List ℕ) → covering.most < length line → AreRunsOf (CoveredIn covering before line) (whole_line covering line ∷ [])
 whole-runs covering before line long =
-    runs-covering (CoveredIn covering before line) (whole ∷ []) (length line) (record {
+    runs-covering (CoveredIn covering before line) (whole_line covering line ∷ []) (length line) (record {
       ordered = record {
         in_order = ((λ later none. absurd none), tt);
         full = λ x there. one (λ o. o.start < o.end) x there (omega (arith, long));
         within = λ x there. one (λ o. o.end ≤ length line) x there (omega arith);
       };
-      only = λ at c. record { found = whole; member = inl (long, refl); after_start = omega arith; before_end = one (λ o. at < o.end → at < length line) c.found c.member (λ l. omega (arith, l)) c.before_end };
-      has = λ at c. record { found = whole; member = inl refl; after_start = omega arith; before_end = subst (λ (o : Occurrence). at < o.end) (own c.found c.member) c.before_end };
+      only = λ at c. record { found = whole_line covering line; member = inl (long, refl); after_start = omega arith; before_end = one (λ o. at < o.end → at < length line) c.found c.member (λ l. omega (arith, l)) c.before_end };
+      has = λ at c. record { found = whole_line covering line; member = inl refl; after_start = omega arith; before_end = subst (λ (o : Occurrence). at < o.end) (own c.found c.member) c.before_end };
       named = λ x there. one (λ o. IsNamed (CoveredIn covering before line) o.start o.pattern) x there
-          (whole, ((inl (long, refl), refl), λ other h. inl (own other h.0)), refl);
+          (whole_line covering line, ((inl (long, refl), refl), λ other h. inl (own other h.0)), refl);
     })
   where
-    abbrev whole : Occurrence
-    whole = whole_line covering line
-
     own : (x : Occurrence) → CoveredIn covering before line x → x ≡ whole_line covering line
     own x member = elim member [ inl is ↦ is.1 | inr short ↦ absurd (omega (arith, short.0, long)) ]
 
@@ -155,13 +152,13 @@ pub seen-short : (most : ℕ) (line : List ℕ) → length line ≤ most → see
 seen-short most line short = cond-false (nat_lt most (length line)) [] line (le-ltb most (length line) short)
 
 -- there are patterns that are searched for
-pub some-searched : {A : Type 0} (G : Automata A) (automaton : Option (Bor A)) → IfSome automaton (λ a. CanSearch G a.now) → (p : Patterns) × AreSearched G automaton p
+pub some-searched : {A : Type 0} (G : Automata A) (automaton : Option (Bor A)) → IfSome automaton (λ a. CanSearch G a.now) → (p : Patterns) × AreSearchedFor G automaton p
 some-searched G None can = (record { words = []; kind = Standard; ignore_case = false }, refl)
 some-searched G (Some a) can = can.of
 
 -- as many patterns as an automaton has, or none without one
 pub patterns-counted : {A : Type 0} (G : Automata A) (automaton : Option (Bor A)) (count : ℕ) → IfSome automaton (λ a. count ≡ length (G.lengths a.now)) → (automaton ≡ None → count ≡ 0)
-    → (p : Patterns) → ((a : A) → G.is_of a p → G.lengths a ≡ map length p.words) → AreSearched G automaton p → length p.words ≡ count
+    → (p : Patterns) → ((a : A) → G.is_of a p → G.lengths a ≡ map length p.words) → AreSearchedFor G automaton p → length p.words ≡ count
 patterns-counted G None count some none p laws searched = ap length searched ∙ sym (none refl)
 patterns-counted G (Some a) count some none p laws searched = sym (some ∙ ap length (laws a.now searched) ∙ length-map p.words length)
 
@@ -182,7 +179,7 @@ none-standing words p line none = record {
 
 -- what was found of a line by a setting and rules
 module _ {A : Type 0} (G : Automata A) (setting : Setting A) (rules : List Rule) (is : IsSetting G setting rules) (before : List (List ℕ)) (line : List ℕ) (short : length line ≤ setting.most)
-  (marks : List Mark) (all : AreAllMarks rules before line marks) (p : Patterns) (searched : AreSearched G setting.automaton p)
+  (marks : List Mark) (all : AreAllMarks rules before line marks) (p : Patterns) (searched : AreSearchedFor G setting.automaton p)
   (laws : (a : A) → G.is_of a p → G.lengths a ≡ map length p.words)
   (found found' : List Occurrence) (stand : StandForAll (CountsIn setting.words p line) found) (pushed : found' ≡ found ++ map (marked setting.patterns) marks) where
   found-is : found' ≡ found ++ map (marked (length p.words)) marks

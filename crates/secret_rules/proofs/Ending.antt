@@ -19,7 +19,7 @@ use Rattle.aho_laws.proofs.CoverRuns.{runs-unique}
 use Rattle.aho_automaton.specs.declared.automaton.Automaton.{Ghosts as Automata}
 use Rattle.aho_cover.specs.declared.pieces.Pieces.{Ghosts as PieceGhosts}
 use Rattle.secret_rules.specs.Covering.{CoveredIn, covering_by, seen_line}
-use Rattle.secret_rules.specs.LineCovers.{AreSearched}
+use Rattle.secret_rules.specs.LineCovers.{AreSearchedFor}
 use Rattle.secret_rules.specs.Lines.{Line, line_with}
 use Rattle.secret_rules.specs.Marking.{HasMarked, IsLineFailure}
 use Rattle.secret_rules.specs.OpenLines.{IsLineRefusal, IsSetting, StandsBehind, StopsInLine, TellsLine, WritesLine}
@@ -132,7 +132,7 @@ marked-long marker before most read long marked =
     subst (λ (xs : List ℕ). HasMarked marker (before ++ xs ∷ [])) (sym (seen-long most read long)) marked
 
 -- the number of a line that is covered whole
-pub whole-numbered : {A : Type 0} (G : Automata A) (setting : Setting A) (rules : List Rule) → IsSetting G setting rules → (p : Patterns) → AreSearched G setting.automaton p → setting.whole ≡ length p.words + length rules
+pub whole-numbered : {A : Type 0} (G : Automata A) (setting : Setting A) (rules : List Rule) → IsSetting G setting rules → (p : Patterns) → AreSearchedFor G setting.automaton p → setting.whole ≡ length p.words + length rules
 whole-numbered G setting rules is p searched = is.whole ∙ ap (λ (n : ℕ). n + length rules) (sym (is.patterns p searched))
 
 module _ {W : Type 0} (K : SinkGhosts W) (rules : List Rule) where

@@ -10,7 +10,7 @@ use Rattle.aho_core.specs.Occurrence.{Occurrence}
 use Rattle.aho_cover.specs.Pieces.{PieceRule}
 use Rattle.aho_laws.proofs.CoverRuns.{runs-unique}
 use Rattle.secret_rules.specs.Covering.{AreLineRuns, CoveredIn, Covering, lines_cover, seen_line}
-use Rattle.secret_rules.specs.Lines.{Line, ended_line, last_line, lines_from, lines_of}
+use Rattle.secret_rules.specs.Lines.{Line, ended_line, last_line, lines_from, stream_lines}
 use Rattle.secret_rules.specs.Writing.{line_cover}
 
 -- no byte of a part ends a line

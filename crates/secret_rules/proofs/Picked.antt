@@ -15,13 +15,13 @@ use Rattle.aho_cover.specs.Words.{CountsIn, none_before, none_behind}
 use Rattle.aho_laws.proofs.Listed.{member-left, member-of_append, member-right}
 use Rattle.aho_laws.proofs.Listings.{all_occurrences-has, all_occurrences-listed, all_occurrences-only}
 use Rattle.aho_laws.proofs.Orders.{same_occurrence}
-use Rattle.secret_rules.specs.Picking.{HasFor, Picks, PicksOne, StandForAll, StandsFor, is_counted}
+use Rattle.secret_rules.specs.Picking.{HasFor, Picks, PicksOne, StandForAll, StandsInFor, is_counted}
 
-pub stands-itself : (m : Occurrence) → StandsFor m m
+pub stands-itself : (m : Occurrence) → StandsInFor m m
 stands-itself m = (refl, inr (refl, omega arith))
 
 -- of two that end together the one that is listed first stands for the other
-stands-before : (first m : Occurrence) → first.end ≡ m.end → IsBefore Standard first m → StandsFor first m
+stands-before : (first m : Occurrence) → first.end ≡ m.end → IsBefore Standard first m → StandsInFor first m
 stands-before first m ends before =
     elim before [
       | inl earlier ↦ absurd (omega arith)

@@ -9,7 +9,7 @@ use Rattle.aho_cover.specs.declared.pieces.Pieces.{Ghosts as PieceGhosts}
 use Rattle.aho_devices.specs.Counts.{counted}
 use Rattle.aho_devices.specs.Refusals.{is_write_fault, is_write_of_nothing}
 use Rattle.secret_rules.specs.Covering.{seen_line}
-use Rattle.secret_rules.specs.LineCovers.{AreSearched, LeavesLines, of_devices}
+use Rattle.secret_rules.specs.LineCovers.{AreSearchedFor, LeavesLines, of_devices}
 use Rattle.secret_rules.specs.Lines.{Line}
 use Rattle.secret_rules.specs.OpenLines.{GoesOnBehind, IsLineRefusal, IsSetting, StandsBehind, StopsInLine, StopsInLines, TellsLine, WritesLine}
 use Rattle.secret_rules.specs.declared.error.LineError.{LineError}
@@ -22,29 +22,29 @@ module _ {A : Type 0} (G : Automata A) (s s' : Setting A) (rs rs' : List Rule) (
   by-parts P h = subst (λ (x : Setting A). P x rs' r') same_setting (subst (λ (x : List Rule). P s x r') same_rules (subst (λ (x : PieceRule). P s rs x) same_rule h))
 
   module _ {W : Type 0} (K : SinkGhosts W) (sink sink' : W) (counts counts' : List ℕ) (before : List (List ℕ)) where
-    pub writes-same : (line : Line) → WritesLine K (AreSearched G s.automaton) s.words rs s.most r sink sink' counts counts' before line
-        → WritesLine K (AreSearched G s'.automaton) s'.words rs' s'.most r' sink sink' counts counts' before line
-    writes-same line h = by-parts (λ x y z. WritesLine K (AreSearched G x.automaton) x.words y x.most z sink sink' counts counts' before line) h
+    pub writes-same : (line : Line) → WritesLine K (AreSearchedFor G s.automaton) s.words rs s.most r sink sink' counts counts' before line
+        → WritesLine K (AreSearchedFor G s'.automaton) s'.words rs' s'.most r' sink sink' counts counts' before line
+    writes-same line h = by-parts (λ x y z. WritesLine K (AreSearchedFor G x.automaton) x.words y x.most z sink sink' counts counts' before line) h
 
-    pub stops-same : (line : Line) → StopsInLine K (AreSearched G s.automaton) s.words rs s.most r sink sink' counts counts' before line
-        → StopsInLine K (AreSearched G s'.automaton) s'.words rs' s'.most r' sink sink' counts counts' before line
-    stops-same line h = by-parts (λ x y z. StopsInLine K (AreSearched G x.automaton) x.words y x.most z sink sink' counts counts' before line) h
+    pub stops-same : (line : Line) → StopsInLine K (AreSearchedFor G s.automaton) s.words rs s.most r sink sink' counts counts' before line
+        → StopsInLine K (AreSearchedFor G s'.automaton) s'.words rs' s'.most r' sink sink' counts counts' before line
+    stops-same line h = by-parts (λ x y z. StopsInLine K (AreSearchedFor G x.automaton) x.words y x.most z sink sink' counts counts' before line) h
 
-    pub all-stop-same : (read bytes : List ℕ) → StopsInLines K (AreSearched G s.automaton) s.words rs s.most r sink sink' counts counts' before read bytes
-        → StopsInLines K (AreSearched G s'.automaton) s'.words rs' s'.most r' sink sink' counts counts' before read bytes
-    all-stop-same read bytes h = by-parts (λ x y z. StopsInLines K (AreSearched G x.automaton) x.words y x.most z sink sink' counts counts' before read bytes) h
+    pub all-stop-same : (read bytes : List ℕ) → StopsInLines K (AreSearchedFor G s.automaton) s.words rs s.most r sink sink' counts counts' before read bytes
+        → StopsInLines K (AreSearchedFor G s'.automaton) s'.words rs' s'.most r' sink sink' counts counts' before read bytes
+    all-stop-same read bytes h = by-parts (λ x y z. StopsInLines K (AreSearchedFor G x.automaton) x.words y x.most z sink sink' counts counts' before read bytes) h
 
     pub goes-same : {P : Type 0} (Q : PieceGhosts P) (line' : OpenLine A) (pieces' : P) (read bytes : List ℕ)
-        → GoesOnBehind K Q (AreSearched G s.automaton) s.words rs s.most r sink sink' counts counts' line' pieces' before read bytes
-        → GoesOnBehind K Q (AreSearched G s'.automaton) s'.words rs' s'.most r' sink sink' counts counts' line' pieces' before read bytes
-    goes-same Q line' pieces' read bytes h = by-parts (λ x y z. GoesOnBehind K Q (AreSearched G x.automaton) x.words y x.most z sink sink' counts counts' line' pieces' before read bytes) h
+        → GoesOnBehind K Q (AreSearchedFor G s.automaton) s.words rs s.most r sink sink' counts counts' line' pieces' before read bytes
+        → GoesOnBehind K Q (AreSearchedFor G s'.automaton) s'.words rs' s'.most r' sink sink' counts counts' line' pieces' before read bytes
+    goes-same Q line' pieces' read bytes h = by-parts (λ x y z. GoesOnBehind K Q (AreSearchedFor G x.automaton) x.words y x.most z sink sink' counts counts' line' pieces' before read bytes) h
 
 -- and so is what a cover leaves
 pub leaves-same : {A R W : Type 0} (G : Automata A) (s s' : Setting A) (rs rs' : List Rule) (r : PieceRule) (S : SourceGhosts R) (K : SinkGhosts W) (source source' : R) (sink sink' : W) (counts counts' : List ℕ) (result : Result (Unit {0}) LineError)
-    → s ≡ s' → rs ≡ rs' → LeavesLines S K (AreSearched G s.automaton) s.words rs s.most r source source' sink sink' counts counts' result
-    → LeavesLines S K (AreSearched G s'.automaton) s'.words rs' s'.most r source source' sink sink' counts counts' result
+    → s ≡ s' → rs ≡ rs' → LeavesLines S K (AreSearchedFor G s.automaton) s.words rs s.most r source source' sink sink' counts counts' result
+    → LeavesLines S K (AreSearchedFor G s'.automaton) s'.words rs' s'.most r source source' sink sink' counts counts' result
 leaves-same G s s' rs rs' r S K source source' sink sink' counts counts' result same_setting same_rules h =
-    by-parts G s s' rs rs' r r same_setting same_rules refl (λ x y z. LeavesLines S K (AreSearched G x.automaton) x.words y x.most z source source' sink sink' counts counts' result) h
+    by-parts G s s' rs rs' r r same_setting same_rules refl (λ x y z. LeavesLines S K (AreSearchedFor G x.automaton) x.words y x.most z source source' sink sink' counts counts' result) h
 
 -- and so are the numbers of a setting
 pub setting-same : {A : Type 0} (G : Automata A) (s s' : Setting A) (rs rs' : List Rule) → s ≡ s' → rs ≡ rs' → IsSetting G s rs → IsSetting G s' rs'

@@ -23,15 +23,15 @@ use Rattle.aho_cover.specs.Pieces.{PieceRule}
 use Rattle.aho_cover.specs.declared.pieces.Pieces.{Ghosts as PieceGhosts}
 use Rattle.aho_cover.proofs.Counted.{counts_none, counts_then}
 use Rattle.secret_rules.specs.Covering.{AreLineRuns, CoveredIn, covering_by, lines_cover, seen_line}
-use Rattle.secret_rules.specs.LineCovers.{BeginsLines, CoversLines, CoversWholeLines, GoesOnWith, IsCoverFailure, IsReadFailure, LeavesLines, all_of, of_devices}
-use Rattle.secret_rules.specs.Lines.{Line, last_line, lines_from, lines_of}
+use Rattle.secret_rules.specs.LineCovers.{BeginsLines, CoversLines, CoversWholeLines, BeginsNextLine, IsCoverFailure, IsReadFailure, LeavesLines, all_of, of_devices}
+use Rattle.secret_rules.specs.Lines.{Line, last_line, lines_from, stream_lines}
 use Rattle.secret_rules.specs.OpenLines.{GoesOnBehind, IsLineRefusal, StandsBehind, StopsInLine, StopsInLines, TellsLine, WritesLine, WritesLines}
 use Rattle.secret_rules.specs.Writing.{line_cover}
 use Rattle.secret_rules.specs.declared.error.LineError.{LineError}
 use Rattle.secret_rules.specs.declared.error.LineError.TheVariants.{Mark, Stream}
 use Rattle.secret_rules.specs.declared.open_line.OpenLine.{OpenLine}
 use Rattle.secret_rules.specs.declared.rule.Rule.{Rule}
-use Rattle.secret_rules.proofs.Advancing.{GoesOnWith-behind, StopsInLines-none, StopsInLines-then, WritesLines-part, WritesLines-then}
+use Rattle.secret_rules.proofs.Advancing.{BeginsNextLine-behind, StopsInLines-none, StopsInLines-then, WritesLines-part, WritesLines-then}
 use Rattle.secret_rules.proofs.LineRuns.{NoEnds, lines_cover-append, runs-append, runs-split}
 
 -- what a write refuses is no failure of a read, and what a fill refuses none of a write
@@ -133,8 +133,8 @@ module _ {R W : Type 0} (S : SourceGhosts R) (K : SinkGhosts W) (Searched : Patt
     writes = stops.writes;
     counted = stops.counted;
     goes_on = λ p bytes all searched may are.
-        subst (λ (ls : List Line). GoesOnWith rule stops.lines stops.runs stops.part ls all) (sym (ap lines_of may.1))
-        (stops.goes_on p may.0 all searched (subst (λ (ls : List Line). AreLineRuns (covering_by words rules most p) [] ls all) (ap lines_of may.1) are));
+        subst (λ (ls : List Line). BeginsNextLine rule stops.lines stops.runs stops.part ls all) (sym (ap stream_lines may.1))
+        (stops.goes_on p may.0 all searched (subst (λ (ls : List Line). AreLineRuns (covering_by words rules most p) [] ls all) (ap stream_lines may.1) are));
   }
 
   -- what a failure of a device leaves
@@ -227,7 +227,7 @@ module _ {A R W P : Type 0} (S : SourceGhosts R) (K : SinkGhosts W) (Q : PieceGh
     lines = going.writes.lines;
     last = last_line going.read;
     runs = going.writes.runs;
-    lines_are = ap lines_of (sym (append-nil going.given)) ∙ going.writes.splits [];
+    lines_are = ap stream_lines (sym (append-nil going.given)) ∙ going.writes.splits [];
     runs_are = going.writes.runs_are;
     writes = going.writes.writes;
     counted = going.writes.counted;
@@ -251,7 +251,7 @@ module _ {A R W P : Type 0} (S : SourceGhosts R) (K : SinkGhosts W) (Q : PieceGh
       → WritesLine K Searched words rules most rule sink sink' counts counts' going.before (last_line going.read)
       → CoversLines S K Searched words rules most rule first source' begun sink' zeros counts'
   going-covers line pieces source source' sink sink' counts counts' going read ended wrote =
-      let lines = ap lines_of (sym (append-nil going.given)) ∙ going.writes.splits [] in
+      let lines = ap stream_lines (sym (append-nil going.given)) ∙ going.writes.splits [] in
       let all = going.writes.runs ++ wrote.runs ∷ [] in
       record {
         given = going.given;
@@ -284,7 +284,7 @@ module _ {A R W P : Type 0} (S : SourceGhosts R) (K : SinkGhosts W) (Q : PieceGh
     writes = Appends-trans (K.taken begun) (K.taken sink) (K.taken sink') (lines_cover rule going.writes.lines going.writes.runs) stops.part going.writes.writes stops.writes;
     counted = subst (CountsThese (all_of going.writes.runs) zeros) (sym stops.counted) going.writes.counted;
     goes_on = λ p bytes all searched may are.
-        let lines = ap lines_of (may.1 ∙ ap (λ (xs : List ℕ). going.given ++ xs) may.2) ∙ going.writes.splits [] in
+        let lines = ap stream_lines (may.1 ∙ ap (λ (xs : List ℕ). going.given ++ xs) may.2) ∙ going.writes.splits [] in
         let parts = runs-split (covering_by words rules most p) [] going.writes.lines (last_line going.read ∷ []) going.writes.runs all (going.writes.runs_are p searched)
             (subst (λ (ls : List Line). AreLineRuns (covering_by words rules most p) [] ls all) lines are) in
         let last = last-of p parts.0 (subst (λ (b : List (List ℕ)). AreLineRuns (covering_by words rules most p) b (last_line going.read ∷ []) parts.0) (sym going.writes.seen) parts.2) in

@@ -27,7 +27,7 @@ abbrev pub marked : ℕ → Mark → Occurrence
 marked count mark = record { pattern = count + mark.rule; start = mark.start; end = mark.end }
 
 -- a rule marks it in the line that follows these lines
-pub record IsMarked (covering : Covering) (before : List (List ℕ)) (line : List ℕ) (m : Occurrence) : Type 0 where
+pub record IsMarkedIn (covering : Covering) (before : List (List ℕ)) (line : List ℕ) (m : Occurrence) : Type 0 where
   pub mark : Mark
   pub marks : IsMarkOf covering.rules before line mark
   pub same : m ≡ marked (length covering.patterns.words) mark
@@ -41,7 +41,7 @@ whole_line covering line = occurrence 0 (length line) (length covering.patterns.
 abbrev pub CoveredIn : Covering → List (List ℕ) → List ℕ → Occurrence → Type 0
 CoveredIn covering before line m =
     ((covering.most < length line) × (m ≡ whole_line covering line))
-    ⊎ ((length line ≤ covering.most) × (CountsIn covering.words covering.patterns line m ⊎ IsMarked covering before line m))
+    ⊎ ((length line ≤ covering.most) × (CountsIn covering.words covering.patterns line m ⊎ IsMarkedIn covering before line m))
 
 -- what rules see of a line in those that follow: one that is too long counts as empty
 abbrev pub seen_line : ℕ → List ℕ → List ℕ

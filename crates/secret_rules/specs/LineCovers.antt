@@ -15,7 +15,7 @@ use Rattle.aho_stream.specs.Replacing.{IsStreamFault, MayBe, SourceGave}
 use Rattle.aho_cover.specs.Counting.{CountsThese}
 use Rattle.aho_cover.specs.Pieces.{PieceRule}
 use Rattle.secret_rules.specs.Covering.{AreLineRuns, covering_by, lines_cover}
-use Rattle.secret_rules.specs.Lines.{Line, lines_of}
+use Rattle.secret_rules.specs.Lines.{Line, stream_lines}
 use Rattle.secret_rules.specs.Marking.{IsLineFailure}
 use Rattle.secret_rules.specs.Writing.{line_cover}
 use Rattle.secret_rules.specs.declared.error.LineError.{LineError}
@@ -23,9 +23,9 @@ use Rattle.secret_rules.specs.declared.error.LineError.TheVariants.{Mark, Stream
 use Rattle.secret_rules.specs.declared.rule.Rule.{Rule}
 
 -- the patterns that are searched for: those of an automaton, or none
-abbrev pub AreSearched : {A : Type 0} → Automata A → Option (Bor A) → Patterns → Type 0
-AreSearched G None p = p.words ≡ []
-AreSearched G (Some a) p = G.is_of a.now p
+abbrev pub AreSearchedFor : {A : Type 0} → Automata A → Option (Bor A) → Patterns → Type 0
+AreSearchedFor G None p = p.words ≡ []
+AreSearchedFor G (Some a) p = G.is_of a.now p
 
 -- the error of a device, or of the limit of bytes
 abbrev pub IsReadFailure : LineError → Type 0
@@ -48,7 +48,7 @@ abbrev pub all_of : List (List Occurrence) → List Occurrence
 all_of runs = flat_map (λ own. own) runs
 
 -- a text has these lines with these runs, and a next line whose cover starts with a part
-pub record GoesOnWith (rule : PieceRule) (lines : List Line) (runs : List (List Occurrence)) (part : List ℕ) (all : List Line) (all_runs : List (List Occurrence)) : Type 0 where
+pub record BeginsNextLine (rule : PieceRule) (lines : List Line) (runs : List (List Occurrence)) (part : List ℕ) (all : List Line) (all_runs : List (List Occurrence)) : Type 0 where
   pub next : Line
   pub later : List Line
   pub own : List Occurrence
@@ -64,8 +64,8 @@ module _ {R W : Type 0} (S : SourceGhosts R) (K : SinkGhosts W) (Searched : Patt
     pub given : List ℕ
     pub gives : SourceGave S source source' given true
     pub runs : List (List Occurrence)
-    pub runs_are : (p : Patterns) → Searched p → AreLineRuns (covering_by words rules most p) [] (lines_of given) runs
-    pub writes : Appends (K.taken sink) (K.taken sink') (lines_cover rule (lines_of given) runs)
+    pub runs_are : (p : Patterns) → Searched p → AreLineRuns (covering_by words rules most p) [] (stream_lines given) runs
+    pub writes : Appends (K.taken sink) (K.taken sink') (lines_cover rule (stream_lines given) runs)
     pub counted : CountsThese (all_of runs) counts counts'
 
   -- the covers of some first lines were written and their runs counted, and behind them a beginning of the next, whatever bytes may follow
@@ -80,8 +80,8 @@ module _ {R W : Type 0} (S : SourceGhosts R) (K : SinkGhosts W) (Searched : Patt
     pub runs_are : (p : Patterns) → Searched p → AreLineRuns (covering_by words rules most p) [] lines runs
     pub writes : Appends (K.taken sink) (K.taken sink') (lines_cover rule lines runs ++ part)
     pub counted : CountsThese (all_of runs) counts counts'
-    pub goes_on : (p : Patterns) (bytes : List ℕ) (all : List (List Occurrence)) → Searched p → MayBe given ended bytes → AreLineRuns (covering_by words rules most p) [] (lines_of bytes) all
-        → GoesOnWith rule lines runs part (lines_of bytes) all
+    pub goes_on : (p : Patterns) (bytes : List ℕ) (all : List (List Occurrence)) → Searched p → MayBe given ended bytes → AreLineRuns (covering_by words rules most p) [] (stream_lines bytes) all
+        → BeginsNextLine rule lines runs part (stream_lines bytes) all
 
   -- and where a read failed these are all lines whose ends were given
   pub record CoversWholeLines : Type 0 where
@@ -90,7 +90,7 @@ module _ {R W : Type 0} (S : SourceGhosts R) (K : SinkGhosts W) (Searched : Patt
     pub lines : List Line
     pub last : Line
     pub runs : List (List Occurrence)
-    pub lines_are : lines_of given ≡ lines ++ last ∷ []
+    pub lines_are : stream_lines given ≡ lines ++ last ∷ []
     pub runs_are : (p : Patterns) → Searched p → AreLineRuns (covering_by words rules most p) [] lines runs
     pub writes : Appends (K.taken sink) (K.taken sink') (lines_cover rule lines runs)
     pub counted : CountsThese (all_of runs) counts counts'

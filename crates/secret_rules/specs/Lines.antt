@@ -23,5 +23,5 @@ lines_from read (byte ∷ bytes) =
     if byte == 10 then ended_line read ∷ lines_from [] bytes else lines_from (read ++ byte ∷ []) bytes
 
 -- the lines of a text
-abbrev pub lines_of : List ℕ → List Line
-lines_of text = lines_from [] text
+abbrev pub stream_lines : List ℕ → List Line
+stream_lines text = lines_from [] text

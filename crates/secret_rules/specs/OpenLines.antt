@@ -17,8 +17,8 @@ use Rattle.aho_cover.specs.Counting.{CountsThese}
 use Rattle.aho_cover.specs.Pieces.{PieceRule}
 use Rattle.aho_cover.specs.declared.pieces.Pieces.{Ghosts as PieceGhosts}
 use Rattle.secret_rules.specs.Covering.{AreLineRuns, CoveredIn, covering_by, lines_cover, seen_line}
-use Rattle.secret_rules.specs.LineCovers.{AreSearched, GoesOnWith, all_of, of_devices}
-use Rattle.secret_rules.specs.Lines.{Line, lines_from}
+use Rattle.secret_rules.specs.LineCovers.{AreSearchedFor, BeginsNextLine, all_of, of_devices}
+use Rattle.secret_rules.specs.Lines.{Line, line_with, lines_from}
 use Rattle.secret_rules.specs.Marking.{HasMarked, IsLineFailure, marker_rules}
 use Rattle.secret_rules.specs.Writing.{line_cover}
 use Rattle.secret_rules.specs.declared.error.LineError.{LineError}
@@ -28,8 +28,8 @@ use Rattle.secret_rules.specs.declared.open_line.Setting.{Setting}
 use Rattle.secret_rules.specs.declared.rule.Rule.{Rule}
 
 -- the rules of a line's marker
-abbrev pub rules_in : {A : Type 0} → OpenLine A → List Rule
-rules_in line = marker_rules line.marker
+abbrev pub line_rules : {A : Type 0} → OpenLine A → List Rule
+line_rules line = marker_rules line.marker
 
 -- an automaton by which lines can be searched for all that occurs, of which nothing is empty
 pub record CanSearch {A : Type 0} (G : Automata A) (a : A) : Type 0 where
@@ -41,7 +41,7 @@ pub record CanSearch {A : Type 0} (G : Automata A) (a : A) : Type 0 where
 -- the numbers of a setting are those of its patterns and of these rules
 pub record IsSetting {A : Type 0} (G : Automata A) (setting : Setting A) (rules : List Rule) : Type 0 where
   pub searches : IfSome setting.automaton (λ a. CanSearch G a.now)
-  pub patterns : (p : Patterns) → AreSearched G setting.automaton p → length p.words ≡ setting.patterns
+  pub patterns : (p : Patterns) → AreSearchedFor G setting.automaton p → length p.words ≡ setting.patterns
   pub whole : setting.whole ≡ setting.patterns + length rules
 
 -- these bytes of the line were read: they are kept, or the line is too long and they were fed
@@ -102,7 +102,7 @@ module _ {W : Type 0} (K : SinkGhosts W) (Searched : Patterns → Type 0) (words
     pub writes : Appends (K.taken sink) (K.taken sink') (lines_cover rule lines runs ++ part)
     pub counted : CountsThese (all_of runs) counts counts'
     pub goes_on : (p : Patterns) (more : List ℕ) (all : List (List Occurrence)) → Searched p → AreLineRuns (covering_by words rules most p) before (lines_from read (bytes ++ more)) all
-        → GoesOnWith rule lines runs part (lines_from read (bytes ++ more)) all
+        → BeginsNextLine rule lines runs part (lines_from read (bytes ++ more)) all
 
 -- and the call has come so far with these bytes
 pub record GoesOnBehind {A W P : Type 0} (K : SinkGhosts W) (Q : PieceGhosts P) (Searched : Patterns → Type 0) (words : Bool) (rules : List Rule) (most : ℕ) (rule : PieceRule) (sink sink' : W) (counts counts' : List ℕ) (line' : OpenLine A) (pieces' : P) (before : List (List ℕ)) (read bytes : List ℕ) : Type 0 where
@@ -110,3 +110,33 @@ pub record GoesOnBehind {A W P : Type 0} (K : SinkGhosts W) (Q : PieceGhosts P) 
   pub read' : List ℕ
   pub writes : WritesLines K Searched words rules most rule sink sink' counts counts' before read bytes before' read'
   pub stands : StandsBehind Q line' pieces' before' read'
+
+-- of a line with its setting and rules, wherever it stands: it was written with this end and its runs counted
+abbrev pub WritesOpen : {A W P : Type 0} → Automata A → SinkGhosts W → PieceGhosts P → OpenLine A → P → W → W → List ℕ → List ℕ → List ℕ → Type 0
+WritesOpen G K Q line pieces sink sink' counts counts' end = (before : List (List ℕ)) (read : List ℕ) → StandsBehind Q line pieces before read
+    → WritesLine K (AreSearchedFor G line.setting.automaton) line.setting.words (line_rules line) line.setting.most (Q.rule pieces) sink sink' counts counts' before (line_with read end)
+
+-- a beginning of it was written, and no run counted
+abbrev pub StopsOpen : {A W P : Type 0} → Automata A → SinkGhosts W → PieceGhosts P → OpenLine A → P → W → W → List ℕ → List ℕ → List ℕ → Type 0
+StopsOpen G K Q line pieces sink sink' counts counts' end = (before : List (List ℕ)) (read : List ℕ) → StandsBehind Q line pieces before read
+    → StopsInLine K (AreSearchedFor G line.setting.automaton) line.setting.words (line_rules line) line.setting.most (Q.rule pieces) sink sink' counts counts' before (line_with read end)
+
+-- the next line begins behind it
+abbrev pub BeginsNext : {A P : Type 0} → PieceGhosts P → OpenLine A → P → OpenLine A → P → Type 0
+BeginsNext Q line pieces line' pieces' = (before : List (List ℕ)) (read : List ℕ) → StandsBehind Q line pieces before read
+    → StandsBehind Q line' pieces' (before ++ seen_line line.setting.most read ∷ []) []
+
+-- the call has come so far with more bytes
+abbrev pub GoesOnOpen : {A W P : Type 0} → Automata A → SinkGhosts W → PieceGhosts P → OpenLine A → P → W → W → List ℕ → List ℕ → OpenLine A → P → List ℕ → Type 0
+GoesOnOpen G K Q line pieces sink sink' counts counts' line' pieces' bytes = (before : List (List ℕ)) (read : List ℕ) → StandsBehind Q line pieces before read
+    → GoesOnBehind K Q (AreSearchedFor G line.setting.automaton) line.setting.words (line_rules line) line.setting.most (Q.rule pieces) sink sink' counts counts' line' pieces' before read bytes
+
+-- or has stopped with them
+abbrev pub StopsOpenLines : {A W P : Type 0} → Automata A → SinkGhosts W → PieceGhosts P → OpenLine A → P → W → W → List ℕ → List ℕ → List ℕ → Type 0
+StopsOpenLines G K Q line pieces sink sink' counts counts' bytes = (before : List (List ℕ)) (read : List ℕ) → StandsBehind Q line pieces before read
+    → StopsInLines K (AreSearchedFor G line.setting.automaton) line.setting.words (line_rules line) line.setting.most (Q.rule pieces) sink sink' counts counts' before read bytes
+
+-- these are the runs of a line that follows these lines
+abbrev pub AreRunsBy : {A : Type 0} → Automata A → Setting A → List Rule → List (List ℕ) → List ℕ → List Occurrence → Type 0
+AreRunsBy G setting rules before line runs = (p : Patterns) → AreSearchedFor G setting.automaton p
+    → AreRunsOf (CoveredIn (covering_by setting.words rules setting.most p) before line) runs

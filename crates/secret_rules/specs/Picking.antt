@@ -13,12 +13,12 @@ is_counted false line m = true
 is_counted true line m = stands_as_word line m
 
 -- the first ends where the second does and holds it: it begins before, or at the same place and its number is not greater
-abbrev pub StandsFor : Occurrence → Occurrence → Type 0
-StandsFor first m = (first.end ≡ m.end) × ((first.start < m.start) ⊎ ((first.start ≡ m.start) × (first.pattern ≤ m.pattern)))
+abbrev pub StandsInFor : Occurrence → Occurrence → Type 0
+StandsInFor first m = (first.end ≡ m.end) × ((first.start < m.start) ⊎ ((first.start ≡ m.start) × (first.pattern ≤ m.pattern)))
 
 -- one of these stands for it
 abbrev pub HasFor : List Occurrence → Occurrence → Type 0
-HasFor found m = (first : Occurrence) × IsMember found first × StandsFor first m
+HasFor found m = (first : Occurrence) × IsMember found first × StandsInFor first m
 
 -- these stand for all members of a set, of which they are
 pub record StandForAll (Member : Occurrence → Type 0) (found : List Occurrence) : Type 0 where

@@ -7,9 +7,9 @@ ghost use Rattle.aho_devices.specs.Counts.{counted, moves_nothing};
 ghost use Rattle.aho_devices.specs.Errors.{CountsErrors};
 ghost use Rattle.aho_devices.specs.Refusals.{IsFillRefusal, is_read_fault};
 ghost use Rattle.aho_stream.specs.After.{greatest_position};
-ghost use Rattle.secret_rules.specs.LineCovers.{AreSearched, IsCoverFailure, LeavesLines, of_devices};
-ghost use Rattle.secret_rules.specs.OpenLines.{CanSearch, IsSetting, StandsBehind, rules_in};
-ghost use Rattle.secret_rules.specs.Ready.{CoversTheSame, IsReady, automaton_of, most_of, rules_of, words_of};
+ghost use Rattle.secret_rules.specs.LineCovers.{AreSearchedFor, IsCoverFailure, LeavesLines, of_devices};
+ghost use Rattle.secret_rules.specs.OpenLines.{CanSearch, IsSetting, StandsBehind, line_rules};
+ghost use Rattle.secret_rules.specs.Ready.{CoversTheSame, CanCoverLines, searched_automaton, most_of, rules_of, words_of};
 
 use crate::error::LineError;
 use crate::line_cover::LineCover;
@@ -57,8 +57,8 @@ impl<'r, 'a, A: Automaton> LineCover<'r, 'a, A> {
         requires searches { IfSome automaton (λ a. CanSearch A.Automaton a.now) }
         requires few { IfSome automaton (λ a. length (A.lengths a.now) + length rules.now ≤ greatest_index) }
         requires few_rules { length rules.now ≤ greatest_index }
-        ensures ready { IfOk result (IsReady A.Automaton) }
-        ensures automaton { IfOk result (λ cover. automaton_of cover ≡ automaton.entry) }
+        ensures ready { IfOk result (CanCoverLines A.Automaton) }
+        ensures automaton { IfOk result (λ cover. searched_automaton cover ≡ automaton.entry) }
         ensures words { IfOk result (λ cover. words_of cover ≡ words) }
         ensures rules { IfOk result (λ cover. rules_of cover ≡ rules.entry.now) }
         ensures most { IfOk result (λ cover. most_of cover ≡ most) }
@@ -119,16 +119,16 @@ fn cover_from<A: Automaton, R: Source, W: Sink, P: Pieces>(
     pieces: &mut P,
     counts: &mut [u64],
 ) -> Result<(), LineError>
-    requires setting { IsSetting A.Automaton line.old.setting (rules_in line.old) }
+    requires setting { IsSetting A.Automaton line.old.setting (line_rules line.old) }
     requires unbegun { StandsBehind P.Pieces line.old pieces.old [] [] }
-    ensures leaves { LeavesLines R.Source W.Sink (AreSearched A.Automaton line.old.setting.automaton)
-        line.old.setting.words (rules_in line.old) line.old.setting.most (P.rule pieces.old)
+    ensures leaves { LeavesLines R.Source W.Sink (AreSearchedFor A.Automaton line.old.setting.automaton)
+        line.old.setting.words (line_rules line.old) line.old.setting.most (P.rule pieces.old)
         source.old source.new sink.old sink.new counts.old counts.new result }
     ensures errors { CountsErrors R.Source W.Sink
         source.old source.new sink.old sink.new (of_devices result) }
-    ensures only { IfErr result (IsCoverFailure (rules_in line.old)) }
+    ensures only { IfErr result (IsCoverFailure (line_rules line.old)) }
     ensures setting { line.new.setting ≡ line.old.setting }
-    ensures rules { rules_in line.new ≡ rules_in line.old }
+    ensures rules { line_rules line.new ≡ line_rules line.old }
     ensures rule { P.rule pieces.new ≡ P.rule pieces.old }
 {
     let mut read = 0u64;
@@ -165,15 +165,15 @@ pub fn cover_lines<A: Automaton, R: Source, W: Sink, P: Pieces>(
     pieces: &mut P,
     counts: &mut [u64],
 ) -> Result<(), LineError>
-    requires ready { IsReady A.Automaton cover.old }
-    ensures leaves { LeavesLines R.Source W.Sink (AreSearched A.Automaton (automaton_of cover.old))
+    requires ready { CanCoverLines A.Automaton cover.old }
+    ensures leaves { LeavesLines R.Source W.Sink (AreSearchedFor A.Automaton (searched_automaton cover.old))
         (words_of cover.old) (rules_of cover.old) (most_of cover.old) (P.rule pieces.old)
         source.old source.new sink.old sink.new counts.old counts.new result }
     ensures errors { CountsErrors R.Source W.Sink
         source.old source.new sink.old sink.new (of_devices result) }
     ensures only { IfErr result (IsCoverFailure (rules_of cover.old)) }
     ensures same { CoversTheSame cover.old cover.new }
-    ensures ready { IsReady A.Automaton cover.new }
+    ensures ready { CanCoverLines A.Automaton cover.new }
     ensures rule { P.rule pieces.new ≡ P.rule pieces.old }
 {
     cover.open_line.restart();

@@ -1,7 +1,6 @@
 //! Covering a text line by line.
 
 ghost use Rattle.std.specs.Prelude.{◌≡◌, ◌+◌, ◌<◌, ◌≤◌, ◌++◌, ◌∷◌, [], ℕ, List, IfErr, IfOk, IfSome, OnErr, OnOk, false, length, map, true};
-ghost use Rattle.aho_core.specs.Cover.{AreRunsOf};
 ghost use Rattle.aho_core.specs.Listing.{IsMember};
 ghost use Rattle.aho_core.specs.Numbers.{greatest_index};
 ghost use Rattle.aho_core.specs.Patterns.{Patterns};
@@ -9,12 +8,11 @@ ghost use Rattle.std.specs.Io.KnownBytes.{Appends};
 ghost use Rattle.aho_cover.specs.Words.{CountsIn};
 ghost use Rattle.aho_cover.specs.Writes.{TellsWrites};
 ghost use Rattle.aho_devices.specs.Counts.{AppendsBeginning};
-ghost use Rattle.secret_rules.specs.Covering.{CoveredIn, covering_by, marked, seen_line};
-ghost use Rattle.secret_rules.specs.LineCovers.{AreSearched};
-ghost use Rattle.secret_rules.specs.Lines.{line_with};
+ghost use Rattle.secret_rules.specs.Covering.{marked};
+ghost use Rattle.secret_rules.specs.LineCovers.{AreSearchedFor};
 ghost use Rattle.secret_rules.specs.Marks.{AreAllMarks};
 ghost use Rattle.secret_rules.specs.Marking.{HasMarked, IsLineFailure};
-ghost use Rattle.secret_rules.specs.OpenLines.{CanSearch, GoesOnBehind, HasRead, IsSetting, StandsBehind, StopsInLine, StopsInLines, TellsLine, WritesLine, WritesLines, rules_in};
+ghost use Rattle.secret_rules.specs.OpenLines.{AreRunsBy, BeginsNext, CanSearch, GoesOnOpen, HasRead, IsSetting, StandsBehind, StopsOpen, StopsOpenLines, TellsLine, WritesOpen, line_rules};
 ghost use Rattle.secret_rules.specs.Picking.{StandForAll};
 ghost use Rattle.secret_rules.specs.Writing.{LieFrom};
 ghost use Rattle.secret_rules.specs.declared.marks.Mark.{Mark};
@@ -68,7 +66,7 @@ fn find_patterns<A: Automaton>(
     found: &mut Vec<Match>,
 ) -> Result<(), AllocError>
     requires searches { IfSome setting.now.automaton (λ a. CanSearch A.Automaton a.now) }
-    ensures stand { (p : Patterns) → AreSearched A.Automaton setting.now.automaton p
+    ensures stand { (p : Patterns) → AreSearchedFor A.Automaton setting.now.automaton p
         → OnOk result (StandForAll (CountsIn setting.now.words p line.now) found.new.items) }
 {
     found.clear();
@@ -89,10 +87,8 @@ fn runs_in<A: Automaton>(
     requires short { length line.now ≤ setting.now.most }
     requires marks { (rules : List Rule) × (before : List (List ℕ)) × IsSetting A.Automaton setting.now rules
         × AreAllMarks rules before line.now marks.now }
-    ensures runs { (rules : List Rule) (before : List (List ℕ)) (p : Patterns) → IsSetting A.Automaton setting.now rules
-        → AreAllMarks rules before line.now marks.now → AreSearched A.Automaton setting.now.automaton p
-        → OnOk result (AreRunsOf (CoveredIn (covering_by setting.now.words rules setting.now.most p) before line.now)
-        runs.new.items) }
+    ensures runs { OnOk result ((rules : List Rule) (before : List (List ℕ)) → IsSetting A.Automaton setting.now rules
+        → AreAllMarks rules before line.now marks.now → AreRunsBy A.Automaton setting.now rules before line.now runs.new.items) }
     ensures lie { OnOk result (LieFrom line.now 0 runs.new.items) }
 {
     let _whole = setting.whole.as_usize();
@@ -126,7 +122,7 @@ impl<'r, 'a, A: Automaton> OpenLine<'r, 'a, A> {
         ensures empty { self.new.line.items ≡ [] }
         ensures short { self.new.long ≡ false }
         ensures setting { self.new.setting ≡ self.old.setting }
-        ensures rules { rules_in self.new ≡ rules_in self.old }
+        ensures rules { line_rules self.new ≡ line_rules self.old }
     {
         self.marker.restart();
         self.line.clear();
@@ -158,21 +154,19 @@ impl<'r, 'a, A: Automaton> OpenLine<'r, 'a, A> {
 
     /// Finds the runs of the line, which is not too long.
     fn find_runs(&mut self) -> Result<(), MarkError>
-        requires setting { IsSetting A.Automaton self.old.setting (rules_in self.old) }
+        requires setting { IsSetting A.Automaton self.old.setting (line_rules self.old) }
         requires marked { (before : List (List ℕ)) × HasMarked self.old.marker before }
         requires short { length self.old.line.items ≤ self.old.setting.most }
-        ensures runs { (p : Patterns) (before : List (List ℕ)) → AreSearched A.Automaton self.old.setting.automaton p
-            → HasMarked self.old.marker before → OnOk result (AreRunsOf
-            (CoveredIn (covering_by self.old.setting.words (rules_in self.old) self.old.setting.most p) before self.old.line.items)
-            self.new.runs.items) }
+        ensures runs { OnOk result ((before : List (List ℕ)) → HasMarked self.old.marker before
+            → AreRunsBy A.Automaton self.old.setting (line_rules self.old) before self.old.line.items self.new.runs.items) }
         ensures lie { OnOk result (LieFrom self.old.line.items 0 self.new.runs.items) }
         ensures marked { (before : List (List ℕ)) → HasMarked self.old.marker before
             → OnOk result (HasMarked self.new.marker (before ++ self.old.line.items ∷ [])) }
-        ensures refused { IfErr result (IsLineFailure (rules_in self.old)) }
+        ensures refused { IfErr result (IsLineFailure (line_rules self.old)) }
         ensures line { self.new.line ≡ self.old.line }
         ensures long { self.new.long ≡ self.old.long }
         ensures setting { self.new.setting ≡ self.old.setting }
-        ensures rules { rules_in self.new ≡ rules_in self.old }
+        ensures rules { line_rules self.new ≡ line_rules self.old }
     {
         let line = self.line.as_slice();
         self.marker.mark(line, &mut self.marks)?;
@@ -188,22 +182,17 @@ impl<'r, 'a, A: Automaton> OpenLine<'r, 'a, A> {
         pieces: &mut P,
         counts: &mut [u64],
     ) -> Result<(), LineError>
-        requires setting { IsSetting A.Automaton self.old.setting (rules_in self.old) }
+        requires setting { IsSetting A.Automaton self.old.setting (line_rules self.old) }
         requires long { self.old.long ≡ false }
         requires stands { (before : List (List ℕ)) × (read : List ℕ) × StandsBehind P.Pieces self.old pieces.old before read }
-        ensures writes { (before : List (List ℕ)) (read : List ℕ) → StandsBehind P.Pieces self.old pieces.old before read
-            → OnOk result (WritesLine W.Sink (AreSearched A.Automaton self.old.setting.automaton) self.old.setting.words
-            (rules_in self.old) self.old.setting.most (P.rule pieces.old) sink.old sink.new counts.old counts.new
-            before (line_with read end.now)) }
-        ensures stops { (before : List (List ℕ)) (read : List ℕ) → StandsBehind P.Pieces self.old pieces.old before read
-            → OnErr result (StopsInLine W.Sink (AreSearched A.Automaton self.old.setting.automaton) self.old.setting.words
-            (rules_in self.old) self.old.setting.most (P.rule pieces.old) sink.old sink.new counts.old counts.new
-            before (line_with read end.now)) }
-        ensures stands { (before : List (List ℕ)) (read : List ℕ) → StandsBehind P.Pieces self.old pieces.old before read
-            → OnOk result (StandsBehind P.Pieces self.new pieces.new (before ++ seen_line self.old.setting.most read ∷ []) []) }
-        ensures tells { TellsLine W.Sink (rules_in self.old) sink.old sink.new result }
+        ensures writes { OnOk result
+            (WritesOpen A.Automaton W.Sink P.Pieces self.old pieces.old sink.old sink.new counts.old counts.new end.now) }
+        ensures stops { OnErr result
+            (StopsOpen A.Automaton W.Sink P.Pieces self.old pieces.old sink.old sink.new counts.old counts.new end.now) }
+        ensures stands { OnOk result (BeginsNext P.Pieces self.old pieces.old self.new pieces.new) }
+        ensures tells { TellsLine W.Sink (line_rules self.old) sink.old sink.new result }
         ensures setting { self.new.setting ≡ self.old.setting }
-        ensures rules { rules_in self.new ≡ rules_in self.old }
+        ensures rules { line_rules self.new ≡ line_rules self.old }
         ensures rule { P.rule pieces.new ≡ P.rule pieces.old }
     {
         self.find_runs()?;
@@ -222,21 +211,16 @@ impl<'r, 'a, A: Automaton> OpenLine<'r, 'a, A> {
         pieces: &mut P,
         counts: &mut [u64],
     ) -> Result<(), LineError>
-        requires setting { IsSetting A.Automaton self.old.setting (rules_in self.old) }
+        requires setting { IsSetting A.Automaton self.old.setting (line_rules self.old) }
         requires long { self.old.long ≡ true }
-        ensures writes { (before : List (List ℕ)) (read : List ℕ) → StandsBehind P.Pieces self.old pieces.old before read
-            → OnOk result (WritesLine W.Sink (AreSearched A.Automaton self.old.setting.automaton) self.old.setting.words
-            (rules_in self.old) self.old.setting.most (P.rule pieces.old) sink.old sink.new counts.old counts.new
-            before (line_with read end.now)) }
-        ensures stops { (before : List (List ℕ)) (read : List ℕ) → StandsBehind P.Pieces self.old pieces.old before read
-            → OnErr result (StopsInLine W.Sink (AreSearched A.Automaton self.old.setting.automaton) self.old.setting.words
-            (rules_in self.old) self.old.setting.most (P.rule pieces.old) sink.old sink.new counts.old counts.new
-            before (line_with read end.now)) }
-        ensures stands { (before : List (List ℕ)) (read : List ℕ) → StandsBehind P.Pieces self.old pieces.old before read
-            → OnOk result (StandsBehind P.Pieces self.new pieces.new (before ++ seen_line self.old.setting.most read ∷ []) []) }
-        ensures tells { TellsLine W.Sink (rules_in self.old) sink.old sink.new result }
+        ensures writes { OnOk result
+            (WritesOpen A.Automaton W.Sink P.Pieces self.old pieces.old sink.old sink.new counts.old counts.new end.now) }
+        ensures stops { OnErr result
+            (StopsOpen A.Automaton W.Sink P.Pieces self.old pieces.old sink.old sink.new counts.old counts.new end.now) }
+        ensures stands { OnOk result (BeginsNext P.Pieces self.old pieces.old self.new pieces.new) }
+        ensures tells { TellsLine W.Sink (line_rules self.old) sink.old sink.new result }
         ensures setting { self.new.setting ≡ self.old.setting }
-        ensures rules { rules_in self.new ≡ rules_in self.old }
+        ensures rules { line_rules self.new ≡ line_rules self.old }
         ensures rule { P.rule pieces.new ≡ P.rule pieces.old }
     {
         self.marker.mark(&[], &mut self.marks)?;
@@ -256,21 +240,16 @@ impl<'r, 'a, A: Automaton> OpenLine<'r, 'a, A> {
         pieces: &mut P,
         counts: &mut [u64],
     ) -> Result<(), LineError>
-        requires setting { IsSetting A.Automaton self.old.setting (rules_in self.old) }
+        requires setting { IsSetting A.Automaton self.old.setting (line_rules self.old) }
         requires stands { (before : List (List ℕ)) × (read : List ℕ) × StandsBehind P.Pieces self.old pieces.old before read }
-        ensures writes { (before : List (List ℕ)) (read : List ℕ) → StandsBehind P.Pieces self.old pieces.old before read
-            → OnOk result (WritesLine W.Sink (AreSearched A.Automaton self.old.setting.automaton) self.old.setting.words
-            (rules_in self.old) self.old.setting.most (P.rule pieces.old) sink.old sink.new counts.old counts.new
-            before (line_with read end.now)) }
-        ensures stops { (before : List (List ℕ)) (read : List ℕ) → StandsBehind P.Pieces self.old pieces.old before read
-            → OnErr result (StopsInLine W.Sink (AreSearched A.Automaton self.old.setting.automaton) self.old.setting.words
-            (rules_in self.old) self.old.setting.most (P.rule pieces.old) sink.old sink.new counts.old counts.new
-            before (line_with read end.now)) }
-        ensures stands { (before : List (List ℕ)) (read : List ℕ) → StandsBehind P.Pieces self.old pieces.old before read
-            → OnOk result (StandsBehind P.Pieces self.new pieces.new (before ++ seen_line self.old.setting.most read ∷ []) []) }
-        ensures tells { TellsLine W.Sink (rules_in self.old) sink.old sink.new result }
+        ensures writes { OnOk result
+            (WritesOpen A.Automaton W.Sink P.Pieces self.old pieces.old sink.old sink.new counts.old counts.new end.now) }
+        ensures stops { OnErr result
+            (StopsOpen A.Automaton W.Sink P.Pieces self.old pieces.old sink.old sink.new counts.old counts.new end.now) }
+        ensures stands { OnOk result (BeginsNext P.Pieces self.old pieces.old self.new pieces.new) }
+        ensures tells { TellsLine W.Sink (line_rules self.old) sink.old sink.new result }
         ensures setting { self.new.setting ≡ self.old.setting }
-        ensures rules { rules_in self.new ≡ rules_in self.old }
+        ensures rules { line_rules self.new ≡ line_rules self.old }
         ensures rule { P.rule pieces.new ≡ P.rule pieces.old }
     {
         if self.long {
@@ -287,19 +266,15 @@ impl<'r, 'a, A: Automaton> OpenLine<'r, 'a, A> {
         pieces: &mut P,
         counts: &mut [u64],
     ) -> Result<(), LineError>
-        requires setting { IsSetting A.Automaton self.old.setting (rules_in self.old) }
+        requires setting { IsSetting A.Automaton self.old.setting (line_rules self.old) }
         requires stands { (before : List (List ℕ)) × (read : List ℕ) × StandsBehind P.Pieces self.old pieces.old before read }
-        ensures writes { (before : List (List ℕ)) (read : List ℕ) → StandsBehind P.Pieces self.old pieces.old before read
-            → OnOk result (GoesOnBehind W.Sink P.Pieces (AreSearched A.Automaton self.old.setting.automaton)
-            self.old.setting.words (rules_in self.old) self.old.setting.most (P.rule pieces.old)
-            sink.old sink.new counts.old counts.new self.new pieces.new before read bytes.now) }
-        ensures stops { (before : List (List ℕ)) (read : List ℕ) → StandsBehind P.Pieces self.old pieces.old before read
-            → OnErr result (StopsInLines W.Sink (AreSearched A.Automaton self.old.setting.automaton) self.old.setting.words
-            (rules_in self.old) self.old.setting.most (P.rule pieces.old) sink.old sink.new counts.old counts.new
-            before read bytes.now) }
-        ensures tells { TellsLine W.Sink (rules_in self.old) sink.old sink.new result }
+        ensures writes { OnOk result
+            (GoesOnOpen A.Automaton W.Sink P.Pieces self.old pieces.old sink.old sink.new counts.old counts.new self.new pieces.new bytes.now) }
+        ensures stops { OnErr result
+            (StopsOpenLines A.Automaton W.Sink P.Pieces self.old pieces.old sink.old sink.new counts.old counts.new bytes.now) }
+        ensures tells { TellsLine W.Sink (line_rules self.old) sink.old sink.new result }
         ensures setting { self.new.setting ≡ self.old.setting }
-        ensures rules { rules_in self.new ≡ rules_in self.old }
+        ensures rules { line_rules self.new ≡ line_rules self.old }
         ensures rule { P.rule pieces.new ≡ P.rule pieces.old }
     {
         let mut rest = bytes;

@@ -218,7 +218,7 @@ fn table_of(alloc: Global, text: &str) -> Result<Table, ParseError>
 }
 
 /// What it has at `rules`.
-fn rules_in(table: &Table) -> Option<&Value>
+fn line_rules(table: &Table) -> Option<&Value>
     ensures { option_map (λ value. view value.now) result ≡ get_member (codes "rules") (table_view table.now) }
 {
     table.get("rules")
@@ -229,7 +229,7 @@ fn tables_in(table: &Table) -> Option<&[Value]>
     ensures { option_map (λ tables. items_view tables.now) result
         ≡ option_and_then as_array (get_member (codes "rules") (table_view table.now)) }
 {
-    let value = rules_in(table)?;
+    let value = line_rules(table)?;
     let tables = value.as_array()?;
     Some(tables.as_slice())
 }

@@ -1,5 +1,5 @@
 use Rattle.std.proofs.Common.{◌∙◌, [], sym, subst}
-use Rattle.secret_rules.specs.OpenLines.{rules_in}
+use Rattle.secret_rules.specs.OpenLines.{line_rules}
 use Rattle.secret_rules.proofs.Ending.{stands-next}
 use Rattle.secret_rules.proofs.Same.{leaves-same, setting-same}
 use Rattle.secret_rules.proofs.covering.cover_lines.Goals as goal
@@ -12,7 +12,7 @@ cover_from-requires-clause-unbegun g c = stands-next g.P.Pieces c.restart.new.se
 
 pub returns-clause-leaves : goal.returns-clause-leaves
 returns-clause-leaves g c =
-    leaves-same g.A.Automaton c.restart.new.self.setting c.args.cover.now.open_line.setting (rules_in c.restart.new.self) (rules_in c.args.cover.now.open_line) _ g.R.Source g.W.Sink _ _ _ _ _ _ _
+    leaves-same g.A.Automaton c.restart.new.self.setting c.args.cover.now.open_line.setting (line_rules c.restart.new.self) (line_rules c.args.cover.now.open_line) _ g.R.Source g.W.Sink _ _ _ _ _ _ _
     c.restart.ensures.setting c.restart.ensures.rules c.cover_from.ensures.leaves
 
 pub returns-clause-ready : goal.returns-clause-ready

@@ -28,9 +28,9 @@ join-requires g c = λ m there.
     c.find_patterns.new.found.items c.push_marks.new.found.items stand c.in_ok-push_marks.ensures.pushed).only m there)
 
 pub returns-clause-runs : goal.returns-clause-runs
-returns-clause-runs g c = λ rules before p is all searched.
+returns-clause-runs g c =
     if_ok c.join.result _ _
-    (λ are. setting-runs g.A.Automaton c.args.setting.now rules is before c.args.line.now c.requires.short c.args.marks.now all p searched (λ a of. (g.met.A.Automaton.laws a p of).lengths_are)
+    (λ are rules before is all p searched. setting-runs g.A.Automaton c.args.setting.now rules is before c.args.line.now c.requires.short c.args.marks.now all p searched (λ a of. (g.met.A.Automaton.laws a p of).lengths_are)
         c.find_patterns.new.found.items c.push_marks.new.found.items (c.in_ok-find_patterns.ensures.stand p searched) c.in_ok-push_marks.ensures.pushed c.join.new.runs.items are)
     c.join.ensures.runs
 

@@ -3,10 +3,10 @@ use Rattle.std.proofs.lemmas.List.{take_rest}
 use Rattle.std.proofs.lemmas.Result.{err_from_is_err_and}
 use Rattle.aho_core.specs.Patterns.{Patterns}
 use Rattle.aho_cover.proofs.Written.{if_err, on_err}
-use Rattle.secret_rules.specs.LineCovers.{AreSearched}
+use Rattle.secret_rules.specs.LineCovers.{AreSearchedFor}
 use Rattle.secret_rules.specs.Lines.{ended_line}
 use Rattle.secret_rules.specs.Marking.{marker_rules}
-use Rattle.secret_rules.specs.OpenLines.{rules_in}
+use Rattle.secret_rules.specs.OpenLines.{line_rules}
 use Rattle.secret_rules.proofs.Same.{setting-same, stands-same, stops-same, tells-same, writes-same}
 use Rattle.secret_rules.proofs.Taking.{none-before, parts-found, stands-more, taken-all, taken-breaks, taken-line, taken-none, taken-stops}
 use Rattle.secret_rules.proofs.open_line.OpenLine.take_in.Goals as goal
@@ -18,7 +18,7 @@ lines-init g c = record {
   rule = refl;
   failures = refl;
   empty_writes = refl;
-  taken = taken-none g.W.Sink g.P.Pieces (AreSearched g.A.Automaton c.args.self.now.setting.automaton) c.args.self.now.setting.words (rules_in c.args.self.now) c.args.self.now.setting.most (g.P.Pieces.rule c.args.pieces.now)
+  taken = taken-none g.W.Sink g.P.Pieces (AreSearchedFor g.A.Automaton c.args.self.now.setting.automaton) c.args.self.now.setting.words (line_rules c.args.self.now) c.args.self.now.setting.most (g.P.Pieces.rule c.args.pieces.now)
       c.args.self.now c.args.pieces.now c.args.sink.now c.args.counts.now c.args.bytes.now;
 }
 
@@ -26,7 +26,7 @@ pub end-requires-clause-setting : goal.end-requires-clause-setting
 end-requires-clause-setting g c =
     let inv = c.lines.invariant in
     let added = c.in_ok-add.ensures in
-    setting-same g.A.Automaton c.args.self.now.setting c.add.new.self.setting (rules_in c.args.self.now) (rules_in c.add.new.self) (sym (added.setting ∙ inv.setting)) (sym (ap marker_rules added.marker ∙ inv.rules)) c.requires.setting
+    setting-same g.A.Automaton c.args.self.now.setting c.add.new.self.setting (line_rules c.args.self.now) (line_rules c.add.new.self) (sym (added.setting ∙ inv.setting)) (sym (ap marker_rules added.marker ∙ inv.rules)) c.requires.setting
 
 pub end-requires-clause-stands : goal.end-requires-clause-stands
 end-requires-clause-stands g c =
@@ -59,24 +59,24 @@ lines-preserved g c =
       rule = ended.rule ∙ same_rule;
       failures = ended.tells.write_failed ∙ inv.failures;
       empty_writes = ended.tells.took_nothing ∙ inv.empty_writes;
-      taken = taken-line g.W.Sink g.P.Pieces (AreSearched g.A.Automaton self.setting.automaton) self.setting.words (rules_in self) self.setting.most (g.P.Pieces.rule c.args.pieces.now)
+      taken = taken-line g.W.Sink g.P.Pieces (AreSearchedFor g.A.Automaton self.setting.automaton) self.setting.words (line_rules self) self.setting.most (g.P.Pieces.rule c.args.pieces.now)
           self c.lines.self c.args.pieces.now c.lines.pieces c.args.sink.now c.lines.sink c.args.counts.now c.lines.counts c.args.bytes.now rest inv.taken
           c.end.new.self c.end.new.pieces c.end.new.sink c.end.new.counts part _
           (none-before rest end (omega (arith, found.0.high)) found.0.before)
           (parts-found rest _ end found.0.high found.1 later)
           (λ before read stands.
               let more = stands-more g.P.Pieces c.lines.self c.add.new.self c.lines.pieces c.add.new.pieces before read part stands added.marker (added.read read stands.has) in (
-                writes-same g.A.Automaton c.add.new.self.setting self.setting (rules_in c.add.new.self) (rules_in self) (g.P.Pieces.rule c.add.new.pieces) (g.P.Pieces.rule c.args.pieces.now) same_setting same_rules same_rule
+                writes-same g.A.Automaton c.add.new.self.setting self.setting (line_rules c.add.new.self) (line_rules self) (g.P.Pieces.rule c.add.new.pieces) (g.P.Pieces.rule c.args.pieces.now) same_setting same_rules same_rule
                     g.W.Sink c.lines.sink c.end.new.sink c.lines.counts c.end.new.counts before (ended_line (read ++ part)) (ended.writes before (read ++ part) more),
                 stands-same g.P.Pieces c.add.new.self.setting self.setting c.end.new.self c.end.new.pieces before (read ++ part) same_setting (ended.stands before (read ++ part) more),
               ));
     }
 
 pub returns-in_err-add-clause-stops : goal.returns-in_err-add-clause-stops
-returns-in_err-add-clause-stops g c = λ before read stands.
+returns-in_err-add-clause-stops g c =
     let self = c.args.self.now in
-    on_err c.from_residual.result _ (taken-stops g.W.Sink g.P.Pieces (AreSearched g.A.Automaton self.setting.automaton) self.setting.words (rules_in self) self.setting.most (g.P.Pieces.rule c.args.pieces.now)
-    self c.lines.self c.args.pieces.now c.lines.pieces c.args.sink.now c.lines.sink c.args.counts.now c.lines.counts c.args.bytes.now c.lines.rest.now c.lines.invariant.taken before read stands)
+    on_err c.from_residual.result _ (taken-stops g.W.Sink g.P.Pieces (AreSearchedFor g.A.Automaton self.setting.automaton) self.setting.words (line_rules self) self.setting.most (g.P.Pieces.rule c.args.pieces.now)
+    self c.lines.self c.args.pieces.now c.lines.pieces c.args.sink.now c.lines.sink c.args.counts.now c.lines.counts c.args.bytes.now c.lines.rest.now c.lines.invariant.taken)
 
 pub returns-in_err-add-clause-tells : goal.returns-in_err-add-clause-tells
 returns-in_err-add-clause-tells g c =
@@ -84,7 +84,7 @@ returns-in_err-add-clause-tells g c =
     rw (told.1, told.2) (record { write_failed = c.lines.invariant.failures; took_nothing = c.lines.invariant.empty_writes; only = tt })
 
 pub returns-in_err-end-clause-stops : goal.returns-in_err-end-clause-stops
-returns-in_err-end-clause-stops g c = λ before read stands.
+returns-in_err-end-clause-stops g c =
     let inv = c.lines.invariant in
     let self = c.args.self.now in
     let rest = c.lines.rest.now in
@@ -92,32 +92,30 @@ returns-in_err-end-clause-stops g c = λ before read stands.
     let found = c.in-Some.ensures in
     let part = take end rest in
     let added = c.in_ok-add.ensures in
-    on_err c.from_residual-in_err-end.result _ (taken-breaks g.W.Sink g.P.Pieces (AreSearched g.A.Automaton self.setting.automaton) self.setting.words (rules_in self) self.setting.most (g.P.Pieces.rule c.args.pieces.now)
+    on_err c.from_residual-in_err-end.result _ (taken-breaks g.W.Sink g.P.Pieces (AreSearchedFor g.A.Automaton self.setting.automaton) self.setting.words (line_rules self) self.setting.most (g.P.Pieces.rule c.args.pieces.now)
     self c.lines.self c.args.pieces.now c.lines.pieces c.args.sink.now c.lines.sink c.args.counts.now c.lines.counts c.args.bytes.now rest inv.taken
     c.end.new.sink c.end.new.counts part (drop (end + 1) rest)
     (none-before rest end (omega (arith, found.0.high)) found.0.before)
     (parts-found rest (drop (end + 1) rest) end found.0.high found.1 refl)
     (λ b r st.
         let more = stands-more g.P.Pieces c.lines.self c.add.new.self c.lines.pieces c.add.new.pieces b r part st added.marker (added.read r st.has) in
-        stops-same g.A.Automaton c.add.new.self.setting self.setting (rules_in c.add.new.self) (rules_in self) (g.P.Pieces.rule c.add.new.pieces) (g.P.Pieces.rule c.args.pieces.now)
+        stops-same g.A.Automaton c.add.new.self.setting self.setting (line_rules c.add.new.self) (line_rules self) (g.P.Pieces.rule c.add.new.pieces) (g.P.Pieces.rule c.args.pieces.now)
         (added.setting ∙ inv.setting) (ap marker_rules added.marker ∙ inv.rules) (added.rule ∙ inv.rule)
-        g.W.Sink c.lines.sink c.end.new.sink c.lines.counts c.end.new.counts b (ended_line (r ++ part)) (c.in_err-end.ensures.stops b (r ++ part) more))
-    before read stands)
+        g.W.Sink c.lines.sink c.end.new.sink c.lines.counts c.end.new.counts b (ended_line (r ++ part)) (c.in_err-end.ensures.stops b (r ++ part) more)))
 
 pub returns-in_err-end-clause-tells : goal.returns-in_err-end-clause-tells
 returns-in_err-end-clause-tells g c =
     let inv = c.lines.invariant in
     let told = err_from_is_err_and c.from_residual-in_err-end.result c.from_residual-in_err-end.ensures.1 in
-    rw (told.1, told.2) (tells-same g.W.Sink (rules_in c.add.new.self) (rules_in c.args.self.now) c.args.sink.now c.lines.sink c.end.new.sink _ (ap marker_rules c.in_ok-add.ensures.marker ∙ inv.rules) inv.failures inv.empty_writes c.in_err-end.ensures.tells)
+    rw (told.1, told.2) (tells-same g.W.Sink (line_rules c.add.new.self) (line_rules c.args.self.now) c.args.sink.now c.lines.sink c.end.new.sink _ (ap marker_rules c.in_ok-add.ensures.marker ∙ inv.rules) inv.failures inv.empty_writes c.in_err-end.ensures.tells)
 
 pub returns-clause-writes : goal.returns-clause-writes
-returns-clause-writes g c = λ before read stands.
+returns-clause-writes g c =
     let inv = c.lines.invariant in
     let self = c.args.self.now in
     let rest = c.lines.rest.now in
     let added = c.in_ok-add-in_default.ensures in
-    taken-all g.W.Sink g.P.Pieces (AreSearched g.A.Automaton self.setting.automaton) self.setting.words (rules_in self) self.setting.most (g.P.Pieces.rule c.args.pieces.now)
+    taken-all g.W.Sink g.P.Pieces (AreSearchedFor g.A.Automaton self.setting.automaton) self.setting.words (line_rules self) self.setting.most (g.P.Pieces.rule c.args.pieces.now)
     self c.lines.self c.args.pieces.now c.lines.pieces c.args.sink.now c.lines.sink c.args.counts.now c.lines.counts c.args.bytes.now rest inv.taken
     c.add-in_default.new.self c.add-in_default.new.pieces c.in_default.ensures
     (λ b r st. stands-more g.P.Pieces c.lines.self c.add-in_default.new.self c.lines.pieces c.add-in_default.new.pieces b r rest st added.marker (added.read r st.has))
-    before read stands
