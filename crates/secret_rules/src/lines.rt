@@ -115,6 +115,16 @@ fn write_piece<W: Sink, P: Pieces>(
     write_both(sink, pieces.piece(number), end)
 }
 
+/// Begins a piece, and feeds some bytes and others behind them.
+fn feed_both<P: Pieces>(pieces: &mut P, bytes: &[u8], more: &[u8])
+    ensures fed { P.holds pieces.new (bytes.now ++ more.now) }
+    ensures rule { P.rule pieces.new ≡ P.rule pieces.old }
+{
+    pieces.begin();
+    pieces.feed(bytes);
+    pieces.feed(more);
+}
+
 impl<'r, 'a, A: Automaton> OpenLine<'r, 'a, A> {
     /// Begins another text.
     pub(crate) fn restart(&mut self)
@@ -141,10 +151,10 @@ impl<'r, 'a, A: Automaton> OpenLine<'r, 'a, A> {
             pieces.feed(bytes);
             return Ok(());
         }
-        if self.line.len() + bytes.len() > self.setting.most {
-            pieces.begin();
-            pieces.feed(self.line.as_slice());
-            pieces.feed(bytes);
+        let line = self.line.as_slice();
+        let room = self.setting.most.saturating_sub(line.len());
+        if bytes.len() > room {
+            feed_both(pieces, line, bytes);
             self.line.clear();
             self.long = true;
             return Ok(());

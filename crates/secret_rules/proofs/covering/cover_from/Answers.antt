@@ -49,8 +49,8 @@ returns-in_err-more-clause-leaves g c =
     let refilled = c.in_err-more.ensures in
     let told = err_from_is_err_and c.from_residual-in_err-more.result c.from_residual-in_err-more.ensures.1 in
     let flushed = going-kept _ _ _ _ _ _ _ _ _ _ _ _ _ _ _ c.flush.new.self _ c.reads.invariant.going c.in_ok-flush.ensures.kept in
-    let read = subst (Consumes (g.R.Source.remaining c.reads.source) (g.R.Source.remaining c.refill-more.new.source)) refilled.nothing refilled.given in
-    let going = going-read _ _ _ _ _ _ _ _ _ _ _ _ _ _ c.refill-more.new.source _ _ flushed read refilled.ended in
+    let read = subst (Consumes (g.R.Source.remaining c.reads.source) (g.R.Source.remaining c.refill.new.source)) refilled.nothing refilled.given in
+    let going = going-read _ _ _ _ _ _ _ _ _ _ _ _ _ _ c.refill.new.source _ _ flushed read refilled.ended in
     rw (told.1, told.2) (leaves-read _ _ _ _ _ _ _ _ _ _ _ _ _ _ (going-begins _ _ _ _ _ _ _ _ _ _ _ _ _ _ _ _ going) (going-whole _ _ _ _ _ _ _ _ _ _ _ _ _ _ _ _ going))
 
 pub returns-in_err-more-clause-errors : goal.returns-in_err-more-clause-errors
@@ -59,7 +59,7 @@ returns-in_err-more-clause-errors g c =
     let flushed = c.in_ok-flush.ensures in
     let told = err_from_is_err_and c.from_residual-in_err-more.result c.from_residual-in_err-more.ensures.1 in
     rw (told.1, told.2) (errors-read g.R.Source g.W.Sink (line_rules c.args.line.now) c.args.source.now c.reads.source c.args.sink.now c.flush.new.self inv.read_failures (flushed.failures ∙ inv.failures) (flushed.empty_writes ∙ inv.empty_writes)
-    c.refill-more.new.source _ c.in_err-more.ensures.read_failed c.in_err-more.ensures.only)
+    c.refill.new.source _ c.in_err-more.ensures.read_failed c.in_err-more.ensures.only)
 
 pub returns-in_err-more-clause-only : goal.returns-in_err-more-clause-only
 returns-in_err-more-clause-only g c =
@@ -83,11 +83,11 @@ returns-then-more-eq0-clause-leaves g c =
     let G = g.A.Automaton in
     let refilled = c.in_ok-more.ensures in
     let flushed = going-kept _ _ _ _ _ _ _ _ _ _ _ _ _ _ _ c.flush.new.self _ inv.going c.in_ok-flush.ensures.kept in
-    let none = no-bytes c.refill-more.new.buffer.bytes (refilled.told ∙ c.if-more-eq0.true) in
-    let read = subst (Consumes (g.R.Source.remaining c.reads.source) (g.R.Source.remaining c.refill-more.new.source)) none refilled.given in
-    let ended = subst (λ (n : ℕ). g.R.Source.empty_reads c.refill-more.new.source ≡ counted (n == 0) (g.R.Source.empty_reads c.reads.source)) c.if-more-eq0.true refilled.ended in
+    let none = no-bytes c.refill.new.buffer.bytes (refilled.told ∙ c.if-more-eq0.true) in
+    let read = subst (Consumes (g.R.Source.remaining c.reads.source) (g.R.Source.remaining c.refill.new.source)) none refilled.given in
+    let ended = subst (λ (n : ℕ). g.R.Source.empty_reads c.refill.new.source ≡ counted (n == 0) (g.R.Source.empty_reads c.reads.source)) c.if-more-eq0.true refilled.ended in
     let tells = tells-same g.W.Sink (line_rules now) (line_rules line) c.flush.new.self c.flush.new.self c.end.new.sink c.end.result inv.rules refl refl c.end.ensures.tells in
-    leaves-ended _ _ _ _ _ _ _ _ _ _ c.refill-more.new.source c.end.new.sink c.end.new.counts c.end.result
+    leaves-ended _ _ _ _ _ _ _ _ _ _ c.refill.new.source c.end.new.sink c.end.new.counts c.end.result
     (if_ok c.end.result _ _ (λ writes. going-covers _ _ _ _ _ _ _ _ _ _ _ _ _ _ _ _ _ _ _ flushed read ended
         (writes-same G now.setting line.setting (line_rules now) (line_rules line) _ _ inv.setting inv.rules inv.rule g.W.Sink c.flush.new.self c.end.new.sink c.reads.counts c.end.new.counts flushed.before (last_line flushed.read) (writes flushed.before flushed.read flushed.stands)))
     c.end.ensures.writes)
@@ -101,7 +101,7 @@ returns-then-more-eq0-clause-errors g c =
     let inv = c.reads.invariant in
     let flushed = c.in_ok-flush.ensures in
     let tells = tells-same g.W.Sink (line_rules c.reads.line) (line_rules c.args.line.now) c.flush.new.self c.flush.new.self c.end.new.sink c.end.result inv.rules refl refl c.end.ensures.tells in
-    errors-line g.R.Source g.W.Sink (line_rules c.args.line.now) c.args.source.now c.refill-more.new.source c.args.sink.now c.flush.new.self (c.in_ok-more.ensures.read_failed ∙ inv.read_failures) (flushed.failures ∙ inv.failures)
+    errors-line g.R.Source g.W.Sink (line_rules c.args.line.now) c.args.source.now c.refill.new.source c.args.sink.now c.flush.new.self (c.in_ok-more.ensures.read_failed ∙ inv.read_failures) (flushed.failures ∙ inv.failures)
     (flushed.empty_writes ∙ inv.empty_writes) c.end.new.sink c.end.result tells
 
 pub returns-then-more-eq0-clause-only : goal.returns-then-more-eq0-clause-only
@@ -128,8 +128,8 @@ returns-in_err-take_in-clause-leaves g c =
     let told = err_from_is_err_and c.from_residual-in_err-take_in.result c.from_residual-in_err-take_in.ensures.1 in
     let flushed = going-kept _ _ _ _ _ _ _ _ _ _ _ _ _ _ _ c.flush.new.self _ inv.going c.in_ok-flush.ensures.kept in
     let bytes = c.buffer.result.now in
-    let read = subst (Consumes (g.R.Source.remaining c.reads.source) (g.R.Source.remaining c.refill-more.new.source)) (sym c.buffer.ensures.bytes) refilled.given in
-    let ended = subst (λ (b : Bool). g.R.Source.empty_reads c.refill-more.new.source ≡ counted b (g.R.Source.empty_reads c.reads.source)) (ne_eqb c.in_ok-more.more 0 c.if-more-eq0.false) refilled.ended in
+    let read = subst (Consumes (g.R.Source.remaining c.reads.source) (g.R.Source.remaining c.refill.new.source)) (sym c.buffer.ensures.bytes) refilled.given in
+    let ended = subst (λ (b : Bool). g.R.Source.empty_reads c.refill.new.source ≡ counted b (g.R.Source.empty_reads c.reads.source)) (ne_eqb c.in_ok-more.more 0 c.if-more-eq0.false) refilled.ended in
     let tells = tells-same g.W.Sink (line_rules now) (line_rules line) c.flush.new.self c.flush.new.self c.take_in.new.sink _ inv.rules refl refl c.in_err-take_in.ensures.tells in
     rw (told.1, told.2) (leaves-written _ _ _ _ _ _ _ _ _ _ _ _ _ _
     (going-stops _ _ _ _ _ _ _ _ _ _ _ _ _ _ _ _ _ _ _ bytes flushed read ended
@@ -143,7 +143,7 @@ returns-in_err-take_in-clause-errors g c =
     let flushed = c.in_ok-flush.ensures in
     let told = err_from_is_err_and c.from_residual-in_err-take_in.result c.from_residual-in_err-take_in.ensures.1 in
     let tells = tells-same g.W.Sink (line_rules c.reads.line) (line_rules c.args.line.now) c.flush.new.self c.flush.new.self c.take_in.new.sink _ inv.rules refl refl c.in_err-take_in.ensures.tells in
-    rw (told.1, told.2) (errors-line g.R.Source g.W.Sink (line_rules c.args.line.now) c.args.source.now c.refill-more.new.source c.args.sink.now c.flush.new.self (c.in_ok-more.ensures.read_failed ∙ inv.read_failures) (flushed.failures ∙ inv.failures)
+    rw (told.1, told.2) (errors-line g.R.Source g.W.Sink (line_rules c.args.line.now) c.args.source.now c.refill.new.source c.args.sink.now c.flush.new.self (c.in_ok-more.ensures.read_failed ∙ inv.read_failures) (flushed.failures ∙ inv.failures)
     (flushed.empty_writes ∙ inv.empty_writes) c.take_in.new.sink _ tells)
 
 pub returns-in_err-take_in-clause-only : goal.returns-in_err-take_in-clause-only
@@ -163,8 +163,8 @@ reads-preserved g c =
     let took = c.in_ok-take_in.ensures in
     let flushed = going-kept _ _ _ _ _ _ _ _ _ _ _ _ _ _ _ c.flush.new.self _ inv.going flush.kept in
     let bytes = c.buffer.result.now in
-    let read = subst (Consumes (g.R.Source.remaining c.reads.source) (g.R.Source.remaining c.refill-more.new.source)) (sym c.buffer.ensures.bytes) refilled.given in
-    let ended = subst (λ (b : Bool). g.R.Source.empty_reads c.refill-more.new.source ≡ counted b (g.R.Source.empty_reads c.reads.source)) (ne_eqb c.in_ok-more.more 0 c.if-more-eq0.false) refilled.ended in
+    let read = subst (Consumes (g.R.Source.remaining c.reads.source) (g.R.Source.remaining c.refill.new.source)) (sym c.buffer.ensures.bytes) refilled.given in
+    let ended = subst (λ (b : Bool). g.R.Source.empty_reads c.refill.new.source ≡ counted b (g.R.Source.empty_reads c.reads.source)) (ne_eqb c.in_ok-more.more 0 c.if-more-eq0.false) refilled.ended in
     record {
       setting = took.setting ∙ inv.setting;
       rules = took.rules ∙ inv.rules;
