@@ -15,6 +15,7 @@ use crate::error::LineError;
 use crate::line_cover::LineCover;
 use crate::marker::Marker;
 use crate::open_line::{OpenLine, Setting};
+use crate::rule::Rule;
 use crate::rules::Rules;
 use aho_automaton::automaton::Automaton;
 use aho_core::error::StreamError;
@@ -36,6 +37,14 @@ fn pattern_count<A: Automaton>(automaton: Option<&A>) -> usize
         Some(automaton) => automaton.patterns_len(),
         None => 0,
     }
+}
+
+/// The number of lines that are covered whole, behind those of so many patterns and of some rules.
+fn whole_number(patterns: usize, rules: &[Rule]) -> PatternID
+    requires few { patterns + length rules.now ≤ greatest_index }
+    ensures number { result ≡ patterns + length rules.now }
+{
+    PatternID::new_unchecked(patterns + rules.len())
 }
 
 impl<'r, 'a, A: Automaton> LineCover<'r, 'a, A> {
@@ -64,23 +73,25 @@ impl<'r, 'a, A: Automaton> LineCover<'r, 'a, A> {
         ensures most { IfOk result (λ cover. most_of cover ≡ most) }
     {
         let patterns = pattern_count(automaton);
+        let whole = whole_number(patterns, rules.as_slice());
+        let marker = Marker::new(alloc, rules)?;
+        let buffer = Buffer::new(alloc, 1)?;
         let setting = Setting {
             automaton,
             words,
             most,
             patterns,
-            whole: PatternID::new_unchecked(patterns + rules.as_slice().len()),
+            whole,
         };
         let open_line = OpenLine {
             setting,
-            marker: Marker::new(alloc, rules)?,
+            marker,
             line: Vec::new(alloc),
             long: false,
             marks: Vec::new(alloc),
             found: Vec::new(alloc),
             runs: Vec::new(alloc),
         };
-        let buffer = Buffer::new(alloc, 1)?;
         Ok(LineCover { buffer, open_line })
     }
 }
