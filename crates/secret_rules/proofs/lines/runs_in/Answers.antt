@@ -17,15 +17,17 @@ push_marks-requires-clause-ordered g c = λ mark there.
     marks-ordered stated.0 stated.1 c.args.line.now c.args.marks.now stated.3 mark there
 
 pub join-requires : goal.join-requires
-join-requires g c = λ m there.
-    let stated = c.requires.marks in
-    let setting = c.args.setting.now in
-    let some = some-searched g.A.Automaton setting.automaton stated.2.searches in
-    let stand = c.in_ok-find_patterns.ensures.stand some.0 some.1 in
-    setting-full g.A.Automaton setting stated.0 stated.2 stated.1 c.args.line.now c.requires.short c.args.marks.now stated.3 some.0 some.1 (λ a of. (g.met.A.Automaton.laws a some.0 of).lengths_are)
-    c.find_patterns.new.found.items c.push_marks.new.found.items stand c.in_ok-push_marks.ensures.pushed m
-    ((setting-standing g.A.Automaton setting stated.0 stated.2 stated.1 c.args.line.now c.requires.short c.args.marks.now stated.3 some.0 some.1 (λ a of. (g.met.A.Automaton.laws a some.0 of).lengths_are)
-    c.find_patterns.new.found.items c.push_marks.new.found.items stand c.in_ok-push_marks.ensures.pushed).only m there)
+join-requires g c = record {
+  full = λ m there.
+      let stated = c.requires.marks in
+      let setting = c.args.setting.now in
+      let some = some-searched g.A.Automaton setting.automaton stated.2.searches in
+      let stand = c.in_ok-find_patterns.ensures.stand some.0 some.1 in
+      setting-full g.A.Automaton setting stated.0 stated.2 stated.1 c.args.line.now c.requires.short c.args.marks.now stated.3 some.0 some.1 (λ a of. (g.met.A.Automaton.laws a some.0 of).lengths_are)
+      c.find_patterns.new.found.items c.push_marks.new.found.items stand c.in_ok-push_marks.ensures.pushed m
+      ((setting-standing g.A.Automaton setting stated.0 stated.2 stated.1 c.args.line.now c.requires.short c.args.marks.now stated.3 some.0 some.1 (λ a of. (g.met.A.Automaton.laws a some.0 of).lengths_are)
+      c.find_patterns.new.found.items c.push_marks.new.found.items stand c.in_ok-push_marks.ensures.pushed).only m there);
+}
 
 pub returns-clause-runs : goal.returns-clause-runs
 returns-clause-runs g c =
