@@ -177,3 +177,6 @@ reads-preserved g c =
           (goes-same g.A.Automaton now.setting line.setting (line_rules now) (line_rules line) _ _ inv.setting inv.rules inv.rule g.W.Sink c.flush.new.self c.take_in.new.sink c.reads.counts c.take_in.new.counts flushed.before
           g.P.Pieces c.take_in.new.self c.take_in.new.pieces flushed.read bytes (took.writes flushed.before flushed.read flushed.stands));
     }
+
+pub reads-smaller : goal.reads-smaller
+reads-smaller g c = omega (arith, c.if-more-eq0.false, c.in_ok-more.ensures.limited)

@@ -1,5 +1,5 @@
 use Rattle.std.proofs.Common.{◌≡◌, ℕ, List, [], ◌∷◌, ◌++◌, ◌+◌, ◌∙◌, length, take, drop, refl, sym, ap, subst, arith}
-use Rattle.std.proofs.lemmas.List.{take_rest}
+use Rattle.std.proofs.lemmas.List.{length-drop, take_rest}
 use Rattle.std.proofs.lemmas.Result.{err_from_is_err_and}
 use Rattle.aho_core.specs.Patterns.{Patterns}
 use Rattle.aho_cover.proofs.Written.{if_err, on_err}
@@ -72,6 +72,12 @@ lines-preserved g c =
               ));
     }
 
+pub lines-smaller : goal.lines-smaller
+lines-smaller g c =
+    let rest = c.lines.rest.now in
+    let end = c.in-Some.end in
+    omega (arith, ap length (take_rest rest (end + 1)), length-drop (end + 1) rest, c.in-Some.ensures.0.high)
+
 pub returns-in_err-add-clause-stops : goal.returns-in_err-add-clause-stops
 returns-in_err-add-clause-stops g c =
     let self = c.args.self.now in
@@ -119,3 +125,6 @@ returns-clause-writes g c =
     self c.lines.self c.args.pieces.now c.lines.pieces c.args.sink.now c.lines.sink c.args.counts.now c.lines.counts c.args.bytes.now rest inv.taken
     c.add-in_default.new.self c.add-in_default.new.pieces c.in_default.ensures
     (λ b r st. stands-more g.P.Pieces c.lines.self c.add-in_default.new.self c.lines.pieces c.add-in_default.new.pieces b r rest st added.marker (added.read r st.has))
+
+pub returns-clause-tells : goal.returns-clause-tells
+returns-clause-tells g c = record { write_failed = c.lines.invariant.failures; took_nothing = c.lines.invariant.empty_writes; only = tt }
