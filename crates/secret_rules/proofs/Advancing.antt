@@ -146,8 +146,8 @@ module _ {W : Type 0} (K : SinkGhosts W) (Searched : Patterns → Type 0) (words
     runs_are = λ p searched. tt;
     writes = stops.writes;
     counted = subst (CountsThese [] counts) (sym stops.counted) (counts_none counts);
-    goes_on = λ p more all searched are. starts p (lines_from read ((part ++ 10 ∷ rest) ++ more)) all
-        (ap (lines_from read) (append_assoc part (10 ∷ rest) more) ∙ lines-part read part (10 ∷ (rest ++ more)) none) (rest ++ more) searched are;
+    goes_on = λ p more all searched are. starts p (lines_from read ((part ++ 10 ∷ rest) ++ more)) all (rest ++ more)
+        (ap (lines_from read) (append_assoc part (10 ∷ rest) more) ∙ lines-part read part (10 ∷ (rest ++ more)) none) searched are;
   } where
     starts : (p : Patterns) (lines : List Line) (all : List (List Occurrence)) (later : List ℕ) → lines ≡ ended_line (read ++ part) ∷ lines_from [] later → Searched p → AreLineRuns (covering_by words rules most p) before lines all
         → BeginsNextLine rule [] [] stops.part lines all

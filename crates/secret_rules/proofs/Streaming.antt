@@ -17,7 +17,6 @@ use Rattle.aho_devices.specs.declared.device.Sink.{Ghosts as SinkGhosts}
 use Rattle.aho_devices.specs.declared.device.Source.{Ghosts as SourceGhosts}
 use Rattle.aho_stream.specs.After.{MayFollow}
 use Rattle.aho_stream.specs.Replacing.{MayBe, SourceGave}
-use Rattle.aho_stream.proofs.Replacings.{gives_nothing, gives_on}
 use Rattle.aho_cover.specs.Counting.{CountsThese}
 use Rattle.aho_cover.specs.Pieces.{PieceRule}
 use Rattle.aho_cover.specs.declared.pieces.Pieces.{Ghosts as PieceGhosts}
@@ -112,6 +111,18 @@ pub no-bytes : (bytes : List ℕ) → length bytes ≡ 0 → bytes ≡ []
 no-bytes [] none = refl
 no-bytes (byte ∷ bytes) none = absurd (omega (arith, none))
 
+-- a source gave nothing yet
+gave-nothing : {R : Type 0} (S : SourceGhosts R) (source : R) → SourceGave S source source [] false
+gave-nothing S source = record { bytes = Consumes-nil (S.remaining source); end = refl }
+
+-- and it gave more
+gave-more : {R : Type 0} (S : SourceGhosts R) (first source source' : R) (given bytes : List ℕ) (ended : Bool) → SourceGave S first source given false → Consumes (S.remaining source) (S.remaining source') bytes
+    → S.empty_reads source' ≡ counted ended (S.empty_reads source) → SourceGave S first source' (given ++ bytes) ended
+gave-more S first source source' given bytes ended gives read counts = record {
+  bytes = Consumes-trans (S.remaining first) (S.remaining source) (S.remaining source') given bytes gives.bytes read;
+  end = counts ∙ ap (counted ended) gives.end;
+}
+
 module _ {R W : Type 0} (S : SourceGhosts R) (K : SinkGhosts W) (Searched : Patterns → Type 0) (words : Bool) (rules : List Rule) (most : ℕ) (rule : PieceRule) (first : R) (begun : W) (zeros : List ℕ) where
   abbrev Begins : R → W → List ℕ → Type 0
   Begins source sink counts = BeginsLines S K Searched words rules most rule first source begun sink zeros counts
@@ -164,7 +175,7 @@ module _ {A R W P : Type 0} (S : SourceGhosts R) (K : SinkGhosts W) (Q : PieceGh
   pub going-first : (line : OpenLine A) (pieces : P) → StandsBehind Q line pieces [] [] → Going line pieces first begun zeros
   going-first line pieces stands = record {
     given = [];
-    gives = gives_nothing S first false refl;
+    gives = gave-nothing S first;
     before = [];
     read = [];
     writes = WritesLines-part K Searched words rules most rule begun zeros [] [] [] (λ k low high. absurd (omega (arith, high)));
@@ -197,7 +208,7 @@ module _ {A R W P : Type 0} (S : SourceGhosts R) (K : SinkGhosts W) (Q : PieceGh
       → GoesOnBehind K Q Searched words rules most rule sink sink' counts counts' line' pieces' going.before going.read bytes → Going line' pieces' source' sink' counts'
   going-more line line' pieces pieces' source source' sink sink' counts counts' bytes going read ended behind = record {
     given = going.given ++ bytes;
-    gives = gives_on S first source source' going.given bytes false false going.gives read ended (λ e. e);
+    gives = gave-more S first source source' going.given bytes false going.gives read ended;
     before = behind.before';
     read = behind.read';
     writes = WritesLines-then K Searched words rules most rule begun sink sink' zeros counts counts' [] going.before behind.before' [] going.read behind.read' going.given bytes going.writes behind.writes;
@@ -215,7 +226,7 @@ module _ {A R W P : Type 0} (S : SourceGhosts R) (K : SinkGhosts W) (Q : PieceGh
       → Consumes (S.remaining source) (S.remaining source') bytes → S.empty_reads source' ≡ counted false (S.empty_reads source)
       → StopsInLines K Searched words rules most rule sink sink' counts counts' going.before going.read bytes → Begins S K Searched words rules most rule first begun zeros source' sink' counts'
   going-stops line pieces source source' sink sink' counts counts' bytes going read ended stops =
-      begins-lines S K Searched words rules most rule first begun zeros source' sink' counts' (going.given ++ bytes) false (gives_on S first source source' going.given bytes false false going.gives read ended (λ e. e))
+      begins-lines S K Searched words rules most rule first begun zeros source' sink' counts' (going.given ++ bytes) false (gave-more S first source source' going.given bytes false going.gives read ended)
       (StopsInLines-then K Searched words rules most rule begun sink sink' zeros counts counts' [] going.before [] going.read going.given bytes going.writes stops)
 
   -- a read failed: all lines whose ends were given were written
@@ -238,7 +249,7 @@ module _ {A R W P : Type 0} (S : SourceGhosts R) (K : SinkGhosts W) (Q : PieceGh
       → Consumes (S.remaining source) (S.remaining source') [] → S.empty_reads source' ≡ counted false (S.empty_reads source) → Going line pieces source' sink counts
   going-read line pieces source source' sink counts going read ended = record {
     given = going.given;
-    gives = subst (λ (g : List ℕ). SourceGave S first source' g false) (append-nil going.given) (gives_on S first source source' going.given [] false false going.gives read ended (λ e. e));
+    gives = subst (λ (g : List ℕ). SourceGave S first source' g false) (append-nil going.given) (gave-more S first source source' going.given [] false going.gives read ended);
     before = going.before;
     read = going.read;
     writes = going.writes;
@@ -255,7 +266,7 @@ module _ {A R W P : Type 0} (S : SourceGhosts R) (K : SinkGhosts W) (Q : PieceGh
       let all = going.writes.runs ++ wrote.runs ∷ [] in
       record {
         given = going.given;
-        gives = subst (λ (g : List ℕ). SourceGave S first source' g true) (append-nil going.given) (gives_on S first source source' going.given [] false true going.gives read ended (λ e. refl));
+        gives = subst (λ (g : List ℕ). SourceGave S first source' g true) (append-nil going.given) (gave-more S first source source' going.given [] true going.gives read ended);
         runs = all;
         runs_are = λ p searched. subst (λ (ls : List Line). AreLineRuns (covering_by words rules most p) [] ls all) (sym lines)
             (runs-append (covering_by words rules most p) [] going.writes.lines (last_line going.read ∷ []) going.writes.runs (wrote.runs ∷ []) (going.writes.runs_are p searched)
@@ -275,7 +286,7 @@ module _ {A R W P : Type 0} (S : SourceGhosts R) (K : SinkGhosts W) (Q : PieceGh
   going-ends line pieces source source' sink sink' counts counts' going read ended stops = record {
     given = going.given;
     ended = true;
-    gives = subst (λ (g : List ℕ). SourceGave S first source' g true) (append-nil going.given) (gives_on S first source source' going.given [] false true going.gives read ended (λ e. refl));
+    gives = subst (λ (g : List ℕ). SourceGave S first source' g true) (append-nil going.given) (gave-more S first source source' going.given [] true going.gives read ended);
     lines = going.writes.lines;
     runs = going.writes.runs;
     part = stops.part;

@@ -22,7 +22,10 @@ use Rattle.secret_rules.proofs.LineRuns.{NoEnds}
 pub parts-at : (rest : List ℕ) (end : ℕ) → end < length rest → (slice_index rest end == 10) ≡ true → rest ≡ take end rest ++ 10 ∷ drop (end + 1) rest
 parts-at [] end within ends = absurd (omega (arith, within))
 parts-at (byte ∷ rest) zero within ends = ap (λ (b : ℕ). b ∷ rest) (eqb-true byte 10 ends)
-parts-at (byte ∷ rest) (suc end) within ends = ap (λ (xs : List ℕ). byte ∷ xs) (parts-at rest end (omega (arith, within)) ends)
+parts-at (byte ∷ rest) (suc end) within ends =
+    let same : suc (end + 1) ≡ suc end + 1 = omega arith in
+    ap (λ (xs : List ℕ). byte ∷ xs) (parts-at rest end (omega (arith, within)) ends)
+    ∙ ap (λ (n : ℕ). byte ∷ (take end rest ++ 10 ∷ drop n (byte ∷ rest))) same
 
 -- no line end stands before the first
 pub none-before : (rest : List ℕ) (end : ℕ) → end ≤ length rest → Nowhere (Passes (is_byte 10) rest) 0 end → NoEnds (take end rest)

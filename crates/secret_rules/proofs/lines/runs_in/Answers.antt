@@ -9,7 +9,7 @@ pub push_marks-requires-clause-numbered : goal.push_marks-requires-clause-number
 push_marks-requires-clause-numbered g c = λ mark there.
     let stated = c.requires.marks in
     marks-numbered stated.0 stated.1 c.args.line.now c.args.marks.now c.args.setting.now.patterns greatest_index stated.3
-    (omega (arith, stated.2.whole, c.as_usize-_whole.ensures.value, c.as_usize-_whole.ensures.bound)) mark there
+    (omega (arith, stated.2.whole, c.as_usize-whole.ensures.value, c.as_usize-whole.ensures.bound)) mark there
 
 pub push_marks-requires-clause-ordered : goal.push_marks-requires-clause-ordered
 push_marks-requires-clause-ordered g c = λ mark there.

@@ -4,8 +4,8 @@ use Rattle.secret_rules.specs.declared.rule.Rule.{Rule}
 use Rattle.secret_rules.proofs.Covered.{numbers-fit, patterns-counted}
 use Rattle.secret_rules.proofs.line_cover.LineCover.new.Goals as goal
 
-pub whole_number-requires : goal.whole_number-requires
-whole_number-requires g c = record {
+pub whole_number-whole-requires : goal.whole_number-whole-requires
+whole_number-whole-requires g c = record {
   few = omega (
     arith,
     ap length c.as_slice.ensures.same,

@@ -120,11 +120,11 @@ returns-clause-writes g c =
     let inv = c.lines.invariant in
     let self = c.args.self.now in
     let rest = c.lines.rest.now in
-    let added = c.in_ok-add-in_default.ensures in
+    let added = c.in_ok-add-2.ensures in
     taken-all g.W.Sink g.P.Pieces (AreSearchedFor g.A.Automaton self.setting.automaton) self.setting.words (line_rules self) self.setting.most (g.P.Pieces.rule c.args.pieces.now)
     self c.lines.self c.args.pieces.now c.lines.pieces c.args.sink.now c.lines.sink c.args.counts.now c.lines.counts c.args.bytes.now rest inv.taken
-    c.add-in_default.new.self c.add-in_default.new.pieces c.in_default.ensures
-    (λ b r st. stands-more g.P.Pieces c.lines.self c.add-in_default.new.self c.lines.pieces c.add-in_default.new.pieces b r rest st added.marker (added.read r st.has))
+    c.add-2.new.self c.add-2.new.pieces c.in_default.ensures
+    (λ b r st. stands-more g.P.Pieces c.lines.self c.add-2.new.self c.lines.pieces c.add-2.new.pieces b r rest st added.marker (added.read r st.has))
 
 pub returns-clause-tells : goal.returns-clause-tells
 returns-clause-tells g c = record { write_failed = c.lines.invariant.failures; took_nothing = c.lines.invariant.empty_writes; only = tt }
