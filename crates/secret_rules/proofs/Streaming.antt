@@ -40,7 +40,7 @@ written-unread (Read fault) written filled = written
 written-unread (Write fault) written filled = filled
 written-unread WriteZero written filled = filled
 written-unread Memory written filled = written
-written-unread PositionLimit written filled = filled
+written-unread PositionLimit written filled = written
 
 pub line-unread : (rules : List Rule) (error : LineError) → IsLineRefusal rules error → IsReadFailure error → ⊥
 line-unread rules (Stream error) refused read = written-unread error refused read

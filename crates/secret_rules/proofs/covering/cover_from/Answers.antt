@@ -6,6 +6,7 @@ use Rattle.aho_cover.proofs.Written.{if_err, if_ok}
 use Rattle.secret_rules.specs.Lines.{last_line}
 use Rattle.secret_rules.specs.OpenLines.{TellsLine, line_rules}
 use Rattle.secret_rules.specs.LineCovers.{AreSearchedFor}
+use Rattle.secret_rules.specs.declared.error.LineError.TheVariants.{Stream}
 use Rattle.secret_rules.proofs.Same.{all-stop-same, goes-same, setting-same, stops-same, tells-same, writes-same}
 use Rattle.secret_rules.proofs.Streaming.{errors-line, errors-read, going-begins, going-covers, going-ends, going-first, going-kept, going-more, going-read, going-stops, going-whole, leaves-ended, leaves-read, leaves-written, line-fails, line-unread, lines-fail, lines-unread, no-bytes, read-fails, tells-flush}
 use Rattle.secret_rules.proofs.covering.cover_from.Goals as goal
@@ -28,7 +29,7 @@ pub returns-in_err-flush-clause-leaves : goal.returns-in_err-flush-clause-leaves
 returns-in_err-flush-clause-leaves g c =
     let told = err_from_is_err_and c.from_residual.result c.from_residual.ensures.1 in
     let going = going-kept _ _ _ _ _ _ _ _ _ _ _ _ _ _ _ c.flush.new.self _ c.reads.invariant.going c.in_err-flush.ensures.kept in
-    rw (told.1, told.2) (leaves-written _ _ _ _ _ _ _ _ _ _ _ _ _ _ (going-begins _ _ _ _ _ _ _ _ _ _ _ _ _ _ _ _ going) (line-unread (line_rules c.args.line.now) _ c.in_err-flush.ensures.only))
+    rw (told.1, told.2) (leaves-written _ _ _ _ _ _ _ _ _ _ _ _ _ _ (going-begins _ _ _ _ _ _ _ _ _ _ _ _ _ _ _ _ going) (line-unread (line_rules c.args.line.now) (Stream c.in_err-flush.field-0.0) c.in_err-flush.ensures.only))
 
 pub returns-in_err-flush-clause-errors : goal.returns-in_err-flush-clause-errors
 returns-in_err-flush-clause-errors g c =
@@ -41,7 +42,7 @@ returns-in_err-flush-clause-errors g c =
 pub returns-in_err-flush-clause-only : goal.returns-in_err-flush-clause-only
 returns-in_err-flush-clause-only g c =
     let told = err_from_is_err_and c.from_residual.result c.from_residual.ensures.1 in
-    rw (told.1, told.2) (line-fails (line_rules c.args.line.now) _ c.in_err-flush.ensures.only)
+    rw (told.1, told.2) (line-fails (line_rules c.args.line.now) (Stream c.in_err-flush.field-0.0) c.in_err-flush.ensures.only)
 
 -- no read was made, or it failed
 pub returns-in_err-more-clause-leaves : goal.returns-in_err-more-clause-leaves

@@ -128,3 +128,9 @@ returns-clause-writes g c =
 
 pub returns-clause-tells : goal.returns-clause-tells
 returns-clause-tells g c = record { write_failed = c.lines.invariant.failures; took_nothing = c.lines.invariant.empty_writes; only = tt }
+
+pub returns-in_err-add-2-clause-stops : goal.returns-in_err-add-2-clause-stops
+returns-in_err-add-2-clause-stops g c =
+    let self = c.args.self.now in
+    on_err c.from_residual-in_err-add-2.result _ (taken-stops g.W.Sink g.P.Pieces (AreSearchedFor g.A.Automaton self.setting.automaton) self.setting.words (line_rules self) self.setting.most (g.P.Pieces.rule c.args.pieces.now)
+    self c.lines.self c.args.pieces.now c.lines.pieces c.args.sink.now c.lines.sink c.args.counts.now c.lines.counts c.args.bytes.now c.lines.rest.now c.lines.invariant.taken)
