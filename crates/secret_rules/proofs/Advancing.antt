@@ -109,9 +109,9 @@ module _ {W : Type 0} (K : SinkGhosts W) (Searched : Patterns → Type 0) (words
     goes_on = λ p rest all searched are.
         let split = ap (lines_from read) (append_assoc bytes more rest) ∙ first.splits (more ++ rest) in
         let parts = runs-split (covering_by words rules most p) before first.lines (lines_from read' (more ++ rest)) first.runs all (first.runs_are p searched)
-            (subst (λ (ls : List Line). AreLineRuns (covering_by words rules most p) before ls all) split are) in
+        (subst (λ (ls : List Line). AreLineRuns (covering_by words rules most p) before ls all) split are) in
         let later = second.goes_on p rest parts.0 searched
-            (subst (λ (b : List (List ℕ)). AreLineRuns (covering_by words rules most p) b (lines_from read' (more ++ rest)) parts.0) (sym first.seen) parts.2) in
+        (subst (λ (b : List (List ℕ)). AreLineRuns (covering_by words rules most p) b (lines_from read' (more ++ rest)) parts.0) (sym first.seen) parts.2) in
         subst (λ (ls : List Line). BeginsNextLine rule (first.lines ++ second.lines) (first.runs ++ second.runs) second.part ls all) (sym split)
         (subst (BeginsNextLine rule (first.lines ++ second.lines) (first.runs ++ second.runs) second.part (first.lines ++ lines_from read' (more ++ rest))) (sym parts.1)
         (BeginsNextLine-behind rule first.lines second.lines (lines_from read' (more ++ rest)) first.runs second.runs parts.0 second.part later));

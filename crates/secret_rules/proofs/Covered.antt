@@ -53,7 +53,7 @@ searched-full G (Some a) p laws can searched words line m counts =
     counts-full words p line m (subst (λ (lengths : List ℕ). 1 ≤ shortest lengths) (laws a.now searched) can.full) counts
 
 module _ (covering : Covering) (before : List (List ℕ)) (line : List ℕ) (short : length line ≤ covering.most)
-  (found : List Occurrence) (marks : List Mark) (stand : StandForAll (CountsIn covering.words covering.patterns line) found) (all : AreAllMarks covering.rules before line marks) where
+    (found : List Occurrence) (marks : List Mark) (stand : StandForAll (CountsIn covering.words covering.patterns line) found) (all : AreAllMarks covering.rules before line marks) where
   -- what was found of the patterns, and the marks, stand for all that is covered
   pub covered-standing : StandForAll (CoveredIn covering before line) (found ++ map (marked (length covering.patterns.words)) marks)
   covered-standing = record {
@@ -116,8 +116,7 @@ runs-lie Member line runs within are =
         → LieFrom line at rest
     from [] at listed low after each = low
     from (run ∷ rest) at listed low after each =
-        let is = each run (inl refl) in
-        (
+        let is = each run (inl refl) in (
           after run (inl refl),
           omega (arith, is.stretch.some),
           from rest run.end listed.1 (ends run is) (λ later there. omega (arith, listed.0 later there)) (λ later there. each later (inr there)),
@@ -179,9 +178,9 @@ none-standing words p line none = record {
 
 -- what was found of a line by a setting and rules
 module _ {A : Type 0} (G : Automata A) (setting : Setting A) (rules : List Rule) (is : IsSetting G setting rules) (before : List (List ℕ)) (line : List ℕ) (short : length line ≤ setting.most)
-  (marks : List Mark) (all : AreAllMarks rules before line marks) (p : Patterns) (searched : AreSearchedFor G setting.automaton p)
-  (laws : (a : A) → G.is_of a p → G.lengths a ≡ map length p.words)
-  (found found' : List Occurrence) (stand : StandForAll (CountsIn setting.words p line) found) (pushed : found' ≡ found ++ map (marked setting.patterns) marks) where
+    (marks : List Mark) (all : AreAllMarks rules before line marks) (p : Patterns) (searched : AreSearchedFor G setting.automaton p)
+    (laws : (a : A) → G.is_of a p → G.lengths a ≡ map length p.words)
+    (found found' : List Occurrence) (stand : StandForAll (CountsIn setting.words p line) found) (pushed : found' ≡ found ++ map (marked setting.patterns) marks) where
   found-is : found' ≡ found ++ map (marked (length p.words)) marks
   found-is = pushed ∙ ap (λ (n : ℕ). found ++ map (marked n) marks) (sym (is.patterns p searched))
 
@@ -209,16 +208,3 @@ marks-numbered rules before line marks patterns most all few mark there =
 
 pub marks-ordered : (rules : List Rule) (before : List (List ℕ)) (line : List ℕ) (marks : List Mark) → AreAllMarks rules before line marks → (mark : Mark) → IsMember marks mark → mark.start ≤ mark.end
 marks-ordered rules before line marks all mark there = (let is = (all mark).0 there in omega (arith, is.marks.0))
-
--- one mark more was added
-take-here : (marks : List Mark) (i : ℕ) (mark : Mark) → i < length marks → mark ≡ get_or marks i mark → take (i + 1) marks ≡ take i marks ++ mark ∷ []
-take-here marks i mark within is = take_more marks i mark within ∙ ap (λ (m : Mark). take i marks ++ m ∷ []) (sym is)
-
-pub pushed-more : (old found found' : List Occurrence) (patterns : ℕ) (marks : List Mark) (i : ℕ) (mark : Mark) → i < length marks → mark ≡ get_or marks i mark
-    → found ≡ old ++ map (marked patterns) (take i marks) → found' ≡ found ++ marked patterns mark ∷ [] → found' ≡ old ++ map (marked patterns) (take (i + 1) marks)
-pushed-more old found found' patterns marks i mark within is were more =
-    more
-    ∙ ap (λ (xs : List Occurrence). xs ++ marked patterns mark ∷ []) were
-    ∙ append_assoc old (map (marked patterns) (take i marks)) (marked patterns mark ∷ [])
-    ∙ ap (λ (xs : List Occurrence). old ++ xs) (sym (map-append (marked patterns) (take i marks) (mark ∷ [])))
-    ∙ ap (λ (ms : List Mark). old ++ map (marked patterns) ms) (sym (take-here marks i mark within is))

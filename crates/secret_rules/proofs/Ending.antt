@@ -100,7 +100,7 @@ module _ {W : Type 0} (K : SinkGhosts W) (Searched : Patterns → Type 0) (words
   long-stopped sink sink' counts before read end number long numbered part =
       stops-part sink sink' counts before (line_with read end) (occurrence 0 (length read) number ∷ [])
       (λ p searched. subst (λ (n : ℕ). AreRunsOf (CoveredIn (covering_by words rules most p) before read) (occurrence 0 (length read) n ∷ [])) (sym (numbered p searched))
-          (whole-runs (covering_by words rules most p) before read long))
+      (whole-runs (covering_by words rules most p) before read long))
       (subst (AppendsBeginning (K.taken sink) (K.taken sink')) (sym (long-cover read end number)) part)
 
 -- the runs of a line are told of the same bytes

@@ -193,31 +193,29 @@ module _ (Old New : Occurrence → Type 0) (m : Occurrence) (one : IsOneMore Old
 
     -- and beats the longest
     longest-beats : Beats m hand.longest → IsLongestFrom New m.start m
-    longest-beats more =
-        (
-          (one.own, refl),
-          λ other h. elim (one.new other h.0) [
-            | inl old ↦ elim (joined.first.1 other (old, omega (arith, h.1, more.0))) [
-              | inl e ↦ inr (subst (IsBefore LeftmostLongest m) (sym e) (beats-before m hand.longest more))
-              | inr later ↦ inr (IsBefore-trans LeftmostLongest m hand.longest other (beats-before m hand.longest more) later)
-            ]
-            | inr same ↦ inl same
-          ],
-        )
+    longest-beats more = (
+      (one.own, refl),
+      λ other h. elim (one.new other h.0) [
+        | inl old ↦ elim (joined.first.1 other (old, omega (arith, h.1, more.0))) [
+          | inl e ↦ inr (subst (IsBefore LeftmostLongest m) (sym e) (beats-before m hand.longest more))
+          | inr later ↦ inr (IsBefore-trans LeftmostLongest m hand.longest other (beats-before m hand.longest more) later)
+        ]
+        | inr same ↦ inl same
+      ],
+    )
 
     -- or does not
     longest-stays : (Beats m hand.longest → ⊥) → IsLongestFrom New hand.longest.start hand.longest
-    longest-stays lost =
-        (
-          (one.kept hand.longest joined.first.0.0, refl),
-          λ other h. elim (one.new other h.0) [
-            | inl old ↦ joined.first.1 other (old, h.1)
-            | inr e ↦ elim (loses m hand.longest (omega (arith, h.1, ap (λ (o : Occurrence). o.start) e)) lost) [
-              | inl f ↦ inl (e ∙ f)
-              | inr f ↦ inr (subst (IsBefore LeftmostLongest hand.longest) (sym e) f)
-            ]
-          ],
-        )
+    longest-stays lost = (
+      (one.kept hand.longest joined.first.0.0, refl),
+      λ other h. elim (one.new other h.0) [
+        | inl old ↦ joined.first.1 other (old, h.1)
+        | inr e ↦ elim (loses m hand.longest (omega (arith, h.1, ap (λ (o : Occurrence). o.start) e)) lost) [
+          | inl f ↦ inl (e ∙ f)
+          | inr f ↦ inr (subst (IsBefore LeftmostLongest hand.longest) (sym e) f)
+        ]
+      ],
+    )
 
     longest-grown : (grown : Open) → IsGrown hand m grown → IsLongestFrom New grown.longest.start grown.longest × (grown.longest.start ≡ hand.longest.start)
     longest-grown grown is =

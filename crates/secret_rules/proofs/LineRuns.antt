@@ -94,8 +94,7 @@ module _ (covering : Covering) where
   runs-split before (line ∷ lines) later (own ∷ runs) [] are whole = absurd whole
   runs-split before (line ∷ lines) later (own ∷ runs) (other ∷ all) are whole =
       let rest = runs-split (before ++ seen_line covering.most line.bytes ∷ []) lines later runs all are.1 whole.1 in
-      let one : other ≡ own = runs-unique (CoveredIn covering before line.bytes) other own whole.0 are.0 in
-      (
+      let one : other ≡ own = runs-unique (CoveredIn covering before line.bytes) other own whole.0 are.0 in (
         rest.0,
         ap (λ (o : List Occurrence). o ∷ all) one ∙ ap (λ (rs : List (List Occurrence)). own ∷ rs) rest.1,
         subst (λ (b : List (List ℕ)). AreLineRuns covering b later rest.0) (seen-next before line lines) rest.2,

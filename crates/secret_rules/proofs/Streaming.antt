@@ -297,7 +297,7 @@ module _ {A R W P : Type 0} (S : SourceGhosts R) (K : SinkGhosts W) (Q : PieceGh
     goes_on = λ p bytes all searched may are.
         let lines = ap stream_lines (may.1 ∙ ap (λ (xs : List ℕ). going.given ++ xs) may.2) ∙ going.writes.splits [] in
         let parts = runs-split (covering_by words rules most p) [] going.writes.lines (last_line going.read ∷ []) going.writes.runs all (going.writes.runs_are p searched)
-            (subst (λ (ls : List Line). AreLineRuns (covering_by words rules most p) [] ls all) lines are) in
+        (subst (λ (ls : List Line). AreLineRuns (covering_by words rules most p) [] ls all) lines are) in
         let last = last-of p parts.0 (subst (λ (b : List (List ℕ)). AreLineRuns (covering_by words rules most p) b (last_line going.read ∷ []) parts.0) (sym going.writes.seen) parts.2) in
         record {
           next = last_line going.read;

@@ -31,8 +31,8 @@ parts-at (byte ∷ rest) (suc end) within ends =
 pub none-before : (rest : List ℕ) (end : ℕ) → end ≤ length rest → Nowhere (Passes (is_byte 10) rest) 0 end → NoEnds (take end rest)
 none-before rest end within none =
     λ k low high ends.
-        let short : k < end = omega (arith, high, length-take-le end rest within) in
-        none k low short (subst (λ (b : ℕ). (b == 10) ≡ true) (get_or-take end rest k 0 short) ends)
+    let short : k < end = omega (arith, high, length-take-le end rest within) in
+    none k low short (subst (λ (b : ℕ). (b == 10) ≡ true) (get_or-take end rest k 0 short) ends)
 
 -- bytes up to a line end that was found, the line end, and those behind it
 pub parts-found : (rest later : List ℕ) (end : ℕ) → end < length rest → (slice_index rest end == 10) ≡ true → later ≡ drop (end + 1) rest → rest ≡ take end rest ++ 10 ∷ later

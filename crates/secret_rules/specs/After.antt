@@ -1,6 +1,5 @@
 -- The expression of what stands behind a keyword.
 use Rattle.std.specs.Prelude.{ℕ, List, ◌++◌, chars, codes, encode_utf8_all}
-
 use Rattle.regex_syntax.specs.Verdict.{escaped_text}
 
 -- the keyword as it is written, with ASCII letters the same in both cases; then blanks, quotes, `=` and `:`, as many as there are; and

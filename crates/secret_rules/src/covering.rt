@@ -188,5 +188,12 @@ pub fn cover_lines<A: Automaton, R: Source, W: Sink, P: Pieces>(
     ensures rule { P.rule pieces.new ≡ P.rule pieces.old }
 {
     cover.open_line.restart();
-    cover_from(&mut cover.open_line, &mut cover.buffer, source, sink, pieces, counts)
+    cover_from(
+        &mut cover.open_line,
+        &mut cover.buffer,
+        source,
+        sink,
+        pieces,
+        counts,
+    )
 }

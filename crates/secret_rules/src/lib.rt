@@ -22,8 +22,8 @@ mod rules;
 mod writing;
 
 pub use builtin::BUILTIN;
-pub use error::{LineError, MarkError, RulesError};
 pub use covering::cover_lines;
+pub use error::{LineError, MarkError, RulesError};
 pub use line_cover::LineCover;
 pub use marker::Marker;
 pub use marks::Mark;

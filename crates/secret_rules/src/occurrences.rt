@@ -67,12 +67,7 @@ fn ends_with_last(found: &[Match], m: &Match) -> bool
 }
 
 /// Adds an occurrence that counts, unless the last of what was found ends where it does.
-fn push_one(
-    words: bool,
-    line: &[u8],
-    m: Match,
-    found: &mut Vec<Match>,
-) -> Result<(), AllocError>
+fn push_one(words: bool, line: &[u8], m: Match, found: &mut Vec<Match>) -> Result<(), AllocError>
     ensures picks { OnOk result (PicksOne words line.now m found.old.items found.new.items) }
 {
     if !counts(words, line, &m) || ends_with_last(found, &m) {

@@ -1,6 +1,5 @@
 //! What covers lines, and the line that is being read.
 
-
 use crate::marker::Marker;
 use crate::marks::Mark;
 use aho_core::search::{Match, PatternID};

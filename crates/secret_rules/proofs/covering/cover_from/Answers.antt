@@ -90,10 +90,10 @@ returns-then-more-eq0-clause-leaves g c =
     let tells = tells-same g.W.Sink (line_rules now) (line_rules line) c.flush.new.self c.flush.new.self c.end.new.sink c.end.result inv.rules refl refl c.end.ensures.tells in
     leaves-ended _ _ _ _ _ _ _ _ _ _ c.refill.new.source c.end.new.sink c.end.new.counts c.end.result
     (if_ok c.end.result _ _ (λ writes. going-covers _ _ _ _ _ _ _ _ _ _ _ _ _ _ _ _ _ _ _ flushed read ended
-        (writes-same G now.setting line.setting (line_rules now) (line_rules line) _ _ inv.setting inv.rules inv.rule g.W.Sink c.flush.new.self c.end.new.sink c.reads.counts c.end.new.counts flushed.before (last_line flushed.read) (writes flushed.before flushed.read flushed.stands)))
+    (writes-same G now.setting line.setting (line_rules now) (line_rules line) _ _ inv.setting inv.rules inv.rule g.W.Sink c.flush.new.self c.end.new.sink c.reads.counts c.end.new.counts flushed.before (last_line flushed.read) (writes flushed.before flushed.read flushed.stands)))
     c.end.ensures.writes)
     (if_err c.end.result _ _ (λ stops. going-ends _ _ _ _ _ _ _ _ _ _ _ _ _ _ _ _ _ _ _ flushed read ended
-        (stops-same G now.setting line.setting (line_rules now) (line_rules line) _ _ inv.setting inv.rules inv.rule g.W.Sink c.flush.new.self c.end.new.sink c.reads.counts c.end.new.counts flushed.before (last_line flushed.read) (stops flushed.before flushed.read flushed.stands)))
+    (stops-same G now.setting line.setting (line_rules now) (line_rules line) _ _ inv.setting inv.rules inv.rule g.W.Sink c.flush.new.self c.end.new.sink c.reads.counts c.end.new.counts flushed.before (last_line flushed.read) (stops flushed.before flushed.read flushed.stands)))
     c.end.ensures.stops)
     (lines-unread (line_rules line) c.end.result tells.only)
 

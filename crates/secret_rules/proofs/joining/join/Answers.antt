@@ -27,7 +27,7 @@ loop-m-preserved c =
     (WereJoined-more (take i items) c.loop-m.runs.items c.join_one.new.runs.items c.loop-m.hand m c.in_ok-join_one.field-0 c.loop-m.invariant c.in_ok-join_one.ensures.joins
     (full m here) (λ x there. full x (member-take items i x there))
     (λ x there. subst (λ (o : Occurrence). x.start ≤ o.start) (sym c.m-item.is)
-        (take-ordered (λ (o : Occurrence). o.start) items i x m (subst (IsNonDecreasingBy (λ (o : Occurrence). o.start)) (sym same) c.put_in_order.ensures.order) within there)))
+    (take-ordered (λ (o : Occurrence). o.start) items i x m (subst (IsNonDecreasingBy (λ (o : Occurrence). o.start)) (sym same) c.put_in_order.ensures.order) within there)))
 
 pub returns : goal.returns
 returns c =
@@ -39,6 +39,6 @@ returns c =
     record {
       runs = if_ok c.push_last.result _ _
           (λ pushed. subst (AreRunsOf (IsMember c.args.found.now.items)) (sym pushed)
-              (AreRunsOf-same (IsMember found) (IsMember c.args.found.now.items) (with_hand c.loop-m.runs.items c.loop-m.hand) (λ x there. (c.put_in_order.ensures.same x).0 there) (λ x there. (c.put_in_order.ensures.same x).1 there) runs))
+          (AreRunsOf-same (IsMember found) (IsMember c.args.found.now.items) (with_hand c.loop-m.runs.items c.loop-m.hand) (λ x there. (c.put_in_order.ensures.same x).0 there) (λ x there. (c.put_in_order.ensures.same x).1 there) runs))
           c.push_last.ensures.pushed;
     }

@@ -33,7 +33,7 @@ pub returns-clause-runs : goal.returns-clause-runs
 returns-clause-runs g c =
     if_ok c.join.result _ _
     (λ are rules before is all p searched. setting-runs g.A.Automaton c.args.setting.now rules is before c.args.line.now c.requires.short c.args.marks.now all p searched (λ a of. (g.met.A.Automaton.laws a p of).lengths_are)
-        c.find_patterns.new.found.items c.push_marks.new.found.items (c.in_ok-find_patterns.ensures.stand p searched) c.in_ok-push_marks.ensures.pushed c.join.new.runs.items are)
+    c.find_patterns.new.found.items c.push_marks.new.found.items (c.in_ok-find_patterns.ensures.stand p searched) c.in_ok-push_marks.ensures.pushed c.join.new.runs.items are)
     c.join.ensures.runs
 
 pub returns-clause-lie : goal.returns-clause-lie
@@ -43,5 +43,5 @@ returns-clause-lie g c =
     let some = some-searched g.A.Automaton setting.automaton stated.2.searches in
     if_ok c.join.result _ _
     (λ are. setting-lie g.A.Automaton setting stated.0 stated.2 stated.1 c.args.line.now c.requires.short c.args.marks.now stated.3 some.0 some.1 (λ a of. (g.met.A.Automaton.laws a some.0 of).lengths_are)
-        c.find_patterns.new.found.items c.push_marks.new.found.items (c.in_ok-find_patterns.ensures.stand some.0 some.1) c.in_ok-push_marks.ensures.pushed c.join.new.runs.items (marks-within stated.0 stated.1 c.args.line.now c.args.marks.now stated.3) are)
+    c.find_patterns.new.found.items c.push_marks.new.found.items (c.in_ok-find_patterns.ensures.stand some.0 some.1) c.in_ok-push_marks.ensures.pushed c.join.new.runs.items (marks-within stated.0 stated.1 c.args.line.now c.args.marks.now stated.3) are)
     c.join.ensures.runs

@@ -10,6 +10,6 @@ returns g c = record {
   stand = λ p of.
       if_ok c.push_counted.result _ _
       (λ ran. counts-standing c.args.words p c.args.line.now ran.0.items c.push_counted.new.found.items
-          (c.in-Ok.ensures.lists p of ran.0 ran.0.seen ran.1 ran.2 ∙ ap (λ (s : Search). all_occurrences p s.haystack s.start s.end) c.new.ensures.whole) ran.3)
+      (c.in-Ok.ensures.lists p of ran.0 ran.0.seen ran.1 ran.2 ∙ ap (λ (s : Search). all_occurrences p s.haystack s.start s.end) c.new.ensures.whole) ran.3)
       c.push_counted.ensures.picks;
 }

@@ -33,7 +33,7 @@ returns-in_err-write_run-clause-beginning g c =
     let written = subst (λ (rs : List Occurrence). HasWritten (g.W.Sink.taken c.args.sink.now) (g.W.Sink.taken c.loop-run.sink) c.args.line.now piece c.args.runs.now c.loop-run.at rs)
     (run-here c.args.runs.now c.loop-run.run-index run (omega arith) c.run-item.is) c.loop-run.invariant.written in
     on_err c.from_residual.result _ (written-part (g.W.Sink.taken c.args.sink.now) (g.W.Sink.taken c.loop-run.sink) (g.W.Sink.taken c.write_run.new.sink) c.args.line.now piece c.args.runs.now c.loop-run.at run left written c.args.end.now
-        (rw c.loop-run.invariant.rule at c.in_err-write_run.ensures.beginning))
+    (rw c.loop-run.invariant.rule at c.in_err-write_run.ensures.beginning))
 
 pub loop-run-preserved : goal.loop-run-preserved
 loop-run-preserved g c =

@@ -19,5 +19,5 @@ returns-clause-read g c = λ read has.
     let kept = has.kept c.if-self.false in
     if_ok c.extend_from_slice.result _ _
     (λ items. read-kept g.P.Pieces c.args.self.now (record c.args.self.now { line = c.extend_from_slice.new.self }) c.args.pieces.now c.args.pieces.now read c.args.bytes.now has refl c.if-self.false c.if-self.false
-        (omega (arith, c.if-bytes-room.false, c.saturating_sub-room.ensures, ap length c.as_slice-line.ensures.value, ap length kept.0, kept.1)) items)
+    (omega (arith, c.if-bytes-room.false, c.saturating_sub-room.ensures, ap length c.as_slice-line.ensures.value, ap length kept.0, kept.1)) items)
     (bytes-kept c.extend_from_slice.result c.args.self.now.line.items c.args.bytes.now c.extend_from_slice.new.self.items c.extend_from_slice.ensures.items)

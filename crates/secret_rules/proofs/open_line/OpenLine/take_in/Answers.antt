@@ -32,8 +32,7 @@ pub end-requires-clause-stands : goal.end-requires-clause-stands
 end-requires-clause-stands g c =
     let (before, read, stands) = c.requires.stands in
     let so_far = c.lines.invariant.taken.goes before read stands in
-    let part = take c.in-Some.end c.lines.rest.now in
-    (
+    let part = take c.in-Some.end c.lines.rest.now in (
       so_far.before',
       so_far.read' ++ part,
       stands-more g.P.Pieces c.lines.self c.add.new.self c.lines.pieces c.add.new.pieces so_far.before' so_far.read' part so_far.stands c.in_ok-add.ensures.marker (c.in_ok-add.ensures.read so_far.read' so_far.stands.has),
@@ -65,11 +64,11 @@ lines-preserved g c =
           (none-before rest end (omega (arith, found.0.high)) found.0.before)
           (parts-found rest _ end found.0.high found.1 later)
           (λ before read stands.
-              let more = stands-more g.P.Pieces c.lines.self c.add.new.self c.lines.pieces c.add.new.pieces before read part stands added.marker (added.read read stands.has) in (
-                writes-same g.A.Automaton c.add.new.self.setting self.setting (line_rules c.add.new.self) (line_rules self) (g.P.Pieces.rule c.add.new.pieces) (g.P.Pieces.rule c.args.pieces.now) same_setting same_rules same_rule
-                    g.W.Sink c.lines.sink c.end.new.sink c.lines.counts c.end.new.counts before (ended_line (read ++ part)) (ended.writes before (read ++ part) more),
-                stands-same g.P.Pieces c.add.new.self.setting self.setting c.end.new.self c.end.new.pieces before (read ++ part) same_setting (ended.stands before (read ++ part) more),
-              ));
+          let more = stands-more g.P.Pieces c.lines.self c.add.new.self c.lines.pieces c.add.new.pieces before read part stands added.marker (added.read read stands.has) in (
+            writes-same g.A.Automaton c.add.new.self.setting self.setting (line_rules c.add.new.self) (line_rules self) (g.P.Pieces.rule c.add.new.pieces) (g.P.Pieces.rule c.args.pieces.now) same_setting same_rules same_rule
+                g.W.Sink c.lines.sink c.end.new.sink c.lines.counts c.end.new.counts before (ended_line (read ++ part)) (ended.writes before (read ++ part) more),
+            stands-same g.P.Pieces c.add.new.self.setting self.setting c.end.new.self c.end.new.pieces before (read ++ part) same_setting (ended.stands before (read ++ part) more),
+          ));
     }
 
 pub lines-smaller : goal.lines-smaller
@@ -104,10 +103,10 @@ returns-in_err-end-clause-stops g c =
     (none-before rest end (omega (arith, found.0.high)) found.0.before)
     (parts-found rest (drop (end + 1) rest) end found.0.high found.1 refl)
     (λ b r st.
-        let more = stands-more g.P.Pieces c.lines.self c.add.new.self c.lines.pieces c.add.new.pieces b r part st added.marker (added.read r st.has) in
-        stops-same g.A.Automaton c.add.new.self.setting self.setting (line_rules c.add.new.self) (line_rules self) (g.P.Pieces.rule c.add.new.pieces) (g.P.Pieces.rule c.args.pieces.now)
-        (added.setting ∙ inv.setting) (ap marker_rules added.marker ∙ inv.rules) (added.rule ∙ inv.rule)
-        g.W.Sink c.lines.sink c.end.new.sink c.lines.counts c.end.new.counts b (ended_line (r ++ part)) (c.in_err-end.ensures.stops b (r ++ part) more)))
+    let more = stands-more g.P.Pieces c.lines.self c.add.new.self c.lines.pieces c.add.new.pieces b r part st added.marker (added.read r st.has) in
+    stops-same g.A.Automaton c.add.new.self.setting self.setting (line_rules c.add.new.self) (line_rules self) (g.P.Pieces.rule c.add.new.pieces) (g.P.Pieces.rule c.args.pieces.now)
+    (added.setting ∙ inv.setting) (ap marker_rules added.marker ∙ inv.rules) (added.rule ∙ inv.rule)
+    g.W.Sink c.lines.sink c.end.new.sink c.lines.counts c.end.new.counts b (ended_line (r ++ part)) (c.in_err-end.ensures.stops b (r ++ part) more)))
 
 pub returns-in_err-end-clause-tells : goal.returns-in_err-end-clause-tells
 returns-in_err-end-clause-tells g c =
