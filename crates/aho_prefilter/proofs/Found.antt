@@ -16,10 +16,11 @@ use Rattle.aho_prefilter.specs.Packed.{IsFirstMet}
 use Rattle.aho_prefilter.specs.Prefilter.{AllBeginWithin, IsOnlyPattern, IsPrefilterOf}
 use Rattle.aho_prefilter.specs.declared.prefilter.Candidate.{Candidate}
 use Rattle.aho_prefilter.specs.declared.prefilter.Searcher.{Searcher}
-use Rattle.aho_prefilter.specs.declared.prefilter.Searcher.TheVariants.{Memmem, Memchr, Memchr2, Memchr3, Packed, PackedHeads, Strided}
+use Rattle.aho_prefilter.specs.declared.prefilter.Searcher.TheVariants.{Memmem, Memchr, Memchr2, Memchr3, Packed, PackedHeads, Windows, Strided}
 use Rattle.aho_prefilter.proofs.HeadsFinds.{heads-none, heads-start}
 use Rattle.aho_prefilter.proofs.PackedFinds.{packed-none, packed-start}
 use Rattle.aho_prefilter.proofs.StridedFinds.{strided-none, strided-start}
+use Rattle.aho_prefilter.proofs.WindowsFinds.{windows-none, windows-start}
 use Rattle.aho_prefilter.proofs.Parts.{length_part, is_only, starts_pass, OccursAt-only, Occurs-from_part}
 
 -- a byte that is one of these passes their test
@@ -114,6 +115,7 @@ module _ (p : Patterns) (haystack : List ℕ) (start end : ℕ) (ordered : start
   no_stop (Memchr3 x y z) is none = no_byte (x ∷ y ∷ z ∷ []) (is_byte3 x y z) (is_byte3-has x y z) is none
   no_stop (Packed packed) is none = packed-none p is.some haystack start end ordered within (subst (λ q. IsFirstMet q (slice_range haystack start end) None) is.made none)
   no_stop (PackedHeads search) is none = heads-none p search is haystack start end ordered within none
+  no_stop (Windows windows) is none = windows-none p windows is haystack start end ordered within none
   no_stop (Strided marks) is none = strided-none p marks is haystack start end ordered within none
 
   -- where it stops at a place, its answer is a candidate
@@ -124,6 +126,7 @@ module _ (p : Patterns) (haystack : List ℕ) (start end : ℕ) (ordered : start
   stop (Memchr3 x y z) at is found = first_byte (x ∷ y ∷ z ∷ []) (is_byte3 x y z) (is_byte3-has x y z) is at found
   stop (Packed packed) at is found = packed-start p is.some haystack start end ordered within at (subst (λ q. IsFirstMet q (slice_range haystack start end) (Some at)) is.made found)
   stop (PackedHeads search) at is found = heads-start p search is haystack start end ordered within at found
+  stop (Windows windows) at is found = windows-start p windows is haystack start end ordered within at found
   stop (Strided marks) at is found = strided-start p marks is haystack start end ordered within at found
 
   stop_or_none : (searcher : Searcher) (at : Option ℕ) → IsPrefilterOf searcher p → StopsFirst searcher (slice_range haystack start end) at → IsCandidate p haystack start end (answer_in searcher start at)

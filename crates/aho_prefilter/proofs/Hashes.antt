@@ -2,8 +2,7 @@
 use Rattle.std.proofs.Common.{◌≡◌, ℕ, ◌+◌, ◌-◌, ◌*◌, ◌%◌, ◌^◌, ◌<◌, ◌≤◌, zero, suc, Bool, List, get_or, refl, sym, ap, ◌∙◌, arith}
 use Rattle.std.proofs.Math.Nat.{add-mul-mod_self_right, pow-suc}
 use Rattle.std.proofs.lemmas.Nat.{mul-mod_second, pow-add}
-use Rattle.aho_prefilter.specs.Strided.{caseless, factor_for, gram_hash, half_of, hash_at, hash_of_head, number_of_bytes}
-use Rattle.aho_prefilter.specs.declared.strided.sizes.Sizes.{Sizes}
+use Rattle.aho_prefilter.specs.Strided.{caseless, factor_for, half_of, hash_at, hash_of_head, number_of_bytes}
 
 -- so many bytes of one list from i on are hashed as those of another from j on
 abbrev pub AreSame : Bool → ℕ → List ℕ → ℕ → List ℕ → ℕ → Type 0
@@ -83,10 +82,10 @@ hash_of_head-words rule head bytes at first low last high first_is low_is last_i
     ap (λ n. n * high % 2 ^ 64) last_is ∙ ap (λ n. number_of_bytes rule 8 bytes (at + (head - half_of head)) * n % 2 ^ 64) high_is ∙ hash_at-word rule 0xA076_1D64_78BD_642F (half_of head) bytes (at + (head - half_of head)) (omega arith) in
     ap (λ n. (n + last * high % 2 ^ 64) % 2 ^ 64) front ∙ ap (λ n. (hash_at rule 0xD6E8_FEB8_6659_FD93 (half_of head) bytes at + n) % 2 ^ 64) back
 
--- and that of a gram, by one word
-pub gram_hash-word : (sizes : Sizes) (bytes : List ℕ) (at word factor : ℕ) → sizes.gram ≤ 8 → word ≡ number_of_bytes sizes.ignore_case 8 bytes at → factor ≡ factor_for 0x9E37_79B9_7F4A_7C15 sizes.gram
-    → word * factor % 2 ^ 64 ≡ gram_hash sizes bytes at
-gram_hash-word sizes bytes at word factor short word_is factor_is =
+-- and a hash of its first bytes, by one word
+pub hash_at-factor : (rule : Bool) (number count : ℕ) (bytes : List ℕ) (at word factor : ℕ) → count ≤ 8 → word ≡ number_of_bytes rule 8 bytes at → factor ≡ factor_for number count
+    → word * factor % 2 ^ 64 ≡ hash_at rule number count bytes at
+hash_at-factor rule number count bytes at word factor short word_is factor_is =
     ap (λ n. n * factor % 2 ^ 64) word_is
-    ∙ ap (λ n. number_of_bytes sizes.ignore_case 8 bytes at * n % 2 ^ 64) factor_is
-    ∙ hash_at-word sizes.ignore_case 0x9E37_79B9_7F4A_7C15 sizes.gram bytes at short
+    ∙ ap (λ n. number_of_bytes rule 8 bytes at * n % 2 ^ 64) factor_is
+    ∙ hash_at-word rule number count bytes at short

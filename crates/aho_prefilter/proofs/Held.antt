@@ -13,7 +13,7 @@ use Rattle.aho_prefilter.specs.FirstBytes.{begins_by, cases_of, first_bytes, has
 use Rattle.aho_prefilter.specs.Inside.{few, few_of, search_for_few, whole_of}
 use Rattle.aho_prefilter.specs.Prefilter.{AllBeginWithin, BeginsWithin, IsOnlyPattern, IsPrefilterOf, has_empty, held_for, is_empty, is_searched_whole, search_for, with_word}
 use Rattle.aho_prefilter.specs.declared.prefilter.Searcher.{Searcher}
-use Rattle.aho_prefilter.specs.declared.prefilter.Searcher.TheVariants.{Memmem, Memchr, Memchr2, Memchr3, Packed, PackedHeads, Strided}
+use Rattle.aho_prefilter.specs.declared.prefilter.Searcher.TheVariants.{Memmem, Memchr, Memchr2, Memchr3, Packed, PackedHeads, Windows, Strided}
 use Rattle.aho_prefilter.specs.declared.prefilter.first_bytes.FirstBytes.TheVariants.{None, Any}
 use Rattle.aho_prefilter.proofs.Few.{few_of-none}
 
@@ -213,4 +213,5 @@ IsPrefilterOf-kind p kind (Memchr2 x y) is = λ k below. record { some = (is k b
 IsPrefilterOf-kind p kind (Memchr3 x y z) is = λ k below. record { some = (is k below).some; first = (is k below).first }
 IsPrefilterOf-kind p kind (Packed packed) is = record { some = is.some; made = is.made }
 IsPrefilterOf-kind p kind (PackedHeads search) is = record { size = is.size; some = is.some; short = is.short; long = is.long; tested = is.tested; made = is.made }
+IsPrefilterOf-kind p kind (Windows windows) is = record { size = is.size; some = is.some; short = is.short; long = is.long; tested = is.tested; made = is.made }
 IsPrefilterOf-kind p kind (Strided marks) is = record { rule = is.rule; sizes = is.sizes; each = is.each }

@@ -1,18 +1,20 @@
 -- A search with heads, or a strided one, that is held has its sizes, and is a prefilter of the patterns.
 use Rattle.std.proofs.Common.{◌≡◌, ℕ, ◌<◌, ◌≤◌, zero, suc, Bool, true, false, List, [], ◌∷◌, get_or, length, refl, sym, ap, subst, ◌∙◌, arith, min}
-use Rattle.std.specs.Prelude.{Option, Some, None as Nothing, IfSome, ◌||◌, if◌then◌else◌}
+use Rattle.std.specs.Prelude.{Option, Some, None as Nothing, IfSome, ◌||◌, nat_eq, nat_lt, if◌then◌else◌}
 use Rattle.std.specs.List.{fold}
 use Rattle.std.specs.Option.{option_and_then, option_map, option_or}
 use Rattle.std.proofs.lemmas.Bool.Decides.{nat_tests}
 use Rattle.aho_core.specs.declared.search.MatchKind.{MatchKind}
 use Rattle.aho_core.specs.Patterns.{Patterns}
-use Rattle.aho_prefilter.specs.Prefilter.{AreHeadsOf, AreMarksOf, IsPrefilterOf, heads_or_strided, held_or_packed, if_sparse, packed_heads_for, quickest_for, strided_for, yields}
+use Rattle.aho_prefilter.specs.Prefilter.{AreHeadsOf, AreMarksOf, AreWindowsOf, IsPrefilterOf, heads_or_strided, held_or_packed, if_sparse, packed_heads_for, quickest_for, strided_for, windows_for, windows_or_other, yields}
+use Rattle.aho_prefilter.specs.Windows.{most_before, windows_of, windows_search_of}
+use Rattle.aho_prefilter.specs.declared.packed_heads.Tested.TheVariants.{LowFour}
 use Rattle.aho_prefilter.specs.PackedHeads.{packed_heads_of}
-use Rattle.aho_prefilter.specs.Sizes.{gram_for, heads_for, is_few, is_many, least_head, is_crowded, is_small, shape_of, sizes_for, stride_for, takes, tested_for}
+use Rattle.aho_prefilter.specs.Sizes.{gram_for, has_lines, heads_for, is_few, is_many, least_head, is_crowded, is_small, shape_of, sizes_for, stride_for, takes, tested_for, words_for}
 use Rattle.aho_prefilter.specs.Strided.{AreStrideSizes, marks_of, no_marks}
 use Rattle.aho_prefilter.specs.declared.packed_heads.PackedHeads.{PackedHeads as Fingerprints}
 use Rattle.aho_prefilter.specs.declared.prefilter.Searcher.{Searcher}
-use Rattle.aho_prefilter.specs.declared.prefilter.Searcher.TheVariants.{PackedHeads, Strided}
+use Rattle.aho_prefilter.specs.declared.prefilter.Searcher.TheVariants.{PackedHeads, Windows, Strided}
 use Rattle.aho_prefilter.specs.declared.strided.sizes.Shape.{Shape}
 use Rattle.aho_prefilter.specs.declared.strided.sizes.Sizes.{Sizes}
 use Rattle.aho_prefilter.proofs.HeldPacked.{held_or_packed-kind, held_or_packed-of}
@@ -39,7 +41,7 @@ least_head-each words k below = least-each words 16 k below
 pub sizes_for-sized : (s : Shape) (sizes : Sizes) → s.head ≤ 16 → sizes_for s ≡ Some sizes → AreStrideSizes sizes × (sizes.head ≡ s.head) × (sizes.ignore_case ≡ s.ignore_case)
 sizes_for-sized s sizes few held = by_tests (is_small s) (is_crowded s) refl held
   where
-    made : 5 ≤ s.head → AreStrideSizes (record { gram = gram_for s; stride = stride_for s; head = s.head; ignore_case = s.ignore_case })
+    made : 5 ≤ s.head → AreStrideSizes (record { gram = gram_for s; stride = stride_for s; head = s.head; ignore_case = s.ignore_case; lines = has_lines s; words = words_for s })
     made long = record {
       some = omega arith;
       gram = omega arith;
@@ -50,12 +52,12 @@ sizes_for-sized s sizes few held = by_tests (is_small s) (is_crowded s) refl hel
     }
 
     by_tests : (small crowded : Bool) → is_small s ≡ small
-        → (if small then Nothing else if crowded then Nothing else Some (record { gram = gram_for s; stride = stride_for s; head = s.head; ignore_case = s.ignore_case })) ≡ Some sizes
+        → (if small then Nothing else if crowded then Nothing else Some (record { gram = gram_for s; stride = stride_for s; head = s.head; ignore_case = s.ignore_case; lines = has_lines s; words = words_for s })) ≡ Some sizes
         → AreStrideSizes sizes × (sizes.head ≡ s.head) × (sizes.ignore_case ≡ s.ignore_case)
     by_tests true crowded is other = cc
     by_tests false true is other = cc
     by_tests false false is other =
-        let e : sizes ≡ record { gram = gram_for s; stride = stride_for s; head = s.head; ignore_case = s.ignore_case } = cc in
+        let e : sizes ≡ record { gram = gram_for s; stride = stride_for s; head = s.head; ignore_case = s.ignore_case; lines = has_lines s; words = words_for s } = cc in
         let long : 5 ≤ s.head = grind (arith, nat_tests, is) in
         (subst AreStrideSizes (sym e) (made long), ap (λ (t : Sizes). t.head) e, ap (λ (t : Sizes). t.ignore_case) e)
 
@@ -122,21 +124,60 @@ heads_or_strided-of p searcher held = by_heads (packed_heads_for p) refl held
     by_heads Nothing none is = strided_for-of p searcher is
     by_heads (Some other) there is = packed_heads_for-of p searcher (there ∙ is)
 
+windows_for-of : (p : Patterns) (searcher : Searcher) → windows_for p ≡ Some searcher → IsPrefilterOf searcher p
+windows_for-of p searcher held =
+    by_tests (nat_lt 8 (length p.words) || (nat_eq (most_before p.ignore_case p.words) 0 || nat_lt 64 (most_before p.ignore_case p.words))) (nat_lt (least_head all) 4) refl held
+  where
+    all : List (List ℕ)
+    all = windows_of p.ignore_case p.words
+
+    by_tests : (many small : Bool) → nat_lt (least_head all) 4 ≡ small
+        → (if many then Nothing else if small then Nothing else Some (Windows (windows_search_of p.ignore_case LowFour (least_head all) p.words))) ≡ Some searcher → IsPrefilterOf searcher p
+    by_tests true small is other = cc
+    by_tests false true is other = cc
+    by_tests false false is other =
+        let e : searcher ≡ Windows (windows_search_of p.ignore_case LowFour (least_head all) p.words) = cc in
+        let size : 4 ≤ least_head all = grind (arith, nat_tests, is) in
+        let made : AreWindowsOf p (windows_search_of p.ignore_case LowFour (least_head all) p.words) = record {
+          size = least_head all;
+          some = omega arith;
+          short = least_head-few all;
+          long = λ k below. least_head-each all k below;
+          tested = LowFour;
+          made = refl;
+        } in
+        rw e made
+
+-- where it is held
+pub windows_for-some : (p : Patterns) → length p.words ≤ 8 → 0 < most_before p.ignore_case p.words → most_before p.ignore_case p.words ≤ 64 → 4 ≤ least_head (windows_of p.ignore_case p.words)
+    → Some (Windows (windows_search_of p.ignore_case LowFour (least_head (windows_of p.ignore_case p.words)) p.words)) ≡ windows_for p
+windows_for-some p few some near long =
+    let many : (nat_lt 8 (length p.words) || (nat_eq (most_before p.ignore_case p.words) 0 || nat_lt 64 (most_before p.ignore_case p.words))) ≡ false = grind (arith, nat_tests, few, some, near) in
+    let small : nat_lt (least_head (windows_of p.ignore_case p.words)) 4 ≡ false = grind (arith, nat_tests, long) in
+    rw (many, small) refl
+
+windows_or_other-of : (p : Patterns) (searcher : Searcher) → windows_or_other p ≡ Some searcher → IsPrefilterOf searcher p
+windows_or_other-of p searcher held = by_windows (windows_for p) refl held
+  where
+    by_windows : (windows : Option Searcher) → windows_for p ≡ windows → option_or windows (heads_or_strided p) ≡ Some searcher → IsPrefilterOf searcher p
+    by_windows Nothing none is = heads_or_strided-of p searcher is
+    by_windows (Some other) there is = windows_for-of p searcher (there ∙ is)
+
 -- whatever is held is a prefilter of the patterns
 pub quickest_for-of : (p : Patterns) (searcher : Searcher) → quickest_for p ≡ Some searcher → IsPrefilterOf searcher p
 quickest_for-of p searcher held = by_way (yields (held_or_packed p)) held
   where
-    by_strided : (strided : Option Searcher) → heads_or_strided p ≡ strided → option_or strided (held_or_packed p) ≡ Some searcher → IsPrefilterOf searcher p
+    by_strided : (strided : Option Searcher) → windows_or_other p ≡ strided → option_or strided (held_or_packed p) ≡ Some searcher → IsPrefilterOf searcher p
     by_strided Nothing none is = held_or_packed-of p searcher is
-    by_strided (Some other) there is = heads_or_strided-of p searcher (there ∙ is)
+    by_strided (Some other) there is = windows_or_other-of p searcher (there ∙ is)
 
-    by_way : (way : Bool) → (if way then option_or (heads_or_strided p) (held_or_packed p) else held_or_packed p) ≡ Some searcher → IsPrefilterOf searcher p
-    by_way true is = by_strided (heads_or_strided p) refl is
+    by_way : (way : Bool) → (if way then option_or (windows_or_other p) (held_or_packed p) else held_or_packed p) ≡ Some searcher → IsPrefilterOf searcher p
+    by_way true is = by_strided (windows_or_other p) refl is
     by_way false is = held_or_packed-of p searcher is
 
 -- and it does not depend on the kind
 pub quickest_for-kind : (p : Patterns) (kind : MatchKind) → quickest_for (record p { kind = kind }) ≡ quickest_for p
-quickest_for-kind p kind = ap (λ (other : Option Searcher). if yields other then option_or (heads_or_strided p) other else other) (held_or_packed-kind p kind)
+quickest_for-kind p kind = ap (λ (other : Option Searcher). if yields other then option_or (windows_or_other p) other else other) (held_or_packed-kind p kind)
 
 -- the same of what may be held
 pub held_or_packed-held : (p : Patterns) (held : Option Searcher) → held ≡ held_or_packed p → IfSome held (λ searcher. IsPrefilterOf searcher p)
@@ -144,18 +185,27 @@ held_or_packed-held p Nothing is = tt
 held_or_packed-held p (Some searcher) is = held_or_packed-of p searcher (sym is)
 
 -- where another search is better, it is held
-better-held : (p : Patterns) (other better : Option Searcher) → other ≡ held_or_packed p → yields other ≡ true → heads_or_strided p ≡ better → option_or better other ≡ quickest_for p
+better-held : (p : Patterns) (other better : Option Searcher) → other ≡ held_or_packed p → yields other ≡ true → windows_or_other p ≡ better → option_or better other ≡ quickest_for p
 better-held p other better is way there =
     sym
-    (ap (λ (b : Bool). if b then option_or (heads_or_strided p) (held_or_packed p) else held_or_packed p) (ap yields (sym is) ∙ way)
+    (ap (λ (b : Bool). if b then option_or (windows_or_other p) (held_or_packed p) else held_or_packed p) (ap yields (sym is) ∙ way)
     ∙ ap (λ (o : Option Searcher). option_or o (held_or_packed p)) there
     ∙ ap (λ (o : Option Searcher). option_or better o) (sym is))
 
--- the one with heads, if it is held
-pub quickest_for-heads : (p : Patterns) (other : Option Searcher) (searcher : Searcher) → other ≡ held_or_packed p → yields other ≡ true
+-- the one for windows, if it is held
+pub quickest_for-windows : (p : Patterns) (other : Option Searcher) (searcher : Searcher) → other ≡ held_or_packed p → yields other ≡ true
+    → Some searcher ≡ windows_for p → Some searcher ≡ quickest_for p
+quickest_for-windows p other searcher is way found =
+    better-held p other (Some searcher) is way (ap (λ (o : Option Searcher). option_or o (heads_or_strided p)) (sym found))
+
+without_windows : (p : Patterns) → Nothing ≡ windows_for p → windows_or_other p ≡ heads_or_strided p
+without_windows p none = ap (λ (o : Option Searcher). option_or o (heads_or_strided p)) (sym none)
+
+-- else the one with heads, if it is held
+pub quickest_for-heads : (p : Patterns) (other : Option Searcher) (searcher : Searcher) → other ≡ held_or_packed p → yields other ≡ true → Nothing ≡ windows_for p
     → Some searcher ≡ packed_heads_for p → Some searcher ≡ quickest_for p
-quickest_for-heads p other searcher is way found =
-    better-held p other (Some searcher) is way (ap (λ (o : Option Searcher). option_or o (strided_for p)) (sym found))
+quickest_for-heads p other searcher is way free found =
+    better-held p other (Some searcher) is way (without_windows p free ∙ ap (λ (o : Option Searcher). option_or o (strided_for p)) (sym found))
 
 -- for others the strided one, if it has its sizes
 heads_or_strided-none : (p : Patterns) (found : Option Sizes) → Nothing ≡ packed_heads_for p → sizes_for (shape_of p.ignore_case p.words) ≡ found
@@ -164,11 +214,11 @@ heads_or_strided-none p found none are =
     ap (λ (o : Option Searcher). option_or o (strided_for p)) (sym none)
     ∙ ap (λ (o : Option Sizes). option_map (λ (t : Sizes). Strided (marks_of t p.words)) o) are
 
-pub quickest_for-strided : (p : Patterns) (other : Option Searcher) (sizes : Sizes) → other ≡ held_or_packed p → yields other ≡ true → Nothing ≡ packed_heads_for p
+pub quickest_for-strided : (p : Patterns) (other : Option Searcher) (sizes : Sizes) → other ≡ held_or_packed p → yields other ≡ true → Nothing ≡ windows_for p → Nothing ≡ packed_heads_for p
     → sizes_for (shape_of p.ignore_case p.words) ≡ Some sizes → Some (Strided (marks_of sizes p.words)) ≡ quickest_for p
-quickest_for-strided p other sizes is way none found =
-    better-held p other (Some (Strided (marks_of sizes p.words))) is way (heads_or_strided-none p (Some sizes) none found)
+quickest_for-strided p other sizes is way free none found =
+    better-held p other (Some (Strided (marks_of sizes p.words))) is way (without_windows p free ∙ heads_or_strided-none p (Some sizes) none found)
 
-pub quickest_for-other : (p : Patterns) (other : Option Searcher) → other ≡ held_or_packed p → yields other ≡ true → Nothing ≡ packed_heads_for p
+pub quickest_for-other : (p : Patterns) (other : Option Searcher) → other ≡ held_or_packed p → yields other ≡ true → Nothing ≡ windows_for p → Nothing ≡ packed_heads_for p
     → sizes_for (shape_of p.ignore_case p.words) ≡ Nothing → other ≡ quickest_for p
-quickest_for-other p other is way none found = better-held p other Nothing is way (heads_or_strided-none p Nothing none found)
+quickest_for-other p other is way free none found = better-held p other Nothing is way (without_windows p free ∙ heads_or_strided-none p Nothing none found)

@@ -44,6 +44,8 @@ pub mod Told
 pub mod HeadsSound
 -- what the packed search with heads finds
 pub mod HeadsFinds
+-- what the search for windows finds
+pub mod WindowsFinds
 -- that a search with heads, and a strided one, that is held is a prefilter of the patterns
 pub mod HeldStrided
 -- bytes that are the same by the case rule are hashed alike

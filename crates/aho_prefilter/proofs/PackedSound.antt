@@ -19,10 +19,10 @@ use Rattle.aho_prefilter.proofs.Held.{opposite-same}
 abbrev pub HasBit : ℕ → ℕ → Type 0
 HasBit x i = bit_at x i ≡ 1
 
-HasBit-or_left : (x y i : ℕ) → HasBit x i → HasBit (bit_or x y) i
+pub HasBit-or_left : (x y i : ℕ) → HasBit x i → HasBit (bit_or x y) i
 HasBit-or_left x y i is = omega (arith, is, bit_at_or x y i, bit_at-lt y i)
 
-HasBit-or_right : (x y i : ℕ) → HasBit y i → HasBit (bit_or x y) i
+pub HasBit-or_right : (x y i : ℕ) → HasBit y i → HasBit (bit_or x y) i
 HasBit-or_right x y i is = omega (arith, is, bit_at_or x y i, bit_at-lt x i)
 
 pub HasBit-and : (x y i : ℕ) → HasBit x i → HasBit y i → HasBit (bit_and x y) i

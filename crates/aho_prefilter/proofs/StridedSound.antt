@@ -1,16 +1,16 @@
 -- The bits of words that were added to a strided search are set, so it stops wherever one of them stands.
-use Rattle.std.proofs.Common.{◌≡◌, ℕ, ◌+◌, ◌-◌, ◌*◌, ◌/◌, ◌%◌, ◌^◌, ◌<◌, ◌≤◌, zero, suc, inl, inr, Bool, List, [], ◌∷◌, get_or, length, refl, sym, ap, subst, ◌∙◌, arith, min, max}
+use Rattle.std.proofs.Common.{◌≡◌, ℕ, ◌+◌, ◌-◌, ◌*◌, ◌/◌, ◌%◌, ◌^◌, ◌<◌, ◌≤◌, zero, suc, inl, inr, Bool, true, false, List, [], ◌∷◌, get_or, length, refl, sym, ap, subst, ◌∙◌, arith, min, max}
 use Rattle.std.specs.List.{fold}
 use Rattle.std.proofs.Math.Nat.{mul-lt-mul_of_pos_right}
 use Rattle.std.proofs.lemmas.Bool.{cases_eq}
 use Rattle.std.proofs.lemmas.List.{length-replicate}
 use Rattle.std.proofs.lemmas.Nat.{div-add-mod', div_below, mod_below}
 use Rattle.std.proofs.lemmas.Nat.Bits.{bit_at-pow_same}
-use Rattle.aho_prefilter.specs.Strided.{HasMark, HasMarksOf, AreStrideSizes, AreSoundMarks, IsTable, Marks, MayStartAt, caseless, empty_table, gram_hash, hash_at, head_hash, last_of_stride, marks_of, marks_with, no_marks, place_in, with_grams, with_mark}
+use Rattle.aho_prefilter.specs.Strided.{HasBits, HasMark, HasMarksOf, AreStrideSizes, AreSoundMarks, IsTable, Marks, MayStartAt, caseless, empty_table, gram_hash, gram_place, hash_at, head_hash, head_words, last_of_stride, line_hash, marks_of, marks_with, no_marks, place_in, place_by, with_bits, with_gram, with_grams, with_mark}
+use Rattle.aho_prefilter.specs.declared.strided.grams.Place.{Place}
 use Rattle.aho_prefilter.specs.declared.strided.sizes.Sizes.{Sizes}
-use Rattle.aho_prefilter.proofs.Hashes.{hash_at-same}
-use Rattle.aho_prefilter.proofs.PackedSound.{HasBit, Keeps, Keeps-set, Keeps-then, set-has}
-use Rattle.aho_prefilter.proofs.Strides.{head_hash-same}
+use Rattle.aho_prefilter.proofs.PackedSound.{HasBit, HasBit-or_left, HasBit-or_right, Keeps, Keeps-set, Keeps-then, set-has}
+use Rattle.aho_prefilter.proofs.Strides.{gram_place-same, head_hash-same}
 use Rattle.aho_prefilter.proofs.Tables.{IsTable-long, length-with_grams, length-with_mark}
 
 -- a place stands within the table
@@ -31,11 +31,17 @@ Keeps-with_mark table hash = Keeps-set table (place_in (length table) hash / 64)
 Keeps-same : (table : List ℕ) → Keeps table table
 Keeps-same table = record { long = refl; bits = λ k i is. is }
 
+HasBits-keeps : (old new : List ℕ) (place : Place) → Keeps old new → HasBits old place → HasBits new place
+HasBits-keeps old new place keeps has = record { first = keeps.bits place.word place.first has.first; second = keeps.bits place.word place.second has.second }
+
+Keeps-with_gram : (sizes : Sizes) (word : List ℕ) (at : ℕ) (grams : List ℕ) → Keeps grams (with_gram sizes word at grams)
+Keeps-with_gram sizes word at grams = Keeps-set grams _ _
+
 Keeps-with_grams : (sizes : Sizes) (word : List ℕ) (count : ℕ) (grams : List ℕ) → Keeps grams (with_grams sizes word count grams)
 Keeps-with_grams sizes word zero grams = Keeps-same grams
 Keeps-with_grams sizes word (suc count) grams =
     Keeps-then grams (with_grams sizes word count grams) (with_grams sizes word (suc count) grams)
-    (Keeps-with_grams sizes word count grams) (Keeps-with_mark (with_grams sizes word count grams) (gram_hash sizes word count))
+    (Keeps-with_grams sizes word count grams) (Keeps-with_gram sizes word count (with_grams sizes word count grams))
 
 -- a bit that was just set
 pub HasMark-with : (table : List ℕ) (hash : ℕ) → 0 < length table → hash < 2 ^ 64 → HasMark (with_mark table hash) hash
@@ -48,26 +54,51 @@ HasMark-with table hash some small =
 hash_small : (rule : Bool) (number count : ℕ) (bytes : List ℕ) (at : ℕ) → hash_at rule number count bytes at < 2 ^ 64
 hash_small rule number count bytes at = mod_below _ (2 ^ 64) (omega arith)
 
+-- both bits that were just set
+HasBits-with : (table : List ℕ) (place : Place) → place.word < length table → HasBits (with_bits table place) place
+HasBits-with table place within = record {
+  first = set-has table place.word _ place.first within (HasBit-or_left (2 ^ place.first) (2 ^ place.second) place.first (bit_at-pow_same place.first));
+  second = set-has table place.word _ place.second within (HasBit-or_right (2 ^ place.first) (2 ^ place.second) place.second (bit_at-pow_same place.second));
+}
+
+-- the word of a gram stands within the table
+word_within : (lines : Bool) (words line hash : ℕ) → 8 ≤ words → line < 2 ^ 64 → hash < 2 ^ 64 → (place_by lines words line hash).word < words
+word_within false words line hash some low high = place_within words hash (omega arith) high
+word_within true words line hash some low high =
+    let rows = words / 8 in
+    let upper : line / 2 ^ 32 < 2 ^ 32 = omega arith in
+    let product : line / 2 ^ 32 * rows < 2 ^ 32 * rows = mul-lt-mul_of_pos_right upper (omega arith) in
+    let row : line / 2 ^ 32 * rows / 2 ^ 32 < rows = div_below (line / 2 ^ 32 * rows) (2 ^ 32) rows (omega arith) (omega arith) in
+    let one : hash / 2 ^ 61 < 8 = omega arith in
+    omega arith
+
 -- the bits of all grams of a word
-HasMark-with_grams : (sizes : Sizes) (word : List ℕ) (count : ℕ) (grams : List ℕ) → 0 < length grams → (offset : ℕ) → offset < count → HasMark (with_grams sizes word count grams) (gram_hash sizes word offset)
-HasMark-with_grams sizes word zero grams some offset below = absurd (omega arith)
-HasMark-with_grams sizes word (suc count) grams some offset below =
+HasBits-with_grams : (sizes : Sizes) (word : List ℕ) (count : ℕ) (grams : List ℕ) → 8 ≤ length grams → (offset : ℕ) → offset < count
+    → HasBits (with_grams sizes word count grams) (gram_place sizes (length grams) word offset)
+HasBits-with_grams sizes word zero grams some offset below = absurd (omega arith)
+HasBits-with_grams sizes word (suc count) grams some offset below =
     let before = with_grams sizes word count grams in
+    let long : length before ≡ length grams = length-with_grams sizes word count grams in
     elim (cases_eq offset count) [
       | inl last ↦
-          subst (λ n. HasMark (with_mark before (gram_hash sizes word count)) (gram_hash sizes word n)) (sym last)
-          (HasMark-with before (gram_hash sizes word count) (omega (arith, length-with_grams sizes word count grams)) (hash_small sizes.ignore_case 0x9E37_79B9_7F4A_7C15 sizes.gram word count))
+          subst (λ n. HasBits (with_gram sizes word count before) (gram_place sizes n word offset)) long
+          (subst (λ n. HasBits (with_gram sizes word count before) (gram_place sizes (length before) word n)) (sym last)
+          (HasBits-with before (gram_place sizes (length before) word count)
+          (word_within sizes.lines (length before) (line_hash sizes word count) (gram_hash sizes word count) (omega arith)
+          (hash_small sizes.ignore_case 0xA076_1D64_78BD_642F 3 word count) (hash_small sizes.ignore_case 0x9E37_79B9_7F4A_7C15 sizes.gram word count))))
       | inr other ↦
-          HasMark-keeps before (with_mark before (gram_hash sizes word count)) (gram_hash sizes word offset) (Keeps-with_mark before (gram_hash sizes word count))
-          (HasMark-with_grams sizes word count grams some offset (omega arith))
+          HasBits-keeps before (with_gram sizes word count before) (gram_place sizes (length grams) word offset) (Keeps-with_gram sizes word count before)
+          (HasBits-with_grams sizes word count grams some offset (omega arith))
     ]
 
 -- a word that was just added
 HasMarksOf-with : (marks : Marks) (word : List ℕ) → AreSoundMarks marks → marks.sizes.head ≤ length word → HasMarksOf (marks_with marks word) word
 HasMarksOf-with marks word sound long = record {
   long = long;
-  grams = HasMark-with_grams marks.sizes word marks.sizes.stride marks.grams sound.grams.some;
-  head = HasMark-with marks.heads (head_hash marks.sizes word 0) sound.heads.some (mod_below _ (2 ^ 64) (omega arith));
+  grams = λ offset below.
+      subst (λ n. HasBits (marks_with marks word).grams (gram_place marks.sizes n word offset)) (sym (length-with_grams marks.sizes word marks.sizes.stride marks.grams))
+      (HasBits-with_grams marks.sizes word marks.sizes.stride marks.grams sound.grams.some offset below);
+  head = HasMark-with marks.heads (head_hash marks.sizes word 0) (omega (arith, sound.heads.some)) (mod_below _ (2 ^ 64) (omega arith));
 }
 
 -- and one that was added before
@@ -75,7 +106,8 @@ HasMarksOf-kept : (marks : Marks) (more word : List ℕ) → HasMarksOf marks wo
 HasMarksOf-kept marks more word has = record {
   long = has.long;
   grams = λ offset below.
-      HasMark-keeps marks.grams (marks_with marks more).grams (gram_hash marks.sizes word offset) (Keeps-with_grams marks.sizes more marks.sizes.stride marks.grams) (has.grams offset below);
+      subst (λ n. HasBits (marks_with marks more).grams (gram_place marks.sizes n word offset)) (sym (length-with_grams marks.sizes more marks.sizes.stride marks.grams))
+      (HasBits-keeps marks.grams (marks_with marks more).grams (gram_place marks.sizes (length marks.grams) word offset) (Keeps-with_grams marks.sizes more marks.sizes.stride marks.grams) (has.grams offset below));
   head = HasMark-keeps marks.heads (marks_with marks more).heads (head_hash marks.sizes word 0) (Keeps-with_mark marks.heads (head_hash marks.sizes more 0)) has.head;
 }
 
@@ -98,14 +130,14 @@ HasMarksOf-added (word ∷ words) marks (suc k) sound below long = HasMarksOf-ad
 
 empty : (words : ℕ) → IsTable (empty_table words)
 empty words =
-    let long : length (empty_table words) ≡ min (max words 64) (2 ^ 16) = length-replicate (min (max words 64) (2 ^ 16)) 0 in
+    let long : length (empty_table words) ≡ min (max words 64) (2 ^ 18) = length-replicate (min (max words 64) (2 ^ 18)) 0 in
     record { some = omega arith; few = omega arith }
 
 AreSoundMarks-none : (sizes : Sizes) (count : ℕ) → AreStrideSizes sizes → AreSoundMarks (no_marks sizes count)
 AreSoundMarks-none sizes count sized = record {
   sizes = sized;
-  grams = empty (count * sizes.stride);
-  heads = empty (count / 2);
+  grams = empty sizes.words;
+  heads = empty (head_words count);
 }
 
 -- all bits of each of the words are set
@@ -124,8 +156,8 @@ MayStartAt-stands marks bytes word at sized has same within =
     let low : at % sizes.stride < sizes.stride = mod_below at sizes.stride sized.steps in
     let offset = sizes.stride - 1 - at % sizes.stride in
     let last : last_of_stride sizes.stride at ≡ at + offset = omega arith in
-    let gram : gram_hash sizes word offset ≡ gram_hash sizes bytes (at + offset) =
-    hash_at-same sizes.ignore_case 0x9E37_79B9_7F4A_7C15 sizes.gram word offset bytes (at + offset)
+    let gram : gram_place sizes (length marks.grams) word offset ≡ gram_place sizes (length marks.grams) bytes (at + offset) =
+    gram_place-same sizes (length marks.grams) word offset bytes (at + offset) sized.some
     (λ k below.
     let moved : at + (offset + k) ≡ at + offset + k = omega arith in
     same (offset + k) (omega arith) ∙ ap (λ n. caseless sizes.ignore_case (get_or bytes n 0)) moved) in
@@ -136,7 +168,7 @@ MayStartAt-stands marks bytes word at sized has same within =
     ap (λ n. caseless sizes.ignore_case (get_or word n 0)) moved ∙ same k (omega arith)) in
     record {
       marked = record {
-        gram = subst (HasMark marks.grams) (gram ∙ ap (λ n. gram_hash sizes bytes n) (sym last)) (has.grams offset (omega arith));
+        gram = subst (HasBits marks.grams) (gram ∙ ap (λ n. gram_place sizes (length marks.grams) bytes n) (sym last)) (has.grams offset (omega arith));
         head = subst (HasMark marks.heads) head has.head;
       };
       fits = omega arith;

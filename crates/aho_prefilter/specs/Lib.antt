@@ -18,6 +18,8 @@ pub mod Strided
 pub mod Heads
 -- what a packed search with heads looks for, and where it stops
 pub mod PackedHeads
+-- what a search for windows looks for, and where it stops
+pub mod Windows
 -- for which patterns one is held
 pub mod Sizes
 -- how many places of a text meet a packed search with heads, by an estimate

@@ -37,6 +37,13 @@ tested_groups_at LowFour search bytes at = low_four_at search bytes at
 tested_groups_at LowFive search bytes at = low_five_at search bytes at
 tested_groups_at LowSix search bytes at = low_six_at search bytes at
 
+-- how many bytes are looked up
+abbrev pub bytes_tested : Tested → ℕ
+bytes_tested Four = 4
+bytes_tested LowFour = 4
+bytes_tested LowFive = 5
+bytes_tested LowSix = 6
+
 -- the place meets some group by these halves
 abbrev pub MeetsBy : Tested → PackedHeads → List ℕ → ℕ → Type 0
 MeetsBy tested search bytes at = tested_groups_at tested search bytes at ≢ 0

@@ -8,15 +8,18 @@ use Rattle.aho_core.specs.Patterns.{Patterns, pattern_at}
 use Rattle.aho_core.specs.declared.search.MatchKind.{MatchKind}
 use Rattle.aho_prefilter.specs.FirstBytes.{first_bytes}
 use Rattle.aho_prefilter.specs.declared.prefilter.Searcher.{Searcher}
-use Rattle.aho_prefilter.specs.declared.prefilter.Searcher.TheVariants.{Memmem, Memchr, Memchr2, Memchr3, Packed, PackedHeads, Strided}
+use Rattle.aho_prefilter.specs.declared.prefilter.Searcher.TheVariants.{Memmem, Memchr, Memchr2, Memchr3, Packed, PackedHeads, Windows, Strided}
 use Rattle.aho_prefilter.specs.Packed.{packed_of}
 use Rattle.aho_prefilter.specs.PackedHeads.{HaveSize, packed_heads_of}
-use Rattle.aho_prefilter.specs.Sizes.{heads_for, shape_of, sizes_for, takes, tested_for}
+use Rattle.aho_prefilter.specs.Sizes.{heads_for, least_head, shape_of, sizes_for, takes, tested_for}
 use Rattle.aho_prefilter.specs.Strided.{HasMarksOf, AreStrideSizes, Marks, marks_of}
 use Rattle.aho_prefilter.specs.declared.packed.Packed.{Packed as Fingerprints}
 use Rattle.aho_prefilter.specs.declared.packed_heads.PackedHeads.{PackedHeads as FingerprintsAndHeads}
 use Rattle.aho_prefilter.specs.declared.packed_heads.Tested.{Tested}
+use Rattle.aho_prefilter.specs.declared.packed_heads.Tested.TheVariants.{LowFour}
 use Rattle.aho_prefilter.specs.declared.strided.sizes.Shape.{Shape}
+use Rattle.aho_prefilter.specs.declared.windows.Windows.{Windows as WindowSearch}
+use Rattle.aho_prefilter.specs.Windows.{most_before, windows_of, windows_search_of}
 
 -- the needle is the only pattern, which is not empty, and its bytes are compared as they are
 pub record IsOnlyPattern (p : Patterns) (needle : List ℕ) : Type 0 where
@@ -47,6 +50,15 @@ pub record AreHeadsOf (p : Patterns) (search : FingerprintsAndHeads) : Type 0 wh
   pub tested : Tested
   pub made : search ≡ packed_heads_of p.ignore_case tested size p.words
 
+-- each pattern has a window with a head, and the search is one for the windows
+pub record AreWindowsOf (p : Patterns) (windows : WindowSearch) : Type 0 where
+  pub size : ℕ
+  pub some : 0 < size
+  pub short : size ≤ 16
+  pub long : HaveSize size (windows_of p.ignore_case p.words)
+  pub tested : Tested
+  pub made : windows ≡ windows_search_of p.ignore_case tested size p.words
+
 -- the case rule is that of the patterns, and the bits of each pattern are set
 pub record AreMarksOf (p : Patterns) (marks : Marks) : Type 0 where
   pub rule : marks.sizes.ignore_case ≡ p.ignore_case
@@ -61,6 +73,7 @@ IsPrefilterOf (Memchr2 x y) p = AllBeginWithin p (x ∷ y ∷ [])
 IsPrefilterOf (Memchr3 x y z) p = AllBeginWithin p (x ∷ y ∷ z ∷ [])
 IsPrefilterOf (Packed packed) p = AreFingerprintsOf p packed
 IsPrefilterOf (PackedHeads search) p = AreHeadsOf p search
+IsPrefilterOf (Windows windows) p = AreWindowsOf p windows
 IsPrefilterOf (Strided marks) p = AreMarksOf p marks
 
 -- the bytes of memory that it holds
@@ -71,6 +84,7 @@ bytes_held (Memchr2 x y) = 0
 bytes_held (Memchr3 x y z) = 0
 bytes_held (Packed packed) = 0
 bytes_held (PackedHeads search) = 0
+bytes_held (Windows windows) = 0
 bytes_held (Strided marks) = 8 * (length marks.grams + length marks.heads)
 
 -- the same where it may be that none is held
@@ -86,6 +100,7 @@ holds_memory (Memchr2 x y) = false
 holds_memory (Memchr3 x y z) = false
 holds_memory (Packed packed) = false
 holds_memory (PackedHeads search) = false
+holds_memory (Windows windows) = false
 holds_memory (Strided marks) = true
 
 -- the search for one to three bytes
@@ -142,6 +157,7 @@ stops_in_words (Memchr2 x y) = is_word_byte x || is_word_byte y
 stops_in_words (Memchr3 x y z) = is_word_byte x || is_word_byte y || is_word_byte z
 stops_in_words (Packed packed) = false
 stops_in_words (PackedHeads search) = false
+stops_in_words (Windows windows) = false
 stops_in_words (Strided marks) = false
 
 -- whether a packed search is better than what is held else
@@ -171,6 +187,18 @@ packed_heads_for p =
 abbrev pub heads_or_strided : Patterns → Option Searcher
 heads_or_strided p = option_or (packed_heads_for p) (strided_for p)
 
+-- the search for windows: for up to eight patterns, some of which begin with four bytes of which texts are full, where each has four
+-- others at most 64 bytes behind its first
+abbrev pub windows_for : Patterns → Option Searcher
+windows_for p =
+    if nat_lt 8 (length p.words) || (nat_eq (most_before p.ignore_case p.words) 0 || nat_lt 64 (most_before p.ignore_case p.words)) then None
+    else if nat_lt (least_head (windows_of p.ignore_case p.words)) 4 then None
+    else Some (Windows (windows_search_of p.ignore_case LowFour (least_head (windows_of p.ignore_case p.words)) p.words))
+
+-- it comes first of these
+abbrev pub windows_or_other : Patterns → Option Searcher
+windows_or_other p = option_or (windows_for p) (heads_or_strided p)
+
 -- whether a search that looks at heads is better than a search
 abbrev pub is_passed_by : Searcher → Bool
 is_passed_by (Memmem needle) = false
@@ -179,6 +207,7 @@ is_passed_by (Memchr2 x y) = stops_in_words (Memchr2 x y)
 is_passed_by (Memchr3 x y z) = stops_in_words (Memchr3 x y z)
 is_passed_by (Packed packed) = true
 is_passed_by (PackedHeads search) = false
+is_passed_by (Windows windows) = false
 is_passed_by (Strided marks) = false
 
 -- the same where it may be that none is held
@@ -189,7 +218,7 @@ yields (Some searcher) = is_passed_by searcher
 -- which search is held where each of them may be
 abbrev pub quickest_for : Patterns → Option Searcher
 quickest_for p =
-    if yields (held_or_packed p) then option_or (heads_or_strided p) (held_or_packed p) else held_or_packed p
+    if yields (held_or_packed p) then option_or (windows_or_other p) (held_or_packed p) else held_or_packed p
 
 -- the patterns with one more behind them
 abbrev pub with_word : Patterns → List ℕ → Patterns

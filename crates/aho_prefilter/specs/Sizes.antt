@@ -79,10 +79,15 @@ is_sparse s search = nat_le (density search (least_weight s)) (2 ^ 40 / min (max
 abbrev pub takes : Shape → PackedHeads → Bool
 takes s search = is_few s || is_sparse s search
 
+-- whether patterns are made of so many different bytes that they may be any
+abbrev pub is_random : Shape → Bool
+is_random s = nat_lt 128 s.letters
+
 -- how many bytes a gram has: more for few letters and for many patterns, so that few places of a text have one by chance
 abbrev pub wanted_gram : Shape → ℕ
 wanted_gram s =
     if nat_le s.letters 8 then 8
+    else if is_random s then 4
     else if nat_le s.count 200 then 4
     else if nat_le s.count 8192 then (s.head + 2) / 2
     else (s.head + 4) / 2
@@ -99,9 +104,31 @@ stride_for s = min (s.head + 1 - gram_for s) 8
 abbrev pub is_crowded : Shape → Bool
 is_crowded s = nat_le s.letters 8 && (nat_lt s.head 12 && nat_lt (s.letters ^ gram_for s / (2 * stride_for s)) s.count)
 
+-- whether the first bytes of a gram tell where its two bits are: for many patterns, and for those of any bytes
+abbrev pub has_lines : Shape → Bool
+has_lines s = nat_lt 8192 s.count || is_random s
+
+-- how many grams are marked
+abbrev pub grams_marked : Shape → ℕ
+grams_marked s = min s.count (2 ^ 18) * stride_for s
+
+-- how many words the table of grams has: one for each, or more of them for a few; fewer for patterns of any bytes, since a text of
+-- any bytes meets all of the table
+abbrev pub words_for : Shape → ℕ
+words_for s =
+    if is_random s then min (grams_marked s / 2) (2 ^ 16)
+    else max (grams_marked s) (min (3 * grams_marked s) 8192)
+
 -- the sizes for patterns of this shape, if a strided search is held for them
 abbrev pub sizes_for : Shape → Option Sizes
 sizes_for s =
     if is_small s then None
     else if is_crowded s then None
-    else Some (record { gram = gram_for s; stride = stride_for s; head = s.head; ignore_case = s.ignore_case })
+    else Some (record {
+      gram = gram_for s;
+      stride = stride_for s;
+      head = s.head;
+      ignore_case = s.ignore_case;
+      lines = has_lines s;
+      words = words_for s;
+    })

@@ -3,6 +3,7 @@ use Rattle.std.specs.Prelude.{◌≡◌, ℕ, zero, suc, ◌+◌, ◌-◌, ◌*�
 use Rattle.std.specs.Int.{bit_at}
 use Rattle.std.specs.List.{fold}
 use Rattle.memchr.specs.Find.{IsFirst}
+use Rattle.aho_prefilter.specs.declared.strided.grams.Place.{Place}
 use Rattle.aho_prefilter.specs.declared.strided.sizes.Sizes.{Sizes}
 
 -- the sizes, and the bits that are set: those of grams, and those of heads
@@ -67,13 +68,52 @@ with_mark table hash =
     slice_set table (place_in (length table) hash / 64)
     (bit_or (slice_index table (place_in (length table) hash / 64)) (2 ^ (place_in (length table) hash % 64)))
 
--- what a word is multiplied by for the hash of its gram
-abbrev pub gram_factor : Sizes → ℕ
-gram_factor sizes = factor_for 0x9E37_79B9_7F4A_7C15 sizes.gram
+-- the hash of the first three bytes at a place
+abbrev pub line_hash : Sizes → List ℕ → ℕ → ℕ
+line_hash sizes bytes at = hash_at sizes.ignore_case 0xA076_1D64_78BD_642F 3 bytes at
 
--- the bit of the gram at a place is set
+-- where the bits of a gram are in a table of so many words: a hash of its first three bytes tells a line of eight words, and its own one
+-- of them and two bits of it
+abbrev pub place_in_line : ℕ → ℕ → ℕ → Place
+place_in_line words line hash = record {
+  word = line / 2 ^ 32 * (words / 8) / 2 ^ 32 * 8 + hash / 2 ^ 61;
+  first = hash / 2 ^ 55 % 64;
+  second = hash / 2 ^ 49 % 64;
+}
+
+-- the same where its own hash tells one bit
+abbrev pub single_place : ℕ → ℕ → Place
+single_place words hash = record {
+  word = place_in words hash / 64;
+  first = place_in words hash % 64;
+  second = place_in words hash % 64;
+}
+
+-- whichever it is
+abbrev pub place_by : Bool → ℕ → ℕ → ℕ → Place
+place_by lines words line hash = if lines then place_in_line words line hash else single_place words hash
+
+-- the same of the gram at a place
+abbrev pub gram_place : Sizes → ℕ → List ℕ → ℕ → Place
+gram_place sizes words bytes at = place_by sizes.lines words (line_hash sizes bytes at) (gram_hash sizes bytes at)
+
+-- both bits are set
+pub record HasBits (table : List ℕ) (place : Place) : Type 0 where
+  pub first : bit_at (slice_index table place.word) place.first ≡ 1
+  pub second : bit_at (slice_index table place.word) place.second ≡ 1
+
+-- the table with both bits set
+abbrev pub with_bits : List ℕ → Place → List ℕ
+with_bits table place =
+    slice_set table place.word (bit_or (slice_index table place.word) (bit_or (2 ^ place.first) (2 ^ place.second)))
+
+-- the bits of the gram at a place are set
 abbrev pub HasGram : Marks → List ℕ → ℕ → Type 0
-HasGram marks bytes at = HasMark marks.grams (gram_hash marks.sizes bytes at)
+HasGram marks bytes at = HasBits marks.grams (gram_place marks.sizes (length marks.grams) bytes at)
+
+-- those of the gram at the last place of a stride
+abbrev pub HasGramIn : Marks → List ℕ → ℕ → Type 0
+HasGramIn marks bytes turn = HasGram marks bytes (turn * marks.sizes.stride + (marks.sizes.stride - 1))
 
 -- the bit of the head at a place is set
 abbrev pub HasHead : Marks → List ℕ → ℕ → Type 0
@@ -83,7 +123,7 @@ HasHead marks bytes at = HasMark marks.heads (head_hash marks.sizes bytes at)
 abbrev pub last_of_stride : ℕ → ℕ → ℕ
 last_of_stride stride at = at / stride * stride + (stride - 1)
 
--- the bit of the head at a place is set, and that of the gram at the last place of its stride
+-- the bit of the head at a place is set, and those of the gram at the last place of its stride
 pub record IsMarkedAt (marks : Marks) (bytes : List ℕ) (at : ℕ) : Type 0 where
   pub gram : HasGram marks bytes (last_of_stride marks.sizes.stride at)
   pub head : HasHead marks bytes at
@@ -97,19 +137,19 @@ pub record MayStartAt (marks : Marks) (bytes : List ℕ) (at : ℕ) : Type 0 whe
 abbrev pub IsFirstMarked : Marks → List ℕ → Option ℕ → Type 0
 IsFirstMarked marks bytes at = IsFirst (MayStartAt marks bytes) 0 (length bytes) at
 
--- the grams at all places of a stride lie within the head
+-- the grams at all places of a stride lie within the head, and what tells a line within a gram
 pub record AreStrideSizes (sizes : Sizes) : Type 0 where
-  pub some : 0 < sizes.gram
+  pub some : 3 ≤ sizes.gram
   pub gram : sizes.gram ≤ 8
   pub steps : 0 < sizes.stride
   pub stride : sizes.stride ≤ 8
   pub within : sizes.stride + sizes.gram ≤ sizes.head + 1
   pub head : sizes.head ≤ 16
 
--- a table has some words, and not too many
+-- a table has a line of words, and not too many
 pub record IsTable (table : List ℕ) : Type 0 where
-  pub some : 0 < length table
-  pub few : length table ≤ 2 ^ 16
+  pub some : 8 ≤ length table
+  pub few : length table ≤ 2 ^ 18
 
 -- what is true of each strided search
 pub record AreSoundMarks (marks : Marks) : Type 0 where
@@ -117,22 +157,30 @@ pub record AreSoundMarks (marks : Marks) : Type 0 where
   pub grams : IsTable marks.grams
   pub heads : IsTable marks.heads
 
--- a table of so many words, but of 64 at least and 2 ^ 16 at most, with no bit set
+-- a table of so many words, but of 64 at least and 2 ^ 18 at most, with no bit set
 abbrev pub empty_table : ℕ → List ℕ
-empty_table words = replicate (min (max words 64) (2 ^ 16)) 0
+empty_table words = replicate (min (max words 64) (2 ^ 18)) 0
+
+-- how many words the table of so many heads has
+abbrev pub head_words : ℕ → ℕ
+head_words count = min (max (count / 2) (min count 8192)) (2 ^ 16)
 
 -- the marks of no pattern, in tables for so many
 abbrev pub no_marks : Sizes → ℕ → Marks
 no_marks sizes count = record {
   sizes = sizes;
-  grams = empty_table (count * sizes.stride);
-  heads = empty_table (count / 2);
+  grams = empty_table sizes.words;
+  heads = empty_table (head_words count);
 }
 
--- the table with the bits of the grams at so many first places of a word
+-- the table with the bits of the gram at a place of a word
+abbrev pub with_gram : Sizes → List ℕ → ℕ → List ℕ → List ℕ
+with_gram sizes word at grams = with_bits grams (gram_place sizes (length grams) word at)
+
+-- with those of the grams at so many first places
 abbrev pub with_grams : Sizes → List ℕ → ℕ → List ℕ → List ℕ
 with_grams sizes word zero grams = grams
-with_grams sizes word (suc count) grams = with_mark (with_grams sizes word count grams) (gram_hash sizes word count)
+with_grams sizes word (suc count) grams = with_gram sizes word count (with_grams sizes word count grams)
 
 -- the marks with those of one more word
 abbrev pub marks_with : Marks → List ℕ → Marks

@@ -10,7 +10,7 @@ use crate::packed::Masks;
 use crate::packed_heads::PackedHeads;
 
 /// Whether a byte is one of the eight letters that stand most often in texts.
-fn is_common(byte: u8) -> bool
+pub(crate) fn is_common(byte: u8) -> bool
     ensures common { result ≡ is_common byte }
 {
     byte == b'e'

@@ -10,3 +10,4 @@ mod packed_heads;
 pub mod prefilter;
 mod strided;
 pub mod text;
+mod windows;

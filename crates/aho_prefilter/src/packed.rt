@@ -246,6 +246,9 @@ impl Packed {
     pub fn find(&self, bytes: &[u8]) -> Option<usize>
         ensures first { IsFirstMet self.now bytes.now result }
     {
+        if bytes.is_empty() {
+            return None;
+        }
         let blocks = bytes.len().saturating_sub(2) / LANES;
         match self.find_in_blocks(bytes, blocks) {
             Some(at) => Some(at),

@@ -13,15 +13,17 @@
 //! each byte, and both cases of a letter have the same low half. Where patterns are short, or many, that would meet too many
 //! places, and both halves of four bytes are looked up. Where some of these places meet a group, each of them is looked at once
 //! more, by its head: the first bytes of a pattern, as many as the shortest one has, and sixteen at most. A hash of them has its
-//! bit set for each pattern. A place that is found may still start no pattern, since different bytes may have the same bit. The
-//! last places, behind which too few bytes stand, are copied in front of zeros, so nothing is read past the end.
+//! bit set for each pattern. A place that is found may still start no pattern, since different bytes may have the same bit.
+//!
+//! The last block ends where the bytes end, and overlaps the one before. Where some of the last places meet a group, they are copied
+//! in front of zeros, so nothing is read past the end.
 
-ghost use Rattle.std.specs.Prelude.{◌≡◌, ℕ, ◌+◌, ◌-◌, ◌*◌, ◌<◌, ◌≤◌, length, slice_index};
+ghost use Rattle.std.specs.Prelude.{◌≡◌, ℕ, ◌+◌, ◌-◌, ◌*◌, ◌<◌, ◌≤◌, length, slice_index, IsTrue};
 ghost use Rattle.std.specs.Int.{bit_at};
-ghost use Rattle.memchr.specs.Find.{IsFirst};
+ghost use Rattle.memchr.specs.Find.{IsFirst, Nowhere};
 ghost use Rattle.aho_core.specs.Replacement.{pieces_of};
 ghost use Rattle.aho_prefilter.specs.Packed.{HasLanes};
-ghost use Rattle.aho_prefilter.specs.PackedHeads.{AreBitsOf, HaveSize, IsFirstHeaded, IsNextBlock, MayStartAt, MeetsHeadAt, TellsHeadAt, count_before, four_groups_at, group_among, low_five_at, low_four_at, low_six_at, order_of, packed_heads_of, packed_heads_with, tested_groups_at};
+ghost use Rattle.aho_prefilter.specs.PackedHeads.{AreBitsOf, HaveSize, IsFirstHeaded, IsNextBlock, MayStartAt, MeetsBy, MeetsHeadAt, TellsHeadAt, bytes_tested, count_before, four_groups_at, group_among, low_five_at, low_four_at, low_six_at, order_of, packed_heads_of, packed_heads_with, tested_groups_at};
 ghost use Rattle.aho_prefilter.specs.Strided.{caseless};
 
 use crate::heads::Heads;
@@ -45,6 +47,21 @@ pub(crate) enum Tested {
     LowSix,
 }
 
+impl Tested {
+    /// How many bytes are looked up.
+    #[inline(always)]
+    fn bytes(self) -> usize
+        ensures bytes { result ≡ bytes_tested self }
+        ensures few { result ≤ 6 }
+    {
+        match self {
+            Tested::Four | Tested::LowFour => 4,
+            Tested::LowFive => 5,
+            Tested::LowSix => 6,
+        }
+    }
+}
+
 /// A search for places that meet the fingerprints of four to six bytes and the heads of patterns.
 #[derive(Clone, Copy)]
 pub(crate) struct PackedHeads {
@@ -65,7 +82,7 @@ fn caseless(ignore_case: bool, byte: u8) -> u8
 }
 
 /// The byte of a pattern at a place, and behind its end a zero.
-fn byte_at(pattern: &[u8], place: usize) -> u8
+pub(crate) fn byte_at(pattern: &[u8], place: usize) -> u8
     ensures byte { result ≡ slice_index pattern.now place }
 {
     match pattern.get(place) {
@@ -201,7 +218,7 @@ impl PackedHeads {
     /// The groups that each of thirty-two places meets.
     #[inline(always)]
     fn groups(&self, tested: Tested, bytes: &[u8], at: usize) -> u8x32
-        requires within { at + 37 ≤ length bytes.now }
+        requires within { at + 31 + bytes_tested tested ≤ length bytes.now }
         ensures groups { HasLanes result
             (λ k. tested_groups_at tested self.now bytes.now (at + k)) }
     {
@@ -219,10 +236,13 @@ impl PackedHeads {
         ensures first { IsFirstHeaded self.now bytes.now result }
     {
         let size = self.heads.size();
+        if bytes.len() < size {
+            return None;
+        }
         let blocks = bytes.len().saturating_sub(BEHIND) / LANES;
         match self.find_in_blocks(bytes, blocks) {
             Some(place) => Some(place),
-            None => self.find_in_rest(bytes, blocks * LANES, size),
+            None => self.find_in_end(bytes, blocks * LANES, size),
         }
     }
 
@@ -279,13 +299,80 @@ impl PackedHeads {
     /// Which of thirty-two places meet some group, a bit for each.
     #[inline(always)]
     fn places_met(&self, tested: Tested, bytes: &[u8], at: usize) -> u64
-        requires within { at + 37 ≤ length bytes.now }
+        requires within { at + 31 + bytes_tested tested ≤ length bytes.now }
         ensures met { AreBitsOf tested self.now bytes.now at result }
     {
         lanes_met(self.groups(tested, bytes, at))
     }
 
-    /// The same of the last places.
+    /// Whether no place of a block meets a group.
+    #[inline(always)]
+    fn is_bare(&self, tested: Tested, bytes: &[u8], at: usize) -> bool
+        requires within { at + 31 + bytes_tested tested ≤ length bytes.now }
+        ensures bare { IsTrue result
+            → Nowhere (MeetsBy tested self.now bytes.now) at (at + 32) }
+    {
+        self.places_met(tested, bytes, at) == 0
+    }
+
+    /// Whether no pattern may start at one of the last places, since none of them meets a group. The last block ends where the
+    /// bytes end, so it overlaps the one before. Where it does not begin early enough, there is one more before it.
+    #[inline(always)]
+    fn is_bare_from(&self, tested: Tested, bytes: &[u8], from: usize, size: usize) -> bool
+        requires tested { tested ≡ self.now.tested }
+        requires few { length bytes.now < from + 47 }
+        requires size { size ≡ self.now.heads.size }
+        ensures bare { IsTrue result
+            → Nowhere (MayStartAt self.now bytes.now) from (length bytes.now) }
+    {
+        let end = LANES - 1 + tested.bytes();
+        if size < tested.bytes() || bytes.len() < end {
+            return false;
+        }
+        let last = bytes.len() - end;
+        if last <= from {
+            return self.is_bare(tested, bytes, last);
+        }
+        if !self.is_bare(tested, bytes, from) {
+            return false;
+        }
+        self.is_bare(tested, bytes, last)
+    }
+
+    /// The same by the halves that are looked up.
+    #[inline(never)]
+    fn is_bare_behind(&self, bytes: &[u8], from: usize, size: usize) -> bool
+        requires few { length bytes.now < from + 47 }
+        requires size { size ≡ self.now.heads.size }
+        ensures bare { IsTrue result
+            → Nowhere (MayStartAt self.now bytes.now) from (length bytes.now) }
+    {
+        match self.tested {
+            Tested::Four => self.is_bare_from(Tested::Four, bytes, from, size),
+            Tested::LowFour => self.is_bare_from(Tested::LowFour, bytes, from, size),
+            Tested::LowFive => self.is_bare_from(Tested::LowFive, bytes, from, size),
+            Tested::LowSix => self.is_bare_from(Tested::LowSix, bytes, from, size),
+        }
+    }
+
+    /// The first of the last places where a pattern may start. They are copied only where some of them meets a group, or where
+    /// the bytes are too few for a block.
+    #[inline(always)]
+    fn find_in_end(&self, bytes: &[u8], from: usize, size: usize) -> Option<usize>
+        requires within { from ≤ length bytes.now }
+        requires few { length bytes.now < from + 47 }
+        requires size { size ≡ self.now.heads.size }
+        requires some { 0 < size }
+        requires short { size ≤ 16 }
+        ensures first { IsFirst (MayStartAt self.now bytes.now) from (length bytes.now) result }
+    {
+        if self.is_bare_behind(bytes, from, size) {
+            return None;
+        }
+        self.find_in_rest(bytes, from, size)
+    }
+
+    /// The same by a copy.
     #[inline(never)]
     fn find_in_rest(&self, bytes: &[u8], from: usize, size: usize) -> Option<usize>
         requires within { from ≤ length bytes.now }

@@ -15,6 +15,7 @@ mod quickest;
 use crate::packed::Packed;
 use crate::packed_heads::PackedHeads;
 use crate::strided::Strided;
+use crate::windows::Windows;
 use aho_core::search::{Match, PatternID, Span};
 pub use builder::PrefilterBuilder;
 use memchr::{memchr, memchr2, memchr3};
@@ -63,6 +64,8 @@ enum Searcher {
     Packed(Packed),
     /// For the fingerprints of the patterns, and for their heads.
     PackedHeads(PackedHeads),
+    /// For the rests of the patterns from their first rare bytes on.
+    Windows(Windows),
     /// For grams of the patterns, each of which is looked up for several places.
     Strided(Strided),
 }
@@ -80,6 +83,7 @@ impl Searcher {
             Searcher::Memchr3(x, y, z) => memchr3(*x, *y, *z, part),
             Searcher::Packed(packed) => packed.find(part),
             Searcher::PackedHeads(packed) => packed.find(part),
+            Searcher::Windows(windows) => windows.find(part),
             Searcher::Strided(strided) => strided.find(part),
         }
     }
@@ -136,7 +140,7 @@ impl Prefilter {
         match &self.searcher {
             Searcher::Memmem(needle) => needle.len(),
             Searcher::Memchr(_) | Searcher::Memchr2(_, _) | Searcher::Memchr3(_, _, _) => 0,
-            Searcher::Packed(_) | Searcher::PackedHeads(_) => 0,
+            Searcher::Packed(_) | Searcher::PackedHeads(_) | Searcher::Windows(_) => 0,
             Searcher::Strided(strided) => strided.memory_usage(),
         }
     }
@@ -157,6 +161,7 @@ impl Prefilter {
             Searcher::Memchr3(x, y, z) => Searcher::Memchr3(*x, *y, *z),
             Searcher::Packed(packed) => Searcher::Packed(*packed),
             Searcher::PackedHeads(packed) => Searcher::PackedHeads(*packed),
+            Searcher::Windows(windows) => Searcher::Windows(*windows),
             Searcher::Strided(strided) => Searcher::Strided(strided.try_clone()?),
         };
         Ok(Prefilter { searcher })

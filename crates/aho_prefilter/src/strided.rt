@@ -3,24 +3,26 @@
 //! # The tables
 //!
 //! Of each pattern the first bytes are looked at, as many as the shortest one has, and sixteen at most: its head. For each of
-//! the first `stride` places of a head the gram that begins there has its bit in the table of grams, and the head has one in
-//! the table of heads. Which bit that is, a hash tells.
+//! the first `stride` places of a head the gram that begins there has its bits in the table of grams, and the head has one in
+//! the table of heads. Which bits these are, hashes tell.
 //!
 //! # The search
 //!
 //! Whatever starts at one of `stride` places in a row has a gram at the last of them. So one gram is looked up for all of
-//! them. Where its bit is set, each of these places is looked at once more, by its head. A place that is found may start no
+//! them. Where its bits are set, each of these places is looked at once more, by its head. A place that is found may start no
 //! pattern, since different bytes may have the same bit. The last places, behind which too few bytes stand, are copied in front
 //! of zeros, so nothing is read past the end.
 
-ghost use Rattle.std.specs.Prelude.{◌≡◌, ◌↔◌, ℕ, ◌+◌, ◌-◌, ◌*◌, ◌<◌, ◌≤◌, ◌^◌, Bool, length, IfOk, IsTrue};
+ghost use Rattle.std.specs.Prelude.{◌≡◌, ◌↔◌, ℕ, ◌+◌, ◌-◌, ◌*◌, ◌/◌, ◌<◌, ◌≤◌, ◌^◌, Bool, length, IfOk, IsTrue};
 ghost use Rattle.memchr.specs.Find.{IsFirst};
 ghost use Rattle.aho_core.specs.Replacement.{pieces_of};
-ghost use Rattle.aho_prefilter.specs.Strided.{HasHead, HasMark, HaveHeads, IsFirstMarked, IsMarkedAt, AreStrideSizes, IsTable, MayStartAt, bits_kept, empty_table, end_of, factor_for, gram_factor, hash_of_head, head_hash, marks_of, marks_with, number_of_bytes, place_in, with_grams, with_mark};
+ghost use Rattle.aho_prefilter.specs.Strided.{HasGramIn, HasHead, HasMark, HaveHeads, IsFirstMarked, IsMarkedAt, AreStrideSizes, IsTable, MayStartAt, bits_kept, empty_table, end_of, factor_for, hash_of_head, head_hash, head_words, marks_of, marks_with, number_of_bytes, place_in, with_mark};
 
+mod grams;
 pub(crate) mod sizes;
 
 use crate::packed::padded;
+use grams::has_bits;
 use sizes::Sizes;
 use std::alloc::{AllocError, Global};
 use std::marker::Model;
@@ -36,7 +38,10 @@ const HIGH: u64 = 0xA076_1D64_78BD_642F;
 const CASELESS: u64 = 0xDFDF_DFDF_DFDF_DFDF;
 
 /// How many words of 64 bits a table has at most.
-const MOST: usize = 1 << 16;
+const MOST: usize = 1 << 18;
+
+/// How many that of heads has at most.
+const MOST_OF_HEADS: usize = 1 << 16;
 
 /// How many places have to stand behind a place, for its head to be read without a copy.
 pub(crate) const BEHIND: usize = 15;
@@ -45,7 +50,7 @@ pub(crate) const BEHIND: usize = 15;
 #[derive(Drop)]
 pub(crate) struct Strided {
     sizes: Sizes,
-    /// A bit for each hash of a gram.
+    /// The bits of grams.
     grams: Vec<u64>,
     /// A bit for each hash of a head.
     heads: Vec<u64>,
@@ -103,7 +108,7 @@ fn factor_for(number: u64, count: usize) -> u64
 #[inline(always)]
 fn place_in(words: usize, hash: u64) -> usize
     requires some { 0 < words }
-    requires few { words ≤ 2 ^ 16 }
+    requires few { words ≤ 2 ^ 18 }
     ensures place { result ≡ place_in words hash }
     ensures within { result < 64 * words }
 {
@@ -152,18 +157,29 @@ fn empty_table(alloc: Global, words: usize) -> Result<Vec<u64>, AllocError>
     vec![in alloc; 0; words.max(64).min(MOST)]
 }
 
+/// How many words the table of so many heads has.
+fn head_words(count: usize) -> usize
+    ensures words { result ≡ head_words count }
+{
+    (count / 2).max(count.min(8192)).min(MOST_OF_HEADS)
+}
+
 impl Sizes {
-    /// Sets the bits of the grams at the first places of these bytes.
-    fn mark_grams(self, grams: &mut [u64], bytes: &[u8])
+    /// How many strides there are in so many places. A division by a number that is known is a product.
+    #[inline(always)]
+    fn strides_in(self, places: usize) -> usize
         requires sized { AreStrideSizes self }
-        requires table { IsTable grams.old }
-        requires within { 15 ≤ length bytes.now }
-        ensures marked { grams.new ≡ with_grams self bytes.now self.stride grams.old }
+        ensures strides { result ≡ places / self.stride }
     {
-        let bits = bits_kept(self.ignore_case);
-        let factor = factor_for(GRAM, self.gram);
-        for offset in 0..self.stride {
-            mark(grams, word_at(bytes, offset, bits).wrapping_mul(factor));
+        match self.stride {
+            1 => places,
+            2 => places / 2,
+            3 => places / 3,
+            4 => places / 4,
+            5 => places / 5,
+            6 => places / 6,
+            7 => places / 7,
+            _ => places / 8,
         }
     }
 
@@ -195,8 +211,8 @@ impl Strided {
     {
         let mut made = Strided {
             sizes,
-            grams: empty_table(alloc, patterns.len().saturating_mul(sizes.stride))?,
-            heads: empty_table(alloc, patterns.len() / 2)?,
+            grams: empty_table(alloc, sizes.words)?,
+            heads: empty_table(alloc, head_words(patterns.len()))?,
         };
         for pattern in patterns {
             made.add(pattern);
@@ -219,8 +235,10 @@ impl Strided {
     pub(crate) fn find(&self, bytes: &[u8]) -> Option<usize>
         ensures first { IsFirstMarked self.now bytes.now result }
     {
-        let stride = self.sizes.stride;
-        let turns = bytes.len().saturating_sub(BEHIND) / stride;
+        if bytes.len() < self.sizes.head {
+            return None;
+        }
+        let turns = self.sizes.strides_in(bytes.len().saturating_sub(BEHIND));
         match self.find_in_turns(bytes, turns) {
             Some(place) => Some(place),
             None => self.find_in_rest(bytes, turns),
@@ -233,41 +251,49 @@ impl Strided {
         requires within { end_of self.now turns ≤ length bytes.now - 15 }
         ensures first { IsFirst (IsMarkedAt self.now bytes.now) 0 (end_of self.now turns) result }
     {
-        let grams = self.grams.as_slice();
-        let bits = bits_kept(self.sizes.ignore_case);
-        let factor = factor_for(GRAM, self.sizes.gram);
-        for turn in 0..turns {
-            if let Some(place) = self.find_in_stride(grams, bits, factor, bytes, turn) {
+        let mut from = 0;
+        for _ in 0..turns {
+            let Some(turn) = self.next_turn(bytes, from, turns) else {
+                return None;
+            };
+            if let Some(place) = self.find_head(bytes, turn * self.sizes.stride) {
                 return Some(place);
             }
+            from = turn + 1;
         }
         None
     }
 
-    /// The same of one stride.
-    #[inline(always)]
-    fn find_in_stride(
-        &self,
-        grams: &[u64],
-        bits: u64,
-        factor: u64,
-        bytes: &[u8],
-        turn: usize,
-    ) -> Option<usize>
-        requires grams { grams.now ≡ self.now.grams }
-        requires bits { bits ≡ bits_kept self.now.sizes.ignore_case }
-        requires factor { factor ≡ gram_factor self.now.sizes }
-        requires within { end_of self.now (turn + 1) + 15 ≤ length bytes.now }
-        ensures first { IsFirst (IsMarkedAt self.now bytes.now)
-            (end_of self.now turn) (end_of self.now (turn + 1)) result }
+    /// The first stride, from this one on, whose gram has its bits set. It is a function of its own, so that all that it takes
+    /// stays in registers.
+    #[inline(never)]
+    fn next_turn(&self, bytes: &[u8], from: usize, turns: usize) -> Option<usize>
+        requires within { end_of self.now turns ≤ length bytes.now - 15 }
+        ensures next { IsFirst (HasGramIn self.now bytes.now) from turns result }
     {
-        let from = turn * self.sizes.stride;
-        let last = from + (self.sizes.stride - 1);
-        if is_marked(grams, word_at(bytes, last, bits).wrapping_mul(factor)) {
-            self.find_head(bytes, from)
+        if self.sizes.lines {
+            self.next_by(true, bytes, from, turns)
         } else {
-            None
+            self.next_by(false, bytes, from, turns)
         }
+    }
+
+    /// The same by one bit, or by two in a line: a loop of its own for each.
+    #[inline(always)]
+    fn next_by(&self, lines: bool, bytes: &[u8], from: usize, turns: usize) -> Option<usize>
+        requires lines { lines ≡ self.now.sizes.lines }
+        requires within { end_of self.now turns ≤ length bytes.now - 15 }
+        ensures next { IsFirst (HasGramIn self.now bytes.now) from turns result }
+    {
+        let sizes = self.sizes;
+        let grams = self.grams.as_slice();
+        for turn in from..turns {
+            let last = turn * sizes.stride + (sizes.stride - 1);
+            if has_bits(grams, sizes.gram_place(lines, grams.len(), bytes, last)) {
+                return Some(turn);
+            }
+        }
+        None
     }
 
     /// The first place of a stride where the bit of its head is set.
@@ -295,9 +321,12 @@ impl Strided {
             (end_of self.now turns) (length bytes.now) result }
     {
         let from = turns * self.sizes.stride;
-        let rest = padded(bytes, from);
         let left = bytes.len() - from;
-        match self.find_in_turns(&rest, left / self.sizes.stride + 1) {
+        if left < self.sizes.head {
+            return None;
+        }
+        let rest = padded(bytes, from);
+        match self.find_in_turns(&rest, self.sizes.strides_in(left - self.sizes.head) + 1) {
             Some(place) if place + self.sizes.head <= left => Some(from + place),
             _ => None,
         }
@@ -306,7 +335,7 @@ impl Strided {
     /// How many bytes its tables have.
     pub(crate) fn memory_usage(&self) -> usize
         ensures memory_usage { result ≡ 8 * (length self.now.grams + length self.now.heads) }
-        ensures bound { result ≤ 2 ^ 20 }
+        ensures bound { result ≤ 2 ^ 22 }
     {
         8 * (self.grams.len() + self.heads.len())
     }

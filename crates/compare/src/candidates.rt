@@ -1,5 +1,7 @@
 //! Where a prefilter says that a match may start.
 
+ghost use Rattle.std.specs.Prelude.{◌≤◌, length};
+
 use crate::count::Count;
 use aho_core::search::{Input, Match, Span};
 use aho_prefilter::prefilter::{Candidate, Prefilter};
@@ -27,7 +29,24 @@ fn is_right(candidate: &Candidate, span: Span, best: &Option<Match>) -> bool {
     }
 }
 
-/// Compares the candidates of some spans with the best match of each.
+/// Compares the candidate of a span with the best match of it.
+pub(crate) fn compare_candidate(
+    prefilter: &Prefilter,
+    patterns: &PatternSet<'_>,
+    text: &[u8],
+    span: Span,
+    count: &mut Count,
+) -> Result<()>
+    requires ordered { span.start ≤ span.end }
+    requires within { span.end ≤ length text.now }
+{
+    let candidate = prefilter.find_in(text, span);
+    let best = plain(patterns, &Input::new(text).span(span));
+    let right = is_right(&candidate, span, &best);
+    count.same("Prefilter::find_in", &(span, right), &(span, true))
+}
+
+/// Compares the candidates of some spans.
 pub(crate) fn compare_candidates(
     prefilter: &Prefilter,
     patterns: &PatternSet<'_>,
@@ -38,11 +57,7 @@ pub(crate) fn compare_candidates(
     for _ in 0..4 {
         let end = numbers.below(text.len() + 1);
         let start = numbers.below(end + 1);
-        let span = Span { start, end };
-        let candidate = prefilter.find_in(text, span);
-        let best = plain(patterns, &Input::new(text).span(span));
-        let right = is_right(&candidate, span, &best);
-        count.same("Prefilter::find_in", &(span, right), &(span, true))?;
+        compare_candidate(prefilter, patterns, text, Span { start, end }, count)?;
     }
     Ok(())
 }

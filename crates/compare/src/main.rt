@@ -6,7 +6,7 @@
 //! A NAME is a part of the calls, and without one all but the last are made. `memory`: searches, lists and replacements in memory by each
 //! automaton, compared with the plain program. `streams`: streams whose devices cut, end and fail, compared with the same
 //! search in memory. `searcher`: the calls of the one crate. `fixed`: every text of up to six letters over two
-//! letters, and some patterns and texts more, which are the same in each run. The last line says how many calls were compared. Where one differs, the last lines tell the call, its seed, the patterns and the text, and the status is 1.
+//! letters, each prefilter at every length of a span up to 200, and some patterns and texts more, which are the same in each run. The last line says how many calls were compared. Where one differs, the last lines tell the call, its seed, the patterns and the text, and the status is 1.
 #![tactic(auto)]
 
 mod automata;
@@ -15,6 +15,7 @@ mod candidates;
 mod case;
 mod count;
 mod covers;
+mod filters;
 mod fixed;
 mod hostile;
 mod memory;
@@ -29,6 +30,7 @@ mod turns;
 use anyhow::{Context, Result, bail};
 use case::Case;
 use count::Count;
+use filters::compare_filters;
 use fixed::compare_fixed;
 use hostile::{FAMILIES, Family};
 use parts::{Parts, parts_of};
@@ -77,6 +79,7 @@ fn rounds_from(rt: &HostRuntime, seed: u64, rounds: u64, parts: Parts) -> Result
 /// Compares what is the same in each run.
 fn same_in_each_run(alloc: Global, parts: Parts, count: &mut Count) -> Result<()> {
     compare_short(alloc, count)?;
+    compare_filters(alloc, count)?;
     compare_fixed(alloc, parts.all(), count)
 }
 

@@ -102,6 +102,7 @@ pub(crate) fn stops_in_words(searcher: &Searcher) -> bool
         Searcher::Memmem(_)
         | Searcher::Packed(_)
         | Searcher::PackedHeads(_)
+        | Searcher::Windows(_)
         | Searcher::Strided(_) => false,
         Searcher::Memchr(x) => is_word_byte(*x),
         Searcher::Memchr2(x, y) => is_word_byte(*x) || is_word_byte(*y),

@@ -3,7 +3,7 @@
 ghost use Rattle.std.specs.Prelude.{◌≡◌, ℕ, ◌<◌, ◌≤◌, false, slice_index, if◌then◌else◌};
 ghost use Rattle.aho_core.specs.Replacement.{pieces_of};
 ghost use Rattle.aho_prefilter.specs.FirstBytes.{has_byte};
-ghost use Rattle.aho_prefilter.specs.Sizes.{gram_for, has_heads, heads_for, is_crowded, is_few, is_many, is_small, is_sparse, least_head, least_weight, shape_of, sizes_for, stride_for, takes, tested_for, used_below, wanted_gram};
+ghost use Rattle.aho_prefilter.specs.Sizes.{gram_for, has_heads, has_lines, heads_for, is_crowded, is_few, is_many, is_random, is_small, is_sparse, least_head, least_weight, shape_of, sizes_for, stride_for, takes, tested_for, used_below, wanted_gram, words_for};
 
 use crate::packed_heads::{PackedHeads, Tested};
 
@@ -18,6 +18,10 @@ pub(crate) struct Sizes {
     pub(super) head: usize,
     /// Whether ASCII letters are the same in both cases.
     pub(super) ignore_case: bool,
+    /// Whether the first bytes of a gram tell where its two bits are.
+    pub(super) lines: bool,
+    /// How many words the table of grams has.
+    pub(super) words: usize,
 }
 
 /// What the sizes for some patterns depend on.
@@ -152,6 +156,8 @@ impl Shape {
             stride,
             head: self.head,
             ignore_case: self.ignore_case,
+            lines: self.has_lines(),
+            words: self.words(stride),
         })
     }
 
@@ -180,12 +186,43 @@ impl Shape {
     {
         if self.letters <= 8 {
             8
+        } else if self.is_random() {
+            4
         } else if self.count <= 200 {
             4
         } else if self.count <= 8192 {
             (self.head + 2) / 2
         } else {
             (self.head + 4) / 2
+        }
+    }
+
+    /// Whether patterns are made of so many different bytes that they may be any.
+    fn is_random(self) -> bool
+        ensures random { result ≡ is_random self }
+    {
+        self.letters > 128
+    }
+
+    /// Whether the first bytes of a gram tell where its two bits are: for many patterns, and for those of any bytes.
+    fn has_lines(self) -> bool
+        ensures lines { result ≡ has_lines self }
+    {
+        self.count > 8192 || self.is_random()
+    }
+
+    /// How many words the table of grams has: one for each, or more of them for a few; fewer for patterns of any bytes, since a
+    /// text of any bytes meets all of the table.
+    fn words(self, stride: usize) -> usize
+        requires stride { stride ≡ stride_for self }
+        requires few { stride ≤ 8 }
+        ensures words { result ≡ words_for self }
+    {
+        let grams = self.count.min(1 << 18) * stride;
+        if self.is_random() {
+            (grams / 2).min(1 << 16)
+        } else {
+            grams.max((3 * grams).min(8192))
         }
     }
 
@@ -204,7 +241,7 @@ impl Shape {
 }
 
 /// How many bytes the shortest of these patterns has, but sixteen at most.
-fn least_head(patterns: &[&[u8]]) -> usize
+pub(crate) fn least_head(patterns: &[&[u8]]) -> usize
     ensures head { result ≡ least_head (pieces_of patterns.now) }
 {
     let mut head = 16;

@@ -16,7 +16,7 @@ returns-in-Some c = record {
 
 pub returns-in-None : goal.returns-in-None
 returns-in-None c = record {
-  first = first_after (MayStartAt c.args.self.now c.args.bytes.now) 0 _ (length c.args.bytes.now) c.find_in_rest.result (omega arith)
+  first = first_after (MayStartAt c.args.self.now c.args.bytes.now) 0 _ (length c.args.bytes.now) c.find_in_end.result (omega arith)
       (Nowhere-may_start c.args.self.now c.args.bytes.now _ (omega (arith, c.size-size.ensures.size, c.size-size.ensures.short)) (within (length c.args.bytes.now - 15) c.saturating_sub-blocks.result c.saturating_sub-blocks.ensures) c.in-None.ensures.first)
-      c.find_in_rest.ensures.first;
+      c.find_in_end.ensures.first;
 }

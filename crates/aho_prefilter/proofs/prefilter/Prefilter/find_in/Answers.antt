@@ -4,7 +4,7 @@ use Rattle.aho_core.specs.Occurrence.{occurrence}
 use Rattle.aho_prefilter.specs.Finding.{FindsFirst, answer_at}
 use Rattle.aho_prefilter.specs.declared.prefilter.Candidate.TheVariants.{Match, PossibleStartOfMatch, None as Nothing}
 use Rattle.aho_prefilter.specs.declared.prefilter.Searcher.{Searcher}
-use Rattle.aho_prefilter.specs.declared.prefilter.Searcher.TheVariants.{Memmem, Memchr, Memchr2, Memchr3, Packed, PackedHeads, Strided}
+use Rattle.aho_prefilter.specs.declared.prefilter.Searcher.TheVariants.{Memmem, Memchr, Memchr2, Memchr3, Packed, PackedHeads, Windows, Strided}
 use Rattle.aho_prefilter.proofs.Found.{FindsFirst-candidate}
 use Rattle.aho_prefilter.proofs.prefilter.Prefilter.find_in.Goals as goal
 
@@ -16,6 +16,7 @@ possible (Memchr2 x y) place other = refl
 possible (Memchr3 x y z) place other = refl
 possible (Packed packed) place other = refl
 possible (PackedHeads search) place other = refl
+possible (Windows windows) place other = refl
 possible (Strided marks) place other = refl
 
 pub returns-in_default : goal.returns-in_default

@@ -1,17 +1,40 @@
-use Rattle.std.proofs.Common.{◌+◌, ◌*◌, ◌≤◌, arith}
-use Rattle.std.specs.Prelude.{Some}
-use Rattle.std.proofs.Math.Nat.{mul-le-mul_right}
-use Rattle.aho_prefilter.specs.Strided.{IsMarkedAt}
-use Rattle.aho_prefilter.proofs.Firsts.{first_after, first_within}
+use Rattle.std.proofs.Common.{◌≡◌, ◌+◌, ◌*◌, ap, subst, arith}
+use Rattle.std.specs.Prelude.{None, Some}
+use Rattle.memchr.specs.Find.{IsFirst}
+use Rattle.aho_prefilter.specs.Strided.{AreSoundMarks, HasMark, Marks, head_hash}
+use Rattle.aho_prefilter.specs.declared.strided.sizes.Sizes.{Sizes}
+use Rattle.aho_prefilter.proofs.Strides.{IsFirst-turn, Nowhere-turn, Nowhere-turns}
 use Rattle.aho_prefilter.proofs.strided.Strided.find_in_turns.Goals as goal
 
-pub returns-in-Some : goal.returns-in-Some
-returns-in-Some c =
-    let stride = c.args.self.now.sizes.stride in
-    let marked = IsMarkedAt c.args.self.now c.args.bytes.now in
-    let next : c.loop-turn.turn + 1 ≤ c.args.turns = omega (arith, c.loop-turn-test.true) in
-    let below : (c.loop-turn.turn + 1) * stride ≤ c.args.turns * stride = mul-le-mul_right stride next in
-    record {
-      first = first_within marked 0 ((c.loop-turn.turn + 1) * stride) (c.args.turns * stride) c.in-Some.place below
-          (first_after marked 0 (c.loop-turn.turn * stride) ((c.loop-turn.turn + 1) * stride) (Some c.in-Some.place) (omega arith) c.loop-turn.invariant c.in-Some.ensures.first);
-    }
+pub returns-in_default : goal.returns-in_default
+returns-in_default c =
+    let sound = subst AreSoundMarks c.self.view_is c.self.invariant in
+    record { first = Nowhere-turns c.args.self.now c.args.bytes.now c.loop.from c.args.turns sound.sizes.steps c.loop.invariant.2 c.in_default.ensures.next }
+
+pub returns-in-Some-find_head : goal.returns-in-Some-find_head
+returns-in-Some-find_head c =
+    let marks = c.args.self.now in
+    let bytes = c.args.bytes.now in
+    let turn = c.in-Some.turn in
+    let place = c.in-Some-find_head.place in
+    let sound = subst AreSoundMarks c.self.view_is c.self.invariant in
+    let sizes : c.self.inside.sizes ≡ marks.sizes = ap (λ (m : Marks). m.sizes) c.self.view_is in
+    let head =
+    subst (λ (s : Sizes). IsFirst (λ at. HasMark marks.heads (head_hash marks.sizes bytes at)) (turn * s.stride) (turn * s.stride + marks.sizes.stride) (Some place)) sizes
+    c.in-Some-find_head.ensures.first in
+    record { first = IsFirst-turn marks bytes c.loop.from c.args.turns sound.sizes.steps c.loop.invariant.2 turn c.in-Some.ensures.next place head }
+
+pub loop-preserved : goal.loop-preserved
+loop-preserved c =
+    let marks = c.args.self.now in
+    let bytes = c.args.bytes.now in
+    let turn = c.in-Some.turn in
+    let sound = subst AreSoundMarks c.self.view_is c.self.invariant in
+    let sizes : c.self.inside.sizes ≡ marks.sizes = ap (λ (m : Marks). m.sizes) c.self.view_is in
+    let none =
+    subst (λ (s : Sizes). IsFirst (λ at. HasMark marks.heads (head_hash marks.sizes bytes at)) (turn * s.stride) (turn * s.stride + marks.sizes.stride) None) sizes
+    c.in_default-find_head.ensures.first in (
+      omega (arith, c.loop.invariant.0, c.in-Some.ensures.next.0.low),
+      omega (arith, c.in-Some.ensures.next.0.high),
+      Nowhere-turn marks bytes c.loop.from c.args.turns sound.sizes.steps c.loop.invariant.2 turn c.in-Some.ensures.next none,
+    )
