@@ -80,8 +80,11 @@ fn windows_for(
         held ≡ windows_for (patterns_from kind ignore_case (pieces_of patterns.now))) }
     ensures some { IfErr result (λ _. 0 < length patterns.now) }
 {
+    if patterns.len() > MOST_WITH_WINDOWS {
+        return Ok(None);
+    }
     let before = most_before(ignore_case, patterns);
-    if patterns.len() > MOST_WITH_WINDOWS || before == 0 || before > MOST_BEFORE {
+    if before == 0 || before > MOST_BEFORE {
         return Ok(None);
     }
     let windows = windows_of(alloc, ignore_case, patterns)?;
