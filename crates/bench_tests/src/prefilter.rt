@@ -278,9 +278,9 @@ fn a_strided_search_holds_its_tables(rt: HostRuntime) -> Result<(), Fail> {
     let few = quickest_of(rt.alloc(), 100, 6, false, false)?.expect(&rt, "a prefilter");
     assert_same(&rt, few.memory_usage(), 0);
     let both_cases = quickest_of(rt.alloc(), 101, 6, true, true)?.expect(&rt, "a prefilter");
-    assert_same(&rt, both_cases.memory_usage(), 8 * (303 + 64));
+    assert_same(&rt, both_cases.memory_usage(), 8 * (909 + 101));
     let many = quickest_of(rt.alloc(), 101, 6, true, false)?.expect(&rt, "a prefilter");
-    assert_same(&rt, many.memory_usage(), 8 * (303 + 64));
+    assert_same(&rt, many.memory_usage(), 8 * (909 + 101));
     Ok(())
 }
 
