@@ -237,7 +237,8 @@ impl Row {
     /// Adds a byte of those of which the patterns are made.
     fn push_letter(&self, numbers: &mut Numbers, bytes: &mut Vec<u8>) -> Result<(), AllocError> {
         let (first, count) = self.letters;
-        bytes.push(first.wrapping_add(numbers.below(count.max(1)) as u8))?;
+        let step = numbers.below(count.max(1)) % 256;
+        bytes.push(first.wrapping_add(step as u8))?;
         Ok(())
     }
 
