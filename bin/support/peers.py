@@ -1,6 +1,7 @@
 """What `bin/speeds --page` measures beside ours: programs over the Rust crate and over Hyperscan as Debian has them, which are written
 and built in a temporary folder, and the versions of the tools. `PEER KIND CASE PREFILTER DEPTH TIMES PATTERNS TEXT` prints what
 crates/speeds prints; before these the one over the Rust crate takes n or d, its NFA or its DFA."""
+from . import write
 import glob, os, re, shutil, subprocess
 
 TOOLS = [
@@ -115,18 +116,12 @@ int main(int argc, char **words) {
 """
 
 
-def put(path, content):
-    os.makedirs(os.path.dirname(path), exist_ok=True)
-    with open(path, "w") as file:
-        file.write(content)
-
-
 def rust_peer(room):
     """The program over the Rust crate, and what it is."""
     version = glob.glob(f"{REGISTRY}/aho-corasick-0.7.*")[0].rpartition("-")[2]
     folder = os.path.join(room, "rust")
     for name, content in ("Cargo.toml", RUST_MANIFEST), (".cargo/config.toml", RUST_REGISTRY), ("src/main.rs", RUST_MAIN):
-        put(os.path.join(folder, name), content)
+        write(os.path.join(folder, name), content)
     words = ["cargo", "build", "--release", "--offline", "--quiet"]
     subprocess.run(words, cwd=folder, check=True, capture_output=True, env={**os.environ, "CARGO_TARGET_DIR": f"{folder}/target"})
     compiler = subprocess.run(["cargo", "--version"], capture_output=True, text=True).stdout.split()[1]
@@ -135,8 +130,7 @@ def rust_peer(room):
 
 def hyperscan_peer(room):
     """The program over Hyperscan, and what it is."""
-    source, program = os.path.join(room, "peer.c"), os.path.join(room, "hyperscan")
-    put(source, C_MAIN)
+    source, program = write(os.path.join(room, "peer.c"), C_MAIN), os.path.join(room, "hyperscan")
     subprocess.run(["cc", "-O2", "-o", program, source, "-lhs"], check=True, capture_output=True)
     version = subprocess.run([program], check=True, capture_output=True, text=True).stdout.split()[0]
     return program, f"Hyperscan {version}"

@@ -1,0 +1,92 @@
+"""What the scripts of bin and .ci in Python share: where things stand, files, processes and pages. `texts` makes random texts, `timing` measures
+programs, `chart` draws a chart, and `peers` builds the programs of others that are measured beside ours."""
+import importlib.machinery, importlib.util, os, re, shutil, signal, subprocess, sys
+
+TOP = os.path.realpath(os.path.join(os.path.dirname(os.path.realpath(__file__)), "..", ".."))
+STANDS = os.path.join(TOP, "bin", "program")  # the programs and the C library, as they were proved and built
+LIBRARY = "chromesquid_c"  # the crate of the C library
+PART = r"(<!-- `{}` writes what follows -->\n).*?(<!-- and ends here -->)"
+
+
+def read(path, **how):
+    """The text of a file, whose path may begin at the top of the repository."""
+    with open(os.path.join(TOP, path), encoding="utf-8", **how) as file:
+        return file.read()
+
+
+def write(path, content):
+    """Writes a file of text or bytes, whose folder is made if it is not there, and answers its path."""
+    os.makedirs(os.path.dirname(path) or ".", exist_ok=True)
+    with open(path, "wb") as file:
+        file.write(content if isinstance(content, (bytes, bytearray)) else content.encode())
+    return path
+
+
+def write_lines(path, lines):
+    """Writes a file of these lines."""
+    return write(path, "".join(f"{it}\n" for it in lines))
+
+
+def loaded(path, name=None):
+    """A script as a module."""
+    name = name or os.path.basename(path)
+    loader = importlib.machinery.SourceFileLoader(name, os.path.join(TOP, path))
+    sys.modules[name] = module = importlib.util.module_from_spec(importlib.util.spec_from_loader(name, loader))
+    loader.exec_module(module)
+    return module
+
+
+def of_sources(lines, *words):
+    """Runs lines of shell over these words, by the functions of bin/program/sources."""
+    call = ["sh", "-uc", f'. "$top/bin/program/sources"\n{lines}', "sh", *words]
+    return subprocess.run(call, env={**os.environ, "top": TOP, "CDPATH": ""}, stdout=subprocess.PIPE, text=True, check=False)
+
+
+def stands_built(crate):
+    """Whether the program, or the library, in bin/program was built from these sources."""
+    asked = 'is_library_of_these_sources "$top/bin/program"' if crate == LIBRARY else 'is_of_these_sources "$1"'
+    return of_sources(asked, crate).returncode == 0
+
+
+def program_of(name):
+    """Where our program stands: in bin/program, if it was built from these sources, else where `rt run` leaves it."""
+    return os.path.join(STANDS, name) if stands_built(name) else os.path.join(TOP, "crates", name, "out", name)
+
+
+def proved(name):
+    """The path of our program, which is proved and built first if it was not built from these sources; none where that fails."""
+    return of_sources('proved "$1"', name).stdout.strip()
+
+
+def compiler():
+    """The name of a C compiler that is on the path, or none."""
+    return next(filter(shutil.which, ("cc", "gcc", "clang")), None)
+
+
+def end_of(child, seconds, given=None):
+    """What a process writes to its end. After so many seconds it is killed, with its group, and the answer is none."""
+    try:
+        return child.communicate(given, timeout=seconds)
+    except subprocess.TimeoutExpired:
+        os.killpg(child.pid, signal.SIGKILL)
+        return None
+
+
+def with_part(page, command, lines):
+    """A page with these lines between the marks that name the command which writes them."""
+    return re.sub(PART.format(re.escape(command)), lambda it: it[1] + "\n".join(lines) + "\n" + it[2], page, count=1, flags=re.S)
+
+
+def write_part(command, lines):
+    """Writes these lines into docs/SPEED.md, between the marks that name the command."""
+    write(os.path.join(TOP, "docs", "SPEED.md"), with_part(read("docs/SPEED.md"), command, lines))
+
+
+def help_or_usage(words, told, usage, *known):
+    """Ends where a script is asked for help, by what is told of it, or where its words are none of the known ones, by its usage."""
+    if words in (["-h"], ["--help"]):
+        print(told)
+        sys.exit(0)
+    if words not in known:
+        print(f"usage: {usage}", file=sys.stderr)
+        sys.exit(2)
