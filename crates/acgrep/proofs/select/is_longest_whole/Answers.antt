@@ -8,7 +8,7 @@ use Rattle.acgrep.proofs.Whole.{whole_told}
 use Rattle.acgrep.proofs.select.is_longest_whole.Goals as goal
 
 pub returns-in-Some : goal.returns-in-Some
-returns-in-Some g c = record {
+returns-in-Some c = record {
   whole = λ p is kind.
       let line = c.args.line.now in
       let m = c.in-Some.found in
@@ -18,7 +18,7 @@ returns-in-Some g c = record {
 }
 
 pub returns : goal.returns
-returns g c = record {
+returns c = record {
   whole = λ p is kind m occurs start end.
       let line = c.args.line.now in
       let none : IsAnswer p (plain_search line) None =

@@ -1,9 +1,7 @@
 -- A coloured line is asked for.
-use Rattle.std.proofs.Common.{Bool, sym, subst, ◌∙◌}
-use Rattle.std.specs.Prelude.{OnOk}
+use Rattle.std.proofs.Common.{sym, ◌∙◌}
 use Rattle.std.proofs.lemmas.Result.{on_ok_weaker}
 use Rattle.acgrep.proofs.Tellings.{colored_shows}
-use Rattle.acgrep.specs.Matches.{WritesColored}
 use Rattle.acgrep.proofs.select.put_shown.Goals as goal
 
 pub returns-in-Lines : goal.returns-in-Lines
@@ -14,7 +12,5 @@ returns-in-Lines g c =
           on_ok_weaker c.put_colored_line.result
           (colored_shows p c.args.job.now c.args.place (held c.args.output.now) (held c.put_colored_line.new.output) c.args.line.now
           c.in-Lines.is (sym c.colors.ensures.colored ∙ c.if-colors.true))
-          (subst
-          (λ (alone : Bool). OnOk c.put_colored_line.result (WritesColored (held c.args.output.now) (held c.put_colored_line.new.output) p alone c.args.job.now.style c.args.place c.args.line.now))
-          c.asks_alone-alone.ensures.alone (c.put_colored_line.ensures.written p is));
+          (c.put_colored_line.ensures.written p is);
     }
