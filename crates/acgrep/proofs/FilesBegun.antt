@@ -9,7 +9,7 @@ use Rattle.aho_core.specs.Patterns.{Patterns}
 use Rattle.aho_devices.specs.Counts.{AppendsBeginning}
 use Rattle.acgrep.specs.Binary.{TellsBinary, binary_by, is_guarded, lines_by, takes_text, writes_lines}
 use Rattle.acgrep.specs.Contexts.{IsBegin, TellsFrom, TellsIn, around_by, around_of, walk_of}
-use Rattle.acgrep.specs.Files.{AreFilesBegun, BeginsFile, BeginsName, BeginsTotal, IfBroken, IsNamed, IsTail, TellsFirst, known_of, shown_name, total_if}
+use Rattle.acgrep.specs.Files.{AreFilesBegun, BeginsFile, BeginsName, BeginsTotal, IfBroken, IsNamed, IsTail, SearchesFile, TellsFirst, known_of, shown_name, total_if}
 use Rattle.acgrep.specs.Guarded.{SearchesFront}
 use Rattle.acgrep.specs.Streamed.{BeginsBehind, course}
 use Rattle.acgrep.specs.Written.{ShowsBy}
@@ -193,6 +193,17 @@ of_kept (Some xs) (Some ys) text keeps of = of ∙ keeps
 -- the bytes of the file are those of its reader
 pub file_known : (p : Patterns) (job : Job) (known known' held held' : Option (List ℕ)) → Keeps known known' → BeginsFile p job known' held held' → BeginsFile p job known held held'
 file_known p job known known' held held' keeps begins = record { text = begins.text; of = of_kept known known' begins.text keeps begins.of; begins = begins.begins }
+
+-- the same where all of it was searched
+pub file_read : (p : Patterns) (job : Job) (known known' held held' : Option (List ℕ)) (any : Bool) → Keeps known known' → SearchesFile p job known' held held' any
+    → SearchesFile p job known held held' any
+file_read p job known known' held held' any keeps all = record {
+  text = all.text;
+  of = of_kept known known' all.text keeps all.of;
+  bytes = all.bytes;
+  tells = all.tells;
+  written = all.written;
+}
 
 module _ (p : Patterns) (job : Job) (holds : List ℕ → Option (List ℕ)) where
   -- nothing is written

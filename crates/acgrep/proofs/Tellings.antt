@@ -10,15 +10,17 @@ use Rattle.aho_core.specs.Occurrence.{Occurrence}
 use Rattle.acgrep.proofs.LineLists.{ends_drop}
 use Rattle.acgrep.specs.Alone.{asks_alone}
 use Rattle.acgrep.specs.Lines.{EndsLine, lines}
-use Rattle.acgrep.specs.Matches.{WritesColored}
+use Rattle.acgrep.specs.Matches.{WritesColored, WritesMatches}
 use Rattle.acgrep.specs.Objects.{objects_by}
 use Rattle.acgrep.specs.Printed.{colored_from, colored_line_by, head_of, match_by, matches_by, line_number_at, match_code, offset_at, painted, part_of}
-use Rattle.acgrep.specs.Written.{EachLine, HasNone, IsMatched, IsPassedOver, IsSelected, IsSettled, LineOf, DoesMatch, DoesNotMatch, SamePlace, SearchesTo, ShowsBy, TellsOfLines, TellsLines, WritesLine, WritesNext, after_line, after_lines, is_full, is_numbered, next_count, one_more, place_behind, selects}
+use Rattle.acgrep.specs.Written.{EachLine, HasNone, IsMatched, IsPassedOver, IsSelected, IsSettled, LineOf, DoesMatch, DoesNotMatch, MatchesOf, ObjectsOf, SamePlace, SearchesTo, ShowsBy, ShowsLine, TellsOfLines, TellsLines, WritesLine, WritesNext, after_line, after_lines, is_full, is_numbered, next_count, one_more, place_behind, selects}
+use Rattle.acgrep.specs.declared.matches.Shape.TheVariants.{AsFields, OnLines}
 use Rattle.acgrep.specs.declared.options.Fit.{Fit}
 use Rattle.acgrep.specs.declared.options.Fit.TheVariants.{AnyPart, WholeWord, WholeLine}
 use Rattle.acgrep.specs.declared.options.Shown.{Shown}
 use Rattle.acgrep.specs.declared.options.Shown.TheVariants.{Lines, Matches, Objects, Count, Names, Lacking, Nothing}
 use Rattle.acgrep.specs.declared.print.Place.{Place}
+use Rattle.acgrep.specs.declared.print.Style.{Style}
 use Rattle.acgrep.specs.declared.select.Job.{Job}
 use Rattle.acgrep.specs.declared.select.State.{State}
 
@@ -73,6 +75,61 @@ colored_shows p job place old new line whole colored writes =
           (subst (λ (b : Bool). LineOf p (asks_alone job.fit) b job.style place line bytes) (sym colored) (writes.matches, writes.found, refl)),
       writes.written,
     )
+
+-- what is written where no line is turned round
+unless_inverted : (invert : Bool) (A B : Type 0) → invert ≡ false → B → MatchBool invert A B
+unless_inverted false A B plain b = b
+unless_inverted true A B plain b = absurd (true≢false plain)
+
+-- and where one is
+where_inverted : (invert : Bool) (A B : Type 0) → invert ≡ true → A → MatchBool invert A B
+where_inverted true A B turned a = a
+where_inverted false A B turned a = absurd (true≢false (sym turned))
+
+-- the matches are what is written of a line where they are asked for
+pub matches_shows : (p : Patterns) (job : Job) (place : Place) (old new : Option (List ℕ)) (line : List ℕ) → job.shown ≡ Matches → job.invert ≡ false
+    → WritesMatches old new p OnLines (asks_alone job.fit) job.style place line → WritesLine p job place old new line
+matches_shows p job place old new line whole plain writes =
+    let bytes = matches_by job.style place line writes.matches in (
+      bytes,
+      subst (λ (shown : Shown). ShowsBy p shown (asks_alone job.fit) job.invert job.style place line bytes) (sym whole)
+          (unless_inverted job.invert (bytes ≡ []) (MatchesOf p (asks_alone job.fit) job.style place line bytes) plain (writes.matches, writes.found, refl)),
+      writes.written,
+    )
+
+-- the same of objects
+pub objects_shows : (p : Patterns) (job : Job) (place : Place) (old new : Option (List ℕ)) (line : List ℕ) → job.shown ≡ Objects → job.invert ≡ false
+    → WritesMatches old new p AsFields (asks_alone job.fit) job.style place line → WritesLine p job place old new line
+objects_shows p job place old new line whole plain writes =
+    let bytes = objects_by job.style place line writes.matches in (
+      bytes,
+      subst (λ (shown : Shown). ShowsBy p shown (asks_alone job.fit) job.invert job.style place line bytes) (sym whole)
+          (unless_inverted job.invert (bytes ≡ []) (ObjectsOf p (asks_alone job.fit) job.style place line bytes) plain (writes.matches, writes.found, refl)),
+      writes.written,
+    )
+
+-- where lines are turned round no match is written
+pub nothing_of_matches : (p : Patterns) (job : Job) (place : Place) (line : List ℕ) → job.shown ≡ Matches → job.invert ≡ true → ShowsLine p job place line []
+nothing_of_matches p job place line whole turned =
+    subst (λ (shown : Shown). ShowsBy p shown (asks_alone job.fit) job.invert job.style place line []) (sym whole)
+    (where_inverted job.invert ([] ≡ []) (MatchesOf p (asks_alone job.fit) job.style place line []) turned refl)
+
+-- and no object
+pub nothing_of_objects : (p : Patterns) (job : Job) (place : Place) (line : List ℕ) → job.shown ≡ Objects → job.invert ≡ true → ShowsLine p job place line []
+nothing_of_objects p job place line whole turned =
+    subst (λ (shown : Shown). ShowsBy p shown (asks_alone job.fit) job.invert job.style place line []) (sym whole)
+    (where_inverted job.invert ([] ≡ []) (ObjectsOf p (asks_alone job.fit) job.style place line []) turned refl)
+
+-- where neither lines nor matches nor objects are asked for nothing is written
+pub nothing_else : (p : Patterns) (shown : Shown) (alone invert : Bool) (style : Style) (place : Place) (line : List ℕ) → (shown ≡ Lines → ⊥) → (shown ≡ Matches → ⊥)
+    → (shown ≡ Objects → ⊥) → ShowsBy p shown alone invert style place line []
+nothing_else p Lines alone invert style place line whole matches objects = absurd (whole refl)
+nothing_else p Matches alone invert style place line whole matches objects = absurd (matches refl)
+nothing_else p Objects alone invert style place line whole matches objects = absurd (objects refl)
+nothing_else p Count alone invert style place line whole matches objects = refl
+nothing_else p Names alone invert style place line whole matches objects = refl
+nothing_else p Lacking alone invert style place line whole matches objects = refl
+nothing_else p Nothing alone invert style place line whole matches objects = refl
 
 -- what stands before a line is the same
 same_head : (job : Job) (a b : Place) (offset : ℕ) (bytes : List ℕ) → SamePlace job a b → head_of job.style (line_number_at a) offset bytes ≡ head_of job.style (line_number_at b) offset bytes

@@ -4,6 +4,7 @@ use Rattle.std.specs.Borrow.{Bor}
 use Rattle.std.specs.declared.io.traits.Read.{Ghosts as Readers}
 use Rattle.aho_core.specs.Replacement.{pieces_of}
 use Rattle.aho_devices.specs.declared.device.Sink.{Ghosts as SinkGhosts}
+use Rattle.chromesquid.specs.Searcher.{Searcher}
 use Rattle.programs.specs.Names.{name_bytes}
 use Rattle.acgrep.specs.Arguments.{Said}
 use Rattle.acgrep.specs.Folders.{known_by}
@@ -12,11 +13,10 @@ use Rattle.acgrep.specs.Searchers.{ForSearcher}
 use Rattle.acgrep.specs.declared.colors.Screen.{Screen}
 use Rattle.acgrep.specs.declared.folders.Folders.{Ghosts as FolderGhosts}
 use Rattle.acgrep.specs.declared.open.Open.{Ghosts as Openers}
-use Rattle.acgrep.specs.declared.searcher.Searcher.{Searcher}
 
 -- files are opened and folders listed by one value, standard input is read from another, and a third is written to
 module _ {F X R W : Type 0} (openers : Openers F X) (folders : FolderGhosts F) (readers : Readers R) (sinks : SinkGhosts W) (files : F) (names : List (Bor (List ℕ))) (searcher : Searcher) (screen : Screen) (given : Said) (patterns : List (Bor (List ℕ))) where
-  -- the matches in the files that these operands name are counted, whatever patterns the automaton is of
+  -- the matches in the files that these operands name are counted, whatever patterns the searcher was built from
   abbrev pub CountsOperands : R → R → W → W → ℕ → Type 0
   CountsOperands input input' output output' status =
       ForSearcher searcher given.flags (λ p. status < 2

@@ -2,9 +2,9 @@
 use Rattle.std.specs.Prelude.{ℕ, Bool, List, [], Option, Result, OnOk, length}
 use Rattle.std.specs.Io.KnownBytes.{Appends}
 use Rattle.std.specs.declared.io.traits.Write.{Ghosts as Writers}
-use Rattle.aho_automaton.specs.declared.automaton.Automaton.{Ghosts as Automata}
 use Rattle.aho_core.specs.Occurrence.{Occurrence}
 use Rattle.aho_core.specs.Patterns.{Patterns}
+use Rattle.chromesquid.specs.Searcher.{IsBuiltFrom, Searcher}
 use Rattle.acgrep.specs.Alone.{AreShownOf}
 use Rattle.acgrep.specs.Objects.{object_by, objects_by}
 use Rattle.acgrep.specs.Printed.{behind_match, colored_by, colored_from, colored_line_by, match_by, matches_by, part_of}
@@ -49,13 +49,13 @@ pub record WritesColored (old new : Option (List ℕ)) (p : Patterns) (alone : B
   pub found : AreShownOf p alone line matches
   pub written : Appends old new (colored_line_by style place line matches)
 
-module _ {A W : Type 0} (automata : Automata A) (writers : Writers W) (automaton : A) where
-  -- where a call does not fail the matches of the automaton's patterns were written
+module _ {W : Type 0} (writers : Writers W) (searcher : Searcher) where
+  -- where a call does not fail the matches of the searcher's patterns were written
   abbrev pub PutsMatches : Shape → (alone : Bool) → Style → Place → List ℕ → (old new : W) → {T E : Type 0} → Result T E → Type 0
-  PutsMatches shape alone style place line old new result = (p : Patterns) → automata.is_of automaton p
+  PutsMatches shape alone style place line old new result = (p : Patterns) → IsBuiltFrom searcher p
       → OnOk result (WritesMatches (writers.contents old) (writers.contents new) p shape alone style place line)
 
   -- or a line was with those matches in colour
   abbrev pub PutsColored : (alone : Bool) → Style → Place → List ℕ → (old new : W) → {T E : Type 0} → Result T E → Type 0
-  PutsColored alone style place line old new result = (p : Patterns) → automata.is_of automaton p
+  PutsColored alone style place line old new result = (p : Patterns) → IsBuiltFrom searcher p
       → OnOk result (WritesColored (writers.contents old) (writers.contents new) p alone style place line)

@@ -3,6 +3,7 @@ use Rattle.std.specs.Prelude.{◌≡◌, ◌⊎◌, ℕ, ◌<◌, Bool, true, fa
 use Rattle.std.specs.Borrow.{Bor}
 use Rattle.std.specs.declared.io.traits.Read.{Ghosts as Readers}
 use Rattle.aho_devices.specs.declared.device.Sink.{Ghosts as SinkGhosts}
+use Rattle.chromesquid.specs.Searcher.{Searcher}
 use Rattle.programs.specs.Telling.{Tells, TellsSome}
 use Rattle.programs.specs.declared.errors.Errors.{Errors}
 use Rattle.programs.specs.Names.{name_bytes}
@@ -14,7 +15,6 @@ use Rattle.acgrep.specs.Told.{IsMessage}
 use Rattle.acgrep.specs.declared.colors.Screen.{Screen}
 use Rattle.acgrep.specs.declared.folders.Folders.{Ghosts as FolderGhosts}
 use Rattle.acgrep.specs.declared.open.Open.{Ghosts as Openers}
-use Rattle.acgrep.specs.declared.searcher.Searcher.{Searcher}
 
 -- each of these names is told, unless nothing is to be told of them
 pub record TellsMissed {E : Type 0} (K : SinkGhosts E) (hushed : Bool) (unread : List (List ℕ)) (old new : Errors E) : Type 0 where
@@ -24,7 +24,7 @@ pub record TellsMissed {E : Type 0} (K : SinkGhosts E) (hushed : Bool) (unread :
 
 -- files are opened and folders listed by one value, standard input is read from another, and a third is written to
 module _ {F X R W : Type 0} (openers : Openers F X) (folders : FolderGhosts F) (readers : Readers R) (sinks : SinkGhosts W) where
-  -- the files that these operands name are searched by an automaton, whatever patterns it is of
+  -- the files that these operands name are searched, whatever patterns the searcher was built from
   abbrev pub SearchesOperands : F → List (Bor (List ℕ)) → Searcher → Screen → Said → R → R → W → W → ℕ → Type 0
   SearchesOperands files names searcher screen given input input' output output' status =
       ForSearcher searcher given.flags (λ p. status < 2

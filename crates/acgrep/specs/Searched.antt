@@ -1,12 +1,12 @@
--- What searching by an automaton does, of whatever patterns it is.
+-- What searching does, whatever patterns the searcher was built from.
 use Rattle.std.specs.Prelude.{◌≡◌, ℕ, Bool, true, false, List, [], ◌∷◌, Option, Result, IfOk, OnErr, OnOk}
 use Rattle.std.specs.Borrow.{Bor}
 use Rattle.std.specs.Io.KnownBytes.{Appends}
 use Rattle.std.specs.declared.io.traits.Read.{Ghosts as Readers}
 use Rattle.std.specs.declared.io.traits.Write.{Ghosts as Writers}
 use Rattle.aho_core.specs.Patterns.{Patterns}
-use Rattle.aho_automaton.specs.declared.automaton.Automaton.{Ghosts as Automata}
 use Rattle.aho_devices.specs.declared.device.Sink.{Ghosts as SinkGhosts}
+use Rattle.chromesquid.specs.Searcher.{IsBuiltFrom, Searcher}
 use Rattle.programs.specs.Names.{name_bytes}
 use Rattle.acgrep.specs.Contexts.{BeginsLines, BeginsSearched, IsChosenBy, SearchesText, ShowsEach, ShowsGroup, WalksBegun, WalksLines, WalksText, walk_of}
 use Rattle.acgrep.specs.Files.{AreFilesBegun, BeginsFile, IfBroken, IfSearched, SearchesFile, SearchesReader}
@@ -33,150 +33,150 @@ abbrev pub WritesNextBy : (Patterns → Type 0) → Job → State → (held held
 WritesNextBy Are job before held held' line result = (p : Patterns) → Are p → OnOk result (WritesNext p job before held held' line)
 
 -- the lines of a text are searched where a call does not fail, and where it fails a beginning of what is told of them is written
-module _ {A W : Type 0} (automata : Automata A) (sinks : SinkGhosts W) (automaton : A) (job : Job) (before after : State) (old new : W) where
+module _ {W : Type 0} (sinks : SinkGhosts W) (searcher : Searcher) (job : Job) (before after : State) (old new : W) where
   abbrev pub SearchesTextBy : {T E : Type 0} → List ℕ → Result T E → Type 0
   SearchesTextBy text result =
-      ForLines job.style.ending (automata.is_of automaton) (λ p. OnOk result (SearchesText p job before after (sinks.taken old) (sinks.taken new) text))
+      ForLines job.style.ending (IsBuiltFrom searcher) (λ p. OnOk result (SearchesText p job before after (sinks.taken old) (sinks.taken new) text))
 
   abbrev pub BeginsTextBy : {T E : Type 0} → List ℕ → Result T E → Type 0
   BeginsTextBy text result =
-      ForLines job.style.ending (automata.is_of automaton) (λ p. OnErr result (BeginsSearched p job before after.selected (sinks.taken old) (sinks.taken new) (lines job.style.ending text)))
+      ForLines job.style.ending (IsBuiltFrom searcher) (λ p. OnErr result (BeginsSearched p job before after.selected (sinks.taken old) (sinks.taken new) (lines job.style.ending text)))
 
   -- where no lines around selected ones are asked for
   abbrev pub SearchesPlainBy : {T E : Type 0} → List ℕ → Result T E → Type 0
   SearchesPlainBy text result =
-      ForLines job.style.ending (automata.is_of automaton) (λ p. OnOk result (SearchesPlain p job before after (sinks.taken old) (sinks.taken new) text))
+      ForLines job.style.ending (IsBuiltFrom searcher) (λ p. OnOk result (SearchesPlain p job before after (sinks.taken old) (sinks.taken new) text))
 
   abbrev pub BeginsPlainBy : {T E : Type 0} → List ℕ → Result T E → Type 0
   BeginsPlainBy text result =
-      ForLines job.style.ending (automata.is_of automaton) (λ p. OnErr result (BeginsLines p job before after.selected (sinks.taken old) (sinks.taken new) (lines job.style.ending text)))
+      ForLines job.style.ending (IsBuiltFrom searcher) (λ p. OnErr result (BeginsLines p job before after.selected (sinks.taken old) (sinks.taken new) (lines job.style.ending text)))
 
   -- where they are
   abbrev pub WalksBy : {T E : Type 0} → Context → List ℕ → Result T E → Type 0
   WalksBy context text result =
-      (p : Patterns) → automata.is_of automaton p → OnOk result (WalksText p job context before after (sinks.taken old) (sinks.taken new) text)
+      (p : Patterns) → IsBuiltFrom searcher p → OnOk result (WalksText p job context before after (sinks.taken old) (sinks.taken new) text)
 
   abbrev pub BegunBy : {T E : Type 0} → Context → List ℕ → Result T E → Type 0
   BegunBy context text result =
-      (p : Patterns) → automata.is_of automaton p → OnErr result (WalksBegun p job context (walk_of before) (sinks.taken old) (sinks.taken new) (lines job.style.ending text))
+      (p : Patterns) → IsBuiltFrom searcher p → OnErr result (WalksBegun p job context (walk_of before) (sinks.taken old) (sinks.taken new) (lines job.style.ending text))
 
   -- of one line
   abbrev pub StepsBy : {T E : Type 0} → Context → List ℕ → Result T E → Type 0
-  StepsBy context line result = (p : Patterns) → automata.is_of automaton p
+  StepsBy context line result = (p : Patterns) → IsBuiltFrom searcher p
       → OnOk result (WalksLines p job context (walk_of before) (walk_of after) (sinks.taken old) (sinks.taken new) (line ∷ []))
 
   abbrev pub BeginsLineAround : {T E : Type 0} → Context → List ℕ → Result T E → Type 0
-  BeginsLineAround context line result = (p : Patterns) → automata.is_of automaton p
+  BeginsLineAround context line result = (p : Patterns) → IsBuiltFrom searcher p
       → OnErr result (WalksBegun p job context (walk_of before) (sinks.taken old) (sinks.taken new) (line ∷ []))
 
   -- that is selected, where more are asked for
   abbrev pub TakesBy : {T E : Type 0} → Context → List ℕ → Result T E → Type 0
-  TakesBy context line result = (p : Patterns) → automata.is_of automaton p → IsChosenBy p job before.selected line true
+  TakesBy context line result = (p : Patterns) → IsBuiltFrom searcher p → IsChosenBy p job before.selected line true
       → OnOk result (WalksLines p job context (walk_of before) (walk_of after) (sinks.taken old) (sinks.taken new) (line ∷ []))
 
   abbrev pub BeginsTakenBy : {T E : Type 0} → Context → List ℕ → Result T E → Type 0
-  BeginsTakenBy context line result = (p : Patterns) → automata.is_of automaton p → IsChosenBy p job before.selected line true
+  BeginsTakenBy context line result = (p : Patterns) → IsBuiltFrom searcher p → IsChosenBy p job before.selected line true
       → OnErr result (WalksBegun p job context (walk_of before) (sinks.taken old) (sinks.taken new) (line ∷ []))
 
   -- that is not
   abbrev pub SkipsBy : {T E : Type 0} → Context → List ℕ → Result T E → Type 0
-  SkipsBy context line result = (p : Patterns) → automata.is_of automaton p → IsChosenBy p job before.selected line false
+  SkipsBy context line result = (p : Patterns) → IsBuiltFrom searcher p → IsChosenBy p job before.selected line false
       → OnOk result (WalksLines p job context (walk_of before) (walk_of after) (sinks.taken old) (sinks.taken new) (line ∷ []))
 
   abbrev pub BeginsPassedBy : {T E : Type 0} → Context → List ℕ → Result T E → Type 0
-  BeginsPassedBy context line result = (p : Patterns) → automata.is_of automaton p → IsChosenBy p job before.selected line false
+  BeginsPassedBy context line result = (p : Patterns) → IsBuiltFrom searcher p → IsChosenBy p job before.selected line false
       → OnErr result (WalksBegun p job context (walk_of before) (sinks.taken old) (sinks.taken new) (line ∷ []))
 
   -- up to those that are answered
   abbrev pub SearchesSomeBy : {E : Type 0} → List ℕ → Result (Bor (List ℕ)) E → Type 0
   SearchesSomeBy text result =
-      ForLines job.style.ending (automata.is_of automaton) (λ p. IfOk result (λ left. SearchesTo p job before after (sinks.taken old) (sinks.taken new) text left.now))
+      ForLines job.style.ending (IsBuiltFrom searcher) (λ p. IfOk result (λ left. SearchesTo p job before after (sinks.taken old) (sinks.taken new) text left.now))
 
   -- of a line of which it is known whether it matches
   abbrev pub TellsLineBy : {T E : Type 0} → Bool → List ℕ → Result T E → Type 0
-  TellsLineBy matched line result = (p : Patterns) → automata.is_of automaton p → IsMatched p job.fit line matched
+  TellsLineBy matched line result = (p : Patterns) → IsBuiltFrom searcher p → IsMatched p job.fit line matched
       → OnOk result (TellsLines p job before after (sinks.taken old) (sinks.taken new) (line ∷ []))
 
   abbrev pub BeginsOneBy : {T E : Type 0} → Bool → List ℕ → Result T E → Type 0
-  BeginsOneBy matched line result = (p : Patterns) → automata.is_of automaton p → IsMatched p job.fit line matched
+  BeginsOneBy matched line result = (p : Patterns) → IsBuiltFrom searcher p → IsMatched p job.fit line matched
       → OnErr result (BeginsLines p job before after.selected (sinks.taken old) (sinks.taken new) (line ∷ []))
 
   -- of a line in which a pattern occurs
   abbrev pub TellsMatchBy : {T E : Type 0} → List ℕ → Result T E → Type 0
-  TellsMatchBy line result = (p : Patterns) → automata.is_of automaton p → HasMatch p line
+  TellsMatchBy line result = (p : Patterns) → IsBuiltFrom searcher p → HasMatch p line
       → OnOk result (TellsLines p job before after (sinks.taken old) (sinks.taken new) (line ∷ []))
 
   abbrev pub BeginsMatchBy : {T E : Type 0} → List ℕ → Result T E → Type 0
-  BeginsMatchBy line result = (p : Patterns) → automata.is_of automaton p → HasMatch p line
+  BeginsMatchBy line result = (p : Patterns) → IsBuiltFrom searcher p → HasMatch p line
       → OnErr result (BeginsLines p job before after.selected (sinks.taken old) (sinks.taken new) (line ∷ []))
 
   -- of a line that is selected
   abbrev pub BeginsSelectedBy : {T E : Type 0} → List ℕ → Result T E → Type 0
-  BeginsSelectedBy line result = (p : Patterns) → automata.is_of automaton p → IsSelected p job.fit job.invert line
+  BeginsSelectedBy line result = (p : Patterns) → IsBuiltFrom searcher p → IsSelected p job.fit job.invert line
       → OnErr result (BeginsLines p job before after.selected (sinks.taken old) (sinks.taken new) (line ∷ []))
 
   -- of lines without a match
   abbrev pub TellsOthersBy : {T E : Type 0} → List ℕ → Result T E → Type 0
-  TellsOthersBy text result = (p : Patterns) → automata.is_of automaton p → EachLine (HasNone p) (lines job.style.ending text)
+  TellsOthersBy text result = (p : Patterns) → IsBuiltFrom searcher p → EachLine (HasNone p) (lines job.style.ending text)
       → OnOk result (TellsLines p job before after (sinks.taken old) (sinks.taken new) (lines job.style.ending text))
 
   abbrev pub BeginsOthersBy : {T E : Type 0} → List ℕ → Result T E → Type 0
-  BeginsOthersBy text result = (p : Patterns) → automata.is_of automaton p → EachLine (HasNone p) (lines job.style.ending text)
+  BeginsOthersBy text result = (p : Patterns) → IsBuiltFrom searcher p → EachLine (HasNone p) (lines job.style.ending text)
       → OnErr result (BeginsLines p job before after.selected (sinks.taken old) (sinks.taken new) (lines job.style.ending text))
 
   -- of such lines, where they are selected
   abbrev pub TellsInvertedBy : {T E : Type 0} → List ℕ → Result T E → Type 0
-  TellsInvertedBy text result = (p : Patterns) → automata.is_of automaton p → job.invert ≡ true → EachLine (HasNone p) (lines job.style.ending text)
+  TellsInvertedBy text result = (p : Patterns) → IsBuiltFrom searcher p → job.invert ≡ true → EachLine (HasNone p) (lines job.style.ending text)
       → OnOk result (TellsLines p job before after (sinks.taken old) (sinks.taken new) (lines job.style.ending text))
 
   abbrev pub BeginsInvertedBy : {T E : Type 0} → List ℕ → Result T E → Type 0
-  BeginsInvertedBy text result = (p : Patterns) → automata.is_of automaton p → job.invert ≡ true → EachLine (HasNone p) (lines job.style.ending text)
+  BeginsInvertedBy text result = (p : Patterns) → IsBuiltFrom searcher p → job.invert ≡ true → EachLine (HasNone p) (lines job.style.ending text)
       → OnErr result (BeginsLines p job before after.selected (sinks.taken old) (sinks.taken new) (lines job.style.ending text))
 
 -- a file was searched, or a beginning of what is asked of it is written
-module _ {A W : Type 0} (automata : Automata A) (sinks : SinkGhosts W) (automaton : A) (job : Job) (known : Option (List ℕ)) (old new : W) (outcome : Outcome) where
+module _ {W : Type 0} (sinks : SinkGhosts W) (searcher : Searcher) (job : Job) (known : Option (List ℕ)) (old new : W) (outcome : Outcome) where
   abbrev pub SearchesFileBy : Type 0
-  SearchesFileBy = ForLines job.style.ending (automata.is_of automaton) (λ p. IfSearched outcome (SearchesFile p job known (sinks.taken old) (sinks.taken new)))
+  SearchesFileBy = ForLines job.style.ending (IsBuiltFrom searcher) (λ p. IfSearched outcome (SearchesFile p job known (sinks.taken old) (sinks.taken new)))
 
   abbrev pub BeginsFileBy : Type 0
-  BeginsFileBy = ForLines job.style.ending (automata.is_of automaton) (λ p. IfBroken outcome (BeginsFile p job known (sinks.taken old) (sinks.taken new)))
+  BeginsFileBy = ForLines job.style.ending (IsBuiltFrom searcher) (λ p. IfBroken outcome (BeginsFile p job known (sinks.taken old) (sinks.taken new)))
 
 -- all that a reader has left was searched
-abbrev pub SearchesReaderBy : {A R W : Type 0} → Automata A → Readers R → SinkGhosts W → A → Job → R → R → W → W → Outcome → Type 0
-SearchesReaderBy automata readers sinks automaton job reader reader' old new outcome = ForLines job.style.ending (automata.is_of automaton)
+abbrev pub SearchesReaderBy : {R W : Type 0} → Readers R → SinkGhosts W → Searcher → Job → R → R → W → W → Outcome → Type 0
+SearchesReaderBy readers sinks searcher job reader reader' old new outcome = ForLines job.style.ending (IsBuiltFrom searcher)
     (λ p. IfSearched outcome (SearchesReader p job (readers.remaining reader) (readers.remaining reader') (sinks.taken old) (sinks.taken new)))
 
 -- where lines with a zero byte are kept from the output too: where a call does not fail, and where it fails a beginning of that is written
-module _ {A R W : Type 0} (automata : Automata A) (readers : Readers R) (sinks : SinkGhosts W) (automaton : A) (job : Job) where
+module _ {R W : Type 0} (readers : Readers R) (sinks : SinkGhosts W) (searcher : Searcher) (job : Job) where
   abbrev pub SearchesGuardedBy : {E : Type 0} → R → R → W → W → Result Bool E → Type 0
-  SearchesGuardedBy reader reader' old new result = ForLines job.style.ending (automata.is_of automaton)
+  SearchesGuardedBy reader reader' old new result = ForLines job.style.ending (IsBuiltFrom searcher)
       (λ p. IfOk result (SearchesReader p job (readers.remaining reader) (readers.remaining reader') (sinks.taken old) (sinks.taken new)))
 
   abbrev pub BeginsGuardedBy : {T E : Type 0} → R → W → W → Result T E → Type 0
-  BeginsGuardedBy reader old new result = ForLines job.style.ending (automata.is_of automaton)
+  BeginsGuardedBy reader old new result = ForLines job.style.ending (IsBuiltFrom searcher)
       (λ p. OnErr result (BeginsFile p job (readers.remaining reader) (sinks.taken old) (sinks.taken new)))
 
   -- the lines of what is there and comes are searched, and where a call fails a beginning of what is told of them is written
   abbrev pub BeginsReadBy : {T E : Type 0} → (alone : Bool) → State → State → R → W → W → List ℕ → Result T E → Type 0
-  BeginsReadBy alone before after reader old new kept result = ForLines job.style.ending (automata.is_of automaton)
+  BeginsReadBy alone before after reader old new kept result = ForLines job.style.ending (IsBuiltFrom searcher)
       (λ p. OnErr result (BeginsBehind p job alone before after (sinks.taken old) (sinks.taken new) (readers.remaining reader) kept))
 
   -- whether a line is selected of those that are there or come
   abbrev pub FindsBy : {E : Type 0} → Buffer → R → R → W → W → Result Bool E → Type 0
-  FindsBy buffer reader reader' old new result = ForLines job.style.ending (automata.is_of automaton)
+  FindsBy buffer reader reader' old new result = ForLines job.style.ending (IsBuiltFrom searcher)
       (λ p. IfOk result (FindsSelected p job (bytes_buffered buffer) (readers.remaining reader) (readers.remaining reader') (sinks.taken old) (sinks.taken new)))
 
 -- of some first ones of the files of these names all that is asked is written, or a beginning of it
-abbrev pub BeginsFilesBy : {A F X R W : Type 0} → Automata A → Openers F X → Readers R → SinkGhosts W → A → Job → F → List (Bor (List ℕ)) → R → W → W → Type 0
-BeginsFilesBy automata openers readers sinks automaton job files names input old new = ForLines job.style.ending (automata.is_of automaton)
+abbrev pub BeginsFilesBy : {F X R W : Type 0} → Openers F X → Readers R → SinkGhosts W → Searcher → Job → F → List (Bor (List ℕ)) → R → W → W → Type 0
+BeginsFilesBy openers readers sinks searcher job files names input old new = ForLines job.style.ending (IsBuiltFrom searcher)
     (λ p. AreFilesBegun p job false (openers.holds files) (name_bytes names) (readers.remaining input) (sinks.taken old) (sinks.taken new))
 
 -- what is asked of lines around a selected one is written, from a place on
-abbrev pub ShowsEachBy : {A W : Type 0} → Automata A → Writers W → A → Job → Place → List (List ℕ) → W → W → {T E : Type 0} → Result T E → Type 0
-ShowsEachBy automata writers automaton job place ls old new result = (p : Patterns) → automata.is_of automaton p
+abbrev pub ShowsEachBy : {W : Type 0} → Writers W → Searcher → Job → Place → List (List ℕ) → W → W → {T E : Type 0} → Result T E → Type 0
+ShowsEachBy writers searcher job place ls old new result = (p : Patterns) → IsBuiltFrom searcher p
     → OnOk result ((bytes : List ℕ) × ShowsEach p job place ls bytes × Appends (writers.contents old) (writers.contents new) bytes)
 
 -- and of a selected one with those held before it
-abbrev pub ShowsGroupBy : {A W : Type 0} → Automata A → Writers W → A → Job → Context → State → List ℕ → W → W → {T E : Type 0} → Result T E → Type 0
-ShowsGroupBy automata writers automaton job context state line old new result = (p : Patterns) → automata.is_of automaton p
+abbrev pub ShowsGroupBy : {W : Type 0} → Writers W → Searcher → Job → Context → State → List ℕ → W → W → {T E : Type 0} → Result T E → Type 0
+ShowsGroupBy writers searcher job context state line old new result = (p : Patterns) → IsBuiltFrom searcher p
     → OnOk result ((bytes : List ℕ) × ShowsGroup p job context (walk_of state) line bytes × Appends (writers.contents old) (writers.contents new) bytes)

@@ -6,56 +6,53 @@ ghost use Rattle.aho_core.specs.Best.{IsBestOrNone};
 ghost use Rattle.aho_core.specs.Patterns.{Patterns};
 ghost use Rattle.aho_core.specs.declared.search.MatchKind.TheVariants.{LeftmostLongest};
 ghost use Rattle.aho_laws.specs.CutLaws.{span_search};
+ghost use Rattle.chromesquid.specs.Searcher.{IsBuiltFrom, IsBuiltFromSome};
 ghost use Rattle.acgrep.specs.Alone.{IsAloneAt, IsLongestThere, IsNextAlone, IsShorter, begins_alone, behind_alone, ends_alone, is_word_constituent};
 ghost use Rattle.acgrep.specs.Written.{IsMatched};
 ghost use Rattle.acgrep.specs.declared.options.Fit.TheVariants.{WholeWord};
 
 use crate::failure::Stop;
-use chromesquid::{Automaton, Input, Match, MatchError, MatchKind, Span};
+use chromesquid::{AhoCorasick, Input, Match, MatchError, MatchKind, Span};
 
 /// Whether a match of a line stands alone.
-pub fn has_alone<A: Automaton>(automaton: &A, line: &[u8]) -> Result<bool, Stop>
-    requires of { (p : Patterns) × A.is_of automaton.now p }
-    ensures alone { (p : Patterns) → A.is_of automaton.now p
+pub fn has_alone(searcher: &AhoCorasick, line: &[u8]) -> Result<bool, Stop>
+    requires of { IsBuiltFromSome searcher.now }
+    ensures alone { (p : Patterns) → IsBuiltFrom searcher.now p
         → IfOk result (IsMatched p WholeWord line.now) }
 {
-    match next_alone(automaton, line, 0)? {
+    match next_alone(searcher, line, 0)? {
         Some(_) => Ok(true),
         None => Ok(false),
     }
 }
 
 /// Of the matches of a line that stand alone, and begin at a place or behind it, the first, and of those that begin there the longest.
-pub fn next_alone<A: Automaton>(
-    automaton: &A,
-    line: &[u8],
-    at: usize,
-) -> Result<Option<Match>, Stop>
-    requires of { (p : Patterns) × A.is_of automaton.now p }
+pub fn next_alone(searcher: &AhoCorasick, line: &[u8], at: usize) -> Result<Option<Match>, Stop>
+    requires of { IsBuiltFromSome searcher.now }
     requires within { at ≤ length line.now + 1 }
     ensures behind { IfOk result (λ found. IfSome found (λ m. at ≤ m.start)) }
     ensures within { IfOk result (λ found. IfSome found (λ m. m.end ≤ length line.now)) }
-    ensures next { (p : Patterns) → A.is_of automaton.now p
+    ensures next { (p : Patterns) → IsBuiltFrom searcher.now p
         → IfOk result (IsNextAlone p line.now at) }
 {
-    match automaton.match_kind() {
-        MatchKind::LeftmostLongest => longest_alone(automaton, line, at),
+    match searcher.match_kind() {
+        MatchKind::LeftmostLongest => longest_alone(searcher, line, at),
         kind => Err(Stop::Search(MatchError::unsupported_overlapping(kind))),
     }
 }
 
 /// The same where of the matches that begin first the longest is found.
-fn longest_alone<A: Automaton>(automaton: &A, line: &[u8], at: usize) -> Result<Option<Match>, Stop>
-    requires of { (p : Patterns) × A.is_of automaton.now p }
+fn longest_alone(searcher: &AhoCorasick, line: &[u8], at: usize) -> Result<Option<Match>, Stop>
+    requires of { IsBuiltFromSome searcher.now }
     requires within { at ≤ length line.now + 1 }
     ensures behind { IfOk result (λ found. IfSome found (λ m. at ≤ m.start)) }
     ensures within { IfOk result (λ found. IfSome found (λ m. m.end ≤ length line.now)) }
-    ensures next { (p : Patterns) → A.is_of automaton.now p → p.kind ≡ LeftmostLongest
+    ensures next { (p : Patterns) → IsBuiltFrom searcher.now p → p.kind ≡ LeftmostLongest
         → IfOk result (IsNextAlone p line.now at) }
 {
     let mut from = at;
-    while let Some(longest) = find_within(automaton, line, from, line.len())? {
-        if let Some(found) = alone_at(automaton, line, longest)? {
+    while let Some(longest) = find_within(searcher, line, from, line.len())? {
+        if let Some(found) = alone_at(searcher, line, longest)? {
             return Ok(Some(found));
         }
         from = longest.start() + 1;
@@ -64,32 +61,32 @@ fn longest_alone<A: Automaton>(automaton: &A, line: &[u8], at: usize) -> Result<
 }
 
 /// What a search of a range of a line finds.
-fn find_within<A: Automaton>(
-    automaton: &A,
+fn find_within(
+    searcher: &AhoCorasick,
     line: &[u8],
     start: usize,
     end: usize,
 ) -> Result<Option<Match>, Stop>
-    requires of { (p : Patterns) × A.is_of automaton.now p }
+    requires of { IsBuiltFromSome searcher.now }
     requires within { end ≤ length line.now }
     requires ordered { start ≤ end + 1 }
     ensures behind { IfOk result (λ found. IfSome found (λ m. start ≤ m.start)) }
     ensures ordered { IfOk result (λ found. IfSome found (λ m. m.start ≤ m.end)) }
     ensures within { IfOk result (λ found. IfSome found (λ m. m.end ≤ end)) }
-    ensures found { (p : Patterns) → A.is_of automaton.now p
+    ensures found { (p : Patterns) → IsBuiltFrom searcher.now p
         → IfOk result (IsAnswer p (span_search line.now start end)) }
 {
-    Ok(automaton.try_find(&Input::new(line).span(Span { start, end }))?)
+    Ok(searcher.try_find(Input::new(line).span(Span { start, end }))?)
 }
 
 /// Of the matches that begin where this one does, which is the longest, the longest that stands alone.
-fn alone_at<A: Automaton>(automaton: &A, line: &[u8], longest: Match) -> Result<Option<Match>, Stop>
-    requires of { (p : Patterns) × A.is_of automaton.now p }
+fn alone_at(searcher: &AhoCorasick, line: &[u8], longest: Match) -> Result<Option<Match>, Stop>
+    requires of { IsBuiltFromSome searcher.now }
     requires within { longest.end ≤ length line.now }
     requires ordered { longest.start ≤ longest.end }
     ensures start { IfOk result (λ found. IfSome found (λ m. m.start ≡ longest.start)) }
     ensures within { IfOk result (λ found. IfSome found (λ m. m.end ≤ length line.now)) }
-    ensures alone { (p : Patterns) → A.is_of automaton.now p → p.kind ≡ LeftmostLongest
+    ensures alone { (p : Patterns) → IsBuiltFrom searcher.now p → p.kind ≡ LeftmostLongest
         → IsLongestThere p line.now longest → IfOk result
         (IsBestOrNone LeftmostLongest (IsAloneAt p line.now longest.start)) }
 {
@@ -98,7 +95,7 @@ fn alone_at<A: Automaton>(automaton: &A, line: &[u8], longest: Match) -> Result<
     }
     let mut found = longest;
     while !ends_alone(line, found.end()) {
-        match shorter(automaton, line, found)? {
+        match shorter(searcher, line, found)? {
             Some(other) => found = other,
             None => return Ok(None),
         }
@@ -107,14 +104,14 @@ fn alone_at<A: Automaton>(automaton: &A, line: &[u8], longest: Match) -> Result<
 }
 
 /// Of the matches that begin where this one does and are shorter, the longest.
-fn shorter<A: Automaton>(automaton: &A, line: &[u8], found: Match) -> Result<Option<Match>, Stop>
-    requires of { (p : Patterns) × A.is_of automaton.now p }
+fn shorter(searcher: &AhoCorasick, line: &[u8], found: Match) -> Result<Option<Match>, Stop>
+    requires of { IsBuiltFromSome searcher.now }
     requires within { found.end ≤ length line.now }
     requires ordered { found.start ≤ found.end }
     ensures start { IfOk result (λ other. IfSome other (λ m. m.start ≡ found.start)) }
     ensures ordered { IfOk result (λ other. IfSome other (λ m. m.start ≤ m.end)) }
     ensures shorter { IfOk result (λ other. IfSome other (λ m. m.end < found.end)) }
-    ensures longest { (p : Patterns) → A.is_of automaton.now p → p.kind ≡ LeftmostLongest
+    ensures longest { (p : Patterns) → IsBuiltFrom searcher.now p → p.kind ≡ LeftmostLongest
         → IfOk result (IsBestOrNone LeftmostLongest (IsShorter p line.now found)) }
 {
     let start = found.start();
@@ -122,7 +119,7 @@ fn shorter<A: Automaton>(automaton: &A, line: &[u8], found: Match) -> Result<Opt
     if start == end {
         return Ok(None);
     }
-    match find_within(automaton, line, start, end - 1)? {
+    match find_within(searcher, line, start, end - 1)? {
         Some(other) if other.start() == start => Ok(Some(other)),
         _ => Ok(None),
     }

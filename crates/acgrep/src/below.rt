@@ -1,38 +1,38 @@
 //! Searching the files that operands name, with those below folders where that is asked for.
 
 ghost use Rattle.std.specs.Prelude.{◌≡◌, ◌≤◌, ◌<◌, IfOk, true, false};
-ghost use Rattle.aho_core.specs.Patterns.{Patterns};
 ghost use Rattle.programs.specs.Names.{name_bytes};
+ghost use Rattle.chromesquid.specs.Searcher.{IsBuiltFrom, IsBuiltFromSome};
 ghost use Rattle.acgrep.specs.Arguments.{said};
 ghost use Rattle.acgrep.specs.Files.{AreFilesBegun, AreSearchedOr};
 ghost use Rattle.acgrep.specs.Folders.{known_by, missed_of, tree_of};
 ghost use Rattle.acgrep.specs.Listed.{listed_bytes};
 ghost use Rattle.acgrep.specs.Reached.{SearchesOperands, TellsMissed};
 ghost use Rattle.acgrep.specs.Runs.{AreReached, BeginsOrKeeps, are_several, asks_to_look, is_alone, status_reached};
-ghost use Rattle.acgrep.specs.Searchers.{ForSearch, ForSearcher, IsSearcherOf};
+ghost use Rattle.acgrep.specs.Searchers.{ForSearcher};
+ghost use Rattle.acgrep.specs.Selected.{ForJob};
 ghost use Rattle.acgrep.specs.Told.{TellsOfFiles, TellsOfReached};
 
 use crate::arguments::Given;
 use crate::chosen::choose;
 use crate::colors::Screen;
 use crate::failure::Stop;
-use crate::files::Files;
+use crate::files::{Files, search_files};
 use crate::folders::Folders;
 use crate::open::Open;
 use crate::options::Flags;
-use crate::run::{job_of, search_by};
-use crate::searcher::Searcher;
+use crate::run::job_of;
 use crate::select::Job;
 use crate::tell::{tell_memory, tell_missed};
 use crate::walk::{Found, Unread, walk};
-use chromesquid::Sink;
+use chromesquid::{AhoCorasick, Sink};
 use programs::errors::Errors;
 use std::alloc::{AllocError, Global};
 use std::io::Read;
 
 /// Searches the files that these operands name.
 pub fn search_operands<F: Open + Folders, R: Read, W: Sink, E: Sink>(
-    searcher: &Searcher,
+    searcher: &AhoCorasick,
     given: &Given<'_>,
     screen: &Screen<'_>,
     operands: &Files<'_, F>,
@@ -40,7 +40,7 @@ pub fn search_operands<F: Open + Folders, R: Read, W: Sink, E: Sink>(
     output: &mut W,
     errors: &mut Errors<'_, E>,
 ) -> u8
-    requires of { (p : Patterns) × IsSearcherOf p searcher.now }
+    requires of { IsBuiltFromSome searcher.now }
     ensures bound { result ≤ 2 }
     ensures searched { SearchesOperands F.Open F.Folders R.Read W.Sink operands.now.files.now
         operands.now.names.now searcher.now screen.now (said given.now)
@@ -55,8 +55,8 @@ pub fn search_operands<F: Open + Folders, R: Read, W: Sink, E: Sink>(
     if asks_to_look(given) {
         return search_below(searcher, given, screen, operands, input, output, errors);
     }
-    let job = job_of(given, screen, operands.names.len() > 1);
-    search_by(searcher, &job, operands, input, output, errors)
+    let job = job_of(operands.alloc, given, screen, operands.names.len() > 1);
+    search_files(searcher, &job, operands, input, output, errors)
 }
 
 /// Whether operands are looked at before they are searched: those that are folders are entered, there are rules, or some kind of operand
@@ -69,7 +69,7 @@ fn asks_to_look(given: &Given<'_>) -> bool
 
 /// Searches those that rules do not leave out, and the files below folders where that is asked for.
 fn search_below<F: Open + Folders, R: Read, W: Sink, E: Sink>(
-    searcher: &Searcher,
+    searcher: &AhoCorasick,
     given: &Given<'_>,
     screen: &Screen<'_>,
     operands: &Files<'_, F>,
@@ -77,7 +77,7 @@ fn search_below<F: Open + Folders, R: Read, W: Sink, E: Sink>(
     output: &mut W,
     errors: &mut Errors<'_, E>,
 ) -> u8
-    requires of { (p : Patterns) × IsSearcherOf p searcher.now }
+    requires of { IsBuiltFromSome searcher.now }
     requires looks { asks_to_look (said given.now) ≡ true }
     ensures bound { result ≤ 2 }
     ensures searched { SearchesOperands F.Open F.Folders R.Read W.Sink operands.now.files.now
@@ -99,7 +99,7 @@ fn search_below<F: Open + Folders, R: Read, W: Sink, E: Sink>(
         return 2;
     };
     let several = are_several(&given.flags, operands.names, names.as_slice());
-    let job = job_of(given, screen, several);
+    let job = job_of(operands.alloc, given, screen, several);
     let named = Files {
         alloc: operands.alloc,
         names: names.as_slice(),
@@ -144,20 +144,20 @@ fn status_below(flags: &Flags, unread: &[Unread], status: u8) -> u8
 
 /// Searches these files. Where there is none, standard input is not read.
 fn search_found<F: Open, R: Read, W: Sink, E: Sink>(
-    searcher: &Searcher,
+    searcher: &AhoCorasick,
     job: &Job<'_>,
     files: &Files<'_, F>,
     input: &mut R,
     output: &mut W,
     errors: &mut Errors<'_, E>,
 ) -> u8
-    requires of { (p : Patterns) × IsSearcherOf p searcher.now }
+    requires of { IsBuiltFromSome searcher.now }
     ensures bound { result ≤ 2 }
-    ensures searched { ForSearch searcher.now job.now (λ p. result < 2
+    ensures searched { ForJob job.now (IsBuiltFrom searcher.now) (λ p. result < 2
         → AreSearchedOr p job.now (F.holds files.now.files.now) (name_bytes files.now.names.now)
         (R.remaining input.old) (R.remaining input.new)
         (W.taken output.old) (W.taken output.new) result) }
-    ensures begun { ForSearch searcher.now job.now (λ p.
+    ensures begun { ForJob job.now (IsBuiltFrom searcher.now) (λ p.
         AreFilesBegun p job.now false (F.holds files.now.files.now) (name_bytes files.now.names.now)
         (R.remaining input.old) (W.taken output.old) (W.taken output.new)) }
     ensures told { TellsOfFiles E.Sink job.now.hushed job.now.label.now (name_bytes files.now.names.now)
@@ -166,7 +166,7 @@ fn search_found<F: Open, R: Read, W: Sink, E: Sink>(
     if files.names.is_empty() {
         return 1;
     }
-    search_by(searcher, job, files, input, output, errors)
+    search_files(searcher, job, files, input, output, errors)
 }
 
 /// Tells what cannot be looked at, and which folders cannot be read, if that is asked for.

@@ -2,13 +2,13 @@
 
 ghost use Rattle.std.specs.Prelude.{◌≡◌, ◌&&◌, ◌<◌, IfOk};
 ghost use Rattle.aho_core.specs.Patterns.{Patterns};
+ghost use Rattle.chromesquid.specs.Searcher.{IsBuiltFrom, IsBuiltFromSome};
 ghost use Rattle.acgrep.specs.Contexts.{IsChosenBy, beside, separator_if};
 ghost use Rattle.acgrep.specs.Filled.{held_lines};
 ghost use Rattle.acgrep.specs.Printed.{Puts};
 ghost use Rattle.acgrep.specs.Searched.{BeginsLineAround, BeginsPassedBy, BeginsTakenBy, BegunBy, ShowsEachBy, ShowsGroupBy, SkipsBy, StepsBy, TakesBy, WalksBy};
 ghost use Rattle.acgrep.specs.Written.{IsMatched};
 
-use crate::backed::Lister;
 use crate::failure::Stop;
 use crate::held::Held;
 use crate::lines::{behind, line_end};
@@ -16,13 +16,13 @@ use crate::options::Context;
 use crate::print::{Place, put_separator};
 use crate::select::{Job, State, behind_line, is_match, put_shown};
 use crate::trail::Trail;
-use chromesquid::{Automaton, Input, Sink, write_whole};
+use chromesquid::{AhoCorasick, Sink, write_whole};
 use std::io;
 use std::io::Write;
 
 /// Searches a text of whole lines, and writes what is asked of those that are selected and of those around them.
-pub fn search_around<A: Lister, W: Sink>(
-    automaton: &A,
+pub fn search_around<W: Sink>(
+    searcher: &AhoCorasick,
     job: &Job<'_>,
     context: &Context,
     text: &[u8],
@@ -30,26 +30,26 @@ pub fn search_around<A: Lister, W: Sink>(
     page: &mut Vec<u8>,
     output: &mut W,
 ) -> Result<(), Stop>
-    requires of { (p : Patterns) × A.is_of automaton.now p }
-    ensures walks { WalksBy A.Automaton W.Sink automaton.now job.now
+    requires of { IsBuiltFromSome searcher.now }
+    ensures walks { WalksBy W.Sink searcher.now job.now
         state.old state.new output.old output.new context.now text.now result }
 
     // Where it fails a beginning of that is written.
-    ensures begun { BegunBy A.Automaton W.Sink automaton.now job.now
+    ensures begun { BegunBy W.Sink searcher.now job.now
         state.old state.new output.old output.new context.now text.now result }
 {
     let mut rest = text;
     while job.goes_on(rest, state) {
         let end = line_end(rest, job.style.ending);
-        pass_any(automaton, job, context, &rest[..end], state, page, output)?;
+        pass_any(searcher, job, context, &rest[..end], state, page, output)?;
         rest = behind(rest, end);
     }
     Ok(())
 }
 
 /// Goes over a line.
-fn pass_any<A: Lister, W: Sink>(
-    automaton: &A,
+fn pass_any<W: Sink>(
+    searcher: &AhoCorasick,
     job: &Job<'_>,
     context: &Context,
     line: &[u8],
@@ -57,51 +57,46 @@ fn pass_any<A: Lister, W: Sink>(
     page: &mut Vec<u8>,
     output: &mut W,
 ) -> Result<(), Stop>
-    requires of { (p : Patterns) × A.is_of automaton.now p }
-    ensures walks { StepsBy A.Automaton W.Sink automaton.now job.now
+    requires of { IsBuiltFromSome searcher.now }
+    ensures walks { StepsBy W.Sink searcher.now job.now
         state.old state.new output.old output.new context.now line.now result }
-    ensures begun { BeginsLineAround A.Automaton W.Sink automaton.now job.now
+    ensures begun { BeginsLineAround W.Sink searcher.now job.now
         state.old state.new output.old output.new context.now line.now result }
 {
-    if is_chosen(automaton, job, line, state.selected)? {
-        return pass_chosen(automaton, job, context, line, state, page, output);
+    if is_chosen(searcher, job, line, state.selected)? {
+        return pass_chosen(searcher, job, context, line, state, page, output);
     }
-    pass_beside(automaton, job, context, line, state, page, output)
+    pass_beside(searcher, job, context, line, state, page, output)
 }
 
 /// Whether a line is selected, and more are asked for.
-fn is_chosen<A: Automaton>(
-    automaton: &A,
-    job: &Job<'_>,
-    line: &[u8],
-    count: u64,
-) -> Result<bool, Stop>
-    requires of { (p : Patterns) × A.is_of automaton.now p }
-    ensures chosen { (p : Patterns) → A.is_of automaton.now p
+fn is_chosen(searcher: &AhoCorasick, job: &Job<'_>, line: &[u8], count: u64) -> Result<bool, Stop>
+    requires of { IsBuiltFromSome searcher.now }
+    ensures chosen { (p : Patterns) → IsBuiltFrom searcher.now p
         → IfOk result (IsChosenBy p job.now count line.now) }
 {
     if job.is_full(count) {
         return Ok(false);
     }
-    let matched = has_match(automaton, job, line)?;
+    let matched = has_match(searcher, job, line)?;
     Ok(job.selects(matched))
 }
 
 /// Whether a line matches.
-fn has_match<A: Automaton>(automaton: &A, job: &Job<'_>, line: &[u8]) -> Result<bool, Stop>
-    requires of { (p : Patterns) × A.is_of automaton.now p }
-    ensures matched { (p : Patterns) → A.is_of automaton.now p
+fn has_match(searcher: &AhoCorasick, job: &Job<'_>, line: &[u8]) -> Result<bool, Stop>
+    requires of { IsBuiltFromSome searcher.now }
+    ensures matched { (p : Patterns) → IsBuiltFrom searcher.now p
         → IfOk result (IsMatched p job.now.fit line.now) }
 {
-    match automaton.try_find(&Input::new(line))? {
-        Some(_) => is_match(automaton, job, line),
+    match searcher.try_find(line)? {
+        Some(_) => is_match(searcher, job, line),
         None => Ok(false),
     }
 }
 
 /// Goes over a line that is selected, and writes what is asked of it and of those before it.
-fn pass_chosen<A: Lister, W: Sink>(
-    automaton: &A,
+fn pass_chosen<W: Sink>(
+    searcher: &AhoCorasick,
     job: &Job<'_>,
     context: &Context,
     line: &[u8],
@@ -109,14 +104,14 @@ fn pass_chosen<A: Lister, W: Sink>(
     page: &mut Vec<u8>,
     output: &mut W,
 ) -> Result<(), Stop>
-    requires of { (p : Patterns) × A.is_of automaton.now p }
-    ensures walks { TakesBy A.Automaton W.Sink automaton.now job.now
+    requires of { IsBuiltFromSome searcher.now }
+    ensures walks { TakesBy W.Sink searcher.now job.now
         state.old state.new output.old output.new context.now line.now result }
-    ensures begun { BeginsTakenBy A.Automaton W.Sink automaton.now job.now
+    ensures begun { BeginsTakenBy W.Sink searcher.now job.now
         state.old state.new output.old output.new context.now line.now result }
 {
     page.clear();
-    put_group(automaton, job, context, line, state, page)?;
+    put_group(searcher, job, context, line, state, page)?;
     write_whole(output, page.as_slice())?;
     state.trail.restart(context.after);
     state.selected = state.selected.saturating_add(1);
@@ -125,22 +120,22 @@ fn pass_chosen<A: Lister, W: Sink>(
 }
 
 /// Puts together what is asked of a selected line and of those that are held before it.
-fn put_group<A: Lister, W: Write>(
-    automaton: &A,
+fn put_group<W: Write>(
+    searcher: &AhoCorasick,
     job: &Job<'_>,
     context: &Context,
     line: &[u8],
     state: &State,
     output: &mut W,
 ) -> Result<(), Stop>
-    requires of { (p : Patterns) × A.is_of automaton.now p }
-    ensures shown { ShowsGroupBy A.Automaton W.Write automaton.now job.now
+    requires of { IsBuiltFromSome searcher.now }
+    ensures shown { ShowsGroupBy W.Write searcher.now job.now
         context.now state.now line.now output.old output.new result }
 {
     let trail = &state.trail;
     put_between(job, is_parted(context, trail), output)?;
-    put_each_line(automaton, &job.beside(), &trail.held, trail.first, output)?;
-    put_shown(automaton, job, line, state.place, output)
+    put_each_line(searcher, &job.beside(), &trail.held, trail.first, output)?;
+    put_shown(searcher, job, line, state.place, output)
 }
 
 /// Whether a line stands between the next one and those that were written before.
@@ -162,22 +157,22 @@ fn put_between<W: Write>(job: &Job<'_>, asked: bool, output: &mut W) -> io::Resu
 }
 
 /// Puts together what is asked of each of some held lines, the first of which stands there.
-fn put_each_line<A: Lister, W: Write>(
-    automaton: &A,
+fn put_each_line<W: Write>(
+    searcher: &AhoCorasick,
     job: &Job<'_>,
     held: &Held,
     first: Place,
     output: &mut W,
 ) -> Result<(), Stop>
-    requires of { (p : Patterns) × A.is_of automaton.now p }
-    ensures shown { ShowsEachBy A.Automaton W.Write automaton.now job.now
+    requires of { IsBuiltFromSome searcher.now }
+    ensures shown { ShowsEachBy W.Write searcher.now job.now
         first (held_lines held.now) output.old output.new result }
 {
     let mut place = first;
     let mut rest = held.bytes();
     for index in 0..held.sizes.len() {
         let (line, behind) = rest.split_at(held.sizes[index]);
-        put_shown(automaton, job, line, place, output)?;
+        put_shown(searcher, job, line, place, output)?;
         place = behind_line(place, line);
         rest = behind;
     }
@@ -185,8 +180,8 @@ fn put_each_line<A: Lister, W: Write>(
 }
 
 /// Goes over any other line. It is written where it is due behind a selected one, and else held.
-fn pass_beside<A: Lister, W: Sink>(
-    automaton: &A,
+fn pass_beside<W: Sink>(
+    searcher: &AhoCorasick,
     job: &Job<'_>,
     context: &Context,
     line: &[u8],
@@ -194,14 +189,14 @@ fn pass_beside<A: Lister, W: Sink>(
     page: &mut Vec<u8>,
     output: &mut W,
 ) -> Result<(), Stop>
-    requires of { (p : Patterns) × A.is_of automaton.now p }
-    ensures walks { SkipsBy A.Automaton W.Sink automaton.now job.now
+    requires of { IsBuiltFromSome searcher.now }
+    ensures walks { SkipsBy W.Sink searcher.now job.now
         state.old state.new output.old output.new context.now line.now result }
-    ensures begun { BeginsPassedBy A.Automaton W.Sink automaton.now job.now
+    ensures begun { BeginsPassedBy W.Sink searcher.now job.now
         state.old state.new output.old output.new context.now line.now result }
 {
     if state.trail.due > 0 {
-        return pass_due(automaton, job, context, line, state, page, output);
+        return pass_due(searcher, job, context, line, state, page, output);
     }
     state.trail.hold(context.before, line, state.place)?;
     state.place = behind_line(state.place, line);
@@ -209,8 +204,8 @@ fn pass_beside<A: Lister, W: Sink>(
 }
 
 /// Goes over a line that is due behind a selected one.
-fn pass_due<A: Lister, W: Sink>(
-    automaton: &A,
+fn pass_due<W: Sink>(
+    searcher: &AhoCorasick,
     job: &Job<'_>,
     context: &Context,
     line: &[u8],
@@ -218,15 +213,15 @@ fn pass_due<A: Lister, W: Sink>(
     page: &mut Vec<u8>,
     output: &mut W,
 ) -> Result<(), Stop>
-    requires of { (p : Patterns) × A.is_of automaton.now p }
+    requires of { IsBuiltFromSome searcher.now }
     requires due { 0 < state.now.trail.due }
-    ensures walks { SkipsBy A.Automaton W.Sink automaton.now job.now
+    ensures walks { SkipsBy W.Sink searcher.now job.now
         state.old state.new output.old output.new context.now line.now result }
-    ensures begun { BeginsPassedBy A.Automaton W.Sink automaton.now job.now
+    ensures begun { BeginsPassedBy W.Sink searcher.now job.now
         state.old state.new output.old output.new context.now line.now result }
 {
     page.clear();
-    put_shown(automaton, &job.beside(), line, state.place, page)?;
+    put_shown(searcher, &job.beside(), line, state.place, page)?;
     write_whole(output, page.as_slice())?;
     state.trail.due -= 1;
     state.place = behind_line(state.place, line);

@@ -2,14 +2,13 @@
 
 ghost use Rattle.std.specs.Prelude.{◌≡◌, ◌≤◌, ◌<◌, ◌⊎◌, OnErr, OnOk};
 ghost use Rattle.std.specs.Io.KnownBytes.{Appends};
-ghost use Rattle.aho_core.specs.Patterns.{Patterns};
 ghost use Rattle.aho_core.specs.Replacement.{pieces_of};
 ghost use Rattle.aho_devices.specs.Counts.{AppendsBeginning};
 ghost use Rattle.programs.specs.Names.{name_bytes};
+ghost use Rattle.chromesquid.specs.Searcher.{IsBuiltFromSome};
 ghost use Rattle.acgrep.specs.Arguments.{said};
 ghost use Rattle.acgrep.specs.Counted.{BeginsCountOf, BeginsSearchOrCount, CountsOperands, SearchesOrCounts};
 ghost use Rattle.acgrep.specs.Folders.{tree_of};
-ghost use Rattle.acgrep.specs.Searchers.{IsSearcherOf};
 ghost use Rattle.acgrep.specs.Tallies.{PutsBytes, counts_table, zeros_of};
 ghost use Rattle.acgrep.specs.Told.{TellsCause, TellsOfReached};
 
@@ -20,17 +19,16 @@ use crate::failure::Stop;
 use crate::files::Files;
 use crate::folders::Folders;
 use crate::open::Open;
-use crate::searcher::Searcher;
 use crate::tally::{put_rows, tally, zeros};
 use crate::unread::tell_total;
-use chromesquid::{FromWrite, Sink, write_whole};
+use chromesquid::{AhoCorasick, FromWrite, Sink, write_whole};
 use programs::errors::Errors;
 use std::alloc::{AllocError, Global};
 use std::io::Read;
 
 /// Searches the files that these operands name, or counts the matches of each pattern in them.
 pub fn search_or_count<F: Open + Folders, R: Read, W: Sink, E: Sink>(
-    searcher: &Searcher,
+    searcher: &AhoCorasick,
     given: &Given<'_>,
     screen: &Screen<'_>,
     patterns: &[&[u8]],
@@ -39,7 +37,7 @@ pub fn search_or_count<F: Open + Folders, R: Read, W: Sink, E: Sink>(
     output: &mut W,
     errors: &mut Errors<'_, E>,
 ) -> u8
-    requires of { (p : Patterns) × IsSearcherOf p searcher.now }
+    requires of { IsBuiltFromSome searcher.now }
     ensures bound { result ≤ 2 }
     ensures searched { SearchesOrCounts F.Open F.Folders R.Read W.Sink operands.now.files.now
         operands.now.names.now searcher.now screen.now (said given.now) patterns.now
@@ -60,7 +58,7 @@ pub fn search_or_count<F: Open + Folders, R: Read, W: Sink, E: Sink>(
 
 /// Counts the matches of each pattern in the files that these operands name, and writes the counts.
 fn count_operands<F: Open + Folders, R: Read, W: Sink, E: Sink>(
-    searcher: &Searcher,
+    searcher: &AhoCorasick,
     given: &Given<'_>,
     screen: &Screen<'_>,
     patterns: &[&[u8]],
@@ -69,7 +67,7 @@ fn count_operands<F: Open + Folders, R: Read, W: Sink, E: Sink>(
     output: &mut W,
     errors: &mut Errors<'_, E>,
 ) -> u8
-    requires of { (p : Patterns) × IsSearcherOf p searcher.now }
+    requires of { IsBuiltFromSome searcher.now }
     ensures bound { result ≤ 2 }
     ensures searched { CountsOperands F.Open F.Folders R.Read W.Sink operands.now.files.now
         operands.now.names.now searcher.now screen.now (said given.now) patterns.now

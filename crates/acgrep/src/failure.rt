@@ -8,7 +8,7 @@ use std::io;
 /// Why a search stops before its end.
 #[derive(Drop)]
 pub enum Stop {
-    /// The automaton refuses the search.
+    /// The search is refused.
     Search(MatchError),
     /// Memory runs out.
     OutOfMemory,

@@ -2,7 +2,7 @@
 
 ghost use Rattle.std.specs.Prelude.{◌≡◌, ◌≤◌, ◌<◌, ◌⊎◌, [], IsTrue, OnOk, false, length, true};
 ghost use Rattle.std.specs.Io.KnownBytes.{Appends};
-ghost use Rattle.aho_core.specs.Patterns.{Patterns};
+ghost use Rattle.chromesquid.specs.Searcher.{IsBuiltFrom, IsBuiltFromSome};
 ghost use Rattle.acgrep.specs.Binary.{takes_text};
 ghost use Rattle.acgrep.specs.Filled.{ReadsOn};
 ghost use Rattle.programs.specs.Names.{name_bytes};
@@ -12,7 +12,6 @@ ghost use Rattle.acgrep.specs.Printed.{Puts};
 ghost use Rattle.acgrep.specs.Searched.{BeginsFileBy, BeginsFilesBy, SearchesFileBy, SearchesReaderBy};
 ghost use Rattle.acgrep.specs.Selected.{ForJob};
 
-use crate::backed::Lister;
 use crate::buffer::Buffer;
 use crate::failure::Stop;
 use crate::guarded::search_guarded;
@@ -24,7 +23,7 @@ use crate::select::{Job, State};
 use crate::stream::search_front;
 use crate::tell::tell_memory;
 use crate::unread::{tell_closed, tell_same, tell_stop, tell_total, tell_unreadable};
-use chromesquid::{Sink, write_whole};
+use chromesquid::{AhoCorasick, Sink, write_whole};
 use programs::errors::Errors;
 use programs::reason::Reason;
 use std::alloc::Global;
@@ -126,23 +125,23 @@ fn is_enough(shown: Shown, any: bool) -> bool
 }
 
 /// Searches all files, and answers the status. A file that cannot be read does not stop the others.
-pub fn search_files<A: Lister, F: Open, R: Read, W: Sink, E: Sink>(
-    automaton: &A,
+pub fn search_files<F: Open, R: Read, W: Sink, E: Sink>(
+    searcher: &AhoCorasick,
     job: &Job<'_>,
     files: &Files<'_, F>,
     input: &mut R,
     output: &mut W,
     errors: &mut Errors<'_, E>,
 ) -> u8
-    requires of { (p : Patterns) × A.is_of automaton.now p }
+    requires of { IsBuiltFromSome searcher.now }
     ensures bound { result ≤ 2 }
-    ensures searched { ForJob job.now (A.is_of automaton.now) (λ p. result < 2
+    ensures searched { ForJob job.now (IsBuiltFrom searcher.now) (λ p. result < 2
         → AreSearchedOr p job.now (F.holds files.now.files.now) (files_named files.now)
         (R.remaining input.old) (R.remaining input.new)
         (W.taken output.old) (W.taken output.new) result) }
 
     // Whatever the status, a beginning of what is asked is written.
-    ensures begun { ForJob job.now (A.is_of automaton.now) (λ p.
+    ensures begun { ForJob job.now (IsBuiltFrom searcher.now) (λ p.
         AreFilesBegun p job.now false (F.holds files.now.files.now) (files_named files.now)
         (R.remaining input.old) (W.taken output.old) (W.taken output.new)) }
 
@@ -153,7 +152,7 @@ pub fn search_files<A: Lister, F: Open, R: Read, W: Sink, E: Sink>(
     if files.names.is_empty() {
         let names = [INPUT];
         return search_names(
-            automaton,
+            searcher,
             job,
             files.alloc,
             files.files,
@@ -164,7 +163,7 @@ pub fn search_files<A: Lister, F: Open, R: Read, W: Sink, E: Sink>(
         );
     }
     search_names(
-        automaton,
+        searcher,
         job,
         files.alloc,
         files.files,
@@ -176,8 +175,8 @@ pub fn search_files<A: Lister, F: Open, R: Read, W: Sink, E: Sink>(
 }
 
 /// Searches the files of these names, and answers the status.
-fn search_names<A: Lister, F: Open, R: Read, W: Sink, E: Sink>(
-    automaton: &A,
+fn search_names<F: Open, R: Read, W: Sink, E: Sink>(
+    searcher: &AhoCorasick,
     job: &Job<'_>,
     alloc: Global,
     files: &F,
@@ -186,13 +185,13 @@ fn search_names<A: Lister, F: Open, R: Read, W: Sink, E: Sink>(
     output: &mut W,
     errors: &mut Errors<'_, E>,
 ) -> u8
-    requires of { (p : Patterns) × A.is_of automaton.now p }
+    requires of { IsBuiltFromSome searcher.now }
     ensures bound { result ≤ 2 }
-    ensures searched { ForJob job.now (A.is_of automaton.now) (λ p. result < 2
+    ensures searched { ForJob job.now (IsBuiltFrom searcher.now) (λ p. result < 2
         → AreSearchedOr p job.now (F.holds files.now) (name_bytes names.now)
         (R.remaining input.old) (R.remaining input.new)
         (W.taken output.old) (W.taken output.new) result) }
-    ensures begun { BeginsFilesBy A.Automaton F.Open R.Read W.Sink automaton.now job.now
+    ensures begun { BeginsFilesBy F.Open R.Read W.Sink searcher.now job.now
         files.now names.now input.old output.old output.new }
     ensures told { TellsOfFiles E.Sink job.now.hushed job.now.label.now (name_bytes names.now)
         job.now.shown result errors.old errors.new }
@@ -204,7 +203,7 @@ fn search_names<A: Lister, F: Open, R: Read, W: Sink, E: Sink>(
     let mut page = Vec::new(alloc);
     let mut state = State::new(alloc, job.first);
     let seen = search_each(
-        automaton,
+        searcher,
         job,
         files,
         names,
@@ -219,8 +218,8 @@ fn search_names<A: Lister, F: Open, R: Read, W: Sink, E: Sink>(
 }
 
 /// Searches the files of these names, one after another, and answers what was seen.
-fn search_each<A: Lister, F: Open, R: Read, W: Sink, E: Sink>(
-    automaton: &A,
+fn search_each<F: Open, R: Read, W: Sink, E: Sink>(
+    searcher: &AhoCorasick,
     job: &Job<'_>,
     files: &F,
     names: &[&[u8]],
@@ -231,12 +230,12 @@ fn search_each<A: Lister, F: Open, R: Read, W: Sink, E: Sink>(
     output: &mut W,
     errors: &mut Errors<'_, E>,
 ) -> Seen
-    requires of { (p : Patterns) × A.is_of automaton.now p }
-    ensures searched { ForJob job.now (A.is_of automaton.now) (λ p.
+    requires of { IsBuiltFromSome searcher.now }
+    ensures searched { ForJob job.now (IsBuiltFrom searcher.now) (λ p.
         SearchesNames p job.now (F.holds files.now) (name_bytes names.now)
         (R.remaining input.old) (R.remaining input.new)
         (W.taken output.old) (W.taken output.new) result) }
-    ensures begun { BeginsFilesBy A.Automaton F.Open R.Read W.Sink automaton.now job.now
+    ensures begun { BeginsFilesBy F.Open R.Read W.Sink searcher.now job.now
         files.now names.now input.old output.old output.new }
     ensures told { TellsIf E.Sink (IsMessage (files_told job.now.hushed job.now.label.now (name_bytes names.now)))
         job.now.hushed result.failed errors.old errors.new }
@@ -245,7 +244,7 @@ fn search_each<A: Lister, F: Open, R: Read, W: Sink, E: Sink>(
     let mut rest = names;
     while goes_on(rest, seen) {
         let outcome = search_name(
-            automaton,
+            searcher,
             job,
             files,
             rest[0],
@@ -273,8 +272,8 @@ fn goes_on(rest: &[&[u8]], seen: Seen) -> bool
 }
 
 /// Searches the file of a name.
-fn search_name<A: Lister, F: Open, R: Read, W: Sink, E: Sink>(
-    automaton: &A,
+fn search_name<F: Open, R: Read, W: Sink, E: Sink>(
+    searcher: &AhoCorasick,
     job: &Job<'_>,
     files: &F,
     name: &[u8],
@@ -286,12 +285,12 @@ fn search_name<A: Lister, F: Open, R: Read, W: Sink, E: Sink>(
     output: &mut W,
     errors: &mut Errors<'_, E>,
 ) -> Outcome
-    requires of { (p : Patterns) × A.is_of automaton.now p }
-    ensures searched { ForJob job.now (A.is_of automaton.now) (λ p.
+    requires of { IsBuiltFromSome searcher.now }
+    ensures searched { ForJob job.now (IsBuiltFrom searcher.now) (λ p.
         IfSearched result (SearchesName p job.now follows (F.holds files.now) name.now
         (R.remaining input.old) (R.remaining input.new)
         (W.taken output.old) (W.taken output.new))) }
-    ensures begun { ForJob job.now (A.is_of automaton.now) (λ p.
+    ensures begun { ForJob job.now (IsBuiltFrom searcher.now) (λ p.
         IfBroken result (BeginsName p job.now follows (F.holds files.now) name.now
         (R.remaining input.old) (W.taken output.old) (W.taken output.new))) }
     ensures leaves { LeavesInput name.now (R.remaining input.old) (R.remaining input.new) }
@@ -301,18 +300,18 @@ fn search_name<A: Lister, F: Open, R: Read, W: Sink, E: Sink>(
     if is_input(name) {
         let named = job_for(job, job.label, follows);
         return search_input(
-            automaton, &named, files, buffer, input, state, page, output, errors,
+            searcher, &named, files, buffer, input, state, page, output, errors,
         );
     }
     let named = job_for(job, name, follows);
     search_named(
-        automaton, &named, files, name, buffer, state, page, output, errors,
+        searcher, &named, files, name, buffer, state, page, output, errors,
     )
 }
 
 /// Opens the file of a name and searches it.
-fn search_named<A: Lister, F: Open, W: Sink, E: Sink>(
-    automaton: &A,
+fn search_named<F: Open, W: Sink, E: Sink>(
+    searcher: &AhoCorasick,
     job: &Job<'_>,
     files: &F,
     name: &[u8],
@@ -322,10 +321,10 @@ fn search_named<A: Lister, F: Open, W: Sink, E: Sink>(
     output: &mut W,
     errors: &mut Errors<'_, E>,
 ) -> Outcome
-    requires of { (p : Patterns) × A.is_of automaton.now p }
-    ensures searched { SearchesFileBy A.Automaton W.Sink automaton.now job.now
+    requires of { IsBuiltFromSome searcher.now }
+    ensures searched { SearchesFileBy W.Sink searcher.now job.now
         (F.holds files.now name.now) output.old output.new result }
-    ensures begun { BeginsFileBy A.Automaton W.Sink automaton.now job.now
+    ensures begun { BeginsFileBy W.Sink searcher.now job.now
         (F.holds files.now name.now) output.old output.new result }
     ensures told { TellsOfOutcome E.Sink job.now.hushed job.now.style.name.now result
         errors.old errors.new }
@@ -337,7 +336,7 @@ fn search_named<A: Lister, F: Open, W: Sink, E: Sink>(
     }
     match open_named(files, name) {
         Ok(mut file) => search_one(
-            automaton, job, buffer, &mut file, state, page, output, errors,
+            searcher, job, buffer, &mut file, state, page, output, errors,
         ),
         Err(error) => {
             let _ = output.flush();
@@ -348,8 +347,8 @@ fn search_named<A: Lister, F: Open, W: Sink, E: Sink>(
 }
 
 /// Searches standard input, unless the output goes to it.
-fn search_input<A: Lister, F: Open, R: Read, W: Sink, E: Sink>(
-    automaton: &A,
+fn search_input<F: Open, R: Read, W: Sink, E: Sink>(
+    searcher: &AhoCorasick,
     job: &Job<'_>,
     files: &F,
     buffer: &mut Buffer,
@@ -359,10 +358,10 @@ fn search_input<A: Lister, F: Open, R: Read, W: Sink, E: Sink>(
     output: &mut W,
     errors: &mut Errors<'_, E>,
 ) -> Outcome
-    requires of { (p : Patterns) × A.is_of automaton.now p }
-    ensures searched { SearchesReaderBy A.Automaton R.Read W.Sink automaton.now job.now
+    requires of { IsBuiltFromSome searcher.now }
+    ensures searched { SearchesReaderBy R.Read W.Sink searcher.now job.now
         input.old input.new output.old output.new result }
-    ensures begun { BeginsFileBy A.Automaton W.Sink automaton.now job.now
+    ensures begun { BeginsFileBy W.Sink searcher.now job.now
         (R.remaining input.old) output.old output.new result }
     ensures reads { ReadsOn (R.remaining input.old) (R.remaining input.new) }
     ensures told { TellsOfOutcome E.Sink job.now.hushed job.now.style.name.now result
@@ -379,7 +378,7 @@ fn search_input<A: Lister, F: Open, R: Read, W: Sink, E: Sink>(
         tell_unreadable(job, why, errors);
         return Outcome::Unread;
     }
-    search_one(automaton, job, buffer, input, state, page, output, errors)
+    search_one(searcher, job, buffer, input, state, page, output, errors)
 }
 
 /// Whether several lines of the file of this name may be written to it.
@@ -407,8 +406,8 @@ fn is_output<F: Open>(files: &F, name: &[u8]) -> bool {
 }
 
 /// Searches what a reader gives, and writes what is asked of it.
-fn search_one<A: Lister, R: Read, W: Sink, E: Sink>(
-    automaton: &A,
+fn search_one<R: Read, W: Sink, E: Sink>(
+    searcher: &AhoCorasick,
     job: &Job<'_>,
     buffer: &mut Buffer,
     reader: &mut R,
@@ -417,24 +416,24 @@ fn search_one<A: Lister, R: Read, W: Sink, E: Sink>(
     output: &mut W,
     errors: &mut Errors<'_, E>,
 ) -> Outcome
-    requires of { (p : Patterns) × A.is_of automaton.now p }
-    ensures searched { SearchesReaderBy A.Automaton R.Read W.Sink automaton.now job.now
+    requires of { IsBuiltFromSome searcher.now }
+    ensures searched { SearchesReaderBy R.Read W.Sink searcher.now job.now
         reader.old reader.new output.old output.new result }
-    ensures begun { BeginsFileBy A.Automaton W.Sink automaton.now job.now
+    ensures begun { BeginsFileBy W.Sink searcher.now job.now
         (R.remaining reader.old) output.old output.new result }
     ensures reads { ReadsOn (R.remaining reader.old) (R.remaining reader.new) }
     ensures told { TellsOfOutcome E.Sink job.now.hushed job.now.style.name.now result
         errors.old errors.new }
 {
     if job.is_guarded() {
-        return match search_guarded(automaton, job, buffer, reader, state, page, output) {
+        return match search_guarded(searcher, job, buffer, reader, state, page, output) {
             Ok(any) => Outcome::Searched(any),
             Err(stop) => break_off(job, state, &stop, page, output, errors),
         };
     }
     state.begin(job);
     let alone = job.takes_text();
-    match search_front(automaton, job, alone, buffer, reader, state, page, output) {
+    match search_front(searcher, job, alone, buffer, reader, state, page, output) {
         Ok(_) => end_file(job, state, page, output, errors),
         Err(stop) => break_off(job, state, &stop, page, output, errors),
     }

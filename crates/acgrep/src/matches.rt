@@ -1,17 +1,22 @@
 //! Writing the matches of a line.
 
 ghost use Rattle.std.specs.Iterator.{IsFinite};
-ghost use Rattle.std.specs.Prelude.{◌≡◌, IfOk, true};
+ghost use Rattle.std.specs.Prelude.{◌≡◌, IfOk, IfSome, None, true};
+ghost use Rattle.aho_core.specs.Iteration.{AreFinds};
 ghost use Rattle.aho_core.specs.Patterns.{Patterns};
+ghost use Rattle.aho_core.specs.Search.{plain_search};
+ghost use Rattle.chromesquid.specs.Searcher.{ForItsPatterns, IsBuiltFromSome};
+ghost use Rattle.acgrep.specs.Alone.{asks_alone};
 ghost use Rattle.acgrep.specs.Matches.{PutsColored, PutsMatches, behind_by, found_by, rest_behind, shown_from};
 ghost use Rattle.acgrep.specs.Printed.{Puts, PutsEach};
 
 use crate::alone::{behind_alone, next_alone};
-use crate::backed::Lister;
 use crate::failure::Stop;
 use crate::json::put_object;
 use crate::print::{Place, Style, part, put_head, put_match, put_up_to};
-use chromesquid::{Automaton, Input, Match};
+use crate::select::Job;
+use chromesquid::{AhoCorasick, Match};
+use std::alloc::Global;
 use std::io;
 use std::io::Write;
 
@@ -27,67 +32,83 @@ pub enum Shape {
 }
 
 /// Writes a line with its matches coloured, or those that stand alone.
-pub fn put_colored_line<A: Lister, W: Write>(
-    automaton: &A,
-    output: &mut W,
-    alone: bool,
-    style: &Style<'_>,
+pub fn put_colored_line<W: Write>(
+    searcher: &AhoCorasick,
+    job: &Job<'_>,
     place: Place,
     line: &[u8],
+    output: &mut W,
 ) -> Result<(), Stop>
-    requires of { (p : Patterns) × A.is_of automaton.now p }
-    ensures written { PutsColored A.Automaton W.Write automaton.now
-        alone style.now place line.now output.old output.new result }
+    requires of { IsBuiltFromSome searcher.now }
+    ensures written { PutsColored W.Write searcher.now
+        (asks_alone job.now.fit) job.now.style place line.now output.old output.new result }
 {
+    let style = &job.style;
     let number = place.lines.wrapping_add(1);
     put_head(output, style, number, place.bytes, line)?;
-    put_matches(automaton, output, Shape::Colored, alone, style, place, line)?;
+    put_matches(searcher, job, Shape::Colored, place, line, output)?;
     output.write_all(&[style.ending])?;
     Ok(())
 }
 
 /// Writes each match of a line that is not empty, or each of those that stand alone.
-pub fn put_matches<A: Lister, W: Write>(
-    automaton: &A,
-    output: &mut W,
+pub fn put_matches<W: Write>(
+    searcher: &AhoCorasick,
+    job: &Job<'_>,
     shape: Shape,
-    alone: bool,
-    style: &Style<'_>,
     place: Place,
     line: &[u8],
+    output: &mut W,
 ) -> Result<(), Stop>
-    requires of { (p : Patterns) × A.is_of automaton.now p }
-    ensures written { PutsMatches A.Automaton W.Write automaton.now
-        shape alone style.now place line.now output.old output.new result }
+    requires of { IsBuiltFromSome searcher.now }
+    ensures written { PutsMatches W.Write searcher.now
+        shape (asks_alone job.now.fit) job.now.style place line.now output.old output.new result }
 {
-    if alone {
-        return put_alone(automaton, output, shape, style, place, line);
+    let style = &job.style;
+    if job.asks_alone() {
+        return put_alone(searcher, output, shape, style, place, line);
     }
-    if let Some(found) = automaton.list_finds(line) {
+    if let Some(found) = list_finds(job.alloc, searcher, line) {
         put_listed(output, shape, style, place, line, found.as_slice())?;
         return Ok(());
     }
-    let matches = automaton.try_find_iter(Input::new(line))?;
+    let matches = searcher.try_find_iter(line)?;
     put_each(output, shape, style, place, line, matches)?;
     Ok(())
 }
 
-/// The same of the matches that stand alone.
-fn put_alone<A: Automaton, W: Write>(
-    automaton: &A,
+/// All finds of a line, as iteration gives them one after another; none where iteration is to give them, because it is as fast
+/// or because there is no memory for all at once.
+fn list_finds(alloc: Global, searcher: &AhoCorasick, line: &[u8]) -> Option<Vec<Match>>
+    requires of { IsBuiltFromSome searcher.now }
+    ensures listed { ForItsPatterns searcher.now (λ p.
+        IfSome result (λ found. AreFinds p (plain_search line.now) None found.items)) }
+{
+    let Some(backward) = searcher.backward() else {
+        return None;
+    };
+    match backward.find_all(alloc, line) {
+        Ok(found) => Some(found),
+        Err(_) => None,
+    }
+}
+
+/// Writes each match of a line that stands alone.
+fn put_alone<W: Write>(
+    searcher: &AhoCorasick,
     output: &mut W,
     shape: Shape,
     style: &Style<'_>,
     place: Place,
     line: &[u8],
 ) -> Result<(), Stop>
-    requires of { (p : Patterns) × A.is_of automaton.now p }
-    ensures written { PutsMatches A.Automaton W.Write automaton.now
+    requires of { IsBuiltFromSome searcher.now }
+    ensures written { PutsMatches W.Write searcher.now
         shape true style.now place line.now output.old output.new result }
 {
     let mut at = 0;
     let mut from = 0;
-    while let Some(found) = next_alone(automaton, line, from)? {
+    while let Some(found) = next_alone(searcher, line, from)? {
         at = put_found(output, shape, style, place, line, at, &found)?;
         from = behind_alone(&found);
     }

@@ -3,25 +3,22 @@
 ghost use Rattle.std.specs.Prelude.{◌≡◌, ◌≤◌, ◌<◌, ◌⊎◌, [], IsTrue, None, false, true, unwrap_or};
 ghost use Rattle.std.specs.Io.KnownBytes.{Appends, Keeps};
 ghost use Rattle.aho_devices.specs.Counts.{AppendsBeginning};
-ghost use Rattle.aho_core.specs.Patterns.{Patterns};
 ghost use Rattle.aho_core.specs.Replacement.{pieces_of};
 ghost use Rattle.acgrep.specs.Listed.{listed_bytes};
 ghost use Rattle.acgrep.specs.Arguments.{said, said_by};
 ghost use Rattle.programs.specs.Names.{name_bytes};
 ghost use Rattle.programs.specs.Telling.{Tells, TellsSome};
-ghost use Rattle.acgrep.specs.Told.{MaySaid, MayTell, TellsCause, TellsOfCall, TellsOfFiles, TellsOfSaid, TellsOfSearch, TellsOfText, TellsRefusal, is_hushed};
+ghost use Rattle.acgrep.specs.Told.{MaySaid, MayTell, TellsCause, TellsOfCall, TellsOfSaid, TellsOfSearch, TellsOfText, TellsRefusal, is_hushed};
 ghost use Rattle.acgrep.specs.Mistakes.{TellsLacking, TellsMistake, TellsNoPattern, TellsRefused};
-ghost use Rattle.acgrep.specs.Files.{AreFilesBegun, AreSearchedOr, files_named};
 ghost use Rattle.acgrep.specs.Folders.{known_by, tree_of};
 ghost use Rattle.acgrep.specs.Runs.{AsksToSearch, BeginsNoMatch, BeginsSaid, BeginsSearch, BeginsFor, GivesNone, IfSaid, IsJob, Searches, SearchesFor, SearchesRuled, SearchesSaid, WritesNoMatch, are_empty, asks_none, form_asked, form_said, inverts, is_colored, kind_sought, knows_none, lists_finds, origins_of, ruled, selects_none, status_told, takes_any, words_sought};
 ghost use Rattle.acgrep.specs.Rules.{rules_said};
-ghost use Rattle.acgrep.specs.Searchers.{ForSearch, IsSearcherOf};
 
 use crate::arguments::{Given, Refusal, Source, Wrong, parse};
 use crate::colors::{Screen, read_colors};
 use crate::counted::{end_counts, search_or_count};
 use crate::excluded::{expanded, read_globs};
-use crate::files::{Files, search_files};
+use crate::files::Files;
 use crate::folders::Folders;
 use crate::format::Piece;
 use crate::help::{HELP, VERSION};
@@ -31,7 +28,7 @@ use crate::options::{Color, Fit, Flags, Shown};
 use crate::patterns::{first_holding, lines_of};
 use crate::print::{Form, Place, Style};
 use crate::rules::Rule;
-use crate::searcher::Searcher;
+use crate::searcher::searcher_of;
 use crate::select::Job;
 use crate::tell::{tell_memory, tell_write, tell_wrong};
 use chromesquid::{MatchKind, Sink, write_whole};
@@ -355,7 +352,7 @@ fn search<F: Open + Folders, R: Read, W: Sink, E: Sink>(
         files,
     };
     let listed = lists_finds(flags, screen.colored);
-    match Searcher::build(alloc, kind_sought(flags), flags.ignore_case, words, listed) {
+    match searcher_of(alloc, kind_sought(flags), flags.ignore_case, words, listed) {
         Ok(searcher) => search_or_count(
             &searcher, given, screen, all, &named, input, output, errors,
         ),
@@ -386,33 +383,6 @@ fn end_unsearched<W: Sink, E: Sink>(
         return end_counts(alloc, patterns, b"", flags.ending(), 1, output, errors);
     }
     1
-}
-
-/// Searches these files by an automaton.
-pub fn search_by<F: Open, R: Read, W: Sink, E: Sink>(
-    searcher: &Searcher,
-    job: &Job<'_>,
-    files: &Files<'_, F>,
-    input: &mut R,
-    output: &mut W,
-    errors: &mut Errors<'_, E>,
-) -> u8
-    requires of { (p : Patterns) × IsSearcherOf p searcher.now }
-    ensures bound { result ≤ 2 }
-    ensures searched { ForSearch searcher.now job.now (λ p. result < 2
-        → AreSearchedOr p job.now (F.holds files.now.files.now) (files_named files.now)
-        (R.remaining input.old) (R.remaining input.new)
-        (W.taken output.old) (W.taken output.new) result) }
-    ensures begun { ForSearch searcher.now job.now (λ p.
-        AreFilesBegun p job.now false (F.holds files.now.files.now) (files_named files.now)
-        (R.remaining input.old) (W.taken output.old) (W.taken output.new)) }
-    ensures told { TellsOfFiles E.Sink job.now.hushed job.now.label.now (files_named files.now)
-        job.now.shown result errors.old errors.new }
-{
-    match searcher {
-        Searcher::Rows(rows) => search_files(rows, job, files, input, output, errors),
-        Searcher::Trie(nfa) => search_files(nfa, job, files, input, output, errors),
-    }
 }
 
 /// The patterns that are searched for: none where at most no line is asked for.
@@ -505,11 +475,17 @@ fn lists_finds(flags: &Flags, terminal: bool) -> bool
 }
 
 /// What is written of each file, but for its name. `several` says whether names stand before lines where nothing is said of that.
-pub fn job_of<'a>(given: &'a Given<'_>, screen: &Screen<'a>, several: bool) -> Job<'a>
+pub fn job_of<'a>(
+    alloc: Global,
+    given: &'a Given<'_>,
+    screen: &Screen<'a>,
+    several: bool,
+) -> Job<'a>
     ensures job { IsJob (said given.now) screen.now several result }
 {
     let flags = &given.flags;
     Job {
+        alloc,
         shown: flags.shown(),
         invert: inverts(flags),
         fit: flags.fit(),

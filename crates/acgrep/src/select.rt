@@ -4,6 +4,7 @@ ghost use Rattle.std.specs.Prelude.{◌≡◌, ◌==◌, ◌+◌, ◌%◌, ◌^�
 ghost use Rattle.memchr.specs.Find.{is_byte, places};
 ghost use Rattle.aho_core.specs.Patterns.{Patterns};
 ghost use Rattle.aho_core.specs.declared.search.MatchKind.TheVariants.{LeftmostLongest};
+ghost use Rattle.chromesquid.specs.Searcher.{IsBuiltFrom, IsBuiltFromSome};
 ghost use Rattle.acgrep.specs.Alone.{asks_alone};
 ghost use Rattle.acgrep.specs.declared.options.Fit.TheVariants.{AnyPart, WholeLine};
 ghost use Rattle.acgrep.specs.Searched.{BeginsInvertedBy, BeginsMatchBy, BeginsOneBy, BeginsOthersBy, BeginsSelectedBy, BeginsPlainBy, BeginsTextBy, SearchesPlainBy, SearchesSomeBy, SearchesTextBy, TellsInvertedBy, TellsLineBy, TellsMatchBy, TellsOthersBy, WritesLineBy, WritesNextBy};
@@ -11,7 +12,6 @@ ghost use Rattle.acgrep.specs.Selected.{EndsBy, FindsNone, ForJob, ForLines, IsL
 ghost use Rattle.acgrep.specs.Written.{HasMatch, IsMatched, NumbersLines, IsSettled, SamePlace, after_line, after_lines, is_full, is_numbered, needs_one, next_count, place_behind, selects};
 
 use crate::alone::has_alone;
-use crate::backed::Lister;
 use crate::context::search_around;
 use crate::failure::Stop;
 use crate::lines::{behind, line_end, line_start};
@@ -19,7 +19,7 @@ use crate::matches::{Shape, put_colored_line, put_matches};
 use crate::options::{Context, Fit, Shown};
 use crate::print::{Place, Style, put_line};
 use crate::trail::Trail;
-use chromesquid::{Automaton, Input, MatchError, MatchKind, Sink, Span, write_whole};
+use chromesquid::{AhoCorasick, MatchError, MatchKind, Sink, Span, write_whole};
 use memchr::memchr_iter;
 use std::alloc::Global;
 use std::io::Write;
@@ -27,6 +27,8 @@ use std::io::Write;
 /// What is written of which lines of a file.
 #[derive(Clone, Copy)]
 pub struct Job<'a> {
+    /// The allocator.
+    pub alloc: Global,
     /// What is written of a selected line.
     pub shown: Shown,
     /// Whether the lines without a match are selected.
@@ -87,7 +89,7 @@ impl<'a> Job<'a> {
     }
 
     /// Whether a match has to stand alone.
-    fn asks_alone(&self) -> bool
+    pub fn asks_alone(&self) -> bool
         ensures alone { result ≡ asks_alone self.now.fit }
     {
         matches!(self.fit, Fit::WholeWord)
@@ -208,13 +210,13 @@ impl State {
 }
 
 /// The first line of a text in which a pattern occurs, without what ends it.
-pub fn next_line<A: Automaton>(automaton: &A, text: &[u8], ending: u8) -> Result<Option<Span>, Stop>
-    requires of { (p : Patterns) × A.is_of automaton.now p }
+pub fn next_line(searcher: &AhoCorasick, text: &[u8], ending: u8) -> Result<Option<Span>, Stop>
+    requires of { IsBuiltFromSome searcher.now }
     ensures ordered { IfOk result (λ line. IfSome line (λ line. line.start ≤ line.end)) }
     ensures within { IfOk result (λ line. IfSome line (λ line. line.end ≤ length text.now)) }
-    ensures next { ForLines ending (A.is_of automaton.now) (λ p. IfOk result (IsNextLine p ending text.now)) }
+    ensures next { ForLines ending (IsBuiltFrom searcher.now) (λ p. IfOk result (IsNextLine p ending text.now)) }
 {
-    match automaton.try_find(&Input::new(text))? {
+    match searcher.try_find(text)? {
         Some(found) => Ok(Some(line_around(text, found.start(), ending))),
         None => Ok(None),
     }
@@ -236,82 +238,82 @@ fn line_around(text: &[u8], place: usize, ending: u8) -> Span
 }
 
 /// Searches a text of whole lines, and writes what is asked of those that are selected.
-pub fn search_text<A: Lister, W: Sink>(
-    automaton: &A,
+pub fn search_text<W: Sink>(
+    searcher: &AhoCorasick,
     job: &Job<'_>,
     text: &[u8],
     state: &mut State,
     page: &mut Vec<u8>,
     output: &mut W,
 ) -> Result<(), Stop>
-    requires of { (p : Patterns) × A.is_of automaton.now p }
+    requires of { IsBuiltFromSome searcher.now }
 
     // Where no line was selected, no pattern occurs.
-    ensures none { ForJob job.now (A.is_of automaton.now) (λ p.
+    ensures none { ForJob job.now (IsBuiltFrom searcher.now) (λ p.
         OnOk result (IsNoneSelected p job.now text.now state.new)) }
 
     // What is told of the lines is written, in order.
-    ensures written { SearchesTextBy A.Automaton W.Sink automaton.now job.now
+    ensures written { SearchesTextBy W.Sink searcher.now job.now
         state.old state.new output.old output.new text.now result }
 
     // Where it fails a beginning of that is.
-    ensures begun { BeginsTextBy A.Automaton W.Sink automaton.now job.now
+    ensures begun { BeginsTextBy W.Sink searcher.now job.now
         state.old state.new output.old output.new text.now result }
 {
     match job.around() {
-        Some(context) => search_around(automaton, job, &context, text, state, page, output),
-        None => search_plain(automaton, job, text, state, page, output),
+        Some(context) => search_around(searcher, job, &context, text, state, page, output),
+        None => search_plain(searcher, job, text, state, page, output),
     }
 }
 
 /// The same where no lines around selected ones are written.
-fn search_plain<A: Lister, W: Sink>(
-    automaton: &A,
+fn search_plain<W: Sink>(
+    searcher: &AhoCorasick,
     job: &Job<'_>,
     text: &[u8],
     state: &mut State,
     page: &mut Vec<u8>,
     output: &mut W,
 ) -> Result<(), Stop>
-    requires of { (p : Patterns) × A.is_of automaton.now p }
-    ensures none { ForJob job.now (A.is_of automaton.now) (λ p.
+    requires of { IsBuiltFromSome searcher.now }
+    ensures none { ForJob job.now (IsBuiltFrom searcher.now) (λ p.
         OnOk result (IsNoneSelected p job.now text.now state.new)) }
-    ensures written { SearchesPlainBy A.Automaton W.Sink automaton.now job.now
+    ensures written { SearchesPlainBy W.Sink searcher.now job.now
         state.old state.new output.old output.new text.now result }
-    ensures begun { BeginsPlainBy A.Automaton W.Sink automaton.now job.now
+    ensures begun { BeginsPlainBy W.Sink searcher.now job.now
         state.old state.new output.old output.new text.now result }
 {
     let mut rest = text;
     while job.goes_on(rest, state) {
-        rest = search_some(automaton, job, rest, state, page, output)?;
+        rest = search_some(searcher, job, rest, state, page, output)?;
     }
     Ok(())
 }
 
 /// Searches the lines up to the first with a match and that one, and answers what follows.
-fn search_some<'t, A: Lister, W: Sink>(
-    automaton: &A,
+fn search_some<'t, W: Sink>(
+    searcher: &AhoCorasick,
     job: &Job<'_>,
     text: &'t [u8],
     state: &mut State,
     page: &mut Vec<u8>,
     output: &mut W,
 ) -> Result<&'t [u8], Stop>
-    requires of { (p : Patterns) × A.is_of automaton.now p }
+    requires of { IsBuiltFromSome searcher.now }
     requires some { 0 < length text.now }
     ensures shorter { IfOk result (λ left. length left.now < length text.now) }
-    ensures none { ForJob job.now (A.is_of automaton.now) (λ p. job.now.invert ≡ false
+    ensures none { ForJob job.now (IsBuiltFrom searcher.now) (λ p. job.now.invert ≡ false
         → job.now.fit ≡ AnyPart → OnOk result (FindsNone p state.old state.new text.now)) }
-    ensures written { SearchesSomeBy A.Automaton W.Sink automaton.now job.now
+    ensures written { SearchesSomeBy W.Sink searcher.now job.now
         state.old state.new output.old output.new text.now result }
-    ensures begun { BeginsPlainBy A.Automaton W.Sink automaton.now job.now
+    ensures begun { BeginsPlainBy W.Sink searcher.now job.now
         state.old state.new output.old output.new text.now result }
 {
-    match next_line(automaton, text, job.style.ending)? {
+    match next_line(searcher, text, job.style.ending)? {
         Some(line) => {
-            pass_others(automaton, job, &text[..line.start], state, page, output)?;
+            pass_others(searcher, job, &text[..line.start], state, page, output)?;
             pass_matched(
-                automaton,
+                searcher,
                 job,
                 &text[line.start..line.end],
                 state,
@@ -321,67 +323,67 @@ fn search_some<'t, A: Lister, W: Sink>(
             Ok(behind(text, line.end))
         }
         None => {
-            pass_others(automaton, job, text, state, page, output)?;
+            pass_others(searcher, job, text, state, page, output)?;
             Ok(&text[text.len()..])
         }
     }
 }
 
 /// Goes over a line in which a pattern occurs.
-fn pass_matched<A: Lister, W: Sink>(
-    automaton: &A,
+fn pass_matched<W: Sink>(
+    searcher: &AhoCorasick,
     job: &Job<'_>,
     line: &[u8],
     state: &mut State,
     page: &mut Vec<u8>,
     output: &mut W,
 ) -> Result<(), Stop>
-    requires of { (p : Patterns) × A.is_of automaton.now p }
+    requires of { IsBuiltFromSome searcher.now }
     ensures selected { job.now.invert ≡ false → job.now.fit ≡ AnyPart
         → OnOk result (0 < state.new.selected) }
     ensures placed { OnOk result (state.new.place ≡ after_line state.old.place line.now) }
-    ensures written { TellsMatchBy A.Automaton W.Sink automaton.now job.now
+    ensures written { TellsMatchBy W.Sink searcher.now job.now
         state.old state.new output.old output.new line.now result }
-    ensures begun { BeginsMatchBy A.Automaton W.Sink automaton.now job.now
+    ensures begun { BeginsMatchBy W.Sink searcher.now job.now
         state.old state.new output.old output.new line.now result }
 {
-    let matched = is_match(automaton, job, line)?;
-    pass_line(automaton, job, matched, line, state, page, output)
+    let matched = is_match(searcher, job, line)?;
+    pass_line(searcher, job, matched, line, state, page, output)
 }
 
 /// Whether a line in which a pattern occurs matches.
-pub fn is_match<A: Automaton>(automaton: &A, job: &Job<'_>, line: &[u8]) -> Result<bool, Stop>
-    requires of { (p : Patterns) × A.is_of automaton.now p }
+pub fn is_match(searcher: &AhoCorasick, job: &Job<'_>, line: &[u8]) -> Result<bool, Stop>
+    requires of { IsBuiltFromSome searcher.now }
     ensures any { job.now.fit ≡ AnyPart → IfOk result (λ matched. matched ≡ true) }
-    ensures matched { (p : Patterns) → A.is_of automaton.now p → HasMatch p line.now
+    ensures matched { (p : Patterns) → IsBuiltFrom searcher.now p → HasMatch p line.now
         → IfOk result (IsMatched p job.now.fit line.now) }
 {
     match job.fit {
         Fit::AnyPart => Ok(true),
-        Fit::WholeWord => has_alone(automaton, line),
-        Fit::WholeLine => is_whole(automaton, line),
+        Fit::WholeWord => has_alone(searcher, line),
+        Fit::WholeLine => is_whole(searcher, line),
     }
 }
 
 /// Whether a pattern is the whole line.
-fn is_whole<A: Automaton>(automaton: &A, line: &[u8]) -> Result<bool, Stop>
-    requires of { (p : Patterns) × A.is_of automaton.now p }
-    ensures whole { (p : Patterns) → A.is_of automaton.now p
+fn is_whole(searcher: &AhoCorasick, line: &[u8]) -> Result<bool, Stop>
+    requires of { IsBuiltFromSome searcher.now }
+    ensures whole { (p : Patterns) → IsBuiltFrom searcher.now p
         → IfOk result (IsMatched p WholeLine line.now) }
 {
-    match automaton.match_kind() {
-        MatchKind::LeftmostLongest => is_longest_whole(automaton, line),
+    match searcher.match_kind() {
+        MatchKind::LeftmostLongest => is_longest_whole(searcher, line),
         kind => Err(Stop::Search(MatchError::unsupported_overlapping(kind))),
     }
 }
 
 /// The same where of those that occur the longest that begins first is found.
-fn is_longest_whole<A: Automaton>(automaton: &A, line: &[u8]) -> Result<bool, Stop>
-    requires of { (p : Patterns) × A.is_of automaton.now p }
-    ensures whole { (p : Patterns) → A.is_of automaton.now p → p.kind ≡ LeftmostLongest
+fn is_longest_whole(searcher: &AhoCorasick, line: &[u8]) -> Result<bool, Stop>
+    requires of { IsBuiltFromSome searcher.now }
+    ensures whole { (p : Patterns) → IsBuiltFrom searcher.now p → p.kind ≡ LeftmostLongest
         → IfOk result (IsMatched p WholeLine line.now) }
 {
-    match automaton.try_find(&Input::new(line))? {
+    match searcher.try_find(line)? {
         Some(found) => Ok(spans(found.start(), found.end(), line.len())),
         None => Ok(false),
     }
@@ -395,8 +397,8 @@ fn spans(start: usize, end: usize, len: usize) -> bool
 }
 
 /// Goes over a line of which it is known whether it matches.
-fn pass_line<A: Lister, W: Sink>(
-    automaton: &A,
+fn pass_line<W: Sink>(
+    searcher: &AhoCorasick,
     job: &Job<'_>,
     matched: bool,
     line: &[u8],
@@ -404,17 +406,17 @@ fn pass_line<A: Lister, W: Sink>(
     page: &mut Vec<u8>,
     output: &mut W,
 ) -> Result<(), Stop>
-    requires of { (p : Patterns) × A.is_of automaton.now p }
+    requires of { IsBuiltFromSome searcher.now }
     ensures selected { matched ≡ true → job.now.invert ≡ false
         → OnOk result (0 < state.new.selected) }
     ensures placed { OnOk result (state.new.place ≡ after_line state.old.place line.now) }
-    ensures written { TellsLineBy A.Automaton W.Sink automaton.now job.now
+    ensures written { TellsLineBy W.Sink searcher.now job.now
         state.old state.new output.old output.new matched line.now result }
-    ensures begun { BeginsOneBy A.Automaton W.Sink automaton.now job.now
+    ensures begun { BeginsOneBy W.Sink searcher.now job.now
         state.old state.new output.old output.new matched line.now result }
 {
     if job.selects(matched) {
-        return pass_selected(automaton, job, line, state, page, output);
+        return pass_selected(searcher, job, line, state, page, output);
     }
     state.place = behind_line(state.place, line);
     Ok(())
@@ -422,21 +424,21 @@ fn pass_line<A: Lister, W: Sink>(
 
 /// Goes over a selected line. What is asked of it is put together first: where the output cannot be written to the end, what is
 /// there is a beginning of it. Where so many lines are selected already as are asked for nothing is written.
-fn pass_selected<A: Lister, W: Sink>(
-    automaton: &A,
+fn pass_selected<W: Sink>(
+    searcher: &AhoCorasick,
     job: &Job<'_>,
     line: &[u8],
     state: &mut State,
     page: &mut Vec<u8>,
     output: &mut W,
 ) -> Result<(), Stop>
-    requires of { (p : Patterns) × A.is_of automaton.now p }
+    requires of { IsBuiltFromSome searcher.now }
     ensures counted { OnOk result
         (state.new.selected ≡ next_count job.now.most state.old.selected) }
     ensures placed { OnOk result (state.new.place ≡ after_line state.old.place line.now) }
-    ensures shown { WritesNextBy (A.is_of automaton.now) job.now state.old
+    ensures shown { WritesNextBy (IsBuiltFrom searcher.now) job.now state.old
         (W.taken output.old) (W.taken output.new) line.now result }
-    ensures begun { BeginsSelectedBy A.Automaton W.Sink automaton.now job.now
+    ensures begun { BeginsSelectedBy W.Sink searcher.now job.now
         state.old state.new output.old output.new line.now result }
 {
     if job.is_full(state.selected) {
@@ -444,7 +446,7 @@ fn pass_selected<A: Lister, W: Sink>(
         return Ok(());
     }
     page.clear();
-    put_shown(automaton, job, line, state.place, page)?;
+    put_shown(searcher, job, line, state.place, page)?;
     state.selected = state.selected.saturating_add(1);
     write_whole(output, page.as_slice())?;
     state.place = behind_line(state.place, line);
@@ -452,51 +454,51 @@ fn pass_selected<A: Lister, W: Sink>(
 }
 
 /// Goes over lines without a match.
-fn pass_others<A: Lister, W: Sink>(
-    automaton: &A,
+fn pass_others<W: Sink>(
+    searcher: &AhoCorasick,
     job: &Job<'_>,
     text: &[u8],
     state: &mut State,
     page: &mut Vec<u8>,
     output: &mut W,
 ) -> Result<(), Stop>
-    requires of { (p : Patterns) × A.is_of automaton.now p }
+    requires of { IsBuiltFromSome searcher.now }
     ensures selected { job.now.invert ≡ false
         → OnOk result (state.new.selected ≡ state.old.selected) }
     ensures placed { EndsBy job.now text.now → OnOk result
         (SamePlace job.now state.new.place (after_lines state.old.place (lines_by job.now text.now))) }
-    ensures written { TellsOthersBy A.Automaton W.Sink automaton.now job.now
+    ensures written { TellsOthersBy W.Sink searcher.now job.now
         state.old state.new output.old output.new text.now result }
-    ensures begun { BeginsOthersBy A.Automaton W.Sink automaton.now job.now
+    ensures begun { BeginsOthersBy W.Sink searcher.now job.now
         state.old state.new output.old output.new text.now result }
 {
     if job.invert {
-        return pass_each(automaton, job, text, state, page, output);
+        return pass_each(searcher, job, text, state, page, output);
     }
     skip(job, text, state);
     Ok(())
 }
 
 /// Goes over lines that are all selected.
-fn pass_each<A: Lister, W: Sink>(
-    automaton: &A,
+fn pass_each<W: Sink>(
+    searcher: &AhoCorasick,
     job: &Job<'_>,
     text: &[u8],
     state: &mut State,
     page: &mut Vec<u8>,
     output: &mut W,
 ) -> Result<(), Stop>
-    requires of { (p : Patterns) × A.is_of automaton.now p }
+    requires of { IsBuiltFromSome searcher.now }
     ensures placed { OnOk result (state.new.place ≡ after_lines state.old.place (lines_by job.now text.now)) }
-    ensures written { TellsInvertedBy A.Automaton W.Sink automaton.now job.now
+    ensures written { TellsInvertedBy W.Sink searcher.now job.now
         state.old state.new output.old output.new text.now result }
-    ensures begun { BeginsInvertedBy A.Automaton W.Sink automaton.now job.now
+    ensures begun { BeginsInvertedBy W.Sink searcher.now job.now
         state.old state.new output.old output.new text.now result }
 {
     let mut rest = text;
     while !rest.is_empty() {
         let end = line_end(rest, job.style.ending);
-        pass_selected(automaton, job, &rest[..end], state, page, output)?;
+        pass_selected(searcher, job, &rest[..end], state, page, output)?;
         rest = behind(rest, end);
     }
     Ok(())
@@ -552,30 +554,25 @@ fn endings(text: &[u8], ending: u8) -> u64
 }
 
 /// Puts together what is asked of a selected line.
-pub fn put_shown<A: Lister, W: Write>(
-    automaton: &A,
+pub fn put_shown<W: Write>(
+    searcher: &AhoCorasick,
     job: &Job<'_>,
     line: &[u8],
     place: Place,
     output: &mut W,
 ) -> Result<(), Stop>
-    requires of { (p : Patterns) × A.is_of automaton.now p }
-    ensures shown { WritesLineBy (A.is_of automaton.now) job.now place
+    requires of { IsBuiltFromSome searcher.now }
+    ensures shown { WritesLineBy (IsBuiltFrom searcher.now) job.now place
         (W.contents output.old) (W.contents output.new) line.now result }
 {
-    let alone = job.asks_alone();
     match job.shown {
-        Shown::Lines if job.colors() => {
-            put_colored_line(automaton, output, alone, &job.style, place, line)
-        }
+        Shown::Lines if job.colors() => put_colored_line(searcher, job, place, line, output),
         Shown::Lines => Ok(put_line(output, &job.style, place, line)?),
         Shown::Matches if !job.invert => {
-            let shape = Shape::OnLines;
-            put_matches(automaton, output, shape, alone, &job.style, place, line)
+            put_matches(searcher, job, Shape::OnLines, place, line, output)
         }
         Shown::Objects if !job.invert => {
-            let shape = Shape::AsFields;
-            put_matches(automaton, output, shape, alone, &job.style, place, line)
+            put_matches(searcher, job, Shape::AsFields, place, line, output)
         }
         _ => Ok(()),
     }

@@ -2,7 +2,7 @@
 
 ghost use Rattle.std.specs.Prelude.{◌≡◌, ◌≤◌, ◌-◌, ◌<◌, [], IfOk, IfSome, OnErr, OnOk, length, take, true};
 ghost use Rattle.std.specs.Io.KnownBytes.{Keeps};
-ghost use Rattle.aho_core.specs.Patterns.{Patterns};
+ghost use Rattle.chromesquid.specs.Searcher.{IsBuiltFrom, IsBuiltFromSome};
 ghost use Rattle.acgrep.specs.Binary.{is_text};
 ghost use Rattle.acgrep.specs.Filled.{FillsBehind, ReadsOn, bytes_buffered};
 ghost use Rattle.acgrep.specs.Guarded.{EndsFront, IsZeroLine, ReadsFront};
@@ -11,12 +11,11 @@ ghost use Rattle.acgrep.specs.Searched.{BeginsReadBy};
 ghost use Rattle.acgrep.specs.Selected.{ForJob};
 ghost use Rattle.acgrep.specs.Streamed.{BeginsWhole, SearchesWhole, TextIf, course_of};
 
-use crate::backed::Lister;
 use crate::buffer::Buffer;
 use crate::failure::Stop;
 use crate::lines::line_start;
 use crate::select::{Job, State, search_text};
-use chromesquid::Sink;
+use chromesquid::{AhoCorasick, Sink};
 use memchr::memchr;
 use programs::reason::Reason;
 use std::io::Read;
@@ -34,8 +33,8 @@ enum Came {
 
 /// Searches all that a reader gives, or the lines up to the first that holds a zero byte alone, and answers whether there is one. The
 /// buffer then begins with it. What is settled is handed on before each read.
-pub fn search_front<A: Lister, R: Read, W: Sink>(
-    automaton: &A,
+pub fn search_front<R: Read, W: Sink>(
+    searcher: &AhoCorasick,
     job: &Job<'_>,
     alone: bool,
     buffer: &mut Buffer,
@@ -44,25 +43,25 @@ pub fn search_front<A: Lister, R: Read, W: Sink>(
     page: &mut Vec<u8>,
     output: &mut W,
 ) -> Result<bool, Stop>
-    requires of { (p : Patterns) × A.is_of automaton.now p }
-    ensures front { ForJob job.now (A.is_of automaton.now) (λ p. IfOk result (EndsFront p job.now alone
+    requires of { IsBuiltFromSome searcher.now }
+    ensures front { ForJob job.now (IsBuiltFrom searcher.now) (λ p. IfOk result (EndsFront p job.now alone
         (course_of W.Sink R.Read state.old state.new output.old output.new input.old input.new)
         [] (bytes_buffered buffer.new))) }
 
     // Where it fails a beginning of that is written.
-    ensures begun { BeginsReadBy A.Automaton R.Read W.Sink automaton.now job.now alone
+    ensures begun { BeginsReadBy R.Read W.Sink searcher.now job.now alone
         state.old state.new input.old output.old output.new [] result }
 
     // Whatever comes of it, the reader is only read.
     ensures reads { ReadsOn (R.remaining input.old) (R.remaining input.new) }
 {
     buffer.clear();
-    search_behind(automaton, job, alone, buffer, input, state, page, output)
+    search_behind(searcher, job, alone, buffer, input, state, page, output)
 }
 
 /// The same of what is there and all that a reader gives behind it.
-pub fn search_behind<A: Lister, R: Read, W: Sink>(
-    automaton: &A,
+pub fn search_behind<R: Read, W: Sink>(
+    searcher: &AhoCorasick,
     job: &Job<'_>,
     alone: bool,
     buffer: &mut Buffer,
@@ -71,26 +70,26 @@ pub fn search_behind<A: Lister, R: Read, W: Sink>(
     page: &mut Vec<u8>,
     output: &mut W,
 ) -> Result<bool, Stop>
-    requires of { (p : Patterns) × A.is_of automaton.now p }
+    requires of { IsBuiltFromSome searcher.now }
     requires text { TextIf alone (bytes_buffered buffer.now) }
-    ensures front { ForJob job.now (A.is_of automaton.now) (λ p. IfOk result (EndsFront p job.now alone
+    ensures front { ForJob job.now (IsBuiltFrom searcher.now) (λ p. IfOk result (EndsFront p job.now alone
         (course_of W.Sink R.Read state.old state.new output.old output.new input.old input.new)
         (bytes_buffered buffer.old) (bytes_buffered buffer.new))) }
-    ensures begun { BeginsReadBy A.Automaton R.Read W.Sink automaton.now job.now alone
+    ensures begun { BeginsReadBy R.Read W.Sink searcher.now job.now alone
         state.old state.new input.old output.old output.new (bytes_buffered buffer.old) result }
     ensures reads { ReadsOn (R.remaining input.old) (R.remaining input.new) }
 {
     let count = buffer.bytes().len();
-    search_whole(automaton, job, buffer, count, state, page, output)?;
+    search_whole(searcher, job, buffer, count, state, page, output)?;
     for _ in 0..u64::MAX {
         if job.is_done(state) {
             return Ok(false);
         }
-        match read_front(automaton, job, alone, buffer, input, state, page, output)? {
+        match read_front(searcher, job, alone, buffer, input, state, page, output)? {
             Came::Text => {}
             Came::Binary => return Ok(true),
             Came::End => {
-                search_text(automaton, job, buffer.bytes(), state, page, output)?;
+                search_text(searcher, job, buffer.bytes(), state, page, output)?;
                 return Ok(false);
             }
         }
@@ -99,8 +98,8 @@ pub fn search_behind<A: Lister, R: Read, W: Sink>(
 }
 
 /// Reads once and searches the whole lines that are there, or those up to the first that holds a zero byte alone.
-fn read_front<A: Lister, R: Read, W: Sink>(
-    automaton: &A,
+fn read_front<R: Read, W: Sink>(
+    searcher: &AhoCorasick,
     job: &Job<'_>,
     alone: bool,
     buffer: &mut Buffer,
@@ -109,12 +108,12 @@ fn read_front<A: Lister, R: Read, W: Sink>(
     page: &mut Vec<u8>,
     output: &mut W,
 ) -> Result<Came, Stop>
-    requires of { (p : Patterns) × A.is_of automaton.now p }
-    ensures read { ForJob job.now (A.is_of automaton.now) (λ p. IfOk result (ReadsFront p job.now alone
+    requires of { IsBuiltFromSome searcher.now }
+    ensures read { ForJob job.now (IsBuiltFrom searcher.now) (λ p. IfOk result (ReadsFront p job.now alone
         (course_of W.Sink R.Read state.old state.new output.old output.new input.old input.new)
         (bytes_buffered buffer.old) (bytes_buffered buffer.new))) }
     ensures begun { TextIf alone (bytes_buffered buffer.old)
-        → BeginsReadBy A.Automaton R.Read W.Sink automaton.now job.now alone
+        → BeginsReadBy R.Read W.Sink searcher.now job.now alone
         state.old state.new input.old output.old output.new (bytes_buffered buffer.old) result }
     ensures reads { ReadsOn (R.remaining input.old) (R.remaining input.new) }
 {
@@ -125,12 +124,12 @@ fn read_front<A: Lister, R: Read, W: Sink>(
     match first_zero(alone, buffer.bytes(), count, job.style.ending) {
         Some(start) => {
             let text = &buffer.bytes()[..start];
-            search_text(automaton, job, text, state, page, output)?;
+            search_text(searcher, job, text, state, page, output)?;
             buffer.drop_front(start);
             Ok(Came::Binary)
         }
         None => {
-            search_whole(automaton, job, buffer, count, state, page, output)?;
+            search_whole(searcher, job, buffer, count, state, page, output)?;
             Ok(Came::Text)
         }
     }
@@ -184,8 +183,8 @@ fn read_more<R: Read, W: Sink>(
 }
 
 /// Searches the whole lines, where a line can end among the last `count` bytes alone, and keeps what follows.
-fn search_whole<A: Lister, W: Sink>(
-    automaton: &A,
+fn search_whole<W: Sink>(
+    searcher: &AhoCorasick,
     job: &Job<'_>,
     buffer: &mut Buffer,
     count: usize,
@@ -193,24 +192,17 @@ fn search_whole<A: Lister, W: Sink>(
     page: &mut Vec<u8>,
     output: &mut W,
 ) -> Result<(), Stop>
-    requires of { (p : Patterns) × A.is_of automaton.now p }
-    ensures searched { ForJob job.now (A.is_of automaton.now) (λ p.
+    requires of { IsBuiltFromSome searcher.now }
+    ensures searched { ForJob job.now (IsBuiltFrom searcher.now) (λ p.
         OnOk result (SearchesWhole p job.now state.old state.new
         (W.taken output.old) (W.taken output.new)
         (bytes_buffered buffer.old) (bytes_buffered buffer.new))) }
-    ensures begun { ForJob job.now (A.is_of automaton.now) (λ p.
+    ensures begun { ForJob job.now (IsBuiltFrom searcher.now) (λ p.
         OnErr result (BeginsWhole p job.now state.old state.new
         (W.taken output.old) (W.taken output.new) (bytes_buffered buffer.old))) }
 {
     let whole = whole_lines(buffer.bytes(), count, job.style.ending);
-    search_text(
-        automaton,
-        job,
-        &buffer.bytes()[..whole],
-        state,
-        page,
-        output,
-    )?;
+    search_text(searcher, job, &buffer.bytes()[..whole], state, page, output)?;
     buffer.drop_front(whole);
     Ok(())
 }

@@ -9,7 +9,7 @@ use Rattle.acgrep.proofs.AloneTried.{tried_alone, tried_next, tried_none}
 use Rattle.acgrep.proofs.alone.alone_at.Goals as goal
 
 pub loop-found-preserved : goal.loop-found-preserved
-loop-found-preserved g c =
+loop-found-preserved c =
     let line = c.args.line.now in
     let found = c.loop-found.found in
     let other = c.in-Some.other in
@@ -28,7 +28,7 @@ loop-found-preserved g c =
     }
 
 pub returns-in-None-clause-alone : goal.returns-in-None-clause-alone
-returns-in-None-clause-alone g c = λ p is kind longest.
+returns-in-None-clause-alone c = λ p is kind longest.
     let line = c.args.line.now in
     let found = c.loop-found.found in
     let refused : ends_alone line found.end ≡ false = sym (c.loop-found-test.ensures ∙ ap (ends_alone line) c.end.ensures.end) in
@@ -36,7 +36,7 @@ returns-in-None-clause-alone g c = λ p is kind longest.
     (subst (IsBestOrNone LeftmostLongest (IsShorter p line found)) c.in-None.is (c.in_ok-other.ensures.longest p is kind))
 
 pub returns-clause-alone : goal.returns-clause-alone
-returns-clause-alone g c = λ p is kind longest.
+returns-clause-alone c = λ p is kind longest.
     let line = c.args.line.now in
     tried_alone p line kind c.args.longest.start c.loop-found.found (c.loop-found.invariant.tried p is kind longest)
     (sym (c.if-not-begins_alone.ensures ∙ ap (begins_alone line) c.start.ensures.start)) (sym (c.loop-found-test.ensures ∙ ap (ends_alone line) c.end.ensures.end))

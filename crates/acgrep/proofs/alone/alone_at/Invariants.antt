@@ -2,18 +2,19 @@
 use Rattle.std.proofs.Common.{◌≡◌, ◌≤◌, length}
 use Rattle.aho_core.specs.Patterns.{Patterns}
 use Rattle.aho_core.specs.declared.search.MatchKind.TheVariants.{LeftmostLongest}
+use Rattle.chromesquid.specs.Searcher.{IsBuiltFrom}
 use Rattle.acgrep.specs.Alone.{IsLongestThere}
 use Rattle.acgrep.proofs.AloneTried.{IsTried}
 use Rattle.acgrep.proofs.alone.alone_at.Given as goal
 
 abbrev pub invariant-loop-found : goal.invariant-loop-found
-invariant-loop-found g l = record {
+invariant-loop-found l = record {
   start : l.found.start ≡ l.fn.longest.start;
   ordered : l.found.start ≤ l.found.end;
   within : l.found.end ≤ length l.fn.line;
-  tried : (p : Patterns) → g.A.Automaton.is_of l.fn.automaton p → (kind : p.kind ≡ LeftmostLongest) → IsLongestThere p l.fn.line l.fn.longest
+  tried : (p : Patterns) → IsBuiltFrom l.fn.searcher p → (kind : p.kind ≡ LeftmostLongest) → IsLongestThere p l.fn.line l.fn.longest
       → IsTried p l.fn.line kind l.fn.longest.start l.found;
 }
 
 abbrev pub decreases-loop-found : goal.decreases-loop-found
-decreases-loop-found g l = l.found.end
+decreases-loop-found l = l.found.end

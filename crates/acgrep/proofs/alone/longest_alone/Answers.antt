@@ -11,14 +11,14 @@ use Rattle.acgrep.proofs.AloneTried.{alone_found, alone_later, alone_none, begin
 use Rattle.acgrep.proofs.alone.longest_alone.Goals as goal
 
 pub loop-longest-init : goal.loop-longest-init
-loop-longest-init g c = record {
+loop-longest-init c = record {
   low = omega arith;
   high = c.requires.within;
   passed = λ p is kind. begins_at p c.args.line.now kind c.args.at;
 }
 
 pub returns-in-Some-2-clause-next : goal.returns-in-Some-2-clause-next
-returns-in-Some-2-clause-next g c = λ p is kind.
+returns-in-Some-2-clause-next c = λ p is kind.
     let line = c.args.line.now in
     let from = c.loop-longest.from in
     let longest = c.in-Some.longest in
@@ -30,7 +30,7 @@ returns-in-Some-2-clause-next g c = λ p is kind.
     (c.in_ok-found.ensures.alone p is kind (longest_there p line kind c.args.at from passed longest best)))
 
 pub loop-longest-preserved : goal.loop-longest-preserved
-loop-longest-preserved g c =
+loop-longest-preserved c =
     let line = c.args.line.now in
     let from = c.loop-longest.from in
     let longest = c.in-Some.longest in
@@ -53,7 +53,7 @@ loop-longest-preserved g c =
     }
 
 pub returns-clause-next : goal.returns-clause-next
-returns-clause-next g c = λ p is kind.
+returns-clause-next c = λ p is kind.
     let line = c.args.line.now in
     let from = c.loop-longest.from in
     alone_none p line kind c.args.at from (c.loop-longest.invariant.passed p is kind)

@@ -2,15 +2,16 @@
 use Rattle.std.proofs.Common.{◌≡◌, ◌≤◌, ◌+◌, ◌-◌, length}
 use Rattle.aho_core.specs.Patterns.{Patterns}
 use Rattle.aho_core.specs.declared.search.MatchKind.TheVariants.{LeftmostLongest}
+use Rattle.chromesquid.specs.Searcher.{IsBuiltFrom}
 use Rattle.acgrep.proofs.AloneTried.{BeginsBehind}
 use Rattle.acgrep.proofs.alone.longest_alone.Given as goal
 
 abbrev pub invariant-loop-longest : goal.invariant-loop-longest
-invariant-loop-longest g l = record {
+invariant-loop-longest l = record {
   low : l.fn.at ≤ l.from;
   high : l.from ≤ length l.fn.line + 1;
-  passed : (p : Patterns) → g.A.Automaton.is_of l.fn.automaton p → (kind : p.kind ≡ LeftmostLongest) → BeginsBehind p l.fn.line kind l.fn.at l.from;
+  passed : (p : Patterns) → IsBuiltFrom l.fn.searcher p → (kind : p.kind ≡ LeftmostLongest) → BeginsBehind p l.fn.line kind l.fn.at l.from;
 }
 
 abbrev pub decreases-loop-longest : goal.decreases-loop-longest
-decreases-loop-longest g l = length l.fn.line + 1 - l.from
+decreases-loop-longest l = length l.fn.line + 1 - l.from

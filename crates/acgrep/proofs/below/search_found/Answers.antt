@@ -20,8 +20,8 @@ returns-clause-searched g c = λ p is plain low.
     let names = name_bytes c.args.files.now.names.now in
     let full : 0 < length c.args.files.now.names.now = grind (arith, common_steps, c.is_empty.ensures, c.if-is_empty.false) in
     let some : 0 < length names = subst (λ (n : ℕ). 0 < n) (sym (length-map c.args.files.now.names.now (λ name. name.now))) full in
-    subst (λ (l : List (List ℕ)). AreSearchedOr p job holds l (g.R.Read.remaining c.args.input.now) (g.R.Read.remaining c.search_by.new.input)
-    (g.W.Sink.taken c.args.output.now) (g.W.Sink.taken c.search_by.new.output) c.search_by.result) (or-none names some) (c.search_by.ensures.searched p is plain low)
+    subst (λ (l : List (List ℕ)). AreSearchedOr p job holds l (g.R.Read.remaining c.args.input.now) (g.R.Read.remaining c.search_files.new.input)
+    (g.W.Sink.taken c.args.output.now) (g.W.Sink.taken c.search_files.new.output) c.search_files.result) (or-none names some) (c.search_files.ensures.searched p is plain low)
 
 pub returns-clause-begun : goal.returns-clause-begun
 returns-clause-begun g c = λ p is plain.
@@ -31,7 +31,7 @@ returns-clause-begun g c = λ p is plain.
     let full : 0 < length c.args.files.now.names.now = grind (arith, common_steps, c.is_empty.ensures, c.if-is_empty.false) in
     let some : 0 < length names = subst (λ (n : ℕ). 0 < n) (sym (length-map c.args.files.now.names.now (λ name. name.now))) full in
     subst (λ (l : List (List ℕ)). AreFilesBegun p job false holds l (g.R.Read.remaining c.args.input.now)
-    (g.W.Sink.taken c.args.output.now) (g.W.Sink.taken c.search_by.new.output)) (or-none names some) (c.search_by.ensures.begun p is plain)
+    (g.W.Sink.taken c.args.output.now) (g.W.Sink.taken c.search_files.new.output)) (or-none names some) (c.search_files.ensures.begun p is plain)
 
 pub returns-clause-told : goal.returns-clause-told
 returns-clause-told g c =
@@ -39,4 +39,4 @@ returns-clause-told g c =
     let names = name_bytes c.args.files.now.names.now in
     let full : 0 < length c.args.files.now.names.now = grind (arith, common_steps, c.is_empty.ensures, c.if-is_empty.false) in
     let some : 0 < length names = subst (λ (n : ℕ). 0 < n) (sym (length-map c.args.files.now.names.now (λ name. name.now))) full in
-    subst (λ (l : List (List ℕ)). TellsOfFiles g.E.Sink job.hushed job.label.now l job.shown c.search_by.result c.args.errors.now c.search_by.new.errors) (or-none names some) c.search_by.ensures.told
+    subst (λ (l : List (List ℕ)). TellsOfFiles g.E.Sink job.hushed job.label.now l job.shown c.search_files.result c.args.errors.now c.search_files.new.errors) (or-none names some) c.search_files.ensures.told

@@ -21,8 +21,8 @@ returns-clause-searched g c = λ p is plain low.
       reached = reached-plain (tree_of g.F.Folders c.args.operands.now.files.now) given (name_bytes names) none;
       job = c.job_of-job.result;
       is_job = subst (λ (b : Bool). IsJob given c.args.screen.now b c.job_of-job.result) (several-plain flags names (or_input (name_bytes names)) (looks-not given none).0) c.job_of-job.ensures.job;
-      found = c.search_by.result;
-      searched = c.search_by.ensures.searched p is free low;
+      found = c.search_files.result;
+      searched = c.search_files.ensures.searched p is free low;
       told = refl;
     }
 
@@ -39,10 +39,10 @@ returns-clause-begun g c = λ p is plain.
       reached = reached-plain (tree_of g.F.Folders c.args.operands.now.files.now) given (name_bytes names) none;
       job = c.job_of-job.result;
       is_job = subst (λ (b : Bool). IsJob given c.args.screen.now b c.job_of-job.result) (several-plain flags names (or_input (name_bytes names)) (looks-not given none).0) c.job_of-job.ensures.job;
-      begun = c.search_by.ensures.begun p is free;
+      begun = c.search_files.ensures.begun p is free;
     })
 
 pub returns-clause-told : goal.returns-clause-told
 returns-clause-told g c =
-    told-plain g.E.Sink (tree_of g.F.Folders c.args.operands.now.files.now) (said c.args.given.now) (name_bytes c.args.operands.now.names.now) c.job_of-job.result.hushed c.job_of-job.result.label.now c.job_of-job.result.shown c.search_by.result
-    c.args.errors.now c.search_by.new.errors c.job_of-job.ensures.job.hushed c.job_of-job.ensures.job.label c.job_of-job.ensures.job.shown c.search_by.ensures.told
+    told-plain g.E.Sink (tree_of g.F.Folders c.args.operands.now.files.now) (said c.args.given.now) (name_bytes c.args.operands.now.names.now) c.job_of-job.result.hushed c.job_of-job.result.label.now c.job_of-job.result.shown c.search_files.result
+    c.args.errors.now c.search_files.new.errors c.job_of-job.ensures.job.hushed c.job_of-job.ensures.job.label c.job_of-job.ensures.job.shown c.search_files.ensures.told

@@ -1,13 +1,14 @@
 -- The lines so far are searched.
 use Rattle.std.proofs.Common.{length}
 use Rattle.aho_core.specs.Patterns.{Patterns}
+use Rattle.chromesquid.specs.Searcher.{IsBuiltFrom}
 use Rattle.acgrep.specs.Contexts.{walk_of}
 use Rattle.acgrep.proofs.Stepped.{WalksTo}
 use Rattle.acgrep.proofs.context.search_around.Given as goal
 
 abbrev pub invariant-loop-rest : goal.invariant-loop-rest
 invariant-loop-rest g l = record {
-  walks : (p : Patterns) → g.A.Automaton.is_of l.fn.automaton p
+  walks : (p : Patterns) → IsBuiltFrom l.fn.searcher p
       → WalksTo p l.fn.job l.fn.context (walk_of l.initial.state) (walk_of l.state) (g.W.Sink.taken l.initial.output) (g.W.Sink.taken l.output) l.fn.text l.rest;
 }
 

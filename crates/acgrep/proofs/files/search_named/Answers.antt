@@ -1,5 +1,7 @@
 -- The bytes of the file are those of its reader.
-use Rattle.acgrep.proofs.FilesBegun.{file_known, file_none, if_broken}
+use Rattle.acgrep.specs.Files.{SearchesFile, SearchesReader}
+use Rattle.acgrep.proofs.FileTellings.{if_searched}
+use Rattle.acgrep.proofs.FilesBegun.{file_known, file_none, file_read, if_broken}
 use Rattle.acgrep.proofs.files.search_named.Goals as goal
 
 pub returns-in-Ok-clause-begun : goal.returns-in-Ok-clause-begun
@@ -16,3 +18,14 @@ returns-then-writes_into-clause-begun g c = λ p is plain.
 pub returns-in-Err-clause-begun : goal.returns-in-Err-clause-begun
 returns-in-Err-clause-begun g c = λ p is plain.
     file_none p c.args.job.now (g.F.Open.holds c.args.files.now c.args.name.now) (g.W.Sink.taken c.args.output.now) (g.W.Sink.taken c.flush-in-Err.new.self) c.flush-in-Err.ensures.kept
+
+pub returns-in-Ok-clause-searched : goal.returns-in-Ok-clause-searched
+returns-in-Ok-clause-searched g c = λ p is plain.
+    let job = c.args.job.now in
+    let known = g.F.Open.holds c.args.files.now c.args.name.now in
+    let left = g.F.File.Read.remaining c.in-Ok.file in
+    let left' = g.F.File.Read.remaining c.search_one.new.reader in
+    let held = g.W.Sink.taken c.args.output.now in
+    let held' = g.W.Sink.taken c.search_one.new.output in
+    if_searched c.search_one.result (SearchesReader p job left left' held held') (SearchesFile p job known held held')
+    (λ any all. file_read p job known left held held' any c.in-Ok.ensures.told all.file) (c.search_one.ensures.searched p is plain)

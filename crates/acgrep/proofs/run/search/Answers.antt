@@ -1,8 +1,9 @@
--- The automaton was built of the lines that were read.
+-- The searcher was built from the lines that were read.
 use Rattle.std.proofs.Common.{◌≡◌, ◌∙◌, arith, List, [], ℕ, false, true, ap, inl, inr, refl, subst, sym}
 use Rattle.std.proofs.KnownBytes.{Keeps-refl}
 use Rattle.std.proofs.lemmas.Bool.{and_parts}
 use Rattle.aho_core.specs.Replacement.{pieces_of}
+use Rattle.chromesquid.specs.Searcher.{IsBuiltFrom}
 use Rattle.acgrep.specs.Lines.{AreFreeOf, lines}
 use Rattle.acgrep.specs.Runs.{AreSought, BeginsNoMatch, BeginsOrCounts, BeginsOrKeeps, ReachesOrCounts, SearchesReached, WritesNoMatch, inverts, kind_sought, knows_none, origins_of, words_sought}
 use Rattle.acgrep.specs.Searchers.{patterns_asked}
@@ -24,10 +25,10 @@ search_or_count-requires g c =
     let given = said c.args.given.now in
     let flags = given.flags in
     let asked = patterns_asked (kind_sought flags) flags.ignore_case (pieces_of c.sought-words.result.now) in
-    record { of = (asked, c.in-Ok-build.ensures.of asked (sym c.kind_sought.ensures) (record { words_are = refl; rule = refl })) }
+    record { of = (asked, rw c.kind_sought.ensures at c.in-Ok-searcher_of.ensures.of) }
 
-pub returns-in-Ok-build-clause-searches : goal.returns-in-Ok-build-clause-searches
-returns-in-Ok-build-clause-searches g c low =
+pub returns-in-Ok-searcher_of-clause-searches : goal.returns-in-Ok-searcher_of-clause-searches
+returns-in-Ok-searcher_of-clause-searches g c low =
     let flags = c.args.given.now.flags in
     let text = c.in-Some.keys.text.items in
     let sought = words_sought flags (lines 10 text) in
@@ -35,6 +36,7 @@ returns-in-Ok-build-clause-searches g c low =
     c.sought-words.ensures.words ∙ ap (words_sought flags) (ap pieces_of c.as_slice-all.ensures.value ∙ c.in-Ok.ensures.lines ∙ ap (lines 10) c.as_slice.ensures.value) in
     let free : AreFreeOf (ending_by flags) sought = subst (AreFreeOf (ending_by flags)) same (subst (λ (n : ℕ). AreFreeOf n (pieces_of c.sought-words.result.now)) c.ending.ensures.ending (c.first_holding.ensures.none c.in_default-first_holding.is)) in
     let asked = patterns_asked (kind_sought flags) flags.ignore_case sought in
+    let built : IsBuiltFrom c.in-Ok-searcher_of.searcher asked = rw (c.kind_sought.ensures, same) at c.in-Ok-searcher_of.ensures.of in
     let some : knows_none flags sought ≡ false = ap (knows_none flags) (sym same) ∙ sym c.knows_none.ensures ∙ c.if-knows_none.false in
     let all : pieces_of c.as_slice-all.result.now ≡ lines 10 text = ap pieces_of c.as_slice-all.ensures.value ∙ c.in-Ok.ensures.lines ∙ ap (lines 10) c.as_slice.ensures.value in
     let known = known_by g.F.Open g.F.Folders c.args.files.now in
@@ -52,7 +54,7 @@ returns-in-Ok-build-clause-searches g c low =
       searched = counts-of flags (lines 10 text) (λ old new. SearchesReached known c.args.screen.now given asked names left left' old new status)
           (λ old new. AreSought known c.args.screen.now given sought names left left' old new status) (λ old new found. rw some found) held held'
           (subst (λ (l : List (List ℕ)). ReachesOrCounts known c.args.screen.now given asked l names left left' held held' status) all
-          (c.search_or_count.ensures.searched asked (c.in-Ok-build.ensures.of asked (sym c.kind_sought.ensures) (record { words_are = sym same; rule = refl })) (free_plain flags (kind_sought flags) flags.ignore_case sought free) low));
+          (c.search_or_count.ensures.searched asked built (free_plain flags (kind_sought flags) flags.ignore_case sought free) low));
     }
 
 pub returns-then-knows_none-clause-searches : goal.returns-then-knows_none-clause-searches
@@ -86,8 +88,8 @@ returns-then-knows_none-clause-searches g c low =
           (subst (λ (l : List (List ℕ)). WritesNoMatch flags l held held') all (c.end_unsearched.ensures.written low));
     }
 
-pub returns-in-Ok-build-clause-begins : goal.returns-in-Ok-build-clause-begins
-returns-in-Ok-build-clause-begins g c =
+pub returns-in-Ok-searcher_of-clause-begins : goal.returns-in-Ok-searcher_of-clause-begins
+returns-in-Ok-searcher_of-clause-begins g c =
     let flags = c.args.given.now.flags in
     let text = c.in-Some.keys.text.items in
     let sought = words_sought flags (lines 10 text) in
@@ -95,6 +97,7 @@ returns-in-Ok-build-clause-begins g c =
     c.sought-words.ensures.words ∙ ap (words_sought flags) (ap pieces_of c.as_slice-all.ensures.value ∙ c.in-Ok.ensures.lines ∙ ap (lines 10) c.as_slice.ensures.value) in
     let free : AreFreeOf (ending_by flags) sought = subst (AreFreeOf (ending_by flags)) same (subst (λ (n : ℕ). AreFreeOf n (pieces_of c.sought-words.result.now)) c.ending.ensures.ending (c.first_holding.ensures.none c.in_default-first_holding.is)) in
     let asked = patterns_asked (kind_sought flags) flags.ignore_case sought in
+    let built : IsBuiltFrom c.in-Ok-searcher_of.searcher asked = rw (c.kind_sought.ensures, same) at c.in-Ok-searcher_of.ensures.of in
     let all : pieces_of c.as_slice-all.result.now ≡ lines 10 text = ap pieces_of c.as_slice-all.ensures.value ∙ c.in-Ok.ensures.lines ∙ ap (lines 10) c.as_slice.ensures.value in
     let known = known_by g.F.Open g.F.Folders c.args.files.now in
     let given = said c.args.given.now in
@@ -105,7 +108,7 @@ returns-in-Ok-build-clause-begins g c =
       read = c.in-Some.ensures.words;
       begun = subst
           (λ (l : List (List ℕ)). BeginsOrCounts known c.args.screen.now given asked l (name_bytes c.args.names.now) left (g.W.Sink.taken c.args.output.now) (g.W.Sink.taken c.search_or_count.new.output)) all
-          (c.search_or_count.ensures.begun asked (c.in-Ok-build.ensures.of asked (sym c.kind_sought.ensures) (record { words_are = sym same; rule = refl })) (free_plain flags (kind_sought flags) flags.ignore_case sought free));
+          (c.search_or_count.ensures.begun asked built (free_plain flags (kind_sought flags) flags.ignore_case sought free));
     })
 
 pub returns-in_default-clause-begins : goal.returns-in_default-clause-begins
@@ -171,8 +174,8 @@ returns-then-knows_none-clause-told g c =
     (none-told g.E.Sink May flags.no_messages (shown_by flags) c.end_unsearched.result e e' c.end_unsearched.ensures.status c.end_unsearched.ensures.silent
     (λ two. some-weaker g.E.Sink (IsMessage names) May e e' (λ line is. inl (inl is)) (c.end_unsearched.ensures.told two names)))
 
-pub returns-in-Ok-build-clause-told : goal.returns-in-Ok-build-clause-told
-returns-in-Ok-build-clause-told g c =
+pub returns-in-Ok-searcher_of-clause-told : goal.returns-in-Ok-searcher_of-clause-told
+returns-in-Ok-searcher_of-clause-told g c =
     let given = said c.args.given.now in
     let flags = given.flags in
     let tree = tree_of g.F.Folders c.args.files.now in

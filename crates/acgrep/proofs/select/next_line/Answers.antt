@@ -1,23 +1,22 @@
 use Rattle.std.proofs.Common.{arith, subst}
-use Rattle.std.specs.Prelude.{Option, Some}
+use Rattle.std.specs.Prelude.{Some}
 use Rattle.aho_core.specs.Answer.{IsAnswer}
-use Rattle.aho_core.specs.Occurrence.{Occurrence}
-use Rattle.aho_core.specs.Search.{Search, plain_search}
+use Rattle.aho_core.specs.Search.{plain_search}
 use Rattle.acgrep.proofs.Around.{first_around, starts_within}
 use Rattle.acgrep.proofs.select.next_line.Goals as goal
 
 pub line_around-requires : goal.line_around-requires
-line_around-requires g c =
+line_around-requires c =
     let (p, is) = c.requires.of in
     let text = c.args.text.now in
     let best : IsAnswer p (plain_search text) (Some c.in-Some.found) =
-    subst (λ (s : Search). IsAnswer p s (Some c.in-Some.found)) c.new.ensures.whole (subst (λ (a : Option Occurrence). IsAnswer p c.new.result a) c.in-Some.is (c.in_ok-found.ensures.found p is)) in
+    subst (IsAnswer p (plain_search text)) c.in-Some.is (c.in_ok-found.ensures.found p is) in
     record { within = omega (arith, c.start.ensures.start, starts_within p text c.in-Some.found best) }
 
 pub returns-in-Some-clause-next : goal.returns-in-Some-clause-next
-returns-in-Some-clause-next g c = λ p is plain.
+returns-in-Some-clause-next c = λ p is plain.
     let text = c.args.text.now in
     let best : IsAnswer p (plain_search text) (Some c.in-Some.found) =
-    subst (λ (s : Search). IsAnswer p s (Some c.in-Some.found)) c.new.ensures.whole (subst (λ (a : Option Occurrence). IsAnswer p c.new.result a) c.in-Some.is (c.in_ok-found.ensures.found p is)) in
+    subst (IsAnswer p (plain_search text)) c.in-Some.is (c.in_ok-found.ensures.found p is) in
     let start = c.start.ensures.start in
     first_around c.args.ending p text c.in-Some.found c.line_around.result plain best c.line_around.ensures.line (omega (arith, start, c.line_around.ensures.before)) (omega (arith, start, c.line_around.ensures.behind))

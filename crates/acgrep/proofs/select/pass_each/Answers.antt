@@ -1,12 +1,13 @@
 -- One line more was selected.
 use Rattle.std.proofs.Common.{◌≡◌, List, ℕ, suc, ◌<◌, ◌∷◌, length, take, drop, sym, ◌∙◌, ap, add-one, arith}
 use Rattle.std.proofs.lemmas.Grind.{common_steps}
+use Rattle.std.proofs.lemmas.List.{nil_from_length}
 use Rattle.acgrep.specs.Lines.{lines}
 use Rattle.acgrep.specs.Written.{after_lines}
 use Rattle.acgrep.specs.declared.print.Place.{Place}
 use Rattle.acgrep.proofs.Beginnings.{begins_passing, on_err}
 use Rattle.acgrep.proofs.FirstLines.{lines_first}
-use Rattle.acgrep.proofs.Tellings.{passing_step}
+use Rattle.acgrep.proofs.Tellings.{passing_end, passing_step}
 use Rattle.acgrep.proofs.select.pass_each.Goals as goal
 
 pub loop-rest-preserved : goal.loop-rest-preserved
@@ -36,3 +37,10 @@ returns-in_err-pass_selected-clause-begun g c = λ p is invert each.
     on_err c.from_residual.result (begins_passing p c.args.job.now c.args.state.now c.loop-rest.state c.pass_selected.new.state.selected
     (g.W.Sink.taken c.args.output.now) (g.W.Sink.taken c.loop-rest.output) (g.W.Sink.taken c.pass_selected.new.output)
     c.args.text.now rest (take end rest) left invert more (c.loop-rest.invariant.passed p is invert each) (c.in_err-pass_selected.ensures.begun p is))
+
+pub returns-clause-written : goal.returns-clause-written
+returns-clause-written g c = λ p is invert each.
+    let rest = c.loop-rest.rest.now in
+    let empty : length rest ≡ 0 = grind (arith, common_steps, c.is_empty.ensures, c.loop-rest-test.false) in
+    passing_end p c.args.job.now c.args.state.now c.loop-rest.state (g.W.Sink.taken c.args.output.now) (g.W.Sink.taken c.loop-rest.output)
+    c.args.text.now rest (nil_from_length rest empty) (c.loop-rest.invariant.passed p is invert each)

@@ -1,0 +1,24 @@
+-- What stands before a line, the line with its matches, and what ends it.
+use Rattle.std.proofs.Common.{[], ◌∷◌, ◌++◌}
+use Rattle.std.proofs.KnownBytes.{Appends-trans}
+use Rattle.acgrep.specs.Printed.{colored_from, head_of, line_number_at}
+use Rattle.acgrep.proofs.matches.put_colored_line.Goals as goal
+
+pub returns : goal.returns
+returns g c =
+    let held = g.W.Write.contents in
+    let style = c.args.job.now.style in
+    let place = c.args.place in
+    let line = c.args.line.now in
+    record {
+      written = λ p is.
+          let shown = c.in_ok-put_matches.ensures.written p is in
+          record {
+            matches = shown.matches;
+            found = shown.found;
+            written = Appends-trans (held c.args.output.now) (held c.put_head.new.output) (held c.write_all.new.self) (head_of style (line_number_at place) place.bytes line)
+                (colored_from style line 0 shown.matches ++ (style.ending ∷ [])) c.in_ok-put_head.ensures.written
+                (Appends-trans (held c.put_head.new.output) (held c.put_matches.new.output) (held c.write_all.new.self) (colored_from style line 0 shown.matches) (style.ending ∷ []) shown.written
+                c.in_ok-write_all.ensures.bytes);
+          };
+    }
