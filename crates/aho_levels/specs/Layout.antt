@@ -1,5 +1,5 @@
 -- How the states of `Levels` lie in memory, and what is read there.
-use Rattle.std.specs.Prelude.{◌≡◌, ◌||◌, ℕ, zero, suc, ◌+◌, ◌-◌, ◌*◌, ◌<◌, ◌≤◌, Bool, List, [], ◌∷◌, length, take, drop, nat_eq, nat_lt, slice_index_or, if◌then◌else◌, Option, Some, None, is_some}
+use Rattle.std.specs.Prelude.{◌≡◌, ◌≢◌, ◌||◌, ◌&&◌, ℕ, zero, suc, ◌+◌, ◌-◌, ◌*◌, ◌<◌, ◌≤◌, Bool, List, [], ◌∷◌, length, take, drop, nat_eq, nat_lt, slice_index_or, if◌then◌else◌, Option, Some, None, is_some}
 use Rattle.aho_core.specs.Bytes.{folded_by}
 use Rattle.aho_core.specs.Held.{held_after}
 use Rattle.aho_core.specs.Numbers.{greatest_index}
@@ -30,14 +30,33 @@ IsStateIn t sid = sid < length t.bytes
 abbrev pub first_in : Layout → ℕ → ℕ
 first_in t sid = slice_index_or t.firsts sid 0
 
--- the first of so many bytes from a place on that is this one
-abbrev pub found_from : ℕ → List ℕ → ℕ → ℕ → Option ℕ
-found_from zero bytes byte at = None
-found_from (suc count) bytes byte at = if nat_eq (slice_index_or bytes at 0) byte then Some at else found_from count bytes byte (at + 1)
+-- the place of the first of some bytes that is this one, counted on from the place of the first
+abbrev pub position_of : List ℕ → ℕ → ℕ → Option ℕ
+position_of [] byte at = None
+position_of (x ∷ xs) byte at = if nat_eq x byte then Some at else position_of xs byte (at + 1)
 
--- the child to which a byte leads, of those as they are compared
+-- the bytes rise
+abbrev pub AreRising : List ℕ → Type 0
+AreRising xs = (i j : ℕ) → i < j → j < length xs → slice_index_or xs i 0 < slice_index_or xs j 0
+
+-- those that are this one stand from one place on and before another
+pub record StandsAmong (xs : List ℕ) (byte low high : ℕ) : Type 0 where
+  pub ordered : low ≤ high
+  pub within : high ≤ length xs
+  pub before : (i : ℕ) → i < low → slice_index_or xs i 0 ≢ byte
+  pub behind : (i : ℕ) → high ≤ i → i < length xs → slice_index_or xs i 0 ≢ byte
+
+-- the bytes that lead to the children of a state
+abbrev pub child_bytes : Layout → ℕ → List ℕ
+child_bytes t sid = take (first_in t (sid + 1) - first_in t sid) (drop (first_in t sid) t.bytes)
+
+-- the child to which a byte leads as it is compared
 abbrev pub child_in : Layout → ℕ → ℕ → Option ℕ
-child_in t sid folded = found_from (first_in t (sid + 1) - first_in t sid) t.bytes folded (first_in t sid)
+child_in t sid folded = position_of (child_bytes t sid) folded (first_in t sid)
+
+-- the child to which a byte leads
+abbrev pub child_by : Layout → ℕ → ℕ → Option ℕ
+child_by t sid byte = child_in t sid (folded_by t.ignore_case byte)
 
 abbrev pub depth_in : Layout → ℕ → ℕ
 depth_in t sid = slice_index_or t.depths sid 0
@@ -60,20 +79,20 @@ told_else (Some sid) other = sid
 -- where a byte leads, where so many states may be looked at: down the links to the first state that takes it
 abbrev pub along : ℕ → Layout → ℕ → ℕ → ℕ
 along zero t byte sid = 0
-along (suc left) t byte sid = if is_row t sid then entry_in t sid byte else told_else (child_in t sid (folded_by t.ignore_case byte)) (along left t byte (link_in t sid))
+along (suc left) t byte sid = if is_row t sid then entry_in t sid byte else told_else (child_by t sid byte) (along left t byte (link_in t sid))
 
 -- how many states are looked at
 abbrev pub looks_along : ℕ → Layout → ℕ → ℕ → ℕ
 looks_along zero t byte sid = 0
-looks_along (suc left) t byte sid = 1 + (if is_row t sid || is_some (child_in t sid (folded_by t.ignore_case byte)) then 0 else looks_along left t byte (link_in t sid))
+looks_along (suc left) t byte sid = 1 + (if is_row t sid || is_some (child_by t sid byte) then 0 else looks_along left t byte (link_in t sid))
 
 -- where a byte leads, and the look-ups that this takes; an anchored step follows no link
 abbrev pub next_in : Layout → Anchored → ℕ → ℕ → ℕ
-next_in t No sid byte = along (depth_in t sid + 1) t byte sid
-next_in t Yes sid byte = told_else (child_in t sid (folded_by t.ignore_case byte)) 0
+next_in t No sid byte = along (sid + 1) t byte sid
+next_in t Yes sid byte = told_else (child_by t sid byte) 0
 
 abbrev pub looks_in : Layout → Anchored → ℕ → ℕ → ℕ
-looks_in t No sid byte = looks_along (depth_in t sid + 1) t byte sid
+looks_in t No sid byte = looks_along (sid + 1) t byte sid
 looks_in t Yes sid byte = 1
 
 -- the list that stands here: its length, and then its patterns
@@ -92,7 +111,7 @@ abbrev pub is_marked_in : Layout → ℕ → Bool
 is_marked_in t sid = nat_eq sid 0 || nat_lt 0 (place_in t sid)
 
 abbrev pub is_special_in : Bool → Layout → ℕ → Bool
-is_special_in skips t sid = is_marked_in t sid || (if skips then nat_eq sid 1 else nat_eq sid 0)
+is_special_in skips t sid = is_marked_in t sid || (skips && nat_eq sid 1)
 
 -- the state of a word: from child to child, and dead where there is none
 abbrev pub walked : Layout → ℕ → List ℕ → ℕ
@@ -103,58 +122,60 @@ abbrev pub state_for : Layout → Option (List ℕ) → ℕ
 state_for t None = 0
 state_for t (Some word) = walked t 1 word
 
--- the state that a search holds after a word
-abbrev pub IsHeldIn : Layout → Patterns → Anchored → List ℕ → ℕ → Type 0
-IsHeldIn t p anchored word sid = sid ≡ state_for t (held_after p anchored word)
-
 -- the look-ups of the byte that follows a word
 abbrev pub lookups_in : Layout → Patterns → Anchored → List ℕ → ℕ → ℕ
 lookups_in t p anchored word byte = looks_in t anchored (state_for t (held_after p anchored word)) byte
 
--- there is a dead state and a root, and an entry for each state
+-- there is a dead state and a root, and their tables are as long as there are states
 pub record IsSized (t : Layout) : Type 0 where
   pub two : 2 ≤ length t.bytes
   pub small : length t.bytes ≤ greatest_index
   pub firsts : length t.firsts ≡ length t.bytes + 1
   pub depths : length t.depths ≡ length t.bytes
-  pub fails : length t.fails ≡ length t.bytes
-  pub places : length t.places ≡ length t.bytes
   pub rows : length t.rows ≡ 256 * t.row_count
   pub with_rows : 2 ≤ t.row_count
-  pub some_rows : t.row_count ≤ length t.bytes
+  pub linked : t.row_count ≤ length t.fails
+  pub some_links : length t.fails ≤ length t.bytes
 
--- the children of a state are states, in the order of their bytes, each one deeper; the dead one has none
+-- the children of a state stand side by side in the order of their bytes, each one deeper; the dead one has none
 pub record HasChildren (t : Layout) : Type 0 where
   pub ordered : (sid : ℕ) → IsStateIn t sid → first_in t sid ≤ first_in t (sid + 1)
   pub within : (sid : ℕ) → IsStateIn t sid → first_in t (sid + 1) ≤ length t.bytes
-  pub rising : (sid i j : ℕ) → IsStateIn t sid → first_in t sid ≤ i → i < j → j < first_in t (sid + 1) → slice_index_or t.bytes i 0 < slice_index_or t.bytes j 0
-  pub deeper : (sid child : ℕ) → IsStateIn t sid → first_in t sid ≤ child → child < first_in t (sid + 1) → depth_in t child ≡ depth_in t sid + 1
-  pub dead_none : first_in t 0 ≡ first_in t 1
+  pub rising : (sid : ℕ) → IsStateIn t sid → AreRising (child_bytes t sid)
+  pub state : (sid folded child : ℕ) → IsStateIn t sid → child_in t sid folded ≡ Some child → IsStateIn t child
+  pub deeper : (sid folded child : ℕ) → IsStateIn t sid → child_in t sid folded ≡ Some child → depth_in t child ≡ depth_in t sid + 1
+  pub dead_none : (folded : ℕ) → child_in t 0 folded ≡ None
+  pub shallow : (sid : ℕ) → IsStateIn t sid → depth_in t sid ≤ greatest_index
+  pub dead_depth : depth_in t 0 ≡ 0
+  pub root_depth : depth_in t 1 ≡ 0
 
--- an entry of a row leads to a state, one deeper at most, and that of the dead state to it; a link leads to one less deep
+-- an entry of a row leads to a state, one deeper at most, and that of the dead state to it; a link that is made leads to one before
+-- it, and less deep
 pub record IsWalkable (t : Layout) : Type 0 where
   pub entry : (sid byte : ℕ) → sid < t.row_count → byte < 256 → IsStateIn t (entry_in t sid byte)
   pub entry_near : (sid byte : ℕ) → sid < t.row_count → byte < 256 → depth_in t (entry_in t sid byte) ≤ depth_in t sid + 1
   pub dead_stays : (byte : ℕ) → byte < 256 → entry_in t 0 byte ≡ 0
-  pub link : (sid : ℕ) → t.row_count ≤ sid → IsStateIn t sid → IsStateIn t (link_in t sid)
-  pub link_nearer : (sid : ℕ) → t.row_count ≤ sid → IsStateIn t sid → depth_in t (link_in t sid) < depth_in t sid
-  pub dead_depth : depth_in t 0 ≡ 0
-  pub root_depth : depth_in t 1 ≡ 0
-  pub shallow : (sid : ℕ) → IsStateIn t sid → depth_in t sid ≤ greatest_index
+  pub link : (sid : ℕ) → t.row_count ≤ sid → sid < length t.fails → link_in t sid < sid
+  pub link_nearer : (sid : ℕ) → t.row_count ≤ sid → sid < length t.fails → depth_in t (link_in t sid) < depth_in t sid
 
--- each list stands within the lists, and an empty one at the front
+-- what a step needs
+pub record CanStep (t : Layout) : Type 0 where
+  pub sized : IsSized t
+  pub children : HasChildren t
+  pub walkable : IsWalkable t
+
+-- each list stands within the lists, and an empty one at the front, where that of the dead state is
 pub record IsListed (t : Layout) : Type 0 where
   pub within : (sid : ℕ) → IsStateIn t sid → place_in t sid + slice_index_or t.lists (place_in t sid) 0 < length t.lists
   pub empty : slice_index_or t.lists 0 0 ≡ 0
-  pub some : (sid : ℕ) → IsStateIn t sid → 0 < place_in t sid → 0 < slice_index_or t.lists (place_in t sid) 0
   pub small : length t.lists ≤ greatest_index + 1
   pub dead : place_in t 0 ≡ 0
 
 pub record IsSoundLayout (t : Layout) : Type 0 where
-  pub sized : IsSized t
-  pub children : HasChildren t
-  pub walkable : IsWalkable t
+  pub steps : CanStep t
   pub listed : IsListed t
+  pub fails : length t.fails ≡ length t.bytes
+  pub places : length t.places ≡ length t.bytes
 
 -- the bytes of the entries, by stated sizes, and what a prefilter holds
 abbrev pub memory_in : Layout → List ℕ → Option Searcher → ℕ

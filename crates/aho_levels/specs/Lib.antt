@@ -1,4 +1,8 @@
 -- how the states lie in memory, and what is read there
 pub mod Layout
--- what it means that they are the automaton of some patterns, and the laws that follow
+-- where a step leads, and what it costs
+pub mod Stepping
+-- what it means that they are the automaton of some patterns
+pub mod Meaning
+-- the laws that follow
 pub mod Reading

@@ -6,6 +6,7 @@ ghost use Rattle.aho_core.specs.Numbers.{greatest_index};
 ghost use Rattle.aho_levels.specs.Layout.{IsSoundLayout};
 
 use crate::links::link_states;
+pub use crate::links::MOST_ROWS;
 use crate::lists::list_patterns;
 use crate::order::ordered;
 use crate::states::{DEAD, ROOT, States};
@@ -33,11 +34,11 @@ pub struct Levels {
 }
 
 impl Levels {
-    /// The automaton of these patterns, with this prefilter.
+    /// The automaton of these patterns, with this prefilter and `MOST_ROWS` rows at most.
     ///
     /// # Errors
     ///
-    /// `StateIDOverflow` where the patterns have more bytes together, or their lists, than there are indexes; or `OutOfMemory`.
+    /// As those of `with_rows`.
     pub fn new(
         alloc: Global,
         kind: MatchKind,
@@ -45,9 +46,26 @@ impl Levels {
         patterns: &[&[u8]],
         prefilter: Option<Prefilter>,
     ) -> Result<Levels, BuildError> {
+        Levels::with_rows(alloc, kind, ignore_case, patterns, prefilter, MOST_ROWS)
+    }
+
+    /// The automaton of these patterns, with this prefilter. So many states at most have rows, but the dead one and the root have
+    /// rows in any case.
+    ///
+    /// # Errors
+    ///
+    /// `StateIDOverflow` where the patterns have more bytes together, or their lists, than there are indexes; or `OutOfMemory`.
+    pub fn with_rows(
+        alloc: Global,
+        kind: MatchKind,
+        ignore_case: bool,
+        patterns: &[&[u8]],
+        prefilter: Option<Prefilter>,
+        most_rows: usize,
+    ) -> Result<Levels, BuildError> {
         let ordered = ordered(alloc, ignore_case, patterns, ROOT)?;
         let trie = trie_of(alloc, kind, ordered)?;
-        let states = states_of(alloc, kind, ignore_case, trie)?;
+        let states = states_of(alloc, kind, ignore_case, trie, most_rows)?;
         let pattern_lens = lens_of(alloc, patterns)?;
         Ok(Levels {
             match_kind: kind,
@@ -82,6 +100,7 @@ fn states_of(
     kind: MatchKind,
     ignore_case: bool,
     trie: Trie,
+    most_rows: usize,
 ) -> Result<States, BuildError> {
     let mut states = States::new(alloc, ignore_case);
     let Trie {
@@ -94,7 +113,7 @@ fn states_of(
     states.firsts = firsts;
     states.bytes = bytes;
     states.depths = depths;
-    link_states(&mut states, kind, &owns)?;
+    link_states(&mut states, kind, &owns, most_rows)?;
     list_patterns(&mut states, &owns)?;
     Ok(states)
 }
@@ -116,8 +135,9 @@ impl Automaton for Levels {
     ghost use Rattle.std.specs.Prelude.{ℕ, IfSome, is_some, nat_eq, Ok};
     ghost use Rattle.aho_core.specs.Patterns.{Patterns};
     ghost use Rattle.aho_prefilter.specs.Prefilter.{IsPrefilterOf};
-    ghost use Rattle.aho_levels.specs.Layout.{IsStateIn, IsHeldIn, depth_in, is_marked_in, is_special_in, lookups_in, next_in, list_in, memory_in};
-    ghost use Rattle.aho_levels.specs.Reading.{IsLevelsOf, alike_of, dead_shallow_of, plain_of, reaches_in, reads_of, starts_shallow_of, unmarked_of};
+    ghost use Rattle.aho_levels.specs.Layout.{IsStateIn, depth_in, is_marked_in, is_special_in, lookups_in, next_in, list_in, memory_in};
+    ghost use Rattle.aho_levels.specs.Meaning.{IsHeldIn, IsLevelsOf};
+    ghost use Rattle.aho_levels.specs.Reading.{alike_of, dead_shallow_of, plain_of, reaches_in, reads_of, starts_shallow_of, unmarked_of};
 
     ghost is_of = { λ a p. IsLevelsOf a.states p a.match_kind a.pattern_lens.items
         × IfSome a.prefilter (λ searcher. IsPrefilterOf searcher p) };
@@ -158,9 +178,9 @@ impl Automaton for Levels {
 
     ghost laws = { λ a p of. reads_of a.states a.sound p a.match_kind a.pattern_lens.items of.0 };
 
-    ghost alike = { λ a p word other sid of. alike_of a.states p word other sid };
+    ghost alike = { λ a p word other sid of. alike_of a.states a.sound p word other sid };
 
-    ghost plain = { λ a sid valid. plain_of (is_some a.prefilter) a.states a.sound sid };
+    ghost plain = { λ a sid valid. plain_of a.states a.sound (is_some a.prefilter) sid };
 
     ghost unmarked = { λ a sid valid. unmarked_of a.states a.sound sid };
 

@@ -30,7 +30,12 @@ pub fn is_next(owns: &[Own], index: usize, sid: StateID) -> bool {
 /// # Errors
 ///
 /// Out of memory.
-pub fn link_states(states: &mut States, kind: MatchKind, owns: &[Own]) -> Result<(), BuildError> {
+pub fn link_states(
+    states: &mut States,
+    kind: MatchKind,
+    owns: &[Own],
+    most_rows: usize,
+) -> Result<(), BuildError> {
     let leftmost = is_leftmost(kind);
     let back = if leftmost && is_next(owns, 0, ROOT) {
         DEAD
@@ -60,7 +65,7 @@ pub fn link_states(states: &mut States, kind: MatchKind, owns: &[Own]) -> Result
                 states.step(from, states.bytes[child], &mut Work::new())
             };
             push_state(&mut states.fails, link)?;
-            if child < MOST_ROWS {
+            if child < most_rows {
                 add_row(states, sid, link)?;
             }
         }

@@ -1,5 +1,8 @@
 //! The patterns in the order of their bytes, so that the trie is made by walks through neighbouring memory.
 
+ghost use Rattle.std.specs.Prelude.{◌≡◌};
+ghost use Rattle.aho_core.specs.Bytes.{folded_by};
+
 use aho_core::error::BuildError;
 use aho_core::search::{PatternID, SmallIndex, StateID};
 use std::alloc::Global;
@@ -7,7 +10,9 @@ use std::cmp::Ordering;
 
 /// A byte as it is compared: where case is ignored an upper-case ASCII letter as the lower-case one.
 #[inline(always)]
-pub fn folded(ignore_case: bool, byte: u8) -> u8 {
+pub fn folded(ignore_case: bool, byte: u8) -> u8
+    ensures folded { result ≡ folded_by ignore_case byte }
+{
     if ignore_case && byte >= 65 && byte <= 90 {
         byte + 32
     } else {

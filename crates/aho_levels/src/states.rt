@@ -1,9 +1,16 @@
 //! The states: their number, their children, and where they lead.
 
+ghost use Rattle.std.specs.Prelude.{◌≡◌, ◌+◌, ◌<◌, ◌≤◌, ◌^◌, length, slice_get, Some, IfOk};
+ghost use Rattle.aho_core.specs.Bytes.{folded_by};
+ghost use Rattle.aho_core.specs.Numbers.{greatest_index};
+ghost use Rattle.aho_core.specs.declared.search.Anchored.TheVariants.{No, Yes};
+ghost use Rattle.aho_levels.specs.Layout.{CanStep, IsListed, IsSoundLayout, IsStateIn, child_by, child_in, depth_in, entry_in, is_marked_in, is_row, link_in, list_in, looks_in, next_in};
+
 use crate::child::child_of;
 use crate::order::folded;
 use aho_core::search::{Anchored, PatternID, SmallIndex, StateID, Work};
 use std::alloc::{AllocError, Global};
+use std::marker::Model;
 
 /// The dead state, to which every byte leads back.
 pub const DEAD: StateID = StateID::ZERO;
@@ -38,6 +45,24 @@ pub struct States {
     pub ignore_case: bool,
 }
 
+impl Model for States {
+    ghost use Rattle.aho_levels.specs.Layout.{Layout};
+
+    ghost Value = { Layout };
+
+    ghost view = { λ s. record {
+      firsts = s.firsts.items;
+      bytes = s.bytes.items;
+      depths = s.depths.items;
+      fails = s.fails.items;
+      rows = s.rows.items;
+      row_count = s.row_count;
+      places = s.places.items;
+      lists = s.lists.items;
+      ignore_case = s.ignore_case;
+    } };
+}
+
 impl States {
     /// The dead state and the root, without children and without rows.
     pub fn new(alloc: Global, ignore_case: bool) -> States {
@@ -56,27 +81,43 @@ impl States {
 
     /// Whether the state has a row.
     #[inline(always)]
-    pub fn has_row(&self, sid: StateID) -> bool {
+    pub fn has_row(&self, sid: StateID) -> bool
+        ensures row { result ≡ is_row self.now sid }
+    {
         sid.as_usize() < self.row_count
     }
 
     /// Where the byte leads from a state with a row.
     #[inline(always)]
-    pub fn row_entry(&self, sid: StateID, byte: u8) -> StateID {
+    pub fn row_entry(&self, sid: StateID, byte: u8) -> StateID
+        requires can { CanStep self.now }
+        requires row { sid < self.now.row_count }
+        ensures entry { result ≡ entry_in self.now sid byte }
+    {
         self.rows[sid.as_usize() * ROW + byte as usize]
     }
 
     /// The child to which a byte leads, of those as they are compared.
     #[inline(always)]
-    pub fn child(&self, sid: StateID, folded: u8) -> Option<StateID> {
+    pub fn child(&self, sid: StateID, folded: u8) -> Option<StateID>
+        requires can { CanStep self.now }
+        requires state { IsStateIn self.now sid }
+        ensures child { result ≡ child_in self.now sid folded }
+    {
         let first = self.firsts[sid.as_usize()].as_usize();
         let end = self.firsts[sid.as_usize() + 1].as_usize();
-        child_of(&self.bytes, folded, first, end)
+        child_of(&self.bytes[first..end], folded, first)
     }
 
     /// Where the byte leads: down the links until a state takes it.
     #[inline(always)]
-    pub fn step(&self, from: StateID, byte: u8, work: &mut Work) -> StateID {
+    pub fn step(&self, from: StateID, byte: u8, work: &mut Work) -> StateID
+        requires can { CanStep self.now }
+        requires linked { from < length self.now.fails }
+        requires room { work.old + depth_in self.now from + 2 < 2 ^ 128 }
+        ensures next { result ≡ next_in self.now No from byte }
+        ensures counted { work.new ≡ work.old + looks_in self.now No from byte }
+    {
         if self.has_row(from) {
             work.tick();
             return self.row_entry(from, byte);
@@ -86,7 +127,13 @@ impl States {
 
     /// Where the byte leads from a state that may have no row.
     #[inline(never)]
-    pub fn deep_step(&self, from: StateID, byte: u8, work: &mut Work) -> StateID {
+    pub fn deep_step(&self, from: StateID, byte: u8, work: &mut Work) -> StateID
+        requires can { CanStep self.now }
+        requires linked { from < length self.now.fails }
+        requires room { work.old + depth_in self.now from + 2 < 2 ^ 128 }
+        ensures next { result ≡ next_in self.now No from byte }
+        ensures counted { work.new ≡ work.old + looks_in self.now No from byte }
+    {
         let folded = folded(self.ignore_case, byte);
         let mut sid = from;
         'links: loop {
@@ -102,7 +149,11 @@ impl States {
     }
 
     /// Where the byte leads in an anchored search: to a child, or to the dead state.
-    pub fn anchored_step(&self, sid: StateID, byte: u8) -> StateID {
+    pub fn anchored_step(&self, sid: StateID, byte: u8) -> StateID
+        requires can { CanStep self.now }
+        requires state { IsStateIn self.now sid }
+        ensures next { result ≡ next_in self.now Yes sid byte }
+    {
         match self.child(sid, folded(self.ignore_case, byte)) {
             Some(next) => next,
             None => DEAD,
@@ -111,7 +162,13 @@ impl States {
 
     /// Where the byte leads, under an anchoring.
     #[inline(always)]
-    pub fn next(&self, anchored: Anchored, sid: StateID, byte: u8, work: &mut Work) -> StateID {
+    pub fn next(&self, anchored: Anchored, sid: StateID, byte: u8, work: &mut Work) -> StateID
+        requires sound { IsSoundLayout self.now }
+        requires state { IsStateIn self.now sid }
+        requires room { work.old + depth_in self.now sid + 2 < 2 ^ 128 }
+        ensures next { result ≡ next_in self.now anchored sid byte }
+        ensures counted { work.new ≡ work.old + looks_in self.now anchored sid byte }
+    {
         match anchored {
             Anchored::No => self.step(sid, byte, work),
             Anchored::Yes => {
@@ -123,17 +180,30 @@ impl States {
 
     /// Whether the state is dead, or lists a pattern.
     #[inline(always)]
-    pub fn is_marked(&self, sid: StateID) -> bool {
+    pub fn is_marked(&self, sid: StateID) -> bool
+        requires sound { IsSoundLayout self.now }
+        requires state { IsStateIn self.now sid }
+        ensures marked { result ≡ is_marked_in self.now sid }
+    {
         sid == DEAD || self.places[sid.as_usize()].as_usize() > 0
     }
 
     /// How many bytes the state's word has.
-    pub fn depth(&self, sid: StateID) -> usize {
+    pub fn depth(&self, sid: StateID) -> usize
+        requires sound { IsSoundLayout self.now }
+        requires state { IsStateIn self.now sid }
+        ensures depth { result ≡ depth_in self.now sid }
+    {
         self.depths[sid.as_usize()].as_usize()
     }
 
     /// A pattern that the state lists, by its place in the list.
-    pub fn pattern(&self, sid: StateID, index: usize) -> PatternID {
+    pub fn pattern(&self, sid: StateID, index: usize) -> PatternID
+        requires sound { IsSoundLayout self.now }
+        requires state { IsStateIn self.now sid }
+        requires within { index < length (list_in self.now sid) }
+        ensures pattern { slice_get (list_in self.now sid) index ≡ Some result }
+    {
         let pattern = self.lists[self.places[sid.as_usize()].as_usize() + 1 + index];
         PatternID::new_unchecked(pattern.as_usize())
     }
@@ -145,7 +215,11 @@ impl States {
     }
 
     /// How many patterns the state lists.
-    pub fn list_len(&self, sid: StateID) -> usize {
+    pub fn list_len(&self, sid: StateID) -> usize
+        requires sound { IsSoundLayout self.now }
+        requires state { IsStateIn self.now sid }
+        ensures len { result ≡ length (list_in self.now sid) }
+    {
         self.lists[self.places[sid.as_usize()].as_usize()].as_usize()
     }
 
@@ -154,7 +228,9 @@ impl States {
     /// # Errors
     ///
     /// Out of memory.
-    pub fn try_clone(&self) -> Result<States, AllocError> {
+    pub fn try_clone(&self) -> Result<States, AllocError>
+        ensures same { IfOk result (λ states. states ≡ self.now) }
+    {
         Ok(States {
             firsts: self.firsts.clone()?,
             bytes: self.bytes.clone()?,

@@ -1,0 +1,4 @@
+-- where a byte stands, one place after another
+pub mod Positions
+-- between which places it stands
+pub mod Among

@@ -1,0 +1,78 @@
+-- What it means that the states are the automaton of some patterns.
+use Rattle.std.specs.Prelude.{◌≡◌, ◌≢◌, ◌⊎◌, ℕ, ◌<◌, List, [], ◌∷◌, ◌++◌, length, map, MatchBool, Option, Some, None, slice_index_or}
+use Rattle.std.specs.List.{All}
+use Rattle.aho_core.specs.Bytes.{folded}
+use Rattle.aho_core.specs.Failure.{failure_of}
+use Rattle.aho_core.specs.Held.{held_after}
+use Rattle.aho_core.specs.MatchList.{matches_of}
+use Rattle.aho_core.specs.Patterns.{Patterns}
+use Rattle.aho_core.specs.Step.{follow}
+use Rattle.aho_core.specs.Trie.{is_node}
+use Rattle.aho_core.specs.declared.search.Anchored.{Anchored}
+use Rattle.aho_core.specs.declared.search.Anchored.TheVariants.{No}
+use Rattle.aho_core.specs.declared.search.MatchKind.{MatchKind}
+use Rattle.aho_levels.specs.Layout.{Layout, child_in, depth_in, entry_in, link_in, list_in}
+
+-- the word of a state, by a list with the word of each at its number; none for the dead one, and past the end
+abbrev pub word_at : List (Option (List ℕ)) → ℕ → Option (List ℕ)
+word_at names sid = slice_index_or names sid None
+
+-- the state of a word is one that has it as its name; that of none is the dead one
+abbrev pub IsNamed : List (Option (List ℕ)) → Option (List ℕ) → ℕ → Type 0
+IsNamed names None sid = sid ≡ 0
+IsNamed names (Some word) sid = word_at names sid ≡ Some word
+
+-- of words of one length, by the first byte that differs
+abbrev pub IsLess : List ℕ → List ℕ → Type 0
+IsLess xs [] = ⊥
+IsLess [] (y ∷ ys) = ⊥
+IsLess (x ∷ xs) (y ∷ ys) = (x < y) ⊎ ((x ≡ y) × IsLess xs ys)
+
+-- by length, and then by the first byte that differs
+abbrev pub IsAbove : List ℕ → List ℕ → Type 0
+IsAbove u w = (length u < length w) ⊎ ((length u ≡ length w) × IsLess u w)
+
+-- a byte as it is compared
+abbrev pub IsFolded : Patterns → ℕ → Type 0
+IsFolded p byte = (byte < 256) × (folded p byte ≡ byte)
+
+-- the states are nodes, level by level and each level in its order, behind the dead state; and a byte leads from a node to the child
+-- with that byte, if that is a node
+pub record AreLevels (p : Patterns) (names : List (Option (List ℕ))) (t : Layout) : Type 0 where
+  pub sized : length names ≡ length t.bytes
+  pub dead : word_at names 0 ≡ None
+  pub root : word_at names 1 ≡ Some []
+  pub complete : (i : ℕ) → i < length names → i ≢ 0 → (word : List ℕ) × (word_at names i ≡ Some word)
+  pub ordered : (i j : ℕ) (u w : List ℕ) → i < j → word_at names i ≡ Some u → word_at names j ≡ Some w → IsAbove u w
+  pub nodes : (i : ℕ) (word : List ℕ) → word_at names i ≡ Some word → is_node p word ≡ true
+  pub folded : (i : ℕ) (word : List ℕ) → word_at names i ≡ Some word → All (IsFolded p) word
+  pub depths : (i : ℕ) (word : List ℕ) → word_at names i ≡ Some word → depth_in t i ≡ length word
+  pub children : (i : ℕ) (word : List ℕ) (byte : ℕ) → word_at names i ≡ Some word → byte < 256
+      → MatchBool
+      (is_node p (word ++ folded p byte ∷ []))
+      ((child : ℕ) × (child_in t i (folded p byte) ≡ Some child) × (word_at names child ≡ Some (word ++ folded p byte ∷ [])))
+      (child_in t i (folded p byte) ≡ None)
+
+-- each leads on failure where its word does, a row leads where the word's step does, and each lists what its word lists
+pub record AreLinked (p : Patterns) (names : List (Option (List ℕ))) (t : Layout) : Type 0 where
+  pub links : (i : ℕ) (word : List ℕ) → word_at names i ≡ Some word → word ≢ [] → IsNamed names (failure_of p word) (link_in t i)
+  pub rows : (i byte : ℕ) (state : Option (List ℕ)) → i < t.row_count → byte < 256 → IsNamed names state i → IsNamed names (follow p No state (folded p byte)) (entry_in t i byte)
+  pub lists : (i : ℕ) (word : List ℕ) → word_at names i ≡ Some word → list_in t i ≡ matches_of p (Some word)
+  pub dead_list : list_in t 0 ≡ []
+
+-- by this naming of its states the layout is the automaton of the patterns
+pub record IsNaming (p : Patterns) (t : Layout) (names : List (Option (List ℕ))) : Type 0 where
+  pub case_is : t.ignore_case ≡ p.ignore_case
+  pub levels : AreLevels p names t
+  pub linked : AreLinked p names t
+
+-- by some naming
+pub record IsLevelsOf (t : Layout) (p : Patterns) (kind : MatchKind) (lengths : List ℕ) : Type 0 where
+  pub kind_is : kind ≡ p.kind
+  pub lengths_are : lengths ≡ map length p.words
+  pub names : List (Option (List ℕ))
+  pub naming : IsNaming p t names
+
+-- by every naming the state is the one that is held after the word
+abbrev pub IsHeldIn : Layout → Patterns → Anchored → List ℕ → ℕ → Type 0
+IsHeldIn t p anchored word sid = (names : List (Option (List ℕ))) → IsNaming p t names → IsNamed names (held_after p anchored word) sid
