@@ -2,3 +2,5 @@
 pub mod Positions
 -- between which places it stands
 pub mod Among
+-- the shortest of some lengths
+pub mod Lengths

@@ -6,3 +6,5 @@ pub mod Stepping
 pub mod Meaning
 -- the laws that follow
 pub mod Reading
+-- what the phases of a build make
+pub mod Building

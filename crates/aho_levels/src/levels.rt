@@ -1,14 +1,18 @@
 //! The automaton.
 
-ghost use Rattle.std.specs.Prelude.{◌≡◌, ◌+◌, ◌<◌, ◌≤◌, ◌^◌, ℕ, length, IfErr, IfOk};
+ghost use Rattle.std.specs.Prelude.{◌≡◌, ◌+◌, ◌<◌, ◌≤◌, ◌^◌, ℕ, List, Option, length, IfErr, IfOk};
+ghost use Rattle.aho_core.specs.Patterns.{Patterns};
 ghost use Rattle.aho_core.specs.Laws.{shortest, longest};
 ghost use Rattle.aho_core.specs.Numbers.{greatest_index};
+ghost use Rattle.aho_prefilter.specs.Prefilter.{prefilter_bytes};
+ghost use Rattle.aho_levels.specs.Building.{IsLevelsRefusal, IsTrieOf};
 ghost use Rattle.aho_levels.specs.Layout.{IsSoundLayout};
+ghost use Rattle.aho_levels.specs.Meaning.{IsNaming};
 
 use crate::links::link_states;
 pub use crate::links::MOST_ROWS;
 use crate::lists::list_patterns;
-use crate::order::ordered;
+use crate::order::in_order;
 use crate::states::{DEAD, ROOT, States};
 use crate::trie::{Trie, trie_of};
 use aho_automaton::automaton::Automaton;
@@ -34,6 +38,11 @@ pub struct Levels {
 }
 
 impl Levels {
+    ghost use Rattle.std.specs.Prelude.{IfSome};
+    ghost use Rattle.aho_core.specs.Replacement.{pieces_of};
+    ghost use Rattle.aho_prefilter.specs.Prefilter.{IsPrefilterOf};
+    ghost use Rattle.aho_levels.specs.Building.{patterns_by};
+
     /// The automaton of these patterns, with this prefilter and `MOST_ROWS` rows at most.
     ///
     /// # Errors
@@ -45,7 +54,13 @@ impl Levels {
         ignore_case: bool,
         patterns: &[&[u8]],
         prefilter: Option<Prefilter>,
-    ) -> Result<Levels, BuildError> {
+    ) -> Result<Levels, BuildError>
+        ensures of { IfOk result (λ made.
+            IfSome prefilter (λ searcher. IsPrefilterOf searcher (patterns_by kind ignore_case (pieces_of patterns.now)))
+            → ⟦<Levels as Automaton>⟧.is_of made (patterns_by kind ignore_case (pieces_of patterns.now))) }
+        ensures held { IfOk result (λ made. ⟦<Levels as Automaton>⟧.prefilter made ≡ prefilter) }
+        ensures refused { IfErr result IsLevelsRefusal }
+    {
         Levels::with_rows(alloc, kind, ignore_case, patterns, prefilter, MOST_ROWS)
     }
 
@@ -62,8 +77,14 @@ impl Levels {
         patterns: &[&[u8]],
         prefilter: Option<Prefilter>,
         most_rows: usize,
-    ) -> Result<Levels, BuildError> {
-        let ordered = ordered(alloc, ignore_case, patterns, ROOT)?;
+    ) -> Result<Levels, BuildError>
+        ensures of { IfOk result (λ made.
+            IfSome prefilter (λ searcher. IsPrefilterOf searcher (patterns_by kind ignore_case (pieces_of patterns.now)))
+            → ⟦<Levels as Automaton>⟧.is_of made (patterns_by kind ignore_case (pieces_of patterns.now))) }
+        ensures held { IfOk result (λ made. ⟦<Levels as Automaton>⟧.prefilter made ≡ prefilter) }
+        ensures refused { IfErr result IsLevelsRefusal }
+    {
+        let ordered = in_order(alloc, ignore_case, patterns, ROOT)?;
         let trie = trie_of(alloc, kind, ordered)?;
         let states = states_of(alloc, kind, ignore_case, trie, most_rows)?;
         let pattern_lens = lens_of(alloc, patterns)?;
@@ -101,7 +122,13 @@ fn states_of(
     ignore_case: bool,
     trie: Trie,
     most_rows: usize,
-) -> Result<States, BuildError> {
+) -> Result<States, BuildError>
+    requires some { (p : Patterns) × (p.kind ≡ kind) × (p.ignore_case ≡ ignore_case) × IsTrieOf p trie }
+    ensures naming { IfOk result (λ states. (p : Patterns) → p.kind ≡ kind → p.ignore_case ≡ ignore_case
+        → IsTrieOf p trie → (names : List (Option (List ℕ))) × IsNaming p states names) }
+    ensures sound { IfOk result IsSoundLayout }
+    ensures refused { IfErr result IsLevelsRefusal }
+{
     let mut states = States::new(alloc, ignore_case);
     let Trie {
         firsts,
@@ -298,7 +325,10 @@ fn longest_len(lens: &[SmallIndex]) -> usize
 }
 
 /// The bytes that a prefilter holds, where there is one.
-fn bytes_of(prefilter: &Option<Prefilter>) -> usize {
+fn bytes_of(prefilter: &Option<Prefilter>) -> usize
+    ensures bytes { result ≡ prefilter_bytes prefilter.now }
+    ensures bound { result < 2 ^ 63 }
+{
     match prefilter {
         Some(prefilter) => prefilter.memory_usage(),
         None => 0,

@@ -1,6 +1,11 @@
 //! The links and the rows: state by state, each from those of shorter words.
 
-use crate::order::folded;
+ghost use Rattle.std.specs.Prelude.{◌≡◌, ℕ, List, Option, length, IfErr, OnOk};
+ghost use Rattle.aho_core.specs.Patterns.{Patterns};
+ghost use Rattle.aho_core.specs.Failure.{is_leftmost};
+ghost use Rattle.aho_levels.specs.Building.{AreBare, AreOfTrie, HasSameTrie, IsLevelsRefusal, LinksBefore, RowsLead};
+ghost use Rattle.aho_levels.specs.Layout.{CanStep};
+
 use crate::states::{DEAD, ROOT, ROW, States};
 use crate::trie::Own;
 use aho_core::error::BuildError;
@@ -10,7 +15,9 @@ use aho_core::search::{MatchKind, StateID, Work};
 pub const MOST_ROWS: usize = 1024;
 
 /// Whether a state with patterns of its own ends the walk along links.
-fn is_leftmost(kind: MatchKind) -> bool {
+fn is_leftmost(kind: MatchKind) -> bool
+    ensures leftmost { result ≡ is_leftmost kind }
+{
     match kind {
         MatchKind::Standard => false,
         MatchKind::LeftmostFirst | MatchKind::LeftmostLongest => true,
@@ -35,7 +42,18 @@ pub fn link_states(
     kind: MatchKind,
     owns: &[Own],
     most_rows: usize,
-) -> Result<(), BuildError> {
+) -> Result<(), BuildError>
+    requires bare { AreBare states.old }
+    requires some { (p : Patterns) × (names : List (Option (List ℕ)))
+        × (p.kind ≡ kind) × AreOfTrie p names owns.now states.old }
+    ensures links { OnOk result ((p : Patterns) (names : List (Option (List ℕ)))
+        → p.kind ≡ kind → AreOfTrie p names owns.now states.old
+        → LinksBefore p names (length states.new.bytes) states.new × RowsLead p names states.new) }
+    ensures can { OnOk result (CanStep states.new) }
+    ensures all { OnOk result (length states.new.fails ≡ length states.new.bytes) }
+    ensures same { OnOk result (HasSameTrie states.old states.new) }
+    ensures refused { IfErr result IsLevelsRefusal }
+{
     let leftmost = is_leftmost(kind);
     let back = if leftmost && is_next(owns, 0, ROOT) {
         DEAD
@@ -61,7 +79,7 @@ pub fn link_states(
             } else if parent == ROOT.as_usize() {
                 back
             } else {
-                let from = states.fails[parent];
+                let from = states.link(StateID::new_unchecked(parent));
                 states.step(from, states.bytes[child], &mut Work::new())
             };
             push_state(&mut states.fails, link)?;

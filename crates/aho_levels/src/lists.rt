@@ -1,5 +1,10 @@
 //! The lists of all states: a state's own patterns and then those of its link; the link's own list where it has none.
 
+ghost use Rattle.std.specs.Prelude.{◌≡◌, ℕ, List, Option, [], length, IfErr, OnOk};
+ghost use Rattle.aho_core.specs.Patterns.{Patterns};
+ghost use Rattle.aho_levels.specs.Building.{AreOfTrie, HasSameLinks, IsLevelsRefusal, LinksBefore, ListsBefore};
+ghost use Rattle.aho_levels.specs.Layout.{CanStep, IsSoundLayout, list_in};
+
 use crate::links::is_next;
 use crate::states::States;
 use crate::trie::Own;
@@ -11,7 +16,20 @@ use aho_core::search::{SmallIndex, StateID};
 /// # Errors
 ///
 /// `StateIDOverflow` where the lists together are longer than there are indexes; or `OutOfMemory`.
-pub fn list_patterns(states: &mut States, owns: &[Own]) -> Result<(), BuildError> {
+pub fn list_patterns(states: &mut States, owns: &[Own]) -> Result<(), BuildError>
+    requires can { CanStep states.old }
+    requires all { length states.old.fails ≡ length states.old.bytes }
+    requires places { states.old.places ≡ [] }
+    requires lists { states.old.lists ≡ [] }
+    ensures lists { OnOk result ((p : Patterns) (names : List (Option (List ℕ)))
+        → AreOfTrie p names owns.now states.old
+        → LinksBefore p names (length states.old.bytes) states.old
+        → ListsBefore p names (length states.new.bytes) states.new) }
+    ensures dead { OnOk result (list_in states.new 0 ≡ []) }
+    ensures sound { OnOk result (IsSoundLayout states.new) }
+    ensures same { OnOk result (HasSameLinks states.old states.new) }
+    ensures refused { IfErr result IsLevelsRefusal }
+{
     push(&mut states.lists, SmallIndex::new_unchecked(0))?;
     push(&mut states.places, SmallIndex::new_unchecked(0))?;
     let mut own = 0;

@@ -1,7 +1,11 @@
 //! The patterns in the order of their bytes, so that the trie is made by walks through neighbouring memory.
 
-ghost use Rattle.std.specs.Prelude.{◌≡◌};
+ghost use Rattle.std.specs.Prelude.{◌≡◌, ◌+◌, ◌≤◌, length, IfErr, IfOk};
 ghost use Rattle.aho_core.specs.Bytes.{folded_by};
+ghost use Rattle.aho_core.specs.Numbers.{greatest_index};
+ghost use Rattle.aho_core.specs.Replacement.{pieces_of};
+ghost use Rattle.aho_core.specs.declared.search.MatchKind.{MatchKind};
+ghost use Rattle.aho_levels.specs.Building.{AreItems, IsLevelsRefusal, patterns_by};
 
 use aho_core::error::BuildError;
 use aho_core::search::{PatternID, SmallIndex, StateID};
@@ -54,12 +58,17 @@ struct Key {
 /// # Errors
 ///
 /// `StateIDOverflow` where they have more bytes than there are indexes; or `OutOfMemory`.
-pub fn ordered(
+pub fn in_order(
     alloc: Global,
     ignore_case: bool,
     patterns: &[&[u8]],
     root: StateID,
-) -> Result<Ordered, BuildError> {
+) -> Result<Ordered, BuildError>
+    ensures items { IfOk result (λ ordered. (kind : MatchKind) → AreItems
+        (patterns_by kind ignore_case (pieces_of patterns.now)) root ordered.text.items ordered.items.items) }
+    ensures few { IfOk result (λ ordered. length ordered.text.items + 4 ≤ greatest_index) }
+    ensures refused { IfErr result IsLevelsRefusal }
+{
     let size = size_of(patterns)?;
     let keys = sorted_keys(alloc, ignore_case, patterns)?;
     let mut ordered = Ordered {

@@ -109,6 +109,15 @@ impl States {
         child_of(&self.bytes[first..end], folded, first)
     }
 
+    /// Where the state leads on failure.
+    #[inline(always)]
+    pub fn link(&self, sid: StateID) -> StateID
+        requires linked { sid < length self.now.fails }
+        ensures link { result ≡ link_in self.now sid }
+    {
+        self.fails[sid.as_usize()]
+    }
+
     /// Where the byte leads: down the links until a state takes it.
     #[inline(always)]
     pub fn step(&self, from: StateID, byte: u8, work: &mut Work) -> StateID
@@ -144,7 +153,7 @@ impl States {
             if let Some(next) = self.child(sid, folded) {
                 return next;
             }
-            sid = self.fails[sid.as_usize()];
+            sid = self.link(sid);
         }
     }
 

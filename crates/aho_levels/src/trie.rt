@@ -1,7 +1,12 @@
 //! The trie: all states with their children, level by level, and the patterns that end at each.
 
+ghost use Rattle.std.specs.Prelude.{◌≡◌, ◌+◌, ◌≤◌, length, IfErr, IfOk};
+ghost use Rattle.aho_core.specs.Numbers.{greatest_index};
+ghost use Rattle.aho_core.specs.Patterns.{Patterns};
+ghost use Rattle.aho_levels.specs.Building.{AreItems, IsLevelsRefusal, IsTrieOf};
+
 use crate::order::{Item, Ordered};
-use crate::states::{DEAD, ROOT};
+use crate::states::DEAD;
 use aho_core::error::BuildError;
 use aho_core::search::{MatchKind, PatternID, SmallIndex, StateID};
 use std::alloc::Global;
@@ -35,7 +40,14 @@ pub struct Trie {
 /// # Errors
 ///
 /// `OutOfMemory`, or `StateIDOverflow` where they do not stand in order.
-pub fn trie_of(alloc: Global, kind: MatchKind, ordered: Ordered) -> Result<Trie, BuildError> {
+pub fn trie_of(alloc: Global, kind: MatchKind, ordered: Ordered) -> Result<Trie, BuildError>
+    requires items { (p : Patterns)
+        × (p.kind ≡ kind) × AreItems p 1 ordered.text.items ordered.items.items }
+    requires few { length ordered.text.items + 4 ≤ greatest_index }
+    ensures trie { IfOk result (λ trie. (p : Patterns) → p.kind ≡ kind
+        → AreItems p 1 ordered.text.items ordered.items.items → IsTrieOf p trie) }
+    ensures refused { IfErr result IsLevelsRefusal }
+{
     let Ordered { text, mut items } = ordered;
     let mut trie = first_states(alloc)?;
     trie.keep_longer(kind, &mut items)?;

@@ -1,0 +1,133 @@
+-- What the phases of a build make: patterns in order, a trie level by level, links with rows, and lists.
+use Rattle.std.specs.Prelude.{◌≡◌, ◌≢◌, ◌⊎◌, ℕ, ◌+◌, ◌-◌, ◌<◌, ◌≤◌, Bool, true, List, [], ◌∷◌, length, map, filter, take, drop, nat_eq, slice_index_or, Option, Some}
+use Rattle.std.specs.List.{All, range_with_len}
+use Rattle.std.specs.List.Sorted.{IsPermutation}
+use Rattle.aho_core.specs.declared.error.BuildError.{BuildError}
+use Rattle.aho_core.specs.declared.error.BuildError.TheVariants.{OutOfMemory, StateIDOverflow}
+use Rattle.aho_core.specs.declared.search.MatchKind.{MatchKind}
+use Rattle.aho_core.specs.Bytes.{folded}
+use Rattle.aho_core.specs.Failure.{failure_of}
+use Rattle.aho_core.specs.Numbers.{greatest_index}
+use Rattle.aho_core.specs.MatchList.{own_matches, matches_of}
+use Rattle.aho_core.specs.Patterns.{Patterns, numbers}
+use Rattle.aho_core.specs.Step.{follow}
+use Rattle.aho_core.specs.Trie.{is_kept, is_node, pattern_word}
+use Rattle.aho_core.specs.declared.search.Anchored.TheVariants.{No}
+use Rattle.aho_levels.specs.Layout.{Layout, HasChildren, entry_in, link_in, list_in}
+use Rattle.aho_levels.specs.Meaning.{AreLevels, IsFolded, IsNamed, word_at}
+use Rattle.aho_levels.specs.declared.order.Item.{Item}
+use Rattle.aho_levels.specs.declared.trie.Own.{Own}
+use Rattle.aho_levels.specs.declared.trie.Trie.{Trie}
+
+-- these words, by a kind and a case rule
+abbrev pub patterns_by : MatchKind → Bool → List (List ℕ) → Patterns
+patterns_by kind ignore_case words = record { words = words; kind = kind; ignore_case = ignore_case }
+
+-- why a build fails: memory was wanted, or there are more bytes or listed patterns than indexes
+abbrev pub IsLevelsRefusal : BuildError → Type 0
+IsLevelsRefusal error = (error ≡ OutOfMemory) ⊎ ((most : ℕ) × ((asked : ℕ) × (error ≡ StateIDOverflow most asked)))
+
+-- so many bytes of a pattern led to the item's state; the further ones stand in the text as they are compared
+pub record IsUnderway (p : Patterns) (depth : ℕ) (text : List ℕ) (item : Item) : Type 0 where
+  pub numbered : item.number < length p.words
+  pub ordered : item.at ≤ item.end
+  pub within : item.end ≤ length text
+  pub whole : length (pattern_word p item.number) ≡ depth + (item.end - item.at)
+  pub bytes : take (item.end - item.at) (drop item.at text) ≡ drop depth (pattern_word p item.number)
+
+-- the items are all patterns, each once, at this state, and bytes of the text are as they are compared
+pub record AreItems (p : Patterns) (root : ℕ) (text : List ℕ) (items : List Item) : Type 0 where
+  pub all : IsPermutation (numbers p) (map (λ (item : Item). item.number) items)
+  pub placed : All (λ (item : Item). (item.state ≡ root) × IsUnderway p 0 text item) items
+  pub folded : All (IsFolded p) text
+
+-- the numbers of the patterns that end at a state, in their order
+abbrev pub owns_at : List Own → ℕ → List ℕ
+owns_at owns sid = map (λ (own : Own). own.number) (filter (λ (own : Own). nat_eq own.state sid) owns)
+
+-- the patterns that end at a state are those of its word, and they stand by the states
+pub record AreOwns (p : Patterns) (names : List (Option (List ℕ))) (owns : List Own) : Type 0 where
+  pub own : (i : ℕ) (word : List ℕ) → word_at names i ≡ Some word → owns_at owns i ≡ own_matches p word
+  pub rising : (i j : ℕ) (d : Own) → i < j → j < length owns → (slice_index_or owns i d).state ≤ (slice_index_or owns j d).state
+
+-- the states of a trie, without links, rows or lists
+abbrev pub layout_of : Bool → Trie → Layout
+layout_of ignore_case trie = record {
+  firsts = trie.firsts.items;
+  bytes = trie.bytes.items;
+  depths = trie.depths.items;
+  fails = [];
+  rows = [];
+  row_count = 0;
+  places = [];
+  lists = [];
+  ignore_case = ignore_case;
+}
+
+-- the trie of the patterns that are kept
+pub record IsTrieOf (p : Patterns) (trie : Trie) : Type 0 where
+  pub names : List (Option (List ℕ))
+  pub levels : AreLevels p names (layout_of p.ignore_case trie)
+  pub children : HasChildren (layout_of p.ignore_case trie)
+  pub owns : AreOwns p names trie.owns.items
+
+-- ---- the trie while it is made
+
+-- the nodes down to this depth have states, and those above it their children; the patterns that end there are at their states
+pub record IsGrownTo (p : Patterns) (depth : ℕ) (names : List (Option (List ℕ))) (trie : Trie) : Type 0 where
+  pub sized : length names ≡ length trie.bytes.items
+  pub root : word_at names 1 ≡ Some []
+  pub nodes : (i : ℕ) (word : List ℕ) → word_at names i ≡ Some word → (is_node p word ≡ true) × All (IsFolded p) word × (length word ≤ depth)
+  pub reached : (word : List ℕ) → is_node p word ≡ true → All (IsFolded p) word → length word ≤ depth → (i : ℕ) × (word_at names i ≡ Some word)
+  pub owns : AreOwns p names trie.owns.items
+
+-- the items are just the kept patterns that are longer, each at the state of its first bytes
+pub record AreOpen (p : Patterns) (depth : ℕ) (names : List (Option (List ℕ))) (text : List ℕ) (items : List Item) : Type 0 where
+  pub underway : All (λ (item : Item). IsUnderway p depth text item × (depth < length (pattern_word p item.number)) × (is_kept p item.number ≡ true)) items
+  pub named : All (λ (item : Item). word_at names item.state ≡ Some (take depth (pattern_word p item.number))) items
+  pub all : (k : ℕ) → k < length p.words → is_kept p k ≡ true → depth < length (pattern_word p k) → (place : ℕ) × (place < length items) × ((d : Item) → (slice_index_or items place d).number ≡ k)
+
+-- ---- links and lists
+
+-- the trie stays
+pub record HasSameTrie (old new : Layout) : Type 0 where
+  pub firsts : new.firsts ≡ old.firsts
+  pub bytes : new.bytes ≡ old.bytes
+  pub depths : new.depths ≡ old.depths
+  pub case_rule : new.ignore_case ≡ old.ignore_case
+
+-- the states before this one lead on failure where their words do
+abbrev pub LinksBefore : Patterns → List (Option (List ℕ)) → ℕ → Layout → Type 0
+LinksBefore p names count t = (i : ℕ) (word : List ℕ) → i < count → word_at names i ≡ Some word → word ≢ [] → IsNamed names (failure_of p word) (link_in t i)
+
+-- the states before this one list what their words do
+abbrev pub ListsBefore : Patterns → List (Option (List ℕ)) → ℕ → Layout → Type 0
+ListsBefore p names count t = (i : ℕ) (word : List ℕ) → i < count → word_at names i ≡ Some word → list_in t i ≡ matches_of p (Some word)
+
+-- the rows lead where the steps of the words do
+abbrev pub RowsLead : Patterns → List (Option (List ℕ)) → Layout → Type 0
+RowsLead p names t = (i byte : ℕ) (state : Option (List ℕ)) → i < t.row_count → byte < 256 → IsNamed names state i → IsNamed names (follow p No state (folded p byte)) (entry_in t i byte)
+
+-- the links and the rows stay too
+pub record HasSameLinks (old new : Layout) : Type 0 where
+  pub trie : HasSameTrie old new
+  pub fails : new.fails ≡ old.fails
+  pub rows : new.rows ≡ old.rows
+  pub row_count : new.row_count ≡ old.row_count
+
+-- the states of a trie, to which these patterns belong
+pub record AreOfTrie (p : Patterns) (names : List (Option (List ℕ))) (owns : List Own) (t : Layout) : Type 0 where
+  pub case_is : t.ignore_case ≡ p.ignore_case
+  pub levels : AreLevels p names t
+  pub owns : AreOwns p names owns
+
+-- a trie alone: there are no links, no rows and no lists yet
+pub record AreBare (t : Layout) : Type 0 where
+  pub two : 2 ≤ length t.bytes
+  pub small : length t.bytes ≤ greatest_index
+  pub firsts : length t.firsts ≡ length t.bytes + 1
+  pub depths : length t.depths ≡ length t.bytes
+  pub children : HasChildren t
+  pub no_links : t.fails ≡ []
+  pub no_rows : t.rows ≡ []
+  pub none_with_row : t.row_count ≡ 0
