@@ -5,16 +5,12 @@ use Rattle.std.specs.List.Sorted.{IsPermutation}
 use Rattle.aho_core.specs.declared.error.BuildError.{BuildError}
 use Rattle.aho_core.specs.declared.error.BuildError.TheVariants.{OutOfMemory, StateIDOverflow}
 use Rattle.aho_core.specs.declared.search.MatchKind.{MatchKind}
-use Rattle.aho_core.specs.Bytes.{folded}
-use Rattle.aho_core.specs.Failure.{failure_of}
 use Rattle.aho_core.specs.Numbers.{greatest_index}
 use Rattle.aho_core.specs.MatchList.{own_matches, matches_of}
 use Rattle.aho_core.specs.Patterns.{Patterns, numbers}
-use Rattle.aho_core.specs.Step.{follow}
 use Rattle.aho_core.specs.Trie.{is_kept, is_node, pattern_word}
-use Rattle.aho_core.specs.declared.search.Anchored.TheVariants.{No}
-use Rattle.aho_levels.specs.Layout.{Layout, HasChildren, entry_in, link_in, list_in}
-use Rattle.aho_levels.specs.Meaning.{AreLevels, IsFolded, IsNamed, word_at}
+use Rattle.aho_levels.specs.Layout.{Layout, HasChildren, list_in}
+use Rattle.aho_levels.specs.Meaning.{AreLevels, IsFolded, word_at}
 use Rattle.aho_levels.specs.declared.order.Item.{Item}
 use Rattle.aho_levels.specs.declared.trie.Own.{Own}
 use Rattle.aho_levels.specs.declared.trie.Trie.{Trie}
@@ -96,17 +92,9 @@ pub record HasSameTrie (old new : Layout) : Type 0 where
   pub depths : new.depths ≡ old.depths
   pub case_rule : new.ignore_case ≡ old.ignore_case
 
--- the states before this one lead on failure where their words do
-abbrev pub LinksBefore : Patterns → List (Option (List ℕ)) → ℕ → Layout → Type 0
-LinksBefore p names count t = (i : ℕ) (word : List ℕ) → i < count → word_at names i ≡ Some word → word ≢ [] → IsNamed names (failure_of p word) (link_in t i)
-
 -- the states before this one list what their words do
 abbrev pub ListsBefore : Patterns → List (Option (List ℕ)) → ℕ → Layout → Type 0
 ListsBefore p names count t = (i : ℕ) (word : List ℕ) → i < count → word_at names i ≡ Some word → list_in t i ≡ matches_of p (Some word)
-
--- the rows lead where the steps of the words do
-abbrev pub RowsLead : Patterns → List (Option (List ℕ)) → Layout → Type 0
-RowsLead p names t = (i byte : ℕ) (state : Option (List ℕ)) → i < t.row_count → byte < 256 → IsNamed names state i → IsNamed names (follow p No state (folded p byte)) (entry_in t i byte)
 
 -- the links and the rows stay too
 pub record HasSameLinks (old new : Layout) : Type 0 where

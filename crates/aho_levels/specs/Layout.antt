@@ -177,7 +177,10 @@ pub record IsSoundLayout (t : Layout) : Type 0 where
   pub fails : length t.fails ≡ length t.bytes
   pub places : length t.places ≡ length t.bytes
 
--- the bytes of the entries, by stated sizes, and what a prefilter holds
+-- the bytes of the entries, by stated sizes
+abbrev pub states_memory : Layout → ℕ
+states_memory t = 4 * (length t.firsts + length t.depths + length t.fails + length t.places + (length t.rows + length t.lists)) + length t.bytes
+
+-- and those of the lengths of patterns, and what a prefilter holds
 abbrev pub memory_in : Layout → List ℕ → Option Searcher → ℕ
-memory_in t lengths prefilter =
-    4 * (length t.firsts + length t.depths + length t.fails + length t.rows + length t.places + length t.lists + length lengths) + length t.bytes + prefilter_bytes prefilter
+memory_in t lengths prefilter = states_memory t + 4 * length lengths + prefilter_bytes prefilter

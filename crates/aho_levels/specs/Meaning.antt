@@ -53,18 +53,22 @@ pub record AreLevels (p : Patterns) (names : List (Option (List ℕ))) (t : Layo
       ((child : ℕ) × (child_in t i (folded p byte) ≡ Some child) × (word_at names child ≡ Some (word ++ folded p byte ∷ [])))
       (child_in t i (folded p byte) ≡ None)
 
--- each leads on failure where its word does, a row leads where the word's step does, and each lists what its word lists
+-- each state that has a link leads on failure where its word does, and a row leads where the word's step does
 pub record AreLinked (p : Patterns) (names : List (Option (List ℕ))) (t : Layout) : Type 0 where
-  pub links : (i : ℕ) (word : List ℕ) → word_at names i ≡ Some word → word ≢ [] → IsNamed names (failure_of p word) (link_in t i)
+  pub links : (i : ℕ) (word : List ℕ) → i < length t.fails → word_at names i ≡ Some word → word ≢ [] → IsNamed names (failure_of p word) (link_in t i)
   pub rows : (i byte : ℕ) (state : Option (List ℕ)) → i < t.row_count → byte < 256 → IsNamed names state i → IsNamed names (follow p No state (folded p byte)) (entry_in t i byte)
-  pub lists : (i : ℕ) (word : List ℕ) → word_at names i ≡ Some word → list_in t i ≡ matches_of p (Some word)
-  pub dead_list : list_in t 0 ≡ []
 
--- by this naming of its states the layout is the automaton of the patterns
-pub record IsNaming (p : Patterns) (t : Layout) (names : List (Option (List ℕ))) : Type 0 where
+-- by this naming of its states the layout leads as the words do, as far as links are made
+pub record LeadsAsWords (p : Patterns) (t : Layout) (names : List (Option (List ℕ))) : Type 0 where
   pub case_is : t.ignore_case ≡ p.ignore_case
   pub levels : AreLevels p names t
   pub linked : AreLinked p names t
+
+-- and it is the automaton of the patterns: each state lists what its word lists
+pub record IsNaming (p : Patterns) (t : Layout) (names : List (Option (List ℕ))) : Type 0 where
+  pub leads : LeadsAsWords p t names
+  pub lists : (i : ℕ) (word : List ℕ) → word_at names i ≡ Some word → list_in t i ≡ matches_of p (Some word)
+  pub dead_list : list_in t 0 ≡ []
 
 -- by some naming
 pub record IsLevelsOf (t : Layout) (p : Patterns) (kind : MatchKind) (lengths : List ℕ) : Type 0 where

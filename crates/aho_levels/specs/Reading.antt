@@ -20,7 +20,7 @@ use Rattle.aho_laws.proofs.Kept.{is_node-front, is_node-root}
 use Rattle.aho_laws.proofs.NamedStates.{reads_by_words}
 use Rattle.aho_laws.proofs.StepLaw.{follow-failure, follow-node, held_after-push}
 use Rattle.aho_levels.specs.Layout.{CanStep, IsSoundLayout, IsStateIn, Layout, along, child_by, child_in, depth_in, entry_in, is_marked_in, is_row, is_special_in, link_in, list_from, list_in, looks_in, lookups_in, next_in, place_in, state_for, told_else, walked}
-use Rattle.aho_levels.specs.Meaning.{AreLevels, IsAbove, IsFolded, IsHeldIn, IsLess, IsLevelsOf, IsNamed, IsNaming, word_at}
+use Rattle.aho_levels.specs.Meaning.{AreLevels, IsAbove, IsFolded, IsHeldIn, IsLess, IsLevelsOf, IsNamed, IsNaming, LeadsAsWords, word_at}
 use Rattle.aho_levels.specs.Stepping.{along-child, along-link, along-row}
 
 -- no word comes before itself
@@ -91,10 +91,10 @@ module _ (p : Patterns) (names : List (Option (List ℕ))) (t : Layout) (levels 
   deep-named can None sid is = ap (depth_in t) is ∙ can.children.dead_depth
   deep-named can (Some w) sid is = levels.depths sid w is
 
-module _ (p : Patterns) (t : Layout) (names : List (Option (List ℕ))) (naming : IsNaming p t names) (can : CanStep t) where
+module _ (p : Patterns) (t : Layout) (names : List (Option (List ℕ))) (leads : LeadsAsWords p t names) (can : CanStep t) where
   -- the case rule is that of the patterns
   folds : (byte : ℕ) → folded_by t.ignore_case byte ≡ folded p byte
-  folds byte = ap (λ (b : Bool). folded_by b byte) naming.case_is
+  folds byte = ap (λ (b : Bool). folded_by b byte) leads.case_is
 
   by-folded : (sid byte : ℕ) → child_by t sid byte ≡ child_in t sid (folded p byte)
   by-folded sid byte = ap (child_in t sid) (folds byte)
@@ -104,33 +104,33 @@ module _ (p : Patterns) (t : Layout) (names : List (Option (List ℕ))) (naming 
   has-row sid less = lt-ltb sid t.row_count (omega (arith, less, can.sized.with_rows))
 
   deep-root : (sid : ℕ) → is_row t sid ≡ false → word_at names sid ≡ Some [] → ⊥
-  deep-root sid deep named = absurd (both_ways (is_row t sid) (has-row sid (omega (arith, unique p names t naming.levels sid 1 [] named naming.levels.root))) deep)
+  deep-root sid deep named = absurd (both_ways (is_row t sid) (has-row sid (omega (arith, unique p names t leads.levels sid 1 [] named leads.levels.root))) deep)
 
   -- a step from the state of a node that has no row
-  deep-step : (left sid byte : ℕ) (w : List ℕ) → byte < 256 → is_row t sid ≡ false → word_at names sid ≡ Some w → (o : Option ℕ) → child_by t sid byte ≡ o
+  deep-step : (left sid byte : ℕ) (w : List ℕ) → byte < 256 → sid < length t.fails → is_row t sid ≡ false → word_at names sid ≡ Some w → (o : Option ℕ) → child_by t sid byte ≡ o
       → ((state : Option (List ℕ)) → IsNamed names state (link_in t sid) → IsNamed names (follow p No state (folded p byte)) (along left t byte (link_in t sid)))
       → IsNamed names (follow p No (Some w) (folded p byte)) (along (suc left) t byte sid)
-  deep-step left sid byte w small deep named (Some q) child rest =
+  deep-step left sid byte w small there deep named (Some q) child rest =
       elim (cases_Bool (is_node p (w ++ folded p byte ∷ []))) [
         | inl node ↦
-            (let to = to-child p names t naming.levels sid w byte named small node in
+            (let to = to-child p names t leads.levels sid w byte named small node in
             let same : to.0 ≡ q = (let both : Some to.0 ≡ Some q = sym to.1 ∙ sym (by-folded sid byte) ∙ child in cc) in
             subst (λ (s : Option (List ℕ)). IsNamed names s (along (suc left) t byte sid)) (sym (follow-node p No w (folded p byte) node))
             (ap (word_at names) ((along-child (suc left) t byte sid q deep child (omega arith)).0 ∙ sym same) ∙ to.2))
-        | inr other ↦ (let clash : None ≡ Some q = sym (no-child p names t naming.levels sid w byte named small other) ∙ sym (by-folded sid byte) ∙ child in cc)
+        | inr other ↦ (let clash : None ≡ Some q = sym (no-child p names t leads.levels sid w byte named small other) ∙ sym (by-folded sid byte) ∙ child in cc)
       ]
-  deep-step left sid byte [] small deep named None child rest = absurd (deep-root sid deep named)
-  deep-step left sid byte (y ∷ u) small deep named None child rest =
+  deep-step left sid byte [] small there deep named None child rest = absurd (deep-root sid deep named)
+  deep-step left sid byte (y ∷ u) small there deep named None child rest =
       elim (cases_Bool (is_node p (y ∷ u ++ folded p byte ∷ []))) [
-        | inl node ↦ (let to = to-child p names t naming.levels sid (y ∷ u) byte named small node in let clash : None ≡ Some to.0 = sym child ∙ by-folded sid byte ∙ to.1 in cc)
+        | inl node ↦ (let to = to-child p names t leads.levels sid (y ∷ u) byte named small node in let clash : None ≡ Some to.0 = sym child ∙ by-folded sid byte ∙ to.1 in cc)
         | inr other ↦
             subst (λ (s : Option (List ℕ)). IsNamed names s (along (suc left) t byte sid)) (sym (follow-failure p y u (folded p byte) other))
             (subst (IsNamed names (follow p No (failure_of p (y ∷ u)) (folded p byte))) (sym (along-link left t byte sid deep child).0)
-            (rest (failure_of p (y ∷ u)) (naming.linked.links sid (y ∷ u) named (λ z. cc))))
+            (rest (failure_of p (y ∷ u)) (leads.linked.links sid (y ∷ u) there named (λ z. cc))))
       ]
 
   -- down the links a byte leads where the word's step does
-  along-named : (left sid byte : ℕ) (state : Option (List ℕ)) → byte < 256 → sid < left → sid < length t.fails → IsNamed names state sid
+  pub along-named : (left sid byte : ℕ) (state : Option (List ℕ)) → byte < 256 → sid < left → sid < length t.fails → IsNamed names state sid
       → IsNamed names (follow p No state (folded p byte)) (along left t byte sid)
   along-named zero sid byte state small less there is = absurd (omega (arith, less))
   along-named (suc left) sid byte state small less there is = by_row (cases_Bool (is_row t sid)) state is
@@ -138,11 +138,11 @@ module _ (p : Patterns) (t : Layout) (names : List (Option (List ℕ))) (naming 
       by_row : (is_row t sid ≡ true) ⊎ (is_row t sid ≡ false) → (state : Option (List ℕ)) → IsNamed names state sid → IsNamed names (follow p No state (folded p byte)) (along (suc left) t byte sid)
       by_row (inl row) state is =
           subst (IsNamed names (follow p No state (folded p byte))) (sym (along-row (suc left) t byte sid row (omega arith)).0)
-          (naming.linked.rows sid byte state (ltb-true sid t.row_count row) small is)
+          (leads.linked.rows sid byte state (ltb-true sid t.row_count row) small is)
       by_row (inr deep) None is = absurd (both_ways (is_row t sid) (has-row sid (omega (arith, is))) deep)
       by_row (inr deep) (Some w) is =
           let before = can.walkable.link sid (ltb-false sid t.row_count deep) there in
-          deep-step left sid byte w small deep is (child_by t sid byte) refl
+          deep-step left sid byte w small there deep is (child_by t sid byte) refl
           (λ further named. along-named left (link_in t sid) byte further small (omega (arith, before, less)) (omega (arith, before, there)) named)
 
   -- an anchored step leads where the word's does
@@ -151,37 +151,38 @@ module _ (p : Patterns) (t : Layout) (names : List (Option (List ℕ))) (naming 
   anchored-named sid byte (Some w) small is =
       elim (cases_Bool (is_node p (w ++ folded p byte ∷ []))) [
         | inl node ↦
-            (let to = to-child p names t naming.levels sid w byte is small node in
+            (let to = to-child p names t leads.levels sid w byte is small node in
             subst (λ (s : Option (List ℕ)). IsNamed names s (next_in t Yes sid byte)) (sym (follow-node p Yes w (folded p byte) node))
             (ap (word_at names) (ap (λ (o : Option ℕ). told_else o 0) (by-folded sid byte ∙ to.1)) ∙ to.2))
         | inr other ↦
             subst (λ (s : Option (List ℕ)). IsNamed names s (next_in t Yes sid byte)) (sym (cond-false (is_node p (w ++ folded p byte ∷ [])) (Some (w ++ folded p byte ∷ [])) None other))
-            (ap (λ (o : Option ℕ). told_else o 0) (by-folded sid byte ∙ no-child p names t naming.levels sid w byte is small other))
+            (ap (λ (o : Option ℕ). told_else o 0) (by-folded sid byte ∙ no-child p names t leads.levels sid w byte is small other))
       ]
 
-  next-named : (anchored : Anchored) (sid byte : ℕ) (state : Option (List ℕ)) → byte < 256 → sid < length t.fails → IsNamed names state sid
+  pub next-named : (anchored : Anchored) (sid byte : ℕ) (state : Option (List ℕ)) → byte < 256 → sid < length t.fails → IsNamed names state sid
       → IsNamed names (follow p anchored state (folded p byte)) (next_in t anchored sid byte)
   next-named No sid byte state small there is = along-named (sid + 1) sid byte state small (omega arith) there is
   next-named Yes sid byte state small there is = anchored-named sid byte state small is
 
+module _ (p : Patterns) (t : Layout) (names : List (Option (List ℕ))) (naming : IsNaming p t names) where
   -- a held state lists what the word does, and is dead where it is
   named-lists : (state : Option (List ℕ)) (sid : ℕ) → IsNamed names state sid → list_in t sid ≡ matches_of p state
-  named-lists None sid is = ap (list_in t) is ∙ naming.linked.dead_list
-  named-lists (Some w) sid is = naming.linked.lists sid w is
+  named-lists None sid is = ap (list_in t) is ∙ naming.dead_list
+  named-lists (Some w) sid is = naming.lists sid w is
 
   named-dead : (state : Option (List ℕ)) (sid : ℕ) → IsNamed names state sid → nat_eq sid 0 ≡ is_none state
   named-dead None sid is = eq-eqb sid 0 is
-  named-dead (Some w) sid is = ne_eqb sid 0 (named-ne_zero p names t naming.levels sid w is)
+  named-dead (Some w) sid is = ne_eqb sid 0 (named-ne_zero p names t naming.leads.levels sid w is)
 
   named-start : (state : Option (List ℕ)) (sid : ℕ) → IsNamed names state sid → nat_eq sid 1 ≡ true → state ≡ Some []
   named-start None sid is start = absurd (omega (arith, is, eqb-true sid 1 start))
-  named-start (Some w) sid is start = sym is ∙ ap (word_at names) (eqb-true sid 1 start) ∙ naming.levels.root
+  named-start (Some w) sid is start = sym is ∙ ap (word_at names) (eqb-true sid 1 start) ∙ naming.leads.levels.root
 
 module _ (t : Layout) (sound : IsSoundLayout t) where
   -- the root is held before the first byte
   pub begins_of : (p : Patterns) (anchored : Anchored) → IsHeldIn t p anchored [] 1
-  begins_of p No names naming = naming.levels.root
-  begins_of p Yes names naming = subst (λ (s : Option (List ℕ)). IsNamed names s 1) (sym (cond-true (is_node p []) (Some []) None (is_node-root p))) naming.levels.root
+  begins_of p No names naming = naming.leads.levels.root
+  begins_of p Yes names naming = subst (λ (s : Option (List ℕ)). IsNamed names s 1) (sym (cond-true (is_node p []) (Some []) None (is_node-root p))) naming.leads.levels.root
 
   -- a state that follows the held one is held after one more byte
   pub held-next : (p : Patterns) (anchored : Anchored) (word : List ℕ) (sid byte next : ℕ) → byte < 256 → IsStateIn t sid → next ≡ next_in t anchored sid byte
@@ -189,7 +190,7 @@ module _ (t : Layout) (sound : IsSoundLayout t) where
   held-next p anchored word sid byte next small state is held names naming =
       subst (IsNamed names (held_after p anchored (word ++ byte ∷ []))) (sym is)
       (subst (λ (s : Option (List ℕ)). IsNamed names s (next_in t anchored sid byte)) (sym (held_after-push p anchored word byte))
-      (next-named p t names naming sound.steps anchored sid byte (held_after p anchored word) small (omega (arith, state, sound.fails)) (held names naming)))
+      (next-named p t names naming.leads sound.steps anchored sid byte (held_after p anchored word) small (omega (arith, state, sound.fails)) (held names naming)))
 
   -- a state that is held after some bytes is held after any others that lead to the same state of the words
   pub alike_of : (p : Patterns) (word other : List ℕ) (sid : ℕ) → IsHeldIn t p No word sid → held_after p No other ≡ held_after p No word → IsHeldIn t p No other sid
@@ -200,22 +201,22 @@ module _ (t : Layout) (sound : IsSoundLayout t) where
     pub reads_of : Reads p kind lengths (IsHeldIn t p) (list_in t) (λ sid. nat_eq sid 0) (λ sid. nat_eq sid 1)
     reads_of =
         reads_by_words p kind lengths (IsHeldIn t p) (list_in t) (λ sid. nat_eq sid 0) (λ sid. nat_eq sid 1) of.kind_is of.lengths_are
-        (λ anchored w sid h. named-lists p t of.names of.naming sound.steps (held_after p anchored w) sid (h of.names of.naming))
-        (λ anchored w sid h. named-dead p t of.names of.naming sound.steps (held_after p anchored w) sid (h of.names of.naming))
-        (λ sid dead. ap (list_in t) (eqb-true sid 0 dead) ∙ of.naming.linked.dead_list)
+        (λ anchored w sid h. named-lists p t of.names of.naming (held_after p anchored w) sid (h of.names of.naming))
+        (λ anchored w sid h. named-dead p t of.names of.naming (held_after p anchored w) sid (h of.names of.naming))
+        (λ sid dead. ap (list_in t) (eqb-true sid 0 dead) ∙ of.naming.dead_list)
         (λ w sid h start. (
-          (λ names naming. subst (λ (n : ℕ). word_at names n ≡ Some []) (sym (eqb-true sid 1 start)) naming.levels.root),
-          named-start p t of.names of.naming sound.steps (held_after p No w) sid (h of.names of.naming) start,
+          (λ names naming. subst (λ (n : ℕ). word_at names n ≡ Some []) (sym (eqb-true sid 1 start)) naming.leads.levels.root),
+          named-start p t of.names of.naming (held_after p No w) sid (h of.names of.naming) start,
         ))
 
     -- the held state is as deep as the word's
     pub reaches_in : (word : List ℕ) (sid : ℕ) → IsHeldIn t p No word sid → depth_in t sid ≡ depth_of (held_after p No word)
-    reaches_in word sid held = deep-named p of.names t of.naming.levels sound.steps (held_after p No word) sid (held of.names of.naming)
+    reaches_in word sid held = deep-named p of.names t of.naming.leads.levels sound.steps (held_after p No word) sid (held of.names of.naming)
 
     -- the look-ups of the held state's step are those of the word's
     pub held-looks : (anchored : Anchored) (word : List ℕ) (sid byte : ℕ) → IsHeldIn t p anchored word sid → looks_in t anchored sid byte ≡ lookups_in t p anchored word byte
     held-looks anchored word sid byte held =
-        ap (λ (n : ℕ). looks_in t anchored n byte) (state-named p of.names t of.naming.levels (held_after p anchored word) sid (held of.names of.naming))
+        ap (λ (n : ℕ). looks_in t anchored n byte) (state-named p of.names t of.naming.leads.levels (held_after p anchored word) sid (held of.names of.naming))
 
   -- a state that is not marked is not dead, and lists nothing; nor is one that is not special
   pub unmarked_of : (sid : ℕ) → is_marked_in t sid ≡ false → (nat_eq sid 0 ≡ false) × (list_in t sid ≡ [])

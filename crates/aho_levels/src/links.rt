@@ -3,8 +3,9 @@
 ghost use Rattle.std.specs.Prelude.{◌≡◌, ℕ, List, Option, length, IfErr, OnOk};
 ghost use Rattle.aho_core.specs.Patterns.{Patterns};
 ghost use Rattle.aho_core.specs.Failure.{is_leftmost};
-ghost use Rattle.aho_levels.specs.Building.{AreBare, AreOfTrie, HasSameTrie, IsLevelsRefusal, LinksBefore, RowsLead};
+ghost use Rattle.aho_levels.specs.Building.{AreBare, AreOfTrie, HasSameTrie, IsLevelsRefusal};
 ghost use Rattle.aho_levels.specs.Layout.{CanStep};
+ghost use Rattle.aho_levels.specs.Meaning.{LeadsAsWords};
 
 use crate::states::{DEAD, ROOT, ROW, States};
 use crate::trie::Own;
@@ -48,7 +49,7 @@ pub fn link_states(
         × (p.kind ≡ kind) × AreOfTrie p names owns.now states.old }
     ensures links { OnOk result ((p : Patterns) (names : List (Option (List ℕ)))
         → p.kind ≡ kind → AreOfTrie p names owns.now states.old
-        → LinksBefore p names (length states.new.bytes) states.new × RowsLead p names states.new) }
+        → LeadsAsWords p states.new names) }
     ensures can { OnOk result (CanStep states.new) }
     ensures all { OnOk result (length states.new.fails ≡ length states.new.bytes) }
     ensures same { OnOk result (HasSameTrie states.old states.new) }

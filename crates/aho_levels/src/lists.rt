@@ -2,8 +2,9 @@
 
 ghost use Rattle.std.specs.Prelude.{◌≡◌, ℕ, List, Option, [], length, IfErr, OnOk};
 ghost use Rattle.aho_core.specs.Patterns.{Patterns};
-ghost use Rattle.aho_levels.specs.Building.{AreOfTrie, HasSameLinks, IsLevelsRefusal, LinksBefore, ListsBefore};
-ghost use Rattle.aho_levels.specs.Layout.{CanStep, IsSoundLayout, list_in};
+ghost use Rattle.aho_levels.specs.Building.{AreOwns, HasSameLinks, IsLevelsRefusal};
+ghost use Rattle.aho_levels.specs.Layout.{CanStep, IsSoundLayout};
+ghost use Rattle.aho_levels.specs.Meaning.{IsNaming, LeadsAsWords};
 
 use crate::links::is_next;
 use crate::states::States;
@@ -22,10 +23,7 @@ pub fn list_patterns(states: &mut States, owns: &[Own]) -> Result<(), BuildError
     requires places { states.old.places ≡ [] }
     requires lists { states.old.lists ≡ [] }
     ensures lists { OnOk result ((p : Patterns) (names : List (Option (List ℕ)))
-        → AreOfTrie p names owns.now states.old
-        → LinksBefore p names (length states.old.bytes) states.old
-        → ListsBefore p names (length states.new.bytes) states.new) }
-    ensures dead { OnOk result (list_in states.new 0 ≡ []) }
+        → AreOwns p names owns.now → LeadsAsWords p states.old names → IsNaming p states.new names) }
     ensures sound { OnOk result (IsSoundLayout states.new) }
     ensures same { OnOk result (HasSameLinks states.old states.new) }
     ensures refused { IfErr result IsLevelsRefusal }

@@ -4,7 +4,7 @@ ghost use Rattle.std.specs.Prelude.{◌≡◌, ◌+◌, ◌<◌, ◌≤◌, ◌^
 ghost use Rattle.aho_core.specs.Bytes.{folded_by};
 ghost use Rattle.aho_core.specs.Numbers.{greatest_index};
 ghost use Rattle.aho_core.specs.declared.search.Anchored.TheVariants.{No, Yes};
-ghost use Rattle.aho_levels.specs.Layout.{CanStep, IsListed, IsSoundLayout, IsStateIn, child_by, child_in, depth_in, entry_in, is_marked_in, is_row, link_in, list_in, looks_in, next_in};
+ghost use Rattle.aho_levels.specs.Layout.{CanStep, IsListed, IsSoundLayout, IsStateIn, child_by, child_in, depth_in, entry_in, is_marked_in, is_row, link_in, list_in, looks_in, next_in, states_memory};
 
 use crate::child::child_of;
 use crate::order::folded;
@@ -218,9 +218,13 @@ impl States {
     }
 
     /// The bytes of memory, by stated sizes.
-    pub fn memory_usage(&self) -> usize {
+    pub fn memory_usage(&self) -> usize
+        requires sound { IsSoundLayout self.now }
+        ensures memory { result ≡ states_memory self.now }
+        ensures bound { result < 2 ^ 62 }
+    {
         let states = self.firsts.len() + self.depths.len() + self.fails.len() + self.places.len();
-        4 * (states + self.rows.len() + self.lists.len()) + self.bytes.len()
+        4 * (states + (self.rows.len() + self.lists.len())) + self.bytes.len()
     }
 
     /// How many patterns the state lists.
