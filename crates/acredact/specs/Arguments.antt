@@ -7,14 +7,15 @@ use Rattle.programs.specs.Arguments.{kind_by, texts}
 use Rattle.call_options.specs.Forms.{Form, argument_form, joined_letters, long_name, long_with, no_more, no_option}
 use Rattle.acredact.specs.Forms.{are_forms}
 use Rattle.acredact.specs.Long.{word_by_name}
+use Rattle.acredact.specs.LineRules.{is_size}
 use Rattle.acredact.specs.Values.{is_variable_name}
 use Rattle.acredact.specs.declared.arguments.Word.{Word}
-use Rattle.acredact.specs.declared.arguments.Word.TheVariants.{IgnoreCase, Kind, Pattern, Patterns, Table, Env, EnvFile, Whole, With, Pseudonym, Forms, AsWord, Output, InPlace, Count, Summary, Crlf, AllowEmpty, Strict, Check, Help, Version, File}
+use Rattle.acredact.specs.declared.arguments.Word.TheVariants.{IgnoreCase, Kind, Pattern, Patterns, Table, Env, EnvFile, Whole, With, Pseudonym, Forms, AsWord, Rules, After, MaxLine, Output, InPlace, Count, Summary, Crlf, AllowEmpty, Strict, Check, Help, Version, File}
 use Rattle.acredact.specs.declared.arguments.Expects.{Expects}
 use Rattle.acredact.specs.declared.arguments.Expects.TheVariants.{Any, Value, Name}
 use Rattle.acredact.specs.declared.arguments.Item.{Item}
 use Rattle.acredact.specs.declared.arguments.Mixture.{Mixture}
-use Rattle.acredact.specs.declared.arguments.Mixture.TheVariants.{StrictKind, PseudonymKind, PseudonymWith, PseudonymTable, FormsKind, WordsKind, WordsForms, CountCheck, SummaryCheck, OutputCheck, InPlaceCheck, InPlaceOutput}
+use Rattle.acredact.specs.declared.arguments.Mixture.TheVariants.{StrictKind, PseudonymKind, PseudonymWith, PseudonymTable, FormsKind, WordsKind, WordsForms, RulesKind, MaxLineAlone, CountCheck, SummaryCheck, OutputCheck, InPlaceCheck, InPlaceOutput}
 
 -- an option with its value, or a file with its name
 pub record Given : Type 0 where
@@ -42,6 +43,9 @@ takes_value Whole = true
 takes_value With = true
 takes_value Pseudonym = true
 takes_value Forms = true
+takes_value Rules = true
+takes_value After = true
+takes_value MaxLine = true
 takes_value Output = true
 takes_value IgnoreCase = false
 takes_value AsWord = false
@@ -74,6 +78,9 @@ is_value_of EnvFile value = true
 is_value_of Whole value = true
 is_value_of With value = true
 is_value_of Pseudonym value = true
+is_value_of Rules value = true
+is_value_of After value = true
+is_value_of MaxLine value = is_size value
 is_value_of Output value = true
 is_value_of InPlace value = true
 is_value_of Count value = true
@@ -232,6 +239,9 @@ option_name Whole = codes "--whole"
 option_name With = codes "--with"
 option_name Pseudonym = codes "--pseudonym"
 option_name Forms = codes "--forms"
+option_name Rules = codes "--rules"
+option_name After = codes "--after"
+option_name MaxLine = codes "--max-line"
 option_name Output = codes "--output"
 option_name IgnoreCase = codes "-e"
 option_name AsWord = codes "-e"
@@ -269,12 +279,23 @@ counts_given items = counts_asked (all_given items)
 abbrev pub words_asked : List Given → Bool
 words_asked items = covers_asked items && has AsWord items
 
+-- whether an option gives rules
+abbrev pub gives_rules : List Given → Bool
+gives_rules items = has Rules items || has After items
+
+-- the options that do not go together of those of rules
+abbrev pub rules_mixture_of : List Given → Option Mixture
+rules_mixture_of given =
+    if gives_rules given && not (covers_asked given) then Some RulesKind
+    else if has MaxLine given && not (gives_rules given) then Some MaxLineAlone
+    else None
+
 -- those of --in-place
 abbrev pub in_place_mixture_of : List Given → Option Mixture
 in_place_mixture_of given =
     if has InPlace given && has Check given then Some InPlaceCheck
     else if has InPlace given && has Output given then Some InPlaceOutput
-    else None
+    else rules_mixture_of given
 
 -- and those of --word
 abbrev pub words_mixture_of : List Given → Option Mixture
@@ -293,7 +314,7 @@ mixture_of given =
     else if has Pseudonym given && has Table given then Some PseudonymTable
     else if has Forms given && not (covers_asked given) then Some FormsKind
     else if has Count given && has Check given then Some CountCheck
-    else if has Summary given && has Check given then Some SummaryCheck
+    else if has Summary given && has Check given && not (gives_rules given) then Some SummaryCheck
     else if has Output given && has Check given then Some OutputCheck
     else words_mixture_of given
 
@@ -331,7 +352,7 @@ pub record RefusesUnclean (given : List Given) : Type 0 where
   pub covers : covers_asked given ≡ true
   pub all : words_asked given ≡ false
 
--- no option gives patterns
+-- no option gives patterns or rules
 pub record GivesNoPattern (given : List Given) : Type 0 where
   pub no_pattern : has Pattern given ≡ false
   pub no_patterns : has Patterns given ≡ false
@@ -339,6 +360,7 @@ pub record GivesNoPattern (given : List Given) : Type 0 where
   pub no_env : has Env given ≡ false
   pub no_env_file : has EnvFile given ≡ false
   pub no_whole : has Whole given ≡ false
+  pub no_rules : gives_rules given ≡ false
 
 -- what holds of the options and files that are given, where they ask for a redaction
 abbrev pub IfAsked : {Z : Type 0} → List (String Z) → (List Given → Type 0) → Type 0

@@ -17,7 +17,7 @@ use Rattle.programs.specs.declared.errors.Errors.{Errors}
 use Rattle.programs.specs.declared.failure.Failure.{Failure as OtherFailure}
 use Rattle.programs.specs.declared.failure.Failure.TheVariants.{Build, OutOfMemory, Write, WriteZero}
 use Rattle.programs.specs.declared.reason.Reason.{Reason}
-use Rattle.acredact.specs.Arguments.{Given, GivesNoPattern, RefusesUnclean, counts_asked, covers_asked, has, is_same, last_value, words_asked}
+use Rattle.acredact.specs.Arguments.{Given, GivesNoPattern, RefusesUnclean, counts_asked, covers_asked, gives_rules, has, is_same, last_value, words_asked}
 use Rattle.acredact.specs.Bounds.{NumbersOfAll, ReadInAll}
 use Rattle.acredact.specs.Builds.{RefusesPatterns, patterns_by_given}
 use Rattle.acredact.specs.Counts.{secret_lines, lines_of_rules}
@@ -63,9 +63,9 @@ call_of D folder given = record { holds = D.holds folder; refuses = D.refuses fo
 abbrev pub gives_value : List Given → Bool
 gives_value given = has Env given || has EnvFile given || has Whole given
 
--- whether an option gives patterns
+-- whether an option gives patterns or rules
 abbrev pub gives_pattern : List Given → Bool
-gives_pattern given = has PatternOption given || has PatternFile given || has Table given || gives_value given
+gives_pattern given = has PatternOption given || has PatternFile given || has Table given || gives_value given || gives_rules given
 
 abbrev pub rules_asked : List Given → Rules
 rules_asked given = record { crlf = has Crlf given; allow_empty = has AllowEmpty given; parts = covers_asked given; forms = forms_asked (last_value Forms given) }

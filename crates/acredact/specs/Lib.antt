@@ -6,6 +6,7 @@ pub mod Mistakes
 -- what the lines of files of patterns and of tables hold
 pub mod Tables
 pub mod LineFaults
+pub mod LineRules
 pub mod Forms
 pub mod Parts
 pub mod Values

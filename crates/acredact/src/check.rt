@@ -1,28 +1,28 @@
 //! A check: whether something would be replaced in files. It writes nothing but warnings and failures.
 
-ghost use Rattle.std.specs.Prelude.{◌≡◌, IfErr, IfSome, OnOk};
+ghost use Rattle.std.specs.Prelude.{◌≡◌, IfErr, IfSome, None, OnOk};
 ghost use Rattle.acredact.specs.Arguments.{GivesNoPattern, all_given};
-ghost use Rattle.acredact.specs.Builds.{patterns_by_given};
-ghost use Rattle.acredact.specs.Checks.{ChecksGiven, ChecksLoaded, EndsCheck, IsBuildFailure, SeesRules, SeesSearched};
+ghost use Rattle.acredact.specs.Checks.{ChecksGiven, ChecksSought, EndsCheck, IsReadyFailure, SeesSearched, SeesSought};
 ghost use Rattle.acredact.specs.Looks.{CanLook};
 ghost use Rattle.acredact.specs.Secrets.{IfOf};
 ghost use Rattle.acredact.specs.Statuses.{check_status};
-ghost use Rattle.acredact.specs.Tables.{HaveNoEmpty, patterns_in, secrets_of};
+ghost use Rattle.acredact.specs.Tables.{HaveNoEmpty, secrets_of};
 
-use crate::arguments::{Item, Mistake, Word, has, words};
+use crate::arguments::{Item, Word, has};
 use crate::doubts::warn_of_lists;
 use crate::failure::Failure;
+use crate::files::Lines;
 use crate::folder::Folder;
-use crate::load::{lists_of, rules};
-use crate::look::{Searched, Verdict, look_at_files};
-use crate::patterns::{Rule, patterns_of};
-use crate::rows::build;
-use crate::run::{FAILED, gives_pattern, names, report};
+use crate::line_look::{LineLook, Names};
+use crate::load::{Sought, load_patterns};
+use crate::look::{Finding, Searched, Verdict, look_at_files};
+use crate::ready::{Ready, lines_in};
+use crate::rule_counts::tell_long_count;
+use crate::run::{FAILED, report};
 use aho_automaton::automaton::Automaton;
 use aho_devices::adapters::FromRead;
 use aho_devices::device::Sink;
 use programs::errors::Errors;
-use programs::rows::rows_of;
 use std::alloc::{AllocError, Global};
 use std::io::Read;
 
@@ -72,12 +72,8 @@ fn check_given<'a, F: Folder, I: Read, E: Sink>(
     ensures outcome { ChecksGiven E.Sink F.Folder folder.now (all_given given.now) result
         input.old input.new errors.old errors.new }
 {
-    if !gives_pattern(given) {
-        return Err(Failure::Arguments(Mistake::NoPattern));
-    }
-    let lists = lists_of(alloc, given, folder);
-    match rules(&lists, given, input) {
-        Ok(rules) => check_loaded(alloc, given, rules.as_slice(), folder, input, errors),
+    match load_patterns(alloc, given, folder, input) {
+        Ok(sought) => check_loaded(alloc, given, &sought, folder, input, errors),
         Err(failure) => Err(failure),
     }
 }
@@ -86,66 +82,121 @@ fn check_given<'a, F: Folder, I: Read, E: Sink>(
 fn check_loaded<'a, F: Folder, I: Read, E: Sink>(
     alloc: Global,
     given: &[Item<'a>],
-    rules: &[Rule],
+    sought: &Sought,
     folder: &F,
     input: &mut FromRead<I>,
     errors: &mut Errors<'_, E>,
 ) -> Result<Verdict, Failure<'a>>
-    requires some { HaveNoEmpty (secrets_of rules.now) }
-    ensures outcome { ChecksLoaded E.Sink F.Folder folder.now (all_given given.now) rules.now result
+    requires some { HaveNoEmpty (secrets_of sought.now.rules.items) }
+    ensures outcome { ChecksSought E.Sink F.Folder folder.now given.now sought.now result
         input.old input.new errors.old errors.new }
 {
     let strict = has(given, Word::Strict);
-    match warn_of_lists(errors, given, rules, strict) {
-        Ok(()) => check_rules(alloc, given, rules, folder, input, errors),
+    match warn_of_lists(errors, given, sought.rules.as_slice(), strict) {
+        Ok(()) => check_sought(alloc, given, sought, folder, input, errors),
         Err(failure) => Err(failure),
     }
 }
 
 /// Looks for the patterns of these rules in each file.
-fn check_rules<'a, F: Folder, I: Read, E: Sink>(
+fn check_sought<'a, F: Folder, I: Read, E: Sink>(
     alloc: Global,
     given: &[Item<'a>],
-    rules: &[Rule],
+    sought: &Sought,
     folder: &F,
     input: &mut FromRead<I>,
     errors: &mut Errors<'_, E>,
 ) -> Result<Verdict, Failure<'a>>
-    requires some { HaveNoEmpty (secrets_of rules.now) }
-    ensures sees { SeesRules E.Sink F.Folder folder.now (all_given given.now) rules.now
-        result input.old input.new errors.old errors.new }
-    ensures fails { IfErr result (IsBuildFailure
-        (patterns_by_given (all_given given.now) (patterns_in (secrets_of rules.now)))) }
+    requires some { HaveNoEmpty (secrets_of sought.now.rules.items) }
+    ensures sees { SeesSought E.Sink F.Folder folder.now given.now sought.now result input.old input.new errors.old errors.new }
+    ensures fails { IfErr result (IsReadyFailure given.now sought.now) }
 {
-    let patterns = patterns_of(alloc, rules)?;
-    let names = names(alloc, given)?;
-    let texts = patterns.as_slice();
-    let nfa = build(alloc, given, texts)?;
-    let rows = rows_of(alloc, &nfa, has(given, Word::IgnoreCase), texts)?;
-    let files = Searched {
-        alloc,
-        folder,
-        names: names.as_slice(),
-        words: words(given),
-    };
-    Ok(look_by(&nfa, rows.as_ref(), &files, input, errors)?)
+    let ready = Ready::new(alloc, given, sought)?;
+    let files = ready.searched(alloc, given, folder);
+    let names = names_told(given, sought);
+    Ok(look_by(
+        &ready.nfa,
+        ready.rows.as_ref(),
+        lines_in(sought),
+        names,
+        &files,
+        input,
+        errors,
+    )?)
+}
+
+/// How what counts in lines is called, where that is told: with `--summary`.
+fn names_told<'s>(given: &[Item<'_>], sought: &'s Sought) -> Option<Names<'s>> {
+    match &sought.lines {
+        Some(lines) if has(given, Word::Summary) => Some(Names {
+            patterns: sought.rules.as_slice(),
+            rules: lines.rules.as_slice(),
+            most: lines.most,
+        }),
+        _ => None,
+    }
 }
 
 /// Looks at each file by the automaton with rows, if there is one.
 fn look_by<A: Automaton, B: Automaton, F: Folder, I: Read, E: Sink>(
     automaton: &A,
     rows: Option<&B>,
+    lines: Option<Lines<'_>>,
+    names: Option<Names<'_>>,
     files: &Searched<'_, '_, F>,
     input: &mut FromRead<I>,
     errors: &mut Errors<'_, E>,
 ) -> Result<Verdict, AllocError>
     requires ready { CanLook A.Automaton automaton.now files.now.words }
     requires rows { IfSome rows (λ rows. CanLook B.Automaton rows.now files.now.words) }
-    ensures sees { IfOf A.Automaton automaton.now (λ p. IfSome rows.entry (λ rows. B.is_of rows.now p)
+    ensures sees { lines ≡ None → IfOf A.Automaton automaton.now (λ p. IfSome rows.entry (λ rows. B.is_of rows.now p)
         → SeesSearched E.Sink F.Folder files.now p result input.old input.new errors.old errors.new) }
 {
     match rows {
-        Some(automaton) => look_at_files(automaton, files, input, errors),
-        None => look_at_files(automaton, files, input, errors),
+        Some(automaton) => look_for(automaton, lines, names, files, input, errors),
+        None => look_for(automaton, lines, names, files, input, errors),
     }
+}
+
+/// Looks at each file by an automaton, and by rules, where these are given.
+fn look_for<A: Automaton, F: Folder, I: Read, E: Sink>(
+    automaton: &A,
+    lines: Option<Lines<'_>>,
+    names: Option<Names<'_>>,
+    files: &Searched<'_, '_, F>,
+    input: &mut FromRead<I>,
+    errors: &mut Errors<'_, E>,
+) -> Result<Verdict, AllocError>
+    requires ready { CanLook A.Automaton automaton.now files.now.words }
+    ensures sees { lines ≡ None → IfOf A.Automaton automaton.now (λ p. SeesSearched E.Sink F.Folder files.now p
+        result input.old input.new errors.old errors.new) }
+{
+    match lines {
+        Some(lines) => look_at_lines(automaton, lines, names, files, input, errors),
+        None => {
+            let mut finding = Finding {
+                alloc: files.alloc,
+                automaton,
+                words: files.words,
+            };
+            look_at_files(&mut finding, files, input, errors)
+        }
+    }
+}
+
+/// Looks at the lines of each file, by rules and the patterns of an automaton, and tells how many were too long.
+fn look_at_lines<A: Automaton, F: Folder, I: Read, E: Sink>(
+    automaton: &A,
+    lines: Lines<'_>,
+    names: Option<Names<'_>>,
+    files: &Searched<'_, '_, F>,
+    input: &mut FromRead<I>,
+    errors: &mut Errors<'_, E>,
+) -> Result<Verdict, AllocError>
+    requires ready { CanLook A.Automaton automaton.now files.now.words }
+{
+    let mut look = LineLook::new(files.alloc, automaton, lines, files.words, names)?;
+    let verdict = look_at_files(&mut look, files, input, errors)?;
+    tell_long_count(errors, lines.most, look.long);
+    Ok(verdict)
 }

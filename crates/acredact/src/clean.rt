@@ -30,6 +30,8 @@ pub struct Judge<'s, 't> {
     pub rules: &'s [Rule],
     /// The piece of those that have none of their own.
     pub usual: &'t [u8],
+    /// The pieces of rules that mark lines, in order, and that of long lines behind them.
+    pub behind: &'s [&'t [u8]],
 }
 
 /// Why a piece is not clean.
@@ -43,9 +45,22 @@ pub enum Flaw {
     Pseudonym,
 }
 
-/// A pattern whose piece is not clean.
+/// Of what a piece is.
+#[derive(Clone, Copy)]
+pub enum Subject {
+    /// A pattern.
+    Pattern,
+    /// A rule that marks lines.
+    Rule,
+    /// Lines that are too long, told by the number of the last rule.
+    LongLines,
+}
+
+/// That whose piece is not clean.
 #[derive(Clone, Copy)]
 pub struct Unclean {
+    /// What it is.
+    pub subject: Subject,
     /// Its number, from 1 on.
     pub number: usize,
     /// Why the piece is not clean.
@@ -75,7 +90,52 @@ pub fn unclean_of<A: Automaton>(
         return first_spelled(judge.words, judge.ignore_case);
     }
     let marks = marks_of(judge.words, judge.ignore_case);
-    first_unclean(automaton, judge, &marks)
+    match first_unclean(automaton, judge, &marks) {
+        Some(unclean) => Some(unclean),
+        None => unclean_behind(automaton, judge, &marks),
+    }
+}
+
+/// The first rule whose piece is not clean, or the piece of long lines. Where there is no pattern none can be spelled.
+fn unclean_behind<A: Automaton>(
+    automaton: &A,
+    judge: &Judge<'_, '_>,
+    marks: &[bool],
+) -> Option<Unclean>
+    requires of { (p : Patterns) × A.is_of automaton.now p }
+    requires starts { IsOk (A.start automaton.now No) }
+    requires sized { length marks.now ≡ 256 }
+    requires marked { WordsAreMarked judge.now.ignore_case (pieces_of judge.now.words.now) marks.now }
+    ensures first { IfOf A.Automaton automaton.now (λ p. IsJudgeOf judge.now p →
+        IsFirstOrNone p (pieces_of judge.now.behind.now) result) }
+{
+    if judge.words.is_empty() {
+        return None;
+    }
+    let mut at = 0;
+    while at < judge.behind.len() {
+        match flaw_of(automaton, judge, marks, judge.behind[at]) {
+            Some(flaw) => return Some(unclean_at(judge, at, flaw)),
+            None => at += 1,
+        }
+    }
+    None
+}
+
+/// What the piece at a place behind those of patterns is of.
+fn unclean_at(judge: &Judge<'_, '_>, at: usize, flaw: Flaw) -> Unclean {
+    if at + 1 < judge.behind.len() {
+        return Unclean {
+            subject: Subject::Rule,
+            number: at + 1,
+            flaw,
+        };
+    }
+    Unclean {
+        subject: Subject::LongLines,
+        number: at,
+        flaw,
+    }
 }
 
 /// The first pattern whose piece is not clean.
@@ -99,6 +159,7 @@ fn first_unclean<A: Automaton>(
         match flaw_of_rule(automaton, judge, marks, &judge.rules[at], usual) {
             Some(flaw) => {
                 return Some(Unclean {
+                    subject: Subject::Pattern,
                     number: at + 1,
                     flaw,
                 });

@@ -3,6 +3,7 @@
 ghost use Rattle.std.specs.Prelude.{◌≡◌, ℕ, List, decimal};
 ghost use Rattle.programs.specs.Messages.{reason_text};
 ghost use Rattle.programs.specs.Telling.{TellsBytes};
+ghost use Rattle.acredact.specs.LineRules.{line_end_line, piece_line_of, subject_text, toml_line};
 ghost use Rattle.acredact.specs.Failures.{IsFailureLine, IsOtherLine, bad_line, is_of_output, short_line};
 ghost use Rattle.acredact.specs.LineFaults.{line_fault_text};
 ghost use Rattle.acredact.specs.Messages.{alone, flaw_text, line_about, no_file_line, no_output_line, output_line, piece_line, told_line, unclean_line};
@@ -10,7 +11,8 @@ ghost use Rattle.acredact.specs.Mistakes.{mistake_line, misuse_line, mixture_tex
 ghost use Rattle.acredact.specs.declared.clean.Flaw.TheVariants.{Empty, Pseudonym, Spells};
 
 use crate::arguments::{Mistake, Mixture, name_of};
-use crate::clean::{Flaw, Unclean};
+use crate::bad_rule::{BadRule, tell_rule};
+use crate::clean::{Flaw, Subject, Unclean};
 use crate::patterns::{BadLine, LineFault};
 use crate::shown::{MAX_DIGITS, PROGRAM, digits_of, is_plain, tell_shown, write_shown};
 use aho_core::error::{BuildError, StreamError};
@@ -19,7 +21,8 @@ use call_options::misuse::Misuse;
 use programs::errors::Errors;
 use programs::failure;
 use programs::reason::Reason;
-use std::alloc::AllocError;
+use secret_rules::TomlError;
+use std::alloc::{AllocError, AllocFailed};
 
 /// Why a call ends early.
 #[derive(Drop)]
@@ -44,6 +47,16 @@ pub enum Failure<'a> {
     Short(usize),
     /// The piece of a pattern is not clean.
     Unclean(Unclean),
+    /// A file is no TOML: in this line, for this reason.
+    Toml(&'a str, usize, TomlError),
+    /// A file has no rules.
+    NoRule(&'a str),
+    /// A rule of a file is none.
+    Rule(&'a str, BadRule),
+    /// No searcher can be built for the keywords of rules.
+    Keywords(BuildError),
+    /// The pattern of this number, from 1 on, holds a line end, beside rules, and a line that is no pattern.
+    LineEnd(usize),
     /// The counts cannot be written to standard error.
     Counts,
     /// The patterns are refused, memory runs out, or output cannot be written.
@@ -67,6 +80,17 @@ impl From<AllocError> for Failure<'_> {
     ghost from_gives = { λ _ failure. failure ≡ Other OutOfMemory };
 
     fn from(_error: AllocError) -> Self {
+        Failure::Other(failure::Failure::OutOfMemory)
+    }
+}
+
+impl<T: Drop> From<AllocFailed<T>> for Failure<'_> {
+    ghost use Rattle.acredact.specs.declared.failure.Failure.TheVariants.{Other};
+    ghost use Rattle.programs.specs.declared.failure.Failure.TheVariants.{OutOfMemory};
+
+    ghost from_gives = { λ _ failure. failure ≡ Other OutOfMemory };
+
+    fn from(_error: AllocFailed<T>) -> Self {
         Failure::Other(failure::Failure::OutOfMemory)
     }
 }
@@ -163,6 +187,11 @@ pub fn tell_failure<E: Sink>(errors: &mut Errors<'_, E>, failure: &Failure<'_>)
         Failure::Line(name, line) => tell_line(errors, name, *line),
         Failure::Short(number) => tell_short(errors, *number),
         Failure::Unclean(unclean) => tell_unclean(errors, *unclean),
+        Failure::Toml(name, line, error) => tell_toml(errors, name, *line, error),
+        Failure::NoRule(name) => tell_about(errors, name, "no [[rules]]"),
+        Failure::Rule(name, bad) => tell_rule(errors, name, bad),
+        Failure::Keywords(error) => errors.tell_build(PROGRAM, Some(b"--rules"), None, error),
+        Failure::LineEnd(number) => tell_line_end(errors, *number),
         Failure::Counts => tell_alone(errors, "the counts cannot be written"),
         Failure::Other(other) => tell_other(errors, other),
     }
@@ -182,44 +211,76 @@ pub fn tell_short<E: Sink>(errors: &mut Errors<'_, E>, number: usize)
     ]);
 }
 
+/// Tells as a line why a file is no TOML.
+fn tell_toml<E: Sink>(errors: &mut Errors<'_, E>, name: &str, line: usize, error: &TomlError)
+    ensures told { TellsBytes E.Sink errors.old errors.new (toml_line name.now line error.now) }
+{
+    let line = Some(line as u64);
+    tell_shown(errors, name.as_bytes(), line, error.message().as_bytes());
+}
+
+/// Tells as a line which pattern holds a line end, and a line that is no pattern.
+fn tell_line_end<E: Sink>(errors: &mut Errors<'_, E>, number: usize)
+    ensures told { TellsBytes E.Sink errors.old errors.new (line_end_line number) }
+{
+    let mut room = [0; MAX_DIGITS];
+    errors.write(&[
+        PROGRAM,
+        b": pattern ",
+        digits_of(number as u64, &mut room),
+        b" holds a line end: beside rules each of its lines has to be given as a pattern, and one is not\n",
+    ]);
+}
+
 /// Tells as a line of which pattern the piece is not clean, and why.
 pub fn tell_unclean<E: Sink>(errors: &mut Errors<'_, E>, unclean: Unclean)
     ensures told { TellsBytes E.Sink errors.old errors.new (unclean_line unclean) }
 {
     match unclean.flaw {
-        Flaw::Empty => tell_empty(errors, unclean.number),
-        Flaw::Spells(pattern) => tell_spelled(errors, unclean.number, pattern),
-        Flaw::Pseudonym => tell_pseudonym(errors, unclean.number),
+        Flaw::Empty => tell_empty(errors, unclean),
+        Flaw::Spells(pattern) => tell_spelled(errors, unclean, pattern),
+        Flaw::Pseudonym => tell_pseudonym(errors, unclean),
+    }
+}
+
+/// What stands before the number of that whose piece is not clean.
+fn subject_of(unclean: Unclean) -> &'static [u8]
+    ensures subject { result.now ≡ subject_text unclean.subject }
+{
+    match unclean.subject {
+        Subject::Pattern => b": the replacement of pattern ",
+        Subject::Rule => b": the replacement of rule ",
+        Subject::LongLines => b": the replacement of long lines, behind rule ",
     }
 }
 
 /// Tells that the piece of a pattern is empty.
-fn tell_empty<E: Sink>(errors: &mut Errors<'_, E>, number: usize)
+fn tell_empty<E: Sink>(errors: &mut Errors<'_, E>, unclean: Unclean)
     ensures told { TellsBytes E.Sink errors.old errors.new
-        (piece_line (decimal number) (flaw_text Empty)) }
+        (piece_line_of unclean.subject (decimal unclean.number) (flaw_text Empty)) }
 {
     let mut room = [0; MAX_DIGITS];
-    let digits = digits_of(number as u64, &mut room);
+    let digits = digits_of(unclean.number as u64, &mut room);
     errors.write(&[
         PROGRAM,
-        b": the replacement of pattern ",
+        subject_of(unclean),
         digits,
         b" is empty: what stands beside it can spell a pattern\n",
     ]);
 }
 
 /// Tells that the piece of a pattern can spell this one.
-fn tell_spelled<E: Sink>(errors: &mut Errors<'_, E>, number: usize, pattern: usize)
+fn tell_spelled<E: Sink>(errors: &mut Errors<'_, E>, unclean: Unclean, pattern: usize)
     ensures told { TellsBytes E.Sink errors.old errors.new
-        (piece_line (decimal number) (flaw_text (Spells pattern))) }
+        (piece_line_of unclean.subject (decimal unclean.number) (flaw_text (Spells pattern))) }
 {
     let mut room = [0; MAX_DIGITS];
     let mut other_room = [0; MAX_DIGITS];
-    let digits = digits_of(number as u64, &mut room);
+    let digits = digits_of(unclean.number as u64, &mut room);
     let other_digits = digits_of(pattern as u64, &mut other_room);
     errors.write(&[
         PROGRAM,
-        b": the replacement of pattern ",
+        subject_of(unclean),
         digits,
         b" can spell pattern ",
         other_digits,
@@ -228,15 +289,15 @@ fn tell_spelled<E: Sink>(errors: &mut Errors<'_, E>, number: usize, pattern: usi
 }
 
 /// Tells that pseudonyms can spell a pattern.
-fn tell_pseudonym<E: Sink>(errors: &mut Errors<'_, E>, number: usize)
+fn tell_pseudonym<E: Sink>(errors: &mut Errors<'_, E>, unclean: Unclean)
     ensures told { TellsBytes E.Sink errors.old errors.new
-        (piece_line (decimal number) (flaw_text Pseudonym)) }
+        (piece_line_of unclean.subject (decimal unclean.number) (flaw_text Pseudonym)) }
 {
     let mut room = [0; MAX_DIGITS];
-    let digits = digits_of(number as u64, &mut room);
+    let digits = digits_of(unclean.number as u64, &mut room);
     errors.write(&[
         PROGRAM,
-        b": the replacement of pattern ",
+        subject_of(unclean),
         digits,
         b" is a pseudonym: it can spell this pattern with what stands beside it\n",
     ]);
@@ -265,6 +326,10 @@ fn tell_mistake<E: Sink>(errors: &mut Errors<'_, E>, mistake: Mistake<'_>)
         Mistake::BadName => tell_alone(
             errors,
             "option '--env' takes a name of letters, digits and '_', and at its end a star",
+        ),
+        Mistake::BadSize => tell_alone(
+            errors,
+            "option '--max-line' takes a number of bytes, from 1 on",
         ),
         Mistake::NoPattern => tell_alone(errors, "no pattern: give -e, -f or -t, or --help"),
         Mistake::Mixed(mixture) => tell_alone(errors, mixture_text(mixture)),
@@ -311,6 +376,12 @@ fn mixture_text(mixture: Mixture) -> &'static str
         }
         Mixture::WordsForms => {
             "--word and --forms do not go together: a form can stand within a word"
+        }
+        Mixture::RulesKind => {
+            "--rules and --after need --kind cover: what rules mark may overlap"
+        }
+        Mixture::MaxLineAlone => {
+            "--max-line needs --rules or --after: without them no line is kept"
         }
         Mixture::SummaryCheck => {
             "--summary and --check do not go together: a check counts nothing"
@@ -359,6 +430,7 @@ fn text_of(fault: LineFault) -> &'static str
         LineFault::Quotes => "the quotes around the pattern are a part of it",
         LineFault::NoEquals => "no equals sign",
         LineFault::EmptyValue => "empty value: give --allow-empty to pass it over",
+        LineFault::NotText => "not UTF-8",
         LineFault::OutOfMemory => "out of memory",
     }
 }

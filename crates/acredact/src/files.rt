@@ -1,6 +1,6 @@
 //! The redaction of files, one after another.
 
-ghost use Rattle.std.specs.Prelude.{◌≡◌, ◌&&◌, ℕ, List, None, Ok, Option, OnOk, Some, false, true};
+ghost use Rattle.std.specs.Prelude.{◌≡◌, ◌&&◌, ℕ, IfOk, List, None, Ok, Option, OnOk, Some, false, true};
 ghost use Rattle.aho_core.specs.Patterns.{Patterns};
 ghost use Rattle.aho_backward.specs.Searcher.{IsBackwardOf};
 ghost use Rattle.aho_devices.specs.Counts.{counted};
@@ -14,24 +14,29 @@ ghost use Rattle.acredact.specs.Secrets.{IfOf, Redactor};
 ghost use Rattle.acredact.specs.Totals.{CountsFile, CountsJob, CountsOfStream, CountsOfText, CountsOpened, CountsTold, JobCounts};
 ghost use Rattle.acredact.specs.Streams.{StreamOutcome};
 ghost use Rattle.acredact.specs.Volumes.{AddsFile, AddsOpened, AddsText, AddsStream, FileVolume, JobVolume, files_with};
-ghost use Rattle.acredact.specs.Ways.{IfBy, Redacts};
+ghost use Rattle.secret_rules.specs.OpenLines.{CanSearch};
+ghost use Rattle.secret_rules.specs.Ready.{CanCoverLines, rules_of};
+ghost use Rattle.acredact.specs.Ways.{CanCover, CountsCovers, CoversFiles, IfBy, Redacts};
 
 use crate::back::Backing;
 use crate::failure::{tell_output, tell_unread};
 use crate::folder::Folder;
 use crate::meter::{Known, Lent, Metered};
+use crate::named_pieces::NamedPieces;
 use crate::streams::Streams;
 use crate::summary::Volume;
-use crate::ways::{Covering, Key, Naming, Replacing, Way};
+use crate::ways::{Coverer, Covering, Key, Replacing, Way};
 use aho_automaton::automaton::Automaton;
 use aho_backward::backward::Backward;
 use aho_core::error::StreamError;
+use aho_cover::pieces::PatternPieces;
 use aho_cover::start::StreamCoverStart;
 use aho_devices::adapters::{FromRead, FromWrite};
 use aho_devices::device::{Sink, Source};
 use programs::reason::Reason;
 use pseudonyms::pseudonym::Pseudonyms;
-use std::alloc::Global;
+use secret_rules::{LineCover, Rules};
+use std::alloc::{AllocError, Global};
 use std::io::{Read, Write};
 use std::marker::{Brand, PhantomData};
 
@@ -52,6 +57,19 @@ pub struct Job<'s, 't, F> {
     pub covers: bool,
     /// Whether words alone are, by a cover: matches beside which no letter, digit or `_` stands.
     pub words: bool,
+    /// How many of the first numbers have a text of their own where a key is given.
+    pub fixed: usize,
+    /// By what lines are covered, where they are.
+    pub lines: Option<Lines<'s>>,
+}
+
+/// By what lines are covered, besides patterns.
+#[derive(Clone, Copy)]
+pub struct Lines<'s> {
+    /// The rules that mark them.
+    pub rules: &'s Rules,
+    /// How many bytes a line may have that is not covered whole.
+    pub most: usize,
 }
 
 /// Redacts all files, and flushes. It answers whether all were read to their ends: one that was not is told, and the others are
@@ -83,7 +101,7 @@ pub fn redact_files<A: Automaton, F: Folder, I: Read, W: Write, E: Sink>(
     replace_files(automaton, job, counts, volume, streams)
 }
 
-/// Redacts all files by covers.
+/// Redacts all files by covers. The memory of all is taken before the first is opened.
 fn cover_files<A: Automaton, F: Folder, I: Read, W: Write, E: Sink>(
     automaton: &A,
     job: &Job<'_, '_, F>,
@@ -102,65 +120,134 @@ fn cover_files<A: Automaton, F: Folder, I: Read, W: Write, E: Sink>(
         volume.old volume.new streams.old streams.new) }
     ensures flushed { OnOk result (streams.new.output.device.flushed ≡ true) }
 {
-    match job.key {
-        Some(key) => name_files(automaton, key, job, counts, volume, streams),
-        None => cover_alike(automaton, job, counts, volume, streams),
+    match job.lines {
+        Some(lines) => {
+            let cover = line_cover(job.alloc, automaton, lines, job.words)?;
+            cover_by(cover, job, counts, volume, streams)
+        }
+        None => {
+            let start = StreamCoverStart::new_with(job.alloc, automaton, job.words)?;
+            cover_by(start, job, counts, volume, streams)
+        }
     }
 }
 
-/// Redacts all files by covers, with one text for each pattern. The memory of all is taken before the first is opened.
-fn cover_alike<A: Automaton, F: Folder, I: Read, W: Write, E: Sink>(
-    automaton: &A,
+/// What covers lines, by rules and by the patterns of an automaton, where it has some.
+pub fn line_cover<'r, 'a, A: Automaton>(
+    alloc: Global,
+    automaton: &'a A,
+    lines: Lines<'r>,
+    words: bool,
+) -> Result<LineCover<'r, 'a, A>, AllocError>
+    requires searches { CanSearch A.Automaton automaton.now }
+    ensures ready { IfOk result (CanCoverLines A.Automaton) }
+    ensures rules { IfOk result (λ cover. rules_of cover ≡ lines.rules.now) }
+{
+    let searched = if automaton.patterns_len() > 0 {
+        Some(automaton)
+    } else {
+        None
+    };
+    LineCover::new(alloc, lines.rules, searched, words, lines.most)
+}
+
+/// Redacts all files by covers, with one text for each number, or with a pseudonym in the place of each run.
+fn cover_by<C: Coverer + Drop, F: Folder, I: Read, W: Write, E: Sink>(
+    coverer: C,
     job: &Job<'_, '_, F>,
     counts: &mut [u64],
     volume: &mut Volume,
     streams: &mut Streams<'_, I, W, E>,
 ) -> Result<bool, StreamError>
-    requires ready { CanDo A.Automaton automaton.now job.now }
-    requires covers { job.now.covers ≡ true }
-    requires unnamed { job.now.key ≡ None }
-    ensures outcome { JobOutcome W.Write E.Sink A.Automaton F.Folder
-        automaton.now job.now result streams.old streams.new }
-    ensures counted { IfOf A.Automaton automaton.now (JobCounts F.Folder job.now
-        result streams.old streams.new counts.old counts.new) }
+    requires ready { CanCover C.Coverer coverer job.now }
+    ensures outcome { CoversFiles W.Write E.Sink C.Coverer F.Folder
+        coverer job.now result streams.old streams.new }
+    ensures counted { CountsCovers C.Coverer F.Folder
+        coverer job.now result streams.old streams.new counts.old counts.new }
     ensures read { JobVolume F.Folder job.now result volume.old volume.new streams.old streams.new }
     ensures most { OnOk result (JobNumbers F.Folder job.now counts.old counts.new
         volume.old volume.new streams.old streams.new) }
     ensures flushed { OnOk result (streams.new.output.device.flushed ≡ true) }
 {
-    let start = StreamCoverStart::new_with(job.alloc, automaton, job.words)?;
-    let mut way = Covering {
-        start,
-        replacements: job.replacements,
-    };
-    redact_flushed(&mut way, job, counts, volume, streams)
+    match job.key {
+        Some(key) => cover_named(coverer, key, job, counts, volume, streams),
+        None => cover_alike(coverer, job, counts, volume, streams),
+    }
 }
 
-/// Redacts all files by covers, with a pseudonym in the place of each run.
-fn name_files<A: Automaton, F: Folder, I: Read, W: Write, E: Sink>(
-    automaton: &A,
+/// Redacts all files by covers, with one text for each number.
+fn cover_alike<C: Coverer + Drop, F: Folder, I: Read, W: Write, E: Sink>(
+    coverer: C,
+    job: &Job<'_, '_, F>,
+    counts: &mut [u64],
+    volume: &mut Volume,
+    streams: &mut Streams<'_, I, W, E>,
+) -> Result<bool, StreamError>
+    requires unnamed { job.now.key ≡ None }
+    requires ready { CanCover C.Coverer coverer job.now }
+    ensures outcome { CoversFiles W.Write E.Sink C.Coverer F.Folder
+        coverer job.now result streams.old streams.new }
+    ensures counted { CountsCovers C.Coverer F.Folder
+        coverer job.now result streams.old streams.new counts.old counts.new }
+    ensures read { JobVolume F.Folder job.now result volume.old volume.new streams.old streams.new }
+    ensures most { OnOk result (JobNumbers F.Folder job.now counts.old counts.new
+        volume.old volume.new streams.old streams.new) }
+    ensures flushed { OnOk result (streams.new.output.device.flushed ≡ true) }
+{
+    let pieces = PatternPieces::new(job.replacements);
+    redact_flushed(
+        &mut Covering { coverer, pieces },
+        job,
+        counts,
+        volume,
+        streams,
+    )
+}
+
+/// Redacts all files by covers, with a pseudonym in the place of each run, but for those of numbers that have a text of their own.
+fn cover_named<C: Coverer + Drop, F: Folder, I: Read, W: Write, E: Sink>(
+    coverer: C,
     key: Key<'_>,
     job: &Job<'_, '_, F>,
     counts: &mut [u64],
     volume: &mut Volume,
     streams: &mut Streams<'_, I, W, E>,
 ) -> Result<bool, StreamError>
-    requires ready { CanDo A.Automaton automaton.now job.now }
-    requires covers { job.now.covers ≡ true }
     requires named { job.now.key ≡ Some key }
-    ensures outcome { JobOutcome W.Write E.Sink A.Automaton F.Folder
-        automaton.now job.now result streams.old streams.new }
-    ensures counted { IfOf A.Automaton automaton.now (JobCounts F.Folder job.now
-        result streams.old streams.new counts.old counts.new) }
+    requires ready { CanCover C.Coverer coverer job.now }
+    ensures outcome { CoversFiles W.Write E.Sink C.Coverer F.Folder
+        coverer job.now result streams.old streams.new }
+    ensures counted { CountsCovers C.Coverer F.Folder
+        coverer job.now result streams.old streams.new counts.old counts.new }
     ensures read { JobVolume F.Folder job.now result volume.old volume.new streams.old streams.new }
     ensures most { OnOk result (JobNumbers F.Folder job.now counts.old counts.new
         volume.old volume.new streams.old streams.new) }
     ensures flushed { OnOk result (streams.new.output.device.flushed ≡ true) }
 {
-    let start = StreamCoverStart::new_with(job.alloc, automaton, job.words)?;
     let pieces = Pseudonyms::new(key.bytes, key.ignore_case);
-    let mut way = Naming { start, pieces };
-    redact_flushed(&mut way, job, counts, volume, streams)
+    if job.fixed == 0 {
+        let mut way = Covering { coverer, pieces };
+        return redact_flushed(&mut way, job, counts, volume, streams);
+    }
+    let pieces = NamedPieces {
+        fixed: first_of(job.replacements, job.fixed),
+        pseudonyms: pieces,
+    };
+    redact_flushed(
+        &mut Covering { coverer, pieces },
+        job,
+        counts,
+        volume,
+        streams,
+    )
+}
+
+/// So many of the first texts, or all.
+fn first_of<'s, 't>(texts: &'s [&'t [u8]], count: usize) -> &'s [&'t [u8]] {
+    match texts.get(..count) {
+        Some(first) => first,
+        None => texts,
+    }
 }
 
 /// Redacts all files by matches that share no byte.

@@ -10,30 +10,26 @@ ghost use Rattle.acredact.specs.Back.{AreBoth, IfBackIs};
 ghost use Rattle.acredact.specs.Calls.{IsWrongFailure, IsWrongLine, ReadsAsked};
 ghost use Rattle.acredact.specs.Counts.{zeros};
 ghost use Rattle.acredact.specs.Files.{CanDo};
-ghost use Rattle.acredact.specs.InPlace.{AskedPlaces, CallCounts, CallPlaces, DoubtedPlaces, FreesAll, KeepsEach, KeyedPlaces, KeylessPlaces, LoadedPlaces, NameCounts, NameVolume, PlaceJob, PlacesAll, PlacesCount, PlacesJob, PlacesReach, PlacesTell, SaysOfPlaces, WarnsPlaces};
+ghost use Rattle.acredact.specs.InPlace.{AskedPlaces, CallCounts, CallPlaces, DoubtedPlaces, FreesAll, KeepsEach, LoadedPlaces, NameCounts, NameVolume, PlaceJob, PlacesAll, PlacesCount, PlacesJob, PlacesReach, PlacesTell, SaysOfPlaces, WarnsPlaces};
 ghost use Rattle.acredact.specs.Into.{IsKept, TellsUnread, WarnsAll};
+ghost use Rattle.acredact.specs.Loading.{loaded_of};
 ghost use Rattle.acredact.specs.Pieces.{IfOfAll};
 ghost use Rattle.acredact.specs.Secrets.{IfOf};
 ghost use Rattle.acredact.specs.Tables.{HaveNoEmpty, secrets_of};
 ghost use Rattle.acredact.specs.Totals.{JobCounts};
 ghost use Rattle.acredact.specs.Volumes.{JobVolume};
 
-use crate::arguments::{Item, Mistake, Word, counts, covers, has, items, replaces_in_place};
-use crate::back::back_of;
+use crate::arguments::{Item, Word, has, items, replaces_in_place};
 use crate::clean::{Judge, unclean_of};
-use crate::counts::counts_of;
 use crate::doubts::warn_of_lists;
 use crate::failure::{Failure, tell_no_file, tell_unread};
 use crate::files::{Job, both, is_input};
 use crate::folder::Folder;
-use crate::load::{key_of, lists_of, rules};
-use crate::named::named_rules;
+use crate::load::{Sought, load};
 use crate::outputs::Outputs;
-use crate::patterns::{Rule, patterns_of, replacements_of};
-use crate::rows::build;
-use crate::run::{
-    FAILED, gives_pattern, key_by, name_key, names, redact_by, report, tell_counted, text_of, warn,
-};
+use crate::ready::{Ready, Texts, job_of, judge_of};
+use crate::rule_counts::tally_of;
+use crate::run::{FAILED, redact_by, report, tell_counted, warn};
 use crate::streams::Streams;
 use crate::summary::Volume;
 use aho_automaton::automaton::Automaton;
@@ -42,7 +38,6 @@ use aho_core::error::StreamError;
 use aho_devices::adapters::FromWrite;
 use aho_devices::device::Sink;
 use programs::errors::Errors;
-use programs::rows::rows_of;
 use std::alloc::Global;
 use std::io::Read;
 
@@ -136,69 +131,10 @@ fn load_places<'a, F: Folder, O: Outputs, I: Read, E: Sink>(
     ensures outcome { AskedPlaces O.File.Write E.Sink F.Folder O.Outputs
         folder.now given.now result outputs.old outputs.new streams.old streams.new }
 {
-    if !gives_pattern(given) {
-        return Err(Failure::Arguments(Mistake::NoPattern));
-    }
-    let lists = lists_of(alloc, given, folder);
-    match rules(&lists, given, &mut streams.input) {
-        Ok(rules) => load_key(alloc, given, rules.as_slice(), folder, outputs, streams),
+    match load(alloc, given, folder, &mut streams.input) {
+        Ok(sought) => place_loaded(alloc, given, &sought, folder, outputs, streams),
         Err(failure) => Err(failure),
     }
-}
-
-/// Loads the key of pseudonyms, where they are asked for, replaces each file by it and these rules, and answers whether all were
-/// replaced.
-fn load_key<'a, F: Folder, O: Outputs, I: Read, E: Sink>(
-    alloc: Global,
-    given: &[Item<'a>],
-    rules: &[Rule],
-    folder: &F,
-    outputs: &mut O,
-    streams: &mut Streams<'_, I, O::File, E>,
-) -> Result<bool, Failure<'a>>
-    requires some { HaveNoEmpty (secrets_of rules.now) }
-    ensures outcome { KeylessPlaces O.File.Write E.Sink F.Folder O.Outputs
-        folder.now given.now rules.now result outputs.old outputs.new streams.old streams.new }
-{
-    let lists = lists_of(alloc, given, folder);
-    match key_of(&lists, given, &mut streams.input) {
-        Ok(Some(key)) => {
-            let key = key.as_slice();
-            place_by_key(alloc, given, rules, key, folder, outputs, streams)
-        }
-        Ok(None) => place_loaded(alloc, given, rules, None, folder, outputs, streams),
-        Err(failure) => Err(failure),
-    }
-}
-
-/// Replaces each file by these rules and this key, and answers whether all were replaced. Where forms are asked for, each form has the
-/// pseudonym of its secret.
-fn place_by_key<'a, F: Folder, O: Outputs, I: Read, E: Sink>(
-    alloc: Global,
-    given: &[Item<'a>],
-    rules: &[Rule],
-    key: &[u8],
-    folder: &F,
-    outputs: &mut O,
-    streams: &mut Streams<'_, I, O::File, E>,
-) -> Result<bool, Failure<'a>>
-    requires some { HaveNoEmpty (secrets_of rules.now) }
-    ensures outcome { KeyedPlaces O.File.Write E.Sink F.Folder O.Outputs
-        folder.now given.now rules.now key.now result outputs.old outputs.new streams.old streams.new }
-{
-    if !has(given, Word::Forms) {
-        return place_loaded(alloc, given, rules, Some(key), folder, outputs, streams);
-    }
-    let named = named_rules(alloc, rules, name_key(given, key))?;
-    place_loaded(
-        alloc,
-        given,
-        named.as_slice(),
-        None,
-        folder,
-        outputs,
-        streams,
-    )
 }
 
 /// Tells of doubtful patterns of lists, or refuses the first, replaces each file by these rules, and answers whether all were
@@ -206,19 +142,18 @@ fn place_by_key<'a, F: Folder, O: Outputs, I: Read, E: Sink>(
 fn place_loaded<'a, F: Folder, O: Outputs, I: Read, E: Sink>(
     alloc: Global,
     given: &[Item<'a>],
-    rules: &[Rule],
-    key: Option<&[u8]>,
+    sought: &Sought,
     folder: &F,
     outputs: &mut O,
     streams: &mut Streams<'_, I, O::File, E>,
 ) -> Result<bool, Failure<'a>>
-    requires some { HaveNoEmpty (secrets_of rules.now) }
+    requires some { HaveNoEmpty (secrets_of sought.now.rules.items) }
     ensures outcome { LoadedPlaces O.File.Write E.Sink F.Folder O.Outputs
-        folder.now given.now rules.now key.entry result outputs.old outputs.new streams.old streams.new }
+        folder.now given.now (loaded_of sought.now) result outputs.old outputs.new streams.old streams.new }
 {
     let strict = has(given, Word::Strict);
-    match warn_of_lists(&mut streams.errors, given, rules, strict) {
-        Ok(()) => place_counted(alloc, given, rules, key, folder, outputs, streams),
+    match warn_of_lists(&mut streams.errors, given, sought.rules.as_slice(), strict) {
+        Ok(()) => place_counted(alloc, given, sought, folder, outputs, streams),
         Err(failure) => Err(failure),
     }
 }
@@ -227,23 +162,20 @@ fn place_loaded<'a, F: Folder, O: Outputs, I: Read, E: Sink>(
 fn place_counted<'a, F: Folder, O: Outputs, I: Read, E: Sink>(
     alloc: Global,
     given: &[Item<'_>],
-    rules: &[Rule],
-    key: Option<&[u8]>,
+    sought: &Sought,
     folder: &F,
     outputs: &mut O,
     streams: &mut Streams<'_, I, O::File, E>,
 ) -> Result<bool, Failure<'a>>
-    requires some { HaveNoEmpty (secrets_of rules.now) }
+    requires some { HaveNoEmpty (secrets_of sought.now.rules.items) }
     ensures outcome { DoubtedPlaces O.File.Write E.Sink F.Folder O.Outputs
-        folder.now given.now rules.now key.entry result outputs.old outputs.new streams.old streams.new }
+        folder.now given.now (loaded_of sought.now) result outputs.old outputs.new streams.old streams.new }
 {
-    let counted = counts(given);
-    let mut tally = counts_of(alloc, rules, counted)?;
+    let mut tally = tally_of(alloc, given, sought)?;
     place_telling(
         alloc,
         given,
-        rules,
-        key,
+        sought,
         folder,
         tally.as_mut_slice(),
         outputs,
@@ -256,32 +188,38 @@ fn place_counted<'a, F: Folder, O: Outputs, I: Read, E: Sink>(
 fn place_telling<'a, F: Folder, O: Outputs, I: Read, E: Sink>(
     alloc: Global,
     given: &[Item<'_>],
-    rules: &[Rule],
-    key: Option<&[u8]>,
+    sought: &Sought,
     folder: &F,
     tally: &mut [u64],
     outputs: &mut O,
     streams: &mut Streams<'_, I, O::File, E>,
 ) -> Result<bool, Failure<'a>>
-    requires some { HaveNoEmpty (secrets_of rules.now) }
-    requires none { tally.old ≡ zeros (counts_given given.now) rules.now }
+    requires some { HaveNoEmpty (secrets_of sought.now.rules.items) }
+    requires none { tally.old ≡ zeros (counts_given given.now) sought.now.rules.items }
     ensures outcome { DoubtedPlaces O.File.Write E.Sink F.Folder O.Outputs
-        folder.now given.now rules.now key.entry result outputs.old outputs.new streams.old streams.new }
+        folder.now given.now (loaded_of sought.now) result outputs.old outputs.new streams.old streams.new }
 {
     let mut volume = Volume { files: 0, bytes: 0 };
     // Not by `?`: this error may hold names.
     match place_all(
         alloc,
         given,
-        rules,
-        key,
+        sought,
         folder,
         tally,
         &mut volume,
         outputs,
         streams,
     ) {
-        Ok(all) => tell_counted(alloc, all, given, rules, tally, volume, &mut streams.errors),
+        Ok(all) => tell_counted(
+            alloc,
+            all,
+            given,
+            sought,
+            tally,
+            volume,
+            &mut streams.errors,
+        ),
         Err(failure) => Err(failure),
     }
 }
@@ -290,55 +228,32 @@ fn place_telling<'a, F: Folder, O: Outputs, I: Read, E: Sink>(
 fn place_all<'a, F: Folder, O: Outputs, I: Read, E: Sink>(
     alloc: Global,
     given: &[Item<'_>],
-    rules: &[Rule],
-    key: Option<&[u8]>,
+    sought: &Sought,
     folder: &F,
     counts: &mut [u64],
     volume: &mut Volume,
     outputs: &mut O,
     streams: &mut Streams<'_, I, O::File, E>,
 ) -> Result<bool, Failure<'a>>
-    requires some { HaveNoEmpty (secrets_of rules.now) }
+    requires some { HaveNoEmpty (secrets_of sought.now.rules.items) }
     ensures outcome { CallPlaces O.File.Write E.Sink F.Folder O.Outputs
-        folder.now given.now rules.now key.entry result outputs.old outputs.new streams.old streams.new }
+        folder.now given.now (loaded_of sought.now) result outputs.old outputs.new streams.old streams.new }
     ensures counted { CallCounts F.Folder
-        folder.now given.now rules.now key.entry result streams.old streams.new counts.old counts.new }
+        folder.now given.now (loaded_of sought.now) result streams.old streams.new counts.old counts.new }
     ensures read { result ≡ Ok true → ReadsAsked (F.holds folder.now) (all_given given.now)
         volume.old volume.new streams.old streams.new }
 {
-    let patterns = patterns_of(alloc, rules)?;
-    let text = text_of(given);
-    let replacements = replacements_of(alloc, rules, text)?;
-    let names = names(alloc, given)?;
-    let words = patterns.as_slice();
-    let nfa = build(alloc, given, words)?;
-    let ignore_case = has(given, Word::IgnoreCase);
-    let only_words = has(given, Word::AsWord);
-    let rows = rows_of(alloc, &nfa, ignore_case, words)?;
-    let back = back_of(alloc, given, words, &nfa)?;
-    let job = Job {
-        alloc,
-        folder,
-        names: names.as_slice(),
-        replacements: replacements.as_slice(),
-        key: key_by(key, ignore_case),
-        covers: covers(given),
-        words: only_words,
-    };
-    let judge = Judge {
-        words,
-        ignore_case,
-        rules,
-        usual: text,
-    };
-    let strict = has(given, Word::Strict);
+    let ready = Ready::new(alloc, given, sought)?;
+    let texts = Texts::new(alloc, given, sought, &ready)?;
+    let job = job_of(alloc, given, sought, &ready, &texts, folder);
+    let judge = judge_of(given, sought, &ready, &texts);
     place_warned(
-        &nfa,
-        rows.as_ref(),
-        back.as_ref(),
+        &ready.nfa,
+        ready.rows.as_ref(),
+        texts.back.as_ref(),
         &job,
         &judge,
-        strict,
+        has(given, Word::Strict),
         counts,
         volume,
         outputs,

@@ -1,13 +1,13 @@
 //! The rules of all patterns, files and tables that are given.
 
-ghost use Rattle.std.specs.Prelude.{◌≡◌, ℕ, List, Option, Some, IfErr, IfOk, OnOk, false};
+ghost use Rattle.std.specs.Prelude.{◌≡◌, ℕ, List, None, Option, Some, IfErr, IfOk, OnOk, false, ⊥};
 ghost use Rattle.aho_core.specs.Replacement.{pieces_of};
 ghost use Rattle.aho_devices.specs.Counts.{counted};
 ghost use Rattle.programs.specs.Streams.{bytes_left};
-ghost use Rattle.acredact.specs.Arguments.{all_given, given_of};
+ghost use Rattle.acredact.specs.Arguments.{GivesNoPattern, all_given, given_of};
 ghost use Rattle.acredact.specs.Calls.{rules_asked};
 ghost use Rattle.acredact.specs.Forms.{HaveForms, forms_asked};
-ghost use Rattle.acredact.specs.Loading.{AddsFile, AddsItem, AddsList, CannotLoad, CannotLoadAll, CannotLoadKey, CannotLoadOne, CannotRead, GivesEnvironment, GivesRules, GivesValues, HoldsSecrets, HoldsVariables, HoldsWhole, IsEnvironmentFailure, IsFileFailure, IsKeyFailure, IsListedFailure, IsValuesFailure, IsVariablesFailure, IsWholeFailure, IsPatternFailure, IsTextFailure, IsTextReason, LoadsKey, ReadsKey, ReadsList, ReadsRules, form_by, is_failed_text, reading_of_lists, rules_for};
+ghost use Rattle.acredact.specs.Loading.{GivesSought, IsKeyedBy, LoadsLines, LoadsSought, loaded_of, loaded_with, AddsFile, AddsItem, AddsList, CannotLoad, CannotLoadAll, CannotLoadKey, CannotLoadOne, CannotRead, GivesEnvironment, GivesRules, GivesValues, HoldsSecrets, HoldsVariables, HoldsWhole, IsEnvironmentFailure, IsFileFailure, IsKeyFailure, IsListedFailure, IsValuesFailure, IsVariablesFailure, IsWholeFailure, IsPatternFailure, IsTextFailure, IsTextReason, LoadsKey, ReadsKey, ReadsList, ReadsRules, form_by, is_failed_text, reading_of_lists, rules_for};
 ghost use Rattle.acredact.specs.Parts.{AddsSome, ArePartsBy, GivesPattern};
 ghost use Rattle.acredact.specs.Reads.{ReadsText};
 ghost use Rattle.acredact.specs.Values.{GiveEach, GivesValue};
@@ -15,19 +15,22 @@ ghost use Rattle.acredact.specs.declared.failure.Failure.TheVariants.{Other, Pat
 ghost use Rattle.programs.specs.declared.failure.Failure.TheVariants.{OutOfMemory as OutOfMemoryFailure};
 ghost use Rattle.acredact.specs.declared.patterns.LineFault.TheVariants.{OutOfMemory};
 
-use crate::arguments::{Item, Word, covers, has, last_value};
+use crate::arguments::{Item, Mistake, Word, covers, has, last_value};
 use crate::failure::Failure;
 use crate::files::is_input;
 use crate::folder::Folder;
 use crate::forms::add_forms;
+use crate::line_rules::{LineRules, line_rules_of};
+use crate::named::named_rules;
 use crate::parts::add_parts;
 use crate::patterns::{BadLine, Form, LineFault, Place, Rule, add_line, add_lines, mark_of};
+use crate::run::{gives_pattern, name_key};
 use crate::values::{are_refused, first_fault, values_in_text, values_of_entries, whole_in};
 use aho_devices::adapters::FromRead;
 use aho_devices::device::Source;
 use programs::failure;
 use programs::reason::Reason;
-use std::alloc::Global;
+use std::alloc::{AllocError, Global};
 use std::io::Read;
 
 /// How many bytes of a list are read at once.
@@ -67,7 +70,7 @@ pub struct Lists<'f, 'v, F> {
 }
 
 /// How the files of patterns and tables are read that are given.
-pub fn lists_of<'f, 'v, F>(alloc: Global, given: &[Item<'v>], folder: &'f F) -> Lists<'f, 'v, F>
+fn lists_of<'f, 'v, F>(alloc: Global, given: &[Item<'v>], folder: &'f F) -> Lists<'f, 'v, F>
     ensures folder { result.folder.now ≡ folder.now }
     ensures rules { rules_for result ≡ rules_asked (all_given given.now) }
 {
@@ -81,12 +84,149 @@ pub fn lists_of<'f, 'v, F>(alloc: Global, given: &[Item<'v>], folder: &'f F) -> 
     }
 }
 
+/// What is sought in files, and what is written in its place.
+#[derive(Drop)]
+pub struct Sought {
+    /// The rules of all patterns. Where forms are asked for and a key is given, these are named by it.
+    pub rules: Vec<Rule>,
+    /// The key by which the text of each run is made of its bytes, where it is.
+    pub key: Option<Vec<u8>>,
+    /// How many of the first patterns have a text of their own all the same: the pseudonym of their secret.
+    pub fixed: usize,
+    /// The rules by which lines are covered, if some are given.
+    pub lines: Option<LineRules>,
+}
+
+/// Loads all patterns and then all rules, and no key: what a check seeks.
+///
+/// # Errors
+///
+/// No option gives a pattern or a rule. Or as `rules` and `line_rules_of`.
+pub fn load_patterns<'a, F: Folder, I: Read>(
+    alloc: Global,
+    given: &[Item<'a>],
+    folder: &F,
+    input: &mut FromRead<I>,
+) -> Result<Sought, Failure<'a>>
+    ensures patternless { GivesNoPattern (all_given given.now) → OnOk result ⊥ }
+    ensures unread { GivesNoPattern (all_given given.now) → input.new ≡ input.old }
+    ensures given { IfOk result (λ sought. GivesSought F.Folder
+        folder.now given.now sought input.old input.new) }
+    ensures keyless { IfOk result (λ sought. sought.key ≡ None) }
+{
+    if !gives_pattern(given) {
+        return Err(Failure::Arguments(Mistake::NoPattern));
+    }
+    let lists = lists_of(alloc, given, folder);
+    match rules(&lists, given, input) {
+        Ok(rules) => with_lines(&lists, given, rules, input),
+        Err(failure) => Err(failure),
+    }
+}
+
+/// These patterns with the rules by which lines are covered, if some are given.
+fn with_lines<'a, F: Folder, I: Read>(
+    lists: &Lists<'_, '_, F>,
+    given: &[Item<'a>],
+    rules: Vec<Rule>,
+    input: &mut FromRead<I>,
+) -> Result<Sought, Failure<'a>>
+    ensures lines { IfOk result (λ sought.
+        LoadsLines F.Folder lists.now (all_given given.now) sought.lines input.old input.new) }
+    ensures rules { IfOk result (λ sought. sought.rules ≡ rules) }
+    ensures keyless { IfOk result (λ sought. sought.key ≡ None) }
+{
+    match line_rules_of(lists, given, input) {
+        Ok(lines) => Ok(Sought {
+            rules,
+            key: None,
+            fixed: 0,
+            lines,
+        }),
+        Err(failure) => Err(failure),
+    }
+}
+
+/// Loads all patterns and rules, and then the key of pseudonyms, where they are asked for.
+///
+/// # Errors
+///
+/// As `load_patterns` and `key_of`.
+pub fn load<'a, F: Folder, I: Read>(
+    alloc: Global,
+    given: &[Item<'a>],
+    folder: &F,
+    input: &mut FromRead<I>,
+) -> Result<Sought, Failure<'a>>
+    ensures patternless { GivesNoPattern (all_given given.now) → OnOk result ⊥ }
+    ensures unread { GivesNoPattern (all_given given.now) → input.new ≡ input.old }
+    ensures loaded { IfOk result (λ sought. LoadsSought F.Folder
+        folder.now given.now sought input.old input.new) }
+{
+    match load_patterns(alloc, given, folder, input) {
+        Ok(sought) => with_key(alloc, given, sought, folder, input),
+        Err(failure) => Err(failure),
+    }
+}
+
+/// These patterns with the key of pseudonyms, where they are asked for.
+fn with_key<'a, F: Folder, I: Read>(
+    alloc: Global,
+    given: &[Item<'a>],
+    sought: Sought,
+    folder: &F,
+    input: &mut FromRead<I>,
+) -> Result<Sought, Failure<'a>>
+    requires keyless { sought.key ≡ None }
+    ensures loaded { IfOk result (λ all. IsKeyedBy F.Folder
+        folder.now given.now sought.entry all input.old input.new) }
+{
+    let lists = lists_of(alloc, given, folder);
+    match key_of(&lists, given, input) {
+        Ok(Some(key)) => Ok(named_by(alloc, given, sought, key)?),
+        Ok(None) => Ok(sought),
+        Err(failure) => Err(failure),
+    }
+}
+
+/// These patterns with a key: that of each run, or where forms are asked for that by which each pattern and its forms have the pseudonym
+/// of the secret, and runs of rules that of their bytes.
+fn named_by(
+    alloc: Global,
+    given: &[Item<'_>],
+    sought: Sought,
+    key: Vec<u8>,
+) -> Result<Sought, AllocError>
+    ensures named { IfOk result (λ all. loaded_of all
+        ≡ loaded_with given.now sought.entry key.entry.items) }
+    ensures lines { IfOk result (λ all. all.lines ≡ sought.entry.lines) }
+{
+    let Sought { rules, lines, .. } = sought;
+    if !has(given, Word::Forms) {
+        return Ok(Sought {
+            rules,
+            key: Some(key),
+            fixed: 0,
+            lines,
+        });
+    }
+    let named = named_rules(alloc, rules.as_slice(), name_key(given, key.as_slice()))?;
+    let fixed = named.len();
+    let key = if lines.is_some() { Some(key) } else { None };
+    Ok(Sought {
+        rules: named,
+        key,
+        fixed,
+        lines,
+    })
+}
+
 /// The rules of all patterns, files of patterns and tables that are given, in order, and then of their forms.
 ///
 /// # Errors
 ///
 /// The first pattern, file or line that gives no rule, with the reason; or memory runs out.
-pub fn rules<'a, F: Folder, I: Read>(
+fn rules<'a, F: Folder, I: Read>(
     lists: &Lists<'_, '_, F>,
     items: &[Item<'a>],
     input: &mut FromRead<I>,
@@ -158,7 +298,7 @@ fn read_rules<'a, F: Folder, I: Read>(
 /// # Errors
 ///
 /// Its file cannot be read, or is empty.
-pub fn key_of<'a, F: Folder, I: Read>(
+fn key_of<'a, F: Folder, I: Read>(
     lists: &Lists<'_, '_, F>,
     items: &[Item<'a>],
     input: &mut FromRead<I>,
@@ -446,7 +586,7 @@ fn add_lines_of<'a, F>(
 }
 
 /// All bytes of a file, or of the input.
-fn read_list<F: Folder, I: Read>(
+pub fn read_list<F: Folder, I: Read>(
     lists: &Lists<'_, '_, F>,
     name: &str,
     input: &mut FromRead<I>,

@@ -8,10 +8,10 @@ ghost use Rattle.aho_stream.specs.FindRuns.{FindsAlong};
 ghost use Rattle.aho_stream.specs.Iterators.{CanGoOn, automaton_of};
 ghost use Rattle.programs.specs.Streams.{bytes_left};
 ghost use Rattle.programs.specs.Telling.{TellsBytes};
-ghost use Rattle.acredact.specs.Checks.{IsLookOf, SeesSearched, look_lines, quest_of};
+ghost use Rattle.acredact.specs.Checks.{IfSought, IsLookOf, SeesSearchedFor, look_lines, quest_for};
 ghost use Rattle.acredact.specs.Faults.{IsReadReason};
 ghost use Rattle.acredact.specs.Looks.{CanLook, IsLook, IsLookEnd, LooksAt, is_failed_look, is_unread_look, look_of, sought, verdict_with};
-ghost use Rattle.acredact.specs.Secrets.{IfOf};
+ghost use Rattle.acredact.specs.Secrets.{IfOf, Redactor};
 
 use crate::failure::tell_unread;
 use crate::files::is_input;
@@ -64,20 +64,66 @@ pub struct Searched<'s, 't, F> {
     pub words: bool,
 }
 
-/// Looks at all files, and tells each that cannot be read. Each is read up to the first match at most, or where words alone count to its
-/// end.
+/// What looks at streams, one after another.
+pub trait Looker {
+    /// What counts for it.
+    ghost seeks: { Self → Redactor → Type 0 };
+
+    /// Whether something counts in what the source gives, the file of this name. It may tell where.
+    ///
+    /// # Errors
+    ///
+    /// `Read` exactly where a read fails, `PositionLimit` where the source gave 2^63 - 1 bytes, and `Memory`.
+    fn counts_in<R: Source, E: Sink>(
+        &mut self,
+        name: &str,
+        source: &mut R,
+        errors: &mut Errors<'_, E>,
+    ) -> Result<bool, StreamError>
+        requires ready { (r : Redactor) × seeks self.old r }
+        ensures looks { (r : Redactor) → seeks self.old r → LooksAt R.Source r result source.old source.new }
+        ensures still { (r : Redactor) → seeks self.old r → seeks self.new r };
+}
+
+/// What looks for what occurs of patterns, or for words.
+#[derive(Clone, Copy)]
+pub struct Finding<'s, A> {
+    /// What memory is taken from.
+    pub alloc: Global,
+    /// What searches.
+    pub automaton: &'s A,
+    /// Whether words alone count.
+    pub words: bool,
+}
+
+impl<A: Automaton> Looker for Finding<'_, A> {
+    ghost use Rattle.acredact.specs.Looks.{IsFindingFor};
+
+    ghost seeks = { λ finding r. IsFindingFor A.Automaton finding.automaton.now finding.words r };
+
+    fn counts_in<R: Source, E: Sink>(
+        &mut self,
+        _name: &str,
+        source: &mut R,
+        _errors: &mut Errors<'_, E>,
+    ) -> Result<bool, StreamError> {
+        counts_in(self.alloc, self.automaton, self.words, source)
+    }
+}
+
+/// Looks at all files, and tells each that cannot be read.
 ///
 /// # Errors
 ///
 /// The error says that memory ran out.
-pub fn look_at_files<A: Automaton, F: Folder, I: Read, E: Sink>(
-    automaton: &A,
+pub fn look_at_files<X: Looker, F: Folder, I: Read, E: Sink>(
+    looker: &mut X,
     files: &Searched<'_, '_, F>,
     input: &mut FromRead<I>,
     errors: &mut Errors<'_, E>,
 ) -> Result<Verdict, AllocError>
-    requires ready { CanLook A.Automaton automaton.now files.now.words }
-    ensures sees { IfOf A.Automaton automaton.now (λ p. SeesSearched E.Sink F.Folder files.now p
+    requires ready { (r : Redactor) × X.seeks looker.old r }
+    ensures sees { IfSought X.Looker looker.old (λ r. SeesSearchedFor E.Sink F.Folder files.now r
         result input.old input.new errors.old errors.new) }
 {
     let mut verdict = Verdict {
@@ -86,7 +132,7 @@ pub fn look_at_files<A: Automaton, F: Folder, I: Read, E: Sink>(
     };
     let mut rest = files.names;
     while !rest.is_empty() {
-        let look = look_at_file(automaton, files, rest[0], input)?;
+        let look = look_at_file(looker, files, rest[0], input, errors)?;
         tell_look(errors, rest[0], look);
         verdict = verdict_with(verdict, look);
         rest = &rest[1..];
@@ -122,56 +168,60 @@ fn tell_look<E: Sink>(errors: &mut Errors<'_, E>, name: &str, look: Look)
 }
 
 /// Looks at a file.
-fn look_at_file<A: Automaton, F: Folder, I: Read>(
-    automaton: &A,
+fn look_at_file<X: Looker, F: Folder, I: Read, E: Sink>(
+    looker: &mut X,
     files: &Searched<'_, '_, F>,
     name: &str,
     input: &mut FromRead<I>,
+    errors: &mut Errors<'_, E>,
 ) -> Result<Look, AllocError>
-    requires ready { CanLook A.Automaton automaton.now files.now.words }
-    ensures looks { IfOf A.Automaton automaton.now (λ p. IfOk result (λ look.
-        IsLookOf (quest_of F.Folder files.now.folder.now files.now.words p) name.now look
+    requires ready { (r : Redactor) × X.seeks looker.old r }
+    ensures looks { IfSought X.Looker looker.old (λ r. IfOk result (λ look.
+        IsLookOf (quest_for F.Folder files.now.folder.now r) name.now look
         (bytes_left input.old) (bytes_left input.new))) }
+    ensures still { IfSought X.Looker looker.old (X.seeks looker.new) }
 {
     if is_input(name) {
-        return look_at_input(files.alloc, automaton, files.words, input);
+        return look_at_input(looker, name, input, errors);
     }
     match files.folder.open(name) {
-        Ok(file) => look_at_opened(files.alloc, automaton, files.words, file),
+        Ok(file) => look_at_opened(looker, name, file, errors),
         Err(reason) => Ok(Look::Unread(reason)),
     }
 }
 
 /// Looks at what a reader gives.
-fn look_at_opened<A: Automaton, I: Read + Drop>(
-    alloc: Global,
-    automaton: &A,
-    words: bool,
+fn look_at_opened<X: Looker, I: Read + Drop, E: Sink>(
+    looker: &mut X,
+    name: &str,
     reader: I,
+    errors: &mut Errors<'_, E>,
 ) -> Result<Look, AllocError>
-    requires ready { CanLook A.Automaton automaton.now words }
-    ensures looks { IfOf A.Automaton automaton.now (λ p. IfOk result (λ look.
-        (rest : Option (List ℕ)) × IsLook (sought p words) IsReadReason look (I.remaining reader) rest)) }
+    requires ready { (r : Redactor) × X.seeks looker.old r }
+    ensures looks { IfSought X.Looker looker.old (λ r. IfOk result (λ look.
+        (rest : Option (List ℕ)) × IsLook r IsReadReason look (I.remaining reader) rest)) }
+    ensures still { IfSought X.Looker looker.old (X.seeks looker.new) }
 {
     let mut source = FromRead::new(reader);
-    look_at_input(alloc, automaton, words, &mut source)
+    look_at_input(looker, name, &mut source, errors)
 }
 
 /// Looks at what the input gives.
-fn look_at_input<A: Automaton, I: Read>(
-    alloc: Global,
-    automaton: &A,
-    words: bool,
+fn look_at_input<X: Looker, I: Read, E: Sink>(
+    looker: &mut X,
+    name: &str,
     input: &mut FromRead<I>,
+    errors: &mut Errors<'_, E>,
 ) -> Result<Look, AllocError>
-    requires ready { CanLook A.Automaton automaton.now words }
-    ensures looks { IfOf A.Automaton automaton.now (λ p. IfOk result (λ look.
-        IsLook (sought p words) IsReadReason look (bytes_left input.old) (bytes_left input.new))) }
+    requires ready { (r : Redactor) × X.seeks looker.old r }
+    ensures looks { IfSought X.Looker looker.old (λ r. IfOk result (λ look.
+        IsLook r IsReadReason look (bytes_left input.old) (bytes_left input.new))) }
+    ensures still { IfSought X.Looker looker.old (X.seeks looker.new) }
     // A read fault is answered exactly where a read failed.
     ensures failed { input.new.failures ≡ counted (is_failed_look result) input.old.failures }
 {
     input.restart();
-    look_of(counts_in(alloc, automaton, words, input))
+    look_of(looker.counts_in(name, input, errors))
 }
 
 /// What a file is found to be, by what is answered of its stream.
@@ -233,7 +283,7 @@ fn stands_in<A: Automaton, R: Source>(
 }
 
 /// Whether some count is not zero.
-fn is_some_counted(counts: &[u64]) -> bool
+pub fn is_some_counted(counts: &[u64]) -> bool
     ensures some { result ≡ true → (number : ℕ) × (number < length counts.now)
         × (1 ≤ slice_index counts.now number) }
     ensures none { result ≡ false → (number : ℕ) → number < length counts.now

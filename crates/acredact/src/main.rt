@@ -1,4 +1,4 @@
-//! `acredact [-i] [--kind KIND] (-e PATTERN | -f FILE | -t TABLE | --env NAME | --env-file FILE | --whole FILE).. [--with TEXT | --pseudonym KEYFILE] [--output FILE | --in-place] [--count] [--summary] [--check] [FILE]..` writes each FILE with a
+//! `acredact [-i] [--kind KIND] (-e PATTERN | -f FILE | -t TABLE | --env NAME | --env-file FILE | --whole FILE | --rules FILE | --after KEYWORD).. [--with TEXT | --pseudonym KEYFILE] [--output FILE | --in-place] [--count] [--summary] [--check] [FILE]..` writes each FILE with a
 //! text in the place of each match of some patterns: `[redacted]`, TEXT, the pattern's own of a TABLE, or a pseudonym by the key of
 //! KEYFILE. No FILE, or `-`, is standard
 //! input.
@@ -11,6 +11,7 @@
 mod apart;
 mod arguments;
 mod back;
+mod bad_rule;
 mod beside;
 mod check;
 mod clean;
@@ -26,16 +27,22 @@ mod help;
 mod in_place;
 mod into;
 mod left;
+mod line_ends;
+mod line_look;
+mod line_rules;
 mod load;
 mod long;
 mod look;
 mod meter;
 mod named;
+mod named_pieces;
 mod outputs;
 mod parts;
 mod patterns;
+mod ready;
 mod redact;
 mod rows;
+mod rule_counts;
 mod run;
 mod seen;
 mod short;

@@ -69,6 +69,8 @@ pub enum LineFault {
     NoEquals,
     /// The value of a variable is empty.
     EmptyValue,
+    /// It is not UTF-8, as TOML is.
+    NotText,
     /// Memory runs out.
     OutOfMemory,
 }

@@ -1,6 +1,6 @@
 //! The redaction of one stream.
 
-ghost use Rattle.std.specs.Prelude.{◌≡◌, ◌∷◌, [], OnOk, false, slice_index_or, true};
+ghost use Rattle.std.specs.Prelude.{◌≡◌, ◌∷◌, [], OnOk, false, slice_index_or};
 ghost use Rattle.aho_core.specs.Patterns.{Patterns};
 ghost use Rattle.aho_core.specs.Replacement.{pieces_of};
 ghost use Rattle.aho_cover.specs.Counting.{CountsThese};
@@ -14,7 +14,7 @@ ghost use Rattle.acredact.specs.Ways.{IfCoverer};
 use aho_automaton::automaton::Automaton;
 use aho_core::error::StreamError;
 use aho_core::search::Match;
-use aho_cover::pieces::{PatternPieces, Pieces};
+use aho_cover::pieces::Pieces;
 use aho_cover::start::StreamCoverStart;
 use aho_cover::stream::cover_with;
 use aho_devices::device::{Sink, Source};
@@ -22,44 +22,16 @@ use aho_devices::write::write_whole;
 use aho_stream::replace::{try_stream_replace_all, try_stream_replace_all_with_mut};
 use std::alloc::Global;
 
-/// Writes what the source gives to the sink, but in the place of each run of bytes that lie in matches the replacement of the
-/// longest that begins with the run. The start says whether only words count: matches beside which no letter, digit or `_` stands.
-/// The runs of each pattern that has a count are counted.
+/// Writes what the source gives to the sink, but in the place of each run of bytes that lie in matches the piece that is made of it. The
+/// start says whether only words count: matches beside which no letter, digit or `_` stands. The runs of each pattern that has a count
+/// are counted, each for the longest that begins with it.
 ///
 /// It takes no memory but that of the start, which is then as before.
 ///
 /// # Errors
 ///
 /// As `redact`, but for `Memory`.
-pub fn cover<A: Automaton, R: Source, W: Sink>(
-    start: &mut StreamCoverStart<'_, A>,
-    replacements: &[&[u8]],
-    counts: &mut [u64],
-    source: &mut R,
-    sink: &mut W,
-) -> Result<(), StreamError>
-    requires ready { CanRedact A.Automaton start.old.automaton.now true replacements.now }
-    requires unbegun { IsUnbegunWith start.old.progress.words A.Automaton
-        start.old.automaton.now start.old.progress }
-    ensures outcome { ComesOf A.Automaton R.Source W.Sink start.old.automaton.now true
-        start.old.progress.words replacements.now result source.old source.new sink.old sink.new }
-    ensures counted { CountsBy A.Automaton R.Source start.old.automaton.now true
-        start.old.progress.words replacements.now result source.old source.new counts.old counts.new }
-    ensures most { Bounded R.Source source.old source.new counts.old counts.new }
-    ensures same { start.new.automaton.now ≡ start.old.automaton.now }
-    ensures unbegun { IsUnbegunWith start.old.progress.words A.Automaton
-        start.new.automaton.now start.new.progress }
-{
-    let mut pieces = PatternPieces::new(replacements);
-    cover_with(start, source, sink, &mut pieces, counts)
-}
-
-/// The same, where the text in the place of each run is made of its bytes.
-///
-/// # Errors
-///
-/// As `cover`.
-pub fn cover_by_pieces<A: Automaton, R: Source, W: Sink, P: Pieces>(
+pub fn cover<A: Automaton, R: Source, W: Sink, P: Pieces>(
     start: &mut StreamCoverStart<'_, A>,
     pieces: &mut P,
     counts: &mut [u64],

@@ -1,6 +1,6 @@
 //! A call of the program over its arguments, files and streams.
 
-ghost use Rattle.std.specs.Prelude.{◌≡◌, ◌++◌, ◌⊎◌, ◌<◌, ◌≤◌, ℕ, List, IfErr, IfOk, IfSome, Ok, OnErr, OnOk, Some, false, length, option_map, true};
+ghost use Rattle.std.specs.Prelude.{◌≡◌, ◌++◌, ◌⊎◌, ◌<◌, ◌≤◌, ℕ, List, IfErr, IfOk, IfSome, Ok, OnErr, OnOk, Some, false, length, option_map, true, ⊥};
 ghost use Rattle.aho_core.specs.Replacement.{pieces_of};
 ghost use Rattle.programs.specs.Arguments.{texts};
 ghost use Rattle.programs.specs.Names.{name_bytes};
@@ -14,7 +14,7 @@ ghost use Rattle.acredact.specs.Checks.{MatchedAsked, SaysOfCheck, TellsListsAsk
 ghost use Rattle.acredact.specs.Counts.{PutsText, lines_of_rules, secret_lines, zeros};
 ghost use Rattle.acredact.specs.Failures.{IsFailureLine};
 ghost use Rattle.acredact.specs.Files.{CanDo, keyed_of};
-ghost use Rattle.acredact.specs.Loading.{key_lent, loaded_as};
+ghost use Rattle.acredact.specs.Loading.{key_lent, loaded_of};
 ghost use Rattle.acredact.specs.Pieces.{IfOfAll, TellsUnclean, pieces_by};
 ghost use Rattle.acredact.specs.Secrets.{IfOf};
 ghost use Rattle.acredact.specs.Statuses.{IsIdle, SaysOfRedaction};
@@ -27,22 +27,18 @@ ghost use Rattle.acredact.specs.declared.clean.Unclean.{Unclean};
 ghost use Rattle.acredact.specs.declared.failure.Failure.TheVariants.{Unclean as UncleanPiece};
 ghost use Rattle.acredact.specs.declared.arguments.Word.TheVariants.{Forms, IgnoreCase, Strict};
 
-use crate::arguments::{
-    Item, Mistake, Word, checks, counts, covers, has, is_same, items, last_value,
-};
-use crate::back::back_of;
+use crate::arguments::{Item, Word, checks, counts, gives_rules, has, is_same, items, last_value};
 use crate::check::check;
 use crate::clean::{Judge, Unclean, unclean_of};
-use crate::counts::{counts_of, put_counts};
+use crate::counts::put_counts;
 use crate::doubts::warn_of_lists;
 use crate::failure::{Failure, tell_failure, tell_unclean};
 use crate::files::{Job, back_files, redact_files};
 use crate::folder::Folder;
 use crate::help::{HELP, VERSION};
-use crate::load::{key_of, lists_of, rules};
-use crate::named::named_rules;
-use crate::patterns::{Rule, patterns_of, replacements_of};
-use crate::rows::build;
+use crate::load::{Sought, load};
+use crate::ready::{Ready, Texts, job_of, judge_of};
+use crate::rule_counts::{counts_behind, put_rule_counts, put_rule_summary, tally_of, tell_long};
 use crate::streams::Streams;
 use crate::summary::{Volume, put_summary};
 use crate::sums::sums_of;
@@ -55,7 +51,6 @@ use aho_devices::device::Sink;
 use aho_devices::write::write_whole;
 use programs::errors::Errors;
 use programs::failure;
-use programs::rows::rows_of;
 use std::alloc::{AllocError, Global};
 use std::io::{Read, Write};
 
@@ -223,13 +218,10 @@ fn redact_asked<'a, F: Folder, I: Read, W: Write, E: Sink>(
     if has(given, Word::Version) {
         return print(&mut streams.output, VERSION);
     }
-    if !gives_pattern(given) {
-        return Err(Failure::Arguments(Mistake::NoPattern));
-    }
-    load(alloc, given, folder, streams)
+    load_and_redact(alloc, given, folder, streams)
 }
 
-/// Whether an option gives patterns.
+/// Whether an option gives patterns or rules.
 pub fn gives_pattern(given: &[Item<'_>]) -> bool
     ensures gives { result ≡ gives_pattern (all_given given.now) }
 {
@@ -237,6 +229,7 @@ pub fn gives_pattern(given: &[Item<'_>]) -> bool
         || has(given, Word::Patterns)
         || has(given, Word::Table)
         || gives_value(given)
+        || gives_rules(given)
 }
 
 /// Whether an option gives values that are patterns.
@@ -259,64 +252,22 @@ fn print<'a, W: Write>(output: &mut FromWrite<W>, text: &[u8]) -> Result<bool, F
 }
 
 /// Loads all patterns, redacts all files by them, and answers whether all were read.
-fn load<'a, F: Folder, I: Read, W: Write, E: Sink>(
+fn load_and_redact<'a, F: Folder, I: Read, W: Write, E: Sink>(
     alloc: Global,
     given: &[Item<'a>],
     folder: &F,
     streams: &mut Streams<'_, I, W, E>,
 ) -> Result<bool, Failure<'a>>
+    ensures patternless { GivesNoPattern (all_given given.now) → OnOk result ⊥ }
+    ensures idle { GivesNoPattern (all_given given.now) → IsIdle streams.old streams.new }
     ensures outcome { AskedOutcome W.Write E.Sink
         F.Folder folder.now (all_given given.now) result streams.old streams.new }
     ensures flushed { OnOk result (streams.new.output.device.flushed ≡ true) }
 {
-    let lists = lists_of(alloc, given, folder);
-    match rules(&lists, given, &mut streams.input) {
-        Ok(rules) => load_key(alloc, given, rules.as_slice(), folder, streams),
+    match load(alloc, given, folder, &mut streams.input) {
+        Ok(sought) => redact_loaded(alloc, given, &sought, folder, streams),
         Err(failure) => Err(failure),
     }
-}
-
-/// Loads the key of pseudonyms, where they are asked for, redacts all files by it and these rules, and answers whether all were read.
-fn load_key<'a, F: Folder, I: Read, W: Write, E: Sink>(
-    alloc: Global,
-    given: &[Item<'a>],
-    rules: &[Rule],
-    folder: &F,
-    streams: &mut Streams<'_, I, W, E>,
-) -> Result<bool, Failure<'a>>
-    requires some { HaveNoEmpty (secrets_of rules.now) }
-    ensures outcome { KeylessOutcome W.Write E.Sink F.Folder
-        folder.now (all_given given.now) rules.now result streams.old streams.new }
-    ensures flushed { OnOk result (streams.new.output.device.flushed ≡ true) }
-{
-    let lists = lists_of(alloc, given, folder);
-    match key_of(&lists, given, &mut streams.input) {
-        Ok(Some(key)) => redact_by_key(alloc, given, rules, key.as_slice(), folder, streams),
-        Ok(None) => redact_loaded(alloc, given, rules, None, folder, streams),
-        Err(failure) => Err(failure),
-    }
-}
-
-/// Redacts all files by these rules and this key, and answers whether all were read. Where forms are asked for, each form has the
-/// pseudonym of its secret.
-fn redact_by_key<'a, F: Folder, I: Read, W: Write, E: Sink>(
-    alloc: Global,
-    given: &[Item<'a>],
-    rules: &[Rule],
-    key: &[u8],
-    folder: &F,
-    streams: &mut Streams<'_, I, W, E>,
-) -> Result<bool, Failure<'a>>
-    requires some { HaveNoEmpty (secrets_of rules.now) }
-    ensures outcome { KeyedOutcome W.Write E.Sink F.Folder
-        folder.now (all_given given.now) rules.now key.now result streams.old streams.new }
-    ensures flushed { OnOk result (streams.new.output.device.flushed ≡ true) }
-{
-    if !has(given, Word::Forms) {
-        return redact_loaded(alloc, given, rules, Some(key), folder, streams);
-    }
-    let named = named_rules(alloc, rules, name_key(given, key))?;
-    redact_loaded(alloc, given, named.as_slice(), None, folder, streams)
 }
 
 /// A key, by the case rule that is given.
@@ -334,19 +285,18 @@ pub fn name_key<'k>(given: &[Item<'_>], bytes: &'k [u8]) -> Key<'k>
 fn redact_loaded<'a, F: Folder, I: Read, W: Write, E: Sink>(
     alloc: Global,
     given: &[Item<'a>],
-    rules: &[Rule],
-    key: Option<&[u8]>,
+    sought: &Sought,
     folder: &F,
     streams: &mut Streams<'_, I, W, E>,
 ) -> Result<bool, Failure<'a>>
-    requires some { HaveNoEmpty (secrets_of rules.now) }
+    requires some { HaveNoEmpty (secrets_of sought.now.rules.items) }
     ensures outcome { LoadOutcome W.Write E.Sink F.Folder
-        folder.now (all_given given.now) rules.now key.entry result streams.old streams.new }
+        folder.now (all_given given.now) (loaded_of sought.now) result streams.old streams.new }
     ensures flushed { OnOk result (streams.new.output.device.flushed ≡ true) }
 {
     let strict = has(given, Word::Strict);
-    match warn_of_lists(&mut streams.errors, given, rules, strict) {
-        Ok(()) => redact_counted(alloc, given, rules, key, folder, streams),
+    match warn_of_lists(&mut streams.errors, given, sought.rules.as_slice(), strict) {
+        Ok(()) => redact_counted(alloc, given, sought, folder, streams),
         Err(failure) => Err(failure),
     }
 }
@@ -355,27 +305,17 @@ fn redact_loaded<'a, F: Folder, I: Read, W: Write, E: Sink>(
 fn redact_counted<'a, F: Folder, I: Read, W: Write, E: Sink>(
     alloc: Global,
     given: &[Item<'_>],
-    rules: &[Rule],
-    key: Option<&[u8]>,
+    sought: &Sought,
     folder: &F,
     streams: &mut Streams<'_, I, W, E>,
 ) -> Result<bool, Failure<'a>>
-    requires some { HaveNoEmpty (secrets_of rules.now) }
+    requires some { HaveNoEmpty (secrets_of sought.now.rules.items) }
     ensures outcome { DoubtedOutcome W.Write E.Sink F.Folder
-        folder.now (all_given given.now) rules.now key.entry result streams.old streams.new }
+        folder.now (all_given given.now) (loaded_of sought.now) result streams.old streams.new }
     ensures flushed { OnOk result (streams.new.output.device.flushed ≡ true) }
 {
-    let counted = counts(given);
-    let mut tally = counts_of(alloc, rules, counted)?;
-    redact_telling(
-        alloc,
-        given,
-        rules,
-        key,
-        folder,
-        tally.as_mut_slice(),
-        streams,
-    )
+    let mut tally = tally_of(alloc, given, sought)?;
+    redact_telling(alloc, given, sought, folder, tally.as_mut_slice(), streams)
 }
 
 /// Redacts all files by these rules, tells what was added to the counts, where they are asked for, and answers whether all files were
@@ -383,59 +323,58 @@ fn redact_counted<'a, F: Folder, I: Read, W: Write, E: Sink>(
 fn redact_telling<'a, F: Folder, I: Read, W: Write, E: Sink>(
     alloc: Global,
     given: &[Item<'_>],
-    rules: &[Rule],
-    key: Option<&[u8]>,
+    sought: &Sought,
     folder: &F,
     tally: &mut [u64],
     streams: &mut Streams<'_, I, W, E>,
 ) -> Result<bool, Failure<'a>>
-    requires some { HaveNoEmpty (secrets_of rules.now) }
-    requires none { tally.old ≡ zeros (counts_given given.now) rules.now }
+    requires some { HaveNoEmpty (secrets_of sought.now.rules.items) }
+    requires none { tally.old ≡ zeros (counts_given given.now) sought.now.rules.items }
     ensures outcome { DoubtedOutcome W.Write E.Sink F.Folder
-        folder.now (all_given given.now) rules.now key.entry result streams.old streams.new }
+        folder.now (all_given given.now) (loaded_of sought.now) result streams.old streams.new }
     ensures flushed { OnOk result (streams.new.output.device.flushed ≡ true) }
 {
     let mut volume = Volume { files: 0, bytes: 0 };
     // Not by `?`: this error may hold names.
-    match redact_all(
-        alloc,
-        given,
-        rules,
-        key,
-        folder,
-        tally,
-        &mut volume,
-        streams,
-    ) {
-        Ok(all) => tell_counted(alloc, all, given, rules, tally, volume, &mut streams.errors),
+    match redact_all(alloc, given, sought, folder, tally, &mut volume, streams) {
+        Ok(all) => tell_counted(
+            alloc,
+            all,
+            given,
+            sought,
+            tally,
+            volume,
+            &mut streams.errors,
+        ),
         Err(failure) => Err(failure),
     }
 }
 
-/// Tells the counts, where they are asked for, and answers whether all files were read.
+/// Tells how many lines were too long, if some were, and the counts, where they are asked for, and answers whether all files were read.
 pub fn tell_counted<'a, E: Sink>(
     alloc: Global,
     all: bool,
     given: &[Item<'_>],
-    rules: &[Rule],
+    sought: &Sought,
     tally: &[u64],
     volume: Volume,
     errors: &mut Errors<'_, E>,
 ) -> Result<bool, Failure<'a>>
     ensures all { IfOk result (λ done. done ≡ all) }
-    ensures told { OnOk result (TellsAnyCounts E.Sink (all_given given.now) rules.now tally.now volume
+    ensures told { OnOk result (TellsAnyCounts E.Sink (all_given given.now) sought.now.rules.items tally.now volume
         errors.old errors.new) }
-    ensures lines { Tells E.Sink (IsCountsLine (all_given given.now) (secrets_of rules.now))
+    ensures lines { Tells E.Sink (IsCountsLine (all_given given.now) (secrets_of sought.now.rules.items))
         errors.old errors.new }
     ensures these { Tells E.Sink (λ line. line ≡ totals_text (all_given given.now)
-        (secret_lines (secrets_of rules.now)) (sums_of (secrets_of rules.now) tally.now) volume)
+        (secret_lines (secrets_of sought.now.rules.items)) (sums_of (secrets_of sought.now.rules.items) tally.now) volume)
         errors.old errors.new }
     ensures fails { IfErr result (IsCountsFailure (counts_given given.now)) }
 {
+    tell_long(errors, sought, tally);
     if !counts(given) {
         return Ok(all);
     }
-    tell_totals(alloc, errors, given, rules, tally, volume)?;
+    tell_totals(alloc, errors, given, sought, tally, volume)?;
     if errors.has_failed() {
         return Err(Failure::Counts);
     }
@@ -451,20 +390,20 @@ fn tell_totals<E: Sink>(
     alloc: Global,
     errors: &mut Errors<'_, E>,
     given: &[Item<'_>],
-    rules: &[Rule],
+    sought: &Sought,
     tally: &[u64],
     volume: Volume,
 ) -> Result<(), AllocError>
     ensures told { OnOk result (TellsBytes E.Sink errors.old errors.new
-        (totals_text (all_given given.now) (lines_of_rules rules.now)
-        (sums_of (secrets_of rules.now) tally.now) volume)) }
+        (totals_text (all_given given.now) (lines_of_rules sought.now.rules.items)
+        (sums_of (secrets_of sought.now.rules.items) tally.now) volume)) }
     ensures untold { OnErr result (errors.new ≡ errors.old) }
 {
-    let sums = sums_of(alloc, rules, tally)?;
+    let sums = sums_of(alloc, sought.rules.as_slice(), tally)?;
     let sums = sums.as_slice();
     let mut text = Vec::new(alloc);
-    put_asked_counts(&mut text, given, rules, sums)?;
-    put_asked_summary(&mut text, given, sums, volume)?;
+    put_asked_counts(&mut text, given, sought, sums, tally)?;
+    put_asked_summary(&mut text, given, sought, sums, tally, volume)?;
     errors.write(&[text.as_slice()]);
     Ok(())
 }
@@ -473,32 +412,44 @@ fn tell_totals<E: Sink>(
 fn put_asked_counts(
     text: &mut Vec<u8>,
     given: &[Item<'_>],
-    rules: &[Rule],
+    sought: &Sought,
+    sums: &[u64],
     tally: &[u64],
 ) -> Result<(), AllocError>
     ensures put { OnOk result (PutsText text.old text.new
-        (counts_told_by (all_given given.now) (lines_of_rules rules.now) tally.now)) }
+        (counts_told_by (all_given given.now) (lines_of_sought sought.now) sums.now tally.now)) }
 {
-    if has(given, Word::Count) {
-        return put_counts(text, rules, tally);
+    if !has(given, Word::Count) {
+        return Ok(());
     }
-    Ok(())
+    put_counts(text, sought.rules.as_slice(), sums)?;
+    match &sought.lines {
+        Some(lines) => put_rule_counts(text, lines, counts_behind(sought, tally)),
+        None => Ok(()),
+    }
 }
 
 /// The summary, if it is asked for.
 fn put_asked_summary(
     text: &mut Vec<u8>,
     given: &[Item<'_>],
+    sought: &Sought,
+    sums: &[u64],
     tally: &[u64],
     volume: Volume,
 ) -> Result<(), AllocError>
     ensures put { OnOk result (PutsText text.old text.new
-        (summary_told_by (all_given given.now) tally.now volume)) }
+        (summary_told_by (all_given given.now) sought.now sums.now tally.now volume)) }
 {
-    if has(given, Word::Summary) {
-        return put_summary(text, volume, tally);
+    if !has(given, Word::Summary) {
+        return Ok(());
     }
-    Ok(())
+    put_summary(text, volume, sums)?;
+    match &sought.lines {
+        Some(lines) => put_rule_summary(text, lines, counts_behind(sought, tally))?,
+        None => {}
+    }
+    text.extend_from_slice(b"}\n")
 }
 
 /// What is written for a pattern that has no replacement of its own.
@@ -525,19 +476,18 @@ pub fn key_by(bytes: Option<&[u8]>, ignore_case: bool) -> Option<Key<'_>>
 fn redact_all<'a, F: Folder, I: Read, W: Write, E: Sink>(
     alloc: Global,
     given: &[Item<'_>],
-    rules: &[Rule],
-    key: Option<&[u8]>,
+    sought: &Sought,
     folder: &F,
     counts: &mut [u64],
     volume: &mut Volume,
     streams: &mut Streams<'_, I, W, E>,
 ) -> Result<bool, Failure<'a>>
-    requires some { HaveNoEmpty (secrets_of rules.now) }
+    requires some { HaveNoEmpty (secrets_of sought.now.rules.items) }
     ensures outcome { WarnedOutcome W.Write E.Sink (has Strict (all_given given.now))
-        (work_by (call_of F.Folder folder.now (all_given given.now)) (loaded_as rules.now (key_lent key.entry)))
+        (work_by (call_of F.Folder folder.now (all_given given.now)) (loaded_of sought.now))
         result streams.old streams.new }
     ensures counted { CountsWork
-        (work_by (call_of F.Folder folder.now (all_given given.now)) (loaded_as rules.now (key_lent key.entry)))
+        (work_by (call_of F.Folder folder.now (all_given given.now)) (loaded_of sought.now))
         result streams.old streams.new counts.old counts.new }
     ensures read { result ≡ Ok true → ReadsAsked (F.holds folder.now) (all_given given.now)
         volume.old volume.new streams.old streams.new }
@@ -545,39 +495,17 @@ fn redact_all<'a, F: Folder, I: Read, W: Write, E: Sink>(
         counts.old counts.new volume.old volume.new streams.old streams.new) }
     ensures flushed { OnOk result (streams.new.output.device.flushed ≡ true) }
 {
-    let patterns = patterns_of(alloc, rules)?;
-    let text = text_of(given);
-    let replacements = replacements_of(alloc, rules, text)?;
-    let names = names(alloc, given)?;
-    let words = patterns.as_slice();
-    let nfa = build(alloc, given, words)?;
-    let ignore_case = has(given, Word::IgnoreCase);
-    let only_words = has(given, Word::AsWord);
-    let rows = rows_of(alloc, &nfa, ignore_case, words)?;
-    let back = back_of(alloc, given, words, &nfa)?;
-    let job = Job {
-        alloc,
-        folder,
-        names: names.as_slice(),
-        replacements: replacements.as_slice(),
-        key: key_by(key, ignore_case),
-        covers: covers(given),
-        words: only_words,
-    };
-    let judge = Judge {
-        words,
-        ignore_case,
-        rules,
-        usual: text,
-    };
-    let strict = has(given, Word::Strict);
+    let ready = Ready::new(alloc, given, sought)?;
+    let texts = Texts::new(alloc, given, sought, &ready)?;
+    let job = job_of(alloc, given, sought, &ready, &texts, folder);
+    let judge = judge_of(given, sought, &ready, &texts);
     redact_warned(
-        &nfa,
-        rows.as_ref(),
-        back.as_ref(),
+        &ready.nfa,
+        ready.rows.as_ref(),
+        texts.back.as_ref(),
         &job,
         &judge,
-        strict,
+        has(given, Word::Strict),
         counts,
         volume,
         streams,

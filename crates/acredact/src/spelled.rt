@@ -7,7 +7,7 @@ ghost use Rattle.std.specs.Prelude.{◌≡◌, MatchBool};
 ghost use Rattle.aho_core.specs.Replacement.{pieces_of};
 ghost use Rattle.acredact.specs.Spelling.{IsFirstSpelled, IsUnlike, LiesInside, MayBeSpelled, StandsOutside, is_inside};
 
-use crate::clean::{Flaw, Unclean, folded, holds};
+use crate::clean::{Flaw, Subject, Unclean, folded, holds};
 
 /// The first pattern that a pseudonym can spell.
 pub fn first_spelled(words: &[&[u8]], ignore_case: bool) -> Option<Unclean>
@@ -17,6 +17,7 @@ pub fn first_spelled(words: &[&[u8]], ignore_case: bool) -> Option<Unclean>
     while at < words.len() {
         if may_be_spelled(words[at], ignore_case) {
             return Some(Unclean {
+                subject: Subject::Pattern,
                 number: at + 1,
                 flaw: Flaw::Pseudonym,
             });

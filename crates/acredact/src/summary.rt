@@ -2,7 +2,7 @@
 
 ghost use Rattle.std.specs.Prelude.{OnOk};
 ghost use Rattle.acredact.specs.Counts.{PutsText};
-ghost use Rattle.acredact.specs.Summaries.{listed, more_listed, summary_text};
+ghost use Rattle.acredact.specs.Summaries.{listed, more_listed, summary_begin};
 
 use crate::counts::put_number;
 use std::alloc::AllocError;
@@ -16,9 +16,9 @@ pub struct Volume {
     pub bytes: u64,
 }
 
-/// The text of a summary: how much was read, and for each pattern how often its text was written. It holds no pattern.
+/// The text of a summary up to its end: how much was read, and for each pattern how often its text was written. It holds no pattern.
 pub fn put_summary(text: &mut Vec<u8>, volume: Volume, counts: &[u64]) -> Result<(), AllocError>
-    ensures put { OnOk result (PutsText text.old text.new (summary_text volume counts.now)) }
+    ensures put { OnOk result (PutsText text.old text.new (summary_begin volume counts.now)) }
 {
     text.extend_from_slice(b"{\"files\":")?;
     put_number(text, volume.files)?;
@@ -26,7 +26,7 @@ pub fn put_summary(text: &mut Vec<u8>, volume: Volume, counts: &[u64]) -> Result
     put_number(text, volume.bytes)?;
     text.extend_from_slice(b",\"replacements\":[")?;
     put_list(text, counts)?;
-    text.extend_from_slice(b"]}\n")
+    text.extend_from_slice(b"]")
 }
 
 /// Numbers with commas between them.

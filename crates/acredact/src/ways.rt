@@ -1,18 +1,19 @@
 //! How streams are redacted, one after another.
 
 ghost use Rattle.std.specs.Prelude.{OnOk};
+ghost use Rattle.aho_cover.specs.Pieces.{PieceRule};
 ghost use Rattle.acredact.specs.Bounds.{Bounded};
 ghost use Rattle.acredact.specs.Secrets.{Redactor};
 ghost use Rattle.acredact.specs.Streams.{StreamOutcome};
 ghost use Rattle.acredact.specs.Totals.{CountsOfStream};
 
-use crate::redact::{cover, cover_by_pieces, redact, redact_counting};
+use crate::redact::{cover, redact, redact_counting};
 use aho_automaton::automaton::Automaton;
 use aho_core::error::StreamError;
 use aho_cover::pieces::Pieces;
 use aho_cover::start::StreamCoverStart;
 use aho_devices::device::{Sink, Source};
-use pseudonyms::pseudonym::Pseudonyms;
+use secret_rules::{LineCover, LineError, cover_lines};
 use std::alloc::Global;
 
 /// What redacts streams, one after another.
@@ -42,20 +43,84 @@ pub trait Way {
         ensures still { (r : Redactor) → by self.old r → by self.new r };
 }
 
-/// A cover, with the memory that each stream uses again.
-#[derive(Drop)]
-pub struct Covering<'s, 't, A> {
-    /// How the cover of a stream begins.
-    pub start: StreamCoverStart<'s, A>,
-    /// What is written in the place of each pattern.
-    pub replacements: &'s [&'t [u8]],
+/// What covers streams, one after another: in the place of each run of bytes that count stands a piece that is made of it.
+pub trait Coverer {
+    /// What it redacts, with pieces by a rule.
+    ghost by: { Self → PieceRule → Redactor → Type 0 };
+
+    /// Writes what the source gives to the sink, with a piece in the place of each run, and counts the runs of each number that has a
+    /// count. No count grows by more than the bytes that the source gave.
+    ///
+    /// # Errors
+    ///
+    /// As a `Way`'s.
+    fn cover<R: Source, W: Sink, P: Pieces>(
+        &mut self,
+        pieces: &mut P,
+        counts: &mut [u64],
+        source: &mut R,
+        sink: &mut W,
+    ) -> Result<(), StreamError>
+        requires ready { (r : Redactor) × by self.old (P.rule pieces.old) r }
+        ensures outcome { (r : Redactor) → by self.old (P.rule pieces.old) r → StreamOutcome R.Source W.Sink r
+            result source.old source.new sink.old sink.new }
+        ensures counted { (r : Redactor) → by self.old (P.rule pieces.old) r → OnOk result (CountsOfStream R.Source r
+            source.old source.new counts.old counts.new) }
+        ensures most { Bounded R.Source source.old source.new counts.old counts.new }
+        ensures still { (rule : PieceRule) (r : Redactor) → by self.old rule r → by self.new rule r }
+        ensures rule { P.rule pieces.new ≡ P.rule pieces.old };
 }
 
-impl<A: Automaton> Way for Covering<'_, '_, A> {
-    ghost use Rattle.acredact.specs.Ways.{IsCovering};
+/// The cover by what occurs of patterns, with the memory that each stream uses again.
+impl<A: Automaton> Coverer for StreamCoverStart<'_, A> {
+    ghost use Rattle.acredact.specs.Ways.{IsNamedCover};
 
-    ghost by = { λ way r. IsCovering A.Automaton way.start.automaton.now way.start.progress
-        way.replacements.now r };
+    ghost by = { λ start rule r. IsNamedCover A.Automaton start.automaton.now start.progress rule r };
+
+    fn cover<R: Source, W: Sink, P: Pieces>(
+        &mut self,
+        pieces: &mut P,
+        counts: &mut [u64],
+        source: &mut R,
+        sink: &mut W,
+    ) -> Result<(), StreamError> {
+        cover(self, pieces, counts, source, sink)
+    }
+}
+
+/// The cover line by line, by rules and patterns.
+impl<A: Automaton> Coverer for LineCover<'_, '_, A> {
+    ghost use Rattle.acredact.specs.Ways.{IsLineCoverer};
+
+    ghost by = { λ cover rule r. IsLineCoverer A.Automaton cover rule r };
+
+    fn cover<R: Source, W: Sink, P: Pieces>(
+        &mut self,
+        pieces: &mut P,
+        counts: &mut [u64],
+        source: &mut R,
+        sink: &mut W,
+    ) -> Result<(), StreamError> {
+        match cover_lines(self, source, sink, pieces, counts) {
+            Ok(()) => Ok(()),
+            Err(LineError::Stream(error)) => Err(error),
+            // Each expression was compiled before, or is one of the program's, which all can be. So memory ran out.
+            Err(LineError::Mark(_)) => Err(StreamError::Memory),
+        }
+    }
+}
+
+/// A cover with its pieces.
+#[derive(Drop)]
+pub struct Covering<C, P> {
+    /// What covers.
+    pub coverer: C,
+    /// What makes the piece of each run.
+    pub pieces: P,
+}
+
+impl<C: Coverer, P: Pieces> Way for Covering<C, P> {
+    ghost by = { λ way r. C.by way.coverer (P.rule way.pieces) r };
 
     fn redact<R: Source, W: Sink>(
         &mut self,
@@ -63,7 +128,7 @@ impl<A: Automaton> Way for Covering<'_, '_, A> {
         source: &mut R,
         sink: &mut W,
     ) -> Result<(), StreamError> {
-        cover(&mut self.start, self.replacements, counts, source, sink)
+        self.coverer.cover(&mut self.pieces, counts, source, sink)
     }
 }
 
@@ -74,31 +139,6 @@ pub struct Key<'s> {
     pub bytes: &'s [u8],
     /// Whether runs that differ only in the case of ASCII letters have the same pseudonym.
     pub ignore_case: bool,
-}
-
-/// A cover by pseudonyms, with the memory that each stream uses again.
-#[derive(Drop)]
-pub struct Naming<'s, A> {
-    /// How the cover of a stream begins.
-    pub start: StreamCoverStart<'s, A>,
-    /// What makes the pseudonym of each run.
-    pub pieces: Pseudonyms,
-}
-
-impl<A: Automaton> Way for Naming<'_, A> {
-    ghost use Rattle.acredact.specs.Ways.{IsNamedCover};
-
-    ghost by = { λ way r. IsNamedCover A.Automaton way.start.automaton.now way.start.progress
-        (⟦<Pseudonyms as Pieces>⟧.rule way.pieces) r };
-
-    fn redact<R: Source, W: Sink>(
-        &mut self,
-        counts: &mut [u64],
-        source: &mut R,
-        sink: &mut W,
-    ) -> Result<(), StreamError> {
-        cover_by_pieces(&mut self.start, &mut self.pieces, counts, source, sink)
-    }
 }
 
 /// A replacement of matches that share no byte.
