@@ -25,8 +25,6 @@ pub enum RuleFlaw {
     Regex(RegexError),
     /// Its expression has no group of the number that it names.
     UnknownGroup,
-    /// Its expression is too big to be compiled.
-    TooBig,
     /// It has a text of its own, where pseudonyms are written.
     OwnText,
 }
@@ -86,7 +84,6 @@ fn write_flaw<E: Sink>(errors: &mut Errors<'_, E>, flaw: RuleFlaw)
             errors.write(&[b"regex, at byte ", place, b": ", why]);
         }
         RuleFlaw::UnknownGroup => errors.write(&[b"secretGroup: the regex has no such group"]),
-        RuleFlaw::TooBig => errors.write(&[b"regex: too big to be compiled"]),
         RuleFlaw::OwnText => errors.write(&[b"with: --pseudonym says what is written"]),
     }
 }

@@ -21,8 +21,8 @@ use call_options::misuse::Misuse;
 use programs::errors::Errors;
 use programs::failure;
 use programs::reason::Reason;
-use secret_rules::TomlError;
 use std::alloc::{AllocError, AllocFailed};
+use toml::de::Error as TomlError;
 
 /// Why a call ends early.
 #[derive(Drop)]

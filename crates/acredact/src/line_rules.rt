@@ -12,9 +12,7 @@ use crate::load::{Lists, read_list};
 use crate::patterns::{BadLine, LineFault, mark_of, split_at};
 use aho_devices::adapters::FromRead;
 use programs::failure;
-use secret_rules::{
-    BUILTIN, Key, MarkError, ParseError, Rule as LineRule, RuleFault, Rules, RulesError, parse,
-};
+use secret_rules::{BUILTIN, ParseError, Rule as LineRule, RuleFault, Rules, RulesError, parse};
 use std::alloc::{AllocError, Global};
 use std::io::Read;
 
@@ -27,7 +25,7 @@ const USUAL_MOST: usize = 1024 * 1024;
 /// The rules by which lines are covered.
 #[derive(Drop)]
 pub struct LineRules {
-    /// The rules. Each expression is compiled, or is one of the program's own.
+    /// The rules.
     pub rules: Rules,
     /// How many bytes a line may have that is not covered whole.
     pub most: usize,
@@ -73,36 +71,51 @@ pub fn line_rules_of<'a, F: Folder, I: Read>(
     if !gives_rules(items) {
         return Ok(None);
     }
+    let named = has(items, Word::Pseudonym) && !has(items, Word::Check);
+    let most = most_of(items);
+    match read_rules(lists, items, named, input) {
+        Ok(rules) => with_most(lists.alloc, rules, most),
+        Err(failure) => Err(failure),
+    }
+}
+
+/// These rules with how many bytes a line may have.
+fn with_most<'a>(
+    alloc: Global,
+    rules: Vec<LineRule>,
+    most: usize,
+) -> Result<Option<LineRules>, Failure<'a>>
+    ensures made { IfOk result (λ lines. lines_held lines ≡ Some (line_rules_as rules.items most)) }
+    ensures fails { IfErr result IsKeywordsFailure }
+{
+    match sound(alloc, rules) {
+        Ok(rules) => Ok(Some(LineRules { rules, most })),
+        Err(failure) => Err(failure),
+    }
+}
+
+/// The rules that the options give, in order. Where runs have pseudonyms no rule may have a text of its own.
+fn read_rules<'a, F: Folder, I: Read>(
+    lists: &Lists<'_, '_, F>,
+    items: &[Item<'a>],
+    named: bool,
+    input: &mut FromRead<I>,
+) -> Result<Vec<LineRule>, Failure<'a>>
+    ensures read { IfOk result (λ rules. ReadsLineRules F.Folder lists.now named (all_given items.now)
+        rules input.old input.new) }
+    ensures fails { IfErr result (CannotReadRules (reading_of_lists F.Folder lists.now) (all_given items.now)) }
+{
     let mut rules = Vec::new(lists.alloc);
-    let mut sources = Vec::new(lists.alloc);
     let mut rest = items;
     while !rest.is_empty() {
-        let named = has(items, Word::Pseudonym) && !has(items, Word::Check);
         // Not by `?`: this error holds names.
         match add_rules(lists, &mut rules, rest[0], named, input) {
             Ok(()) => {}
             Err(failure) => return Err(failure),
         }
-        while sources.len() < rules.len() {
-            sources.push(source_of(rest[0]))?;
-        }
         rest = &rest[1..];
     }
-    match compiled(lists.alloc, rules, sources.as_slice()) {
-        Ok(rules) => Ok(Some(LineRules {
-            rules,
-            most: most_of(items),
-        })),
-        Err(failure) => Err(failure),
-    }
-}
-
-/// Where the rules of an option stand: the name of the file, or `--after`.
-fn source_of<'a>(item: Item<'a>) -> &'a str {
-    match item.word {
-        Word::After => "--after",
-        _ => item.value,
-    }
+    Ok(rules)
 }
 
 /// Adds the rules of an item, if it has any.
@@ -266,60 +279,17 @@ fn flaw_of(alloc: Global, rule: &LineRule, named: bool) -> Result<Option<RuleFla
     }
 }
 
-/// These rules, each with its expression compiled, but for those of the program: these all compile, and each only once it is needed. They
-/// stand where the sources say.
-fn compiled<'a>(
-    alloc: Global,
-    rules: Vec<LineRule>,
-    sources: &[&'a str],
-) -> Result<Rules, Failure<'a>> {
+/// These rules. Each expression is compiled when a line first needs it.
+fn sound<'a>(alloc: Global, rules: Vec<LineRule>) -> Result<Rules, Failure<'a>>
+    ensures rules { IfOk result (λ made. made ≡ rules.items) }
+    ensures fails { IfErr result IsKeywordsFailure }
+{
     match Rules::new(alloc, rules) {
-        Ok(rules) => match compile_each(alloc, &rules, sources) {
-            Ok(()) => Ok(rules),
-            Err(failure) => Err(failure),
-        },
+        Ok(rules) => Ok(rules),
         Err(RulesError::Keywords(error)) => Err(Failure::Keywords(error)),
         // Each rule was looked at before.
         Err(RulesError::Rule(_, _, _) | RulesError::OutOfMemory) => {
             Err(Failure::Other(failure::Failure::OutOfMemory))
         }
-    }
-}
-
-/// Compiles the expression of each rule that is not the program's.
-fn compile_each<'a>(alloc: Global, rules: &Rules, sources: &[&'a str]) -> Result<(), Failure<'a>> {
-    let mut number = 0;
-    while number < sources.len() {
-        // Not by `?`: this error holds names.
-        match compile_one(alloc, rules, number, sources[number]) {
-            Ok(()) => number += 1,
-            Err(failure) => return Err(failure),
-        }
-    }
-    Ok(())
-}
-
-/// Compiles the expression of a rule that stands there, unless it is the program's.
-fn compile_one<'a>(
-    alloc: Global,
-    rules: &Rules,
-    number: usize,
-    source: &'a str,
-) -> Result<(), Failure<'a>> {
-    if source == BUILTIN_NAME {
-        return Ok(());
-    }
-    match rules.compile(alloc, number) {
-        Ok(()) => Ok(()),
-        Err(MarkError::TooBig(_)) => {
-            let id = String::from_str(alloc, rules.as_slice()[number].id.as_str())?;
-            let bad = BadRule {
-                number: number.saturating_add(1),
-                id: Some(id),
-                flaw: RuleFlaw::TooBig,
-            };
-            Err(Failure::Rule(source, bad))
-        }
-        Err(MarkError::OutOfMemory) => Err(Failure::Other(failure::Failure::OutOfMemory)),
     }
 }

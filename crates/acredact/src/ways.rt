@@ -104,7 +104,7 @@ impl<A: Automaton> Coverer for LineCover<'_, '_, A> {
         match cover_lines(self, source, sink, pieces, counts) {
             Ok(()) => Ok(()),
             Err(LineError::Stream(error)) => Err(error),
-            // Each expression was compiled before, or is one of the program's, which all can be. So memory ran out.
+            // An expression may take no more memory than a limit, which one that is too big does.
             Err(LineError::Mark(_)) => Err(StreamError::Memory),
         }
     }

@@ -31,4 +31,3 @@ pub use parsing::{Key, ParseError, parse};
 pub use regex_syntax::{Error as RegexError, ErrorKind as RegexErrorKind, Span as RegexSpan};
 pub use rule::{Rule, RuleFault};
 pub use rules::Rules;
-pub use toml::de::Error as TomlError;

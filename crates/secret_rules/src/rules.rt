@@ -153,19 +153,6 @@ impl Rules {
         &self.rules
     }
 
-    /// Compiles the expression of a rule, if it was not yet.
-    ///
-    /// # Errors
-    ///
-    /// It is too big, or memory ran out.
-    pub fn compile(&self, alloc: Global, number: usize) -> Result<(), MarkError>
-        requires within { number < length self.now }
-        ensures refused { IfErr result (IsMarkFailure number) }
-    {
-        let _expression = self.expression(alloc, number)?;
-        Ok(())
-    }
-
     /// Of each rule whether it applies to a line.
     pub(crate) fn applying(&self, alloc: Global, line: &[u8]) -> Result<Vec<bool>, AllocError>
         ensures flags { IfOk result (λ flags. AreFlagsFor self.now line.now flags.items) }
