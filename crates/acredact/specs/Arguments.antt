@@ -187,6 +187,9 @@ abbrev pub is_same : Word → Word → Bool
 is_same IgnoreCase IgnoreCase = true
 is_same Kind Kind = true
 is_same Pattern Pattern = true
+is_same Rules Rules = true
+is_same After After = true
+is_same MaxLine MaxLine = true
 is_same Patterns Patterns = true
 is_same Table Table = true
 is_same Env Env = true
@@ -351,6 +354,7 @@ pub record RefusesUnclean (given : List Given) : Type 0 where
   pub strict : has Strict given ≡ true
   pub covers : covers_asked given ≡ true
   pub all : words_asked given ≡ false
+  pub unruled : gives_rules given ≡ false
 
 -- no option gives patterns or rules
 pub record GivesNoPattern (given : List Given) : Type 0 where

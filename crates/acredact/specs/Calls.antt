@@ -1,6 +1,5 @@
 -- What a call does, by what its arguments ask for, and what it tells.
-use Rattle.std.specs.Prelude.{◌≡◌, ◌⊎◌, ℕ, ◌<◌, ◌≤◌, slice_index, ◌||◌, Bool, MatchBool, true, false, List, [], ◌∷◌, Option, Some, Result, Ok, Err, IfErr, IfOk, OnErr, codes, is_some, length, map, option_map, unwrap_or, if◌then◌else◌}
-use Rattle.std.specs.Borrow.{Bor}
+use Rattle.std.specs.Prelude.{◌≡◌, ◌⊎◌, ℕ, ◌<◌, ◌≤◌, slice_index, ◌||◌, Bool, MatchBool, true, false, List, [], ◌∷◌, Option, None, Some, Result, Ok, Err, IfErr, IfOk, OnErr, codes, is_some, length, map, option_map, take, unwrap_or, if◌then◌else◌}
 use Rattle.std.specs.declared.io.traits.Read.{Ghosts as Readers}
 use Rattle.std.specs.declared.io.traits.Write.{Ghosts as Writers}
 use Rattle.aho_core.specs.Listing.{IsMember}
@@ -8,6 +7,7 @@ use Rattle.aho_core.specs.Occurrence.{Occurrence}
 use Rattle.aho_core.specs.Patterns.{Patterns}
 use Rattle.aho_core.specs.declared.error.BuildError.{BuildError}
 use Rattle.aho_devices.specs.Counts.{counted}
+use Rattle.aho_devices.specs.declared.adapters.FromRead.{FromRead}
 use Rattle.aho_devices.specs.declared.adapters.FromWrite.{FromWrite}
 use Rattle.aho_devices.specs.declared.device.Sink.{Ghosts as SinkGhosts}
 use Rattle.programs.specs.Names.{IsOneOf, or_input}
@@ -20,30 +20,31 @@ use Rattle.programs.specs.declared.reason.Reason.{Reason}
 use Rattle.acredact.specs.Arguments.{Given, GivesNoPattern, RefusesUnclean, counts_asked, covers_asked, gives_rules, has, is_same, last_value, words_asked}
 use Rattle.acredact.specs.Bounds.{NumbersOfAll, ReadInAll}
 use Rattle.acredact.specs.Builds.{RefusesPatterns, patterns_by_given}
-use Rattle.acredact.specs.Counts.{secret_lines, lines_of_rules}
+use Rattle.acredact.specs.Counts.{secret_lines}
 use Rattle.acredact.specs.Doubts.{IsDoubtFailure, TellsDoubts, TellsWarnings, all_doubt_lines}
 use Rattle.acredact.specs.Failures.{IsFailureLine}
 use Rattle.acredact.specs.Forms.{forms_asked}
 use Rattle.acredact.specs.Files.{AreCut, AreDone, AreFree, AreRedacted, Does, Work, are_none, redactor_of, unread_line, work_of}
 use Rattle.acredact.specs.Hidden.{AreHidden}
-use Rattle.acredact.specs.Loading.{AreGiven, AreLoaded, CannotLoadKey, CannotLoadOne, IsKeyGiven, Loaded, Reading, Rules, key_lent, loaded_as}
+use Rattle.acredact.specs.LineRules.{LinesLoaded, numbers_with, pieces_with}
+use Rattle.acredact.specs.Loading.{AreLoaded, AreSought, CannotLoadAll, CannotLoadKey, CannotLoadLines, CannotLoadOne, IsKeyGiven, Loaded, Reading, Rules, lines_sought, loaded_by, loaded_of}
 use Rattle.acredact.specs.Messages.{output_line, unclean_line}
 use Rattle.acredact.specs.Mistakes.{IsMistakeOfCall}
-use Rattle.acredact.specs.Pieces.{IsUncleanBy, TellsOfPieces}
-use Rattle.acredact.specs.Secrets.{Keyed, Redactor, key_of_cover}
+use Rattle.acredact.specs.Pieces.{IsUncleanOf, TellsOfPieces}
+use Rattle.acredact.specs.Secrets.{Keyed, LineCovered, Redactor, key_of_cover}
 use Rattle.acredact.specs.Tables.{Secret, patterns_in, piece_by, secrets_of}
 use Rattle.acredact.specs.Sums.{sums_of}
-use Rattle.acredact.specs.Summaries.{no_volume, totals_text}
+use Rattle.acredact.specs.Summaries.{IsToldOf, long_by, no_volume, totals_by, totals_text}
 use Rattle.acredact.specs.Totals.{AreTotals, NamesHaveRanges}
 use Rattle.acredact.specs.Volumes.{ReadsVolume}
 use Rattle.acredact.specs.declared.arguments.Mistake.TheVariants.{NoPattern, OutOfMemory as NoRoom}
 use Rattle.acredact.specs.declared.arguments.Word.TheVariants.{Crlf, Forms, AllowEmpty, IgnoreCase, Strict, File, Pattern as PatternOption, Patterns as PatternFile, Table, Env, EnvFile, Whole, With, Pseudonym}
 use Rattle.acredact.specs.declared.clean.Unclean.{Unclean}
 use Rattle.acredact.specs.declared.failure.Failure.{Failure}
-use Rattle.acredact.specs.declared.failure.Failure.TheVariants.{NotText, Arguments, Unclean as UncleanPiece, Counts, Other}
+use Rattle.acredact.specs.declared.failure.Failure.TheVariants.{NotText, Arguments, Unclean as UncleanPiece, LineEnd, Counts, Other}
 use Rattle.acredact.specs.declared.files.Job.{Job}
 use Rattle.acredact.specs.declared.folder.Folder.{Ghosts as Folders}
-use Rattle.acredact.specs.declared.patterns.Rule.{Rule}
+use Rattle.acredact.specs.declared.load.Sought.{Sought}
 use Rattle.acredact.specs.declared.streams.Streams.{Streams}
 use Rattle.acredact.specs.declared.summary.Volume.{Volume}
 
@@ -106,13 +107,18 @@ keyed_as ignore_case bytes = record { bytes = bytes; ignore_case = ignore_case }
 abbrev pub key_asked : List Given → Option (List ℕ) → Option Keyed
 key_asked given key = key_of_cover (covers_asked given) (option_map (keyed_as (has IgnoreCase given)) key)
 
+-- what was loaded of rules, with the texts of the patterns that have their own though there is a key
+abbrev pub lines_by : List (List ℕ) → LinesLoaded → LineCovered
+lines_by pieces lines = record { rules = lines.rules; most = lines.most; own = take lines.fixed pieces }
+
 abbrev pub redactor_by_given : List Given → Loaded → Redactor
 redactor_by_given given loaded = record {
   patterns = patterns_by_given given (patterns_in loaded.secrets);
   covers = covers_asked given;
   words = words_asked given;
-  pieces = pieces_asked given loaded.secrets;
+  pieces = pieces_with loaded.lines (pieces_asked given loaded.secrets) (text_asked given);
   key = key_asked given loaded.key;
+  lines = option_map (lines_by (pieces_asked given loaded.secrets)) loaded.lines;
 }
 
 abbrev pub work_by : Call → Loaded → Work
@@ -145,7 +151,7 @@ IsBuildRefusal p failure = (error : BuildError) × (failure ≡ Other (Build err
 abbrev pub IsStrictFailure : (strict : Bool) → Redactor → Failure → Type 0
 IsStrictFailure strict r failure =
     (unclean : Unclean) × (failure ≡ UncleanPiece unclean) × (strict ≡ true) × (r.covers ≡ true)
-    × IsUncleanBy (is_some r.key) r.patterns r.pieces unclean
+    × IsUncleanOf r unclean
 
 -- those of the patterns that were loaded
 abbrev pub IsUncleanFailure : Call → Failure → Type 0
@@ -164,12 +170,16 @@ IsRefusedCall call failure = (load : Loaded) × (left : Option (List ℕ)) × (b
     × AreLoaded (reading_by call) call.given load left between
     × IsBuildRefusal (patterns_by_given call.given (patterns_in load.secrets)) failure
 
+-- a pattern that holds a line end is refused beside rules
+abbrev pub IsLineEndFailure : Call → Failure → Type 0
+IsLineEndFailure call failure = (gives_rules call.given ≡ true) × (number : ℕ) × (failure ≡ LineEnd number)
+
 -- why a call ends early: there is no pattern, one of the options or the key cannot be loaded, the counts cannot be written, a piece is not clean,
 -- the patterns are refused, the files are not redacted, or a pattern of a list is refused
 abbrev pub MayFail : Call → (fails : Type 0) → Failure → Type 0
 MayFail call fails failure =
     ((failure ≡ Arguments NoRoom) ⊎ ((failure ≡ Arguments NoPattern) × GivesNoPattern call.given))
-    ⊎ ((CannotLoadOne (reading_by call) call.given failure ⊎ CannotLoadKey (reading_by call) call.given failure)
+    ⊎ ((CannotLoadOne (reading_by call) call.given failure ⊎ (CannotLoadKey (reading_by call) call.given failure ⊎ (CannotLoadLines call.given failure ⊎ IsLineEndFailure call failure)))
     ⊎ (((failure ≡ Counts) × (counts_asked call.given ≡ true))
     ⊎ (IsUncleanFailure call failure
     ⊎ (IsRefusedCall call failure
@@ -184,14 +194,20 @@ IsUnreadLine names line = (name : List ℕ) × IsOneOf name names × (((reason :
 abbrev pub IsCountsText : List Given → List Secret → List ℕ → Type 0
 IsCountsText given secrets text = (counts : List ℕ) × (volume : Volume) × (text ≡ totals_text given (secret_lines secrets) counts volume)
 
+-- with rules these have names, and the number of lines that were too long is told whether counts are asked for or not
+abbrev pub IsRuleCounts : List Given → List Secret → LinesLoaded → List ℕ → Type 0
+IsRuleCounts given secrets lines text = (counts : List ℕ) × (volume : Volume)
+    × IsToldOf given secrets (Some lines) counts volume text
+
 -- that, where they are asked for
-abbrev pub IsCountsLine : List Given → List Secret → List ℕ → Type 0
-IsCountsLine given secrets line = (counts_asked given ≡ true) × IsCountsText given secrets line
+abbrev pub IsCountsLine : List Given → List Secret → Option LinesLoaded → List ℕ → Type 0
+IsCountsLine given secrets None line = (counts_asked given ≡ true) × IsCountsText given secrets line
+IsCountsLine given secrets (Some lines) line = IsRuleCounts given secrets lines line
 
 -- of the patterns that were loaded
 abbrev pub CountsLoaded : Call → List ℕ → Type 0
 CountsLoaded call line = (load : Loaded) × (left : Option (List ℕ)) × (between : Option (List ℕ))
-    × AreLoaded (reading_by call) call.given load left between × IsCountsLine call.given load.secrets line
+    × AreLoaded (reading_by call) call.given load left between × IsCountsLine call.given load.secrets load.lines line
 
 -- why the counts are not told
 abbrev pub IsCountsFailure : Bool → Failure → Type 0
@@ -201,7 +217,7 @@ IsCountsFailure counted failure = (counted ≡ true) × ((failure ≡ Counts) �
 abbrev pub Warns : List Given → List Secret → Redactor → List ℕ → Type 0
 Warns given secrets r line =
     IsMember (all_doubt_lines given secrets) line
-    ⊎ ((unclean : Unclean) × (r.covers ≡ true) × IsUncleanBy (is_some r.key) r.patterns r.pieces unclean × (line ≡ unclean_line unclean))
+    ⊎ ((unclean : Unclean) × (r.covers ≡ true) × IsUncleanOf r unclean × (line ≡ unclean_line unclean))
 
 -- one of the patterns that were loaded, where such a one is not refused
 abbrev pub IsWarningLine : Call → List ℕ → Type 0
@@ -241,44 +257,58 @@ IsWrongLine arguments line = (failure : Failure) × IsWrongFailure arguments fai
 abbrev pub IsRefusedLine : OtherFailure → List ℕ → Type 0
 IsRefusedLine failure line = IsFailureLine NotText line ⊎ IsFailureLine (Other failure) line
 
--- the counts of these rules are told whole
-pub record TellsCounts {E : Type 0} (K : SinkGhosts E) (given : List Given) (rules : List Rule) (counts : List ℕ) (volume : Volume) (errors errors' : Errors E) : Type 0 where
-  pub told : TellsBytes K errors errors' (totals_text given (lines_of_rules rules) (sums_of (secrets_of rules) counts) volume)
+-- these counts are told whole
+pub record TellsCounts {E : Type 0} (K : SinkGhosts E) (given : List Given) (secrets : List Secret) (lines : Option LinesLoaded) (counts : List ℕ) (volume : Volume) (errors errors' : Errors E) : Type 0 where
+  pub told : TellsBytes K errors errors' (totals_by lines given secrets counts volume)
   pub whole : errors'.failed ≡ false
 
--- they are, or nothing is
-abbrev pub TellsAnyCounts : {E : Type 0} → SinkGhosts E → List Given → List Rule → (counts : List ℕ) → Volume → (errors errors' : Errors E) → Type 0
-TellsAnyCounts K given rules counts volume errors errors' = MatchBool (counts_asked given) (TellsCounts K given rules counts volume errors errors') (errors' ≡ errors)
+-- how many lines were too long is, where there are rules
+abbrev pub TellsLong : {E : Type 0} → SinkGhosts E → Option LinesLoaded → List Secret → (counts : List ℕ) → (errors errors' : Errors E) → Type 0
+TellsLong K None secrets counts errors errors' = errors' ≡ errors
+TellsLong K (Some lines) secrets counts errors errors' = TellsBytes K errors errors' (long_by (Some lines) secrets counts)
+
+-- the counts are told, or that alone
+abbrev pub TellsAnyCounts : {E : Type 0} → SinkGhosts E → List Given → List Secret → Option LinesLoaded → (counts : List ℕ) → Volume → (errors errors' : Errors E) → Type 0
+TellsAnyCounts K given secrets lines counts volume errors errors' =
+    MatchBool (counts_asked given) (TellsCounts K given secrets lines counts volume errors errors') (TellsLong K lines secrets counts errors errors')
 
 -- it is told whole how many of these ranges have the text of each pattern in their place, and a form counts for its pattern
-pub record TellsTotals {E : Type 0} (K : SinkGhosts E) (given : List Given) (secrets : List Secret) (ranges : List Occurrence) (volume : Volume) (errors errors' : Errors E) : Type 0 where
+pub record TellsTotals {E : Type 0} (K : SinkGhosts E) (given : List Given) (secrets : List Secret) (lines : Option LinesLoaded) (ranges : List Occurrence) (volume : Volume) (errors errors' : Errors E) : Type 0 where
   pub counts : List ℕ
-  pub totals : AreTotals (length secrets) ranges counts
-  pub told : TellsBytes K errors errors' (totals_text given (secret_lines secrets) (sums_of secrets counts) volume)
+  pub totals : AreTotals (numbers_with lines (length secrets)) ranges counts
+  pub told : TellsBytes K errors errors' (totals_by lines given secrets counts volume)
   pub whole : errors'.failed ≡ false
 
--- of all patterns that were loaded the pieces are told, where they are not clean
+-- of all patterns that were loaded the pieces are told, where they are not clean; and with rules how many lines were too long
 pub record WarnsCall {E : Type 0} (K : SinkGhosts E) (call : Call) (left : Option (List ℕ)) (errors errors' : Errors E) : Type 0 where
   pub load : Loaded
   pub between : Option (List ℕ)
   pub loaded : AreLoaded (reading_by call) call.given load left between
-  pub told : TellsWarnings K (has Strict call.given) call.given load.secrets (redactor_by_given call.given load) errors errors'
+  pub meanwhile : Errors E
+  pub told : TellsWarnings K (has Strict call.given) call.given load.secrets (redactor_by_given call.given load) errors meanwhile
+  pub counts : List ℕ
+  pub long : TellsLong K load.lines load.secrets counts meanwhile errors'
+
+-- a text of such numbers: with rules those of all patterns and rules, or that of long lines
+abbrev pub IsNumbersLine : List Given → List Secret → Option LinesLoaded → (counts : List ℕ) → Volume → List ℕ → Type 0
+IsNumbersLine given secrets None counts volume line = line ≡ totals_text given (secret_lines secrets) counts volume
+IsNumbersLine given secrets (Some lines) counts volume line = IsToldOf given secrets (Some lines) counts volume line
 
 -- such lines are told, and behind them such numbers
-pub record TellsNumbers {E : Type 0} (K : SinkGhosts E) (call : Call) (secrets : List Secret) (left left' : Option (List ℕ)) (errors errors' : Errors E) : Type 0 where
+pub record TellsNumbers {E : Type 0} (K : SinkGhosts E) (call : Call) (secrets : List Secret) (lines : Option LinesLoaded) (left left' : Option (List ℕ)) (errors errors' : Errors E) : Type 0 where
   pub counts : List ℕ
   pub volume : Volume
   pub bounded : AreBounded call.holds (names_asked call.given) counts volume left left'
   pub meanwhile : Errors E
   pub words : Tells K (IsWordLine call) errors meanwhile
-  pub told : Tells K (λ line. line ≡ totals_text call.given (secret_lines secrets) counts volume) meanwhile errors'
+  pub told : Tells K (IsNumbersLine call.given secrets lines counts volume) meanwhile errors'
 
 -- the numbers of the patterns that were loaded
 pub record TellsCallNumbers {E : Type 0} (K : SinkGhosts E) (call : Call) (left left' : Option (List ℕ)) (errors errors' : Errors E) : Type 0 where
   pub load : Loaded
   pub between : Option (List ℕ)
   pub loaded : AreLoaded (reading_by call) call.given load left between
-  pub numbers : TellsNumbers K call load.secrets between left' errors errors'
+  pub numbers : TellsNumbers K call load.secrets load.lines between left' errors errors'
 
 -- or no number is told
 abbrev pub TellsAnyNumbers : {E : Type 0} → SinkGhosts E → Call → (left left' : Option (List ℕ)) → (errors errors' : Errors E) → Type 0
@@ -343,7 +373,7 @@ module _ {R : Type 0} {Reads : Readers R} {W : Type 0} (Writes : Writers W) wher
       pub warned : TellsWarnings K (has Strict call.given) call.given load.secrets (redactor_by_given call.given load) streams.errors meanwhile
       pub volume : Volume
       pub read : ReadsVolume call.holds (names_asked call.given) no_volume volume between (bytes_left streams'.input)
-      pub counted : TellsTotals K call.given load.secrets ranges volume meanwhile streams'.errors
+      pub counted : TellsTotals K call.given load.secrets load.lines ranges volume meanwhile streams'.errors
 
     -- nothing was written or told
     pub record IsUntouched (streams streams' : Streams R W E Reads) : Type 0 where
@@ -369,7 +399,7 @@ module _ {R : Type 0} {Reads : Readers R} {W : Type 0} (Writes : Writers W) wher
     CountsRest call load streams streams' = (ranges : List Occurrence)
         × NamesHaveRanges (work_by call load) (names_asked call.given) ranges (bytes_left streams.input) (bytes_left streams'.input)
         × (volume : Volume) × ReadsVolume call.holds (names_asked call.given) no_volume volume (bytes_left streams.input) (bytes_left streams'.input)
-        × TellsTotals K call.given load.secrets ranges volume streams.errors streams'.errors
+        × TellsTotals K call.given load.secrets load.lines ranges volume streams.errors streams'.errors
 
     -- what comes of the files of a call whose patterns were loaded and whose pieces were looked at
     pub record RestOutcome (call : Call) (load : Loaded) (result : Result Bool Failure) (streams streams' : Streams R W E Reads) : Type 0 where
@@ -377,14 +407,14 @@ module _ {R : Type 0} {Reads : Readers R} {W : Type 0} (Writes : Writers W) wher
           (output_bytes Writes streams.output) (output_bytes Writes streams'.output)
       pub begins : (streams'.output ≡ streams.output) ⊎ ((lines : List (List ℕ)) × AreCut (work_by call load) (names_asked call.given) lines (bytes_left streams.input) (bytes_left streams'.input)
           (output_bytes Writes streams.output) (output_bytes Writes streams'.output))
-      pub quiet : counts_asked call.given ≡ false → result ≡ Ok true → streams'.errors ≡ streams.errors
+      pub quiet : counts_asked call.given ≡ false → result ≡ Ok true → (counts : List ℕ) × TellsLong K load.lines load.secrets counts streams.errors streams'.errors
       pub counts : counts_asked call.given ≡ true → result ≡ Ok true → CountsRest call load streams streams'
       pub partly : result ≡ Ok false
           → TellsSome K (IsLineOf call (OutputFails streams.output streams'.output)) streams.errors streams'.errors
       pub fails : IfErr result (MayFail call (OutputFails streams.output streams'.output))
       pub told : OnErr result (Tells K (IsLineOf call (OutputFails streams.output streams'.output)) streams.errors streams'.errors)
       pub other : IfErr result (λ failure. (unclean : Unclean) → failure ≡ UncleanPiece unclean → ⊥)
-      pub numbers : Tells K (IsWordLine call) streams.errors streams'.errors ⊎ TellsNumbers K call load.secrets (bytes_left streams.input) (bytes_left streams'.input) streams.errors streams'.errors
+      pub numbers : Tells K (IsWordLine call) streams.errors streams'.errors ⊎ TellsNumbers K call load.secrets load.lines (bytes_left streams.input) (bytes_left streams'.input) streams.errors streams'.errors
 
     -- what comes of the files, where the failure says why they are not redacted
     pub record RunOutcome (work : Work) (result : Result Bool Failure) (streams streams' : Streams R W E Reads) : Type 0 where
@@ -405,30 +435,17 @@ module _ {R : Type 0} {Reads : Readers R} {W : Type 0} (Writes : Writers W) wher
     abbrev pub WarnedJob : {F X : Type 0} → Folders F X → (strict : Bool) → Job F → Patterns → Result Bool Failure → (streams streams' : Streams R W E Reads) → Type 0
     WarnedJob D strict job p result streams streams' = WarnedOutcome strict (work_of D job (redactor_of job p)) result streams streams'
 
-    -- the same of a call whose patterns were loaded as these rules, and whose key is this, with the bytes that the input has left since
-    abbrev pub LoadOutcome : {F X : Type 0} → Folders F X → F → List Given → List Rule → Option (Bor (List ℕ)) → Result Bool Failure → (streams streams' : Streams R W E Reads) → Type 0
-    LoadOutcome D folder given rules key result streams streams' = (left : Option (List ℕ))
-        → AreLoaded (reading_by (call_of D folder given)) given (loaded_as rules (key_lent key)) left (bytes_left streams.input)
+    -- the same of a call whose patterns, rules and key were loaded, with the bytes that the input has left since
+    abbrev pub LoadOutcome : {F X : Type 0} → Folders F X → F → List Given → Loaded → Result Bool Failure → (streams streams' : Streams R W E Reads) → Type 0
+    LoadOutcome D folder given load result streams streams' = (left : Option (List ℕ))
+        → AreLoaded (reading_by (call_of D folder given)) given load left (bytes_left streams.input)
         → CallOutcome (call_of D folder given) left result streams streams'
 
     -- the same behind what is told of doubtful patterns of lists
-    abbrev pub DoubtedOutcome : {F X : Type 0} → Folders F X → F → List Given → List Rule → Option (Bor (List ℕ)) → Result Bool Failure → (streams streams' : Streams R W E Reads) → Type 0
-    DoubtedOutcome D folder given rules key result streams streams' = (first : Errors E)
-        → TellsDoubts K (has Strict given) given (secrets_of rules) first streams.errors
-        → LoadOutcome D folder given rules key result (record streams { errors = first }) streams'
-
-    -- and of one whose key is to be loaded
-    abbrev pub KeylessOutcome : {F X : Type 0} → Folders F X → F → List Given → List Rule → Result Bool Failure → (streams streams' : Streams R W E Reads) → Type 0
-    KeylessOutcome D folder given rules result streams streams' = (left : Option (List ℕ))
-        → AreGiven (reading_by (call_of D folder given)) given (secrets_of rules) left (bytes_left streams.input)
-        → CallOutcome (call_of D folder given) left result streams streams'
-
-    -- the same once the bytes of the key were read too
-    abbrev pub KeyedOutcome : {F X : Type 0} → Folders F X → F → List Given → List Rule → (key : List ℕ) → Result Bool Failure → (streams streams' : Streams R W E Reads) → Type 0
-    KeyedOutcome D folder given rules key result streams streams' = (left between : Option (List ℕ))
-        → AreGiven (reading_by (call_of D folder given)) given (secrets_of rules) left between
-        → IsKeyGiven (reading_by (call_of D folder given)) (last_value Pseudonym given) (Some key) between (bytes_left streams.input)
-        → CallOutcome (call_of D folder given) left result streams streams'
+    abbrev pub DoubtedOutcome : {F X : Type 0} → Folders F X → F → List Given → Loaded → Result Bool Failure → (streams streams' : Streams R W E Reads) → Type 0
+    DoubtedOutcome D folder given load result streams streams' = (first : Errors E)
+        → TellsDoubts K (has Strict given) given load.secrets first streams.errors
+        → LoadOutcome D folder given load result (record streams { errors = first }) streams'
 
     -- and of a call whose patterns are to be loaded
     abbrev pub AskedOutcome : {F X : Type 0} → Folders F X → F → List Given → Result Bool Failure → (streams streams' : Streams R W E Reads) → Type 0
@@ -467,3 +484,27 @@ WarnsAsked K D folder given streams streams' = WarnsCall K (call_of D folder giv
 abbrev pub NumbersToldAsked : {R W E F X : Type 0} {Reads : Readers R} → SinkGhosts E → Folders F X → F → List Given → (streams streams' : Streams R W E Reads) → Type 0
 NumbersToldAsked K D folder given streams streams' =
     TellsUpToEnd K (call_of D folder given) (OutputFails streams.output streams'.output) (bytes_left streams.input) (bytes_left streams'.input) streams.errors streams'.errors
+
+-- patterns and rules cannot be loaded, or with them the key
+abbrev pub CannotSeek : Call → Failure → Type 0
+CannotSeek call failure =
+    ((failure ≡ Arguments NoPattern) × GivesNoPattern call.given)
+    ⊎ (CannotLoadAll (reading_by call) call.given failure ⊎ CannotLoadLines call.given failure)
+
+abbrev pub CannotLoadSought : Call → Failure → Type 0
+CannotLoadSought call failure = CannotSeek call failure ⊎ (CannotLoadKey (reading_by call) call.given failure ⊎ (failure ≡ Other OutOfMemory))
+
+module _ {F X R : Type 0} {Reads : Readers R} (D : Folders F X) (folder : F) (given : List Given) where
+  -- patterns and rules were loaded, and held so
+  abbrev pub GivesSought : Sought → (input input' : FromRead R Reads) → Type 0
+  GivesSought sought input input' =
+      AreSought (reading_by (call_of D folder given)) given (secrets_of sought.rules.items) (lines_sought sought) (bytes_left input) (bytes_left input')
+
+  -- and the key, by which they are held then
+  abbrev pub IsKeyedBy : (sought all : Sought) → (input input' : FromRead R Reads) → Type 0
+  IsKeyedBy sought all input input' = (key : Option (List ℕ))
+      × IsKeyGiven (reading_by (call_of D folder given)) (last_value Pseudonym given) key (bytes_left input) (bytes_left input')
+      × (loaded_of all ≡ loaded_by given (secrets_of sought.rules.items) (lines_sought sought) key)
+
+  abbrev pub LoadsSought : Sought → (input input' : FromRead R Reads) → Type 0
+  LoadsSought sought input input' = AreLoaded (reading_by (call_of D folder given)) given (loaded_of sought) (bytes_left input) (bytes_left input')

@@ -1,39 +1,44 @@
 -- What a check sees of files, one after another, and what it tells.
-use Rattle.std.specs.Prelude.{◌≡◌, ◌⊎◌, ℕ, ◌<◌, ◌≤◌, ◌||◌, Bool, true, false, List, [], ◌∷◌, ◌++◌, Option, Result, IfErr, IfOk, OnErr}
+use Rattle.std.specs.Prelude.{◌≡◌, ◌⊎◌, ℕ, ◌<◌, ◌≤◌, ◌||◌, Bool, true, false, List, [], ◌∷◌, ◌++◌, Option, None, Some, Result, IfErr, IfOk, OnErr, codes, decimal, is_some, option_map, string_bytes}
 use Rattle.std.specs.List.{All, concat}
 use Rattle.std.specs.declared.io.traits.Read.{Ghosts as Readers}
 use Rattle.aho_core.specs.Listing.{IsMember}
 use Rattle.aho_core.specs.Patterns.{Patterns}
 use Rattle.aho_devices.specs.declared.adapters.FromRead.{FromRead}
 use Rattle.aho_devices.specs.declared.device.Sink.{Ghosts as SinkGhosts}
-use Rattle.programs.specs.Names.{name_bytes}
+use Rattle.programs.specs.Names.{IsOneOf, name_bytes}
 use Rattle.programs.specs.Streams.{bytes_left}
 use Rattle.programs.specs.Telling.{Tells, TellsBytes}
 use Rattle.programs.specs.declared.errors.Errors.{Errors}
 use Rattle.programs.specs.declared.failure.Failure.TheVariants.{OutOfMemory}
 use Rattle.programs.specs.declared.reason.Reason.{Reason}
-use Rattle.acredact.specs.Arguments.{AsksToCheck, Given, GivesNoPattern, has, words_asked}
+use Rattle.acredact.specs.Arguments.{AsksToCheck, Given, GivesNoPattern, gives_rules, has, words_asked}
 use Rattle.acredact.specs.Builds.{patterns_by_given}
-use Rattle.acredact.specs.Calls.{Call, IsBuildRefusal, IsUnreadLine, call_of, gives_pattern, names_asked, reading_by}
+use Rattle.acredact.specs.Calls.{Call, IsBuildRefusal, IsLineEndFailure, IsUnreadLine, call_of, gives_pattern, lines_by, names_asked, reading_by}
 use Rattle.acredact.specs.Doubts.{IsDoubtFailure, TellsDoubts, all_doubt_lines}
 use Rattle.acredact.specs.Failures.{IsFailureLine}
 use Rattle.acredact.specs.Faults.{IsReadReason}
 use Rattle.acredact.specs.Files.{are_none, unread_line}
-use Rattle.acredact.specs.Loading.{AreGiven, CannotLoadOne}
-use Rattle.acredact.specs.Looks.{IsLook, HoldsNoMatch, is_found, sought}
+use Rattle.acredact.specs.LineRules.{LinesLoaded}
+use Rattle.acredact.specs.Loading.{AreGiven, AreSought, CannotLoadLines, CannotLoadOne, lines_sought}
+use Rattle.acredact.specs.Looks.{IsLook, HoldsNoMatch, is_found, sought, sought_with}
+use Rattle.acredact.specs.Messages.{shown}
 use Rattle.acredact.specs.Reads.{OfName}
-use Rattle.acredact.specs.Secrets.{Redactor}
+use Rattle.acredact.specs.RuleLines.{long_line}
+use Rattle.acredact.specs.Secrets.{LineCovered, Redactor}
 use Rattle.acredact.specs.Tables.{Secret, patterns_in, secrets_of}
 use Rattle.acredact.specs.declared.arguments.Mistake.TheVariants.{NoPattern, OutOfMemory as NoRoom}
 use Rattle.acredact.specs.declared.arguments.Word.TheVariants.{Strict}
 use Rattle.acredact.specs.declared.failure.Failure.{Failure}
-use Rattle.acredact.specs.declared.failure.Failure.TheVariants.{Arguments, Other}
+use Rattle.acredact.specs.declared.failure.Failure.TheVariants.{Arguments, LineEnd, Other}
 use Rattle.acredact.specs.declared.folder.Folder.{Ghosts as Folders}
+use Rattle.acredact.specs.declared.load.Sought.{Sought}
 use Rattle.acredact.specs.declared.look.Look.{Look}
 use Rattle.acredact.specs.declared.look.Look.TheVariants.{Clean, Found, Unread}
+use Rattle.acredact.specs.declared.look.Looker.{Ghosts as Lookers}
 use Rattle.acredact.specs.declared.look.Searched.{Searched}
 use Rattle.acredact.specs.declared.look.Verdict.{Verdict}
-use Rattle.acredact.specs.declared.patterns.Rule.{Rule}
+use Rattle.secret_rules.specs.declared.rule.Rule.{Rule as LineRule}
 use Rattle.acredact.specs.declared.streams.Streams.{Streams}
 
 -- what is looked for, what the folder holds under a name, where it tells that, and why it may not open what has the name
@@ -45,12 +50,35 @@ pub record Quest : Type 1 where
 abbrev pub quest_of : {F X : Type 0} → Folders F X → F → (words : Bool) → Patterns → Quest
 quest_of D folder words p = record { holds = D.holds folder; refuses = D.refuses folder; redactor = sought p words }
 
-abbrev pub quest_by : Call → List Secret → Quest
-quest_by call secrets = record {
+abbrev pub quest_for : {F X : Type 0} → Folders F X → F → Redactor → Quest
+quest_for D folder r = record { holds = D.holds folder; refuses = D.refuses folder; redactor = r }
+
+-- what holds of all that a looker seeks
+abbrev pub IfSought : {X : Type 0} → Lookers X → X → (Redactor → Type 0) → Type 0
+IfSought G looker Holds = (r : Redactor) → G.seeks looker r → Holds r
+
+abbrev pub quest_by : Call → List Secret → Option LinesLoaded → Quest
+quest_by call secrets lines = record {
   holds = call.holds;
   refuses = call.refuses;
-  redactor = sought (patterns_by_given call.given (patterns_in secrets)) (words_asked call.given);
+  redactor = sought_with (patterns_by_given call.given (patterns_in secrets)) (words_asked call.given) (option_map (lines_by []) lines);
 }
+
+-- how what counts in a line is called: a pattern by its number, a rule by its name, or a line that is too long
+abbrev pub IsRunName : List LineRule → ℕ → List ℕ → Type 0
+IsRunName rules most name =
+    ((number : ℕ) × (name ≡ codes "pattern " ++ decimal number))
+    ⊎ (((rule : LineRule) × IsMember rules rule × (name ≡ shown (string_bytes rule.id)))
+    ⊎ (name ≡ codes "line of more than " ++ (decimal most ++ codes " bytes")))
+
+-- the line that tells in which line of which file it is: nothing of that line
+abbrev pub run_line : (file : List ℕ) → ℕ → (name : List ℕ) → List ℕ
+run_line file number name = shown file ++ (codes ":" ++ (decimal number ++ (codes ": " ++ (name ++ codes "\n"))))
+
+abbrev pub IsRunLine : List LineRule → ℕ → List (List ℕ) → List ℕ → Type 0
+IsRunLine rules most files line =
+    ((file : List ℕ) × (number : ℕ) × (name : List ℕ) × IsOneOf file files × IsRunName rules most name × (line ≡ run_line file number name))
+    ⊎ ((count : ℕ) × (line ≡ long_line most count))
 
 -- the file of this name was found to be this: what may be told of one is that a read fails, or that the folder refuses it
 abbrev pub IsLookOf : Quest → List ℕ → Look → (left left' : Option (List ℕ)) → Type 0
@@ -75,25 +103,33 @@ AreUnmatched quest [] left left' = left' ≡ left
 AreUnmatched quest (name ∷ names) left left' =
     (between : Option (List ℕ)) × OfName quest.holds name (HoldsNoMatch quest.redactor) left between × AreUnmatched quest names between left'
 
--- of a call whose patterns were loaded each file was looked at so
+-- of a call whose patterns and rules were loaded each file was looked at so
 pub record SeesCall (call : Call) (found : Bool) (lines : List (List ℕ)) (left left' : Option (List ℕ)) : Type 0 where
   pub some : gives_pattern call.given ≡ true
   pub secrets : List Secret
+  pub rules : Option LinesLoaded
   pub between : Option (List ℕ)
-  pub loaded : AreGiven (reading_by call) call.given secrets left between
-  pub seen : AreSeen (quest_by call secrets) (names_asked call.given) found lines between left'
+  pub loaded : AreSought (reading_by call) call.given secrets rules left between
+  pub seen : AreSeen (quest_by call secrets rules) (names_asked call.given) found lines between left'
 
 -- and nothing counts in any
 pub record IsUnmatchedCall (call : Call) (left left' : Option (List ℕ)) : Type 0 where
   pub some : gives_pattern call.given ≡ true
   pub secrets : List Secret
+  pub rules : Option LinesLoaded
   pub between : Option (List ℕ)
-  pub loaded : AreGiven (reading_by call) call.given secrets left between
-  pub unmatched : AreUnmatched (quest_by call secrets) (names_asked call.given) between left'
+  pub loaded : AreSought (reading_by call) call.given secrets rules left between
+  pub unmatched : AreUnmatched (quest_by call secrets rules) (names_asked call.given) between left'
 
 -- why patterns are not searched for: the library refuses just these, or memory runs out
 abbrev pub IsBuildFailure : Patterns → Failure → Type 0
 IsBuildFailure p failure = IsBuildRefusal p failure ⊎ (failure ≡ Other OutOfMemory)
+
+-- or one holds a line end, beside rules
+abbrev pub IsReadyFailure : List Given → Sought → Failure → Type 0
+IsReadyFailure given sought failure =
+    IsBuildFailure (patterns_by_given given (patterns_in (secrets_of sought.rules.items))) failure
+    ⊎ ((is_some sought.lines ≡ true) × (number : ℕ) × (failure ≡ LineEnd number))
 
 -- a pattern of a list that may be meant otherwise is refused
 abbrev pub IsDoubtedCheck : Call → Failure → Type 0
@@ -111,16 +147,31 @@ IsRefusedCheck call failure = (secrets : List Secret) × (left : Option (List �
 abbrev pub CheckFails : Call → Failure → Type 0
 CheckFails call failure =
     ((failure ≡ Arguments NoRoom) ⊎ ((failure ≡ Arguments NoPattern) × GivesNoPattern call.given))
-    ⊎ (CannotLoadOne (reading_by call) call.given failure ⊎ (IsRefusedCheck call failure ⊎ ((failure ≡ Other OutOfMemory) ⊎ IsDoubtedCheck call failure)))
+    ⊎ ((CannotLoadOne (reading_by call) call.given failure ⊎ (CannotLoadLines call.given failure ⊎ IsLineEndFailure call failure)) ⊎ (IsRefusedCheck call failure ⊎ ((failure ≡ Other OutOfMemory) ⊎ IsDoubtedCheck call failure)))
 
 -- a line that warns of a pattern of a list that was loaded, where such a one is not refused
 abbrev pub WarnsOfList : Call → List ℕ → Type 0
 WarnsOfList call line = (has Strict call.given ≡ false) × (secrets : List Secret) × (left : Option (List ℕ)) × (between : Option (List ℕ))
     × AreGiven (reading_by call) call.given secrets left between × IsMember (all_doubt_lines call.given secrets) line
 
--- what may be told of a check before it ends: of a file that cannot be read, or such a warning
+-- with rules a line that tells where one marks, or how many lines were too long
+abbrev pub TellsRun : Call → List ℕ → Type 0
+TellsRun call line = (secrets : List Secret) × (rules : LinesLoaded) × (left : Option (List ℕ)) × (between : Option (List ℕ))
+    × AreSought (reading_by call) call.given secrets (Some rules) left between × IsRunLine rules.rules rules.most (names_asked call.given) line
+
+-- what may be told of a check before it ends: of a file that cannot be read, such a warning, or such a line
 abbrev pub IsCheckLine : Call → List ℕ → Type 0
-IsCheckLine call line = IsUnreadLine (names_asked call.given) line ⊎ WarnsOfList call line
+IsCheckLine call line = IsUnreadLine (names_asked call.given) line ⊎ (WarnsOfList call line ⊎ TellsRun call line)
+
+-- what is told while files are looked at: just these lines, or with rules also where one marks
+abbrev pub TellsSeen : {E : Type 0} → SinkGhosts E → Option LineCovered → List (List ℕ) → (lines : List (List ℕ)) → (errors errors' : Errors E) → Type 0
+TellsSeen K None names lines errors errors' = TellsBytes K errors errors' (concat lines)
+TellsSeen K (Some l) names lines errors errors' = Tells K (λ line. IsUnreadLine names line ⊎ IsRunLine l.rules l.most names line) errors errors'
+
+-- or of some of them
+abbrev pub TellsSeenSome : {E : Type 0} → SinkGhosts E → Option LineCovered → List (List ℕ) → (errors errors' : Errors E) → Type 0
+TellsSeenSome K None names errors errors' = Tells K (IsUnreadLine names) errors errors'
+TellsSeenSome K (Some l) names errors errors' = Tells K (λ line. IsUnreadLine names line ⊎ IsRunLine l.rules l.most names line) errors errors'
 
 module _ {E : Type 0} (K : SinkGhosts E) where
   -- of a call whose patterns were loaded each file was looked at, and these lines were told, behind what is told of patterns of lists
@@ -128,7 +179,7 @@ module _ {E : Type 0} (K : SinkGhosts E) where
     pub sees : SeesCall call found lines left left'
     pub between : Errors E
     pub doubts : TellsDoubts K (has Strict call.given) call.given sees.secrets errors between
-    pub told : TellsBytes K between errors' (concat lines)
+    pub told : TellsSeen K (option_map (lines_by []) sees.rules) (names_asked call.given) lines between errors'
 
   -- nothing was told but of the patterns of the lists that were loaded
   pub record TellsListsAlone (call : Call) (left : Option (List ℕ)) (errors errors' : Errors E) : Type 0 where
@@ -139,14 +190,14 @@ module _ {E : Type 0} (K : SinkGhosts E) where
 
   -- what comes of looking at files by these names, where the error says why not all were looked at
   pub record SeesFiles {X : Type 0} (quest : Quest) (names : List (List ℕ)) (result : Result Verdict X) (left left' : Option (List ℕ)) (errors errors' : Errors E) : Type 0 where
-    pub seen : IfOk result (λ verdict. (lines : List (List ℕ)) × (verdict.all ≡ are_none lines) × AreSeen quest names verdict.found lines left left' × TellsBytes K errors errors' (concat lines))
-    pub quiet : IfOk result (λ verdict. verdict.all ≡ true → errors' ≡ errors)
-    pub told : OnErr result (Tells K (IsUnreadLine names) errors errors')
+    pub seen : IfOk result (λ verdict. (lines : List (List ℕ)) × (verdict.all ≡ are_none lines) × AreSeen quest names verdict.found lines left left' × TellsSeen K quest.redactor.lines names lines errors errors')
+    pub quiet : quest.redactor.lines ≡ None → IfOk result (λ verdict. verdict.all ≡ true → errors' ≡ errors)
+    pub told : OnErr result (TellsSeenSome K quest.redactor.lines names errors errors')
 
   -- what comes of a check
   pub record CheckOutcome (call : Call) (result : Result Verdict Failure) (left left' : Option (List ℕ)) (errors errors' : Errors E) : Type 0 where
     pub seen : IfOk result (λ verdict. (lines : List (List ℕ)) × (verdict.all ≡ are_none lines) × LooksBehind call verdict.found lines left left' errors errors')
-    pub quiet : IfOk result (λ verdict. verdict.all ≡ true → TellsListsAlone call left errors errors')
+    pub quiet : gives_rules call.given ≡ false → IfOk result (λ verdict. verdict.all ≡ true → TellsListsAlone call left errors errors')
     pub told : OnErr result (Tells K (IsCheckLine call) errors errors')
     pub fails : IfErr result (CheckFails call)
 
@@ -171,7 +222,7 @@ module _ {E : Type 0} (K : SinkGhosts E) where
   pub record CheckStatus (call : Call) (status : ℕ) (left left' : Option (List ℕ)) (errors errors' : Errors E) : Type 0 where
     pub unmatched : status ≡ 0 → IsUnmatchedCall call left left'
     pub matched : status ≡ 1 → SeesCall call true [] left left'
-    pub quiet : status < 2 → TellsListsAlone call left errors errors'
+    pub quiet : gives_rules call.given ≡ false → status < 2 → TellsListsAlone call left errors errors'
     pub tells : status ≡ 2 → TellsUnread call left left' errors errors' ⊎ TellsCheckEnd call errors errors'
     pub bound : status ≤ 2
 
@@ -182,15 +233,19 @@ module _ {E F Y R : Type 0} {Reads : Readers R} (K : SinkGhosts E) (D : Folders 
   SeesSearched files p result input input' errors errors' =
       SeesFiles K (quest_of D files.folder.now files.words p) (name_bytes files.names.now) result (bytes_left input) (bytes_left input') errors errors'
 
-  -- and for those of some rules in the files that are asked for
-  abbrev pub SeesRules : F → List Given → List Rule → Result Verdict Failure → (input input' : FromRead R Reads) → (errors errors' : Errors E) → Type 0
-  SeesRules folder given rules result input input' errors errors' =
-      SeesFiles K (quest_by (call_of D folder given) (secrets_of rules)) (names_asked given) result (bytes_left input) (bytes_left input') errors errors'
+  abbrev pub SeesSearchedFor : {X : Type 0} → Searched F → Redactor → Result Verdict X → (input input' : FromRead R Reads) → (errors errors' : Errors E) → Type 0
+  SeesSearchedFor files r result input input' errors errors' =
+      SeesFiles K (quest_for D files.folder.now r) (name_bytes files.names.now) result (bytes_left input) (bytes_left input') errors errors'
 
-  -- and for those that were loaded as these rules, with the bytes that the input has left since
-  abbrev pub ChecksLoaded : F → List Given → List Rule → Result Verdict Failure → (input input' : FromRead R Reads) → (errors errors' : Errors E) → Type 0
-  ChecksLoaded folder given rules result input input' errors errors' = (left : Option (List ℕ))
-      → gives_pattern given ≡ true → AreGiven (reading_by (call_of D folder given)) given (secrets_of rules) left (bytes_left input)
+  -- and for what is sought in the files that are asked for
+  abbrev pub SeesSought : F → List Given → Sought → Result Verdict Failure → (input input' : FromRead R Reads) → (errors errors' : Errors E) → Type 0
+  SeesSought folder given sought result input input' errors errors' =
+      SeesFiles K (quest_by (call_of D folder given) (secrets_of sought.rules.items) (lines_sought sought)) (names_asked given) result (bytes_left input) (bytes_left input') errors errors'
+
+  -- and for what was loaded so, with the bytes that the input has left since
+  abbrev pub ChecksSought : F → List Given → Sought → Result Verdict Failure → (input input' : FromRead R Reads) → (errors errors' : Errors E) → Type 0
+  ChecksSought folder given sought result input input' errors errors' = (left : Option (List ℕ))
+      → gives_pattern given ≡ true → AreSought (reading_by (call_of D folder given)) given (secrets_of sought.rules.items) (lines_sought sought) left (bytes_left input)
       → CheckOutcome K (call_of D folder given) result left (bytes_left input') errors errors'
 
   abbrev pub ChecksGiven : F → List Given → Result Verdict Failure → (input input' : FromRead R Reads) → (errors errors' : Errors E) → Type 0

@@ -1,5 +1,6 @@
 -- Why a call ends early, and how that is told.
 use Rattle.std.specs.Prelude.{◌≡◌, ◌⊎◌, ℕ, Bool, true, false, List, ◌++◌, Some, codes, decimal}
+use Rattle.aho_core.specs.Texts.{build_error_text}
 use Rattle.programs.specs.Failures.{failure_text}
 use Rattle.programs.specs.Messages.{Message, reason_text}
 use Rattle.programs.specs.declared.failure.Failure.{Failure as OtherFailure}
@@ -8,8 +9,9 @@ use Rattle.acredact.specs.LineFaults.{line_fault_text}
 use Rattle.programs.specs.declared.reason.Reason.{Reason}
 use Rattle.acredact.specs.Messages.{about, alone, line_about, message_about, told_line, unclean_line}
 use Rattle.acredact.specs.Mistakes.{mistake_line}
+use Rattle.acredact.specs.RuleLines.{IsBadRuleLine}
 use Rattle.acredact.specs.declared.failure.Failure.{Failure}
-use Rattle.acredact.specs.declared.failure.Failure.TheVariants.{NotText, Arguments, Pattern, Unread, Empty, NoValue, ShortKey, Line, Short, Unclean, Counts, Other}
+use Rattle.acredact.specs.declared.failure.Failure.TheVariants.{NotText, Arguments, Pattern, Unread, Empty, NoValue, ShortKey, Line, Short, Unclean, Toml, NoRule, Rule, Keywords, LineEnd, Counts, Other}
 use Rattle.acredact.specs.declared.patterns.BadLine.{BadLine}
 
 -- the output failed, or took nothing
@@ -37,6 +39,15 @@ bad_line name bad = message_about name (Some bad.number) (line_fault_text bad.fa
 abbrev pub short_line : ℕ → List ℕ
 short_line number = codes "acredact" ++ (codes ": pattern " ++ (decimal number ++ codes " has fewer than four bytes: its forms are not redacted\n"))
 
+-- the line that tells that a text is no TOML: its name and line, and what the reader of TOML says
+abbrev pub IsTomlLine : List ℕ → ℕ → List ℕ → Type 0
+IsTomlLine name number line = (cause : List ℕ) × (line ≡ told_line (message_about name (Some number) cause))
+
+-- the line that tells which pattern holds a line end, beside rules, and a line that is none
+abbrev pub line_end_line : ℕ → List ℕ
+line_end_line number = codes "acredact" ++ (codes ": pattern " ++ (decimal number
+    ++ codes " holds a line end: beside rules each of its lines has to be given as a pattern, and one is not\n"))
+
 -- the line that tells a failure: of what, and why. Of a pattern it holds nothing, and of a file its name
 abbrev pub IsFailureLine : Failure → List ℕ → Type 0
 IsFailureLine NotText line = line ≡ told_line (alone (codes "an argument is not UTF-8"))
@@ -49,5 +60,10 @@ IsFailureLine (ShortKey name) line = line ≡ told_line (about name.now (codes "
 IsFailureLine (Line name bad) line = line ≡ told_line (bad_line name.now bad)
 IsFailureLine (Short number) line = line ≡ short_line number
 IsFailureLine (Unclean unclean) line = line ≡ unclean_line unclean
+IsFailureLine (Toml name number error) line = IsTomlLine name.now number line
+IsFailureLine (NoRule name) line = line ≡ told_line (about name.now (codes "no [[rules]]"))
+IsFailureLine (Rule name bad) line = IsBadRuleLine name.now bad line
+IsFailureLine (Keywords error) line = line ≡ told_line (about (codes "--rules") (build_error_text error))
+IsFailureLine (LineEnd number) line = line ≡ line_end_line number
 IsFailureLine Counts line = line ≡ told_line (alone (codes "the counts cannot be written"))
 IsFailureLine (Other other) line = IsOtherLine other line

@@ -1,5 +1,5 @@
 -- What is written of files, one after another, and what is told of those that cannot be read.
-use Rattle.std.specs.Prelude.{◌≡◌, ◌⊎◌, ℕ, ◌≤◌, ◌&&◌, length, Bool, true, false, List, [], ◌∷◌, ◌++◌, Option, None, Result, Ok, IfErr, IfOk, IfSome, OnErr, option_map}
+use Rattle.std.specs.Prelude.{◌≡◌, ◌⊎◌, ℕ, ◌≤◌, ◌&&◌, length, Bool, true, false, List, [], ◌∷◌, ◌++◌, Option, MatchOption, None, Some, Result, Ok, IfErr, IfOk, IfSome, OnErr, option_map, take}
 use Rattle.std.specs.Io.KnownBytes.{Appends, Consumes, IsAtEnd, Keeps}
 use Rattle.std.specs.List.{concat}
 use Rattle.std.specs.declared.io.traits.Read.{Ghosts as Readers}
@@ -21,8 +21,9 @@ use Rattle.programs.specs.declared.reason.Reason.{Reason}
 use Rattle.acredact.specs.Faults.{IsOutputEnd, IsReadReason}
 use Rattle.acredact.specs.Messages.{line_about, output_line}
 use Rattle.acredact.specs.Reads.{OfName, ReadsText}
-use Rattle.acredact.specs.Secrets.{BeginsRedaction, IfOf, IsPromptUpTo, IsRedaction, IsWrittenUpTo, CanRedact, Keyed, NoneOccurs, Redactor, key_of_cover}
+use Rattle.acredact.specs.Secrets.{BeginsRedaction, CanSeek, IfOf, IsPromptUpTo, IsRedaction, IsWholeCover, IsWrittenUpTo, CanRedact, Keyed, LineCovered, NoneOccurs, Redactor, key_of_cover}
 use Rattle.acredact.specs.declared.files.Job.{Job}
+use Rattle.acredact.specs.declared.files.Lines.{Lines as JobLines}
 use Rattle.acredact.specs.declared.folder.Folder.{Ghosts as Folders}
 use Rattle.acredact.specs.declared.ways.Key.{Key}
 use Rattle.acredact.specs.declared.streams.Streams.{Streams}
@@ -42,6 +43,9 @@ keyed_of key = record { bytes = key.bytes.now; ignore_case = key.ignore_case }
 abbrev pub key_for : Bool → Option Key → Option Keyed
 key_for covers key = key_of_cover covers (option_map keyed_of key)
 
+abbrev pub lines_of : List (List ℕ) → JobLines → LineCovered
+lines_of pieces lines = record { rules = lines.rules.now; most = lines.most; own = take lines.fixed pieces }
+
 abbrev pub redactor_of : {F : Type 0} → Job F → Patterns → Redactor
 redactor_of job p = record {
   patterns = p;
@@ -49,11 +53,12 @@ redactor_of job p = record {
   words = job.covers && job.words;
   pieces = pieces_of job.replacements.now;
   key = key_for job.covers job.key;
+  lines = option_map (lines_of (pieces_of job.replacements.now)) job.lines;
 }
 
--- an automaton suits it
+-- an automaton suits it. With rules a job is a cover, and there are texts behind those of patterns
 abbrev pub CanDo : {A F : Type 0} → Ghosts A → A → Job F → Type 0
-CanDo G automaton job = CanRedact G automaton job.covers job.replacements.now
+CanDo G automaton job = MatchOption job.lines (CanRedact G automaton job.covers job.replacements.now) (λ l. CanSeek G automaton × (job.covers ≡ true))
 
 abbrev pub work_of : {F X : Type 0} → Folders F X → Job F → Redactor → Work
 work_of D job r = record {
@@ -129,7 +134,7 @@ AreFree work (name ∷ names) left left' held held' = (between : Option (List �
 -- what lies in a match or may. Or the folder refuses it, and nothing was read or written
 abbrev pub IsUnread : Work → List ℕ → Reason → (left left' held held' : Option (List ℕ)) → Type 0
 IsUnread work name reason left left' held held' =
-    (IsReadReason reason × BeginsNamed work name left left' held held' × (work.redactor.covers ≡ true → ReachesNamed work name left left' held held'))
+    (IsReadReason reason × BeginsNamed work name left left' held held' × (IsWholeCover work.redactor → ReachesNamed work name left left' held held'))
     ⊎ (work.refuses name reason × (left' ≡ left) × Keeps held held')
 
 -- the line that tells it
@@ -177,7 +182,7 @@ module _ {W : Type 0} (Writes : Writers W) where
   pub record TextOutcome (r : Redactor) (result : Result (Option Reason) StreamError) (left left' : Option (List ℕ)) (output output' : FromWrite W) : Type 0 where
     pub redacted : result ≡ Ok None → RedactsText r left left' (output_bytes Writes output) (output_bytes Writes output')
     pub begun : BeginsText r left left' (output_bytes Writes output) (output_bytes Writes output')
-    pub near : r.covers ≡ true → IfOk result (λ unread. IfSome unread (λ reason. ReachesText r left left' (output_bytes Writes output) (output_bytes Writes output')))
+    pub near : IsWholeCover r → IfOk result (λ unread. IfSome unread (λ reason. ReachesText r left left' (output_bytes Writes output) (output_bytes Writes output')))
     pub reason : IfOk result (λ unread. IfSome unread IsReadReason)
     pub fails : FailsByOutput result output output'
 

@@ -19,7 +19,7 @@ use Rattle.secret_forms.specs.declared.form.Form.TheVariants.{Base64, Hex, Url, 
 use Rattle.acredact.specs.Files.{Work, WritesText}
 use Rattle.acredact.specs.Forms.{AskedForms}
 use Rattle.acredact.specs.Reads.{OfName}
-use Rattle.acredact.specs.Secrets.{IsRedaction, Redactor}
+use Rattle.acredact.specs.Secrets.{IsWholeRedaction, Redactor}
 use Rattle.acredact.specs.Tables.{Secret}
 use Rattle.acredact.specs.declared.forms.Nested.{Nested}
 
@@ -86,7 +86,7 @@ pub record NoneShows (asked : AskedForms) (secrets : List Secret) (text : List â
 
 -- the redaction of a text in which none stays
 pub record HidesForms (asked : AskedForms) (secrets : List Secret) (r : Redactor) (text redaction : List â„•) : Type 0 where
-  pub redacts : IsRedaction r text redaction
+  pub redacts : IsWholeRedaction r text redaction
   pub none : NoneShows asked secrets text redacts.ranges
 
 -- that of each file, one after another

@@ -32,6 +32,7 @@ pub mod Metering
 pub mod Volumes
 pub mod Bounds
 pub mod Sums
+pub mod RuleLines
 pub mod Summaries
 -- what the options add to the patterns
 pub mod Loading

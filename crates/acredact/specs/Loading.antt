@@ -1,8 +1,9 @@
 -- What the options give, one after another, and why they do not.
-use Rattle.std.specs.Prelude.{◌≡◌, ◌⊎◌, ℕ, ◌<◌, ◌≤◌, Bool, true, false, List, [], ◌∷◌, ◌++◌, Option, Some, None, IfSome, Result, Ok, Err, if◌then◌else◌, length, option_map, Vec}
+use Rattle.std.specs.Prelude.{◌≡◌, ◌⊎◌, ℕ, ◌<◌, ◌≤◌, Bool, true, false, List, [], ◌∷◌, ◌++◌, MatchOption, Option, Some, None, IfSome, Result, Ok, Err, if◌then◌else◌, codes, length, not, ◌&&◌, option_and_then, option_map, unwrap_or, Vec}
 use Rattle.std.specs.Borrow.{Bor}
-use Rattle.std.specs.List.{AllZip, filter_map}
+use Rattle.std.specs.List.{All, AllZip, filter_map}
 use Rattle.std.specs.declared.io.traits.Read.{Ghosts as Readers}
+use Rattle.aho_core.specs.declared.error.BuildError.{BuildError}
 use Rattle.aho_devices.specs.declared.adapters.FromRead.{FromRead}
 use Rattle.pseudonyms.specs.Pseudonyms.{pseudonym_rule}
 use Rattle.programs.specs.Names.{is_input}
@@ -10,7 +11,11 @@ use Rattle.programs.specs.Streams.{bytes_left}
 use Rattle.programs.specs.declared.failure.Failure.TheVariants.{OutOfMemory as NoMemory}
 use Rattle.programs.specs.declared.reason.Reason.{Reason}
 use Rattle.programs.specs.declared.reason.Reason.TheVariants.{NotFound, Denied, Directory, Irregular, NoDirectory, Links, LongName, Invalid, Full, TooLarge, Quota, Interrupted, Unavailable, Locked, NoLock, Changed, Owner, Closed, OutOfMemory, PositionLimit, ReadFault, Fault}
-use Rattle.acredact.specs.Arguments.{Given, has, last_value}
+use Rattle.aho_core.specs.Listing.{IsMember}
+use Rattle.secret_rules.specs.Tables.{TellsRules}
+use Rattle.secret_rules.specs.declared.rule.Rule.{Rule as LineRule}
+use Rattle.acredact.specs.Arguments.{Given, all_given, covers_asked, gives_rules, has, last_value}
+use Rattle.acredact.specs.LineRules.{IsBehind, IsLineRule, LinesLoaded, fixed_at, key_beside, size_in}
 use Rattle.acredact.specs.Forms.{AskedForms, HideSecrets, forms_asked, with_forms}
 use Rattle.acredact.specs.LineFaults.{IsLineFault, IsListFault, mark_in}
 use Rattle.acredact.specs.Named.{all_named}
@@ -19,13 +24,16 @@ use Rattle.acredact.specs.Reads.{OfName, ReadsText}
 use Rattle.acredact.specs.Tables.{HaveLines, HoldsBy, Secret, lines_in, secrets_of, stripped_by}
 use Rattle.acredact.specs.Values.{GiveEach, are_refused, first_fault, value_in_line, value_of_entry, whole_in}
 use Rattle.acredact.specs.declared.arguments.Word.{Word}
-use Rattle.acredact.specs.declared.arguments.Word.TheVariants.{IgnoreCase, Kind, Pattern, Patterns, Table, Env, EnvFile, Whole, With, Pseudonym, Forms, AsWord, Output, InPlace, Count, Summary, Crlf, AllowEmpty, Strict, Check, Help, Version, File}
+use Rattle.acredact.specs.declared.arguments.Word.TheVariants.{IgnoreCase, Kind, Pattern, Patterns, Table, Env, EnvFile, Whole, With, Pseudonym, Forms, AsWord, Rules as RulesFile, After, MaxLine, Output, InPlace, Count, Summary, Crlf, AllowEmpty, Strict, Check, Help, Version, File}
+use Rattle.acredact.specs.declared.arguments.Item.{Item}
 use Rattle.acredact.specs.declared.failure.Failure.{Failure}
-use Rattle.acredact.specs.declared.failure.Failure.TheVariants.{NotText, Arguments, Pattern as BadPattern, Unread, Empty, NoValue, ShortKey, Line, Short, Unclean, Counts, Other}
+use Rattle.acredact.specs.declared.failure.Failure.TheVariants.{NotText, Arguments, Pattern as BadPattern, Unread, Empty, NoValue, ShortKey, Line, Short, Unclean, Toml, NoRule, Rule as BadRule, Keywords, LineEnd, Counts, Other}
 use Rattle.acredact.specs.declared.folder.Folder.{Ghosts as Folders}
 use Rattle.acredact.specs.declared.load.Listed.{Listed}
 use Rattle.acredact.specs.declared.load.Listed.TheVariants.{Plain, Rows, Variables, Whole as WholeFile}
+use Rattle.acredact.specs.declared.line_rules.LineRules.{LineRules}
 use Rattle.acredact.specs.declared.load.Lists.{Lists}
+use Rattle.acredact.specs.declared.load.Sought.{Sought}
 use Rattle.acredact.specs.declared.patterns.BadLine.{BadLine}
 use Rattle.acredact.specs.declared.patterns.Form.{Form}
 use Rattle.acredact.specs.declared.patterns.Rule.{Rule}
@@ -111,6 +119,9 @@ OptionGives reading Kind value secrets left left' = (secrets ≡ []) × (left' �
 OptionGives reading With value secrets left left' = (secrets ≡ []) × (left' ≡ left)
 OptionGives reading Pseudonym value secrets left left' = (secrets ≡ []) × (left' ≡ left)
 OptionGives reading Forms value secrets left left' = (secrets ≡ []) × (left' ≡ left)
+OptionGives reading RulesFile value secrets left left' = (secrets ≡ []) × (left' ≡ left)
+OptionGives reading After value secrets left left' = (secrets ≡ []) × (left' ≡ left)
+OptionGives reading MaxLine value secrets left left' = (secrets ≡ []) × (left' ≡ left)
 OptionGives reading Output value secrets left left' = (secrets ≡ []) × (left' ≡ left)
 OptionGives reading Count value secrets left left' = (secrets ≡ []) × (left' ≡ left)
 OptionGives reading Summary value secrets left left' = (secrets ≡ []) × (left' ≡ left)
@@ -148,23 +159,91 @@ abbrev pub IsKeyGiven : Reading → Option (List ℕ) → Option (List ℕ) → 
 IsKeyGiven reading None key left left' = (key ≡ None) × (left' ≡ left)
 IsKeyGiven reading (Some name) key left left' = GivesKey reading name key left left'
 
--- what is read before any file is redacted: the secrets, and then the key of pseudonyms. Where forms are asked for, that names each secret
+-- a text of TOML tells these rules, each of which may be given; there may be none only where that is allowed
+pub record TellsLineRules (allow_empty : Bool) (named : Bool) (text : List ℕ) (rules : List LineRule) : Type 0 where
+  pub told : TellsRules text rules
+  pub some : rules ≡ [] → allow_empty ≡ true
+  pub right : All (IsLineRule named) rules
+
+abbrev pub TellsLineRulesBy : {F : Type 0} → Lists F → (named : Bool) → List ℕ → List LineRule → Type 0
+TellsLineRulesBy lists named text rules = TellsLineRules lists.allow_empty named text rules
+
+-- the file of this name was read, and it tells these
+pub record GivesFileRules (reading : Reading) (named : Bool) (name : List ℕ) (rules : List LineRule) (left left' : Option (List ℕ)) : Type 0 where
+  pub text : List ℕ
+  pub reads : OfName reading.holds name (ReadsText text) left left'
+  pub told : TellsLineRules reading.rules.allow_empty named text rules
+
+-- or it is the name of the program's own
+abbrev pub GivesNamedRules : Reading → (named : Bool) → List ℕ → List LineRule → (left left' : Option (List ℕ)) → Type 0
+GivesNamedRules reading named name rules left left' =
+    ((name ≡ codes "builtin") × (left' ≡ left) × (text : List ℕ) × TellsLineRules reading.rules.allow_empty named text rules)
+    ⊎ GivesFileRules reading named name rules left left'
+
+-- what stands behind a keyword is marked by one rule
+abbrev pub GivesRuleBehind : List ℕ → List LineRule → Type 0
+GivesRuleBehind keyword rules = (rule : LineRule) × (rules ≡ rule ∷ []) × IsBehind keyword rule × IsLineRule false rule
+
+-- the rules that an option gives
+pub record OptionGivesRules (reading : Reading) (named : Bool) (item : Given) (rules : List LineRule) (left left' : Option (List ℕ)) : Type 0 where
+  pub file : item.word ≡ RulesFile → GivesNamedRules reading named item.value rules left left'
+  pub behind : item.word ≡ After → GivesRuleBehind item.value rules × (left' ≡ left)
+  pub other : gives_rules (item ∷ []) ≡ false → (rules ≡ []) × (left' ≡ left)
+
+-- those that all options give, in order
+abbrev pub AreRulesRead : Reading → (named : Bool) → List Given → List LineRule → (left left' : Option (List ℕ)) → Type 0
+AreRulesRead reading named [] rules left left' = (rules ≡ []) × (left' ≡ left)
+AreRulesRead reading named (item ∷ items) rules left left' = (first : List LineRule) × (rest : List LineRule) × (rules ≡ first ++ rest)
+    × (between : Option (List ℕ)) × OptionGivesRules reading named item first left between × AreRulesRead reading named items rest between left'
+
+-- how many bytes a line may have: the last number that is given, or 1 MiB
+abbrev pub most_asked : List Given → ℕ
+most_asked given = unwrap_or (option_and_then size_in (last_value MaxLine given)) 1048576
+
+-- runs have pseudonyms where a file of a key is given, but for a check, which writes nothing
+abbrev pub names_runs : List Given → Bool
+names_runs given = has Pseudonym given && not (has Check given)
+
+-- rules are those of covers
+abbrev pub gives_lines : List Given → Bool
+gives_lines given = covers_asked given && gives_rules given
+
+-- the rules that are given and how long a line may be, where an option gives some
+abbrev pub AreLinesGiven : Reading → List Given → Option LinesLoaded → (left left' : Option (List ℕ)) → Type 0
+AreLinesGiven reading given None left left' = (gives_lines given ≡ false) × (left' ≡ left)
+AreLinesGiven reading given (Some lines) left left' =
+    (gives_lines given ≡ true) × AreRulesRead reading (names_runs given) given lines.rules left left' × (lines.most ≡ most_asked given) × (lines.fixed ≡ 0)
+
+-- what is read before any file is redacted: the secrets, the rules, and then the key of pseudonyms. Where forms are asked for, that names each
+-- secret
 pub record Loaded : Type 0 where
   pub secrets : List Secret
   pub key : Option (List ℕ)
+  pub lines : Option LinesLoaded
 
-abbrev pub loaded_by : List Given → List Secret → Option (List ℕ) → Loaded
-loaded_by given secrets None = record { secrets = secrets; key = None }
-loaded_by given secrets (Some key) =
-    if has Forms given then record { secrets = all_named (pseudonym_rule (has IgnoreCase given) key) secrets; key = None } else record { secrets = secrets; key = Some key }
+abbrev pub loaded_by : List Given → List Secret → Option LinesLoaded → Option (List ℕ) → Loaded
+loaded_by given secrets lines None = record { secrets = secrets; key = None; lines = lines }
+loaded_by given secrets lines (Some key) =
+    if has Forms given
+    then record { secrets = all_named (pseudonym_rule (has IgnoreCase given) key) secrets; key = key_beside lines key; lines = option_map (fixed_at (length secrets)) lines }
+    else record { secrets = secrets; key = Some key; lines = lines }
+
+-- the secrets and the rules were read
+pub record AreSought (reading : Reading) (given : List Given) (secrets : List Secret) (lines : Option LinesLoaded) (left left' : Option (List ℕ)) : Type 0 where
+  pub between : Option (List ℕ)
+  pub given_all : AreGiven reading given secrets left between
+  pub lines_given : AreLinesGiven reading given lines between left'
 
 pub record AreLoaded (reading : Reading) (given : List Given) (loaded : Loaded) (left left' : Option (List ℕ)) : Type 0 where
   pub between : Option (List ℕ)
   pub secrets : List Secret
   pub given_all : AreGiven reading given secrets left between
+  pub meanwhile : Option (List ℕ)
+  pub lines : Option LinesLoaded
+  pub lines_given : AreLinesGiven reading given lines between meanwhile
   pub key : Option (List ℕ)
-  pub key_given : IsKeyGiven reading (last_value Pseudonym given) key between left'
-  pub is : loaded ≡ loaded_by given secrets key
+  pub key_given : IsKeyGiven reading (last_value Pseudonym given) key meanwhile left'
+  pub is : loaded ≡ loaded_by given secrets lines key
 
 -- the key of some memory, and of some bytes
 abbrev pub key_in : {Z : Type 0} → Option (Vec ℕ Z) → Option (List ℕ)
@@ -173,9 +252,64 @@ key_in key = option_map (λ bytes. bytes.items) key
 abbrev pub key_lent : Option (Bor (List ℕ)) → Option (List ℕ)
 key_lent key = option_map (λ bytes. bytes.now) key
 
--- these rules and this key
-abbrev pub loaded_as : List Rule → Option (List ℕ) → Loaded
-loaded_as rules key = record { secrets = secrets_of rules; key = key }
+-- the rules of lines that are held, and what was loaded as it is held
+abbrev pub lines_held : ℕ → Option LineRules → Option LinesLoaded
+lines_held fixed lines = option_map (λ (l : LineRules). record { rules = l.rules; most = l.most; fixed = fixed }) lines
+
+abbrev pub lines_sought : Sought → Option LinesLoaded
+lines_sought sought = lines_held sought.fixed sought.lines
+
+abbrev pub loaded_of : Sought → Loaded
+loaded_of sought = record { secrets = secrets_of sought.rules.items; key = key_in sought.key; lines = lines_sought sought }
+
+-- the same with a key that is to be heeded
+abbrev pub loaded_with : List Given → Sought → List ℕ → Loaded
+loaded_with given sought key = loaded_by given (secrets_of sought.rules.items) (lines_sought sought) (Some key)
+
+-- there are rules of covers alone
+abbrev pub IsRuled : List Item → Sought → Type 0
+IsRuled items sought = IfSome sought.lines (λ lines. covers_asked (all_given items) ≡ true)
+
+-- a failure is of a list that has such a name
+abbrev pub IsFailureNamed : (Names : List ℕ → Type 0) → Failure → Type 0
+IsFailureNamed Names NotText = ⊥
+IsFailureNamed Names (Arguments mistake) = ⊥
+IsFailureNamed Names (BadPattern fault) = ⊥
+IsFailureNamed Names (Unread name reason) = Names name.now
+IsFailureNamed Names (Empty name) = ⊥
+IsFailureNamed Names (NoValue name) = ⊥
+IsFailureNamed Names (ShortKey name) = ⊥
+IsFailureNamed Names (Line name bad) = Names name.now
+IsFailureNamed Names (Short number) = ⊥
+IsFailureNamed Names (Unclean unclean) = ⊥
+IsFailureNamed Names (Toml name line error) = Names name.now
+IsFailureNamed Names (NoRule name) = Names name.now
+IsFailureNamed Names (BadRule name bad) = Names name.now
+IsFailureNamed Names (Keywords error) = ⊥
+IsFailureNamed Names (LineEnd number) = ⊥
+IsFailureNamed Names Counts = ⊥
+IsFailureNamed Names (Other failure) = failure ≡ NoMemory
+
+-- the name is that of a file of rules that an option gives, or it gives a keyword
+abbrev pub NamesRules : Given → List ℕ → Type 0
+NamesRules item name = ((item.word ≡ RulesFile) × (name ≡ item.value)) ⊎ ((item.word ≡ After) × (name ≡ codes "--after"))
+
+-- an option does not give its rules, or one of some does not
+abbrev pub CannotReadRules : List Given → Failure → Type 0
+CannotReadRules given failure = (item : Given) × IsMember given item × IsFailureNamed (NamesRules item) failure
+
+-- no searcher can be built for keywords, or memory runs out
+abbrev pub IsKeywordsFailure : Failure → Type 0
+IsKeywordsFailure failure = ((error : BuildError) × (failure ≡ Keywords error)) ⊎ (failure ≡ Other NoMemory)
+
+abbrev pub CannotLoadLines : List Given → Failure → Type 0
+CannotLoadLines given failure = (gives_rules given ≡ true) × (CannotReadRules given failure ⊎ IsKeywordsFailure failure)
+
+-- rules of lines are added
+pub record IsAddedRules (reading : Reading) (named : Bool) (item : Given) (old new : List LineRule) (left left' : Option (List ℕ)) : Type 0 where
+  pub more : List LineRule
+  pub grown : new ≡ old ++ more
+  pub of : OptionGivesRules reading named item more left left'
 
 -- what a file holds is added
 pub record IsAddedFile (reading : Reading) (listed : Listed) (name : List ℕ) (old new : List Secret) (left left' : Option (List ℕ)) : Type 0 where
@@ -217,6 +351,16 @@ module _ {F X R Z : Type 0} {Reads : Readers R} (D : Folders F X) (lists : Lists
   abbrev pub LoadsKey : List Given → (key : Option (Vec ℕ Z)) → (input input' : FromRead R Reads) → Type 0
   LoadsKey given key input input' =
       IsKeyGiven (reading_of_lists D lists) (last_value Pseudonym given) (key_in key) (bytes_left input) (bytes_left input')
+
+  -- the rules of lines that an option gives are added, or those of all are read
+  abbrev pub AddsRules : (named : Bool) → Given → (rules rules' : Vec LineRule Z) → (input input' : FromRead R Reads) → Type 0
+  AddsRules named item rules rules' input input' = IsAddedRules (reading_of_lists D lists) named item rules.items rules'.items (bytes_left input) (bytes_left input')
+
+  abbrev pub ReadsLineRules : (named : Bool) → List Given → (rules : Vec LineRule Z) → (input input' : FromRead R Reads) → Type 0
+  ReadsLineRules named given rules input input' = AreRulesRead (reading_of_lists D lists) named given rules.items (bytes_left input) (bytes_left input')
+
+  abbrev pub LoadsLines : List Given → Option LineRules → (input input' : FromRead R Reads) → Type 0
+  LoadsLines given lines input input' = AreLinesGiven (reading_of_lists D lists) given (lines_held 0 lines) (bytes_left input) (bytes_left input')
 
   -- the list of this name was read to its end
   abbrev pub ReadsList : List ℕ → (text : Vec ℕ Z) → (input input' : FromRead R Reads) → Type 0
@@ -268,6 +412,11 @@ IsPatternFailure value (ShortKey name) = ⊥
 IsPatternFailure value (Line name bad) = ⊥
 IsPatternFailure value (Short number) = ⊥
 IsPatternFailure value (Unclean unclean) = ⊥
+IsPatternFailure value (Toml name line error) = ⊥
+IsPatternFailure value (NoRule name) = ⊥
+IsPatternFailure value (BadRule name bad) = ⊥
+IsPatternFailure value (Keywords error) = ⊥
+IsPatternFailure value (LineEnd number) = ⊥
 IsPatternFailure value Counts = ⊥
 IsPatternFailure value (Other failure) = ⊥
 
@@ -284,6 +433,11 @@ IsTextFailure rules table file text (Line name bad) =
     (name.now ≡ file) × (((bad.number ≡ 1) × (mark_in text ≡ Some bad.fault)) ⊎ IsListFault (form_by rules table) (lines_in text) bad)
 IsTextFailure rules table file text (Short number) = ⊥
 IsTextFailure rules table file text (Unclean unclean) = ⊥
+IsTextFailure rules table file text (Toml name line error) = ⊥
+IsTextFailure rules table file text (NoRule name) = ⊥
+IsTextFailure rules table file text (BadRule name bad) = ⊥
+IsTextFailure rules table file text (Keywords error) = ⊥
+IsTextFailure rules table file text (LineEnd number) = ⊥
 IsTextFailure rules table file text Counts = ⊥
 IsTextFailure rules table file text (Other failure) = ⊥
 

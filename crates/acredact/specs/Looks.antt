@@ -1,5 +1,5 @@
 -- Whether something counts in what is read: what a check looks for.
-use Rattle.std.specs.Prelude.{◌≡◌, ℕ, ◌||◌, ◌&&◌, not, Bool, true, false, List, [], Option, Some, Result, Ok, Err, IfErr, alloc_error}
+use Rattle.std.specs.Prelude.{◌≡◌, ℕ, ◌≤◌, length, MatchOption, ◌||◌, ◌&&◌, not, Bool, true, false, List, [], Option, Some, Result, Ok, Err, IfErr, alloc_error}
 use Rattle.std.specs.Io.KnownBytes.{Consumes, IsAtEnd}
 use Rattle.std.specs.declared.alloc.AllocError.{AllocError}
 use Rattle.aho_core.specs.Occurrence.{Occurrence}
@@ -17,7 +17,9 @@ use Rattle.programs.specs.declared.reason.Reason.{Reason}
 use Rattle.programs.specs.declared.reason.Reason.TheVariants.{PositionLimit as TooLong, ReadFault}
 use Rattle.acredact.specs.Faults.{is_unread}
 use Rattle.acredact.specs.Reads.{ReadsText}
-use Rattle.acredact.specs.Secrets.{CountsFor, Redactor, redactor_by}
+use Rattle.acredact.specs.Secrets.{AreReplacedInLines, CountsFor, LineCovered, Redactor, redactor_by, rule_of}
+use Rattle.acredact.specs.Ways.{IsLineCoverer}
+use Rattle.secret_rules.specs.declared.line_cover.LineCover.{LineCover}
 use Rattle.acredact.specs.declared.look.Look.{Look}
 use Rattle.acredact.specs.declared.look.Look.TheVariants.{Clean, Found, Unread}
 use Rattle.acredact.specs.declared.look.Verdict.{Verdict}
@@ -33,12 +35,29 @@ pub record CanLook {A : Type 0} (G : Ghosts A) (automaton : A) (words : Bool) : 
 abbrev pub sought : Patterns → (words : Bool) → Redactor
 sought p words = redactor_by p true words []
 
+-- and with rules what is replaced in lines
+abbrev pub sought_with : Patterns → (words : Bool) → Option LineCovered → Redactor
+sought_with p words lines = record (sought p words) { lines = lines }
+
+-- what looks for some patterns by an automaton seeks these
+pub record IsFindingFor {A : Type 0} (G : Ghosts A) (automaton : A) (words : Bool) (r : Redactor) : Type 0 where
+  pub of : G.is_of automaton r.patterns
+  pub is : r ≡ sought r.patterns words
+  pub ready : CanLook G automaton words
+
+-- what looks at lines seeks what their cover replaces, whatever it writes
+abbrev pub IsLineLookFor : {A : Type 0} → Ghosts A → LineCover A → Redactor → Type 0
+IsLineLookFor G cover r = IsLineCoverer G cover (rule_of r) r
+
 -- something counts in these bytes, or nothing does
+abbrev pub SomeInLines : Redactor → LineCovered → List ℕ → Type 0
+SomeInLines r l bytes = (ranges : List Occurrence) × AreReplacedInLines r l bytes ranges × (1 ≤ length ranges)
+
 abbrev pub SomeCounts : Redactor → List ℕ → Type 0
-SomeCounts r bytes = (m : Occurrence) × CountsFor r bytes m
+SomeCounts r bytes = MatchOption r.lines ((m : Occurrence) × CountsFor r bytes m) (λ l. SomeInLines r l bytes)
 
 abbrev pub NoneCounts : Redactor → List ℕ → Type 0
-NoneCounts r bytes = (m : Occurrence) → CountsFor r bytes m → ⊥
+NoneCounts r bytes = MatchOption r.lines ((m : Occurrence) → CountsFor r bytes m → ⊥) (λ l. AreReplacedInLines r l bytes [])
 
 -- why a stream is not looked through: a read fails, it is too long, or memory runs out
 abbrev pub IsLookEnd : StreamError → Type 0

@@ -4,6 +4,8 @@ use Rattle.std.specs.List.{flat_map}
 use Rattle.programs.specs.Messages.{Message, message_by}
 use Rattle.acredact.specs.declared.clean.Flaw.{Flaw}
 use Rattle.acredact.specs.declared.clean.Flaw.TheVariants.{Empty, Pseudonym, Spells}
+use Rattle.acredact.specs.declared.clean.Subject.{Subject}
+use Rattle.acredact.specs.declared.clean.Subject.TheVariants.{Pattern as OfPattern, Rule as OfRule, LongLines as OfLongLines}
 use Rattle.acredact.specs.declared.clean.Unclean.{Unclean}
 
 -- the line of a message
@@ -53,14 +55,20 @@ no_file_line name = line_about name (codes "standard input cannot be replaced")
 abbrev pub no_output_line : List ℕ → List ℕ
 no_output_line name = line_about name (codes "standard output is no file: leave out --output")
 
--- the line that tells of which pattern the piece is not clean, and why: numbers, and no byte of a pattern or of a piece
-abbrev pub piece_line : (number why : List ℕ) → List ℕ
-piece_line number why = codes "acredact" ++ (codes ": the replacement of pattern " ++ (number ++ why))
-
+-- the line that tells of what the piece is not clean, and why: numbers, and no byte of a pattern or of a piece
 abbrev pub flaw_text : Flaw → List ℕ
 flaw_text Empty = codes " is empty: what stands beside it can spell a pattern\n"
 flaw_text (Spells pattern) = codes " can spell pattern " ++ (decimal pattern ++ codes " with what stands beside it\n")
 flaw_text Pseudonym = codes " is a pseudonym: it can spell this pattern with what stands beside it\n"
 
+-- of what: a pattern, a rule, or long lines
+abbrev pub subject_text : Subject → List ℕ
+subject_text OfPattern = codes ": the replacement of pattern "
+subject_text OfRule = codes ": the replacement of rule "
+subject_text OfLongLines = codes ": the replacement of long lines, behind rule "
+
+abbrev pub piece_line_of : Subject → (number why : List ℕ) → List ℕ
+piece_line_of subject number why = codes "acredact" ++ (subject_text subject ++ (number ++ why))
+
 abbrev pub unclean_line : Unclean → List ℕ
-unclean_line unclean = piece_line (decimal unclean.number) (flaw_text unclean.flaw)
+unclean_line unclean = piece_line_of unclean.subject (decimal unclean.number) (flaw_text unclean.flaw)

@@ -1,5 +1,5 @@
 -- Which of the texts that are written in the place of patterns are clean, so that with what stands beside them they spell no pattern.
-use Rattle.std.specs.Prelude.{◌≡◌, ◌⊎◌, ℕ, ◌+◌, ◌<◌, Bool, true, false, List, [], ◌∷◌, ◌++◌, Option, Some, None, IfSome, is_some, length, map, slice_index_or}
+use Rattle.std.specs.Prelude.{◌≡◌, ◌⊎◌, ℕ, ◌+◌, ◌<◌, Bool, true, false, List, [], ◌∷◌, ◌++◌, MatchOption, Option, Some, None, IfSome, is_some, length, map, slice_index_or}
 use Rattle.std.specs.Borrow.{Bor}
 use Rattle.aho_core.specs.Bytes.{folded_by}
 use Rattle.aho_core.specs.Listing.{IsMember}
@@ -21,6 +21,7 @@ use Rattle.acredact.specs.Tables.{piece_by, secrets_of}
 use Rattle.acredact.specs.declared.clean.Flaw.{Flaw}
 use Rattle.acredact.specs.declared.clean.Flaw.TheVariants.{Empty, Pseudonym, Spells}
 use Rattle.acredact.specs.declared.clean.Judge.{Judge}
+use Rattle.acredact.specs.declared.clean.Subject.TheVariants.{Pattern as OfPattern}
 use Rattle.acredact.specs.declared.clean.Unclean.{Unclean}
 
 -- these are the patterns by which pieces are judged
@@ -77,6 +78,7 @@ IsFlawOrNone p piece (Some flaw) = IsFlaw p piece flaw
 -- the first pattern whose piece is not clean, and why it is not
 pub record IsUnclean (p : Patterns) (pieces : List (List ℕ)) (unclean : Unclean) : Type 0 where
   pub number : ℕ
+  pub of : unclean.subject ≡ OfPattern
   pub told : unclean.number ≡ number + 1
   pub numbered : number < length p.words
   pub before : (other : ℕ) → other < number → IsCleanPiece p (slice_index_or pieces other [])
@@ -98,8 +100,12 @@ abbrev pub IsJudgedBy : Patterns → (covers named : Bool) → List (List ℕ) �
 IsJudgedBy p covers named pieces None = covers ≡ true → AreCleanBy named p pieces
 IsJudgedBy p covers named pieces (Some unclean) = (covers ≡ true) × IsUncleanBy named p pieces unclean
 
+-- with rules a piece of theirs may be what is not clean
 abbrev pub IsJudged : Redactor → Option Unclean → Type 0
-IsJudged r answer = IsJudgedBy r.patterns r.covers (is_some r.key) r.pieces answer
+IsJudged r answer = MatchOption r.lines (IsJudgedBy r.patterns r.covers (is_some r.key) r.pieces answer) (λ l. r.covers ≡ true)
+
+abbrev pub IsUncleanOf : Redactor → Unclean → Type 0
+IsUncleanOf r unclean = MatchOption r.lines (IsUncleanBy (is_some r.key) r.patterns r.pieces unclean) (λ l. Unit {0})
 
 module _ {E : Type 0} (K : SinkGhosts E) (strict : Bool) where
   -- that is told as a line, but where it is to be refused

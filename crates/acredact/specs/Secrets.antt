@@ -1,5 +1,5 @@
 -- What a redaction is, and what it means that no secret is passed on.
-use Rattle.std.specs.Prelude.{◌≡◌, ℕ, ◌<◌, ◌≤◌, Bool, MatchBool, List, Option, Some, None, false, is_some, length, true}
+use Rattle.std.specs.Prelude.{◌≡◌, ℕ, ◌<◌, ◌≤◌, Bool, MatchBool, MatchOption, List, [], Option, Some, None, false, is_some, length, true}
 use Rattle.std.specs.Borrow.{Bor}
 use Rattle.std.specs.Io.{StartsWith}
 use Rattle.std.specs.Io.KnownBytes.{Appends}
@@ -19,6 +19,11 @@ use Rattle.aho_cover.specs.Pieces.{PieceRule, fixed_rule, piece_in}
 use Rattle.aho_cover.specs.Words.{CountsIn, decided_of}
 use Rattle.aho_automaton.specs.declared.automaton.Automaton.{Ghosts}
 use Rattle.pseudonyms.specs.Pseudonyms.{pseudonym_rule}
+use Rattle.secret_rules.specs.Covering.{AreLineRuns, Covering, covering_by, lines_cover}
+use Rattle.secret_rules.specs.LineCovers.{all_of}
+use Rattle.secret_rules.specs.Lines.{stream_lines}
+use Rattle.secret_rules.specs.declared.rule.Rule.{Rule as LineRule}
+use Rattle.acredact.specs.LineRules.{named_rule_of}
 use Rattle.acredact.specs.Spelling.{NoneAreSpelled}
 use Rattle.aho_stream.specs.Replacing.{MayBe}
 use Rattle.aho_stream.specs.StreamRun.{CanBegin}
@@ -44,17 +49,36 @@ pub record Keyed : Type 0 where
   pub bytes : List ℕ
   pub ignore_case : Bool
 
+-- by what lines are covered besides patterns: rules that mark them, and how many bytes one may have that is not covered whole; and the
+-- texts of the first patterns, where these have their own though there is a key
+pub record LineCovered : Type 0 where
+  pub rules : List LineRule
+  pub most : ℕ
+  pub own : List (List ℕ)
+
+abbrev pub own_in : Option LineCovered → List (List ℕ)
+own_in None = []
+own_in (Some l) = l.own
+
 -- what is redacted: some patterns, whether by a cover, whether of that words alone, and the text that is written in the place of each
--- pattern; or, of a cover, by a key a pseudonym in the place of each run
+-- pattern; or, of a cover, by a key a pseudonym in the place of each run. Or a cover is one of lines, by rules too: then their texts stand
+-- behind those of patterns, and at the end that of long lines
 pub record Redactor : Type 0 where
   pub patterns : Patterns
   pub covers : Bool
   pub words : Bool
   pub pieces : List (List ℕ)
   pub key : Option Keyed
+  pub lines : Option LineCovered
 
 abbrev pub redactor_by : Patterns → (covers words : Bool) → List (Bor (List ℕ)) → Redactor
-redactor_by p covers words replacements = record { patterns = p; covers = covers; words = words; pieces = pieces_of replacements; key = None }
+redactor_by p covers words replacements =
+    record { patterns = p; covers = covers; words = words; pieces = pieces_of replacements; key = None; lines = None }
+
+-- a cover, and no rule marks lines
+pub record IsWholeCover (r : Redactor) : Type 0 where
+  pub covers : r.covers ≡ true
+  pub unlined : r.lines ≡ None
 
 -- what counts in a text: each occurrence of a pattern, or each that is a word, beside which no letter, digit or `_` stands
 abbrev pub CountsFor : Redactor → List ℕ → Occurrence → Type 0
@@ -72,13 +96,13 @@ abbrev pub key_of_cover : Bool → Option Keyed → Option Keyed
 key_of_cover false key = None
 key_of_cover true key = key
 
--- what is written in the place of a range: the text of its pattern, or the pseudonym of its bytes
-abbrev pub rule_by : Option Keyed → List (List ℕ) → PieceRule
-rule_by None pieces = fixed_rule pieces
-rule_by (Some key) pieces = pseudonym_rule key.ignore_case key.bytes
+-- what is written in the place of a range: the text of its pattern, or the pseudonym of its bytes, but for patterns that have their own
+abbrev pub rule_by : (own : List (List ℕ)) → Option Keyed → List (List ℕ) → PieceRule
+rule_by own None pieces = fixed_rule pieces
+rule_by own (Some key) pieces = named_rule_of own (pseudonym_rule key.ignore_case key.bytes)
 
 abbrev pub rule_of : Redactor → PieceRule
-rule_of r = rule_by r.key r.pieces
+rule_of r = rule_by (own_in r.lines) r.key r.pieces
 
 -- what is written spells no pattern with what stands beside it: each text is clean, or no pseudonym can spell one
 abbrev pub AreCleanBy : (named : Bool) → Patterns → List (List ℕ) → Type 0
@@ -89,9 +113,21 @@ AreCleanBy true p pieces = NoneAreSpelled p.ignore_case p.words
 abbrev pub IfOf : {A : Type 0} → Ghosts A → A → (Patterns → Type 0) → Type 0
 IfOf G automaton Holds = (p : Patterns) → G.is_of automaton p → Holds p
 
+-- the same as the library of rules says it
+abbrev pub covering_of : Redactor → LineCovered → Covering
+covering_of r l = covering_by r.words l.rules l.most r.patterns
+
+-- the ranges of the lines of a text that are replaced, line after line
+abbrev pub AreReplacedInLines : Redactor → LineCovered → List ℕ → List Occurrence → Type 0
+AreReplacedInLines r l text ranges =
+    (runs : List (List Occurrence)) × AreLineRuns (covering_of r l) [] (stream_lines text) runs × (ranges ≡ all_of runs)
+
 -- the ranges of a text that are replaced: the runs of its cover, or else its finds
+abbrev pub AreReplacedWhole : Redactor → List ℕ → List Occurrence → Type 0
+AreReplacedWhole r text ranges = MatchBool r.covers (AreRunsOf (CountsFor r text) ranges) (AreFinds r.patterns (plain_search text) None ranges)
+
 abbrev pub AreReplaced : Redactor → List ℕ → List Occurrence → Type 0
-AreReplaced r text ranges = MatchBool r.covers (AreRunsOf (CountsFor r text) ranges) (AreFinds r.patterns (plain_search text) None ranges)
+AreReplaced r text ranges = MatchOption r.lines (AreReplacedWhole r text ranges) (λ l. AreReplacedInLines r l text ranges)
 
 -- no secret is left: of a cover no byte of one, and else none whole
 abbrev pub NoSecretLeft : Redactor → List ℕ → List Occurrence → Type 0
@@ -99,17 +135,35 @@ NoSecretLeft r text ranges = MatchBool r.covers (NoByteIsKept r text ranges) (No
 
 -- a text with its ranges replaced, and no secret left. Where what is written in their places is clean, a cover's output has none either,
 -- but for one of words alone: there what was no word may be one beside such a text
-pub record IsRedaction (r : Redactor) (text redaction : List ℕ) : Type 0 where
+pub record IsWholeRedaction (r : Redactor) (text redaction : List ℕ) : Type 0 where
   pub ranges : List Occurrence
-  pub found : AreReplaced r text ranges
+  pub found : AreReplacedWhole r text ranges
   pub safe : NoSecretLeft r text ranges
   pub is : redaction ≡ replaced_by text ranges (piece_in (rule_of r) text)
   pub clean : r.covers ≡ true → r.words ≡ false → AreCleanBy (is_some r.key) r.patterns r.pieces → NoneOccurs r.patterns redaction
 
+-- or line by line: in each just the bytes are replaced that a rule marks or that lie in what counts of a pattern, and a line that is too
+-- long is replaced whole
+pub record IsLineRedaction (r : Redactor) (l : LineCovered) (text redaction : List ℕ) : Type 0 where
+  pub runs : List (List Occurrence)
+  pub found : AreLineRuns (covering_of r l) [] (stream_lines text) runs
+  pub is : redaction ≡ lines_cover (rule_of r) (stream_lines text) runs
+
+abbrev pub IsRedaction : Redactor → List ℕ → List ℕ → Type 0
+IsRedaction r text redaction = MatchOption r.lines (IsWholeRedaction r text redaction) (λ l. IsLineRedaction r l text redaction)
+
 -- a beginning of the redaction of a text of which these bytes were read, whatever bytes follow: none once its end was seen
+abbrev pub BeginsWhole : Redactor → List ℕ → Bool → List ℕ → Type 0
+BeginsWhole r given ended part =
+    (text : List ℕ) → MayBe given ended text → (redaction : List ℕ) × IsWholeRedaction r text redaction × StartsWith redaction part
+
+-- of lines, whatever is replaced in them
+abbrev pub BeginsInLines : Redactor → LineCovered → List ℕ → Bool → List ℕ → Type 0
+BeginsInLines r l given ended part =
+    (text redaction : List ℕ) → MayBe given ended text → IsLineRedaction r l text redaction → StartsWith redaction part
+
 abbrev pub BeginsRedaction : Redactor → List ℕ → Bool → List ℕ → Type 0
-BeginsRedaction r given ended part =
-    (text : List ℕ) → MayBe given ended text → (redaction : List ℕ) × IsRedaction r text redaction × StartsWith redaction part
+BeginsRedaction r given ended part = MatchOption r.lines (BeginsWhole r given ended part) (λ l. BeginsInLines r l given ended part)
 
 -- each byte given from a place on lies in what counts, or is among the last ones, that begin a pattern. Where words alone count, the last
 -- byte that was given waits for the next
@@ -119,8 +173,15 @@ IsPromptUpTo r given place = (at : ℕ) → place ≤ at → at < length (decide
 
 -- the redaction was written up to a place of all texts that begin with the bytes given
 abbrev pub IsWrittenUpTo : Redactor → List ℕ → Bool → ℕ → (held held' : Option (List ℕ)) → Type 0
-IsWrittenUpTo r given ended place held held' = (text : List ℕ) (ranges : List Occurrence) → MayBe given ended text → AreReplaced r text ranges
+IsWrittenUpTo r given ended place held held' = (text : List ℕ) (ranges : List Occurrence) → MayBe given ended text → AreReplacedWhole r text ranges
     → Appends held held' (covered_up_to text place 0 ranges (piece_in (rule_of r) text))
+
+-- an automaton of some patterns can search lines for all that occurs
+pub record CanSeek {A : Type 0} (G : Ghosts A) (automaton : A) : Type 0 where
+  pub patterns : Patterns
+  pub of : G.is_of automaton patterns
+  pub begins : CanBegin G automaton
+  pub standard : G.kind automaton ≡ Standard
 
 -- an automaton of some patterns can search streams, or cover them, and there are as many replacements
 pub record CanRedact {A : Type 0} (G : Ghosts A) (automaton : A) (covers : Bool) (replacements : List (Bor (List ℕ))) : Type 0 where

@@ -3,6 +3,7 @@ use Rattle.std.specs.Prelude.{◌≡◌, ◌⊎◌, ℕ, ◌+◌, ◌<◌, ◌&&
 use Rattle.aho_core.specs.Bytes.{folded_by}
 use Rattle.aho_core.specs.Listing.{IsMember}
 use Rattle.acredact.specs.declared.clean.Flaw.TheVariants.{Pseudonym}
+use Rattle.acredact.specs.declared.clean.Subject.TheVariants.{Pattern as OfPattern}
 use Rattle.acredact.specs.declared.clean.Unclean.{Unclean}
 
 -- a word holds a byte, by the case rule
@@ -39,6 +40,7 @@ module _ (ignore_case : Bool) where
   -- the first of them that it can spell, told by its number from 1 on
   pub record IsSpelled (words : List (List ℕ)) (unclean : Unclean) : Type 0 where
     pub number : ℕ
+    pub of : unclean.subject ≡ OfPattern
     pub told : unclean.number ≡ number + 1
     pub flaw : unclean.flaw ≡ Pseudonym
     pub numbered : number < length words

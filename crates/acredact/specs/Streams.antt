@@ -11,7 +11,7 @@ use Rattle.aho_automaton.specs.declared.automaton.Automaton.{Ghosts}
 use Rattle.aho_stream.specs.After.{greatest_position}
 use Rattle.aho_stream.specs.Refills.{is_limit}
 use Rattle.aho_stream.specs.Replacing.{GaveAsMany, SourceGave}
-use Rattle.acredact.specs.Secrets.{BeginsRedaction, IfOf, IsPromptUpTo, IsRedaction, IsWrittenUpTo, Redactor, redactor_by}
+use Rattle.acredact.specs.Secrets.{BeginsRedaction, IfOf, IsPromptUpTo, IsRedaction, IsWholeCover, IsWrittenUpTo, Redactor, redactor_by}
 use Rattle.acredact.specs.Faults.{IsStreamEnd}
 
 -- a piece was written, or a beginning of it where a write failed or took nothing
@@ -55,7 +55,7 @@ module _ {R W : Type 0} (S : SourceGhosts R) (K : SinkGhosts W) where
   pub record StreamOutcome (r : Redactor) (result : Result (Unit {0}) StreamError) (source source' : R) (sink sink' : W) : Type 0 where
     pub redacted : OnOk result (RedactsStream r source source' sink sink')
     pub begun : StartsStream r source source' sink sink'
-    pub near : r.covers ≡ true → IfErr result (λ error. IsFillRefusal error → ReachesStream r source source' sink sink')
+    pub near : IsWholeCover r → IfErr result (λ error. IsFillRefusal error → ReachesStream r source source' sink sink')
     pub read_failed : S.failures source' ≡ counted (is_read_fault result) (S.failures source)
     pub write_failed : K.failures sink' ≡ counted (is_write_fault result) (K.failures sink)
     pub took_nothing : K.empty_writes sink' ≡ counted (is_write_of_nothing result) (K.empty_writes sink)

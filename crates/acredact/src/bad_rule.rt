@@ -1,9 +1,9 @@
 //! What is wrong with a rule, and how that is told: by its file, its name or number, and the place in its expression, and never by the
 //! expression.
 
-ghost use Rattle.std.specs.Prelude.{◌≡◌};
+ghost use Rattle.std.specs.Prelude.{◌≡◌, ℕ, List};
 ghost use Rattle.programs.specs.Telling.{TellsBytes};
-ghost use Rattle.acredact.specs.LineRules.{bad_rule_line, flaw_line, rule_name};
+ghost use Rattle.acredact.specs.RuleLines.{IsBadRuleLine, IsFlawText, kind_text, rule_name};
 
 use crate::shown::{MAX_DIGITS, PROGRAM, digits_of, write_shown};
 use aho_devices::device::Sink;
@@ -42,7 +42,8 @@ pub struct BadRule {
 
 /// Tells as a line what is wrong with a rule.
 pub fn tell_rule<E: Sink>(errors: &mut Errors<'_, E>, name: &str, bad: &BadRule)
-    ensures told { TellsBytes E.Sink errors.old errors.new (bad_rule_line name.now bad.now) }
+    ensures told { (line : List ℕ) × IsBadRuleLine name.now bad.now line
+        × TellsBytes E.Sink errors.old errors.new line }
 {
     errors.write(&[PROGRAM, b": "]);
     write_shown(errors, name.as_bytes());
@@ -68,7 +69,7 @@ fn write_rule<E: Sink>(errors: &mut Errors<'_, E>, bad: &BadRule)
 
 /// Writes what is wrong.
 fn write_flaw<E: Sink>(errors: &mut Errors<'_, E>, flaw: RuleFlaw)
-    ensures told { TellsBytes E.Sink errors.old errors.new (flaw_line flaw) }
+    ensures told { (why : List ℕ) × IsFlawText flaw why × TellsBytes E.Sink errors.old errors.new why }
 {
     match flaw {
         RuleFlaw::Missing(key) => errors.write(&[b"no ", key.as_str().as_bytes()]),
@@ -89,7 +90,9 @@ fn write_flaw<E: Sink>(errors: &mut Errors<'_, E>, flaw: RuleFlaw)
 }
 
 /// What belongs at a key.
-fn kind_of(key: Key) -> &'static [u8] {
+fn kind_of(key: Key) -> &'static [u8]
+    ensures kind { result.now ≡ kind_text key }
+{
     match key {
         Key::Keywords => b": an array of strings belongs there",
         Key::SecretGroup => b": a whole number from 0 on belongs there",

@@ -90,31 +90,39 @@ pub fn unclean_of<A: Automaton>(
         return first_spelled(judge.words, judge.ignore_case);
     }
     let marks = marks_of(judge.words, judge.ignore_case);
-    match first_unclean(automaton, judge, &marks) {
-        Some(unclean) => Some(unclean),
-        None => unclean_behind(automaton, judge, &marks),
-    }
+    first_unclean(automaton, judge, &marks)
 }
 
-/// The first rule whose piece is not clean, or the piece of long lines. Where there is no pattern none can be spelled.
-fn unclean_behind<A: Automaton>(
+/// The same, and then of the pieces of rules and of long lines. Where there is no pattern none can be spelled.
+pub fn unclean_of_all<A: Automaton>(
     automaton: &A,
     judge: &Judge<'_, '_>,
-    marks: &[bool],
+    covers: bool,
+    named: bool,
 ) -> Option<Unclean>
     requires of { (p : Patterns) × A.is_of automaton.now p }
     requires starts { IsOk (A.start automaton.now No) }
-    requires sized { length marks.now ≡ 256 }
-    requires marked { WordsAreMarked judge.now.ignore_case (pieces_of judge.now.words.now) marks.now }
-    ensures first { IfOf A.Automaton automaton.now (λ p. IsJudgeOf judge.now p →
-        IsFirstOrNone p (pieces_of judge.now.behind.now) result) }
+    requires one_each { length judge.now.rules.now ≡ length judge.now.words.now }
+    ensures judged { length judge.now.behind.now ≡ 0 → IfOf A.Automaton automaton.now (λ p.
+        IsJudgeOf judge.now p → IsJudgedBy p covers named (pieces_by judge.now) result) }
 {
-    if judge.words.is_empty() {
-        return None;
+    match unclean_of(automaton, judge, covers, named) {
+        Some(unclean) => Some(unclean),
+        None if named || judge.words.is_empty() => None,
+        None => unclean_behind(automaton, judge),
     }
+}
+
+/// The first rule whose piece is not clean, or the piece of long lines.
+fn unclean_behind<A: Automaton>(automaton: &A, judge: &Judge<'_, '_>) -> Option<Unclean>
+    requires of { (p : Patterns) × A.is_of automaton.now p }
+    requires starts { IsOk (A.start automaton.now No) }
+    ensures none { length judge.now.behind.now ≡ 0 → result ≡ None }
+{
+    let marks = marks_of(judge.words, judge.ignore_case);
     let mut at = 0;
     while at < judge.behind.len() {
-        match flaw_of(automaton, judge, marks, judge.behind[at]) {
+        match flaw_of(automaton, judge, &marks, judge.behind[at]) {
             Some(flaw) => return Some(unclean_at(judge, at, flaw)),
             None => at += 1,
         }

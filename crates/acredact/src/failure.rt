@@ -3,10 +3,9 @@
 ghost use Rattle.std.specs.Prelude.{◌≡◌, ℕ, List, decimal};
 ghost use Rattle.programs.specs.Messages.{reason_text};
 ghost use Rattle.programs.specs.Telling.{TellsBytes};
-ghost use Rattle.acredact.specs.LineRules.{line_end_line, piece_line_of, subject_text, toml_line};
-ghost use Rattle.acredact.specs.Failures.{IsFailureLine, IsOtherLine, bad_line, is_of_output, short_line};
+ghost use Rattle.acredact.specs.Failures.{IsFailureLine, IsOtherLine, IsTomlLine, bad_line, is_of_output, line_end_line, short_line};
 ghost use Rattle.acredact.specs.LineFaults.{line_fault_text};
-ghost use Rattle.acredact.specs.Messages.{alone, flaw_text, line_about, no_file_line, no_output_line, output_line, piece_line, told_line, unclean_line};
+ghost use Rattle.acredact.specs.Messages.{alone, flaw_text, line_about, no_file_line, no_output_line, output_line, piece_line_of, subject_text, told_line, unclean_line};
 ghost use Rattle.acredact.specs.Mistakes.{mistake_line, misuse_line, mixture_text, named_line};
 ghost use Rattle.acredact.specs.declared.clean.Flaw.TheVariants.{Empty, Pseudonym, Spells};
 
@@ -213,7 +212,8 @@ pub fn tell_short<E: Sink>(errors: &mut Errors<'_, E>, number: usize)
 
 /// Tells as a line why a file is no TOML.
 fn tell_toml<E: Sink>(errors: &mut Errors<'_, E>, name: &str, line: usize, error: &TomlError)
-    ensures told { TellsBytes E.Sink errors.old errors.new (toml_line name.now line error.now) }
+    ensures told { (text : List ℕ) × IsTomlLine name.now line text
+        × TellsBytes E.Sink errors.old errors.new text }
 {
     let line = Some(line as u64);
     tell_shown(errors, name.as_bytes(), line, error.message().as_bytes());

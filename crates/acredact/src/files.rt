@@ -1,6 +1,6 @@
 //! The redaction of files, one after another.
 
-ghost use Rattle.std.specs.Prelude.{◌≡◌, ◌&&◌, ℕ, IfOk, List, None, Ok, Option, OnOk, Some, false, true};
+ghost use Rattle.std.specs.Prelude.{◌≡◌, ◌&&◌, ℕ, IfOk, List, None, Ok, Option, OnOk, Some, false, option_map, take, true};
 ghost use Rattle.aho_core.specs.Patterns.{Patterns};
 ghost use Rattle.aho_backward.specs.Searcher.{IsBackwardOf};
 ghost use Rattle.aho_devices.specs.Counts.{counted};
@@ -9,14 +9,15 @@ ghost use Rattle.programs.specs.Streams.{bytes_left};
 ghost use Rattle.acredact.specs.Back.{BackCounts, BackOutcome};
 ghost use Rattle.acredact.specs.Bounds.{JobNumbers, NumbersGiven, NumbersOfFile, NumbersOfInput, NumbersOpened, NumbersTold};
 ghost use Rattle.acredact.specs.Faults.{is_unread, reading_of};
-ghost use Rattle.acredact.specs.Files.{CanDo, FileJob, FilesOutcome, InputOutcome, JobOutcome, OpenedOutcome, ToldJob, work_of};
-ghost use Rattle.acredact.specs.Secrets.{IfOf, Redactor};
+ghost use Rattle.acredact.specs.Files.{CanDo, FileJob, FilesOutcome, InputOutcome, JobOutcome, OpenedOutcome, ToldJob, lines_of, work_of};
+ghost use Rattle.acredact.specs.Secrets.{CanSeek, IfOf, Redactor, own_in};
 ghost use Rattle.acredact.specs.Totals.{CountsFile, CountsJob, CountsOfStream, CountsOfText, CountsOpened, CountsTold, JobCounts};
 ghost use Rattle.acredact.specs.Streams.{StreamOutcome};
 ghost use Rattle.acredact.specs.Volumes.{AddsFile, AddsOpened, AddsText, AddsStream, FileVolume, JobVolume, files_with};
-ghost use Rattle.secret_rules.specs.OpenLines.{CanSearch};
-ghost use Rattle.secret_rules.specs.Ready.{CanCoverLines, rules_of};
-ghost use Rattle.acredact.specs.Ways.{CanCover, CountsCovers, CoversFiles, IfBy, Redacts};
+ghost use Rattle.aho_core.specs.Replacement.{pieces_of};
+ghost use Rattle.secret_rules.specs.LineCovers.{AreSearchedFor};
+ghost use Rattle.secret_rules.specs.Ready.{CanCoverLines, most_of, rules_of, searched_automaton, words_of};
+ghost use Rattle.acredact.specs.Ways.{CanCover, IfBy, IfCovers, Redacts};
 
 use crate::back::Backing;
 use crate::failure::{tell_output, tell_unread};
@@ -40,6 +41,9 @@ use std::alloc::{AllocError, Global};
 use std::io::{Read, Write};
 use std::marker::{Brand, PhantomData};
 
+/// How many numbers patterns, rules and long lines have together at most.
+const MOST_NUMBERS: usize = 2_147_483_646;
+
 /// What is done to which files.
 #[derive(Clone, Copy)]
 pub struct Job<'s, 't, F> {
@@ -57,8 +61,6 @@ pub struct Job<'s, 't, F> {
     pub covers: bool,
     /// Whether words alone are, by a cover: matches beside which no letter, digit or `_` stands.
     pub words: bool,
-    /// How many of the first numbers have a text of their own where a key is given.
-    pub fixed: usize,
     /// By what lines are covered, where they are.
     pub lines: Option<Lines<'s>>,
 }
@@ -70,6 +72,8 @@ pub struct Lines<'s> {
     pub rules: &'s Rules,
     /// How many bytes a line may have that is not covered whole.
     pub most: usize,
+    /// How many of the first patterns have a text of their own where a key is given.
+    pub fixed: usize,
 }
 
 /// Redacts all files, and flushes. It answers whether all were read to their ends: one that was not is told, and the others are
@@ -133,17 +137,30 @@ fn cover_files<A: Automaton, F: Folder, I: Read, W: Write, E: Sink>(
 }
 
 /// What covers lines, by rules and by the patterns of an automaton, where it has some.
+///
+/// # Errors
+///
+/// Out of memory: that is also told where there are more numbers than one may have.
 pub fn line_cover<'r, 'a, A: Automaton>(
     alloc: Global,
     automaton: &'a A,
     lines: Lines<'r>,
     words: bool,
 ) -> Result<LineCover<'r, 'a, A>, AllocError>
-    requires searches { CanSearch A.Automaton automaton.now }
+    requires ready { CanSeek A.Automaton automaton.now }
     ensures ready { IfOk result (CanCoverLines A.Automaton) }
-    ensures rules { IfOk result (λ cover. rules_of cover ≡ lines.rules.now) }
+    ensures searched { IfOk result (λ cover. IfOf A.Automaton automaton.entry.now
+        (AreSearchedFor A.Automaton (searched_automaton cover))) }
+    ensures words { IfOk result (λ cover. words_of cover ≡ words) }
+    ensures rules { IfOk result (λ cover. rules_of cover ≡ lines.entry.rules.now) }
+    ensures most { IfOk result (λ cover. most_of cover ≡ lines.entry.most) }
 {
-    let searched = if automaton.patterns_len() > 0 {
+    let patterns = automaton.patterns_len();
+    let rules = lines.rules.as_slice().len();
+    if rules >= MOST_NUMBERS || patterns >= MOST_NUMBERS - rules {
+        return Err(AllocError);
+    }
+    let searched = if patterns > 0 {
         Some(automaton)
     } else {
         None
@@ -160,90 +177,57 @@ fn cover_by<C: Coverer + Drop, F: Folder, I: Read, W: Write, E: Sink>(
     streams: &mut Streams<'_, I, W, E>,
 ) -> Result<bool, StreamError>
     requires ready { CanCover C.Coverer coverer job.now }
-    ensures outcome { CoversFiles W.Write E.Sink C.Coverer F.Folder
-        coverer job.now result streams.old streams.new }
-    ensures counted { CountsCovers C.Coverer F.Folder
-        coverer job.now result streams.old streams.new counts.old counts.new }
+    ensures outcome { IfCovers C.Coverer coverer.entry job.now (λ r. FilesOutcome W.Write E.Sink
+        (work_of F.Folder job.now r) result streams.old streams.new) }
+    ensures counted { IfCovers C.Coverer coverer.entry job.now (CountsJob F.Folder job.now
+        result streams.old streams.new counts.old counts.new) }
     ensures read { JobVolume F.Folder job.now result volume.old volume.new streams.old streams.new }
     ensures most { OnOk result (JobNumbers F.Folder job.now counts.old counts.new
         volume.old volume.new streams.old streams.new) }
     ensures flushed { OnOk result (streams.new.output.device.flushed ≡ true) }
 {
     match job.key {
-        Some(key) => cover_named(coverer, key, job, counts, volume, streams),
-        None => cover_alike(coverer, job, counts, volume, streams),
+        Some(key) => {
+            let pieces = NamedPieces {
+                fixed: own_of(job),
+                pseudonyms: Pseudonyms::new(key.bytes, key.ignore_case),
+            };
+            redact_flushed(
+                &mut Covering { coverer, pieces },
+                job,
+                counts,
+                volume,
+                streams,
+            )
+        }
+        None => {
+            let pieces = PatternPieces::new(job.replacements);
+            redact_flushed(
+                &mut Covering { coverer, pieces },
+                job,
+                counts,
+                volume,
+                streams,
+            )
+        }
     }
 }
 
-/// Redacts all files by covers, with one text for each number.
-fn cover_alike<C: Coverer + Drop, F: Folder, I: Read, W: Write, E: Sink>(
-    coverer: C,
-    job: &Job<'_, '_, F>,
-    counts: &mut [u64],
-    volume: &mut Volume,
-    streams: &mut Streams<'_, I, W, E>,
-) -> Result<bool, StreamError>
-    requires unnamed { job.now.key ≡ None }
-    requires ready { CanCover C.Coverer coverer job.now }
-    ensures outcome { CoversFiles W.Write E.Sink C.Coverer F.Folder
-        coverer job.now result streams.old streams.new }
-    ensures counted { CountsCovers C.Coverer F.Folder
-        coverer job.now result streams.old streams.new counts.old counts.new }
-    ensures read { JobVolume F.Folder job.now result volume.old volume.new streams.old streams.new }
-    ensures most { OnOk result (JobNumbers F.Folder job.now counts.old counts.new
-        volume.old volume.new streams.old streams.new) }
-    ensures flushed { OnOk result (streams.new.output.device.flushed ≡ true) }
+/// The texts of the first patterns, where these have their own though there is a key.
+fn own_of<'s, 't, F>(job: &Job<'s, 't, F>) -> &'s [&'t [u8]]
+    ensures own { pieces_of result.now
+        ≡ own_in (option_map (lines_of (pieces_of job.now.replacements.now)) job.now.lines) }
 {
-    let pieces = PatternPieces::new(job.replacements);
-    redact_flushed(
-        &mut Covering { coverer, pieces },
-        job,
-        counts,
-        volume,
-        streams,
-    )
-}
-
-/// Redacts all files by covers, with a pseudonym in the place of each run, but for those of numbers that have a text of their own.
-fn cover_named<C: Coverer + Drop, F: Folder, I: Read, W: Write, E: Sink>(
-    coverer: C,
-    key: Key<'_>,
-    job: &Job<'_, '_, F>,
-    counts: &mut [u64],
-    volume: &mut Volume,
-    streams: &mut Streams<'_, I, W, E>,
-) -> Result<bool, StreamError>
-    requires named { job.now.key ≡ Some key }
-    requires ready { CanCover C.Coverer coverer job.now }
-    ensures outcome { CoversFiles W.Write E.Sink C.Coverer F.Folder
-        coverer job.now result streams.old streams.new }
-    ensures counted { CountsCovers C.Coverer F.Folder
-        coverer job.now result streams.old streams.new counts.old counts.new }
-    ensures read { JobVolume F.Folder job.now result volume.old volume.new streams.old streams.new }
-    ensures most { OnOk result (JobNumbers F.Folder job.now counts.old counts.new
-        volume.old volume.new streams.old streams.new) }
-    ensures flushed { OnOk result (streams.new.output.device.flushed ≡ true) }
-{
-    let pieces = Pseudonyms::new(key.bytes, key.ignore_case);
-    if job.fixed == 0 {
-        let mut way = Covering { coverer, pieces };
-        return redact_flushed(&mut way, job, counts, volume, streams);
+    match job.lines {
+        Some(lines) => first_of(job.replacements, lines.fixed),
+        None => &[],
     }
-    let pieces = NamedPieces {
-        fixed: first_of(job.replacements, job.fixed),
-        pseudonyms: pieces,
-    };
-    redact_flushed(
-        &mut Covering { coverer, pieces },
-        job,
-        counts,
-        volume,
-        streams,
-    )
 }
 
 /// So many of the first texts, or all.
-fn first_of<'s, 't>(texts: &'s [&'t [u8]], count: usize) -> &'s [&'t [u8]] {
+fn first_of<'s, 't>(texts: &'s [&'t [u8]], count: usize) -> &'s [&'t [u8]]
+    ensures first { pieces_of result.now ≡ take count (pieces_of texts.now) }
+{
     match texts.get(..count) {
         Some(first) => first,
         None => texts,

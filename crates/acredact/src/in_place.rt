@@ -8,11 +8,11 @@ ghost use Rattle.programs.specs.Telling.{TellsSome};
 ghost use Rattle.acredact.specs.Arguments.{AreMistaken, AsksInPlace, IfAsked, all_given, counts_given};
 ghost use Rattle.acredact.specs.Back.{AreBoth, IfBackIs};
 ghost use Rattle.acredact.specs.Calls.{IsWrongFailure, IsWrongLine, ReadsAsked};
-ghost use Rattle.acredact.specs.Counts.{zeros};
 ghost use Rattle.acredact.specs.Files.{CanDo};
 ghost use Rattle.acredact.specs.InPlace.{AskedPlaces, CallCounts, CallPlaces, DoubtedPlaces, FreesAll, KeepsEach, LoadedPlaces, NameCounts, NameVolume, PlaceJob, PlacesAll, PlacesCount, PlacesJob, PlacesReach, PlacesTell, SaysOfPlaces, WarnsPlaces};
 ghost use Rattle.acredact.specs.Into.{IsKept, TellsUnread, WarnsAll};
-ghost use Rattle.acredact.specs.Loading.{loaded_of};
+ghost use Rattle.acredact.specs.Loading.{IsRuled, loaded_of};
+ghost use Rattle.acredact.specs.Summaries.{AreZeros};
 ghost use Rattle.acredact.specs.Pieces.{IfOfAll};
 ghost use Rattle.acredact.specs.Secrets.{IfOf};
 ghost use Rattle.acredact.specs.Tables.{HaveNoEmpty, secrets_of};
@@ -20,7 +20,7 @@ ghost use Rattle.acredact.specs.Totals.{JobCounts};
 ghost use Rattle.acredact.specs.Volumes.{JobVolume};
 
 use crate::arguments::{Item, Word, has, items, replaces_in_place};
-use crate::clean::{Judge, unclean_of};
+use crate::clean::{Judge, unclean_of_all};
 use crate::doubts::warn_of_lists;
 use crate::failure::{Failure, tell_no_file, tell_unread};
 use crate::files::{Job, both, is_input};
@@ -148,6 +148,7 @@ fn place_loaded<'a, F: Folder, O: Outputs, I: Read, E: Sink>(
     streams: &mut Streams<'_, I, O::File, E>,
 ) -> Result<bool, Failure<'a>>
     requires some { HaveNoEmpty (secrets_of sought.now.rules.items) }
+    requires ruled { IsRuled given.now sought.now }
     ensures outcome { LoadedPlaces O.File.Write E.Sink F.Folder O.Outputs
         folder.now given.now (loaded_of sought.now) result outputs.old outputs.new streams.old streams.new }
 {
@@ -168,6 +169,7 @@ fn place_counted<'a, F: Folder, O: Outputs, I: Read, E: Sink>(
     streams: &mut Streams<'_, I, O::File, E>,
 ) -> Result<bool, Failure<'a>>
     requires some { HaveNoEmpty (secrets_of sought.now.rules.items) }
+    requires ruled { IsRuled given.now sought.now }
     ensures outcome { DoubtedPlaces O.File.Write E.Sink F.Folder O.Outputs
         folder.now given.now (loaded_of sought.now) result outputs.old outputs.new streams.old streams.new }
 {
@@ -195,7 +197,8 @@ fn place_telling<'a, F: Folder, O: Outputs, I: Read, E: Sink>(
     streams: &mut Streams<'_, I, O::File, E>,
 ) -> Result<bool, Failure<'a>>
     requires some { HaveNoEmpty (secrets_of sought.now.rules.items) }
-    requires none { tally.old ≡ zeros (counts_given given.now) sought.now.rules.items }
+    requires ruled { IsRuled given.now sought.now }
+    requires none { AreZeros given.now sought.now tally.old }
     ensures outcome { DoubtedPlaces O.File.Write E.Sink F.Folder O.Outputs
         folder.now given.now (loaded_of sought.now) result outputs.old outputs.new streams.old streams.new }
 {
@@ -236,6 +239,7 @@ fn place_all<'a, F: Folder, O: Outputs, I: Read, E: Sink>(
     streams: &mut Streams<'_, I, O::File, E>,
 ) -> Result<bool, Failure<'a>>
     requires some { HaveNoEmpty (secrets_of sought.now.rules.items) }
+    requires ruled { IsRuled given.now sought.now }
     ensures outcome { CallPlaces O.File.Write E.Sink F.Folder O.Outputs
         folder.now given.now (loaded_of sought.now) result outputs.old outputs.new streams.old streams.new }
     ensures counted { CallCounts F.Folder
@@ -296,7 +300,7 @@ fn place_warned<
         (JobCounts F.Folder job.now result streams.old streams.new counts.old counts.new p)) }
     ensures read { JobVolume F.Folder job.now result volume.old volume.new streams.old streams.new }
 {
-    let unclean = unclean_of(automaton, judge, job.covers, job.key.is_some());
+    let unclean = unclean_of_all(automaton, judge, job.covers, job.key.is_some());
     // Not by `?`: this error may hold names.
     match warn(&mut streams.errors, unclean, strict) {
         Ok(()) => Ok(place_each(automaton, rows, back, job, counts, volume, outputs, streams)?),

@@ -1,9 +1,13 @@
 //! Patterns that hold a line end, beside rules. Lines are covered one by one then, and no line holds such a pattern. So each of its lines
 //! has to be a pattern that was given too: then all of it is covered wherever it stands, but for its line ends.
 
-ghost use Rattle.std.specs.Prelude.{◌≡◌, IfErr, OnOk, true};
-ghost use Rattle.acredact.specs.LineRules.{AreStoodFor, IsStoodFor, RefusesLineEnd, is_given_line};
+ghost use Rattle.std.specs.Prelude.{◌≡◌, ℕ, IfErr, IsOk, OnOk, true};
+ghost use Rattle.aho_core.specs.Patterns.{Patterns};
+ghost use Rattle.aho_core.specs.declared.search.Anchored.TheVariants.{No};
+ghost use Rattle.acredact.specs.LineRules.{AreStoodFor, IsGivenLine, IsOwn, IsStoodFor};
+ghost use Rattle.acredact.specs.Secrets.{IfOf};
 ghost use Rattle.acredact.specs.Tables.{secret_of, secrets_of};
+ghost use Rattle.acredact.specs.declared.failure.Failure.TheVariants.{LineEnd};
 
 use crate::failure::Failure;
 use crate::patterns::{Rule, split_at, without_last};
@@ -13,8 +17,9 @@ use aho_core::search::Input;
 /// Refuses the first pattern that holds a line end, and of which a line is no pattern that was given. The automaton is that of all these
 /// patterns.
 pub fn refuse_line_ends<'a, A: Automaton>(automaton: &A, rules: &[Rule]) -> Result<(), Failure<'a>>
-    ensures none { OnOk result (AreStoodFor (secrets_of rules.now)) }
-    ensures refused { IfErr result (RefusesLineEnd (secrets_of rules.now)) }
+    requires starts { IsOk (A.start automaton.now No) }
+    ensures none { IfOf A.Automaton automaton.now (λ p. OnOk result (AreStoodFor p (secrets_of rules.now))) }
+    ensures refused { IfErr result (λ failure. (number : ℕ) × (failure ≡ LineEnd number)) }
 {
     let mut number: usize = 1;
     let mut rest = rules;
@@ -31,7 +36,9 @@ pub fn refuse_line_ends<'a, A: Automaton>(automaton: &A, rules: &[Rule]) -> Resu
 /// Whether a pattern holds no line end, or its lines stand for it. So they do for the forms of a pattern: each form of a line is a
 /// pattern too.
 fn is_stood_for<A: Automaton>(automaton: &A, rules: &[Rule], rule: &Rule) -> bool
-    ensures stood { result ≡ true → IsStoodFor (secrets_of rules.now) (secret_of rule.now) }
+    requires starts { IsOk (A.start automaton.now No) }
+    ensures stood { IfOf A.Automaton automaton.now (λ p. result ≡ true
+        → IsStoodFor p (secrets_of rules.now) (secret_of rule.now)) }
 {
     if rule.form_of.is_some() {
         return true;
@@ -50,7 +57,9 @@ fn is_stood_for<A: Automaton>(automaton: &A, rules: &[Rule], rule: &Rule) -> boo
 
 /// Whether a line is empty without a carriage return at its end, or a pattern that was given.
 fn is_given<A: Automaton>(automaton: &A, rules: &[Rule], line: &[u8]) -> bool
-    ensures given { result ≡ true → is_given_line (secrets_of rules.now) line.now ≡ true }
+    requires starts { IsOk (A.start automaton.now No) }
+    ensures given { IfOf A.Automaton automaton.now (λ p. result ≡ true
+        → IsGivenLine p (secrets_of rules.now) line.now) }
 {
     let line = without_last(line, b'\r');
     if line.is_empty() {
@@ -73,7 +82,9 @@ fn is_given<A: Automaton>(automaton: &A, rules: &[Rule], line: &[u8]) -> bool
 }
 
 /// Whether the pattern of this number was given, and is no form of another.
-fn is_own(rules: &[Rule], number: usize) -> bool {
+fn is_own(rules: &[Rule], number: usize) -> bool
+    ensures own { result ≡ true → IsOwn (secrets_of rules.now) number }
+{
     match rules.get(number) {
         Some(rule) => rule.form_of.is_none(),
         None => false,

@@ -1,10 +1,14 @@
 //! The rules that are given, and how long a line may be by them.
 
-ghost use Rattle.std.specs.Prelude.{◌≡◌, IfErr, IfOk, MatchBool, Option, OnOk};
+ghost use Rattle.std.specs.Prelude.{◌≡◌, ◌++◌, ◌∷◌, List, Option, Some, None, IfErr, IfOk, MatchOption, OnErr, OnOk, [], codes, false, string_bytes};
+ghost use Rattle.std.specs.List.{All};
+ghost use Rattle.secret_rules.specs.Tables.{TellsRules};
+ghost use Rattle.secret_rules.specs.declared.rule.Rule.{Rule};
 ghost use Rattle.acredact.specs.Arguments.{all_given, given_of};
-ghost use Rattle.acredact.specs.LineRules.{AddsRules, CannotLoadLines, LoadsLines, most_asked, size_in};
+ghost use Rattle.acredact.specs.LineRules.{IsLineRule, size_in};
+ghost use Rattle.acredact.specs.Loading.{AddsRules, CannotLoadLines, CannotReadRules, GivesRuleBehind, IsFailureNamed, IsKeywordsFailure, LoadsLines, NamesRules, ReadsLineRules, TellsLineRulesBy, gives_lines, lines_held, most_asked};
 
-use crate::arguments::{Item, Word, gives_rules, has, last_value};
+use crate::arguments::{Item, Word, covers, gives_rules, has, last_value};
 use crate::bad_rule::{BadRule, RuleFlaw};
 use crate::failure::Failure;
 use crate::folder::Folder;
@@ -54,6 +58,13 @@ fn most_of(items: &[Item<'_>]) -> usize
     }
 }
 
+/// Whether rules are given. They are those of covers.
+fn gives_lines(items: &[Item<'_>]) -> bool
+    ensures gives { result ≡ gives_lines (all_given items.now) }
+{
+    covers(items) && gives_rules(items)
+}
+
 /// The rules of all files and keywords that are given, in order, if some are.
 ///
 /// # Errors
@@ -66,9 +77,9 @@ pub fn line_rules_of<'a, F: Folder, I: Read>(
 ) -> Result<Option<LineRules>, Failure<'a>>
     ensures loads { IfOk result (λ lines.
         LoadsLines F.Folder lists.now (all_given items.now) lines input.old input.new) }
-    ensures fails { IfErr result (CannotLoadLines F.Folder lists.now (all_given items.now)) }
+    ensures fails { IfErr result (CannotLoadLines (all_given items.now)) }
 {
-    if !gives_rules(items) {
+    if !gives_lines(items) {
         return Ok(None);
     }
     let named = has(items, Word::Pseudonym) && !has(items, Word::Check);
@@ -85,7 +96,8 @@ fn with_most<'a>(
     rules: Vec<LineRule>,
     most: usize,
 ) -> Result<Option<LineRules>, Failure<'a>>
-    ensures made { IfOk result (λ lines. lines_held lines ≡ Some (line_rules_as rules.items most)) }
+    ensures made { IfOk result (λ lines. lines_held 0 lines
+        ≡ Some (record { rules = rules.items; most = most; fixed = 0 })) }
     ensures fails { IfErr result IsKeywordsFailure }
 {
     match sound(alloc, rules) {
@@ -103,7 +115,7 @@ fn read_rules<'a, F: Folder, I: Read>(
 ) -> Result<Vec<LineRule>, Failure<'a>>
     ensures read { IfOk result (λ rules. ReadsLineRules F.Folder lists.now named (all_given items.now)
         rules input.old input.new) }
-    ensures fails { IfErr result (CannotReadRules (reading_of_lists F.Folder lists.now) (all_given items.now)) }
+    ensures fails { IfErr result (CannotReadRules (all_given items.now)) }
 {
     let mut rules = Vec::new(lists.alloc);
     let mut rest = items;
@@ -126,8 +138,9 @@ fn add_rules<'a, F: Folder, I: Read>(
     named: bool,
     input: &mut FromRead<I>,
 ) -> Result<(), Failure<'a>>
-    ensures added { OnOk result (AddsRules F.Folder lists.now (given_of item.entry)
+    ensures added { OnOk result (AddsRules F.Folder lists.now named (given_of item.entry)
         rules.old rules.new input.old input.new) }
+    ensures fails { IfErr result (IsFailureNamed (NamesRules (given_of item.entry))) }
 {
     let name = item.value;
     match item.word {
@@ -146,7 +159,11 @@ fn add_after<'a>(
     alloc: Global,
     rules: &mut Vec<LineRule>,
     keyword: &'a str,
-) -> Result<(), Failure<'a>> {
+) -> Result<(), Failure<'a>>
+    ensures added { OnOk result ((more : List Rule) × (rules.new.items ≡ rules.old.items ++ more)
+        × GivesRuleBehind keyword.now more) }
+    ensures fails { IfErr result (IsFailureNamed (λ name. name ≡ codes "--after")) }
+{
     let rule = LineRule::after(alloc, keyword)?;
     match flaw_of(alloc, &rule, false)? {
         None => Ok(rules.push(rule)?),
@@ -161,7 +178,11 @@ fn add_text<'a, F>(
     name: &'a str,
     text: &[u8],
     named: bool,
-) -> Result<(), Failure<'a>> {
+) -> Result<(), Failure<'a>>
+    ensures added { OnOk result ((more : List Rule) × (rules.new.items ≡ rules.old.items ++ more)
+        × TellsLineRulesBy lists.now named text.now more) }
+    ensures fails { IfErr result (IsFailureNamed (λ told. told ≡ name.now)) }
+{
     if let Some(fault) = mark_of(text) {
         return Err(Failure::Line(name, BadLine { number: 1, fault }));
     }
@@ -195,7 +216,11 @@ fn add_parsed<'a, F>(
     name: &'a str,
     text: &str,
     named: bool,
-) -> Result<(), Failure<'a>> {
+) -> Result<(), Failure<'a>>
+    ensures added { OnOk result ((more : List Rule) × (rules.new.items ≡ rules.old.items ++ more)
+        × TellsLineRulesBy lists.now named text.now more) }
+    ensures fails { IfErr result (IsFailureNamed (λ told. told ≡ name.now)) }
+{
     match parse(lists.alloc, text) {
         Ok(parsed) if parsed.is_empty() && !lists.allow_empty => Err(Failure::NoRule(name)),
         Ok(parsed) => add_each(lists.alloc, rules, name, parsed, named),
@@ -204,7 +229,9 @@ fn add_parsed<'a, F>(
 }
 
 /// Why a text of TOML gives no rules.
-fn failure_of<'a>(name: &'a str, text: &str, error: ParseError) -> Failure<'a> {
+fn failure_of<'a>(name: &'a str, text: &str, error: ParseError) -> Failure<'a>
+    ensures named { IsFailureNamed (λ told. told ≡ name.now) result }
+{
     match error {
         ParseError::Toml(error) => {
             let place = match error.span() {
@@ -221,7 +248,9 @@ fn failure_of<'a>(name: &'a str, text: &str, error: ParseError) -> Failure<'a> {
 }
 
 /// What is wrong with the rule of a number, from 0 on in its file, that has no name.
-fn without_id<'a>(name: &'a str, number: usize, flaw: RuleFlaw) -> Failure<'a> {
+fn without_id<'a>(name: &'a str, number: usize, flaw: RuleFlaw) -> Failure<'a>
+    ensures named { IsFailureNamed (λ told. told ≡ name.now) result }
+{
     let bad = BadRule {
         number: number.saturating_add(1),
         id: None,
@@ -231,7 +260,9 @@ fn without_id<'a>(name: &'a str, number: usize, flaw: RuleFlaw) -> Failure<'a> {
 }
 
 /// What is wrong with a rule that has a name.
-fn bad_rule<'a>(name: &'a str, number: usize, rule: LineRule, flaw: RuleFlaw) -> Failure<'a> {
+fn bad_rule<'a>(name: &'a str, number: usize, rule: LineRule, flaw: RuleFlaw) -> Failure<'a>
+    ensures named { IsFailureNamed (λ told. told ≡ name.now) result }
+{
     let LineRule { id, .. } = rule;
     let bad = BadRule {
         number,
@@ -248,7 +279,11 @@ fn add_each<'a>(
     name: &'a str,
     parsed: Vec<LineRule>,
     named: bool,
-) -> Result<(), Failure<'a>> {
+) -> Result<(), Failure<'a>>
+    ensures added { OnOk result (rules.new.items ≡ rules.old.items ++ parsed.entry.items) }
+    ensures right { OnOk result (All (IsLineRule named) parsed.entry.items) }
+    ensures fails { IfErr result (IsFailureNamed (λ told. told ≡ name.now)) }
+{
     let mut number: usize = 0;
     for rule in parsed {
         number = number.saturating_add(1);
@@ -262,7 +297,9 @@ fn add_each<'a>(
 
 /// What is wrong with a rule, if something is: it is none, or a keyword holds a line end, or it has a text of its own where pseudonyms
 /// are written.
-fn flaw_of(alloc: Global, rule: &LineRule, named: bool) -> Result<Option<RuleFlaw>, AllocError> {
+fn flaw_of(alloc: Global, rule: &LineRule, named: bool) -> Result<Option<RuleFlaw>, AllocError>
+    ensures right { IfOk result (λ flaw. flaw ≡ None → IsLineRule named rule.now) }
+{
     if named && rule.with.is_some() {
         return Ok(Some(RuleFlaw::OwnText));
     }

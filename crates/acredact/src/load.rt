@@ -111,8 +111,9 @@ pub fn load_patterns<'a, F: Folder, I: Read>(
     ensures patternless { GivesNoPattern (all_given given.now) → OnOk result ⊥ }
     ensures unread { GivesNoPattern (all_given given.now) → input.new ≡ input.old }
     ensures given { IfOk result (λ sought. GivesSought F.Folder
-        folder.now given.now sought input.old input.new) }
+        folder.now (all_given given.now) sought input.old input.new) }
     ensures keyless { IfOk result (λ sought. sought.key ≡ None) }
+    ensures fails { IfErr result (CannotSeek (call_of F.Folder folder.now (all_given given.now))) }
 {
     if !gives_pattern(given) {
         return Err(Failure::Arguments(Mistake::NoPattern));
@@ -133,8 +134,9 @@ fn with_lines<'a, F: Folder, I: Read>(
 ) -> Result<Sought, Failure<'a>>
     ensures lines { IfOk result (λ sought.
         LoadsLines F.Folder lists.now (all_given given.now) sought.lines input.old input.new) }
-    ensures rules { IfOk result (λ sought. sought.rules ≡ rules) }
-    ensures keyless { IfOk result (λ sought. sought.key ≡ None) }
+    ensures rules { IfOk result (λ sought. sought.rules ≡ rules.entry) }
+    ensures keyless { IfOk result (λ sought. (sought.key ≡ None) × (sought.fixed ≡ 0)) }
+    ensures fails { IfErr result (CannotLoadLines (all_given given.now)) }
 {
     match line_rules_of(lists, given, input) {
         Ok(lines) => Ok(Sought {
@@ -161,7 +163,8 @@ pub fn load<'a, F: Folder, I: Read>(
     ensures patternless { GivesNoPattern (all_given given.now) → OnOk result ⊥ }
     ensures unread { GivesNoPattern (all_given given.now) → input.new ≡ input.old }
     ensures loaded { IfOk result (λ sought. LoadsSought F.Folder
-        folder.now given.now sought input.old input.new) }
+        folder.now (all_given given.now) sought input.old input.new) }
+    ensures fails { IfErr result (CannotLoadSought (call_of F.Folder folder.now (all_given given.now))) }
 {
     match load_patterns(alloc, given, folder, input) {
         Ok(sought) => with_key(alloc, given, sought, folder, input),
@@ -179,7 +182,10 @@ fn with_key<'a, F: Folder, I: Read>(
 ) -> Result<Sought, Failure<'a>>
     requires keyless { sought.key ≡ None }
     ensures loaded { IfOk result (λ all. IsKeyedBy F.Folder
-        folder.now given.now sought.entry all input.old input.new) }
+        folder.now (all_given given.now) sought.entry all input.old input.new) }
+    ensures fails { IfErr result (λ failure.
+        CannotLoadKey (reading_by (call_of F.Folder folder.now (all_given given.now))) (all_given given.now) failure
+        ⊎ (failure ≡ Other OutOfMemoryFailure)) }
 {
     let lists = lists_of(alloc, given, folder);
     match key_of(&lists, given, input) {
@@ -198,7 +204,7 @@ fn named_by(
     key: Vec<u8>,
 ) -> Result<Sought, AllocError>
     ensures named { IfOk result (λ all. loaded_of all
-        ≡ loaded_with given.now sought.entry key.entry.items) }
+        ≡ loaded_with (all_given given.now) sought.entry key.entry.items) }
     ensures lines { IfOk result (λ all. all.lines ≡ sought.entry.lines) }
 {
     let Sought { rules, lines, .. } = sought;

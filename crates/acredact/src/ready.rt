@@ -189,7 +189,6 @@ pub fn job_of<'s, F: Folder>(
         key: key_by(key_in(sought), has(given, Word::IgnoreCase)),
         covers: covers(given),
         words: has(given, Word::AsWord),
-        fixed: sought.fixed,
         lines: lines_in(sought),
     }
 }
@@ -200,6 +199,7 @@ pub fn lines_in(sought: &Sought) -> Option<Lines<'_>> {
         Some(lines) => Some(Lines {
             rules: &lines.rules,
             most: lines.most,
+            fixed: sought.fixed,
         }),
         None => None,
     }

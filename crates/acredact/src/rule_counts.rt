@@ -1,11 +1,14 @@
 //! How often rules marked what was redacted, and how many lines were too long. The counts of rules stand behind those of all patterns, in
 //! order, and behind them that of long lines.
 
-ghost use Rattle.std.specs.Prelude.{◌≡◌, IfOk, OnOk, length, replicate};
+ghost use Rattle.std.specs.Prelude.{◌≡◌, ◌+◌, ◌/◌, ◌%◌, ◌<◌, ◌≤◌, ◌++◌, ◌∷◌, [], IfOk, None, OnOk, drop, length, replicate};
 ghost use Rattle.programs.specs.Telling.{TellsBytes};
-ghost use Rattle.acredact.specs.Arguments.{all_given};
 ghost use Rattle.acredact.specs.Counts.{PutsText};
-ghost use Rattle.acredact.specs.LineRules.{json_text, long_told, rule_counts_told, rule_summary_text, tally_length};
+ghost use Rattle.acredact.specs.Loading.{lines_sought};
+ghost use Rattle.acredact.specs.Messages.{shown};
+ghost use Rattle.acredact.specs.RuleLines.{hex_digit, json_byte, json_text, long_count, long_told, rule_counts_told, rule_object, rule_summary_text};
+ghost use Rattle.acredact.specs.Summaries.{AreZeros, long_by};
+ghost use Rattle.acredact.specs.Tables.{secrets_of};
 
 use crate::arguments::{Item, counts};
 use crate::counts::{counts_of, put_number};
@@ -19,7 +22,7 @@ use std::alloc::{AllocError, Global};
 
 /// A count for each pattern where they are counted, or rules are given; for each rule, and for long lines.
 pub fn tally_of(alloc: Global, given: &[Item<'_>], sought: &Sought) -> Result<Vec<u64>, AllocError>
-    ensures zeros { IfOk result (λ tally. tally.items ≡ replicate (tally_length (all_given given.now) sought.now) 0) }
+    ensures zeros { IfOk result (λ tally. AreZeros given.now sought.now tally.items) }
 {
     let counted = counts(given) || sought.lines.is_some();
     let mut tally = counts_of(alloc, sought.rules.as_slice(), counted)?;
@@ -31,7 +34,9 @@ pub fn tally_of(alloc: Global, given: &[Item<'_>], sought: &Sought) -> Result<Ve
 }
 
 /// Adds so many zeros.
-fn add_zeros(tally: &mut Vec<u64>, count: usize) -> Result<(), AllocError> {
+fn add_zeros(tally: &mut Vec<u64>, count: usize) -> Result<(), AllocError>
+    ensures added { OnOk result (tally.new.items ≡ tally.old.items ++ replicate count 0) }
+{
     let mut left = count;
     while left > 0 {
         tally.push(0)?;
@@ -41,7 +46,9 @@ fn add_zeros(tally: &mut Vec<u64>, count: usize) -> Result<(), AllocError> {
 }
 
 /// The counts behind those of all patterns.
-pub fn counts_behind<'t>(sought: &Sought, tally: &'t [u64]) -> &'t [u64] {
+pub fn counts_behind<'t>(sought: &Sought, tally: &'t [u64]) -> &'t [u64]
+    ensures behind { result.now ≡ drop (length sought.now.rules.items) tally.entry.now }
+{
     match tally.get(sought.rules.len()..) {
         Some(behind) => behind,
         None => &[],
@@ -50,16 +57,30 @@ pub fn counts_behind<'t>(sought: &Sought, tally: &'t [u64]) -> &'t [u64] {
 
 /// Tells as a line how many lines were too long, if some were.
 pub fn tell_long<E: Sink>(errors: &mut Errors<'_, E>, sought: &Sought, tally: &[u64])
-    ensures told { TellsBytes E.Sink errors.old errors.new (long_told sought.now tally.now) }
+    ensures told { TellsBytes E.Sink errors.old errors.new
+        (long_by (lines_sought sought.now) (secrets_of sought.now.rules.items) tally.now) }
+    ensures quiet { sought.now.lines ≡ None → errors.new ≡ errors.old }
 {
-    match (&sought.lines, counts_behind(sought, tally).last()) {
-        (Some(lines), Some(count)) => tell_long_count(errors, lines.most, *count),
-        _ => errors.write(&[]),
+    if let Some(lines) = &sought.lines {
+        let count = long_count(lines, counts_behind(sought, tally));
+        tell_long_count(errors, lines.most, count);
+    }
+}
+
+/// The count of long lines, behind those of some rules.
+fn long_count(lines: &LineRules, counts: &[u64]) -> u64
+    ensures count { result ≡ long_count lines.now.rules counts.now }
+{
+    match counts.get(lines.rules.as_slice().len()) {
+        Some(count) => *count,
+        None => 0,
     }
 }
 
 /// Tells as a line how many lines have more bytes than this, if some have.
-pub fn tell_long_count<E: Sink>(errors: &mut Errors<'_, E>, most: usize, count: u64) {
+pub fn tell_long_count<E: Sink>(errors: &mut Errors<'_, E>, most: usize, count: u64)
+    ensures told { TellsBytes E.Sink errors.old errors.new (long_told most count) }
+{
     if count == 0 {
         return errors.write(&[]);
     }
@@ -81,7 +102,7 @@ pub fn put_rule_counts(
     lines: &LineRules,
     counts: &[u64],
 ) -> Result<(), AllocError>
-    ensures put { OnOk result (PutsText text.old text.new (rule_counts_told lines.now counts.now)) }
+    ensures put { OnOk result (PutsText text.old text.new (rule_counts_told lines.now.rules counts.now)) }
 {
     let mut rest = lines.rules.as_slice();
     let mut left = counts;
@@ -97,7 +118,9 @@ pub fn put_rule_counts(
 }
 
 /// Puts a name, with a control character as `\x` and two hexadecimal digits.
-fn put_shown(text: &mut Vec<u8>, name: &[u8]) -> Result<(), AllocError> {
+fn put_shown(text: &mut Vec<u8>, name: &[u8]) -> Result<(), AllocError>
+    ensures put { OnOk result (PutsText text.old text.new (shown name.now)) }
+{
     let mut rest = name;
     while !rest.is_empty() {
         if rest[0] < 32 || rest[0] == 127 {
@@ -112,14 +135,22 @@ fn put_shown(text: &mut Vec<u8>, name: &[u8]) -> Result<(), AllocError> {
 }
 
 /// Puts a byte as two hexadecimal digits, of which that of ten is this one.
-fn put_hexadecimal(text: &mut Vec<u8>, byte: u8, ten: u8) -> Result<(), AllocError> {
+fn put_hexadecimal(text: &mut Vec<u8>, byte: u8, ten: u8) -> Result<(), AllocError>
+    requires letters { ten ≤ 97 }
+    ensures put { OnOk result (PutsText text.old text.new
+        (hex_digit ten (byte / 16) ∷ hex_digit ten (byte % 16) ∷ [])) }
+{
     text.push(digit_of(byte / 16, ten))?;
     text.push(digit_of(byte % 16, ten))?;
     Ok(())
 }
 
 /// A hexadecimal digit.
-fn digit_of(digit: u8, ten: u8) -> u8 {
+fn digit_of(digit: u8, ten: u8) -> u8
+    requires small { digit < 16 }
+    requires letters { ten ≤ 97 }
+    ensures digit { result ≡ hex_digit ten digit }
+{
     if digit < 10 {
         return b'0' + digit;
     }
@@ -132,7 +163,7 @@ pub fn put_rule_summary(
     lines: &LineRules,
     counts: &[u64],
 ) -> Result<(), AllocError>
-    ensures put { OnOk result (PutsText text.old text.new (rule_summary_text lines.now counts.now)) }
+    ensures put { OnOk result (PutsText text.old text.new (rule_summary_text lines.now.rules counts.now)) }
 {
     text.extend_from_slice(b",\"rules\":[")?;
     let mut rest = lines.rules.as_slice();
@@ -148,11 +179,13 @@ pub fn put_rule_summary(
         left = &left[1..];
     }
     text.extend_from_slice(b"],\"long_lines\":")?;
-    put_number(text, left.first().copied().unwrap_or(0))
+    put_number(text, long_count(lines, counts))
 }
 
 /// Puts a rule as an object of JSON.
-fn put_rule(text: &mut Vec<u8>, rule: &LineRule, count: u64) -> Result<(), AllocError> {
+fn put_rule(text: &mut Vec<u8>, rule: &LineRule, count: u64) -> Result<(), AllocError>
+    ensures put { OnOk result (PutsText text.old text.new (rule_object rule.now count)) }
+{
     text.extend_from_slice(b"{\"id\":\"")?;
     put_json(text, rule.id.as_bytes())?;
     text.extend_from_slice(b"\",\"count\":")?;

@@ -1,26 +1,26 @@
 //! A call of the program over its arguments, files and streams.
 
-ghost use Rattle.std.specs.Prelude.{◌≡◌, ◌++◌, ◌⊎◌, ◌<◌, ◌≤◌, ℕ, List, IfErr, IfOk, IfSome, Ok, OnErr, OnOk, Some, false, length, option_map, true, ⊥};
+ghost use Rattle.std.specs.Prelude.{◌≡◌, ◌++◌, ◌⊎◌, ◌<◌, ◌≤◌, ℕ, List, IfErr, IfOk, IfSome, None, Ok, OnErr, OnOk, Some, drop, false, length, option_map, true, ⊥};
 ghost use Rattle.aho_core.specs.Replacement.{pieces_of};
 ghost use Rattle.programs.specs.Arguments.{texts};
 ghost use Rattle.programs.specs.Names.{name_bytes};
 ghost use Rattle.programs.specs.Streams.{WritesBytes, bytes_left};
 ghost use Rattle.programs.specs.Telling.{Tells, TellsBytes, TellsSome};
-ghost use Rattle.acredact.specs.Arguments.{AreMistaken, AsksToRedact, GivesNoPattern, IfAsked, IfChecking, IfNoCheck, IsCheck, RefusesUnclean, all_given, checks_asked, counts_asked, counts_given, has};
+ghost use Rattle.acredact.specs.Arguments.{AreMistaken, AsksToRedact, GivesNoPattern, IfAsked, IfChecking, IfNoCheck, IsCheck, RefusesUnclean, all_given, checks_asked, counts_asked, counts_given, gives_rules, has};
 ghost use Rattle.acredact.specs.Back.{AreBoth, FilesJob, IfBackIs, RowsCounts, RowsOutcome};
 ghost use Rattle.acredact.specs.Bounds.{JobNumbers};
-ghost use Rattle.acredact.specs.Calls.{AskedOutcome, BeginsAsked, CountsAsked, DoubtedOutcome, HidesAsked, IsCountsFailure, IsCountsLine, IsPrintFailure, IsRefusedLine, IsWrongLine, KeyedOutcome, KeylessOutcome, LeavesNoneAsked, LoadOutcome, NumbersAsked, NumbersToldAsked, OutputFails, ReadsAsked, RedactsAsked, TellsAsked, TellsAnyCounts, WarnedJob, WarnedOutcome, WarnsAsked, call_of, gives_pattern, gives_value, keyed_as, names_asked, text_asked, work_by};
+ghost use Rattle.acredact.specs.Calls.{AskedOutcome, BeginsAsked, CountsAsked, DoubtedOutcome, HidesAsked, IsCountsFailure, IsCountsLine, IsNumbersLine, IsPrintFailure, IsRefusedLine, IsWrongLine, LeavesNoneAsked, LoadOutcome, NumbersAsked, NumbersToldAsked, OutputFails, ReadsAsked, RedactsAsked, TellsAsked, TellsAnyCounts, WarnedJob, WarnedOutcome, WarnsAsked, call_of, gives_pattern, gives_value, keyed_as, names_asked, text_asked, work_by};
 ghost use Rattle.acredact.specs.Checks.{MatchedAsked, SaysOfCheck, TellsListsAsked, TellsUncheckedAsked, UnmatchedAsked};
-ghost use Rattle.acredact.specs.Counts.{PutsText, lines_of_rules, secret_lines, zeros};
+ghost use Rattle.acredact.specs.Counts.{PutsText, lines_of_rules};
 ghost use Rattle.acredact.specs.Failures.{IsFailureLine};
 ghost use Rattle.acredact.specs.Files.{CanDo, keyed_of};
-ghost use Rattle.acredact.specs.Loading.{key_lent, loaded_of};
+ghost use Rattle.acredact.specs.Loading.{IsRuled, key_lent, lines_sought, loaded_of};
 ghost use Rattle.acredact.specs.Pieces.{IfOfAll, TellsUnclean, pieces_by};
 ghost use Rattle.acredact.specs.Secrets.{IfOf};
 ghost use Rattle.acredact.specs.Statuses.{IsIdle, SaysOfRedaction};
 ghost use Rattle.acredact.specs.Sums.{sums_of};
 ghost use Rattle.acredact.specs.Tables.{HaveNoEmpty, secrets_of};
-ghost use Rattle.acredact.specs.Summaries.{counts_told_by, summary_told_by, totals_text};
+ghost use Rattle.acredact.specs.Summaries.{AreZeros, IsToldOf, counts_part, summary_part, totals_behind};
 ghost use Rattle.acredact.specs.Totals.{CountsWork, JobCounts};
 ghost use Rattle.acredact.specs.Volumes.{JobVolume};
 ghost use Rattle.acredact.specs.declared.clean.Unclean.{Unclean};
@@ -29,7 +29,7 @@ ghost use Rattle.acredact.specs.declared.arguments.Word.TheVariants.{Forms, Igno
 
 use crate::arguments::{Item, Word, checks, counts, gives_rules, has, is_same, items, last_value};
 use crate::check::check;
-use crate::clean::{Judge, Unclean, unclean_of};
+use crate::clean::{Judge, Unclean, unclean_of_all};
 use crate::counts::put_counts;
 use crate::doubts::warn_of_lists;
 use crate::failure::{Failure, tell_failure, tell_unclean};
@@ -84,12 +84,14 @@ pub fn run<F: Folder, I: Read, W: Write, E: Sink>(
     ensures check_idle { IfChecking arguments.now (λ given.
         GivesNoPattern given → IsIdle streams.old streams.new) }
 
-    // Where the status is 0, the files were redacted, one after another, and no secret is left.
+    // Where the status is 0, the files were redacted, one after another, and no secret is left. With rules that is each line, with just the
+    // bytes replaced that a rule marks or that lie in what counts of a pattern.
     ensures redacts { IfAsked arguments.now (λ given. result ≡ 0
         → RedactsAsked W.Write F.Folder folder.now given streams.old streams.new) }
 
-    // Where forms are asked for, each character that shows a bit of a secret in one of them lies in a range that was replaced.
-    ensures hides { IfAsked arguments.now (λ given. has Forms given ≡ true → result ≡ 0
+    // Where forms are asked for, each character that shows a bit of a secret in one of them lies in a range that was replaced. With rules
+    // the forms are patterns among those of `redacts`.
+    ensures hides { IfAsked arguments.now (λ given. has Forms given ≡ true → gives_rules given ≡ false → result ≡ 0
         → HidesAsked W.Write F.Folder folder.now given streams.old streams.new) }
 
     // Whatever the status is, each file's redaction was written or a beginning of it, one after another, and nothing else. Where a
@@ -128,7 +130,7 @@ pub fn run<F: Folder, I: Read, W: Write, E: Sink>(
     // or 1 nothing is told but of patterns of lists that may be meant otherwise, and where these are refused there is none.
     ensures unchecked { IfChecking arguments.now (λ given. result ≡ 2
         → TellsUncheckedAsked F.Folder folder.now given streams.old streams.new E.Sink) }
-    ensures check_quiet { IfChecking arguments.now (λ given. result < 2
+    ensures check_quiet { IfChecking arguments.now (λ given. gives_rules given ≡ false → result < 2
         → TellsListsAsked F.Folder folder.now given streams.old streams.new E.Sink) }
     ensures check_unwritten { IfChecking arguments.now (λ _.
         streams.new.output ≡ streams.old.output) }
@@ -290,6 +292,7 @@ fn redact_loaded<'a, F: Folder, I: Read, W: Write, E: Sink>(
     streams: &mut Streams<'_, I, W, E>,
 ) -> Result<bool, Failure<'a>>
     requires some { HaveNoEmpty (secrets_of sought.now.rules.items) }
+    requires ruled { IsRuled given.now sought.now }
     ensures outcome { LoadOutcome W.Write E.Sink F.Folder
         folder.now (all_given given.now) (loaded_of sought.now) result streams.old streams.new }
     ensures flushed { OnOk result (streams.new.output.device.flushed ≡ true) }
@@ -310,6 +313,7 @@ fn redact_counted<'a, F: Folder, I: Read, W: Write, E: Sink>(
     streams: &mut Streams<'_, I, W, E>,
 ) -> Result<bool, Failure<'a>>
     requires some { HaveNoEmpty (secrets_of sought.now.rules.items) }
+    requires ruled { IsRuled given.now sought.now }
     ensures outcome { DoubtedOutcome W.Write E.Sink F.Folder
         folder.now (all_given given.now) (loaded_of sought.now) result streams.old streams.new }
     ensures flushed { OnOk result (streams.new.output.device.flushed ≡ true) }
@@ -329,7 +333,8 @@ fn redact_telling<'a, F: Folder, I: Read, W: Write, E: Sink>(
     streams: &mut Streams<'_, I, W, E>,
 ) -> Result<bool, Failure<'a>>
     requires some { HaveNoEmpty (secrets_of sought.now.rules.items) }
-    requires none { tally.old ≡ zeros (counts_given given.now) sought.now.rules.items }
+    requires ruled { IsRuled given.now sought.now }
+    requires none { AreZeros given.now sought.now tally.old }
     ensures outcome { DoubtedOutcome W.Write E.Sink F.Folder
         folder.now (all_given given.now) (loaded_of sought.now) result streams.old streams.new }
     ensures flushed { OnOk result (streams.new.output.device.flushed ≡ true) }
@@ -361,13 +366,12 @@ pub fn tell_counted<'a, E: Sink>(
     errors: &mut Errors<'_, E>,
 ) -> Result<bool, Failure<'a>>
     ensures all { IfOk result (λ done. done ≡ all) }
-    ensures told { OnOk result (TellsAnyCounts E.Sink (all_given given.now) sought.now.rules.items tally.now volume
-        errors.old errors.new) }
-    ensures lines { Tells E.Sink (IsCountsLine (all_given given.now) (secrets_of sought.now.rules.items))
-        errors.old errors.new }
-    ensures these { Tells E.Sink (λ line. line ≡ totals_text (all_given given.now)
-        (secret_lines (secrets_of sought.now.rules.items)) (sums_of (secrets_of sought.now.rules.items) tally.now) volume)
-        errors.old errors.new }
+    ensures told { OnOk result (TellsAnyCounts E.Sink (all_given given.now) (secrets_of sought.now.rules.items)
+        (lines_sought sought.now) tally.now volume errors.old errors.new) }
+    ensures lines { Tells E.Sink (IsCountsLine (all_given given.now) (secrets_of sought.now.rules.items)
+        (lines_sought sought.now)) errors.old errors.new }
+    ensures these { Tells E.Sink (IsToldOf (all_given given.now) (secrets_of sought.now.rules.items)
+        (lines_sought sought.now) tally.now volume) errors.old errors.new }
     ensures fails { IfErr result (IsCountsFailure (counts_given given.now)) }
 {
     tell_long(errors, sought, tally);
@@ -395,8 +399,7 @@ fn tell_totals<E: Sink>(
     volume: Volume,
 ) -> Result<(), AllocError>
     ensures told { OnOk result (TellsBytes E.Sink errors.old errors.new
-        (totals_text (all_given given.now) (lines_of_rules sought.now.rules.items)
-        (sums_of (secrets_of sought.now.rules.items) tally.now) volume)) }
+        (totals_behind (lines_sought sought.now) (all_given given.now) (secrets_of sought.now.rules.items) tally.now volume)) }
     ensures untold { OnErr result (errors.new ≡ errors.old) }
 {
     let sums = sums_of(alloc, sought.rules.as_slice(), tally)?;
@@ -417,7 +420,8 @@ fn put_asked_counts(
     tally: &[u64],
 ) -> Result<(), AllocError>
     ensures put { OnOk result (PutsText text.old text.new
-        (counts_told_by (all_given given.now) (lines_of_sought sought.now) sums.now tally.now)) }
+        (counts_part (lines_sought sought.now) (all_given given.now) (lines_of_rules sought.now.rules.items) sums.now
+        (drop (length sought.now.rules.items) tally.now))) }
 {
     if !has(given, Word::Count) {
         return Ok(());
@@ -439,7 +443,8 @@ fn put_asked_summary(
     volume: Volume,
 ) -> Result<(), AllocError>
     ensures put { OnOk result (PutsText text.old text.new
-        (summary_told_by (all_given given.now) sought.now sums.now tally.now volume)) }
+        (summary_part (lines_sought sought.now) (all_given given.now) sums.now
+        (drop (length sought.now.rules.items) tally.now) volume)) }
 {
     if !has(given, Word::Summary) {
         return Ok(());
@@ -483,6 +488,7 @@ fn redact_all<'a, F: Folder, I: Read, W: Write, E: Sink>(
     streams: &mut Streams<'_, I, W, E>,
 ) -> Result<bool, Failure<'a>>
     requires some { HaveNoEmpty (secrets_of sought.now.rules.items) }
+    requires ruled { IsRuled given.now sought.now }
     ensures outcome { WarnedOutcome W.Write E.Sink (has Strict (all_given given.now))
         (work_by (call_of F.Folder folder.now (all_given given.now)) (loaded_of sought.now))
         result streams.old streams.new }
@@ -537,7 +543,8 @@ fn redact_warned<
     requires rows { IfSome rows (λ rows. CanDo B.Automaton rows.now job.now) }
     requires back { AreBoth A.Automaton C.Automaton automaton.now back }
     requires words { length judge.now.rules.now ≡ length judge.now.words.now }
-    requires pieces { pieces_of job.now.replacements.now ≡ pieces_by judge.now }
+    requires pieces { job.now.lines ≡ None → pieces_of job.now.replacements.now ≡ pieces_by judge.now }
+    requires behind { job.now.lines ≡ None → length judge.now.behind.now ≡ 0 }
     ensures outcome { IfOfAll A.Automaton B.Automaton automaton.now rows.entry judge.now
         (λ p. IfBackIs C.Automaton back.entry p
         (WarnedJob W.Write E.Sink F.Folder strict job.now p result streams.old streams.new)) }
@@ -549,7 +556,7 @@ fn redact_warned<
         volume.old volume.new streams.old streams.new) }
     ensures flushed { OnOk result (streams.new.output.device.flushed ≡ true) }
 {
-    let unclean = unclean_of(automaton, judge, job.covers, job.key.is_some());
+    let unclean = unclean_of_all(automaton, judge, job.covers, job.key.is_some());
     // Not by `?`: this error may hold names.
     match warn(&mut streams.errors, unclean, strict) {
         Ok(()) => Ok(redact_by(automaton, rows, back, job, counts, volume, streams)?),
