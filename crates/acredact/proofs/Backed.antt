@@ -42,7 +42,7 @@ back_ends WriteZero is = tt
 back_ends Memory is = tt
 back_ends PositionLimit is = tt
 
-module _ {A R W : Type 0} (G : Ghosts A) (S : SourceGhosts R) (K : SinkGhosts W) (searcher : Backward A) (r : Redactor) (plain : r.covers ≡ false) (unkeyed : r.key ≡ None) (is : IsBackwardOf G searcher r.patterns)
+module _ {A R W : Type 0} (G : Ghosts A) (S : SourceGhosts R) (K : SinkGhosts W) (searcher : Backward A) (r : Redactor) (unlined : r.lines ≡ None) (plain : r.covers ≡ false) (unkeyed : r.key ≡ None) (is : IsBackwardOf G searcher r.patterns)
     (source source' : R) (sink sink' : W) where
   -- what comes of a stream that it replaces
   pub outcome_back : (result : Result (Unit {0}) StreamError) → LeavesByBlocks S K (IsBackwardOf G searcher) r.pieces source source' sink sink' greatest_position result
@@ -50,30 +50,30 @@ module _ {A R W : Type 0} (G : Ghosts A) (S : SourceGhosts R) (K : SinkGhosts W)
       → IfErr result (λ error. (error ≡ Memory) ⊎ IsStreamFault error)
       → StreamOutcome S K r result source source' sink sink'
   outcome_back (Ok x) leaves errors only =
-      let whole = whole_by S K r plain unkeyed (IsBackwardOf G searcher) is (some_back G searcher r.patterns is) source source' sink sink' leaves.replaced_all in
+      let whole = whole_by S K r unlined plain unkeyed (IsBackwardOf G searcher) is (some_back G searcher r.patterns is) source source' sink sink' leaves.replaced_all in
       record {
         redacted = whole;
-        begun = starts_whole whole;
+        begun = starts_whole unlined whole;
         near = λ covers. tt;
         read_failed = errors.read_failed;
         write_failed = errors.write_failed;
         took_nothing = errors.took_nothing;
-        limit = leaves.limit;
+        limit = λ none. leaves.limit;
         only = tt;
       }
   outcome_back (Err error) leaves errors only = record {
     redacted = tt;
-    begun = begun_by S K r plain unkeyed (IsBackwardOf G searcher) is (some_back G searcher r.patterns is) source source' sink sink' leaves.begun;
-    near = λ covers. absurd (no_cover r plain covers);
+    begun = begun_by S K r unlined plain unkeyed (IsBackwardOf G searcher) is (some_back G searcher r.patterns is) source source' sink sink' leaves.begun;
+    near = λ covers. absurd (no_cover r plain covers.covers);
     read_failed = errors.read_failed;
     write_failed = errors.write_failed;
     took_nothing = errors.took_nothing;
-    limit = leaves.limit;
+    limit = λ none. leaves.limit;
     only = back_ends error only;
   }
 
 -- a searcher and an automaton that suits redact by the patterns of both
-pub backing_is : {A B : Type 0} (G : Ghosts A) (H : Ghosts B) (searcher : Backward B) (automaton : A) (p : Patterns) (covers words : Bool) (replacements : List (Bor (List ℕ))) (key : Option Keyed) → G.is_of automaton p → IsBackwardOf H searcher p → covers ≡ false → words ≡ false → key ≡ None
-    → CanRedact G automaton covers replacements → IsBacking G H searcher automaton replacements (record { patterns = p; covers = covers; words = words; pieces = pieces_of replacements; key = key })
-backing_is G H searcher automaton p covers words replacements key of back is alike none ready =
-    record { backward = back; forward = redactor_is G automaton p covers false words false replacements key of is alike none ready }
+pub backing_is : {A B : Type 0} (G : Ghosts A) (H : Ghosts B) (searcher : Backward B) (automaton : A) (p : Patterns) (covers words : Bool) (replacements : List (Bor (List ℕ))) (key : Option Keyed) (lines : Option LineCovered) → G.is_of automaton p → IsBackwardOf H searcher p → covers ≡ false → words ≡ false → key ≡ None → lines ≡ None
+    → CanRedact G automaton covers replacements → IsBacking G H searcher automaton replacements (record { patterns = p; covers = covers; words = words; pieces = pieces_of replacements; key = key; lines = lines })
+backing_is G H searcher automaton p covers words replacements key lines of back is alike none unlined ready =
+    record { backward = back; forward = redactor_is G automaton p covers false words false replacements key lines of is alike none unlined ready }

@@ -212,7 +212,7 @@ begins_known bytes rest count within is =
 same_beginning : (old new : List ℕ) (bytes rest : List ℕ) (count : ℕ) → new ≡ old ++ bytes → count ≤ length rest → new ≡ old ++ take count rest → StartsWith rest bytes
 same_beginning old new bytes rest count first within second = begins_known bytes rest count within (append_cancel_left old bytes (take count rest) (sym first ∙ second))
 
-module _ (r : Redactor) (plain : r.covers ≡ false) (unkeyed : r.key ≡ None) (some : 1 ≤ shortest (map length r.patterns.words)) (given : List ℕ) (ended : Bool) where
+module _ (r : Redactor) (unlined : r.lines ≡ None) (plain : r.covers ≡ false) (unkeyed : r.key ≡ None) (some : 1 ≤ shortest (map length r.patterns.words)) (given : List ℕ) (ended : Bool) where
   -- a beginning of each replacement that may come was written
   abbrev BeginsEach : (old new : Option (List ℕ)) → Type 0
   BeginsEach old new = (bytes : List ℕ) (ms : List Occurrence) → MayBe given ended bytes → AreFinds r.patterns (plain_search bytes) None ms → AppendsBeginning old new (replaced bytes ms r.pieces)
@@ -228,12 +228,12 @@ module _ (r : Redactor) (plain : r.covers ≡ false) (unkeyed : r.key ≡ None) 
       let one = each given finds.0 (no_more given ended) finds.1 in
       let part = take one.0 (replaced given finds.0 r.pieces) in (
         part,
-        begins_by r some given ended part (λ bytes ms may found. let other = each bytes ms may (to_finds r plain bytes ms found) in
+        begins_by r unlined some given ended part (λ bytes ms may found. let other = each bytes ms may (to_finds r plain bytes ms found) in
             subst (λ (all : List ℕ). StartsWith all part) (sym (redacted_alike r unkeyed bytes ms)) (same_beginning old new part (replaced bytes ms r.pieces) other.0 one.2 other.1 other.2)),
         one.2,
       )
 
-module _ {A R W F : Type 0} (G : Ghosts A) (S : SourceGhosts R) (K : SinkGhosts W) (automaton : A) (r : Redactor) (plain : r.covers ≡ false) (unkeyed : r.key ≡ None) (of : G.is_of automaton r.patterns)
+module _ {A R W F : Type 0} (G : Ghosts A) (S : SourceGhosts R) (K : SinkGhosts W) (automaton : A) (r : Redactor) (unlined : r.lines ≡ None) (plain : r.covers ≡ false) (unkeyed : r.key ≡ None) (of : G.is_of automaton r.patterns)
     (are : G.lengths automaton ≡ map length r.patterns.words) (can : CanBegin G automaton)
     (calls : Mut F (Bor Occurrence × (Bor (List ℕ) × (MutBor W × Unit {0}))) (Result (Unit {0}) StreamError × (MutBor W × Unit {0})))
     (source source' : R) (closure : F) (sink sink' : W) (Fits : F → Type 0) (fits : Fits closure)
@@ -242,7 +242,7 @@ module _ {A R W F : Type 0} (G : Ghosts A) (S : SourceGhosts R) (K : SinkGhosts 
     (fails : (f : F) (m : Occurrence) (matched : List ℕ) (old : W) (reason : StreamError) (next : F) (new : W) → Fits f → CalledOn calls f m matched old (Err reason) next new
     → WritesPiece K (Err reason) old new (slice_index_or r.pieces m.pattern [])) where
   some_one : 1 ≤ shortest (map length r.patterns.words)
-  some_one = some_by G S K automaton r plain unkeyed of are can source source' sink sink'
+  some_one = some_by G S K automaton r unlined plain unkeyed of are can source source' sink sink'
 
   -- what a run took, by the finds of any text that may come
   over_takes : (result : Result (Unit {0}) StreamError) (over : RunsOver S K (G.is_of automaton) calls source source' closure sink result sink') (bytes : List ℕ) (ms : List Occurrence)
@@ -268,17 +268,17 @@ module _ {A R W F : Type 0} (G : Ghosts A) (S : SourceGhosts R) (K : SinkGhosts 
         text = over.given;
         gives = subst (SourceGave S source source' over.given) over.whole over.gives;
         redaction = redacted r over.given taken.0;
-        redacts = redaction_by r some_one over.given taken.0 (of_finds r plain over.given taken.0 taken.1);
+        redacts = redaction_by r unlined some_one over.given taken.0 (of_finds r plain over.given taken.0 taken.1);
         written = subst (Appends (K.taken sink) (K.taken sink')) (sym (redacted_alike r unkeyed over.given taken.0)) taken.2.whole;
       } in
       record {
         redacted = whole;
-        begun = starts_whole whole;
+        begun = starts_whole unlined whole;
         near = λ covers. tt;
         read_failed = over.read_failed ∙ ap (λ (b : Bool). counted b (S.failures source)) (never_stops over.stopped);
         write_failed = taken.2.write_failed;
         took_nothing = taken.2.took_nothing;
-        limit = λ (met : false ≡ true). absurd (cc);
+        limit = λ unruled (met : false ≡ true). absurd (cc);
         only = tt;
       }
 
@@ -289,11 +289,11 @@ module _ {A R W F : Type 0} (G : Ghosts A) (S : SourceGhosts R) (K : SinkGhosts 
       record {
         redacted = tt;
         begun = record { given = over.given; ended = over.ended; gives = over.gives; part = begun.0; begins = begun.1; written = begun.2 };
-        near = λ covers. absurd (no_cover r plain covers);
+        near = λ covers. absurd (no_cover r plain covers.covers);
         read_failed = over.read_failed ∙ ap (λ (b : Bool). counted b (S.failures source)) (read_stops over.stopped error taken.2.only);
         write_failed = taken.2.write_failed;
         took_nothing = taken.2.took_nothing;
-        limit = λ met. let at_limit = over.limit (limit_stops over.stopped error taken.2.only met) met in (over.given, subst (SourceGave S source source' over.given) at_limit.1 over.gives, at_limit.0);
+        limit = λ unruled met. let at_limit = over.limit (limit_stops over.stopped error taken.2.only met) met in (over.given, subst (SourceGave S source source' over.given) at_limit.1 over.gives, at_limit.0);
         only = no_refusal over.stopped error taken.2.only;
       }
 
@@ -313,11 +313,11 @@ module _ {A R W F : Type 0} (G : Ghosts A) (S : SourceGhosts R) (K : SinkGhosts 
       begins = begins_nothing r some_one [] false;
       written = Appends-nil (K.taken sink);
     };
-    near = λ covers. absurd (no_cover r plain covers);
+    near = λ covers. absurd (no_cover r plain covers.covers);
     read_failed = refl;
     write_failed = refl;
     took_nothing = refl;
-    limit = λ (met : false ≡ true). absurd (cc);
+    limit = λ unruled (met : false ≡ true). absurd (cc);
     only = tt;
   }
 

@@ -1,6 +1,6 @@
 -- What shows a secret in a form lies in a replaced range.
 use Rattle.std.proofs.Common.{◌≡◌, inl, inr, ℕ, zero, suc, ◌+◌, ◌-◌, ◌<◌, ◌≤◌, Bool, true, false, cond, List, [], ◌∷◌, ◌++◌, Option, length, length-append, map, take, drop, refl, sym, ap, subst, ◌∙◌, arith}
-use Rattle.std.specs.Prelude.{All, Contains, MatchBool, Some, None, chars, flat_map, if◌then◌else◌, nat_lt, slice_index_or, slice_range}
+use Rattle.std.specs.Prelude.{All, Contains, MatchBool, Some, None, chars, flat_map, if◌then◌else◌, nat_lt, option_map, slice_index_or, slice_range}
 use Rattle.std.specs.declared.io.traits.Read.{Ghosts as Readers}
 use Rattle.std.specs.declared.io.traits.Write.{Ghosts as Writers}
 use Rattle.std.proofs.lemmas.Bool.{lt-ltb, ltb-true}
@@ -33,13 +33,16 @@ use Rattle.acredact.specs.declared.forms.Nested.{Nested}
 use Rattle.aho_cover.specs.Pieces.{PieceRule}
 use Rattle.aho_cover.specs.Words.{CountsIn}
 use Rattle.pseudonyms.specs.Pseudonyms.{pseudonym_rule}
-use Rattle.acredact.specs.Arguments.{Given, covers_asked, has, words_asked}
+use Rattle.acredact.specs.Arguments.{Given, covers_asked, gives_rules, has, words_asked}
 use Rattle.acredact.specs.Calls.{Call, HidesCall, RedactsCall, names_asked, work_by}
+use Rattle.acredact.specs.LineRules.{LinesLoaded, fixed_at, key_beside}
 use Rattle.acredact.specs.Loading.{Loaded, loaded_by}
 use Rattle.acredact.specs.Named.{all_named, named_secret}
 use Rattle.acredact.specs.declared.arguments.Word.TheVariants.{Forms as FormsOption, IgnoreCase}
 use Rattle.acredact.specs.declared.streams.Streams.{Streams}
 use Rattle.acredact.proofs.Free.{named_as}
+use Rattle.acredact.proofs.Redactions.{redaction_whole}
+use Rattle.acredact.proofs.Unruled.{unlined_by, unruled_lines}
 
 -- what a form hides is hidden where it shows
 module _ (patterns : List (List ℕ)) (secret text : List ℕ) (place : ℕ) where
@@ -169,7 +172,7 @@ with_within asked secrets secret (k, below, is) long pattern some listed =
     (all_within asked 0 secrets secret k below is long pattern (contains_filled (asked_form_patterns asked secret.pattern) pattern some listed)))
 
 -- no form shows what stays of a text
-module _ (asked : AskedForms) (secrets : List Secret) (r : Redactor) (covers : r.covers ≡ true) (all : r.words ≡ false) (words : r.patterns.words ≡ patterns_in (with_forms asked secrets)) (laws : HideSecrets asked secrets) where
+module _ (asked : AskedForms) (secrets : List Secret) (r : Redactor) (unlined : r.lines ≡ None) (covers : r.covers ≡ true) (all : r.words ≡ false) (words : r.patterns.words ≡ patterns_in (with_forms asked secrets)) (laws : HideSecrets asked secrets) where
   asked_within : (secret : Secret) → Contains secrets secret → 4 ≤ length secret.pattern → (pattern : List ℕ) → 1 ≤ length pattern → Contains (asked_form_patterns asked secret.pattern) pattern → Contains r.patterns.words pattern
   asked_within secret listed long pattern some one = subst (λ (l : List (List ℕ)). Contains l pattern) (sym words) (with_within asked secrets secret listed long pattern some one)
 
@@ -203,7 +206,7 @@ module _ (asked : AskedForms) (secrets : List Secret) (r : Redactor) (covers : r
 
   text_hidden : (left left' held held' : Option (List ℕ)) → RedactsText r left left' held held' → WritesText (HidesForms asked secrets r) left left' held held'
   text_hidden left left' held held' of =
-      let is = of.redacts in
+      let is = redaction_whole r unlined of.text of.redaction of.redacts in
       record {
         text = of.text;
         reads = of.reads;
@@ -213,15 +216,15 @@ module _ (asked : AskedForms) (secrets : List Secret) (r : Redactor) (covers : r
       }
 
 -- nor what stays of any file
-pub hidden_of : (asked : AskedForms) (secrets : List Secret) (work : Work) → work.redactor.covers ≡ true → work.redactor.words ≡ false → work.redactor.patterns.words ≡ patterns_in (with_forms asked secrets)
+pub hidden_of : (asked : AskedForms) (secrets : List Secret) (work : Work) → work.redactor.lines ≡ None → work.redactor.covers ≡ true → work.redactor.words ≡ false → work.redactor.patterns.words ≡ patterns_in (with_forms asked secrets)
     → HideSecrets asked secrets → (names : List (List ℕ)) (left left' held held' : Option (List ℕ)) → AreRedacted work names left left' held held' → AreHidden asked secrets work names left left' held held'
-hidden_of asked secrets work covers all words laws [] left left' held held' are = are
-hidden_of asked secrets work covers all words laws (name ∷ names) left left' held held' (between, meanwhile, apart, is, others) = (
+hidden_of asked secrets work unlined covers all words laws [] left left' held held' are = are
+hidden_of asked secrets work unlined covers all words laws (name ∷ names) left left' held held' (between, meanwhile, apart, is, others) = (
   between,
   meanwhile,
   named_as work.holds name (λ l l'. RedactsText work.redactor l l' held meanwhile) (λ l l'. WritesText (HidesForms asked secrets work.redactor) l l' held meanwhile)
-      (λ l l' of. text_hidden asked secrets work.redactor covers all words laws l l' held meanwhile of) left between is,
-  hidden_of asked secrets work covers all words laws names between left' meanwhile held' others,
+      (λ l l' of. text_hidden asked secrets work.redactor unlined covers all words laws l l' held meanwhile of) left between is,
+  hidden_of asked secrets work unlined covers all words laws names between left' meanwhile held' others,
 )
 
 -- a name changes no pattern
@@ -229,26 +232,27 @@ named_patterns : (rule : PieceRule) (all secrets : List Secret) → patterns_in 
 named_patterns rule all [] = refl
 named_patterns rule all (secret ∷ secrets) = ap (λ l. secret.pattern ∷ l) (named_patterns rule all secrets)
 
-abbrev loaded_if : List Given → List Secret → List ℕ → Bool → Loaded
-loaded_if given secrets key b = if b then record { secrets = all_named (pseudonym_rule (has IgnoreCase given) key) secrets; key = None } else record { secrets = secrets; key = Some key }
+abbrev loaded_if : List Given → List Secret → Option LinesLoaded → List ℕ → Bool → Loaded
+loaded_if given secrets lines key b =
+    if b then record { secrets = all_named (pseudonym_rule (has IgnoreCase given) key) secrets; key = key_beside lines key; lines = option_map (fixed_at (length secrets)) lines } else record { secrets = secrets; key = Some key; lines = lines }
 
-loaded_patterns : (given : List Given) (secrets : List Secret) (key : Option (List ℕ)) → patterns_in (loaded_by given secrets key).secrets ≡ patterns_in secrets
-loaded_patterns given secrets None = refl
-loaded_patterns given secrets (Some key) = by (has FormsOption given)
+loaded_patterns : (given : List Given) (secrets : List Secret) (lines : Option LinesLoaded) (key : Option (List ℕ)) → patterns_in (loaded_by given secrets lines key).secrets ≡ patterns_in secrets
+loaded_patterns given secrets lines None = refl
+loaded_patterns given secrets lines (Some key) = by (has FormsOption given)
   where
-    by : (b : Bool) → patterns_in (loaded_if given secrets key b).secrets ≡ patterns_in secrets
+    by : (b : Bool) → patterns_in (loaded_if given secrets lines key b).secrets ≡ patterns_in secrets
     by true = named_patterns (pseudonym_rule (has IgnoreCase given) key) secrets secrets
     by false = refl
 
 -- so no form shows a secret that a call redacts by a cover
-pub call_hides : {R W E : Type 0} {Reads : Readers R} (Writes : Writers W) (call : Call) (left : Option (List ℕ)) (streams streams' : Streams R W E Reads) → covers_asked call.given ≡ true → words_asked call.given ≡ false
+pub call_hides : {R W E : Type 0} {Reads : Readers R} (Writes : Writers W) (call : Call) (left : Option (List ℕ)) (streams streams' : Streams R W E Reads) → gives_rules call.given ≡ false → covers_asked call.given ≡ true → words_asked call.given ≡ false
     → RedactsCall Writes call left streams streams' → HidesCall Writes call left streams streams'
-call_hides Writes call left streams streams' covers every of =
+call_hides Writes call left streams streams' none covers every of =
     let all = of.loaded.given_all in
     record {
       load = of.load;
       between = of.between;
       loaded = of.loaded;
-      hidden = hidden_of _ all.plain (work_by call of.load) covers every
-          (ap (λ (l : Loaded). patterns_in l.secrets) of.loaded.is ∙ loaded_patterns call.given of.loaded.secrets of.loaded.key ∙ ap patterns_in all.are) all.hidden (names_asked call.given) _ _ _ _ of.redacted;
+      hidden = hidden_of _ all.plain (work_by call of.load) (unlined_by call of.load (unruled_lines call of.load left of.between none of.loaded)) covers every
+          (ap (λ (l : Loaded). patterns_in l.secrets) of.loaded.is ∙ loaded_patterns call.given of.loaded.secrets of.loaded.lines of.loaded.key ∙ ap patterns_in all.are) all.hidden (names_asked call.given) _ _ _ _ of.redacted;
     }

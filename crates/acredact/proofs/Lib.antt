@@ -17,6 +17,7 @@ mod Shortest
 -- what is written is a redaction, or begins one
 mod Redactions
 mod MadeClean
+mod Lined
 -- what a replacement by a closure writes
 mod Counted
 -- what comes of files
@@ -38,6 +39,7 @@ mod Refused
 -- which pieces are clean, and what follows
 mod Flaws
 mod NoneSpelled
+mod Unruled
 mod Free
 mod Hiding
 mod Calls

@@ -100,7 +100,7 @@ module _ {Q R W : Type 0} (P : SourceGhosts Q) (S : SourceGhosts R) (K : SinkGho
     read_failed = sym failures' ∙ of.read_failed ∙ ap (counted (is_read_fault result)) failures;
     write_failed = of.write_failed;
     took_nothing = of.took_nothing;
-    limit = λ met. let gave = of.limit met in (gave.0, gave_as gave.0 false gave.1, gave.2);
+    limit = λ unruled met. let gave = of.limit unruled met in (gave.0, gave_as gave.0 false gave.1, gave.2);
     only = of.only;
   }
 

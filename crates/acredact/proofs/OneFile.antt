@@ -140,7 +140,7 @@ at_ok {P} done is so = subst (λ (d : Result (Unit {0}) StreamError). OnOk d P) 
 module _ {W : Type 0} (Writes : Writers W) (r : Redactor) (done : Result (Unit {0}) StreamError) (left left' : Option (List ℕ)) (output output' : FromWrite W) where
   pub outcome_by : OnOk done (RedactsText r left left' (output_bytes Writes output) (output_bytes Writes output'))
       → BeginsText r left left' (output_bytes Writes output) (output_bytes Writes output')
-      → (r.covers ≡ true → IfErr done (λ error. IsFillRefusal error → ReachesText r left left' (output_bytes Writes output) (output_bytes Writes output')))
+      → (IsWholeCover r → IfErr done (λ error. IsFillRefusal error → ReachesText r left left' (output_bytes Writes output) (output_bytes Writes output')))
       → output'.failures ≡ counted (is_write_fault done) output.failures
       → output'.empty_writes ≡ counted (is_write_of_nothing done) output.empty_writes
       → IfErr done IsStreamEnd → TextOutcome Writes r (reading_of done) left left' output output'
@@ -220,7 +220,7 @@ of_folder holds name Reads left left' is same rest reads =
     subst (λ (b : Bool). MatchBool b (Reads left left') ((left' ≡ left) × (rest : Option (List ℕ)) × Reads (holds name) rest)) (sym is) (same, rest, reads)
 
 unread_by : {P : Type 0} (work : Work) (name : List ℕ) (left left' held held' : Option (List ℕ)) (result : Result (Option Reason) StreamError) → IfOk result (λ unread. IfSome unread IsReadReason)
-    → BeginsNamed work name left left' held held' → (work.redactor.covers ≡ true → IfOk result (λ unread. IfSome unread (λ reason. P))) → (P → ReachesNamed work name left left' held held')
+    → BeginsNamed work name left left' held held' → (IsWholeCover work.redactor → IfOk result (λ unread. IfSome unread (λ reason. P))) → (P → ReachesNamed work name left left' held held')
     → IfOk result (λ unread. IfSome unread (λ reason. IsUnread work name reason left left' held held'))
 unread_by work name left left' held held' (Ok None) is begun near named = tt
 unread_by work name left left' held held' (Ok (Some reason)) is begun near named = inl (is, begun, λ covers. named (near covers))

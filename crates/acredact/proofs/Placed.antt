@@ -219,10 +219,10 @@ module _ {O Z E : Type 0} (Writes : Writers Z) (K : SinkGhosts E) (U : Places O 
   placed_all (name ∷ names) lines outputs outputs' none (first, rest, are, mid, inr is, others) = absurd (told_some name first rest is.0 (sym are ∙ none))
 
   -- and where the pieces are clean no pattern is left
-  pub freed_all : work.redactor.covers ≡ true → work.redactor.words ≡ false → AreCleanBy (is_some work.redactor.key) work.redactor.patterns work.redactor.pieces → (names : List (List ℕ)) (outputs outputs' : O)
+  pub freed_all : work.redactor.lines ≡ None → work.redactor.covers ≡ true → work.redactor.words ≡ false → AreCleanBy (is_some work.redactor.key) work.redactor.patterns work.redactor.pieces → (names : List (List ℕ)) (outputs outputs' : O)
       → AreReplacedAll Writes U work names outputs outputs' → AreFreedAll Writes U work names outputs outputs'
-  freed_all covers every clean [] outputs outputs' all = all
-  freed_all covers every clean (name ∷ names) outputs outputs' (mid, is, others) = (
+  freed_all unlined covers every clean [] outputs outputs' all = all
+  freed_all unlined covers every clean (name ∷ names) outputs outputs' (mid, is, others) = (
     mid,
     record {
       named = is.named;
@@ -233,11 +233,11 @@ module _ {O Z E : Type 0} (Writes : Writers Z) (K : SinkGhosts E) (U : Places O 
       meanwhile = is.meanwhile;
       made = is.made;
       empty = is.empty;
-      redacted = free_of work covers every clean (name ∷ []) is.left is.left' _ _ is.redacted;
+      redacted = free_of work unlined covers every clean (name ∷ []) is.left is.left' _ _ is.redacted;
       flushed = is.flushed;
       puts = is.puts;
     },
-    freed_all covers every clean names mid outputs' others,
+    freed_all unlined covers every clean names mid outputs' others,
   )
 
   of_placed : (name : List ℕ) (names lines : List (List ℕ)) (outputs outputs' : O) → IsPlaced Writes U work name lines outputs outputs' → All (IsOfOne (name ∷ names)) lines

@@ -1,6 +1,6 @@
 -- What a cover or a replacement of a stream writes is a redaction, and what it begins is begun.
 use Rattle.std.proofs.Common.{◌≡◌, ◌≢◌, ℕ, ◌<◌, ◌≤◌, ◌++◌, List, [], true, false, length, map, refl, sym, ap, subst, ◌∙◌, append-nil, arith, le_refl}
-use Rattle.std.specs.Prelude.{Bool, MatchBool, Option, None, Some, Result, Ok, Err, IfErr, OnErr, OnOk, is_some}
+use Rattle.std.specs.Prelude.{Bool, MatchBool, MatchOption, Option, None, Some, Result, Ok, Err, IfErr, OnErr, OnOk, is_some}
 use Rattle.std.specs.Io.{StartsWith}
 use Rattle.std.specs.Io.KnownBytes.{Appends}
 use Rattle.std.proofs.Math.Seq.{take-length}
@@ -36,7 +36,7 @@ use Rattle.aho_cover.specs.Pieces.{IsCoverWith, piece_in}
 use Rattle.aho_cover.specs.Words.{AreRunsWith, all_runs}
 use Rattle.aho_cover.proofs.Chosen.{all-are, all-covers, all-made}
 use Rattle.pseudonyms.specs.Pseudonyms.{pseudonym_rule}
-use Rattle.acredact.specs.Secrets.{AreCleanBy, AreReplaced, BeginsRedaction, CountsFor, IsRedaction, Keyed, NoByteIsKept, NoneIsWhole, NoneOccurs, Redactor, rule_by, rule_of}
+use Rattle.acredact.specs.Secrets.{AreCleanBy, AreReplaced, AreReplacedInLines, AreReplacedWhole, BeginsInLines, BeginsRedaction, BeginsWhole, CountsFor, IsLineRedaction, IsRedaction, IsWholeCover, IsWholeRedaction, Keyed, LineCovered, NoByteIsKept, NoneIsWhole, NoneOccurs, Redactor, own_in, rule_by, rule_of}
 use Rattle.acredact.specs.Streams.{ReachesStream, RedactsStream, StartsStream, StreamOutcome}
 use Rattle.acredact.specs.Totals.{CountsOfStream}
 use Rattle.acredact.proofs.Covered.{none_left}
@@ -70,17 +70,37 @@ module _ (r : Redactor) (text : List ℕ) where
   ranges_exist false = finds-exist r.patterns (plain_search text) None (le_refl (length text))
 
 -- what is replaced where there is no cover, and where there is one
-pub of_finds : (r : Redactor) → r.covers ≡ false → (text : List ℕ) (ms : List Occurrence) → AreFinds r.patterns (plain_search text) None ms → AreReplaced r text ms
+pub of_finds : (r : Redactor) → r.covers ≡ false → (text : List ℕ) (ms : List Occurrence) → AreFinds r.patterns (plain_search text) None ms → AreReplacedWhole r text ms
 of_finds r plain text ms found = subst (λ (b : Bool). MatchBool b (AreRunsOf (CountsFor r text) ms) (AreFinds r.patterns (plain_search text) None ms)) (sym plain) found
 
-pub to_finds : (r : Redactor) → r.covers ≡ false → (text : List ℕ) (ms : List Occurrence) → AreReplaced r text ms → AreFinds r.patterns (plain_search text) None ms
+pub to_finds : (r : Redactor) → r.covers ≡ false → (text : List ℕ) (ms : List Occurrence) → AreReplacedWhole r text ms → AreFinds r.patterns (plain_search text) None ms
 to_finds r plain text ms found = subst (λ (b : Bool). MatchBool b (AreRunsOf (CountsFor r text) ms) (AreFinds r.patterns (plain_search text) None ms)) plain found
 
-of_runs : (r : Redactor) → r.covers ≡ true → (text : List ℕ) (ms : List Occurrence) → AreRunsOf (CountsFor r text) ms → AreReplaced r text ms
+of_runs : (r : Redactor) → r.covers ≡ true → (text : List ℕ) (ms : List Occurrence) → AreRunsOf (CountsFor r text) ms → AreReplacedWhole r text ms
 of_runs r covers text ms found = subst (λ (b : Bool). MatchBool b (AreRunsOf (CountsFor r text) ms) (AreFinds r.patterns (plain_search text) None ms)) (sym covers) found
 
-to_runs : (r : Redactor) → r.covers ≡ true → (text : List ℕ) (ms : List Occurrence) → AreReplaced r text ms → AreRunsOf (CountsFor r text) ms
+to_runs : (r : Redactor) → r.covers ≡ true → (text : List ℕ) (ms : List Occurrence) → AreReplacedWhole r text ms → AreRunsOf (CountsFor r text) ms
 to_runs r covers text ms found = subst (λ (b : Bool). MatchBool b (AreRunsOf (CountsFor r text) ms) (AreFinds r.patterns (plain_search text) None ms)) covers found
+
+-- without rules a text is redacted as a whole
+pub as_whole : (r : Redactor) → r.lines ≡ None → (text : List ℕ) (ranges : List Occurrence) → AreReplacedWhole r text ranges → AreReplaced r text ranges
+as_whole r unlined text ranges found = subst (λ (x : Option LineCovered). MatchOption x (AreReplacedWhole r text ranges) (λ l. AreReplacedInLines r l text ranges)) (sym unlined) found
+
+pub of_whole : (r : Redactor) → r.lines ≡ None → (text : List ℕ) (ranges : List Occurrence) → AreReplaced r text ranges → AreReplacedWhole r text ranges
+of_whole r unlined text ranges found = subst (λ (x : Option LineCovered). MatchOption x (AreReplacedWhole r text ranges) (λ l. AreReplacedInLines r l text ranges)) unlined found
+
+pub whole_redaction : (r : Redactor) → r.lines ≡ None → (text redaction : List ℕ) → IsWholeRedaction r text redaction → IsRedaction r text redaction
+whole_redaction r unlined text redaction is = subst (λ (x : Option LineCovered). MatchOption x (IsWholeRedaction r text redaction) (λ l. IsLineRedaction r l text redaction)) (sym unlined) is
+
+pub redaction_whole : (r : Redactor) → r.lines ≡ None → (text redaction : List ℕ) → IsRedaction r text redaction → IsWholeRedaction r text redaction
+redaction_whole r unlined text redaction is = subst (λ (x : Option LineCovered). MatchOption x (IsWholeRedaction r text redaction) (λ l. IsLineRedaction r l text redaction)) unlined is
+
+pub begins_as : (r : Redactor) → r.lines ≡ None → (given : List ℕ) (ended : Bool) (part : List ℕ) → BeginsWhole r given ended part → BeginsRedaction r given ended part
+begins_as r unlined given ended part begins = subst (λ (x : Option LineCovered). MatchOption x (BeginsWhole r given ended part) (λ l. BeginsInLines r l given ended part)) (sym unlined) begins
+
+-- and with rules line by line
+pub begins_lined : (r : Redactor) (l : LineCovered) → r.lines ≡ Some l → (given : List ℕ) (ended : Bool) (part : List ℕ) → BeginsInLines r l given ended part → BeginsRedaction r given ended part
+begins_lined r l lined given ended part begins = subst (λ (x : Option LineCovered). MatchOption x (BeginsWhole r given ended part) (λ l. BeginsInLines r l given ended part)) (sym lined) begins
 
 -- a text with ranges replaced
 abbrev pub redacted : Redactor → List ℕ → List Occurrence → List ℕ
@@ -88,60 +108,72 @@ redacted r text ranges = replaced_by text ranges (piece_in (rule_of r) text)
 
 -- without a key each pattern has its text
 pub redacted_alike : (r : Redactor) → r.key ≡ None → (text : List ℕ) (ranges : List Occurrence) → redacted r text ranges ≡ replaced text ranges r.pieces
-redacted_alike r unkeyed text ranges = ap (λ (key : Option Keyed). replaced_by text ranges (piece_in (rule_by key r.pieces) text)) unkeyed
+redacted_alike r unkeyed text ranges = ap (λ (key : Option Keyed). replaced_by text ranges (piece_in (rule_by (own_in r.lines) key r.pieces) text)) unkeyed
 
 -- no pattern occurs in a cover whose pieces are clean
 clean_by : (key : Option Keyed) (p : Patterns) (pieces : List (List ℕ)) → AreCleanBy (is_some key) p pieces → (text : List ℕ) (runs : List Occurrence) → AreRuns p text runs
-    → NoneOccurs p (replaced_by text runs (piece_in (rule_by key pieces) text))
+    → NoneOccurs p (replaced_by text runs (piece_in (rule_by [] key pieces) text))
 clean_by None p pieces clean text runs are m occurs = cover-free p pieces clean text (replaced text runs pieces) (runs, are, refl) m occurs
 clean_by (Some key) p pieces clean text runs are m occurs =
     made-free p (pseudonym_rule key.ignore_case key.bytes) (pseudonyms_clean p clean key.ignore_case key.bytes) text runs are m occurs
 
-module _ (r : Redactor) (some : 1 ≤ shortest (map length r.patterns.words)) where
+-- the same of a redaction
+clean_of : (r : Redactor) → r.lines ≡ None → AreCleanBy (is_some r.key) r.patterns r.pieces → (text : List ℕ) (runs : List Occurrence) → AreRuns r.patterns text runs → NoneOccurs r.patterns (redacted r text runs)
+clean_of r unlined clean text runs are = subst (λ (x : Option LineCovered). NoneOccurs r.patterns (replaced_by text runs (piece_in (rule_by (own_in x) r.key r.pieces) text))) (sym unlined)
+    (clean_by r.key r.patterns r.pieces clean text runs are)
+
+module _ (r : Redactor) (unlined : r.lines ≡ None) (some : 1 ≤ shortest (map length r.patterns.words)) where
   -- a text with its ranges replaced is its redaction
-  pub redaction_by : (text : List ℕ) (ranges : List Occurrence) → AreReplaced r text ranges → IsRedaction r text (redacted r text ranges)
-  redaction_by text ranges found = record {
+  pub whole_by_ranges : (text : List ℕ) (ranges : List Occurrence) → AreReplacedWhole r text ranges → IsWholeRedaction r text (redacted r text ranges)
+  whole_by_ranges text ranges found = record {
     ranges = ranges;
     found = found;
     safe = safe_by r text r.covers ranges some found;
     is = refl;
-    clean = λ covers all are m. clean_by r.key r.patterns r.pieces are text ranges (plain_runs r text ranges all (to_runs r covers text ranges found)) m;
+    clean = λ covers all are m. clean_of r unlined are text ranges (plain_runs r text ranges all (to_runs r covers text ranges found)) m;
   }
+
+  pub redaction_by : (text : List ℕ) (ranges : List Occurrence) → AreReplacedWhole r text ranges → IsRedaction r text (redacted r text ranges)
+  redaction_by text ranges found = whole_redaction r unlined text (redacted r text ranges) (whole_by_ranges text ranges found)
 
   -- what begins the replacement of each text that may come begins its redaction
   pub begins_by : (given : List ℕ) (ended : Bool) (part : List ℕ)
-      → ((text : List ℕ) (ranges : List Occurrence) → MayBe given ended text → AreReplaced r text ranges → StartsWith (redacted r text ranges) part)
+      → ((text : List ℕ) (ranges : List Occurrence) → MayBe given ended text → AreReplacedWhole r text ranges → StartsWith (redacted r text ranges) part)
       → BeginsRedaction r given ended part
-  begins_by given ended part beginning text may =
+  begins_by given ended part beginning = begins_as r unlined given ended part (λ text may.
       let ranges = ranges_exist r text r.covers in
-      (redacted r text ranges.0, redaction_by text ranges.0 ranges.1, beginning text ranges.0 may ranges.1)
+      (redacted r text ranges.0, whole_by_ranges text ranges.0 ranges.1, beginning text ranges.0 may ranges.1))
 
-  -- nothing begins each
-  pub begins_nothing : (given : List ℕ) (ended : Bool) → BeginsRedaction r given ended []
-  begins_nothing given ended = begins_by given ended [] (λ text ranges may found. refl)
+-- nothing begins each
+nothing_by : (r : Redactor) → 1 ≤ shortest (map length r.patterns.words) → (given : List ℕ) (ended : Bool) (lines : Option LineCovered) → r.lines ≡ lines → BeginsRedaction r given ended []
+nothing_by r some given ended None unlined = begins_by r unlined some given ended [] (λ text ranges may found. refl)
+nothing_by r some given ended (Some l) lined = begins_lined r l lined given ended [] (λ text redaction may is. refl)
+
+pub begins_nothing : (r : Redactor) → 1 ≤ shortest (map length r.patterns.words) → (given : List ℕ) (ended : Bool) → BeginsRedaction r given ended []
+begins_nothing r some given ended = nothing_by r some given ended r.lines refl
 
 -- what is no cover is none
 pub no_cover : (r : Redactor) → r.covers ≡ false → r.covers ≡ true → ⊥
 no_cover r plain covers = let clash : false ≡ true = sym plain ∙ covers in absurd (cc)
 
 -- the whole is a beginning
-pub begins_whole : (r : Redactor) (text redaction : List ℕ) → IsRedaction r text redaction → BeginsRedaction r text true redaction
-begins_whole r text redaction redacts other may =
-    (redaction, subst (λ (bytes : List ℕ). IsRedaction r bytes redaction) (sym (all_of text other may)) redacts, take-length redaction)
+pub begins_whole : (r : Redactor) → r.lines ≡ None → (text redaction : List ℕ) → IsRedaction r text redaction → BeginsRedaction r text true redaction
+begins_whole r unlined text redaction redacts = begins_as r unlined text true redaction (λ other may.
+    (redaction, subst (λ (bytes : List ℕ). IsWholeRedaction r bytes redaction) (sym (all_of text other may)) (redaction_whole r unlined text redaction redacts), take-length redaction))
 
 module _ {R W : Type 0} {S : SourceGhosts R} {K : SinkGhosts W} {r : Redactor} {source source' : R} {sink sink' : W} where
-  pub starts_whole : RedactsStream S K r source source' sink sink' → StartsStream S K r source source' sink sink'
-  starts_whole whole = record {
+  pub starts_whole : r.lines ≡ None → RedactsStream S K r source source' sink sink' → StartsStream S K r source source' sink sink'
+  starts_whole unlined whole = record {
     given = whole.text;
     ended = true;
     gives = whole.gives;
     part = whole.redaction;
-    begins = begins_whole r whole.text whole.redaction whole.redacts;
+    begins = begins_whole r unlined whole.text whole.redaction whole.redacts;
     written = whole.written;
   }
 
 -- what replaces the finds of the patterns that are searched for redacts by these
-module _ {R W : Type 0} (S : SourceGhosts R) (K : SinkGhosts W) (r : Redactor) (plain : r.covers ≡ false) (unkeyed : r.key ≡ None) (AreSearched : Patterns → Type 0) (of : AreSearched r.patterns)
+module _ {R W : Type 0} (S : SourceGhosts R) (K : SinkGhosts W) (r : Redactor) (unlined : r.lines ≡ None) (plain : r.covers ≡ false) (unkeyed : r.key ≡ None) (AreSearched : Patterns → Type 0) (of : AreSearched r.patterns)
     (some : 1 ≤ shortest (map length r.patterns.words)) (source source' : R) (sink sink' : W) where
   pub whole_by : ReplacesStream S K AreSearched r.pieces source source' sink sink' → RedactsStream S K r source source' sink sink'
   whole_by whole =
@@ -150,7 +182,7 @@ module _ {R W : Type 0} (S : SourceGhosts R) (K : SinkGhosts W) (r : Redactor) (
         text = whole.given;
         gives = whole.gives;
         redaction = redacted r whole.given finds.0;
-        redacts = redaction_by r some whole.given finds.0 (of_finds r plain whole.given finds.0 finds.1);
+        redacts = redaction_by r unlined some whole.given finds.0 (of_finds r plain whole.given finds.0 finds.1);
         written = subst (Appends (K.taken sink) (K.taken sink')) (sym (redacted_alike r unkeyed whole.given finds.0)) (whole.writes r.patterns finds.0 of finds.1);
       }
 
@@ -160,7 +192,7 @@ module _ {R W : Type 0} (S : SourceGhosts R) (K : SinkGhosts W) (r : Redactor) (
     ended = begun.ended;
     gives = begun.gives;
     part = begun.written;
-    begins = begins_by r some begun.given begun.ended begun.written (λ text ms may found.
+    begins = begins_by r unlined some begun.given begun.ended begun.written (λ text ms may found.
         subst (λ (bytes : List ℕ). StartsWith bytes begun.written) (sym (redacted_alike r unkeyed text ms)) (begun.beginning r.patterns text ms of may (to_finds r plain text ms found)));
     written = begun.writes;
   }
@@ -169,7 +201,7 @@ module _ {R W : Type 0} (S : SourceGhosts R) (K : SinkGhosts W) (r : Redactor) (
 pub some_of : {A : Type 0} (G : Ghosts A) (automaton : A) (p : Patterns) → G.lengths automaton ≡ map length p.words → CanBegin G automaton → 1 ≤ shortest (map length p.words)
 some_of G automaton p are can = subst (λ (ns : List ℕ). 1 ≤ shortest ns) are can.1
 
-module _ {A R W : Type 0} (G : Ghosts A) (S : SourceGhosts R) (K : SinkGhosts W) (automaton : A) (r : Redactor) (plain : r.covers ≡ false) (unkeyed : r.key ≡ None) (of : G.is_of automaton r.patterns)
+module _ {A R W : Type 0} (G : Ghosts A) (S : SourceGhosts R) (K : SinkGhosts W) (automaton : A) (r : Redactor) (unlined : r.lines ≡ None) (plain : r.covers ≡ false) (unkeyed : r.key ≡ None) (of : G.is_of automaton r.patterns)
     (are : G.lengths automaton ≡ map length r.patterns.words) (can : CanBegin G automaton) (source source' : R) (sink sink' : W) where
   pub some_by : 1 ≤ shortest (map length r.patterns.words)
   some_by = some_of G automaton r.patterns are can
@@ -193,28 +225,28 @@ module _ {A R W : Type 0} (G : Ghosts A) (S : SourceGhosts R) (K : SinkGhosts W)
       → ((sid : ℕ) (reason : MatchErrorKind) → 1 ≤ shortest (G.lengths automaton) → G.start automaton No ≡ Ok sid → result ≢ Err (Refused reason))
       → StreamOutcome S K r result source source' sink sink'
   outcome_of (Ok x) whole begun read_failed write_failed took_nothing limit suits = record {
-    redacted = whole_by S K r plain unkeyed (G.is_of automaton) of some_by source source' sink sink' whole;
-    begun = starts_whole (whole_by S K r plain unkeyed (G.is_of automaton) of some_by source source' sink sink' whole);
+    redacted = whole_by S K r unlined plain unkeyed (G.is_of automaton) of some_by source source' sink sink' whole;
+    begun = starts_whole unlined (whole_by S K r unlined plain unkeyed (G.is_of automaton) of some_by source source' sink sink' whole);
     near = λ covers. tt;
     read_failed = read_failed;
     write_failed = write_failed;
     took_nothing = took_nothing;
-    limit = limit;
+    limit = λ none. limit;
     only = tt;
   }
   outcome_of (Err error) whole begun read_failed write_failed took_nothing limit suits = record {
     redacted = tt;
-    begun = begun_by S K r plain unkeyed (G.is_of automaton) of some_by source source' sink sink' begun;
-    near = λ covers. absurd (no_cover r plain covers);
+    begun = begun_by S K r unlined plain unkeyed (G.is_of automaton) of some_by source source' sink sink' begun;
+    near = λ covers. absurd (no_cover r plain covers.covers);
     read_failed = read_failed;
     write_failed = write_failed;
     took_nothing = took_nothing;
-    limit = limit;
+    limit = λ none. limit;
     only = never_refused (Err error) error refl suits;
   }
 
 -- what ends a stream that was begun
-fault_ends : (error : StreamError) → IsStreamFault error → IsStreamEnd error
+pub fault_ends : (error : StreamError) → IsStreamFault error → IsStreamEnd error
 fault_ends (Refused cause) is = absurd is
 fault_ends (Read fault) is = tt
 fault_ends (Write fault) is = tt
@@ -228,7 +260,7 @@ pub some_cover : {A : Type 0} (G : Ghosts A) (automaton : A) {words : Bool} {pro
 some_cover G automaton p are can = subst (λ (ns : List ℕ). 1 ≤ shortest ns) are can.no_empty
 
 -- the same of a cover
-module _ {R W : Type 0} (S : SourceGhosts R) (K : SinkGhosts W) (r : Redactor) (covers : r.covers ≡ true) (AreSearched : Patterns → Type 0) (of : AreSearched r.patterns)
+module _ {R W : Type 0} (S : SourceGhosts R) (K : SinkGhosts W) (r : Redactor) (unlined : r.lines ≡ None) (covers : r.covers ≡ true) (AreSearched : Patterns → Type 0) (of : AreSearched r.patterns)
     (some : 1 ≤ shortest (map length r.patterns.words)) (source source' : R) (sink sink' : W) where
   covered_of : CoversStreamWith S K AreSearched r.words (rule_of r) source source' sink sink' → RedactsStream S K r source source' sink sink'
   covered_of whole =
@@ -237,7 +269,7 @@ module _ {R W : Type 0} (S : SourceGhosts R) (K : SinkGhosts W) (r : Redactor) (
         text = whole.given;
         gives = whole.gives;
         redaction = whole.output;
-        redacts = subst (IsRedaction r whole.given) (sym cover.2) (redaction_by r some whole.given cover.0 (of_runs r covers whole.given cover.0 cover.1));
+        redacts = subst (IsRedaction r whole.given) (sym cover.2) (redaction_by r unlined some whole.given cover.0 (of_runs r covers whole.given cover.0 cover.1));
         written = whole.writes;
       }
 
@@ -247,7 +279,7 @@ module _ {R W : Type 0} (S : SourceGhosts R) (K : SinkGhosts W) (r : Redactor) (
     ended = begun.ended;
     gives = begun.gives;
     part = begun.written;
-    begins = begins_by r some begun.given begun.ended begun.written
+    begins = begins_by r unlined some begun.given begun.ended begun.written
         (λ text runs may found. begun.beginning r.patterns text (redacted r text runs) of may (runs, to_runs r covers text runs found, refl));
     written = begun.writes;
   }
@@ -269,12 +301,12 @@ module _ {R W : Type 0} (S : SourceGhosts R) (K : SinkGhosts W) (r : Redactor) (
       → StreamOutcome S K r result source source' sink sink'
   outcome_of_cover (Ok x) leaves errors only = record {
     redacted = covered_of leaves.covered;
-    begun = starts_whole (covered_of leaves.covered);
+    begun = starts_whole unlined (covered_of leaves.covered);
     near = λ covering. tt;
     read_failed = errors.read_failed;
     write_failed = errors.write_failed;
     took_nothing = errors.took_nothing;
-    limit = leaves.limit;
+    limit = λ none. leaves.limit;
     only = tt;
   }
   outcome_of_cover (Err error) leaves errors only = record {
@@ -284,25 +316,25 @@ module _ {R W : Type 0} (S : SourceGhosts R) (K : SinkGhosts W) (r : Redactor) (
     read_failed = errors.read_failed;
     write_failed = errors.write_failed;
     took_nothing = errors.took_nothing;
-    limit = leaves.limit;
+    limit = λ none. leaves.limit;
     only = fault_ends error only;
   }
 
 -- what a cover counts
-pub counts_of_cover : {R : Type 0} (S : SourceGhosts R) (r : Redactor) → r.covers ≡ true → (AreSearched : Patterns → Type 0) → AreSearched r.patterns → (source source' : R) (counts counts' : List ℕ)
+pub counts_of_cover : {R : Type 0} (S : SourceGhosts R) (r : Redactor) → r.lines ≡ None → r.covers ≡ true → (AreSearched : Patterns → Type 0) → AreSearched r.patterns → (source source' : R) (counts counts' : List ℕ)
     → CountsRunsWith S AreSearched r.words source source' counts counts' → CountsOfStream S r source source' counts counts'
-counts_of_cover S r covers AreSearched of source source' counts counts' whole =
+counts_of_cover S r unlined covers AreSearched of source source' counts counts' whole =
     let runs = all_runs r.words r.patterns whole.given in
     let are = all-made r.patterns whole.given r.words in
-    record { text = whole.given; gives = whole.gives; ranges = runs; found = of_runs r covers whole.given runs are; counted = whole.counted r.patterns runs of are }
+    record { text = whole.given; gives = whole.gives; ranges = runs; found = as_whole r unlined whole.given runs (of_runs r covers whole.given runs are); counted = whole.counted r.patterns runs of are }
 
 -- and where there are no counts
-pub uncounted : {R W : Type 0} (S : SourceGhosts R) {K : SinkGhosts W} (r : Redactor) (source source' : R) (sink sink' : W) (counts : List ℕ) → length counts ≡ 0 → RedactsStream S K r source source' sink sink'
+pub uncounted : {R W : Type 0} (S : SourceGhosts R) {K : SinkGhosts W} (r : Redactor) → r.lines ≡ None → (source source' : R) (sink sink' : W) (counts : List ℕ) → length counts ≡ 0 → RedactsStream S K r source source' sink sink'
     → CountsOfStream S r source source' counts counts
-uncounted S r source source' sink sink' counts none whole = record {
+uncounted S r unlined source source' sink sink' counts none whole = let is = redaction_whole r unlined whole.text whole.redaction whole.redacts in record {
   text = whole.text;
   gives = whole.gives;
-  ranges = whole.redacts.ranges;
-  found = whole.redacts.found;
+  ranges = is.ranges;
+  found = as_whole r unlined whole.text is.ranges is.found;
   counted = record { as_many = refl; grown = λ number (within : number < length counts). absurd (omega (arith, within, none)) };
 }

@@ -25,8 +25,8 @@ use Rattle.aho_devices.specs.declared.device.Sink.{Ghosts as SinkGhosts}
 use Rattle.aho_stream.specs.Replacing.{IsMakingRefusal}
 use Rattle.aho_stream.specs.StreamRun.{CanBegin}
 use Rattle.acredact.specs.Files.{AreCut, FilesOutcome, Work, key_for}
-use Rattle.acredact.specs.Secrets.{CanRedact, Keyed, Redactor, rule_by, rule_of}
-use Rattle.acredact.specs.Ways.{IsCoverer, IsCovering, IsNamedCover, IsRedactor}
+use Rattle.acredact.specs.Secrets.{CanRedact, Keyed, LineCovered, Redactor, rule_of}
+use Rattle.acredact.specs.Ways.{IsCoverer, IsNamedCover, IsRedactor}
 use Rattle.acredact.specs.declared.streams.Streams.{Streams}
 use Rattle.acredact.specs.declared.ways.Key.{Key}
 use Rattle.pseudonyms.specs.Pseudonyms.{pseudonym_rule}
@@ -38,41 +38,23 @@ module _ {A : Type 0} (G : Ghosts A) where
   pub begun_as : (automaton : A) (progress : CoverProgress) (words : Bool) → IsUnbegunWith words G automaton progress → IsUnbegunWith progress.words G automaton progress
   begun_as automaton progress words unbegun = subst (λ (b : Bool). IsUnbegunWith b G automaton progress) (sym unbegun.chosen) unbegun
 
-  -- a cover is as before after a stream
-  pub covering_still : (automaton automaton' : A) (progress progress' : CoverProgress) (replacements : List (Bor (List ℕ))) (r : Redactor) → automaton' ≡ automaton
-      → IsUnbegunWith progress.words G automaton' progress' → IsCovering G automaton progress replacements r → IsCovering G automaton' progress' replacements r
-  covering_still automaton automaton' progress progress' replacements r same unbegun is = record {
-    redactor = subst (λ (a : A). IsRedactor G a true progress'.words replacements r) (sym same)
-        (subst (λ (b : Bool). IsRedactor G automaton true b replacements r) (sym unbegun.chosen) is.redactor);
-    unbegun = begun_as automaton' progress' progress.words unbegun;
-  }
-
   -- an automaton that suits redacts by its patterns
-  pub redactor_is : (automaton : A) (p : Patterns) (covers wanted words chosen : Bool) (replacements : List (Bor (List ℕ))) (key : Option Keyed) → G.is_of automaton p → covers ≡ wanted → words ≡ chosen → key ≡ None
-      → CanRedact G automaton covers replacements → IsRedactor G automaton wanted chosen replacements (record { patterns = p; covers = covers; words = words; pieces = pieces_of replacements; key = key })
-  redactor_is automaton p covers wanted words chosen replacements key of is alike none ready = record {
+  pub redactor_is : (automaton : A) (p : Patterns) (covers wanted words chosen : Bool) (replacements : List (Bor (List ℕ))) (key : Option Keyed) (lines : Option LineCovered) → G.is_of automaton p → covers ≡ wanted → words ≡ chosen → key ≡ None → lines ≡ None
+      → CanRedact G automaton covers replacements → IsRedactor G automaton wanted chosen replacements (record { patterns = p; covers = covers; words = words; pieces = pieces_of replacements; key = key; lines = lines })
+  redactor_is automaton p covers wanted words chosen replacements key lines of is alike none unlined ready = record {
     of = of;
-    is = ap (λ (b : Bool). record { patterns = p; covers = b; words = words; pieces = pieces_of replacements; key = key }) is
-        ∙ ap (λ (b : Bool). record { patterns = p; covers = wanted; words = b; pieces = pieces_of replacements; key = key }) alike
-        ∙ ap (λ (k : Option Keyed). record { patterns = p; covers = wanted; words = chosen; pieces = pieces_of replacements; key = k }) none;
+    is = ap (λ (b : Bool). record { patterns = p; covers = b; words = words; pieces = pieces_of replacements; key = key; lines = lines }) is
+        ∙ ap (λ (b : Bool). record { patterns = p; covers = wanted; words = b; pieces = pieces_of replacements; key = key; lines = lines }) alike
+        ∙ ap (λ (k : Option Keyed). record { patterns = p; covers = wanted; words = chosen; pieces = pieces_of replacements; key = k; lines = lines }) none
+        ∙ ap (λ (l : Option LineCovered). record { patterns = p; covers = wanted; words = chosen; pieces = pieces_of replacements; key = None; lines = l }) unlined;
     ready = subst (λ (b : Bool). CanRedact G automaton b replacements) is ready;
   }
 
-  -- and by a cover that has not begun
-  pub covering_is : (automaton automaton' : A) (p : Patterns) (covers words wanted : Bool) (replacements : List (Bor (List ℕ))) (key : Option Keyed) (progress : CoverProgress) → G.is_of automaton p → covers ≡ true → words ≡ wanted → key ≡ None
-      → CanRedact G automaton covers replacements → automaton' ≡ automaton → IsUnbegunWith wanted G automaton progress
-      → IsCovering G automaton' progress replacements (record { patterns = p; covers = covers; words = words; pieces = pieces_of replacements; key = key })
-  covering_is automaton automaton' p covers words wanted replacements key progress of is alike none ready same unbegun = record {
-    redactor = subst (λ (a : A). IsRedactor G a true progress.words replacements (record { patterns = p; covers = covers; words = words; pieces = pieces_of replacements; key = key })) (sym same)
-        (redactor_is automaton p covers true words progress.words replacements key of is (alike ∙ sym unbegun.chosen) none ready);
-    unbegun = subst (λ (a : A). IsUnbegunWith progress.words G a progress) (sym same) (begun_as automaton progress wanted unbegun);
-  }
-
-  -- or one by pieces that a key makes
-  pub naming_is : (automaton automaton' : A) (wanted : Bool) (rule : PieceRule) (r : Redactor) (progress : CoverProgress) → G.is_of automaton r.patterns → r.covers ≡ true → r.words ≡ wanted → rule_of r ≡ rule
+  -- or it covers with these pieces
+  pub naming_is : (automaton automaton' : A) (wanted : Bool) (rule : PieceRule) (r : Redactor) (progress : CoverProgress) → G.is_of automaton r.patterns → r.covers ≡ true → r.words ≡ wanted → r.lines ≡ None → rule_of r ≡ rule
       → automaton' ≡ automaton → IsUnbegunWith wanted G automaton progress → IsNamedCover G automaton' progress rule r
-  naming_is automaton automaton' wanted rule r progress of covers alike is same unbegun = record {
-    coverer = subst (λ (a : A). IsCoverer G a progress.words rule r) (sym same) (record { of = of; covers = covers; chosen = alike ∙ sym unbegun.chosen; is = is });
+  naming_is automaton automaton' wanted rule r progress of covers alike unlined is same unbegun = record {
+    coverer = subst (λ (a : A). IsCoverer G a progress.words rule r) (sym same) (record { of = of; covers = covers; chosen = alike ∙ sym unbegun.chosen; unlined = unlined; is = is });
     unbegun = subst (λ (a : A). IsUnbegunWith progress.words G a progress) (sym same) (begun_as automaton progress wanted unbegun);
   }
 
@@ -81,7 +63,7 @@ module _ {A : Type 0} (G : Ghosts A) where
       → IsUnbegunWith progress.words G automaton' progress' → IsNamedCover G automaton progress rule r → IsNamedCover G automaton' progress' rule' r
   naming_still automaton automaton' progress progress' rule rule' r same alike unbegun is = record {
     coverer = subst (λ (a : A). IsCoverer G a progress'.words rule' r) (sym same)
-        (record { of = is.coverer.of; covers = is.coverer.covers; chosen = is.coverer.chosen ∙ sym unbegun.chosen; is = is.coverer.is ∙ sym alike });
+        (record { of = is.coverer.of; covers = is.coverer.covers; chosen = is.coverer.chosen ∙ sym unbegun.chosen; unlined = is.coverer.unlined; is = is.coverer.is ∙ sym alike });
     unbegun = begun_as automaton' progress' progress.words unbegun;
   }
 
@@ -131,9 +113,3 @@ key_of_plain covers key is = ap (λ (b : Bool). key_for b key) is
 
 pub key_of_none : (covers : Bool) (key : Option Key) → covers ≡ true → key ≡ None → key_for covers key ≡ None
 key_of_none covers key is none = ap (λ (b : Bool). key_for b key) is ∙ ap (λ (k : Option Key). key_for true k) none
-
--- by a key of a cover pieces are pseudonyms
-pub key_of_some : (covers : Bool) (key : Option Key) (one : Key) (pieces : List (List ℕ)) → covers ≡ true → key ≡ Some one
-    → rule_by (key_for covers key) pieces ≡ pseudonym_rule one.ignore_case one.bytes.now
-key_of_some covers key one pieces is some =
-    ap (λ (b : Bool). rule_by (key_for b key) pieces) is ∙ ap (λ (k : Option Key). rule_by (key_for true k) pieces) some

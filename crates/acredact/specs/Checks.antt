@@ -1,9 +1,10 @@
 -- What a check sees of files, one after another, and what it tells.
-use Rattle.std.specs.Prelude.{◌≡◌, ◌⊎◌, ℕ, ◌<◌, ◌≤◌, ◌||◌, Bool, true, false, List, [], ◌∷◌, ◌++◌, Option, None, Some, Result, IfErr, IfOk, OnErr, codes, decimal, is_some, option_map, string_bytes}
+use Rattle.std.specs.Prelude.{◌≡◌, ◌⊎◌, ℕ, ◌+◌, ◌<◌, ◌≤◌, ◌||◌, Bool, true, false, List, [], ◌∷◌, ◌++◌, Option, None, Some, Result, IfErr, IfOk, IfSome, OnErr, codes, decimal, length, is_some, option_map, string_bytes}
 use Rattle.std.specs.List.{All, concat}
 use Rattle.std.specs.declared.io.traits.Read.{Ghosts as Readers}
 use Rattle.aho_core.specs.Listing.{IsMember}
 use Rattle.aho_core.specs.Patterns.{Patterns}
+use Rattle.aho_automaton.specs.declared.automaton.Automaton.{Ghosts as Automata}
 use Rattle.aho_devices.specs.declared.adapters.FromRead.{FromRead}
 use Rattle.aho_devices.specs.declared.device.Sink.{Ghosts as SinkGhosts}
 use Rattle.programs.specs.Names.{IsOneOf, name_bytes}
@@ -21,7 +22,7 @@ use Rattle.acredact.specs.Faults.{IsReadReason}
 use Rattle.acredact.specs.Files.{are_none, unread_line}
 use Rattle.acredact.specs.LineRules.{LinesLoaded}
 use Rattle.acredact.specs.Loading.{AreGiven, AreSought, CannotLoadLines, CannotLoadOne, lines_sought}
-use Rattle.acredact.specs.Looks.{IsLook, HoldsNoMatch, is_found, sought, sought_with}
+use Rattle.acredact.specs.Looks.{IsLineLookFor, IsLook, HoldsNoMatch, is_found, sought, sought_with}
 use Rattle.acredact.specs.Messages.{shown}
 use Rattle.acredact.specs.Reads.{OfName}
 use Rattle.acredact.specs.RuleLines.{long_line}
@@ -33,6 +34,9 @@ use Rattle.acredact.specs.declared.failure.Failure.{Failure}
 use Rattle.acredact.specs.declared.failure.Failure.TheVariants.{Arguments, LineEnd, Other}
 use Rattle.acredact.specs.declared.folder.Folder.{Ghosts as Folders}
 use Rattle.acredact.specs.declared.load.Sought.{Sought}
+use Rattle.acredact.specs.declared.files.Lines.{Lines as JobLines}
+use Rattle.acredact.specs.declared.line_look.LineLook.{LineLook}
+use Rattle.acredact.specs.declared.line_look.Names.{Names}
 use Rattle.acredact.specs.declared.look.Look.{Look}
 use Rattle.acredact.specs.declared.look.Look.TheVariants.{Clean, Found, Unread}
 use Rattle.acredact.specs.declared.look.Looker.{Ghosts as Lookers}
@@ -70,6 +74,19 @@ IsRunName rules most name =
     ((number : ℕ) × (name ≡ codes "pattern " ++ decimal number))
     ⊎ (((rule : LineRule) × IsMember rules rule × (name ≡ shown (string_bytes rule.id)))
     ⊎ (name ≡ codes "line of more than " ++ (decimal most ++ codes " bytes")))
+
+-- what counts in lines is called so: as many patterns as an automaton has, and these rules
+pub record NamesThese {A : Type 0} (G : Automata A) (automaton : A) (lines : Option JobLines) (names : Names) : Type 0 where
+  pub patterns : length names.patterns.now ≡ length (G.lengths automaton)
+  pub rules : IfSome lines (λ l. names.rules.now ≡ l.rules.now)
+  pub most : IfSome lines (λ l. names.most ≡ l.most)
+
+-- what looks at lines seeks what a cover of them replaces: it has a number for each pattern and rule, and for long lines
+pub record IsLineLookOf {A : Type 0} (G : Automata A) (look : LineLook A) (r : Redactor) : Type 0 where
+  pub cover : IsLineLookFor G look.cover r
+  pub numbers : IfSome r.lines (λ l. length look.counts.items ≡ length r.patterns.words + (length l.rules + 1))
+  pub named : IfSome look.told (λ names. (length names.patterns.now ≡ length r.patterns.words)
+      × IfSome r.lines (λ l. (names.rules.now ≡ l.rules) × (names.most ≡ l.most)))
 
 -- the line that tells in which line of which file it is: nothing of that line
 abbrev pub run_line : (file : List ℕ) → ℕ → (name : List ℕ) → List ℕ
@@ -162,6 +179,11 @@ TellsRun call line = (secrets : List Secret) × (rules : LinesLoaded) × (left :
 -- what may be told of a check before it ends: of a file that cannot be read, such a warning, or such a line
 abbrev pub IsCheckLine : Call → List ℕ → Type 0
 IsCheckLine call line = IsUnreadLine (names_asked call.given) line ⊎ (WarnsOfList call line ⊎ TellsRun call line)
+
+-- what is told while one file is: nothing, or with rules where one marks
+abbrev pub TellsRuns : {E : Type 0} → SinkGhosts E → Option LineCovered → (file : List ℕ) → (errors errors' : Errors E) → Type 0
+TellsRuns K None file errors errors' = errors' ≡ errors
+TellsRuns K (Some l) file errors errors' = Tells K (IsRunLine l.rules l.most (file ∷ [])) errors errors'
 
 -- what is told while files are looked at: just these lines, or with rules also where one marks
 abbrev pub TellsSeen : {E : Type 0} → SinkGhosts E → Option LineCovered → List (List ℕ) → (lines : List (List ℕ)) → (errors errors' : Errors E) → Type 0

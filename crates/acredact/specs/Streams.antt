@@ -1,5 +1,5 @@
 -- What the redaction of one stream reads and writes.
-use Rattle.std.specs.Prelude.{◌≡◌, ℕ, ◌≤◌, length, Bool, List, Result, IfErr, OnErr, OnOk, true}
+use Rattle.std.specs.Prelude.{◌≡◌, ℕ, ◌≤◌, length, Bool, List, None, Result, IfErr, OnErr, OnOk, true}
 use Rattle.std.specs.Borrow.{Bor}
 use Rattle.std.specs.Io.KnownBytes.{Appends}
 use Rattle.aho_core.specs.declared.error.stream.StreamError.{StreamError}
@@ -59,7 +59,7 @@ module _ {R W : Type 0} (S : SourceGhosts R) (K : SinkGhosts W) where
     pub read_failed : S.failures source' ≡ counted (is_read_fault result) (S.failures source)
     pub write_failed : K.failures sink' ≡ counted (is_write_fault result) (K.failures sink)
     pub took_nothing : K.empty_writes sink' ≡ counted (is_write_of_nothing result) (K.empty_writes sink)
-    pub limit : is_limit result ≡ true → GaveAsMany S source source' greatest_position
+    pub limit : r.lines ≡ None → is_limit result ≡ true → GaveAsMany S source source' greatest_position
     pub only : IfErr result IsStreamEnd
 
 -- of one that is redacted by the patterns of an automaton, by a cover or not, of words alone or not, with these replacements

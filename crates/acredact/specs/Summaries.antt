@@ -71,9 +71,11 @@ abbrev pub long_by : Option LinesLoaded → List Secret → (counts : List ℕ) 
 long_by None secrets counts = []
 long_by (Some loaded) secrets counts = long_told loaded.most (long_count loaded.rules (drop (length secrets) counts))
 
--- one of both is told of these counts
+-- that is told of these counts, or with rules the number of long lines alone
 abbrev pub IsToldOf : List Given → List Secret → Option LinesLoaded → (counts : List ℕ) → Volume → List ℕ → Type 0
-IsToldOf given secrets lines counts volume line = (line ≡ totals_by lines given secrets counts volume) ⊎ (line ≡ long_by lines secrets counts)
+IsToldOf given secrets None counts volume line = line ≡ totals_by None given secrets counts volume
+IsToldOf given secrets (Some loaded) counts volume line =
+    (line ≡ totals_by (Some loaded) given secrets counts volume) ⊎ (line ≡ long_by (Some loaded) secrets counts)
 
 -- before anything was counted: there is a number for each pattern where these are counted, and with rules for each of all
 abbrev pub AreZeros : List Item → Sought → List ℕ → Type 0

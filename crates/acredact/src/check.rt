@@ -1,10 +1,12 @@
 //! A check: whether something would be replaced in files. It writes nothing but warnings and failures.
 
-ghost use Rattle.std.specs.Prelude.{◌≡◌, IfErr, IfSome, None, OnOk};
+ghost use Rattle.std.specs.Prelude.{◌≡◌, IfErr, IfSome, OnOk, Some, [], option_map, ⊥};
 ghost use Rattle.acredact.specs.Arguments.{GivesNoPattern, all_given};
-ghost use Rattle.acredact.specs.Checks.{ChecksGiven, ChecksSought, EndsCheck, IsReadyFailure, SeesSearched, SeesSought};
-ghost use Rattle.acredact.specs.Looks.{CanLook};
-ghost use Rattle.acredact.specs.Secrets.{IfOf};
+ghost use Rattle.acredact.specs.Checks.{ChecksGiven, ChecksSought, EndsCheck, IsReadyFailure, NamesThese, SeesSearchedFor, SeesSought};
+ghost use Rattle.acredact.specs.Files.{lines_of};
+ghost use Rattle.acredact.specs.Loading.{IsRuled};
+ghost use Rattle.acredact.specs.Looks.{CanLook, sought_with};
+ghost use Rattle.acredact.specs.Secrets.{CanSeek, IfOf};
 ghost use Rattle.acredact.specs.Statuses.{check_status};
 ghost use Rattle.acredact.specs.Tables.{HaveNoEmpty, secrets_of};
 
@@ -88,7 +90,8 @@ fn check_loaded<'a, F: Folder, I: Read, E: Sink>(
     errors: &mut Errors<'_, E>,
 ) -> Result<Verdict, Failure<'a>>
     requires some { HaveNoEmpty (secrets_of sought.now.rules.items) }
-    ensures outcome { ChecksSought E.Sink F.Folder folder.now given.now sought.now result
+    requires ruled { IsRuled given.now sought.now }
+    ensures outcome { ChecksSought E.Sink F.Folder folder.now (all_given given.now) sought.now result
         input.old input.new errors.old errors.new }
 {
     let strict = has(given, Word::Strict);
@@ -108,8 +111,10 @@ fn check_sought<'a, F: Folder, I: Read, E: Sink>(
     errors: &mut Errors<'_, E>,
 ) -> Result<Verdict, Failure<'a>>
     requires some { HaveNoEmpty (secrets_of sought.now.rules.items) }
-    ensures sees { SeesSought E.Sink F.Folder folder.now given.now sought.now result input.old input.new errors.old errors.new }
-    ensures fails { IfErr result (IsReadyFailure given.now sought.now) }
+    requires ruled { IsRuled given.now sought.now }
+    ensures sees { SeesSought E.Sink F.Folder folder.now (all_given given.now) sought.now result
+        input.old input.new errors.old errors.new }
+    ensures fails { IfErr result (IsReadyFailure (all_given given.now) sought.now) }
 {
     let ready = Ready::new(alloc, given, sought)?;
     let files = ready.searched(alloc, given, folder);
@@ -149,8 +154,12 @@ fn look_by<A: Automaton, B: Automaton, F: Folder, I: Read, E: Sink>(
 ) -> Result<Verdict, AllocError>
     requires ready { CanLook A.Automaton automaton.now files.now.words }
     requires rows { IfSome rows (λ rows. CanLook B.Automaton rows.now files.now.words) }
-    ensures sees { lines ≡ None → IfOf A.Automaton automaton.now (λ p. IfSome rows.entry (λ rows. B.is_of rows.now p)
-        → SeesSearched E.Sink F.Folder files.now p result input.old input.new errors.old errors.new) }
+    requires lined { IfSome lines (λ _. CanSeek A.Automaton automaton.now) }
+    requires rows_lined { IfSome lines (λ _. IfSome rows (λ rows. CanSeek B.Automaton rows.now)) }
+    requires named { IfSome names (NamesThese A.Automaton automaton.now lines) }
+    ensures sees { IfOf A.Automaton automaton.now (λ p. IfSome rows.entry (λ rows. B.is_of rows.now p)
+        → SeesSearchedFor E.Sink F.Folder files.now (sought_with p files.now.words (option_map (lines_of []) lines.entry))
+        result input.old input.new errors.old errors.new) }
 {
     match rows {
         Some(automaton) => look_for(automaton, lines, names, files, input, errors),
@@ -168,8 +177,10 @@ fn look_for<A: Automaton, F: Folder, I: Read, E: Sink>(
     errors: &mut Errors<'_, E>,
 ) -> Result<Verdict, AllocError>
     requires ready { CanLook A.Automaton automaton.now files.now.words }
-    ensures sees { lines ≡ None → IfOf A.Automaton automaton.now (λ p. SeesSearched E.Sink F.Folder files.now p
-        result input.old input.new errors.old errors.new) }
+    requires lined { IfSome lines (λ _. CanSeek A.Automaton automaton.now) }
+    requires named { IfSome names (NamesThese A.Automaton automaton.now lines) }
+    ensures sees { IfOf A.Automaton automaton.now (λ p. SeesSearchedFor E.Sink F.Folder files.now
+        (sought_with p files.now.words (option_map (lines_of []) lines.entry)) result input.old input.new errors.old errors.new) }
 {
     match lines {
         Some(lines) => look_at_lines(automaton, lines, names, files, input, errors),
@@ -193,7 +204,10 @@ fn look_at_lines<A: Automaton, F: Folder, I: Read, E: Sink>(
     input: &mut FromRead<I>,
     errors: &mut Errors<'_, E>,
 ) -> Result<Verdict, AllocError>
-    requires ready { CanLook A.Automaton automaton.now files.now.words }
+    requires ready { CanSeek A.Automaton automaton.now }
+    requires named { IfSome names (NamesThese A.Automaton automaton.now (Some lines)) }
+    ensures sees { IfOf A.Automaton automaton.now (λ p. SeesSearchedFor E.Sink F.Folder files.now
+        (sought_with p files.now.words (Some (lines_of [] lines.entry))) result input.old input.new errors.old errors.new) }
 {
     let mut look = LineLook::new(files.alloc, automaton, lines, files.words, names)?;
     let verdict = look_at_files(&mut look, files, input, errors)?;

@@ -1,6 +1,10 @@
 //! Whether something counts in the lines of files, and in which: what a check looks for by rules.
 
-ghost use Rattle.std.specs.Prelude.{◌≡◌, [], IfOk, None, true};
+ghost use Rattle.std.specs.Prelude.{[], IfOk, IfSome, None, Some};
+ghost use Rattle.acredact.specs.Checks.{IsLineLookOf, NamesThese};
+ghost use Rattle.acredact.specs.Files.{lines_of};
+ghost use Rattle.acredact.specs.Looks.{sought_with};
+ghost use Rattle.acredact.specs.Secrets.{CanSeek, IfOf};
 
 use crate::files::{Lines, line_cover};
 use crate::look::{Looker, is_some_counted};
@@ -52,7 +56,12 @@ impl<'s, A: Automaton> LineLook<'s, A> {
         lines: Lines<'s>,
         words: bool,
         told: Option<Names<'s>>,
-    ) -> Result<LineLook<'s, A>, AllocError> {
+    ) -> Result<LineLook<'s, A>, AllocError>
+        requires ready { CanSeek A.Automaton automaton.now }
+        requires named { IfSome told (NamesThese A.Automaton automaton.now (Some lines)) }
+        ensures seeks { IfOk result (λ look. IfOf A.Automaton automaton.entry.now (λ p.
+            IsLineLookOf A.Automaton look (sought_with p words (Some (lines_of [] lines.entry))))) }
+    {
         let numbers = automaton.patterns_len() + lines.rules.as_slice().len() + 1;
         Ok(LineLook {
             cover: line_cover(alloc, automaton, lines, words)?,
@@ -64,9 +73,9 @@ impl<'s, A: Automaton> LineLook<'s, A> {
 }
 
 impl<A: Automaton> Looker for LineLook<'_, A> {
-    ghost use Rattle.acredact.specs.Looks.{IsLineLookFor};
+    ghost use Rattle.acredact.specs.Checks.{IsLineLookOf};
 
-    ghost seeks = { λ look r. IsLineLookFor A.Automaton look.cover r };
+    ghost seeks = { λ look r. IsLineLookOf A.Automaton look r };
 
     /// All of the source is read.
     fn counts_in<R: Source, E: Sink>(

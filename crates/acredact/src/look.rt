@@ -8,7 +8,7 @@ ghost use Rattle.aho_stream.specs.FindRuns.{FindsAlong};
 ghost use Rattle.aho_stream.specs.Iterators.{CanGoOn, automaton_of};
 ghost use Rattle.programs.specs.Streams.{bytes_left};
 ghost use Rattle.programs.specs.Telling.{TellsBytes};
-ghost use Rattle.acredact.specs.Checks.{IfSought, IsLookOf, SeesSearchedFor, look_lines, quest_for};
+ghost use Rattle.acredact.specs.Checks.{IfSought, IsLookOf, SeesSearchedFor, TellsRuns, look_lines, quest_for};
 ghost use Rattle.acredact.specs.Faults.{IsReadReason};
 ghost use Rattle.acredact.specs.Looks.{CanLook, IsLook, IsLookEnd, LooksAt, is_failed_look, is_unread_look, look_of, sought, verdict_with};
 ghost use Rattle.acredact.specs.Secrets.{IfOf, Redactor};
@@ -82,6 +82,7 @@ pub trait Looker {
     ) -> Result<bool, StreamError>
         requires ready { (r : Redactor) × seeks self.old r }
         ensures looks { (r : Redactor) → seeks self.old r → LooksAt R.Source r result source.old source.new }
+        ensures told { (r : Redactor) → seeks self.old r → TellsRuns E.Sink r.lines name.now errors.old errors.new }
         ensures still { (r : Redactor) → seeks self.old r → seeks self.new r };
 }
 
@@ -179,6 +180,7 @@ fn look_at_file<X: Looker, F: Folder, I: Read, E: Sink>(
     ensures looks { IfSought X.Looker looker.old (λ r. IfOk result (λ look.
         IsLookOf (quest_for F.Folder files.now.folder.now r) name.now look
         (bytes_left input.old) (bytes_left input.new))) }
+    ensures told { IfSought X.Looker looker.old (λ r. TellsRuns E.Sink r.lines name.now errors.old errors.new) }
     ensures still { IfSought X.Looker looker.old (X.seeks looker.new) }
 {
     if is_input(name) {
@@ -200,6 +202,7 @@ fn look_at_opened<X: Looker, I: Read + Drop, E: Sink>(
     requires ready { (r : Redactor) × X.seeks looker.old r }
     ensures looks { IfSought X.Looker looker.old (λ r. IfOk result (λ look.
         (rest : Option (List ℕ)) × IsLook r IsReadReason look (I.remaining reader) rest)) }
+    ensures told { IfSought X.Looker looker.old (λ r. TellsRuns E.Sink r.lines name.now errors.old errors.new) }
     ensures still { IfSought X.Looker looker.old (X.seeks looker.new) }
 {
     let mut source = FromRead::new(reader);
@@ -216,6 +219,7 @@ fn look_at_input<X: Looker, I: Read, E: Sink>(
     requires ready { (r : Redactor) × X.seeks looker.old r }
     ensures looks { IfSought X.Looker looker.old (λ r. IfOk result (λ look.
         IsLook r IsReadReason look (bytes_left input.old) (bytes_left input.new))) }
+    ensures told { IfSought X.Looker looker.old (λ r. TellsRuns E.Sink r.lines name.now errors.old errors.new) }
     ensures still { IfSought X.Looker looker.old (X.seeks looker.new) }
     // A read fault is answered exactly where a read failed.
     ensures failed { input.new.failures ≡ counted (is_failed_look result) input.old.failures }

@@ -1,19 +1,21 @@
 //! What is ready before the first file is opened: patterns, names of files, what searches, and what is written.
 
-ghost use Rattle.std.specs.Prelude.{◌≡◌, ◌++◌, IfErr, IfOk, IsOk, OnOk};
+ghost use Rattle.std.specs.Prelude.{◌≡◌, ◌++◌, ℕ, List, IfErr, IfOk, IfSome, IsOk, OnOk, drop, is_some, length, option_map, true};
 ghost use Rattle.aho_core.specs.Replacement.{pieces_of};
 ghost use Rattle.aho_core.specs.declared.search.Anchored.TheVariants.{No};
 ghost use Rattle.programs.specs.Names.{name_bytes};
-ghost use Rattle.acredact.specs.Arguments.{all_given};
-ghost use Rattle.acredact.specs.Back.{AreBoth};
-ghost use Rattle.acredact.specs.Builds.{patterns_asked};
-ghost use Rattle.acredact.specs.Calls.{names_asked, text_asked};
+ghost use Rattle.acredact.specs.Arguments.{all_given, covers_asked, has};
+ghost use Rattle.acredact.specs.Back.{IsBackAsked};
+ghost use Rattle.acredact.specs.Builds.{patterns_by_given};
+ghost use Rattle.acredact.specs.Calls.{keyed_as, lines_by, names_asked, pieces_asked, text_asked};
 ghost use Rattle.acredact.specs.Checks.{IsReadyFailure};
-ghost use Rattle.acredact.specs.Files.{CanDo};
-ghost use Rattle.acredact.specs.LineRules.{texts_behind};
-ghost use Rattle.acredact.specs.Looks.{CanLook};
+ghost use Rattle.acredact.specs.Files.{keyed_of, lines_of};
+ghost use Rattle.acredact.specs.LineRules.{pieces_with, texts_behind};
+ghost use Rattle.acredact.specs.Loading.{key_in, key_lent, lines_sought};
 ghost use Rattle.acredact.specs.Pieces.{pieces_by};
 ghost use Rattle.acredact.specs.Tables.{HaveNoEmpty, patterns_in, secrets_of};
+ghost use Rattle.acredact.specs.declared.arguments.Word.TheVariants.{AsWord, IgnoreCase};
+ghost use Rattle.acredact.specs.declared.failure.Failure.TheVariants.{LineEnd};
 
 use crate::arguments::{Item, Word, covers, has, words};
 use crate::back::back_of;
@@ -63,9 +65,11 @@ impl<'r, 'a> Ready<'r, 'a> {
             ≡ patterns_in (secrets_of sought.entry.now.rules.items)) }
         ensures names { IfOk result (λ ready. name_bytes ready.names.items ≡ names_asked (all_given given.now)) }
         ensures of { IfOk result (λ ready. ⟦<NFA as Automaton>⟧.is_of ready.nfa
-            (patterns_asked given.now ready.patterns.items)) }
+            (patterns_by_given (all_given given.now) (pieces_of ready.patterns.items))) }
         ensures starts { IfOk result (λ ready. IsOk (⟦<NFA as Automaton>⟧.start ready.nfa No)) }
-        ensures fails { IfErr result (IsReadyFailure given.now sought.now) }
+        ensures rows { IfOk result (λ ready. IfSome ready.rows (λ rows. ⟦<Hybrid as Automaton>⟧.is_of rows
+            (patterns_by_given (all_given given.now) (pieces_of ready.patterns.items)))) }
+        ensures fails { IfErr result (IsReadyFailure (all_given given.now) sought.entry.now) }
     {
         let patterns = patterns_of(alloc, sought.rules.as_slice())?;
         let names = names(alloc, given)?;
@@ -101,7 +105,11 @@ impl<'r, 'a> Ready<'r, 'a> {
 }
 
 /// Refuses patterns that hold a line end, where rules are given.
-fn refuse_line_ends_beside<'e>(nfa: &NFA, sought: &Sought) -> Result<(), Failure<'e>> {
+fn refuse_line_ends_beside<'e>(nfa: &NFA, sought: &Sought) -> Result<(), Failure<'e>>
+    requires starts { IsOk (⟦<NFA as Automaton>⟧.start nfa.now No) }
+    ensures refused { IfErr result (λ failure. (is_some sought.now.lines ≡ true)
+        × (number : ℕ) × (failure ≡ LineEnd number)) }
+{
     match &sought.lines {
         Some(_) => refuse_line_ends(nfa, sought.rules.as_slice()),
         None => Ok(()),
@@ -132,6 +140,11 @@ impl<'r> Texts<'r> {
         ready: &Ready<'_, '_>,
     ) -> Result<Texts<'r>, AllocError>
         ensures usual { IfOk result (λ texts. texts.usual.now ≡ text_asked (all_given given.now)) }
+        ensures replacements { IfOk result (λ texts. pieces_of texts.replacements.items
+            ≡ pieces_with (lines_sought sought.entry.now) (pieces_asked (all_given given.now) (secrets_of sought.entry.now.rules.items))
+            (text_asked (all_given given.now))) }
+        ensures back { IfOk result (λ texts. IsBackAsked ⟦<NFA as Automaton>⟧ (all_given given.now)
+            (pieces_of ready.now.patterns.items) texts.back) }
     {
         let usual = text_of(given);
         let mut replacements = replacements_of(alloc, sought.rules.as_slice(), usual)?;
@@ -180,6 +193,13 @@ pub fn job_of<'s, F: Folder>(
 ) -> Job<'s, 's, F>
     ensures names { result.names.now ≡ ready.now.names.items }
     ensures replacements { result.replacements.now ≡ texts.now.replacements.items }
+    ensures folder { result.folder.now ≡ folder.now }
+    ensures key { option_map keyed_of result.key
+        ≡ option_map (keyed_as (has IgnoreCase (all_given given.now))) (key_in sought.now.key) }
+    ensures covers { result.covers ≡ covers_asked (all_given given.now) }
+    ensures words { result.words ≡ has AsWord (all_given given.now) }
+    ensures lines { (pieces : List (List ℕ)) → option_map (lines_of pieces) result.lines
+        ≡ option_map (lines_by pieces) (lines_sought sought.now) }
 {
     Job {
         alloc,
@@ -194,7 +214,10 @@ pub fn job_of<'s, F: Folder>(
 }
 
 /// By what lines are covered, where they are.
-pub fn lines_in(sought: &Sought) -> Option<Lines<'_>> {
+pub fn lines_in(sought: &Sought) -> Option<Lines<'_>>
+    ensures lines { (pieces : List (List ℕ)) → option_map (lines_of pieces) result
+        ≡ option_map (lines_by pieces) (lines_sought sought.entry.now) }
+{
     match &sought.lines {
         Some(lines) => Some(Lines {
             rules: &lines.rules,
@@ -206,7 +229,9 @@ pub fn lines_in(sought: &Sought) -> Option<Lines<'_>> {
 }
 
 /// The bytes of the key by which runs are named, where they are.
-fn key_in(sought: &Sought) -> Option<&[u8]> {
+fn key_in(sought: &Sought) -> Option<&[u8]>
+    ensures key { key_lent result ≡ key_in sought.entry.now.key }
+{
     match &sought.key {
         Some(key) => Some(key.as_slice()),
         None => None,
@@ -221,6 +246,10 @@ pub fn judge_of<'s>(
     texts: &'s Texts<'s>,
 ) -> Judge<'s, 's>
     ensures words { result.words.now ≡ ready.now.patterns.items }
+    ensures case { result.ignore_case ≡ has IgnoreCase (all_given given.now) }
+    ensures rules { result.rules.now ≡ sought.now.rules.items }
+    ensures usual { result.usual.now ≡ texts.now.usual.now }
+    ensures behind { pieces_of texts.now.replacements.items ≡ pieces_by result → length result.behind.now ≡ 0 }
 {
     Judge {
         words: ready.patterns.as_slice(),
@@ -232,7 +261,9 @@ pub fn judge_of<'s>(
 }
 
 /// The texts of rules and of long lines.
-fn texts_behind<'s>(sought: &Sought, texts: &'s Texts<'s>) -> &'s [&'s [u8]] {
+fn texts_behind<'s>(sought: &Sought, texts: &'s Texts<'s>) -> &'s [&'s [u8]]
+    ensures behind { result.now ≡ drop (length sought.now.rules.items) texts.entry.now.replacements.items }
+{
     match texts.replacements.as_slice().get(sought.rules.len()..) {
         Some(behind) => behind,
         None => &[],

@@ -1,0 +1,34 @@
+-- Where no option gives rules lines are not looked at one by one.
+use Rattle.std.proofs.Common.{◌≡◌, ℕ, List, Option, true, false, refl, sym, ap, ◌∙◌}
+use Rattle.std.specs.Prelude.{Bool, ◌&&◌, None, Some, option_map, if◌then◌else◌}
+use Rattle.acredact.specs.Arguments.{Given, gives_rules, has}
+use Rattle.acredact.specs.Calls.{Call, lines_by, pieces_asked, reading_by, redactor_by_given}
+use Rattle.acredact.specs.LineRules.{LinesLoaded, fixed_at}
+use Rattle.acredact.specs.Loading.{AreLinesGiven, AreLoaded, Loaded, Reading, loaded_by}
+use Rattle.acredact.specs.Tables.{Secret}
+use Rattle.acredact.specs.declared.arguments.Word.TheVariants.{Forms}
+
+no_and : (a b : Bool) → b ≡ false → (a && b) ≡ true → ⊥
+no_and true b is both = let clash : true ≡ false = sym both ∙ is in absurd (cc)
+no_and false b is both = let clash : false ≡ true = both in absurd (cc)
+
+pub lines_none : (reading : Reading) (given : List Given) (lines : Option LinesLoaded) (left left' : Option (List ℕ)) → gives_rules given ≡ false → AreLinesGiven reading given lines left left' → lines ≡ None
+lines_none reading given None left left' none are = refl
+lines_none reading given (Some lines) left left' none are = absurd (no_and _ (gives_rules given) none are.0)
+
+-- a key changes nothing of that
+loaded_none : (given : List Given) (secrets : List Secret) (lines : Option LinesLoaded) (key : Option (List ℕ)) → lines ≡ None → (loaded_by given secrets lines key).lines ≡ None
+loaded_none given secrets lines None is = is
+loaded_none given secrets lines (Some key) is = by (has Forms given)
+  where
+    by : (b : Bool) → (if b then option_map (fixed_at _) lines else lines) ≡ None
+    by true = ap (option_map (fixed_at _)) is
+    by false = is
+
+pub unruled_lines : (call : Call) (load : Loaded) (left between : Option (List ℕ)) → gives_rules call.given ≡ false → AreLoaded (reading_by call) call.given load left between → load.lines ≡ None
+unruled_lines call load left between none loaded =
+    ap (λ (l : Loaded). l.lines) loaded.is
+    ∙ loaded_none call.given loaded.secrets loaded.lines loaded.key (lines_none (reading_by call) call.given loaded.lines loaded.between loaded.meanwhile none loaded.lines_given)
+
+pub unlined_by : (call : Call) (load : Loaded) → load.lines ≡ None → (redactor_by_given call.given load).lines ≡ None
+unlined_by call load is = ap (option_map (lines_by (pieces_asked call.given load.secrets))) is
