@@ -77,7 +77,7 @@ no_words true true false rest none asked = absurd (cc)
 pub forms_unworded : (arguments : List (List ℕ)) (given : List Given) → all_asked arguments ≡ Some given → has Forms given ≡ true → words_asked given ≡ false
 forms_unworded arguments given asked forms =
     let none = (read_fits (given_by arguments) given asked).1 in
-    no_words (covers_asked given) (has AsWord given) (has Forms given) _ (rest_of (has Output given && has Check given) OutputCheck _ (rest_of (has Summary given && has Check given) SummaryCheck _ (rest_of (has Count given && has Check given) CountCheck _ (rest_of (has Forms given && not (covers_asked given)) FormsKind _ (rest_of (has Pseudonym given && has Table given) PseudonymTable _ (rest_of (has Pseudonym given && has With given) PseudonymWith _ (rest_of (has Pseudonym given && not (covers_asked given)) PseudonymKind _ (rest_of (has Strict given && not (covers_asked given)) StrictKind _ none)))))))) forms
+    no_words (covers_asked given) (has AsWord given) (has Forms given) _ (rest_of (has Output given && has Check given) OutputCheck _ (rest_of (has Summary given && has Check given && not (gives_rules given)) SummaryCheck _ (rest_of (has Count given && has Check given) CountCheck _ (rest_of (has Forms given && not (covers_asked given)) FormsKind _ (rest_of (has Pseudonym given && has Table given) PseudonymTable _ (rest_of (has Pseudonym given && has With given) PseudonymWith _ (rest_of (has Pseudonym given && not (covers_asked given)) PseudonymKind _ (rest_of (has Strict given && not (covers_asked given)) StrictKind _ none)))))))) forms
 
 -- nothing is wrong with right arguments but that memory runs out
 pub memory_alone : (arguments : List (List ℕ)) (given : List Given) (mistake : Mistake) → all_asked arguments ≡ Some given → IsMistakeOfCall arguments mistake → mistake ≡ OutOfMemory

@@ -2,7 +2,8 @@
 use Rattle.std.proofs.Common.{◌≡◌, inl, inr, ℕ, ◌+◌, ◌≤◌, List, [], ◌∷◌, ◌++◌, Option, true, false, length, take, refl, sym, ap, subst, ◌∙◌, arith, append_assoc, length-append}
 use Rattle.std.specs.Prelude.{Bool, MatchOption, None, Some, Result, Ok, Err, IfErr, OnErr, OnOk}
 use Rattle.std.specs.Io.{StartsWith}
-use Rattle.std.proofs.Math.Seq.{take-append_seam, take-length}
+use Rattle.std.proofs.Math.Seq.{take-append-add, take-length}
+use Rattle.std.proofs.lemmas.List.{length-take, take-append-le}
 use Rattle.aho_core.specs.Occurrence.{Occurrence}
 use Rattle.aho_core.specs.Patterns.{Patterns}
 use Rattle.aho_core.specs.declared.error.stream.StreamError.{StreamError}
@@ -41,11 +42,14 @@ line_runs_unique c before (line ∷ lines) (x ∷ xs) (y ∷ ys) first second =
 -- what begins the rest of a text begins it behind the same
 pub starts_behind : (front rest part : List ℕ) → StartsWith rest part → StartsWith (front ++ rest) (front ++ part)
 starts_behind front rest part starts =
-    ap (λ (n : ℕ). take n (front ++ rest)) (length-append front part) ∙ take-append_seam front rest (length part) ∙ ap (λ (xs : List ℕ). front ++ xs) starts
+    ap (λ (n : ℕ). take n (front ++ rest)) (length-append front part) ∙ take-append-add front rest (length part) ∙ ap (λ (xs : List ℕ). front ++ xs) starts
 
 -- and what begins a text begins it with more behind it
 pub starts_before : (text more part : List ℕ) → StartsWith text part → StartsWith (text ++ more) part
-starts_before text more part starts = ?starts_before
+starts_before text more part starts =
+    let sized : length (take (length part) text) ≡ length part = ap length starts in
+    let within : length part ≤ length text = omega (arith, length-take (length part) text, sized) in
+    take-append-le (length part) text more within ∙ starts
 
 module _ (r : Redactor) (l : LineCovered) (lined : r.lines ≡ Some l) where
   pub line_redaction : (text redaction : List ℕ) → IsLineRedaction r l text redaction → IsRedaction r text redaction

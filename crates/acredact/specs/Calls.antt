@@ -392,7 +392,7 @@ module _ {R : Type 0} {Reads : Readers R} {W : Type 0} (Writes : Writers W) wher
           → TellsSome K (IsLineOf call (OutputFails streams.output streams'.output)) streams.errors streams'.errors
       pub fails : IfErr result (MayFail call (OutputFails streams.output streams'.output))
       pub told : OnErr result (Tells K (IsLineOf call (OutputFails streams.output streams'.output)) streams.errors streams'.errors)
-      pub numbers : TellsAnyNumbers K call left (bytes_left streams'.input) streams.errors streams'.errors
+      pub numbers : gives_rules call.given ≡ false → TellsAnyNumbers K call left (bytes_left streams'.input) streams.errors streams'.errors
 
     -- of the files of a call it is told how often the text of each pattern was written
     abbrev pub CountsRest : Call → Loaded → (streams streams' : Streams R W E Reads) → Type 0
@@ -414,7 +414,7 @@ module _ {R : Type 0} {Reads : Readers R} {W : Type 0} (Writes : Writers W) wher
       pub fails : IfErr result (MayFail call (OutputFails streams.output streams'.output))
       pub told : OnErr result (Tells K (IsLineOf call (OutputFails streams.output streams'.output)) streams.errors streams'.errors)
       pub other : IfErr result (λ failure. (unclean : Unclean) → failure ≡ UncleanPiece unclean → ⊥)
-      pub numbers : Tells K (IsWordLine call) streams.errors streams'.errors ⊎ TellsNumbers K call load.secrets load.lines (bytes_left streams.input) (bytes_left streams'.input) streams.errors streams'.errors
+      pub numbers : gives_rules call.given ≡ false → Tells K (IsWordLine call) streams.errors streams'.errors ⊎ TellsNumbers K call load.secrets load.lines (bytes_left streams.input) (bytes_left streams'.input) streams.errors streams'.errors
 
     -- what comes of the files, where the failure says why they are not redacted
     pub record RunOutcome (work : Work) (result : Result Bool Failure) (streams streams' : Streams R W E Reads) : Type 0 where

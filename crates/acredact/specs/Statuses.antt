@@ -5,7 +5,7 @@ use Rattle.std.specs.declared.io.traits.Write.{Ghosts as Writers}
 use Rattle.aho_devices.specs.declared.device.Sink.{Ghosts as SinkGhosts}
 use Rattle.programs.specs.Streams.{bytes_left}
 use Rattle.programs.specs.Telling.{TellsSome}
-use Rattle.acredact.specs.Arguments.{AsksToRedact, Given, GivesNoPattern, RefusesUnclean, counts_asked}
+use Rattle.acredact.specs.Arguments.{AsksToRedact, Given, GivesNoPattern, RefusesUnclean, counts_asked, gives_rules}
 use Rattle.acredact.specs.Calls.{BeginsCall, Call, CountsCall, IsLineOf, LeavesNone, OutputFails, RedactsCall, TellsUpToEnd, WarnsCall, call_of}
 use Rattle.acredact.specs.declared.folder.Folder.{Ghosts as Folders}
 use Rattle.acredact.specs.declared.look.Verdict.{Verdict}
@@ -30,7 +30,7 @@ pub record CallStatus {R W E : Type 0} {Reads : Readers R} (Writes : Writers W) 
   pub quiet : counts_asked call.given ≡ false → status ≡ 0 → WarnsCall K call (bytes_left streams.input) streams.errors streams'.errors
   pub counts : counts_asked call.given ≡ true → status ≡ 0 → CountsCall Writes K call (bytes_left streams.input) streams streams'
   pub tells : status ≡ 2 → TellsSome K (IsLineOf call (OutputFails streams.output streams'.output)) streams.errors streams'.errors
-  pub numbers : TellsUpToEnd K call (OutputFails streams.output streams'.output) (bytes_left streams.input) (bytes_left streams'.input) streams.errors streams'.errors
+  pub numbers : gives_rules call.given ≡ false → TellsUpToEnd K call (OutputFails streams.output streams'.output) (bytes_left streams.input) (bytes_left streams'.input) streams.errors streams'.errors
 
 -- the same of a call that asks for a redaction
 abbrev pub SaysOfRedaction : {R W E F X : Type 0} {Reads : Readers R} → Writers W → SinkGhosts E → Folders F X → F → List Given → ℕ → (streams streams' : Streams R W E Reads) → Type 0

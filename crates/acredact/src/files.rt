@@ -95,7 +95,7 @@ pub fn redact_files<A: Automaton, F: Folder, I: Read, W: Write, E: Sink>(
     ensures counted { IfOf A.Automaton automaton.now (JobCounts F.Folder job.now
         result streams.old streams.new counts.old counts.new) }
     ensures read { JobVolume F.Folder job.now result volume.old volume.new streams.old streams.new }
-    ensures most { OnOk result (JobNumbers F.Folder job.now counts.old counts.new
+    ensures most { job.now.lines ≡ None → OnOk result (JobNumbers F.Folder job.now counts.old counts.new
         volume.old volume.new streams.old streams.new) }
     ensures flushed { OnOk result (streams.new.output.device.flushed ≡ true) }
 {
@@ -120,7 +120,7 @@ fn cover_files<A: Automaton, F: Folder, I: Read, W: Write, E: Sink>(
     ensures counted { IfOf A.Automaton automaton.now (JobCounts F.Folder job.now
         result streams.old streams.new counts.old counts.new) }
     ensures read { JobVolume F.Folder job.now result volume.old volume.new streams.old streams.new }
-    ensures most { OnOk result (JobNumbers F.Folder job.now counts.old counts.new
+    ensures most { job.now.lines ≡ None → OnOk result (JobNumbers F.Folder job.now counts.old counts.new
         volume.old volume.new streams.old streams.new) }
     ensures flushed { OnOk result (streams.new.output.device.flushed ≡ true) }
 {
@@ -182,7 +182,7 @@ fn cover_by<C: Coverer + Drop, F: Folder, I: Read, W: Write, E: Sink>(
     ensures counted { IfCovers C.Coverer coverer.entry job.now (CountsJob F.Folder job.now
         result streams.old streams.new counts.old counts.new) }
     ensures read { JobVolume F.Folder job.now result volume.old volume.new streams.old streams.new }
-    ensures most { OnOk result (JobNumbers F.Folder job.now counts.old counts.new
+    ensures most { job.now.lines ≡ None → OnOk result (JobNumbers F.Folder job.now counts.old counts.new
         volume.old volume.new streams.old streams.new) }
     ensures flushed { OnOk result (streams.new.output.device.flushed ≡ true) }
 {
@@ -249,7 +249,7 @@ fn replace_files<A: Automaton, F: Folder, I: Read, W: Write, E: Sink>(
     ensures counted { IfOf A.Automaton automaton.now (JobCounts F.Folder job.now
         result streams.old streams.new counts.old counts.new) }
     ensures read { JobVolume F.Folder job.now result volume.old volume.new streams.old streams.new }
-    ensures most { OnOk result (JobNumbers F.Folder job.now counts.old counts.new
+    ensures most { job.now.lines ≡ None → OnOk result (JobNumbers F.Folder job.now counts.old counts.new
         volume.old volume.new streams.old streams.new) }
     ensures flushed { OnOk result (streams.new.output.device.flushed ≡ true) }
 {
@@ -277,7 +277,7 @@ pub fn back_files<A: Automaton, B: Automaton, F: Folder, I: Read, W: Write, E: S
     ensures counted { BackCounts A.Automaton B.Automaton F.Folder automaton.now searcher.now job.now
         result streams.old streams.new counts.old counts.new }
     ensures read { JobVolume F.Folder job.now result volume.old volume.new streams.old streams.new }
-    ensures most { OnOk result (JobNumbers F.Folder job.now counts.old counts.new
+    ensures most { job.now.lines ≡ None → OnOk result (JobNumbers F.Folder job.now counts.old counts.new
         volume.old volume.new streams.old streams.new) }
     ensures flushed { OnOk result (streams.new.output.device.flushed ≡ true) }
 {
@@ -310,8 +310,8 @@ fn redact_flushed<X: Way, F: Folder, I: Read, W: Write, E: Sink>(
     ensures counted { IfBy X.Way way.old (CountsJob F.Folder job.now
         result streams.old streams.new counts.old counts.new) }
     ensures read { JobVolume F.Folder job.now result volume.old volume.new streams.old streams.new }
-    ensures most { OnOk result (JobNumbers F.Folder job.now counts.old counts.new
-        volume.old volume.new streams.old streams.new) }
+    ensures most { IfBy X.Way way.old (λ r. r.lines ≡ None → OnOk result (JobNumbers F.Folder job.now counts.old counts.new
+        volume.old volume.new streams.old streams.new)) }
     ensures flushed { OnOk result (streams.new.output.device.flushed ≡ true) }
 {
     let all = redact_each(way, job, counts, volume, streams)?;
@@ -333,8 +333,8 @@ fn redact_each<X: Way, F: Folder, I: Read, W: Write, E: Sink>(
     ensures counted { IfBy X.Way way.old (CountsJob F.Folder job.now
         result streams.old streams.new counts.old counts.new) }
     ensures read { JobVolume F.Folder job.now result volume.old volume.new streams.old streams.new }
-    ensures most { OnOk result (JobNumbers F.Folder job.now counts.old counts.new
-        volume.old volume.new streams.old streams.new) }
+    ensures most { IfBy X.Way way.old (λ r. r.lines ≡ None → OnOk result (JobNumbers F.Folder job.now counts.old counts.new
+        volume.old volume.new streams.old streams.new)) }
 {
     let mut all = true;
     let mut rest = job.names;
@@ -370,8 +370,8 @@ fn redact_told<X: Way, F: Folder, I: Read, W: Write, E: Sink>(
     ensures counted { IfBy X.Way way.old (CountsTold F.Folder job.now name.now
         result streams.old streams.new counts.old counts.new) }
     ensures read { FileVolume F.Folder job.now name.now result volume.old volume.new streams.old streams.new }
-    ensures most { NumbersTold F.Folder job.now name.now counts.old counts.new
-        volume.old volume.new streams.old streams.new }
+    ensures most { IfBy X.Way way.old (λ r. r.lines ≡ None → NumbersTold F.Folder job.now name.now counts.old counts.new
+        volume.old volume.new streams.old streams.new) }
     ensures files { volume.new.files ≡ volume.old.files }
     ensures still { IfBy X.Way way.old (Redacts X.Way way.new) }
 {
@@ -398,8 +398,8 @@ fn redact_apart<X: Way, F: Folder, I: Read, W: Write, E: Sink>(
     ensures counted { IfBy X.Way way.old (CountsTold F.Folder job.now name.now
         result streams.old streams.new counts.old counts.new) }
     ensures read { FileVolume F.Folder job.now name.now result volume.old volume.new streams.old streams.new }
-    ensures most { NumbersTold F.Folder job.now name.now counts.old counts.new
-        volume.old volume.new streams.old streams.new }
+    ensures most { IfBy X.Way way.old (λ r. r.lines ≡ None → NumbersTold F.Folder job.now name.now counts.old counts.new
+        volume.old volume.new streams.old streams.new) }
     ensures files { volume.new.files ≡ volume.old.files }
     ensures still { IfBy X.Way way.old (Redacts X.Way way.new) }
 {
@@ -437,8 +437,8 @@ fn redact_file<X: Way, F: Folder, I: Read, W: Write>(
         result input.old input.new counts.old counts.new) }
     ensures read { result ≡ Ok None → AddsFile (F.holds job.now.folder.now) name.now
         volume.old volume.new input.old input.new }
-    ensures most { NumbersOfFile F.Folder job.now name.now counts.old counts.new
-        volume.old volume.new input.old input.new }
+    ensures most { IfBy X.Way way.old (λ r. r.lines ≡ None → NumbersOfFile F.Folder job.now name.now counts.old counts.new
+        volume.old volume.new input.old input.new) }
     ensures files { volume.new.files ≡ volume.old.files }
     ensures still { IfBy X.Way way.old (Redacts X.Way way.new) }
 {
@@ -472,7 +472,8 @@ fn redact_opened<X: Way, I: Read + Drop, W: Write>(
     ensures counted { result ≡ Ok None → IfBy X.Way way.old
         (CountsOpened (I.remaining reader) counts.old counts.new) }
     ensures read { result ≡ Ok None → AddsOpened volume.old.bytes volume.new.bytes (I.remaining reader) }
-    ensures most { NumbersOpened counts.old counts.new volume.old.bytes volume.new.bytes (I.remaining reader) }
+    ensures most { IfBy X.Way way.old (λ r. r.lines ≡ None
+        → NumbersOpened counts.old counts.new volume.old.bytes volume.new.bytes (I.remaining reader)) }
     ensures files { volume.new.files ≡ volume.old.files }
     ensures still { IfBy X.Way way.old (Redacts X.Way way.new) }
 {
@@ -494,7 +495,8 @@ fn redact_input<X: Way, I: Read, W: Write>(
     ensures counted { result ≡ Ok None → IfBy X.Way way.old
         (CountsOfText (bytes_left input.old) (bytes_left input.new) counts.old counts.new) }
     ensures read { result ≡ Ok None → AddsText volume.old volume.new input.old input.new }
-    ensures most { NumbersOfInput counts.old counts.new volume.old volume.new input.old input.new }
+    ensures most { IfBy X.Way way.old (λ r. r.lines ≡ None
+        → NumbersOfInput counts.old counts.new volume.old volume.new input.old input.new) }
     ensures files { volume.new.files ≡ volume.old.files }
     ensures still { IfBy X.Way way.old (Redacts X.Way way.new) }
     ensures failed { input.new.failures ≡ counted (is_unread result) input.old.failures }
@@ -532,8 +534,8 @@ fn redact_with<'s, K: Known, X: Way, S: Source, W: Sink>(
         lent.entry.source.now result.lent.source.now counts.old counts.new)) }
     ensures read { OnOk result.done (AddsStream S.Source
         lent.entry.source.now result.lent.source.now bytes result.bytes) }
-    ensures most { NumbersGiven S.Source lent.entry.source.now result.lent.source.now
-        counts.old counts.new bytes result.bytes }
+    ensures most { IfBy X.Way way.old (λ r. r.lines ≡ None → NumbersGiven S.Source lent.entry.source.now result.lent.source.now
+        counts.old counts.new bytes result.bytes) }
     ensures still { IfBy X.Way way.old (Redacts X.Way way.new) }
     ensures same { result.lent.source.ghost_name ≡ lent.entry.source.ghost_name }
 {
@@ -563,8 +565,8 @@ fn redact_metered<X: Way, I: Read, W: Write>(
         input.old input.new counts.old counts.new)) }
     ensures read { OnOk result (AddsStream ⟦<FromRead<I> as Source>⟧ input.old input.new
         volume.old.bytes volume.new.bytes) }
-    ensures most { NumbersGiven ⟦<FromRead<I> as Source>⟧ input.old input.new
-        counts.old counts.new volume.old.bytes volume.new.bytes }
+    ensures most { IfBy X.Way way.old (λ r. r.lines ≡ None → NumbersGiven ⟦<FromRead<I> as Source>⟧ input.old input.new
+        counts.old counts.new volume.old.bytes volume.new.bytes) }
     ensures files { volume.new.files ≡ volume.old.files }
     ensures still { IfBy X.Way way.old (Redacts X.Way way.new) }
 {

@@ -114,9 +114,9 @@ pub fn run<F: Folder, I: Read, W: Write, E: Sink>(
     ensures tells { IfAsked arguments.now (λ given. result ≡ 2
         → TellsAsked E.Sink F.Folder folder.now given streams.old streams.new) }
 
-    // Whatever the status is: lines without a counted number are told, then at most such with numbers, none of them greater than the
-    // bytes that were read, and then at most why the call ends early.
-    ensures numbers { IfAsked arguments.now (λ given.
+    // Whatever the status is, without rules: lines without a counted number are told, then at most such with numbers, none of them greater
+    // than the bytes that were read, and then at most why the call ends early.
+    ensures numbers { IfAsked arguments.now (λ given. gives_rules given ≡ false →
         NumbersToldAsked E.Sink F.Folder folder.now given streams.old streams.new) }
 
     // A check: at status 0 each file was read to its end, and nothing counts in any: no pattern occurs, or with `-w` none stands as a word.
@@ -497,7 +497,7 @@ fn redact_all<'a, F: Folder, I: Read, W: Write, E: Sink>(
         result streams.old streams.new counts.old counts.new }
     ensures read { result ≡ Ok true → ReadsAsked (F.holds folder.now) (all_given given.now)
         volume.old volume.new streams.old streams.new }
-    ensures most { OnOk result (NumbersAsked (F.holds folder.now) (all_given given.now)
+    ensures most { sought.now.lines ≡ None → OnOk result (NumbersAsked (F.holds folder.now) (all_given given.now)
         counts.old counts.new volume.old volume.new streams.old streams.new) }
     ensures flushed { OnOk result (streams.new.output.device.flushed ≡ true) }
 {
@@ -552,7 +552,7 @@ fn redact_warned<
         (λ p. IfBackIs C.Automaton back.entry p
         (JobCounts F.Folder job.now result streams.old streams.new counts.old counts.new p)) }
     ensures read { JobVolume F.Folder job.now result volume.old volume.new streams.old streams.new }
-    ensures most { OnOk result (JobNumbers F.Folder job.now counts.old counts.new
+    ensures most { job.now.lines ≡ None → OnOk result (JobNumbers F.Folder job.now counts.old counts.new
         volume.old volume.new streams.old streams.new) }
     ensures flushed { OnOk result (streams.new.output.device.flushed ≡ true) }
 {
@@ -607,7 +607,7 @@ pub fn redact_by<A: Automaton, B: Automaton, C: Automaton, F: Folder, I: Read, W
         → IfBackIs C.Automaton back.entry p
         (JobCounts F.Folder job.now result streams.old streams.new counts.old counts.new p)) }
     ensures read { JobVolume F.Folder job.now result volume.old volume.new streams.old streams.new }
-    ensures most { OnOk result (JobNumbers F.Folder job.now counts.old counts.new
+    ensures most { job.now.lines ≡ None → OnOk result (JobNumbers F.Folder job.now counts.old counts.new
         volume.old volume.new streams.old streams.new) }
     ensures flushed { OnOk result (streams.new.output.device.flushed ≡ true) }
 {
@@ -633,7 +633,7 @@ fn redact_forward<A: Automaton, B: Automaton, F: Folder, I: Read, W: Write, E: S
     ensures counted { RowsCounts A.Automaton B.Automaton F.Folder automaton.now rows.entry job.now
         result streams.old streams.new counts.old counts.new }
     ensures read { JobVolume F.Folder job.now result volume.old volume.new streams.old streams.new }
-    ensures most { OnOk result (JobNumbers F.Folder job.now counts.old counts.new
+    ensures most { job.now.lines ≡ None → OnOk result (JobNumbers F.Folder job.now counts.old counts.new
         volume.old volume.new streams.old streams.new) }
     ensures flushed { OnOk result (streams.new.output.device.flushed ≡ true) }
 {

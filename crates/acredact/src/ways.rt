@@ -1,6 +1,6 @@
 //! How streams are redacted, one after another.
 
-ghost use Rattle.std.specs.Prelude.{OnOk};
+ghost use Rattle.std.specs.Prelude.{◌≡◌, None, OnOk};
 ghost use Rattle.aho_cover.specs.Pieces.{PieceRule};
 ghost use Rattle.acredact.specs.Bounds.{Bounded};
 ghost use Rattle.acredact.specs.Secrets.{Redactor};
@@ -22,7 +22,7 @@ pub trait Way {
     ghost by: { Self → Redactor → Type 0 };
 
     /// Writes what the source gives to the sink, with a text in the place of each range that is replaced, and counts those of
-    /// each pattern that has a count. No count grows by more than the bytes that the source gave.
+    /// each pattern that has a count. Without rules no count grows by more than the bytes that the source gave.
     ///
     /// # Errors
     ///
@@ -39,7 +39,7 @@ pub trait Way {
             result source.old source.new sink.old sink.new }
         ensures counted { (r : Redactor) → by self.old r → OnOk result (CountsOfStream R.Source r
             source.old source.new counts.old counts.new) }
-        ensures most { Bounded R.Source source.old source.new counts.old counts.new }
+        ensures most { (r : Redactor) → by self.old r → r.lines ≡ None → Bounded R.Source source.old source.new counts.old counts.new }
         ensures still { (r : Redactor) → by self.old r → by self.new r };
 }
 
@@ -66,7 +66,8 @@ pub trait Coverer {
             result source.old source.new sink.old sink.new }
         ensures counted { (r : Redactor) → by self.old (P.rule pieces.old) r → OnOk result (CountsOfStream R.Source r
             source.old source.new counts.old counts.new) }
-        ensures most { Bounded R.Source source.old source.new counts.old counts.new }
+        ensures most { (r : Redactor) → by self.old (P.rule pieces.old) r → r.lines ≡ None → Bounded R.Source
+            source.old source.new counts.old counts.new }
         ensures still { (rule : PieceRule) (r : Redactor) → by self.old rule r → by self.new rule r }
         ensures rule { P.rule pieces.new ≡ P.rule pieces.old };
 }

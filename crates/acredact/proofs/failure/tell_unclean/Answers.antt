@@ -2,21 +2,21 @@
 use Rattle.std.proofs.Common.{sym, subst}
 use Rattle.std.specs.Prelude.{decimal}
 use Rattle.programs.specs.Telling.{TellsBytes}
-use Rattle.acredact.specs.Messages.{flaw_text, piece_line}
+use Rattle.acredact.specs.Messages.{flaw_text, piece_line_of}
 use Rattle.acredact.specs.declared.clean.Flaw.{Flaw}
 use Rattle.acredact.proofs.failure.tell_unclean.Goals as goal
 
 pub returns-in-Empty : goal.returns-in-Empty
 returns-in-Empty g c = record {
-  told = subst (λ (flaw : Flaw). TellsBytes g.E.Sink c.args.errors.now c.tell_empty.new.errors (piece_line (decimal c.args.unclean.number) (flaw_text flaw))) (sym c.in-Empty.is) c.tell_empty.ensures.told;
+  told = subst (λ (flaw : Flaw). TellsBytes g.E.Sink c.args.errors.now c.tell_empty.new.errors (piece_line_of c.args.unclean.subject (decimal c.args.unclean.number) (flaw_text flaw))) (sym c.in-Empty.is) c.tell_empty.ensures.told;
 }
 
 pub returns-in-Spells : goal.returns-in-Spells
 returns-in-Spells g c = record {
-  told = subst (λ (flaw : Flaw). TellsBytes g.E.Sink c.args.errors.now c.tell_spelled.new.errors (piece_line (decimal c.args.unclean.number) (flaw_text flaw))) (sym c.in-Spells.is) c.tell_spelled.ensures.told;
+  told = subst (λ (flaw : Flaw). TellsBytes g.E.Sink c.args.errors.now c.tell_spelled.new.errors (piece_line_of c.args.unclean.subject (decimal c.args.unclean.number) (flaw_text flaw))) (sym c.in-Spells.is) c.tell_spelled.ensures.told;
 }
 
 pub returns-in-Pseudonym : goal.returns-in-Pseudonym
 returns-in-Pseudonym g c = record {
-  told = subst (λ (flaw : Flaw). TellsBytes g.E.Sink c.args.errors.now c.tell_pseudonym.new.errors (piece_line (decimal c.args.unclean.number) (flaw_text flaw))) (sym c.in-Pseudonym.is) c.tell_pseudonym.ensures.told;
+  told = subst (λ (flaw : Flaw). TellsBytes g.E.Sink c.args.errors.now c.tell_pseudonym.new.errors (piece_line_of c.args.unclean.subject (decimal c.args.unclean.number) (flaw_text flaw))) (sym c.in-Pseudonym.is) c.tell_pseudonym.ensures.told;
 }
