@@ -160,11 +160,7 @@ pub fn line_cover<'r, 'a, A: Automaton>(
     if rules >= MOST_NUMBERS || patterns >= MOST_NUMBERS - rules {
         return Err(AllocError);
     }
-    let searched = if patterns > 0 {
-        Some(automaton)
-    } else {
-        None
-    };
+    let searched = if patterns > 0 { Some(automaton) } else { None };
     LineCover::new(alloc, lines.rules, searched, words, lines.most)
 }
 

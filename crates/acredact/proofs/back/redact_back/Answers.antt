@@ -8,5 +8,5 @@ pub returns : goal.returns
 returns g c = record {
   outcome = λ p is.
       let call = c.try_stream_replace_all in
-      outcome_back g.A.Automaton g.R.Source g.W.Sink c.args.searcher.now (redactor_by p false false c.args.replacements.now) refl refl is _ _ _ _ call.result call.ensures.leaves call.ensures.errors call.ensures.only;
+      outcome_back g.A.Automaton g.R.Source g.W.Sink c.args.searcher.now (redactor_by p false false c.args.replacements.now) refl refl refl is _ _ _ _ call.result call.ensures.leaves call.ensures.errors call.ensures.only;
 }

@@ -17,7 +17,7 @@ pub loop-rest-init : goal.loop-rest-init
 loop-rest-init g c = (
   λ _. far_unread (g.F.Folder.holds c.args.job.now.folder.now) _ _ _,
   λ red by. (by, far_none g.W.Write g.E.Sink (work_of g.F.Folder c.args.job.now red) _ _, λ _. far_uncounted (work_of g.F.Folder c.args.job.now red) _ _ _),
-  none_numbered (g.F.Folder.holds c.args.job.now.folder.now) _ _ _ _,
+  λ red by none. none_numbered (g.F.Folder.holds c.args.job.now.folder.now) _ _ _ _,
 )
 
 pub loop-rest-preserved : goal.loop-rest-preserved
@@ -43,11 +43,12 @@ loop-rest-preserved g c = (
             (names_cut c.loop-rest.rest.now _ some) ((c.loop-rest.invariant.1 red by).2 both.0) in
             far_counted (work_of g.F.Folder c.args.job.now red) _ _ _ _ _ _ _ _ _ counted (c.in_ok-whole.ensures.counted red now (ap Ok both.1)),
       ),
-  (let some : 1 ≤ length c.loop-rest.rest.now = search rules in
+  λ red by none.
+      (let some : 1 ≤ length c.loop-rest.rest.now = search rules in
       more_numbered (g.F.Folder.holds c.args.job.now.folder.now) _ _ _ _ _ _ c.loop-rest.volume _ _ _ _ _ _
       (subst (λ (l : List (List ℕ)). NumbersSoFar (g.F.Folder.holds c.args.job.now.folder.now) (name_bytes c.args.job.now.names.now) l c.args.counts.now c.loop-rest.counts c.args.volume.now c.loop-rest.volume (bytes_left c.args.streams.now.input) (bytes_left c.loop-rest.streams.input))
-      (names_cut c.loop-rest.rest.now _ some) c.loop-rest.invariant.2)
-      c.in_ok-whole.ensures.most c.add_file.ensures.bytes
+      (names_cut c.loop-rest.rest.now _ some) (c.loop-rest.invariant.2 red by none))
+      (c.in_ok-whole.ensures.most red (c.loop-rest.invariant.1 red by).0 none) c.add_file.ensures.bytes
       (omega (arith, c.add_file.ensures.files, c.in_ok-whole.ensures.files, one_file c.in_ok-whole.whole c.redact_told.new.volume.files))),
 )
 
@@ -56,7 +57,7 @@ returns-in_err-whole g c =
     let is : c.from_residual.result ≡ Err c.in_err-whole.field-0.0 = search rules in
     let some : 1 ≤ length c.loop-rest.rest.now = search rules in
     record {
-      most = subst (λ (r : Result Bool StreamError). OnOk r (JobNumbers g.F.Folder c.args.job.now c.args.counts.now c.redact_told.new.counts c.args.volume.now c.redact_told.new.volume c.args.streams.now c.redact_told.new.streams)) (sym is) tt;
+      most = λ red by none. subst (λ (r : Result Bool StreamError). OnOk r (JobNumbers g.F.Folder c.args.job.now c.args.counts.now c.redact_told.new.counts c.args.volume.now c.redact_told.new.volume c.args.streams.now c.redact_told.new.streams)) (sym is) tt;
       read = λ (whole : c.from_residual.result ≡ Ok true). let clash : Err c.in_err-whole.field-0.0 ≡ Ok true = sym is ∙ whole in absurd (cc);
       counted = λ red by (whole : c.from_residual.result ≡ Ok true). let clash : Err c.in_err-whole.field-0.0 ≡ Ok true = sym is ∙ whole in absurd (cc);
       outcome = λ red by.
@@ -68,21 +69,21 @@ returns-in_err-whole g c =
 
 pub returns : goal.returns
 returns g c =
-    let none : length c.loop-rest.rest.now ≡ 0 = search rules in
+    let empty : length c.loop-rest.rest.now ≡ 0 = search rules in
     record {
-      most = all_numbered (g.F.Folder.holds c.args.job.now.folder.now) _ _ _ _ _ _ _
+      most = λ red by none. all_numbered (g.F.Folder.holds c.args.job.now.folder.now) _ _ _ _ _ _ _
           (subst (λ (l : List (List ℕ)). NumbersSoFar (g.F.Folder.holds c.args.job.now.folder.now) (name_bytes c.args.job.now.names.now) l c.args.counts.now c.loop-rest.counts c.args.volume.now c.loop-rest.volume (bytes_left c.args.streams.now.input) (bytes_left c.loop-rest.streams.input))
-          (names_end c.loop-rest.rest.now none) c.loop-rest.invariant.2);
+          (names_end c.loop-rest.rest.now empty) (c.loop-rest.invariant.2 red by none));
       read = λ whole.
           all_read (g.F.Folder.holds c.args.job.now.folder.now) _ _ _ _ _
           (subst (λ (l : List (List ℕ)). VolumeSoFar (g.F.Folder.holds c.args.job.now.folder.now) (name_bytes c.args.job.now.names.now) l c.args.volume.now c.loop-rest.volume (bytes_left c.args.streams.now.input) (bytes_left c.loop-rest.streams.input))
-          (names_end c.loop-rest.rest.now none) (c.loop-rest.invariant.0 (let is = whole in cc)));
+          (names_end c.loop-rest.rest.now empty) (c.loop-rest.invariant.0 (let is = whole in cc)));
       counted = λ red by whole.
           all_counted (work_of g.F.Folder c.args.job.now red) _ _ _ _ _
           (subst (λ (l : List (List ℕ)). CountedSoFar (work_of g.F.Folder c.args.job.now red) (name_bytes c.args.job.now.names.now) l (bytes_left c.args.streams.now.input) (bytes_left c.loop-rest.streams.input) c.args.counts.now c.loop-rest.counts)
-          (names_end c.loop-rest.rest.now none) ((c.loop-rest.invariant.1 red by).2 (let is = whole in cc)));
+          (names_end c.loop-rest.rest.now empty) ((c.loop-rest.invariant.1 red by).2 (let is = whole in cc)));
       outcome = λ red by.
           far_all g.W.Write g.E.Sink (work_of g.F.Folder c.args.job.now red) c.loop-rest.all c.args.streams.now c.loop-rest.streams
           (subst (λ (l : List (List ℕ)). SoFar g.W.Write g.E.Sink (work_of g.F.Folder c.args.job.now red) (name_bytes c.args.job.now.names.now) l c.loop-rest.all c.args.streams.now c.loop-rest.streams)
-          (names_end c.loop-rest.rest.now none) (c.loop-rest.invariant.1 red by).1);
+          (names_end c.loop-rest.rest.now empty) (c.loop-rest.invariant.1 red by).1);
     }

@@ -1,5 +1,6 @@
 -- The files in front of what is left are done.
 use Rattle.std.proofs.Common.{◌≡◌, length, true}
+use Rattle.std.specs.Prelude.{None}
 use Rattle.programs.specs.Names.{name_bytes}
 use Rattle.programs.specs.Streams.{bytes_left}
 use Rattle.acredact.specs.Files.{work_of}
@@ -18,8 +19,8 @@ invariant-loop-rest g l =
     × SoFar g.W.Write g.E.Sink (work_of g.F.Folder l.fn.job red) (name_bytes l.fn.job.names.now) (name_bytes l.rest) l.all l.initial.streams l.streams
     × (l.all ≡ true → CountedSoFar (work_of g.F.Folder l.fn.job red) (name_bytes l.fn.job.names.now) (name_bytes l.rest)
     (bytes_left l.initial.streams.input) (bytes_left l.streams.input) l.initial.counts l.counts)))
-    × NumbersSoFar (g.F.Folder.holds l.fn.job.folder.now) (name_bytes l.fn.job.names.now) (name_bytes l.rest)
-    l.initial.counts l.counts l.initial.volume l.volume (bytes_left l.initial.streams.input) (bytes_left l.streams.input)
+    × IfBy g.X.Way l.initial.way (λ red. red.lines ≡ None → NumbersSoFar (g.F.Folder.holds l.fn.job.folder.now) (name_bytes l.fn.job.names.now) (name_bytes l.rest)
+    l.initial.counts l.counts l.initial.volume l.volume (bytes_left l.initial.streams.input) (bytes_left l.streams.input))
 
 abbrev pub decreases-loop-rest : goal.decreases-loop-rest
 decreases-loop-rest g l = length l.rest

@@ -38,13 +38,13 @@ returns-in-Ok-clause-read g c = λ whole.
     opened_bytes (g.F.Folder.holds c.args.job.now.folder.now) c.args.name.now _ _ _ _ (sym c.is_input.ensures.is ∙ c.if-is_input.false) refl _ opened.0 c.in-Ok.ensures.told opened.1
 
 pub returns-then-is_input-clause-most : goal.returns-then-is_input-clause-most
-returns-then-is_input-clause-most g c =
-    input_numbers (g.F.Folder.holds c.args.job.now.folder.now) c.args.name.now _ _ _ _ _ _ (sym c.is_input.ensures.is ∙ c.if-is_input.true) c.redact_input.ensures.most
+returns-then-is_input-clause-most g c = λ red by none.
+    input_numbers (g.F.Folder.holds c.args.job.now.folder.now) c.args.name.now _ _ _ _ _ _ (sym c.is_input.ensures.is ∙ c.if-is_input.true) (c.redact_input.ensures.most red by none)
 
 pub returns-in-Ok-clause-most : goal.returns-in-Ok-clause-most
-returns-in-Ok-clause-most g c =
-    let opened = c.redact_opened.ensures.most in
+returns-in-Ok-clause-most g c = λ red by none.
+    let opened = c.redact_opened.ensures.most red by none in
     opened_numbers (g.F.Folder.holds c.args.job.now.folder.now) c.args.name.now _ _ _ _ _ _ (sym c.is_input.ensures.is ∙ c.if-is_input.false) refl _ opened.0 c.in-Ok.ensures.told opened.1
 
 pub returns-in-Err-clause-most : goal.returns-in-Err-clause-most
-returns-in-Err-clause-most g c = no_numbers (g.F.Folder.holds c.args.job.now.folder.now) c.args.name.now _ c.args.counts.now _
+returns-in-Err-clause-most g c = λ red by none. no_numbers (g.F.Folder.holds c.args.job.now.folder.now) c.args.name.now _ c.args.counts.now _

@@ -48,6 +48,6 @@ returns-clause-read g c = λ whole.
     (at_ok c.redact_metered.result (reading_whole c.redact_metered.result (sym c.reading_of.ensures.reading ∙ whole)) c.redact_metered.ensures.read)
 
 pub returns-clause-most : goal.returns-clause-most
-returns-clause-most g c =
+returns-clause-most g c = λ red by none.
     let left = ap (λ device. g.I.Read.remaining device.reader) c.restart.ensures.device in
-    numbers_text _ _ _ _ _ _ _ _ left c.redact_metered.ensures.most
+    numbers_text _ _ _ _ _ _ _ _ left (c.redact_metered.ensures.most red by none)

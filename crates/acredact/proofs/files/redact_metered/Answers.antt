@@ -16,6 +16,6 @@ returns-clause-counted g c = λ red by.
     on_ok_weaker c.redact_with-taken.result.done (λ whole. search rules) (c.redact_with-taken.ensures.counted red by)
 
 pub returns-clause-most : goal.returns-clause-most
-returns-clause-most g c =
+returns-clause-most g c = λ red by none.
     let same = sym c.redact_with-taken.ensures.same in
-    numbers_there _ c.args.input.now _ _ c.args.counts.now c.redact_with-taken.new.counts c.args.volume.now.bytes c.redact_with-taken.result.bytes (search rules) c.redact_with-taken.ensures.most
+    numbers_there _ c.args.input.now _ _ c.args.counts.now c.redact_with-taken.new.counts c.args.volume.now.bytes c.redact_with-taken.result.bytes (search rules) (c.redact_with-taken.ensures.most red by none)

@@ -29,8 +29,8 @@ returns-clause-read g c = λ whole. (
 )
 
 pub returns-clause-most : goal.returns-clause-most
-returns-clause-most g c = (
+returns-clause-most g c = λ red by none. (
   bytes_left c.redact_input.new.input,
   subst (λ (left : Option (List ℕ)). NumbersRead c.args.counts.now c.redact_input.new.counts c.args.volume.now.bytes c.redact_input.new.volume.bytes left (bytes_left c.redact_input.new.input))
-      (ap g.I.Read.remaining c.new-source.ensures.reader) c.redact_input.ensures.most,
+      (ap g.I.Read.remaining c.new-source.ensures.reader) (c.redact_input.ensures.most red by none),
 )

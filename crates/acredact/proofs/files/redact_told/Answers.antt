@@ -18,4 +18,4 @@ redact_apart-requires g c = record {
 }
 
 pub returns-then-is_output-clause-most : goal.returns-then-is_output-clause-most
-returns-then-is_output-clause-most g c = no_numbers (g.F.Folder.holds c.args.job.now.folder.now) c.args.name.now _ c.args.counts.now _
+returns-then-is_output-clause-most g c = λ red by none. no_numbers (g.F.Folder.holds c.args.job.now.folder.now) c.args.name.now _ c.args.counts.now _

@@ -48,8 +48,8 @@ pub returns-clause-same : goal.returns-clause-same
 returns-clause-same g c = c.redact-done.new.source.same ∙ c.requires.name
 
 pub returns-clause-most : goal.returns-clause-most
-returns-clause-most g c =
+returns-clause-most g c = λ red by none.
     let meter = c.redact-done.new.source in
-    let most = c.redact-done.ensures.most in
+    let most = c.redact-done.ensures.most red by.by none in
     numbers_of g.S.Source c.args.lent.source.now meter.lent.source.now c.args.counts.now c.redact-done.new.counts meter.settled g.K.Known.whole g.K.Known.start c.args.bytes meter.bytes most.given most.ended
     c.requires.whole c.requires.start most.gives.bytes most.gives.end meter.metered most.counted

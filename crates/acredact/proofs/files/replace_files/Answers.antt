@@ -12,7 +12,7 @@ redact_flushed-requires g c =
       ready = (
         redactor_of c.args.job.now p,
         record {
-          by = redactor_is g.A.Automaton _ p _ _ _ _ _ _ of c.requires.plain (words_of_plain _ c.args.job.now.words c.requires.plain) (key_of_plain _ c.args.job.now.key c.requires.plain) c.requires.ready;
+          by = redactor_is g.A.Automaton _ p _ _ _ _ _ _ of c.requires.plain (words_of_plain _ c.args.job.now.words c.requires.plain) (key_of_plain _ c.args.job.now.key c.requires.plain) (unlined_plain g c) (ready_plain g c);
           some = some_of g.A.Automaton _ p (g.met.A.Automaton.laws _ _ of).lengths_are c.requires.ready.begins;
         },
       );
@@ -21,13 +21,13 @@ redact_flushed-requires g c =
 pub returns-clause-outcome : goal.returns-clause-outcome
 returns-clause-outcome g c = λ p of.
     c.redact_flushed.ensures.outcome (redactor_of c.args.job.now p) (record {
-      by = redactor_is g.A.Automaton _ p _ _ _ _ _ _ of c.requires.plain (words_of_plain _ c.args.job.now.words c.requires.plain) (key_of_plain _ c.args.job.now.key c.requires.plain) c.requires.ready;
+      by = redactor_is g.A.Automaton _ p _ _ _ _ _ _ of c.requires.plain (words_of_plain _ c.args.job.now.words c.requires.plain) (key_of_plain _ c.args.job.now.key c.requires.plain) (unlined_plain g c) (ready_plain g c);
       some = some_of g.A.Automaton _ p (g.met.A.Automaton.laws _ _ of).lengths_are c.requires.ready.begins;
     })
 
 pub returns-clause-counted : goal.returns-clause-counted
 returns-clause-counted g c = λ p of.
     c.redact_flushed.ensures.counted (redactor_of c.args.job.now p) (record {
-      by = redactor_is g.A.Automaton _ p _ _ _ _ _ _ of c.requires.plain (words_of_plain _ c.args.job.now.words c.requires.plain) (key_of_plain _ c.args.job.now.key c.requires.plain) c.requires.ready;
+      by = redactor_is g.A.Automaton _ p _ _ _ _ _ _ of c.requires.plain (words_of_plain _ c.args.job.now.words c.requires.plain) (key_of_plain _ c.args.job.now.key c.requires.plain) (unlined_plain g c) (ready_plain g c);
       some = some_of g.A.Automaton _ p (g.met.A.Automaton.laws _ _ of).lengths_are c.requires.ready.begins;
     })

@@ -1,5 +1,5 @@
 -- The replacement is that of the patterns of both.
-use Rattle.std.proofs.Common.{rules, ◌≡◌, length, sym, subst}
+use Rattle.std.proofs.Common.{rules, ◌≡◌, ap, length, sym, subst}
 use Rattle.std.specs.Prelude.{OnOk}
 use Rattle.std.proofs.lemmas.Result.{on_ok_weaker}
 use Rattle.acredact.specs.Secrets.{Redactor}
@@ -22,9 +22,9 @@ returns-clause-outcome g c = λ red by.
 pub returns-clause-counted : goal.returns-clause-counted
 returns-clause-counted g c = λ red by.
     let none : length c.args.counts.now ≡ 0 = search rules in
-    on_ok_weaker c.redact_back.result (λ whole. uncounted g.R.Source red _ _ _ _ c.args.counts.now none whole)
+    on_ok_weaker c.redact_back.result (λ whole. uncounted g.R.Source red (ap (λ (q : Redactor). q.lines) by.forward.is) _ _ _ _ c.args.counts.now none whole)
     (subst (λ (q : Redactor). OnOk c.redact_back.result (RedactsStream g.R.Source g.W.Sink q c.args.source.now c.redact_back.new.source c.args.sink.now c.redact_back.new.sink)) (sym by.forward.is)
     (c.redact_back.ensures.outcome red.patterns by.backward).redacted)
 
 pub returns-clause-most : goal.returns-clause-most
-returns-clause-most g c = ungrown g.R.Source _ _ _ _ c.args.counts.now (c.redact_back.ensures.outcome c.requires.ready.0.patterns c.requires.ready.1.backward).begun
+returns-clause-most g c = λ red by none. ungrown g.R.Source _ _ _ _ c.args.counts.now (c.redact_back.ensures.outcome c.requires.ready.0.patterns c.requires.ready.1.backward).begun

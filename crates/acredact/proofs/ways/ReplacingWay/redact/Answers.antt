@@ -1,5 +1,5 @@
 -- The replacement is that of the automaton's patterns.
-use Rattle.std.proofs.Common.{rules, ◌≡◌, length, sym, subst}
+use Rattle.std.proofs.Common.{rules, ◌≡◌, ap, length, sym, subst}
 use Rattle.std.specs.Prelude.{OnOk}
 use Rattle.std.proofs.lemmas.Result.{on_ok_weaker}
 use Rattle.acredact.specs.Secrets.{Redactor}
@@ -28,7 +28,7 @@ returns-clause-outcome g c = λ red by.
 pub returns-then-is_empty-clause-counted : goal.returns-then-is_empty-clause-counted
 returns-then-is_empty-clause-counted g c = λ red by.
     let none : length c.args.counts.now ≡ 0 = search rules in
-    on_ok_weaker c.redact.result (λ whole. uncounted g.R.Source red _ _ _ _ c.args.counts.now none whole)
+    on_ok_weaker c.redact.result (λ whole. uncounted g.R.Source red (ap (λ (q : Redactor). q.lines) by.is) _ _ _ _ c.args.counts.now none whole)
     (subst (λ (q : Redactor). OnOk c.redact.result (RedactsStream g.R.Source g.W.Sink q c.args.source.now c.redact.new.source c.args.sink.now c.redact.new.sink)) (sym by.is)
     (c.redact.ensures.outcome red.patterns by.of).redacted)
 
@@ -38,4 +38,7 @@ returns-clause-counted g c = λ red by.
     (c.redact_counting.ensures.counted red.patterns by.of)
 
 pub returns-then-is_empty-clause-most : goal.returns-then-is_empty-clause-most
-returns-then-is_empty-clause-most g c = ungrown g.R.Source _ _ _ _ c.args.counts.now (c.redact.ensures.outcome c.requires.ready.0.patterns c.requires.ready.1.of).begun
+returns-then-is_empty-clause-most g c = λ red by none. ungrown g.R.Source _ _ _ _ c.args.counts.now (c.redact.ensures.outcome c.requires.ready.0.patterns c.requires.ready.1.of).begun
+
+pub returns-clause-most : goal.returns-clause-most
+returns-clause-most g c = λ red by none. c.redact_counting.ensures.most
