@@ -1,6 +1,6 @@
 -- What comes of a call, by what comes of its files.
 use Rattle.std.proofs.Common.{◌≡◌, inl, inr, ℕ, List, [], ◌∷◌, ◌++◌, Option, true, false, refl, sym, ap, subst, ◌∙◌, append-nil}
-use Rattle.std.specs.Prelude.{Bool, MatchBool, Result, Ok, Err, IfErr, IfOk, OnOk}
+use Rattle.std.specs.Prelude.{Bool, MatchBool, None, Some, Result, Ok, Err, IfErr, IfOk, OnOk, length}
 use Rattle.std.specs.List.{All, concat}
 use Rattle.std.specs.declared.io.traits.Read.{Ghosts as Readers}
 use Rattle.std.specs.declared.io.traits.Write.{Ghosts as Writers}
@@ -18,25 +18,25 @@ use Rattle.programs.specs.declared.failure.Failure.TheVariants.{Build, OutOfMemo
 use Rattle.programs.specs.declared.reason.Reason.{Reason}
 use Rattle.programs.proofs.Tellings.{tells-later}
 use Rattle.acredact.specs.Arguments.{Given, counts_asked}
-use Rattle.acredact.specs.Calls.{AreBounded, BeginsCall, Call, CallOutcome, IsBuildRefusal, IsCountsFailure, IsCountsLine, IsLineOf, IsRunFailure, IsUnreadLine, IsUntouched, IsWordLine, MayFail, OutputFails, RestOutcome, RunOutcome, TellsCounts, TellsNumbers, names_asked, reading_by, work_by}
-use Rattle.acredact.specs.Counts.{secret_lines, zeros}
+use Rattle.acredact.specs.Calls.{AreBounded, BeginsCall, Call, CallOutcome, IsBuildRefusal, IsCountsFailure, IsCountsLine, IsLineOf, IsNumbersLine, IsRunFailure, IsUnreadLine, IsUntouched, IsWordLine, MayFail, OutputFails, RestOutcome, RunOutcome, TellsCounts, TellsLong, TellsNumbers, names_asked, reading_by, work_by}
 use Rattle.acredact.specs.Files.{AreCut, FilesOutcome, IsDone, Work, are_none, unread_line}
 use Rattle.acredact.specs.Messages.{output_line}
-use Rattle.acredact.specs.Loading.{AreLoaded, CannotLoadAll, Loaded, loaded_as}
-use Rattle.acredact.specs.Secrets.{Keyed}
-use Rattle.acredact.specs.Summaries.{no_volume, totals_text}
+use Rattle.acredact.specs.LineRules.{LinesLoaded, numbers_with}
+use Rattle.acredact.specs.Loading.{AreLoaded, CannotLoadAll, Loaded}
+use Rattle.acredact.specs.Secrets.{Keyed, LineCovered}
+use Rattle.acredact.specs.Summaries.{IsToldOf, no_volume}
 use Rattle.acredact.specs.Sums.{sums_of}
-use Rattle.acredact.specs.Tables.{Secret, secrets_of}
+use Rattle.acredact.specs.Tables.{Secret}
 use Rattle.acredact.specs.Totals.{CountsOfNames}
 use Rattle.acredact.specs.Volumes.{ReadsVolume}
 use Rattle.acredact.specs.declared.clean.Unclean.{Unclean}
 use Rattle.acredact.specs.declared.failure.Failure.{Failure}
 use Rattle.acredact.specs.declared.failure.Failure.TheVariants.{Counts, Other, Unclean as UncleanPiece}
-use Rattle.acredact.specs.declared.patterns.Rule.{Rule}
 use Rattle.acredact.specs.declared.streams.Streams.{Streams}
 use Rattle.acredact.specs.declared.summary.Volume.{Volume}
 use Rattle.acredact.proofs.Done.{concat_both, cut_of, redacted_of, tells_none}
-use Rattle.acredact.proofs.Totals.{totals_told}
+use Rattle.acredact.proofs.Totals.{WereZero, totals_told}
+use Rattle.acredact.proofs.Unruled.{unruled_lines}
 
 -- no line is one
 pub none_are : (lines : List (List ℕ)) → are_none lines ≡ true → lines ≡ []
@@ -70,14 +70,11 @@ tells_same K IsLine old new same = record { told = []; are_lines = All-nil IsLin
 pub tells_line : {E : Type 0} (K : SinkGhosts E) (old new : Errors E) (line : List ℕ) → TellsBytes K old new line → Tells K (λ other. other ≡ line) old new
 tells_line K old new line told = record { told = line ∷ []; are_lines = All-cons (λ other. other ≡ line) line [] refl (All-nil (λ other. other ≡ line)); written = subst (TellsBytes K old new) (sym (append-nil line)) told }
 
--- the text of the counts was
-pub tells_counts : {E : Type 0} (K : SinkGhosts E) (given : List Given) (old new : Errors E) (secrets : List Secret) (counts : List ℕ) (volume : Volume) → counts_asked given ≡ true
-    → TellsBytes K old new (totals_text given (secret_lines secrets) counts volume) → Tells K (IsCountsLine given secrets) old new
-tells_counts K given old new secrets counts volume is told = record {
-  told = totals_text given (secret_lines secrets) counts volume ∷ [];
-  are_lines = All-cons (IsCountsLine given secrets) (totals_text given (secret_lines secrets) counts volume) [] (is, (counts, volume, refl)) (All-nil (IsCountsLine given secrets));
-  written = subst (TellsBytes K old new) (sym (append-nil (totals_text given (secret_lines secrets) counts volume))) told;
-}
+-- what is told of counts is such a line
+pub told_is_counts : (given : List Given) (secrets : List Secret) (lines : Option LinesLoaded) (counts : List ℕ) (volume : Volume) (line : List ℕ) → counts_asked given ≡ true
+    → IsToldOf given secrets lines counts volume line → IsCountsLine given secrets lines line
+told_is_counts given secrets None counts volume line is told = (is, (sums_of secrets counts, volume, told))
+told_is_counts given secrets (Some loaded) counts volume line is told = (counts, volume, told)
 
 -- before anything was touched
 module _ {R : Type 0} {Reads : Readers R} {W E : Type 0} (Writes : Writers W) (K : SinkGhosts E) (work : Work) where
@@ -121,7 +118,7 @@ module _ {R : Type 0} {Reads : Readers R} {W E : Type 0} (Writes : Writers W) (K
     partly = λ (is : Err failure ≡ Ok false). absurd (cc);
     fails = fails;
     told = record { told = []; are_lines = All-nil _; written = tells_none K old.errors };
-    numbers = inl (tells_same K (IsWordLine call) old.errors old.errors refl);
+    numbers = λ none. inl (tells_same K (IsWordLine call) old.errors old.errors refl);
   }
 
 -- why a run fails, and that it is no piece
@@ -145,6 +142,7 @@ may_fail call fails failure is = inr (inr (inr (inr (inr (inl is)))))
 -- one of the options cannot be loaded, or memory runs out for the forms
 pub load_fails : (call : Call) (fails : Type 0) (failure : Failure) → CannotLoadAll (reading_by call) call.given failure → MayFail call fails failure
 load_fails call fails failure (inl one) = inr (inl (inl one))
+
 load_fails call fails failure (inr memory) = may_fail call fails failure (inl memory)
 
 -- the files of a call whose patterns were loaded
@@ -174,7 +172,7 @@ module _ {R : Type 0} {Reads : Readers R} {W E : Type 0} (Writes : Writers W) (K
       partly = λ (is : Err failure ≡ Ok false). absurd (cc);
       fails = may_fail call _ failure run.fails;
       other = λ unclean is. run_other _ failure unclean run.fails is;
-      numbers = inl (elim run.cut [
+      numbers = λ unruled. inl (elim run.cut [
         | inl same ↦ tells_same K (IsWordLine call) old.errors mid.errors (ap (λ (s : Streams R W E Reads). s.errors) same)
         | inr cut ↦ words_told cut.0 _ _ _ cut.1.0 mid.errors cut.1.1
       ]);
@@ -186,17 +184,17 @@ module _ {R : Type 0} {Reads : Readers R} {W E : Type 0} (Writes : Writers W) (K
 
     -- the lines of the files, and then those of the counts
     lines_both : (left between : Option (List ℕ)) (loaded : AreLoaded (reading_by call) call.given load left between) (fails : Type 0) (lines more : List (List ℕ)) (errors : Errors E)
-        → All (IsLineOf call fails) lines → All (IsCountsLine call.given load.secrets) more
+        → All (IsLineOf call fails) lines → All (IsCountsLine call.given load.secrets load.lines) more
         → TellsBytes K old.errors mid.errors (concat lines) → TellsBytes K mid.errors errors (concat more) → Tells K (IsLineOf call fails) old.errors errors
     lines_both left between loaded fails lines more errors are counts first later = record {
       told = lines ++ more;
-      are_lines = All-append (IsLineOf call fails) lines more are (All-weaker (IsCountsLine call.given load.secrets) (IsLineOf call fails) (λ line is. inr (inr (inl (load, left, between, loaded, is)))) more counts);
+      are_lines = All-append (IsLineOf call fails) lines more are (All-weaker (IsCountsLine call.given load.secrets load.lines) (IsLineOf call fails) (λ line is. inr (inr (inl (load, left, between, loaded, is)))) more counts);
       written = subst (TellsBytes K old.errors errors) (sym (concat_both lines more)) (tells-later K first later);
     }
 
     -- one or more, where some are
     some_both : (left between : Option (List ℕ)) (loaded : AreLoaded (reading_by call) call.given load left between) (fails : Type 0) (lines more : List (List ℕ)) (errors : Errors E)
-        → false ≡ are_none lines → All (IsLineOf call fails) lines → All (IsCountsLine call.given load.secrets) more
+        → false ≡ are_none lines → All (IsLineOf call fails) lines → All (IsCountsLine call.given load.secrets load.lines) more
         → TellsBytes K old.errors mid.errors (concat lines) → TellsBytes K mid.errors errors (concat more) → TellsSome K (IsLineOf call fails) old.errors errors
     unfolding lines_both
     some_both left between loaded fails [] more errors none are counts first later = absurd (cc)
@@ -204,71 +202,75 @@ module _ {R : Type 0} {Reads : Readers R} {W E : Type 0} (Writes : Writers W) (K
         let all = lines_both left between loaded fails (line ∷ lines) more errors are counts first later in
         record { first = line; is_line = All-head (IsLineOf call fails) line (lines ++ more) all.are_lines; more = lines ++ more; are_lines = All-tail (IsLineOf call fails) line (lines ++ more) all.are_lines; written = all.written }
 
-  -- those whose patterns were loaded as these rules, where all was done
-  module _ (rules : List Rule) (key : Option (List ℕ)) (left between : Option (List ℕ)) (loaded : AreLoaded (reading_by call) call.given (loaded_as rules key) left between) (counts : List ℕ) (volume : Volume) (old mid : Streams R W E Reads) where
+  -- those of a call whose patterns and rules were loaded, where all was done
+  module _ (load : Loaded) (left between : Option (List ℕ)) (loaded : AreLoaded (reading_by call) call.given load left between) (start counts : List ℕ) (volume : Volume) (old mid : Streams R W E Reads) where
     -- the numbers, whatever becomes of them
     abbrev Bounded : Type 0
-    Bounded = AreBounded call.holds (names_asked call.given) (sums_of (secrets_of rules) counts) volume (bytes_left old.input) (bytes_left mid.input)
+    Bounded = load.lines ≡ None → AreBounded call.holds (names_asked call.given) (sums_of load.secrets counts) volume (bytes_left old.input) (bytes_left mid.input)
 
-    abbrev IsTotals : List ℕ → Type 0
-    IsTotals line = line ≡ totals_text call.given (secret_lines (secrets_of rules)) (sums_of (secrets_of rules) counts) volume
+    abbrev IsTold : List ℕ → Type 0
+    IsTold line = IsToldOf call.given load.secrets load.lines counts volume line
 
-    numbers_behind : (lines : List (List ℕ)) (held held' : Option (List ℕ)) → AreCut (work_by call (loaded_as rules key)) (work_by call (loaded_as rules key)).names lines (bytes_left old.input) (bytes_left mid.input) held held'
-        → TellsBytes K old.errors mid.errors (concat lines) → Bounded → (errors : Errors E) → Tells K IsTotals mid.errors errors → TellsNumbers K call (secrets_of rules) (bytes_left old.input) (bytes_left mid.input) old.errors errors
-    numbers_behind lines held held' cut first bounded errors told = record {
-      counts = sums_of (secrets_of rules) counts;
+    numbers_behind : (lines : List (List ℕ)) (held held' : Option (List ℕ)) → AreCut (work_by call load) (work_by call load).names lines (bytes_left old.input) (bytes_left mid.input) held held'
+        → TellsBytes K old.errors mid.errors (concat lines) → Bounded → (errors : Errors E) → Tells K IsTold mid.errors errors → load.lines ≡ None
+        → TellsNumbers K call load.secrets load.lines (bytes_left old.input) (bytes_left mid.input) old.errors errors
+    numbers_behind lines held held' cut first bounded errors told unlined = record {
+      counts = sums_of load.secrets counts;
       volume = volume;
-      bounded = bounded;
+      bounded = bounded unlined;
       meanwhile = mid.errors;
-      words = words_told (loaded_as rules key) old mid lines (bytes_left mid.input) held held' cut mid.errors first;
-      told = told;
+      words = words_told load old mid lines (bytes_left mid.input) held held' cut mid.errors first;
+      told = subst (λ (x : Option LinesLoaded). Tells K (IsNumbersLine call.given load.secrets x (sums_of load.secrets counts) volume) mid.errors errors) (sym unlined)
+          (subst (λ (x : Option LinesLoaded). Tells K (IsToldOf call.given load.secrets x counts volume) mid.errors errors) unlined told);
     }
 
     abbrev Counted : Bool → Bool → Type 0
-    Counted counted all = all ≡ true → CountsOfNames (bytes_left old.input) (bytes_left mid.input) (zeros counted rules) counts (work_by call (loaded_as rules key)) (names_asked call.given)
+    Counted counted all = all ≡ true → CountsOfNames (bytes_left old.input) (bytes_left mid.input) start counts (work_by call load) (names_asked call.given)
         × ReadsVolume call.holds (names_asked call.given) no_volume volume (bytes_left old.input) (bytes_left mid.input)
 
+    abbrev Told : Bool → Errors E → Errors E → Type 0
+    Told counted before errors = MatchBool counted (TellsCounts K call.given load.secrets load.lines counts volume before errors) (TellsLong K load.lines load.secrets counts before errors)
+
     -- the counts are told
-    rest_done : (all : Bool) (errors : Errors E) → RunOutcome Writes K (work_by call (loaded_as rules key)) (Ok all) old mid → Counted (counts_asked call.given) all
-        → MatchBool (counts_asked call.given) (TellsCounts K call.given rules counts volume mid.errors errors) (errors ≡ mid.errors) → Tells K (IsCountsLine call.given (secrets_of rules)) mid.errors errors → Bounded → Tells K IsTotals mid.errors errors
-        → RestOutcome Writes K call (loaded_as rules key) (Ok all) old (record mid { errors = errors })
-    rest_done all errors run grown are_told told bounded totals =
+    rest_done : (all : Bool) (errors : Errors E) → RunOutcome Writes K (work_by call load) (Ok all) old mid → (counts_asked call.given ≡ true → WereZero (numbers_with load.lines (length load.secrets)) start) → Counted (counts_asked call.given) all
+        → Told (counts_asked call.given) mid.errors errors → Tells K (IsCountsLine call.given load.secrets load.lines) mid.errors errors → Bounded → Tells K IsTold mid.errors errors
+        → RestOutcome Writes K call load (Ok all) old (record mid { errors = errors })
+    rest_done all errors run zero grown are_told told bounded totals =
         let (lines, is_all, (done, first)) = run.done in
-        let cut = cut_of (work_by call (loaded_as rules key)) _ lines _ _ _ _ done in
-        let are = λ (fails : Type 0). lines_cut (loaded_as rules key) old mid fails lines _ _ _ cut in
+        let cut = cut_of (work_by call load) _ lines _ _ _ _ done in
+        let are = λ (fails : Type 0). lines_cut load old mid fails lines _ _ _ cut in
         record {
           redacts = λ (is : Ok all ≡ Ok true).
               let so : all ≡ true = cc in
-              redacted_of (work_by call (loaded_as rules key)) _ lines _ _ _ _ (none_are lines (sym is_all ∙ so)) done;
+              redacted_of (work_by call load) _ lines _ _ _ _ (none_are lines (sym is_all ∙ so)) done;
           begins = inr (lines, cut);
-          quiet = λ none (is : Ok all ≡ Ok true). subst (λ (b : Bool). MatchBool b (TellsCounts K call.given rules counts volume mid.errors errors) (errors ≡ mid.errors)) none are_told ∙ run.quiet is;
+          quiet = λ none (is : Ok all ≡ Ok true). (counts, subst (λ (e : Errors E). TellsLong K load.lines load.secrets counts e errors) (run.quiet is) (subst (λ (b : Bool). Told b mid.errors errors) none are_told));
           counts = λ some (is : Ok all ≡ Ok true).
               let so : all ≡ true = cc in
-              let ((ranges, found, counted), read) = subst (λ (b : Bool). Counted b all) some grown so in (
+              let ((ranges, found, counted), read) = grown so in (
                 ranges,
                 found,
                 volume,
                 read,
-                totals_told K call.given rules ranges counts volume old.errors errors counted
-                    (subst (λ (e : Errors E). TellsCounts K call.given rules counts volume e errors) (run.quiet is)
-                    (subst (λ (b : Bool). MatchBool b (TellsCounts K call.given rules counts volume mid.errors errors) (errors ≡ mid.errors)) some are_told)),
+                totals_told K call.given load.secrets load.lines start ranges counts volume old.errors errors (zero some) counted
+                    (subst (λ (e : Errors E). TellsCounts K call.given load.secrets load.lines counts volume e errors) (run.quiet is) (subst (λ (b : Bool). Told b mid.errors errors) some are_told)),
               );
           partly = λ (is : Ok all ≡ Ok false).
               let so : all ≡ false = cc in
-              some_both (loaded_as rules key) old mid left between loaded _ lines told.told errors (sym so ∙ is_all) (are _) told.are_lines first told.written;
+              some_both load old mid left between loaded _ lines told.told errors (sym so ∙ is_all) (are _) told.are_lines first told.written;
           fails = tt;
           told = tt;
           other = tt;
-          numbers = inr (numbers_behind lines _ _ cut first bounded errors totals);
+          numbers = λ unruled. inr (numbers_behind lines _ _ cut first bounded errors totals (unruled_lines call load left between unruled loaded));
         }
 
     -- or they are not
-    rest_untold : (all : Bool) (errors : Errors E) (failure : Failure) → RunOutcome Writes K (work_by call (loaded_as rules key)) (Ok all) old mid
-        → IsCountsFailure (counts_asked call.given) failure → Tells K (IsCountsLine call.given (secrets_of rules)) mid.errors errors → Bounded → Tells K IsTotals mid.errors errors
-        → RestOutcome Writes K call (loaded_as rules key) (Err failure) old (record mid { errors = errors })
+    rest_untold : (all : Bool) (errors : Errors E) (failure : Failure) → RunOutcome Writes K (work_by call load) (Ok all) old mid
+        → IsCountsFailure (counts_asked call.given) failure → Tells K (IsCountsLine call.given load.secrets load.lines) mid.errors errors → Bounded → Tells K IsTold mid.errors errors
+        → RestOutcome Writes K call load (Err failure) old (record mid { errors = errors })
     rest_untold all errors failure run fails told bounded totals =
         let (lines, is_all, (done, first)) = run.done in
-        let cut = cut_of (work_by call (loaded_as rules key)) _ lines _ _ _ _ done in
+        let cut = cut_of (work_by call load) _ lines _ _ _ _ done in
         record {
           redacts = λ (is : Err failure ≡ Ok true). absurd (cc);
           begins = inr (lines, cut);
@@ -280,31 +282,31 @@ module _ {R : Type 0} {Reads : Readers R} {W E : Type 0} (Writes : Writers W) (K
             | inr memory ↦ may_fail call _ failure (inl memory)
           ];
           other = λ unclean is. counts_other (counts_asked call.given) failure unclean fails is;
-          numbers = inr (numbers_behind lines _ _ cut first bounded errors totals);
-          told = lines_both (loaded_as rules key) old mid left between loaded _ lines told.told errors (lines_cut (loaded_as rules key) old mid _ lines _ _ _ cut) told.are_lines first told.written;
+          numbers = λ unruled. inr (numbers_behind lines _ _ cut first bounded errors totals (unruled_lines call load left between unruled loaded));
+          told = lines_both load old mid left between loaded _ lines told.told errors (lines_cut load old mid _ lines _ _ _ cut) told.are_lines first told.written;
         }
 
     -- by what is answered of that
-    pub rest_told : (all counted : Bool) (result : Result Bool Failure) (errors : Errors E) → counted ≡ counts_asked call.given → RunOutcome Writes K (work_by call (loaded_as rules key)) (Ok all) old mid
-        → Counted counted all → IfOk result (λ done. done ≡ all) → OnOk result (MatchBool counted (TellsCounts K call.given rules counts volume mid.errors errors) (errors ≡ mid.errors))
-        → IfErr result (IsCountsFailure counted) → Tells K (IsCountsLine call.given (secrets_of rules)) mid.errors errors → Bounded → Tells K IsTotals mid.errors errors → RestOutcome Writes K call (loaded_as rules key) result old (record mid { errors = errors })
-    rest_told all counted (Ok done) errors is run grown same are_told fails told bounded totals =
-        subst (λ (b : Bool). RestOutcome Writes K call (loaded_as rules key) (Ok b) old (record mid { errors = errors })) (sym same)
-        (rest_done all errors run (subst (λ (b : Bool). Counted b all) is grown) (subst (λ (b : Bool). MatchBool b (TellsCounts K call.given rules counts volume mid.errors errors) (errors ≡ mid.errors)) is are_told)
-        told bounded totals)
-    rest_told all counted (Err failure) errors is run grown same are_told fails told bounded totals =
+    pub rest_told : (all counted : Bool) (result : Result Bool Failure) (errors : Errors E) → counted ≡ counts_asked call.given → RunOutcome Writes K (work_by call load) (Ok all) old mid
+        → (counted ≡ true → WereZero (numbers_with load.lines (length load.secrets)) start) → Counted counted all → IfOk result (λ done. done ≡ all) → OnOk result (Told counted mid.errors errors)
+        → IfErr result (IsCountsFailure counted) → Tells K (IsCountsLine call.given load.secrets load.lines) mid.errors errors → Bounded → Tells K IsTold mid.errors errors → RestOutcome Writes K call load result old (record mid { errors = errors })
+    rest_told all counted (Ok done) errors is run zero grown same are_told fails told bounded totals =
+        subst (λ (b : Bool). RestOutcome Writes K call load (Ok b) old (record mid { errors = errors })) (sym same)
+        (rest_done all errors run (λ some. zero (is ∙ some)) grown (subst (λ (b : Bool). Told b mid.errors errors) is are_told) told bounded totals)
+    rest_told all counted (Err failure) errors is run zero grown same are_told fails told bounded totals =
         rest_untold all errors failure run (subst (λ (b : Bool). IsCountsFailure b failure) is fails) told bounded totals
 
 -- what holds of some work holds of the same with the same names, pieces, key and way
-pub work_as : (holds : List ℕ → Option (List ℕ)) (refuses : List ℕ → Reason → Type 0) (meets : List ℕ → Bool → Type 0) (p : Patterns) (names names' pieces pieces' : List (List ℕ)) (covers covers' words words' : Bool) (key key' : Option Keyed) → names ≡ names' → covers ≡ covers' → words ≡ words' → pieces ≡ pieces' → key ≡ key'
-    → (P : Work → Type 0) → P (record { holds = holds; refuses = refuses; meets = meets; names = names; redactor = record { patterns = p; covers = covers; words = words; pieces = pieces; key = key } })
-    → P (record { holds = holds; refuses = refuses; meets = meets; names = names'; redactor = record { patterns = p; covers = covers'; words = words'; pieces = pieces'; key = key' } })
-work_as holds refuses meets p names names' pieces pieces' covers covers' words words' key key' same by chosen alike keyed P is =
-    subst (λ (k : Option Keyed). P (record { holds = holds; refuses = refuses; meets = meets; names = names'; redactor = record { patterns = p; covers = covers'; words = words'; pieces = pieces'; key = k } })) keyed
-    (subst (λ (l : List (List ℕ)). P (record { holds = holds; refuses = refuses; meets = meets; names = names'; redactor = record { patterns = p; covers = covers'; words = words'; pieces = l; key = key } })) alike
-    (subst (λ (b : Bool). P (record { holds = holds; refuses = refuses; meets = meets; names = names'; redactor = record { patterns = p; covers = covers'; words = b; pieces = pieces; key = key } })) chosen
-    (subst (λ (b : Bool). P (record { holds = holds; refuses = refuses; meets = meets; names = names'; redactor = record { patterns = p; covers = b; words = words; pieces = pieces; key = key } })) by
-    (subst (λ (l : List (List ℕ)). P (record { holds = holds; refuses = refuses; meets = meets; names = l; redactor = record { patterns = p; covers = covers; words = words; pieces = pieces; key = key } })) same is))))
+pub work_as : (holds : List ℕ → Option (List ℕ)) (refuses : List ℕ → Reason → Type 0) (meets : List ℕ → Bool → Type 0) (p : Patterns) (names names' pieces pieces' : List (List ℕ)) (covers covers' words words' : Bool) (key key' : Option Keyed) (lines lines' : Option LineCovered) → names ≡ names' → covers ≡ covers' → words ≡ words' → pieces ≡ pieces' → key ≡ key' → lines ≡ lines'
+    → (P : Work → Type 0) → P (record { holds = holds; refuses = refuses; meets = meets; names = names; redactor = record { patterns = p; covers = covers; words = words; pieces = pieces; key = key; lines = lines } })
+    → P (record { holds = holds; refuses = refuses; meets = meets; names = names'; redactor = record { patterns = p; covers = covers'; words = words'; pieces = pieces'; key = key'; lines = lines' } })
+work_as holds refuses meets p names names' pieces pieces' covers covers' words words' key key' lines lines' same by chosen alike keyed lined P is =
+    subst (λ (l : Option LineCovered). P (record { holds = holds; refuses = refuses; meets = meets; names = names'; redactor = record { patterns = p; covers = covers'; words = words'; pieces = pieces'; key = key'; lines = l } })) lined
+    (subst (λ (k : Option Keyed). P (record { holds = holds; refuses = refuses; meets = meets; names = names'; redactor = record { patterns = p; covers = covers'; words = words'; pieces = pieces'; key = k; lines = lines } })) keyed
+    (subst (λ (l : List (List ℕ)). P (record { holds = holds; refuses = refuses; meets = meets; names = names'; redactor = record { patterns = p; covers = covers'; words = words'; pieces = l; key = key; lines = lines } })) alike
+    (subst (λ (b : Bool). P (record { holds = holds; refuses = refuses; meets = meets; names = names'; redactor = record { patterns = p; covers = covers'; words = b; pieces = pieces; key = key; lines = lines } })) chosen
+    (subst (λ (b : Bool). P (record { holds = holds; refuses = refuses; meets = meets; names = names'; redactor = record { patterns = p; covers = b; words = words; pieces = pieces; key = key; lines = lines } })) by
+    (subst (λ (l : List (List ℕ)). P (record { holds = holds; refuses = refuses; meets = meets; names = l; redactor = record { patterns = p; covers = covers; words = words; pieces = pieces; key = key; lines = lines } })) same is)))))
 
 -- a call as it is from a state whose input was read further
 module _ {R : Type 0} {Reads : Readers R} {W E : Type 0} (Writes : Writers W) (K : SinkGhosts E) (call : Call) (left : Option (List ℕ)) where

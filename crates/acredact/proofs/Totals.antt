@@ -15,7 +15,8 @@ use Rattle.acredact.specs.Calls.{TellsCounts, TellsTotals}
 use Rattle.acredact.specs.Counts.{zeros}
 use Rattle.acredact.specs.Files.{Work}
 use Rattle.acredact.specs.Secrets.{Redactor}
-use Rattle.acredact.specs.Tables.{secret_of, secrets_of}
+use Rattle.acredact.specs.LineRules.{LinesLoaded, numbers_with}
+use Rattle.acredact.specs.Tables.{Secret, secret_of, secrets_of}
 use Rattle.acredact.specs.Totals.{AreTotals, CountsOfName, CountsOfNames, CountsOfStream, CountsOfText, HasRanges, NameHasRanges, NamesHaveRanges}
 use Rattle.acredact.specs.declared.patterns.Rule.{Rule}
 use Rattle.acredact.specs.declared.summary.Volume.{Volume}
@@ -96,21 +97,27 @@ zero_at [] number = refl
 zero_at (rule ∷ rules) zero = refl
 zero_at (rule ∷ rules) (suc number) = zero_at rules number
 
--- so they are the totals
-totals_from : (rules : List Rule) (ranges : List Occurrence) (counts : List ℕ) → CountsThese ranges (zeros true rules) counts → AreTotals (length (secrets_of rules)) ranges counts
-totals_from rules ranges counts grown =
-    let sized : length (zeros true rules) ≡ length (secrets_of rules) = length-map rules (λ rule. 0) ∙ sym (length-map rules secret_of) in
-    record {
-      one_each = grown.as_many ∙ sized;
-      each = λ number within. omega (arith, grown.grown number (subst (λ (n : ℕ). number < n) (sym sized) within), zero_at rules number);
-    }
+-- so they are the totals, of counts that were zero before
+pub record WereZero (size : ℕ) (counts : List ℕ) : Type 0 where
+  pub one_each : length counts ≡ size
+  pub none : (number : ℕ) → number < size → slice_index counts number ≡ 0
+
+pub zeros_were : (rules : List Rule) → WereZero (length (secrets_of rules)) (zeros true rules)
+zeros_were rules = record { one_each = length-map rules (λ rule. 0) ∙ sym (length-map rules secret_of); none = λ number within. zero_at rules number }
+
+totals_from : (size : ℕ) (start : List ℕ) (ranges : List Occurrence) (counts : List ℕ) → WereZero size start → CountsThese ranges start counts → AreTotals size ranges counts
+totals_from size start ranges counts zero grown = record {
+  one_each = grown.as_many ∙ zero.one_each;
+  each = λ number within. omega (arith, grown.grown number (subst (λ (n : ℕ). number < n) (sym zero.one_each) within), zero.none number within);
+}
 
 -- and are told
-pub totals_told : {E : Type 0} (K : SinkGhosts E) (given : List Given) (rules : List Rule) (ranges : List Occurrence) (counts : List ℕ) (volume : Volume) (old new : Errors E) → CountsThese ranges (zeros true rules) counts → TellsCounts K given rules counts volume old new
-    → TellsTotals K given (secrets_of rules) ranges volume old new
-totals_told K given rules ranges counts volume old new grown told = record {
+pub totals_told : {E : Type 0} (K : SinkGhosts E) (given : List Given) (secrets : List Secret) (lines : Option LinesLoaded) (start : List ℕ) (ranges : List Occurrence) (counts : List ℕ) (volume : Volume) (old new : Errors E)
+    → WereZero (numbers_with lines (length secrets)) start → CountsThese ranges start counts → TellsCounts K given secrets lines counts volume old new
+    → TellsTotals K given secrets lines ranges volume old new
+totals_told K given secrets lines start ranges counts volume old new zero grown told = record {
   counts = counts;
-  totals = totals_from rules ranges counts grown;
+  totals = totals_from (numbers_with lines (length secrets)) start ranges counts zero grown;
   told = told.told;
   whole = told.whole;
 }

@@ -1,7 +1,7 @@
 -- Where no option gives rules lines are not looked at one by one.
 use Rattle.std.proofs.Common.{◌≡◌, ℕ, List, Option, true, false, refl, sym, ap, ◌∙◌}
-use Rattle.std.specs.Prelude.{Bool, ◌&&◌, None, Some, option_map, if◌then◌else◌}
-use Rattle.acredact.specs.Arguments.{Given, gives_rules, has}
+use Rattle.std.specs.Prelude.{Bool, ◌&&◌, None, Some, is_some, length, option_map, if◌then◌else◌}
+use Rattle.acredact.specs.Arguments.{Given, covers_asked, gives_rules, has}
 use Rattle.acredact.specs.Calls.{Call, lines_by, pieces_asked, reading_by, redactor_by_given}
 use Rattle.acredact.specs.LineRules.{LinesLoaded, fixed_at}
 use Rattle.acredact.specs.Loading.{AreLinesGiven, AreLoaded, Loaded, Reading, loaded_by}
@@ -11,6 +11,14 @@ use Rattle.acredact.specs.declared.arguments.Word.TheVariants.{Forms}
 no_and : (a b : Bool) → b ≡ false → (a && b) ≡ true → ⊥
 no_and true b is both = let clash : true ≡ false = sym both ∙ is in absurd (cc)
 no_and false b is both = let clash : false ≡ true = both in absurd (cc)
+
+both_and : (a b : Bool) → (a && b) ≡ true → (a ≡ true) × (b ≡ true)
+both_and true b both = (refl, both)
+both_and false b both = let clash : false ≡ true = both in absurd (cc)
+
+mapped_some : {A B : Type 0} (f : A → B) (x : Option A) → is_some (option_map f x) ≡ is_some x
+mapped_some f None = refl
+mapped_some f (Some x) = refl
 
 pub lines_none : (reading : Reading) (given : List Given) (lines : Option LinesLoaded) (left left' : Option (List ℕ)) → gives_rules given ≡ false → AreLinesGiven reading given lines left left' → lines ≡ None
 lines_none reading given None left left' none are = refl
@@ -32,3 +40,27 @@ unruled_lines call load left between none loaded =
 
 pub unlined_by : (call : Call) (load : Loaded) → load.lines ≡ None → (redactor_by_given call.given load).lines ≡ None
 unlined_by call load is = ap (option_map (lines_by (pieces_asked call.given load.secrets))) is
+
+-- where lines were loaded an option gives rules
+lines_ruled : (reading : Reading) (given : List Given) (lines : Option LinesLoaded) (left left' : Option (List ℕ)) → is_some lines ≡ true → AreLinesGiven reading given lines left left' → (covers_asked given ≡ true) × (gives_rules given ≡ true)
+lines_ruled reading given None left left' some are = let clash : false ≡ true = some in absurd (cc)
+lines_ruled reading given (Some lines) left left' some are = both_and (covers_asked given) (gives_rules given) are.0
+
+loaded_some : (given : List Given) (secrets : List Secret) (lines : Option LinesLoaded) (key : Option (List ℕ)) → is_some (loaded_by given secrets lines key).lines ≡ is_some lines
+loaded_some given secrets lines None = refl
+loaded_some given secrets lines (Some key) = by (has Forms given) lines
+  where
+    by : (b : Bool) (x : Option LinesLoaded) → is_some (if b then option_map (fixed_at (length secrets)) x else x) ≡ is_some x
+    by true None = refl
+    by true (Some x) = refl
+    by false x = refl
+
+lines_are : (call : Call) (load : Loaded) (left between : Option (List ℕ)) → AreLoaded (reading_by call) call.given load left between → is_some (option_map (lines_by (pieces_asked call.given load.secrets)) load.lines) ≡ true
+    → (covers_asked call.given ≡ true) × (gives_rules call.given ≡ true)
+lines_are call load left between loaded some =
+    lines_ruled (reading_by call) call.given loaded.lines loaded.between loaded.meanwhile
+    (sym (loaded_some call.given loaded.secrets loaded.lines loaded.key) ∙ sym (ap (λ (l : Loaded). is_some l.lines) loaded.is) ∙ sym (mapped_some (lines_by (pieces_asked call.given load.secrets)) load.lines) ∙ some)
+    loaded.lines_given
+
+pub ruled_by : (call : Call) (load : Loaded) (left between : Option (List ℕ)) → AreLoaded (reading_by call) call.given load left between → is_some (redactor_by_given call.given load).lines ≡ true → gives_rules call.given ≡ true
+ruled_by call load left between loaded some = (lines_are call load left between loaded some).1

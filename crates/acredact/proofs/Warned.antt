@@ -1,6 +1,6 @@
 -- What comes of a call whose pieces were looked at.
 use Rattle.std.proofs.Common.{◌≡◌, inl, inr, ℕ, List, [], ◌∷◌, ◌++◌, Option, true, false, refl, sym, ap, subst, ◌∙◌, append-nil}
-use Rattle.std.specs.Prelude.{◌⊎◌, Bool, MatchBool, None, Some, Result, Ok, Err, IfErr, IfOk, OnErr, OnOk, is_some, option_map}
+use Rattle.std.specs.Prelude.{◌⊎◌, Bool, MatchBool, MatchOption, None, Some, Result, Ok, Err, IfErr, IfOk, OnErr, OnOk, is_some, length, option_map}
 use Rattle.std.specs.List.{All, concat}
 use Rattle.std.specs.declared.io.traits.Read.{Ghosts as Readers}
 use Rattle.std.specs.declared.io.traits.Write.{Ghosts as Writers}
@@ -14,35 +14,43 @@ use Rattle.programs.specs.declared.errors.Errors.{Errors}
 use Rattle.programs.specs.declared.failure.Failure.TheVariants.{OutOfMemory}
 use Rattle.programs.proofs.Tellings.{tells-later}
 use Rattle.acredact.specs.Arguments.{Given, counts_asked, has}
-use Rattle.acredact.specs.Calls.{AreBounded, Call, CallOutcome, IsBuildRefusal, IsCountsFailure, IsCountsLine, IsLineOf, IsRunFailure, IsUntouched, IsWordLine, MayFail, OutputFails, RestOutcome, RunOutcome, TellsAnyNumbers, TellsCounts, TellsNumbers, WarnedOutcome, names_asked, reading_by, redactor_by_given, work_by}
-use Rattle.acredact.specs.Counts.{secret_lines, zeros}
+use Rattle.acredact.specs.Calls.{AreBounded, Call, CallOutcome, IsBuildRefusal, IsCountsFailure, IsCountsLine, IsLineOf, IsReadyRefusal, IsRunFailure, IsUntouched, IsWordLine, MayFail, OutputFails, RestOutcome, RunOutcome, TellsAnyNumbers, TellsCounts, TellsLong, TellsNumbers, WarnedOutcome, names_asked, reading_by, redactor_by_given, work_by}
 use Rattle.acredact.specs.Doubts.{TellsDoubts, all_doubt_lines}
-use Rattle.acredact.specs.Files.{Work, key_for, keyed_of}
-use Rattle.acredact.specs.Loading.{AreLoaded, Loaded, loaded_as}
+use Rattle.aho_core.specs.Replacement.{pieces_of}
+use Rattle.acredact.specs.Files.{Work, key_for, keyed_of, lines_of, redactor_of}
+use Rattle.acredact.specs.LineRules.{numbers_with}
+use Rattle.acredact.specs.Loading.{AreLoaded, Loaded}
 use Rattle.acredact.specs.Messages.{unclean_line}
-use Rattle.acredact.specs.Pieces.{IsJudged, IsJudgedBy, TellsOfPieces, TellsUnclean}
-use Rattle.acredact.specs.Secrets.{AreCleanBy, Redactor}
-use Rattle.acredact.specs.Summaries.{no_volume, totals_text}
+use Rattle.acredact.specs.Pieces.{IsJudged, IsJudgedBy, IsUncleanBy, IsUncleanOf, TellsOfPieces, TellsUnclean}
+use Rattle.acredact.specs.Secrets.{AreCleanBy, LineCovered, Redactor}
+use Rattle.acredact.specs.Summaries.{IsToldOf, no_volume}
 use Rattle.acredact.specs.Sums.{sums_of}
-use Rattle.acredact.specs.Tables.{Secret, secrets_of}
+use Rattle.acredact.specs.Tables.{Secret}
 use Rattle.acredact.specs.Totals.{CountsOfNames}
 use Rattle.acredact.specs.Volumes.{ReadsVolume}
 use Rattle.acredact.specs.declared.arguments.Word.TheVariants.{Strict}
 use Rattle.acredact.specs.declared.clean.Unclean.{Unclean}
 use Rattle.acredact.specs.declared.failure.Failure.{Failure}
-use Rattle.acredact.specs.declared.failure.Failure.TheVariants.{Other, Unclean as UncleanPiece}
-use Rattle.acredact.specs.declared.patterns.Rule.{Rule}
+use Rattle.acredact.specs.declared.failure.Failure.TheVariants.{LineEnd, Other, Unclean as UncleanPiece}
+use Rattle.acredact.specs.declared.files.Job.{Job}
+use Rattle.acredact.specs.declared.files.Lines.{Lines as JobLines}
 use Rattle.acredact.specs.declared.ways.Key.{Key}
 use Rattle.acredact.specs.declared.streams.Streams.{Streams}
 use Rattle.acredact.specs.declared.summary.Volume.{Volume}
 use Rattle.acredact.proofs.Calls.{build_other, may_fail, rest_cut, rest_told, run_other, tells_same}
 use Rattle.acredact.proofs.Done.{concat_both}
 use Rattle.acredact.proofs.Free.{free_of}
+use Rattle.acredact.proofs.Totals.{WereZero}
+use Rattle.acredact.proofs.Unruled.{ruled_by, unlined_by, unruled_lines}
 
 -- where they are to be refused, nothing is told and they are clean
-pub clean_pieces : {E : Type 0} (K : SinkGhosts E) (strict : Bool) (r : Redactor) (old new : Errors E) → strict ≡ true → TellsOfPieces K strict r old new → r.covers ≡ true → AreCleanBy (is_some r.key) r.patterns r.pieces
-clean_pieces K strict r old new is (None, judged, same) = judged
-clean_pieces K strict r old new is (Some unclean, judged, (lax, told)) = let clash : true ≡ false = sym is ∙ lax in absurd (cc)
+pub clean_pieces : {E : Type 0} (K : SinkGhosts E) (strict : Bool) (r : Redactor) → r.lines ≡ None → (old new : Errors E) → strict ≡ true → TellsOfPieces K strict r old new → r.covers ≡ true → AreCleanBy (is_some r.key) r.patterns r.pieces
+clean_pieces K strict r unlined old new is (None, judged, same) = subst (λ (x : Option LineCovered). MatchOption x (IsJudgedBy r.patterns r.covers (is_some r.key) r.pieces None) (λ l. r.covers ≡ true)) unlined judged
+clean_pieces K strict r unlined old new is (Some unclean, judged, (lax, told)) = let clash : true ≡ false = sym is ∙ lax in absurd (cc)
+
+-- a line end is no piece
+line_end_other : (failure : Failure) (unclean : Unclean) (number : ℕ) → failure ≡ LineEnd number → failure ≡ UncleanPiece unclean → ⊥
+line_end_other failure unclean number of is = let clash : LineEnd number ≡ UncleanPiece unclean = sym of ∙ is in cc
 
 -- where patterns of lists are to be refused, nothing was told of them
 same_strict : {E : Type 0} (K : SinkGhosts E) (strict : Bool) (given : List Given) (secrets : List Secret) (old new : Errors E) → strict ≡ true → TellsDoubts K strict given secrets old new → new ≡ old
@@ -62,6 +70,25 @@ judged_as p true named key pieces pieces' answer is same judged =
     (subst (λ (b : Bool). IsJudgedBy p true b pieces' answer) (is ∙ named_by key) judged)
 judged_as p false named key pieces pieces' None is same judged = λ (clash : false ≡ true). absurd (cc)
 judged_as p false named key pieces pieces' (Some unclean) is same (clash, judged) = absurd (cc)
+
+-- and with rules it is so of each
+pub judged_job : {F : Type 0} (p : Patterns) (job : Job F) (answer : Option Unclean) → (job.lines ≡ None → IsJudgedBy p job.covers (is_some (key_for job.covers job.key)) (pieces_of job.replacements.now) answer)
+    → (is_some job.lines ≡ true → job.covers ≡ true) → IsJudged (redactor_of job p) answer
+judged_job p job answer none some = by job.lines none some
+  where
+    by : (x : Option JobLines) → (x ≡ None → IsJudgedBy p job.covers (is_some (key_for job.covers job.key)) (pieces_of job.replacements.now) answer) → (is_some x ≡ true → job.covers ≡ true)
+        → MatchOption (option_map (lines_of (pieces_of job.replacements.now)) x) (IsJudgedBy p job.covers (is_some (key_for job.covers job.key)) (pieces_of job.replacements.now) answer) (λ l. job.covers ≡ true)
+    by None none some = none refl
+    by (Some l) none some = some refl
+
+-- what is not clean is a piece of a cover
+judged_unclean : (r : Redactor) (unclean : Unclean) → IsJudged r (Some unclean) → (r.covers ≡ true) × IsUncleanOf r unclean
+judged_unclean r unclean judged = by r.lines judged
+  where
+    by : (x : Option LineCovered) → MatchOption x (IsJudgedBy r.patterns r.covers (is_some r.key) r.pieces (Some unclean)) (λ l. r.covers ≡ true)
+        → (r.covers ≡ true) × MatchOption x (IsUncleanBy (is_some r.key) r.patterns r.pieces unclean) (λ l. Unit {0})
+    by None (covers, is) = (covers, is)
+    by (Some l) covers = (covers, tt)
 
 -- lines behind lines
 module _ {E : Type 0} (K : SinkGhosts E) (IsLine : List ℕ → Type 0) (old mid new : Errors E) (first : Tells K IsLine old mid) where
@@ -105,7 +132,7 @@ module _ {E : Type 0} (K : SinkGhosts E) (call : Call) (fails : Type 0) (load : 
   piece_tells old new (None, judged, same) = tells_same K (IsLineOf call fails) old new same
   piece_tells old new (Some unclean, judged, (lax, told)) = record {
     told = unclean_line unclean ∷ [];
-    are_lines = All-cons (IsLineOf call fails) (unclean_line unclean) [] (inr (inr (inr (lax, load, left, between, loaded, inr (unclean, judged.0, judged.1, refl))))) (All-nil (IsLineOf call fails));
+    are_lines = All-cons (IsLineOf call fails) (unclean_line unclean) [] (inr (inr (inr (lax, load, left, between, loaded, (let of = judged_unclean (redactor_by_given call.given load) unclean judged in inr (unclean, of.0, of.1, refl)))))) (All-nil (IsLineOf call fails));
     written = subst (TellsBytes K old new) (sym (append-nil (unclean_line unclean))) told;
   }
 
@@ -133,7 +160,7 @@ module _ {E : Type 0} (K : SinkGhosts E) (call : Call) (load : Loaded) (left bet
   piece_words old new (None, judged, same) = tells_same K (IsWordLine call) old new same
   piece_words old new (Some unclean, judged, (lax, told)) = record {
     told = unclean_line unclean ∷ [];
-    are_lines = All-cons (IsWordLine call) (unclean_line unclean) [] (inr (lax, load, left, between, loaded, inr (unclean, judged.0, judged.1, refl))) (All-nil (IsWordLine call));
+    are_lines = All-cons (IsWordLine call) (unclean_line unclean) [] (inr (lax, load, left, between, loaded, (let of = judged_unclean (redactor_by_given call.given load) unclean judged in inr (unclean, of.0, of.1, refl)))) (All-nil (IsWordLine call));
     written = subst (TellsBytes K old new) (sym (append-nil (unclean_line unclean))) told;
   }
 
@@ -142,7 +169,7 @@ module _ {E : Type 0} (K : SinkGhosts E) (call : Call) (load : Loaded) (left bet
   warning_words old mid new doubts pieces = tells_both K (IsWordLine call) old mid new (doubt_words (has Strict call.given) refl old mid doubts) (piece_words mid new pieces)
 
   -- numbers behind them
-  numbers_warned : (left' : Option (List ℕ)) (old mid new : Errors E) → Tells K (IsWordLine call) old mid → Tells K (IsWordLine call) mid new ⊎ TellsNumbers K call load.secrets between left' mid new → TellsAnyNumbers K call left left' old new
+  numbers_warned : (left' : Option (List ℕ)) (old mid new : Errors E) → Tells K (IsWordLine call) old mid → Tells K (IsWordLine call) mid new ⊎ TellsNumbers K call load.secrets load.lines between left' mid new → TellsAnyNumbers K call left left' old new
   numbers_warned left' old mid new first (inl words) = inl (tells_both K (IsWordLine call) old mid new first words)
   numbers_warned left' old mid new first (inr numbers) = inr (record {
     load = load;
@@ -168,14 +195,14 @@ module _ {R : Type 0} {Reads : Readers R} {W E : Type 0} (Writes : Writers W) (K
   warned_memory streams = warned_refused streams (Other OutOfMemory) (inl refl)
 
   -- the library refuses the patterns
-  pub warned_built : (streams : Streams R W E Reads) (failure : Failure) → IsBuildRefusal work.redactor.patterns failure → WarnedOutcome Writes K strict work (Err failure) streams streams
+  pub warned_built : (streams : Streams R W E Reads) (failure : Failure) → IsReadyRefusal work.redactor failure → WarnedOutcome Writes K strict work (Err failure) streams streams
   warned_built streams failure refused = inl (failure, refl, refl, inr (inl refused))
 
   -- a piece is refused
   pub warned_strict : (streams : Streams R W E Reads) (errors : Errors E) (answer : Option Unclean) (failure : Failure) → IsJudged work.redactor answer
       → (piece : Unclean) × (answer ≡ Some piece) × (failure ≡ UncleanPiece piece) × (strict ≡ true) → errors ≡ streams.errors → WarnedOutcome Writes K strict work (Err failure) streams (record streams { errors = errors })
   warned_strict streams errors answer failure judged (piece, is, fails, asked) same =
-      let here : IsJudged work.redactor (Some piece) = subst (λ (a : Option Unclean). IsJudged work.redactor a) is judged in
+      let here = judged_unclean work.redactor piece (subst (λ (a : Option Unclean). IsJudged work.redactor a) is judged) in
       inl (failure, refl, ap (λ (e : Errors E). record streams { errors = e }) same, inl (piece, fails, asked, here.0, here.1))
 
   -- files are redacted behind what is told of pieces
@@ -203,7 +230,7 @@ module _ {R : Type 0} {Reads : Readers R} {W E : Type 0} (Writes : Writers W) (K
       partly = λ (is : Err failure ≡ Ok false). absurd (cc);
       fails = fails;
       told = doubts_tell K call (OutputFails old.output old.output) load left (bytes_left old.input) loaded (has Strict call.given) refl first old.errors doubts;
-      numbers = inl (doubt_words K call load left (bytes_left old.input) loaded (has Strict call.given) refl first old.errors doubts);
+      numbers = λ unruled. inl (doubt_words K call load left (bytes_left old.input) loaded (has Strict call.given) refl first old.errors doubts);
     }
 
     -- what comes of the files comes behind what is told of the pieces
@@ -217,18 +244,21 @@ module _ {R : Type 0} {Reads : Readers R} {W E : Type 0} (Writes : Writers W) (K
             load = load;
             between = bytes_left old.input;
             loaded = loaded;
-            free = free_of (work_by call load) asked.covers asked.all (clean_pieces K (has Strict call.given) (redactor_by_given call.given load) old.errors errors asked.strict told asked.covers) (names_asked call.given) _ _ _ _ (rest.redacts is);
+            free = let unlined = unlined_by call load (unruled_lines call load left (bytes_left old.input) asked.unruled loaded) in free_of (work_by call load) unlined asked.covers asked.all (clean_pieces K (has Strict call.given) (redactor_by_given call.given load) unlined old.errors errors asked.strict told asked.covers) (names_asked call.given) _ _ _ _ (rest.redacts is);
           };
           refused = refused_other (record old { errors = first }) new result rest.other;
           begins = elim rest.begins [
             | inl same ↦ inl same
             | inr cut ↦ inr (record { load = load; between = bytes_left old.input; loaded = loaded; lines = cut.0; cut = cut.1 })
           ];
-          quiet = λ none is. record {
+          quiet = λ none is. let (counts, long) = rest.quiet none is in record {
             load = load;
             between = bytes_left old.input;
             loaded = loaded;
-            told = (old.errors, doubts, subst (λ (e : Errors E). TellsOfPieces K (has Strict call.given) (redactor_by_given call.given load) old.errors e) (sym (rest.quiet none is)) told);
+            meanwhile = errors;
+            told = (old.errors, doubts, told);
+            counts = counts;
+            long = long;
           };
           counts = λ some is. let (ranges, found, volume, read, counted) = rest.counts some is in record {
             load = load;
@@ -245,7 +275,7 @@ module _ {R : Type 0} {Reads : Readers R} {W E : Type 0} (Writes : Writers W) (K
           };
           partly = λ is. some_behind K (IsLineOf call (OutputFails old.output new.output)) first errors new.errors (warns _) (rest.partly is);
           fails = rest.fails;
-          numbers = numbers_warned K call load left (bytes_left old.input) loaded (bytes_left new.input) first errors new.errors (warning_words K call load left (bytes_left old.input) loaded first old.errors errors doubts told) rest.numbers;
+          numbers = λ unruled. numbers_warned K call load left (bytes_left old.input) loaded (bytes_left new.input) first errors new.errors (warning_words K call load left (bytes_left old.input) loaded first old.errors errors doubts told) (rest.numbers unruled);
           told = told_behind K call first errors new.errors (OutputFails old.output new.output) result (warns _) rest.told;
         }
 
@@ -257,22 +287,24 @@ module _ {R : Type 0} {Reads : Readers R} {W E : Type 0} (Writes : Writers W) (K
         (subst (λ (f : Failure). CallOutcome Writes K call left (Err f) (record old { errors = first }) old) alike
         (elim of [
           | inl strict ↦ call_behind why (λ unclean is. strict.2) (inr (inr (inr (inl (load, left, bytes_left old.input, loaded, strict)))))
-          | inr (inl refused) ↦ call_behind why (λ unclean is. absurd (build_other _ why unclean refused is)) (inr (inr (inr (inr (inl (load, left, _, loaded, refused))))))
+          | inr (inl (inl refused)) ↦ call_behind why (λ unclean is. absurd (build_other _ why unclean refused is)) (inr (inr (inr (inr (inl (load, left, _, loaded, refused))))))
+          | inr (inl (inr (lined, number, ends))) ↦ call_behind why (λ unclean is. absurd (line_end_other why unclean number ends is)) (inr (inl (inr (inr (inr (ruled_by call load left (bytes_left old.input) loaded lined, number, ends))))))
           | inr (inr run) ↦ call_behind why (λ unclean is. absurd (run_other _ why unclean run is)) (may_fail call _ why run)
         ]))
     call_cut failure (inr (errors, told, run)) =
         call_warned mid errors (Err failure) told (rest_cut Writes K call load (record old { errors = errors }) mid failure run)
 
   -- all was done but the counts
-  pub call_told : (rules : List Rule) (key : Option (List ℕ)) (numbers : List ℕ) (volume : Volume) (old mid : Streams R W E Reads) → AreLoaded (reading_by call) call.given (loaded_as rules key) left (bytes_left old.input)
-      → (first : Errors E) → TellsDoubts K (has Strict call.given) call.given (secrets_of rules) first old.errors → (all counted : Bool) (result : Result Bool Failure) (errors : Errors E) → counted ≡ counts_asked call.given → WarnedOutcome Writes K (has Strict call.given) (work_by call (loaded_as rules key)) (Ok all) old mid
-      → (all ≡ true → CountsOfNames (bytes_left old.input) (bytes_left mid.input) (zeros counted rules) numbers (work_by call (loaded_as rules key)) (names_asked call.given)
+  pub call_told : (load : Loaded) (start numbers : List ℕ) (volume : Volume) (old mid : Streams R W E Reads) → (loaded : AreLoaded (reading_by call) call.given load left (bytes_left old.input))
+      → (first : Errors E) → TellsDoubts K (has Strict call.given) call.given load.secrets first old.errors → (all counted : Bool) (result : Result Bool Failure) (errors : Errors E) → counted ≡ counts_asked call.given → WarnedOutcome Writes K (has Strict call.given) (work_by call load) (Ok all) old mid
+      → (counted ≡ true → WereZero (numbers_with load.lines (length load.secrets)) start)
+      → (all ≡ true → CountsOfNames (bytes_left old.input) (bytes_left mid.input) start numbers (work_by call load) (names_asked call.given)
       × ReadsVolume call.holds (names_asked call.given) no_volume volume (bytes_left old.input) (bytes_left mid.input))
-      → IfOk result (λ done. done ≡ all) → OnOk result (MatchBool counted (TellsCounts K call.given rules numbers volume mid.errors errors) (errors ≡ mid.errors))
-      → IfErr result (IsCountsFailure counted) → Tells K (IsCountsLine call.given (secrets_of rules)) mid.errors errors
-      → AreBounded call.holds (names_asked call.given) (sums_of (secrets_of rules) numbers) volume (bytes_left old.input) (bytes_left mid.input) → Tells K (λ line. line ≡ totals_text call.given (secret_lines (secrets_of rules)) (sums_of (secrets_of rules) numbers) volume) mid.errors errors
+      → IfOk result (λ done. done ≡ all) → OnOk result (MatchBool counted (TellsCounts K call.given load.secrets load.lines numbers volume mid.errors errors) (TellsLong K load.lines load.secrets numbers mid.errors errors))
+      → IfErr result (IsCountsFailure counted) → Tells K (IsCountsLine call.given load.secrets load.lines) mid.errors errors
+      → (load.lines ≡ None → AreBounded call.holds (names_asked call.given) (sums_of load.secrets numbers) volume (bytes_left old.input) (bytes_left mid.input)) → Tells K (IsToldOf call.given load.secrets load.lines numbers volume) mid.errors errors
       → CallOutcome Writes K call left result (record old { errors = first }) (record mid { errors = errors })
-  call_told rules key numbers volume old mid loaded first doubts all counted result errors is (inl (why, fails, same, of)) grown done counts untold told bounded totals = let clash : Ok all ≡ Err why = fails in absurd (cc)
-  call_told rules key numbers volume old mid loaded first doubts all counted result errors is (inr (warned, pieces, run)) grown done counts untold told bounded totals =
-      call_warned (loaded_as rules key) old mid loaded first doubts (record mid { errors = errors }) warned result pieces
-      (rest_told Writes K call rules key left (bytes_left old.input) loaded numbers volume (record old { errors = warned }) mid all counted result errors is run grown done counts untold told bounded totals)
+  call_told load start numbers volume old mid loaded first doubts all counted result errors is (inl (why, fails, same, of)) zero grown done counts untold told bounded totals = let clash : Ok all ≡ Err why = fails in absurd (cc)
+  call_told load start numbers volume old mid loaded first doubts all counted result errors is (inr (warned, pieces, run)) zero grown done counts untold told bounded totals =
+      call_warned load old mid loaded first doubts (record mid { errors = errors }) warned result pieces
+      (rest_told Writes K call load left (bytes_left old.input) loaded start numbers volume (record old { errors = warned }) mid all counted result errors is run zero grown done counts untold told bounded totals)

@@ -147,6 +147,10 @@ IsRunFailure fails failure = (failure ≡ Other OutOfMemory) ⊎ IsPrintFailure 
 abbrev pub IsBuildRefusal : Patterns → Failure → Type 0
 IsBuildRefusal p failure = (error : BuildError) × (failure ≡ Other (Build error)) × RefusesPatterns p error
 
+-- or a pattern holds a line end, beside rules
+abbrev pub IsReadyRefusal : Redactor → Failure → Type 0
+IsReadyRefusal r failure = IsBuildRefusal r.patterns failure ⊎ ((is_some r.lines ≡ true) × (number : ℕ) × (failure ≡ LineEnd number))
+
 -- why pieces are refused: one of a cover is not clean
 abbrev pub IsStrictFailure : (strict : Bool) → Redactor → Failure → Type 0
 IsStrictFailure strict r failure =
@@ -423,12 +427,13 @@ module _ {R : Type 0} {Reads : Readers R} {W : Type 0} (Writes : Writers W) wher
       pub quiet : result ≡ Ok true → streams'.errors ≡ streams.errors
       pub fails : IfErr result (IsRunFailure (OutputFails streams.output streams'.output))
 
-    -- they are not, since a piece is refused, memory runs out, or the library refuses the patterns; or what is told of the pieces comes first
+    -- they are not, since a piece or a pattern is refused, memory runs out, or the library refuses the patterns; or what is told of the pieces
+    -- comes first
     abbrev pub WarnedOutcome : (strict : Bool) → Work → Result Bool Failure → (streams streams' : Streams R W E Reads) → Type 0
     WarnedOutcome strict work result streams streams' =
         ((failure : Failure) × (result ≡ Err failure) × (streams' ≡ streams)
         × (IsStrictFailure strict work.redactor failure
-        ⊎ (IsBuildRefusal work.redactor.patterns failure ⊎ IsRunFailure (OutputFails streams.output streams.output) failure)))
+        ⊎ (IsReadyRefusal work.redactor failure ⊎ IsRunFailure (OutputFails streams.output streams.output) failure)))
         ⊎ ((errors : Errors E) × TellsOfPieces K strict work.redactor streams.errors errors × RunOutcome work result (record streams { errors = errors }) streams')
 
     -- the same of a job, where files are redacted by these patterns
