@@ -18,7 +18,7 @@ use Rattle.programs.specs.declared.failure.Failure.TheVariants.{Build, OutOfMemo
 use Rattle.programs.specs.declared.reason.Reason.{Reason}
 use Rattle.programs.proofs.Tellings.{tells-later}
 use Rattle.acredact.specs.Arguments.{Given, counts_asked}
-use Rattle.acredact.specs.Calls.{AreBounded, BeginsCall, Call, CallOutcome, IsBuildRefusal, IsCountsFailure, IsCountsLine, IsLineOf, IsNumbersLine, IsRunFailure, IsUnreadLine, IsUntouched, IsWordLine, MayFail, OutputFails, RestOutcome, RunOutcome, TellsCounts, TellsLong, TellsNumbers, names_asked, reading_by, work_by}
+use Rattle.acredact.specs.Calls.{AreBounded, BeginsCall, Call, CallOutcome, CannotLoadSought, IsBuildRefusal, IsCountsFailure, IsCountsLine, IsLineOf, IsNumbersLine, IsRunFailure, IsUnreadLine, IsUntouched, IsWordLine, MayFail, OutputFails, RestOutcome, RunOutcome, TellsCounts, TellsLong, TellsNumbers, names_asked, reading_by, work_by}
 use Rattle.acredact.specs.Files.{AreCut, FilesOutcome, IsDone, Work, are_none, unread_line}
 use Rattle.acredact.specs.Messages.{output_line}
 use Rattle.acredact.specs.LineRules.{LinesLoaded, numbers_with}
@@ -144,6 +144,14 @@ pub load_fails : (call : Call) (fails : Type 0) (failure : Failure) → CannotLo
 load_fails call fails failure (inl one) = inr (inl (inl one))
 
 load_fails call fails failure (inr memory) = may_fail call fails failure (inl memory)
+
+-- nothing that is asked for can be loaded
+pub sought_fails : (call : Call) (fails : Type 0) (failure : Failure) → CannotLoadSought call failure → MayFail call fails failure
+sought_fails call fails failure (inl (inl none)) = inl (inr none)
+sought_fails call fails failure (inl (inr (inl plain))) = load_fails call fails failure plain
+sought_fails call fails failure (inl (inr (inr lines))) = inr (inl (inr (inr (inl lines))))
+sought_fails call fails failure (inr (inl key)) = inr (inl (inr (inl key)))
+sought_fails call fails failure (inr (inr memory)) = may_fail call fails failure (inl memory)
 
 -- the files of a call whose patterns were loaded
 module _ {R : Type 0} {Reads : Readers R} {W E : Type 0} (Writes : Writers W) (K : SinkGhosts E) (call : Call) where

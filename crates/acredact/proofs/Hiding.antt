@@ -1,6 +1,6 @@
 -- What shows a secret in a form lies in a replaced range.
 use Rattle.std.proofs.Common.{◌≡◌, inl, inr, ℕ, zero, suc, ◌+◌, ◌-◌, ◌<◌, ◌≤◌, Bool, true, false, cond, List, [], ◌∷◌, ◌++◌, Option, length, length-append, map, take, drop, refl, sym, ap, subst, ◌∙◌, arith}
-use Rattle.std.specs.Prelude.{All, Contains, MatchBool, Some, None, chars, flat_map, if◌then◌else◌, nat_lt, option_map, slice_index_or, slice_range}
+use Rattle.std.specs.Prelude.{All, Contains, MatchBool, Some, None, chars, flat_map, if◌then◌else◌, nat_lt, slice_index_or, slice_range}
 use Rattle.std.specs.declared.io.traits.Read.{Ghosts as Readers}
 use Rattle.std.specs.declared.io.traits.Write.{Ghosts as Writers}
 use Rattle.std.proofs.lemmas.Bool.{lt-ltb, ltb-true}
@@ -35,14 +35,14 @@ use Rattle.aho_cover.specs.Words.{CountsIn}
 use Rattle.pseudonyms.specs.Pseudonyms.{pseudonym_rule}
 use Rattle.acredact.specs.Arguments.{Given, covers_asked, gives_rules, has, words_asked}
 use Rattle.acredact.specs.Calls.{Call, HidesCall, RedactsCall, names_asked, work_by}
-use Rattle.acredact.specs.LineRules.{LinesLoaded, fixed_at, key_beside}
+use Rattle.acredact.specs.LineRules.{LinesLoaded}
 use Rattle.acredact.specs.Loading.{Loaded, loaded_by}
 use Rattle.acredact.specs.Named.{all_named, named_secret}
 use Rattle.acredact.specs.declared.arguments.Word.TheVariants.{Forms as FormsOption, IgnoreCase}
 use Rattle.acredact.specs.declared.streams.Streams.{Streams}
 use Rattle.acredact.proofs.Free.{named_as}
 use Rattle.acredact.proofs.Redactions.{redaction_whole}
-use Rattle.acredact.proofs.Unruled.{unlined_by, unruled_lines}
+use Rattle.acredact.proofs.Unruled.{loaded_if, unlined_by, unruled_lines}
 
 -- what a form hides is hidden where it shows
 module _ (patterns : List (List ℕ)) (secret text : List ℕ) (place : ℕ) where
@@ -231,10 +231,6 @@ hidden_of asked secrets work unlined covers all words laws (name ∷ names) left
 named_patterns : (rule : PieceRule) (all secrets : List Secret) → patterns_in (map (named_secret rule all) secrets) ≡ patterns_in secrets
 named_patterns rule all [] = refl
 named_patterns rule all (secret ∷ secrets) = ap (λ l. secret.pattern ∷ l) (named_patterns rule all secrets)
-
-abbrev loaded_if : List Given → List Secret → Option LinesLoaded → List ℕ → Bool → Loaded
-loaded_if given secrets lines key b =
-    if b then record { secrets = all_named (pseudonym_rule (has IgnoreCase given) key) secrets; key = key_beside lines key; lines = option_map (fixed_at (length secrets)) lines } else record { secrets = secrets; key = Some key; lines = lines }
 
 loaded_patterns : (given : List Given) (secrets : List Secret) (lines : Option LinesLoaded) (key : Option (List ℕ)) → patterns_in (loaded_by given secrets lines key).secrets ≡ patterns_in secrets
 loaded_patterns given secrets lines None = refl

@@ -17,13 +17,18 @@ use Rattle.aho_core.specs.declared.search.MatchKind.TheVariants.{Standard}
 use Rattle.aho_automaton.specs.declared.automaton.Automaton.{Ghosts}
 use Rattle.programs.specs.Arguments.{kind_by}
 use Rattle.acredact.specs.Arguments.{Given, GivesNoPattern, covers_asked, has, is_cover, kind_asked, last_value}
-use Rattle.acredact.specs.Calls.{gives_pattern, gives_value}
+use Rattle.aho_cover.specs.Pieces.{PieceRule}
+use Rattle.pseudonyms.specs.Pseudonyms.{pseudonym_rule}
+use Rattle.acredact.specs.Calls.{Call, gives_pattern, gives_value, reading_by}
+use Rattle.acredact.specs.LineRules.{LinesLoaded}
+use Rattle.acredact.specs.Named.{named_secret}
+use Rattle.acredact.specs.declared.load.Sought.{Sought}
 use Rattle.acredact.specs.Forms.{forms_from}
-use Rattle.acredact.specs.Loading.{AreGiven, AreRead, OptionGives, Reading, Rules, form_by, reading_of_lists, rules_for, values_in_text}
+use Rattle.acredact.specs.Loading.{AreGiven, AreLoaded, AreRead, Loaded, loaded_by, loaded_of, OptionGives, Reading, Rules, form_by, reading_of_lists, rules_for, values_in_text}
 use Rattle.acredact.specs.Looks.{CanLook}
 use Rattle.acredact.specs.Parts.{ArePartsBy, GivesPattern, line_secrets, secret_given}
 use Rattle.acredact.specs.Secrets.{CanRedact}
-use Rattle.acredact.specs.Tables.{HaveNoEmpty, HoldsBy, Secret, patterns_in}
+use Rattle.acredact.specs.Tables.{HaveNoEmpty, HoldsBy, Secret, patterns_in, secrets_of}
 use Rattle.acredact.specs.Values.{GiveEach, no_bytes, value_of_entry, whole_in}
 use Rattle.acredact.specs.declared.arguments.Word.{Word}
 use Rattle.acredact.specs.declared.arguments.Word.TheVariants.{IgnoreCase, Kind, Pattern, Patterns as PatternFile, Table, Env, EnvFile, Whole, With, Pseudonym, Forms, AsWord, Rules as RulesFile, After, MaxLine, Output, InPlace, Count, Summary, Crlf, AllowEmpty, Strict, Check, Help, Version, File}
@@ -31,6 +36,7 @@ use Rattle.acredact.specs.declared.folder.Folder.{Ghosts as Folders}
 use Rattle.acredact.specs.declared.load.Lists.{Lists}
 use Rattle.acredact.specs.declared.patterns.Form.{Form}
 use Rattle.acredact.proofs.FormsSome.{all_forms_some}
+use Rattle.acredact.proofs.Unruled.{loaded_if}
 
 abbrev pub IsSomeSecret : Secret → Type 0
 IsSomeSecret secret = 1 ≤ length secret.pattern
@@ -118,6 +124,25 @@ pub given_some : (reading : Reading) (items : List Given) (secrets : List Secret
 given_some reading items secrets left left' given =
     subst HaveNoEmpty (sym given.are)
     (All-append IsSomeSecret given.plain (forms_from reading.rules.forms 0 given.plain) (read_some reading items given.plain left left' given.read) (all_forms_some reading.rules.forms 0 given.plain))
+
+-- a name changes no pattern
+named_some : (rule : PieceRule) (all secrets : List Secret) → HaveNoEmpty secrets → HaveNoEmpty (map (named_secret rule all) secrets)
+named_some rule all [] are = All-nil IsSomeSecret
+named_some rule all (secret ∷ secrets) are =
+    All-cons IsSomeSecret (named_secret rule all secret) (map (named_secret rule all) secrets) (All-head IsSomeSecret secret secrets are) (named_some rule all secrets (All-tail IsSomeSecret secret secrets are))
+
+loaded_full : (given : List Given) (secrets : List Secret) (lines : Option LinesLoaded) (key : Option (List ℕ)) → HaveNoEmpty secrets → HaveNoEmpty (loaded_by given secrets lines key).secrets
+loaded_full given secrets lines None are = are
+loaded_full given secrets lines (Some key) are = by (has Forms given)
+  where
+    by : (b : Bool) → HaveNoEmpty (loaded_if given secrets lines key b).secrets
+    by true = named_some (pseudonym_rule (has IgnoreCase given) key) secrets secrets are
+    by false = are
+
+pub loaded_some : (call : Call) (sought : Sought) (left between : Option (List ℕ)) → AreLoaded (reading_by call) call.given (loaded_of sought) left between → HaveNoEmpty (secrets_of sought.rules.items)
+loaded_some call sought left between loaded =
+    subst (λ (l : Loaded). HaveNoEmpty l.secrets) (sym loaded.is)
+    (loaded_full call.given loaded.secrets loaded.lines loaded.key (given_some (reading_by call) call.given loaded.secrets left loaded.between loaded.given_all))
 
 -- a cover is by the standard kind
 kind_of_cover : (name : List ℕ) → is_cover name ≡ true → kind_by name ≡ None

@@ -1,6 +1,7 @@
 -- How counts grow by the ranges that are replaced, file after file.
 use Rattle.std.proofs.Common.{◌≡◌, ◌≢◌, ℕ, zero, suc, ◌<◌, true, false, List, [], ◌∷◌, ◌++◌, Option, length, refl, sym, ap, subst, ◌∙◌, append-nil, append_assoc, arith}
-use Rattle.std.specs.Prelude.{slice_index}
+use Rattle.std.specs.Prelude.{◌+◌, Bool, MatchOption, None, Some, replicate, slice_index}
+use Rattle.std.proofs.lemmas.List.{length-replicate}
 use Rattle.std.specs.Io.KnownBytes.{Consumes, IsAtEnd, Keeps}
 use Rattle.std.proofs.lemmas.List.{length-map}
 use Rattle.aho_core.specs.Occurrence.{Occurrence}
@@ -10,14 +11,19 @@ use Rattle.aho_devices.specs.declared.device.Sink.{Ghosts as SinkGhosts}
 use Rattle.aho_devices.specs.declared.device.Source.{Ghosts as SourceGhosts}
 use Rattle.programs.specs.Names.{is_input}
 use Rattle.programs.specs.declared.errors.Errors.{Errors}
-use Rattle.acredact.specs.Arguments.{Given}
+use Rattle.acredact.specs.Arguments.{Given, counts_given}
 use Rattle.acredact.specs.Calls.{TellsCounts, TellsTotals}
 use Rattle.acredact.specs.Counts.{zeros}
 use Rattle.acredact.specs.Files.{Work}
 use Rattle.acredact.specs.Secrets.{Redactor}
 use Rattle.acredact.specs.LineRules.{LinesLoaded, numbers_with}
+use Rattle.acredact.specs.Loading.{lines_held, lines_sought}
+use Rattle.acredact.specs.Summaries.{AreZeros}
 use Rattle.acredact.specs.Tables.{Secret, secret_of, secrets_of}
 use Rattle.acredact.specs.Totals.{AreTotals, CountsOfName, CountsOfNames, CountsOfStream, CountsOfText, HasRanges, NameHasRanges, NamesHaveRanges}
+use Rattle.acredact.specs.declared.arguments.Item.{Item}
+use Rattle.acredact.specs.declared.line_rules.LineRules.{LineRules}
+use Rattle.acredact.specs.declared.load.Sought.{Sought}
 use Rattle.acredact.specs.declared.patterns.Rule.{Rule}
 use Rattle.acredact.specs.declared.summary.Volume.{Volume}
 use Rattle.acredact.proofs.OneFile.{ends_by, known_read, of_folder, of_input}
@@ -104,6 +110,23 @@ pub record WereZero (size : ℕ) (counts : List ℕ) : Type 0 where
 
 pub zeros_were : (rules : List Rule) → WereZero (length (secrets_of rules)) (zeros true rules)
 zeros_were rules = record { one_each = length-map rules (λ rule. 0) ∙ sym (length-map rules secret_of); none = λ number within. zero_at rules number }
+
+-- as they are at first, with rules or without
+no_count : (count number : ℕ) → number < count → slice_index (replicate count 0) number ≡ 0
+no_count zero number within = absurd (omega (arith, within))
+no_count (suc count) zero within = refl
+no_count (suc count) (suc number) within = no_count count number (omega (arith, within))
+
+pub zeros_of : (items : List Item) (sought : Sought) (tally : List ℕ) → counts_given items ≡ true → AreZeros items sought tally → WereZero (numbers_with (lines_sought sought) (length (secrets_of sought.rules.items))) tally
+zeros_of items sought tally counted zero = by sought.lines zero
+  where
+    by : (x : Option LineRules) → MatchOption x (tally ≡ zeros (counts_given items) sought.rules.items) (λ lines. tally ≡ replicate (length sought.rules.items + (length lines.rules + 1)) 0)
+        → WereZero (numbers_with (lines_held sought.fixed x) (length (secrets_of sought.rules.items))) tally
+    by None is = subst (WereZero (length (secrets_of sought.rules.items))) (sym (is ∙ ap (λ (b : Bool). zeros b sought.rules.items) counted)) (zeros_were sought.rules.items)
+    by (Some lines) is =
+        let size = length sought.rules.items + (length lines.rules + 1) in
+        let same : length (secrets_of sought.rules.items) + (length lines.rules + 1) ≡ size = ap (λ (n : ℕ). n + (length lines.rules + 1)) (length-map sought.rules.items secret_of) in
+        subst (λ (n : ℕ). WereZero n tally) (sym same) (subst (WereZero size) (sym is) (record { one_each = length-replicate size 0; none = no_count size }))
 
 totals_from : (size : ℕ) (start : List ℕ) (ranges : List Occurrence) (counts : List ℕ) → WereZero size start → CountsThese ranges start counts → AreTotals size ranges counts
 totals_from size start ranges counts zero grown = record {
