@@ -44,6 +44,7 @@ mod Free
 mod Hiding
 mod Calls
 mod Warned
+mod Told
 mod Given
 -- files that are replaced in place
 mod Placed

@@ -16,7 +16,7 @@ use Rattle.aho_core.specs.declared.search.MatchKind.{MatchKind}
 use Rattle.aho_core.specs.declared.search.MatchKind.TheVariants.{Standard}
 use Rattle.aho_automaton.specs.declared.automaton.Automaton.{Ghosts}
 use Rattle.programs.specs.Arguments.{kind_by}
-use Rattle.acredact.specs.Arguments.{Given, GivesNoPattern, covers_asked, has, is_cover, kind_asked, last_value}
+use Rattle.acredact.specs.Arguments.{Given, GivesNoPattern, covers_asked, gives_rules, has, is_cover, kind_asked, last_value}
 use Rattle.aho_cover.specs.Pieces.{PieceRule}
 use Rattle.pseudonyms.specs.Pseudonyms.{pseudonym_rule}
 use Rattle.acredact.specs.Calls.{Call, gives_pattern, gives_value, reading_by}
@@ -194,15 +194,16 @@ none_of false true c none = absurd (cc)
 none_of true b c none = absurd (cc)
 
 -- nor one of some others
-or_none : (a b c d : Bool) → (a || b || c || d) ≡ false → ((a || b || c) ≡ false) × (d ≡ false)
-or_none false false false d none = (refl, none)
-or_none false false true d none = absurd (cc)
-or_none false true c d none = absurd (cc)
-or_none true b c d none = absurd (cc)
+five_none : (a b c d e : Bool) → (a || b || c || d || e) ≡ false → ((a || b || c) ≡ false) × (d ≡ false) × (e ≡ false)
+five_none false false false false e none = (refl, refl, none)
+five_none false false false true e none = absurd (cc)
+five_none false false true d e none = absurd (cc)
+five_none false true c d e none = absurd (cc)
+five_none true b c d e none = absurd (cc)
 
 pub gives_none : (given : List Given) → gives_pattern given ≡ false → GivesNoPattern given
 gives_none given none =
-    let (patterns, values) = or_none (has Pattern given) (has PatternFile given) (has Table given) (gives_value given) none in
+    let (patterns, values, rules) = five_none (has Pattern given) (has PatternFile given) (has Table given) (gives_value given) (gives_rules given) none in
     let (a, b, c) = none_of (has Pattern given) (has PatternFile given) (has Table given) patterns in
     let (d, e, f) = none_of (has Env given) (has EnvFile given) (has Whole given) values in
-    record { no_pattern = a; no_patterns = b; no_table = c; no_env = d; no_env_file = e; no_whole = f }
+    record { no_pattern = a; no_patterns = b; no_table = c; no_env = d; no_env_file = e; no_whole = f; no_rules = rules }

@@ -1,6 +1,6 @@
 -- How an automaton redacts streams.
 use Rattle.std.proofs.Common.{◌≡◌, inl, ℕ, ◌≤◌, List, [], ◌∷◌, Option, true, false, length, map, refl, sym, ap, subst, ◌∙◌, arith}
-use Rattle.std.specs.Prelude.{Bool, ◌&&◌, None, Some, Result, Ok, Err, if◌then◌else◌}
+use Rattle.std.specs.Prelude.{Bool, ◌&&◌, IsOk, MatchOption, None, Some, Result, Ok, Err, if◌then◌else◌, is_some, option_map}
 use Rattle.std.specs.Borrow.{Bor}
 use Rattle.std.proofs.KnownBytes.{Keeps-refl}
 use Rattle.std.specs.declared.io.traits.Read.{Ghosts as Readers}
@@ -24,9 +24,11 @@ use Rattle.aho_cover.specs.declared.progress.CoverProgress.{CoverProgress}
 use Rattle.aho_devices.specs.declared.device.Sink.{Ghosts as SinkGhosts}
 use Rattle.aho_stream.specs.Replacing.{IsMakingRefusal}
 use Rattle.aho_stream.specs.StreamRun.{CanBegin}
-use Rattle.acredact.specs.Files.{AreCut, FilesOutcome, Work, key_for}
-use Rattle.acredact.specs.Secrets.{CanRedact, Keyed, LineCovered, Redactor, rule_of}
+use Rattle.acredact.specs.Files.{AreCut, CanDo, FilesOutcome, Work, key_for, lines_of}
+use Rattle.acredact.specs.Secrets.{CanRedact, CanSeek, Keyed, LineCovered, Redactor, rule_of}
 use Rattle.acredact.specs.Ways.{IsCoverer, IsNamedCover, IsRedactor}
+use Rattle.acredact.specs.declared.files.Job.{Job}
+use Rattle.acredact.specs.declared.files.Lines.{Lines as JobLines}
 use Rattle.acredact.specs.declared.streams.Streams.{Streams}
 use Rattle.acredact.specs.declared.ways.Key.{Key}
 use Rattle.pseudonyms.specs.Pseudonyms.{pseudonym_rule}
@@ -113,3 +115,50 @@ key_of_plain covers key is = ap (λ (b : Bool). key_for b key) is
 
 pub key_of_none : (covers : Bool) (key : Option Key) → covers ≡ true → key ≡ None → key_for covers key ≡ None
 key_of_none covers key is none = ap (λ (b : Bool). key_for b key) is ∙ ap (λ (k : Option Key). key_for true k) none
+
+-- what suits a job with rules or without
+module _ {A F : Type 0} (G : Ghosts A) (automaton : A) (job : Job F) where
+  abbrev DoesBy : Option JobLines → Type 0
+  DoesBy x = MatchOption x (CanRedact G automaton job.covers job.replacements.now) (λ l. CanSeek G automaton × (job.covers ≡ true))
+
+  started_by : CanBegin G automaton → IsOk (G.start automaton No)
+  started_by can = subst (λ (s : Result ℕ MatchErrorKind). IsOk s) (sym can.2) refl
+
+  pub seek_of : CanDo G automaton job → (p : Patterns) × G.is_of automaton p
+  seek_of ready = by job.lines ready
+    where
+      by : (x : Option JobLines) → DoesBy x → (p : Patterns) × G.is_of automaton p
+      by None ready = (ready.patterns, ready.of)
+      by (Some l) ready = (ready.0.patterns, ready.0.of)
+
+  pub seek_starts : CanDo G automaton job → IsOk (G.start automaton No)
+  seek_starts ready = by job.lines ready
+    where
+      by : (x : Option JobLines) → DoesBy x → IsOk (G.start automaton No)
+      by None ready = started_by ready.begins
+      by (Some l) ready = started_by ready.0.begins
+
+  pub lined_covers : CanDo G automaton job → is_some job.lines ≡ true → job.covers ≡ true
+  lined_covers ready some = by job.lines ready some
+    where
+      by : (x : Option JobLines) → DoesBy x → is_some x ≡ true → job.covers ≡ true
+      by None ready some = let clash : false ≡ true = some in absurd (cc)
+      by (Some l) ready some = ready.1
+
+  -- without a cover there are no rules
+  pub plain_ready : CanDo G automaton job → job.covers ≡ false → (job.lines ≡ None) × CanRedact G automaton job.covers job.replacements.now
+  plain_ready ready plain = by job.lines ready
+    where
+      by : (x : Option JobLines) → DoesBy x → (x ≡ None) × CanRedact G automaton job.covers job.replacements.now
+      by None ready = (refl, ready)
+      by (Some l) ready = let clash : false ≡ true = sym plain ∙ ready.1 in absurd (cc)
+
+  pub whole_ready : CanDo G automaton job → job.lines ≡ None → CanRedact G automaton job.covers job.replacements.now
+  whole_ready ready none = subst DoesBy none ready
+
+  pub lined_ready : (l : JobLines) → CanDo G automaton job → job.lines ≡ Some l → CanSeek G automaton × (job.covers ≡ true)
+  lined_ready l ready some = subst DoesBy some ready
+
+-- what a job without rules writes
+pub unlined_job : {F : Type 0} (job : Job F) (pieces : List (List ℕ)) → job.lines ≡ None → option_map (lines_of pieces) job.lines ≡ None
+unlined_job job pieces none = ap (option_map (lines_of pieces)) none
