@@ -15,17 +15,22 @@ use Rattle.aho_devices.specs.declared.device.Source.{Ghosts as SourceGhosts}
 use Rattle.aho_laws.proofs.CoverRuns.{runs-unique}
 use Rattle.aho_stream.specs.Replacing.{IsStreamFault, MayBe}
 use Rattle.secret_rules.specs.Covering.{AreLineRuns, CoveredIn, Covering, lines_cover, seen_line}
-use Rattle.secret_rules.specs.LineCovers.{BeginsLines, BeginsNextLine, CoversLines, IsCoverFailure, LeavesLines, all_of, of_devices}
+use Rattle.std.specs.Borrow.{Bor}
+use Rattle.aho_automaton.specs.declared.automaton.Automaton.{Ghosts as Automata}
+use Rattle.secret_rules.specs.LineCovers.{AreSearchedFor, BeginsLines, BeginsNextLine, CoversLines, IsCoverFailure, LeavesLines, all_of, of_devices}
 use Rattle.secret_rules.specs.Lines.{Line, stream_lines}
+use Rattle.secret_rules.specs.Ready.{CanCoverLines, CoversTheSame, most_of, rules_of, searched_automaton, words_of}
 use Rattle.secret_rules.specs.Writing.{line_cover}
 use Rattle.secret_rules.specs.declared.error.LineError.{LineError}
 use Rattle.secret_rules.specs.declared.error.LineError.TheVariants.{Mark, Stream}
+use Rattle.secret_rules.specs.declared.line_cover.LineCover.{LineCover}
 use Rattle.secret_rules.specs.declared.rule.Rule.{Rule}
 use Rattle.secret_rules.proofs.LineRuns.{lines_cover-append}
 use Rattle.acredact.specs.Faults.{IsStreamEnd}
 use Rattle.acredact.specs.Secrets.{AreReplaced, AreReplacedInLines, AreReplacedWhole, IsLineRedaction, IsRedaction, IsWholeCover, IsWholeRedaction, LineCovered, Redactor, covering_of, rule_of}
 use Rattle.acredact.specs.Streams.{RedactsStream, StartsStream, StreamOutcome}
 use Rattle.acredact.specs.Totals.{CountsOfStream}
+use Rattle.acredact.specs.Ways.{IsLineCoverer}
 use Rattle.acredact.proofs.Redactions.{all_of as all_given, begins_lined, fault_ends}
 
 -- the runs of some lines are just these
@@ -168,3 +173,42 @@ module _ (r : Redactor) (l : LineCovered) (lined : r.lines ≡ Some l) where
     line_counts (Ok x) leaves = counts_lines leaves.covered
     line_counts (Err (Stream error)) leaves = tt
     line_counts (Err (Mark error)) leaves = tt
+
+-- the same of a cover of lines
+module _ {A : Type 0} (G : Automata A) (cover : LineCover A) (rule : PieceRule) (r : Redactor) (is : IsLineCoverer G cover rule r) where
+  pub liner_none : r.lines ≡ None → ⊥
+  liner_none none = let clash : Some is.lines ≡ None = sym is.lined ∙ none in absurd (cc)
+
+  module _ {R W : Type 0} (S : SourceGhosts R) (K : SinkGhosts W) (source source' : R) (sink sink' : W) (counts counts' : List ℕ) where
+    abbrev Leaves : Bool → List Rule → ℕ → PieceRule → Result (Unit {0}) LineError → Type 0
+    Leaves words rules most rule result = LeavesLines S K (AreSearchedFor G (searched_automaton cover)) words rules most rule source source' sink sink' counts counts' result
+
+    leaves_as : (result : Result (Unit {0}) LineError) → Leaves (words_of cover) (rules_of cover) (most_of cover) rule result → Leaves r.words is.lines.rules is.lines.most (rule_of r) result
+    leaves_as result leaves =
+        subst (λ (b : Bool). Leaves b is.lines.rules is.lines.most (rule_of r) result) (sym is.chosen)
+        (subst (λ (rules : List Rule). Leaves (words_of cover) rules is.lines.most (rule_of r) result) (sym is.rules)
+        (subst (λ (most : ℕ). Leaves (words_of cover) (rules_of cover) most (rule_of r) result) (sym is.most)
+        (subst (λ (made : PieceRule). Leaves (words_of cover) (rules_of cover) (most_of cover) made result) (sym is.is) leaves)))
+
+    pub liner_outcome : (result : Result (Unit {0}) LineError) → Leaves (words_of cover) (rules_of cover) (most_of cover) rule result
+        → CountsErrors S K source source' sink sink' (of_devices result) → IfErr result (IsCoverFailure (rules_of cover)) → StreamOutcome S K r (of_devices result) source source' sink sink'
+    liner_outcome result leaves errors only =
+        line_outcome r is.lines is.lined S K (AreSearchedFor G (searched_automaton cover)) is.of source source' sink sink' counts counts' result (leaves_as result leaves) errors
+        (subst (λ (rules : List Rule). IfErr result (IsCoverFailure rules)) (sym is.rules) only)
+
+    pub liner_counts : (result : Result (Unit {0}) LineError) → Leaves (words_of cover) (rules_of cover) (most_of cover) rule result → OnOk (of_devices result) (CountsOfStream S r source source' counts counts')
+    liner_counts result leaves = line_counts r is.lines is.lined S K (AreSearchedFor G (searched_automaton cover)) is.of source source' sink sink' counts counts' result (leaves_as result leaves)
+
+-- it is as before after a stream
+pub liner_still : {A : Type 0} (G : Automata A) (one other : LineCover A) (rule : PieceRule) (r : Redactor) → CoversTheSame one other → CanCoverLines G other → IsLineCoverer G one rule r → IsLineCoverer G other rule r
+liner_still G one other rule r same ready is = record {
+  ready = ready;
+  covers = is.covers;
+  of = subst (λ (a : Option (Bor _)). AreSearchedFor G a r.patterns) (sym same.automaton) is.of;
+  chosen = is.chosen ∙ sym same.words;
+  lines = is.lines;
+  lined = is.lined;
+  rules = is.rules ∙ sym same.rules;
+  most = is.most ∙ sym same.most;
+  is = is.is;
+}

@@ -1,6 +1,6 @@
 -- What comes of a call that replaces files, by what comes of these.
 use Rattle.std.proofs.Common.{◌≡◌, inl, inr, ℕ, List, [], ◌∷◌, ◌++◌, Option, true, false, refl, sym, subst, ◌∙◌, arith}
-use Rattle.std.specs.Prelude.{Bool, MatchBool, Result, Ok, Err, IfErr, IfOk, OnOk}
+use Rattle.std.specs.Prelude.{Bool, MatchBool, Result, Ok, Err, IfErr, IfOk, OnOk, length}
 use Rattle.std.specs.List.{All, concat}
 use Rattle.std.specs.declared.io.traits.Write.{Ghosts as Writers}
 use Rattle.std.proofs.lemmas.List.Elements.{All-append, All-head, All-tail, All-weaker}
@@ -10,28 +10,27 @@ use Rattle.programs.specs.declared.errors.Errors.{Errors}
 use Rattle.programs.specs.declared.failure.Failure.TheVariants.{OutOfMemory}
 use Rattle.programs.proofs.Tellings.{tells-later}
 use Rattle.acredact.specs.Arguments.{counts_asked, has}
-use Rattle.acredact.specs.Calls.{Call, IsCountsFailure, IsCountsLine, IsLineOf, MayFail, TellsCounts, names_asked, reading_by, redactor_by_given, work_by}
-use Rattle.acredact.specs.Counts.{zeros}
+use Rattle.acredact.specs.Calls.{Call, IsCountsFailure, IsCountsLine, IsLineOf, MayFail, TellsCounts, TellsLong, names_asked, reading_by, redactor_by_given, work_by}
 use Rattle.acredact.specs.Doubts.{TellsDoubts}
 use Rattle.acredact.specs.Failures.{IsFailureLine}
 use Rattle.acredact.specs.Files.{are_none}
 use Rattle.acredact.specs.InPlace.{CalledPlaces, IsPlaceLine, PlacesOutcome, PlacesStatus, WarnedPlaces}
-use Rattle.acredact.specs.Loading.{AreLoaded, Loaded, loaded_as}
+use Rattle.acredact.specs.LineRules.{numbers_with}
+use Rattle.acredact.specs.Loading.{AreLoaded, Loaded}
 use Rattle.acredact.specs.Pieces.{TellsOfPieces}
 use Rattle.acredact.specs.Summaries.{no_volume}
-use Rattle.acredact.specs.Tables.{secrets_of}
 use Rattle.acredact.specs.Totals.{CountsOfNames}
 use Rattle.acredact.specs.Volumes.{ReadsVolume}
 use Rattle.acredact.specs.declared.arguments.Word.TheVariants.{Strict}
 use Rattle.acredact.specs.declared.failure.Failure.{Failure}
 use Rattle.acredact.specs.declared.failure.Failure.TheVariants.{Other}
 use Rattle.acredact.specs.declared.outputs.Outputs.{Ghosts as Places}
-use Rattle.acredact.specs.declared.patterns.Rule.{Rule}
 use Rattle.acredact.specs.declared.summary.Volume.{Volume}
 use Rattle.acredact.proofs.Calls.{may_fail, none_are, tells_last, tells_same}
 use Rattle.acredact.proofs.Done.{concat_both}
 use Rattle.acredact.proofs.Placed.{IsOfOne, cut_whole, freed_all, lines_of_all, lines_of_cut, placed_all, placed_whole}
-use Rattle.acredact.proofs.Totals.{totals_told}
+use Rattle.acredact.proofs.Totals.{WereZero, totals_told}
+use Rattle.acredact.proofs.Unruled.{ruled_by, unlined_by, unruled_lines}
 use Rattle.acredact.proofs.Warned.{clean_pieces, doubts_tell, some_behind, tells_both, warnings_tell}
 
 -- what is told may be told of more
@@ -91,7 +90,8 @@ module _ {O Z E : Type 0} (Writes : Writers Z) (K : SinkGhosts E) (U : Places O 
         let alike : why ≡ failure = cc in
         let may : MayFail call ⊥ why = elim of [
           | inl strict ↦ inr (inr (inr (inl (load, left, between, loaded, strict))))
-          | inr (inl refused) ↦ inr (inr (inr (inr (inl (load, left, _, loaded, refused)))))
+          | inr (inl (inl refused)) ↦ inr (inr (inr (inr (inl (load, left, _, loaded, refused)))))
+          | inr (inl (inr (lined, number, ends))) ↦ inr (inl (inr (inr (inr (ruled_by call load left between loaded lined, number, ends)))))
           | inr (inr memory) ↦ may_fail call ⊥ why (inl memory)
         ] in
         subst (λ (o : O). CalledPlaces Writes K U call left (Err failure) outputs o first new) (sym same)
@@ -115,24 +115,23 @@ module _ {O Z E : Type 0} (Writes : Writers Z) (K : SinkGhosts E) (U : Places O 
               (record { told = lines; are_lines = files_lines lines (lines_of_cut Writes K U (work_by call load) (names_asked call.given) lines outputs outputs' cut); written = told });
         }
 
-  module _ (rules : List Rule) (key : Option (List ℕ)) (numbers : List ℕ) (volume : Volume) (between after : Option (List ℕ)) (loaded : AreLoaded (reading_by call) call.given (loaded_as rules key) left between) (outputs outputs' : O) (first old mid new : Errors E)
-      (doubts : TellsDoubts K (has Strict call.given) call.given (secrets_of rules) first old) where
+  module _ (load : Loaded) (start numbers : List ℕ) (volume : Volume) (between after : Option (List ℕ)) (loaded : AreLoaded (reading_by call) call.given load left between) (outputs outputs' : O) (first old mid new : Errors E)
+      (doubts : TellsDoubts K (has Strict call.given) call.given load.secrets first old) where
     abbrev Counted : Bool → Bool → Type 0
-    Counted counted all = all ≡ true → CountsOfNames between after (zeros counted rules) numbers (work_by call (loaded_as rules key)) (names_asked call.given)
+    Counted counted all = all ≡ true → CountsOfNames between after start numbers (work_by call load) (names_asked call.given)
         × ReadsVolume call.holds (names_asked call.given) no_volume volume between after
 
     abbrev Told : Bool → Type 0
-    Told counted = MatchBool counted (TellsCounts K call.given rules numbers volume mid new) (new ≡ mid)
+    Told counted = MatchBool counted (TellsCounts K call.given load.secrets load.lines numbers volume mid new) (TellsLong K load.lines load.secrets numbers mid new)
 
-    module _ (all : Bool) (warned : Errors E) (pieces : TellsOfPieces K (has Strict call.given) (redactor_by_given call.given (loaded_as rules key)) old warned)
-        (run : PlacesOutcome Writes U (work_by call (loaded_as rules key)) K {X = Failure} (Other OutOfMemory) (Ok all) outputs outputs' warned mid) (told : Tells K (IsCountsLine call.given (secrets_of rules)) mid new) where
+    module _ (all : Bool) (warned : Errors E) (pieces : TellsOfPieces K (has Strict call.given) (redactor_by_given call.given load) old warned)
+        (run : PlacesOutcome Writes U (work_by call load) K {X = Failure} (Other OutOfMemory) (Ok all) outputs outputs' warned mid) (told : Tells K (IsCountsLine call.given load.secrets load.lines) mid new) where
       counts_lines : All (IsPlaceLine call) told.told
-      counts_lines = All-weaker (IsCountsLine call.given (secrets_of rules)) (IsPlaceLine call) (λ line is. inl (inr (inr (inl (loaded_as rules key, left, between, loaded, is))))) told.told told.are_lines
+      counts_lines = All-weaker (IsCountsLine call.given load.secrets load.lines) (IsPlaceLine call) (λ line is. inl (inr (inr (inl (load, left, between, loaded, is))))) told.told told.are_lines
 
       -- the counts are told
-      places_done : Counted (counts_asked call.given) all → Told (counts_asked call.given) → CalledPlaces Writes K U call left (Ok all) outputs outputs' first new
-      places_done grown are_told =
-          let load = loaded_as rules key in
+      places_done : (counts_asked call.given ≡ true → WereZero (numbers_with load.lines (length load.secrets)) start) → Counted (counts_asked call.given) all → Told (counts_asked call.given) → CalledPlaces Writes K U call left (Ok all) outputs outputs' first new
+      places_done zero grown are_told =
           let work = work_by call load in
           let (lines, is_all, placed, written) = run.placed in
           let are = files_lines load between loaded outputs outputs' first old doubts lines (lines_of_all Writes K U work (names_asked call.given) lines outputs outputs' placed) in
@@ -143,20 +142,22 @@ module _ {O Z E : Type 0} (Writes : Writers Z) (K : SinkGhosts E) (U : Places O 
               load = load;
               between = between;
               loaded = loaded;
-              freed = freed_all Writes K U work asked.covers asked.all (clean_pieces K (has Strict call.given) (redactor_by_given call.given load) old warned asked.strict pieces asked.covers) (names_asked call.given) outputs outputs' (replaced so);
+              freed = let unlined = unlined_by call load (unruled_lines call load left between asked.unruled loaded) in freed_all Writes K U work unlined asked.covers asked.all (clean_pieces K (has Strict call.given) (redactor_by_given call.given load) unlined old warned asked.strict pieces asked.covers) (names_asked call.given) outputs outputs' (replaced so);
             };
             keeps = inr (record { load = load; between = between; loaded = loaded; whole = placed_whole Writes K U work (names_asked call.given) lines outputs outputs' placed });
             quiet = λ none (is : Ok all ≡ Ok true).
-                let same : new ≡ mid = subst (λ (b : Bool). Told b) none are_told in
                 record {
                   load = load;
                   between = between;
                   loaded = loaded;
-                  told = (old, doubts, subst (λ (e : Errors E). TellsOfPieces K (has Strict call.given) (redactor_by_given call.given load) old e) (sym (same ∙ run.quiet is)) pieces);
+                  meanwhile = warned;
+                  told = (old, doubts, pieces);
+                  counts = numbers;
+                  long = subst (λ (e : Errors E). TellsLong K load.lines load.secrets numbers e new) (run.quiet is) (subst (λ (b : Bool). Told b) none are_told);
                 };
             counts = λ some (is : Ok all ≡ Ok true).
                 let so : all ≡ true = cc in
-                let ((ranges, found, counted), read) = subst (λ (b : Bool). Counted b all) some grown so in
+                let ((ranges, found, counted), read) = grown so in
                 record {
                   load = load;
                   between = between;
@@ -168,8 +169,8 @@ module _ {O Z E : Type 0} (Writes : Writers Z) (K : SinkGhosts E) (U : Places O 
                   warned = (old, doubts, pieces);
                   volume = volume;
                   read = read;
-                  counted = totals_told K call.given rules ranges numbers volume warned new counted
-                      (subst (λ (e : Errors E). TellsCounts K call.given rules numbers volume e new) (run.quiet is) (subst (λ (b : Bool). Told b) some are_told));
+                  counted = totals_told K call.given load.secrets load.lines start ranges numbers volume warned new (zero some) counted
+                      (subst (λ (e : Errors E). TellsCounts K call.given load.secrets load.lines numbers volume e new) (run.quiet is) (subst (λ (b : Bool). Told b) some are_told));
                 };
             partly = λ (is : Ok all ≡ Ok false).
                 let so : all ≡ false = cc in (
@@ -184,7 +185,6 @@ module _ {O Z E : Type 0} (Writes : Writers Z) (K : SinkGhosts E) (U : Places O 
       -- or they are not
       places_untold : (failure : Failure) → IsCountsFailure (counts_asked call.given) failure → CalledPlaces Writes K U call left (Err failure) outputs outputs' first new
       places_untold failure fails =
-          let load = loaded_as rules key in
           let work = work_by call load in
           let (lines, is_all, placed, written) = run.placed in
           let are = files_lines load between loaded outputs outputs' first old doubts lines (lines_of_all Writes K U work (names_asked call.given) lines outputs outputs' placed) in
@@ -208,14 +208,14 @@ module _ {O Z E : Type 0} (Writes : Writers Z) (K : SinkGhosts E) (U : Places O 
 
     -- by what is answered of that
     pub places_told : (all counted : Bool) (result : Result Bool Failure) → counted ≡ counts_asked call.given
-        → WarnedPlaces Writes U (work_by call (loaded_as rules key)) K (has Strict call.given) (Ok all) outputs outputs' old mid → Counted counted all
-        → IfOk result (λ done. done ≡ all) → OnOk result (Told counted) → IfErr result (IsCountsFailure counted) → Tells K (IsCountsLine call.given (secrets_of rules)) mid new
+        → WarnedPlaces Writes U (work_by call load) K (has Strict call.given) (Ok all) outputs outputs' old mid → (counted ≡ true → WereZero (numbers_with load.lines (length load.secrets)) start) → Counted counted all
+        → IfOk result (λ done. done ≡ all) → OnOk result (Told counted) → IfErr result (IsCountsFailure counted) → Tells K (IsCountsLine call.given load.secrets load.lines) mid new
         → CalledPlaces Writes K U call left result outputs outputs' first new
-    places_told all counted result is (inl (why, fails, same, untold, of)) grown done counts unknown told = let clash : Ok all ≡ Err why = fails in absurd (cc)
-    places_told all counted (Ok done) is (inr (warned, pieces, run)) grown same counts unknown told =
+    places_told all counted result is (inl (why, fails, same, untold, of)) zero grown done counts unknown told = let clash : Ok all ≡ Err why = fails in absurd (cc)
+    places_told all counted (Ok done) is (inr (warned, pieces, run)) zero grown same counts unknown told =
         subst (λ (b : Bool). CalledPlaces Writes K U call left (Ok b) outputs outputs' first new) (sym same)
-        (places_done all warned pieces run told (subst (λ (b : Bool). Counted b all) is grown) (subst (λ (b : Bool). Told b) is counts))
-    places_told all counted (Err failure) is (inr (warned, pieces, run)) grown same counts unknown told =
+        (places_done all warned pieces run told (λ some. zero (is ∙ some)) grown (subst (λ (b : Bool). Told b) is counts))
+    places_told all counted (Err failure) is (inr (warned, pieces, run)) zero grown same counts unknown told =
         places_untold all warned pieces run told failure (subst (λ (b : Bool). IsCountsFailure b failure) is unknown)
 
   -- all were replaced

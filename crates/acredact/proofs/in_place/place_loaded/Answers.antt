@@ -1,5 +1,5 @@
 -- Of doubtful patterns it is told before a file is made, or the first is refused.
-use Rattle.std.proofs.Common.{inr, subst, sym}
+use Rattle.std.proofs.Common.{List, inr, subst, sym}
 use Rattle.std.specs.Prelude.{Bool, Err}
 use Rattle.programs.specs.Streams.{bytes_left}
 use Rattle.programs.specs.declared.errors.Errors.{Errors}
@@ -7,8 +7,9 @@ use Rattle.acredact.specs.Arguments.{all_given, has}
 use Rattle.acredact.specs.Calls.{call_of}
 use Rattle.acredact.specs.Doubts.{IsDoubtFailure, TellsDoubts}
 use Rattle.acredact.specs.InPlace.{CalledPlaces}
-use Rattle.acredact.specs.Loading.{key_lent, loaded_as}
+use Rattle.acredact.specs.Loading.{loaded_of}
 use Rattle.acredact.specs.Tables.{secrets_of}
+use Rattle.acredact.specs.declared.patterns.Rule.{Rule}
 use Rattle.acredact.proofs.PlacedCalls.{places_refused}
 use Rattle.acredact.proofs.in_place.place_loaded.Goals as goal
 
@@ -16,7 +17,8 @@ pub returns-in-Ok : goal.returns-in-Ok
 returns-in-Ok g c = record {
   outcome = λ left loaded.
       c.place_counted.ensures.outcome c.args.streams.now.errors
-      (subst (λ (b : Bool). TellsDoubts g.E.Sink b (all_given c.args.given.now) (secrets_of c.args.rules.now) c.args.streams.now.errors c.warn_of_lists.new.errors) c.has-strict.ensures.has c.in-Ok.ensures.told)
+      (subst (λ (l : List Rule). TellsDoubts g.E.Sink (has _ (all_given c.args.given.now)) (all_given c.args.given.now) (secrets_of l) c.args.streams.now.errors c.warn_of_lists.new.errors) c.as_slice.ensures.value
+      (subst (λ (b : Bool). TellsDoubts g.E.Sink b (all_given c.args.given.now) (secrets_of c.as_slice.result.now) c.args.streams.now.errors c.warn_of_lists.new.errors) c.has-strict.ensures.has c.in-Ok.ensures.told))
       left loaded;
 }
 
@@ -24,8 +26,9 @@ pub returns-in-Err : goal.returns-in-Err
 returns-in-Err g c = record {
   outcome = λ left loaded.
       let call = call_of g.F.Folder c.args.folder.now (all_given c.args.given.now) in
-      let load = loaded_as c.args.rules.now (key_lent c.args.key) in
-      let doubted = subst (λ (b : Bool). IsDoubtFailure b (all_given c.args.given.now) (secrets_of c.args.rules.now) c.in-Err.failure) c.has-strict.ensures.has c.in-Err.ensures.refused in
+      let load = loaded_of c.args.sought.now in
+      let refused = subst (λ (l : List Rule). IsDoubtFailure c.has-strict.result (all_given c.args.given.now) (secrets_of l) c.in-Err.failure) c.as_slice.ensures.value c.in-Err.ensures.refused in
+      let doubted = subst (λ (b : Bool). IsDoubtFailure b (all_given c.args.given.now) load.secrets c.in-Err.failure) c.has-strict.ensures.has refused in
       subst (λ (e : Errors _). CalledPlaces g.O.File.Write g.E.Sink g.O.Outputs call left (Err c.in-Err.failure) c.args.outputs.now c.args.outputs.now c.args.streams.now.errors e) (sym c.in-Err.ensures.untold)
       (places_refused g.O.File.Write g.E.Sink g.O.Outputs call left c.in-Err.failure _ _ (inr (inr (inr (inr (inr (inr (load, left, bytes_left c.args.streams.now.input, loaded, doubted))))))));
 }
