@@ -18,7 +18,7 @@ use Rattle.aho_stream.specs.After.{greatest_position}
 use Rattle.aho_stream.specs.Replacing.{IsStreamFault}
 use Rattle.acredact.specs.Back.{IsBacking}
 use Rattle.acredact.specs.Faults.{IsStreamEnd}
-use Rattle.acredact.specs.Secrets.{CanRedact, Keyed, Redactor}
+use Rattle.acredact.specs.Secrets.{CanRedact, Keyed, LineCovered, Redactor}
 use Rattle.acredact.specs.Streams.{StreamOutcome}
 use Rattle.acredact.proofs.Redactions.{begun_by, no_cover, starts_whole, whole_by}
 use Rattle.acredact.proofs.Suited.{redactor_is}

@@ -37,7 +37,7 @@ use Rattle.acredact.specs.Arguments.{Given, covers_asked, gives_rules, has, word
 use Rattle.acredact.specs.Calls.{Call, HidesCall, RedactsCall, names_asked, work_by}
 use Rattle.acredact.specs.LineRules.{LinesLoaded}
 use Rattle.acredact.specs.Loading.{Loaded, loaded_by}
-use Rattle.acredact.specs.Named.{all_named, named_secret}
+use Rattle.acredact.specs.Named.{named_secret}
 use Rattle.acredact.specs.declared.arguments.Word.TheVariants.{Forms as FormsOption, IgnoreCase}
 use Rattle.acredact.specs.declared.streams.Streams.{Streams}
 use Rattle.acredact.proofs.Free.{named_as}

@@ -1,19 +1,16 @@
 -- What comes of a stream whose lines are covered.
-use Rattle.std.proofs.Common.{◌≡◌, inl, inr, ℕ, ◌+◌, ◌≤◌, List, [], ◌∷◌, ◌++◌, Option, true, false, length, take, refl, sym, ap, subst, ◌∙◌, arith, append_assoc, length-append}
-use Rattle.std.specs.Prelude.{Bool, MatchOption, None, Some, Result, Ok, Err, IfErr, OnErr, OnOk}
+use Rattle.std.proofs.Common.{◌≡◌, ℕ, ◌+◌, ◌≤◌, List, [], ◌∷◌, ◌++◌, Option, true, length, take, refl, sym, ap, subst, ◌∙◌, arith, length-append}
+use Rattle.std.specs.Prelude.{Bool, MatchOption, None, Some, Result, Ok, Err, IfErr, OnOk}
 use Rattle.std.specs.Io.{StartsWith}
 use Rattle.std.proofs.Math.Seq.{take-append-add, take-length}
 use Rattle.std.proofs.lemmas.List.{length-take, take-append-le}
 use Rattle.aho_core.specs.Occurrence.{Occurrence}
 use Rattle.aho_core.specs.Patterns.{Patterns}
-use Rattle.aho_core.specs.declared.error.stream.StreamError.{StreamError}
-use Rattle.aho_core.specs.declared.error.stream.StreamError.TheVariants.{Match as Refused, Read, Write, WriteZero, Memory, PositionLimit}
 use Rattle.aho_cover.specs.Pieces.{PieceRule}
 use Rattle.aho_devices.specs.Errors.{CountsErrors}
 use Rattle.aho_devices.specs.declared.device.Sink.{Ghosts as SinkGhosts}
 use Rattle.aho_devices.specs.declared.device.Source.{Ghosts as SourceGhosts}
 use Rattle.aho_laws.proofs.CoverRuns.{runs-unique}
-use Rattle.aho_stream.specs.Replacing.{IsStreamFault, MayBe}
 use Rattle.secret_rules.specs.Covering.{AreLineRuns, CoveredIn, Covering, lines_cover, seen_line}
 use Rattle.std.specs.Borrow.{Bor}
 use Rattle.aho_automaton.specs.declared.automaton.Automaton.{Ghosts as Automata}

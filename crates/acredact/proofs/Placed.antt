@@ -1,6 +1,6 @@
 -- What becomes of files that are replaced in place, one after another.
 use Rattle.std.proofs.Common.{◌≡◌, inl, inr, ℕ, List, [], ◌∷◌, ◌++◌, Option, true, false, refl, sym, ap, subst, ◌∙◌, append-nil, append_assoc}
-use Rattle.std.specs.Prelude.{Bool, ◌&&◌, Result, Ok, Err, IfOk, OnErr, OnOk, is_some}
+use Rattle.std.specs.Prelude.{Bool, ◌&&◌, None, Result, Ok, Err, IfOk, OnErr, OnOk, is_some}
 use Rattle.std.specs.List.{All, concat}
 use Rattle.std.specs.declared.io.traits.Read.{Ghosts as Readers}
 use Rattle.std.specs.declared.io.traits.Write.{Ghosts as Writers}

@@ -9,16 +9,17 @@ use Rattle.programs.specs.Streams.{bytes_left}
 use Rattle.programs.specs.Telling.{Tells, TellsBytes, TellsSome}
 use Rattle.programs.specs.declared.errors.Errors.{Errors}
 use Rattle.programs.specs.declared.reason.Reason.{Reason}
-use Rattle.acredact.specs.Sums.{sums_of}
+use Rattle.acredact.specs.Summaries.{no_volume}
 use Rattle.acredact.specs.Arguments.{AsksToCheck, AsksToRedact, Given, all_asked, checks_asked, counts_asked}
 use Rattle.acredact.specs.Calls.{Call, CountsCall, IsCountsLine, IsLineOf, WarnsCall}
 use Rattle.acredact.specs.Files.{unread_line}
 use Rattle.acredact.specs.Into.{IsOutputLine}
 use Rattle.acredact.specs.declared.streams.Streams.{Streams}
-use Rattle.acredact.proofs.Calls.{tells_counts, tells_last}
+use Rattle.acredact.proofs.Calls.{tells_last}
 use Rattle.acredact.proofs.Given.{same_given}
 use Rattle.acredact.proofs.PlacedCalls.{tells_weaker}
 use Rattle.acredact.proofs.Statuses.{asks_check, no_redaction}
+use Rattle.acredact.proofs.Told.{long_of, totals_are_counts}
 use Rattle.acredact.proofs.Warned.{tells_both, warnings_tell}
 
 -- a status is 0, 1 or 2
@@ -67,11 +68,16 @@ module _ {R W E : Type 0} {Reads : Readers R} (Writes : Writers W) (K : SinkGhos
   done_told quiet counts = by (counts_asked call.given) refl
     where
       by : (b : Bool) → counts_asked call.given ≡ b → Tells K (IsLineOf call fails) old.errors new.errors
-      by false none = let warned = quiet none in warnings_tell K call fails warned.load (bytes_left old.input) warned.between warned.loaded old.errors warned.told.0 new.errors warned.told.1 warned.told.2
+      by false none =
+          let warned = quiet none in
+          let load = warned.load in
+          tells_both K (IsLineOf call fails) old.errors warned.meanwhile new.errors (warnings_tell K call fails load (bytes_left old.input) warned.between warned.loaded old.errors warned.told.0 warned.meanwhile warned.told.1 warned.told.2)
+          (tells_weaker K (IsCountsLine call.given load.secrets load.lines) (IsLineOf call fails) warned.meanwhile new.errors (λ line is. inr (inr (inl (load, bytes_left old.input, warned.between, warned.loaded, is))))
+          (long_of K call.given load.secrets warned.counts no_volume load.lines warned.meanwhile new.errors warned.long))
       by true some =
           let counted = counts some in
           let warned = counted.warned in
           let load = counted.load in
           tells_both K (IsLineOf call fails) old.errors counted.meanwhile new.errors (warnings_tell K call fails load (bytes_left old.input) counted.between counted.loaded old.errors warned.0 counted.meanwhile warned.1 warned.2)
-          (tells_weaker K (IsCountsLine call.given load.secrets) (IsLineOf call fails) counted.meanwhile new.errors (λ line is. inr (inr (inl (load, bytes_left old.input, counted.between, counted.loaded, is))))
-          (tells_counts K call.given counted.meanwhile new.errors load.secrets (sums_of load.secrets counted.counted.counts) counted.volume some counted.counted.told))
+          (tells_weaker K (IsCountsLine call.given load.secrets load.lines) (IsLineOf call fails) counted.meanwhile new.errors (λ line is. inr (inr (inl (load, bytes_left old.input, counted.between, counted.loaded, is))))
+          (totals_are_counts K call.given load.secrets counted.counted.counts counted.volume load.lines counted.meanwhile new.errors some counted.counted.told))

@@ -36,7 +36,7 @@ use Rattle.aho_cover.specs.Pieces.{IsCoverWith, piece_in}
 use Rattle.aho_cover.specs.Words.{AreRunsWith, all_runs}
 use Rattle.aho_cover.proofs.Chosen.{all-are, all-covers, all-made}
 use Rattle.pseudonyms.specs.Pseudonyms.{pseudonym_rule}
-use Rattle.acredact.specs.Secrets.{AreCleanBy, AreReplaced, AreReplacedInLines, AreReplacedWhole, BeginsInLines, BeginsRedaction, BeginsWhole, CountsFor, IsLineRedaction, IsRedaction, IsWholeCover, IsWholeRedaction, Keyed, LineCovered, NoByteIsKept, NoneIsWhole, NoneOccurs, Redactor, own_in, rule_by, rule_of}
+use Rattle.acredact.specs.Secrets.{AreCleanBy, AreReplaced, AreReplacedInLines, AreReplacedWhole, BeginsInLines, BeginsRedaction, BeginsWhole, CountsFor, IsLineRedaction, IsRedaction, IsWholeRedaction, Keyed, LineCovered, NoByteIsKept, NoneIsWhole, NoneOccurs, Redactor, own_in, rule_by, rule_of}
 use Rattle.acredact.specs.Streams.{ReachesStream, RedactsStream, StartsStream, StreamOutcome}
 use Rattle.acredact.specs.Totals.{CountsOfStream}
 use Rattle.acredact.proofs.Covered.{none_left}

@@ -86,7 +86,7 @@ module _ {R : Type 0} {Reads : Readers R} {W E : Type 0} (Writes : Writers W) (K
     quiet = λ none is. of.quiet none refl;
     counts = λ counted is. of.counts counted refl;
     tells = λ (is : 0 ≡ 2). absurd (omega arith);
-    numbers = (new.errors, of.numbers, inl refl);
+    numbers = λ none. (new.errors, of.numbers none, inl refl);
   }
 
   -- some file was not read to its end
@@ -100,7 +100,7 @@ module _ {R : Type 0} {Reads : Readers R} {W E : Type 0} (Writes : Writers W) (K
     quiet = λ none (is : 2 ≡ 0). absurd (omega arith);
     counts = λ counted (is : 2 ≡ 0). absurd (omega arith);
     tells = λ is. of.partly refl;
-    numbers = (new.errors, of.numbers, inl refl);
+    numbers = λ none. (new.errors, of.numbers none, inl refl);
   }
 
   -- the call ended early, and that is told
@@ -115,5 +115,5 @@ module _ {R : Type 0} {Reads : Readers R} {W E : Type 0} (Writes : Writers W) (K
     quiet = λ none (is : 2 ≡ 0). absurd (omega arith);
     counts = λ counted (is : 2 ≡ 0). absurd (omega arith);
     tells = λ two. tells_last K (IsLineOf call (OutputFails old.output new.output)) _ _ _ line of.told (inr (inl (failure, of.fails, is))) told;
-    numbers = (new.errors, of.numbers, inr (failure, of.fails, line, is, told));
+    numbers = λ none. (new.errors, of.numbers none, inr (failure, of.fails, line, is, told));
   }

@@ -31,7 +31,6 @@ use Rattle.acredact.specs.declared.files.Job.{Job}
 use Rattle.acredact.specs.declared.files.Lines.{Lines as JobLines}
 use Rattle.acredact.specs.declared.streams.Streams.{Streams}
 use Rattle.acredact.specs.declared.ways.Key.{Key}
-use Rattle.pseudonyms.specs.Pseudonyms.{pseudonym_rule}
 use Rattle.acredact.proofs.Done.{tells_none}
 use Rattle.acredact.proofs.OneFile.{named_none}
 

@@ -42,6 +42,10 @@ module _ {E : Type 0} (K : SinkGhosts E) (given : List Given) (secrets : List Se
   long_is_counts None old new told quiet = tells_same K _ old new (quiet refl)
   long_is_counts (Some lines) old new told quiet = one_line (IsCountsLine given secrets (Some lines)) (long_by (Some lines) secrets counts) old new (counts, volume, inr refl) told
 
+  pub long_of : (lines : Option LinesLoaded) (old new : Errors E) → TellsLong K lines secrets counts old new → Tells K (IsCountsLine given secrets lines) old new
+  long_of None old new same = tells_same K _ old new same
+  long_of (Some lines) old new told = one_line (IsCountsLine given secrets (Some lines)) (long_by (Some lines) secrets counts) old new (counts, volume, inr refl) told
+
   -- and behind that of all
   pub both_told : (lines : Option LinesLoaded) (old mid new : Errors E) → TellsBytes K old mid (long_by lines secrets counts) → (lines ≡ None → mid ≡ old) → TellsBytes K mid new (totals_behind lines given secrets counts volume)
       → TellsBytes K old new (totals_by lines given secrets counts volume)

@@ -33,7 +33,6 @@ use Rattle.acredact.specs.Mistakes.{IsMistakeOfCall}
 use Rattle.acredact.specs.Pieces.{IsUncleanOf, TellsOfPieces}
 use Rattle.acredact.specs.Secrets.{Keyed, LineCovered, Redactor, key_of_cover}
 use Rattle.acredact.specs.Tables.{Secret, patterns_in, piece_by, secrets_of}
-use Rattle.acredact.specs.Sums.{sums_of}
 use Rattle.acredact.specs.Summaries.{IsToldOf, long_by, no_volume, totals_by, totals_text}
 use Rattle.acredact.specs.Totals.{AreTotals, NamesHaveRanges}
 use Rattle.acredact.specs.Volumes.{ReadsVolume}

@@ -1,5 +1,5 @@
 -- What the options give, one after another, and why they do not.
-use Rattle.std.specs.Prelude.{◌≡◌, ◌⊎◌, ℕ, ◌<◌, ◌≤◌, Bool, true, false, List, [], ◌∷◌, ◌++◌, MatchOption, Option, Some, None, IfSome, Result, Ok, Err, if◌then◌else◌, codes, length, not, ◌&&◌, option_and_then, option_map, unwrap_or, Vec}
+use Rattle.std.specs.Prelude.{◌≡◌, ◌⊎◌, ℕ, ◌<◌, ◌≤◌, Bool, true, false, List, [], ◌∷◌, ◌++◌, Option, Some, None, IfSome, Result, Ok, Err, if◌then◌else◌, codes, length, not, ◌&&◌, option_and_then, option_map, unwrap_or, Vec}
 use Rattle.std.specs.Borrow.{Bor}
 use Rattle.std.specs.List.{All, AllZip, filter_map}
 use Rattle.std.specs.declared.io.traits.Read.{Ghosts as Readers}

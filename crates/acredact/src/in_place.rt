@@ -5,7 +5,7 @@ ghost use Rattle.aho_core.specs.declared.error.stream.StreamError.TheVariants.{M
 ghost use Rattle.programs.specs.Arguments.{texts};
 ghost use Rattle.programs.specs.Streams.{output_bytes};
 ghost use Rattle.programs.specs.Telling.{TellsSome};
-ghost use Rattle.acredact.specs.Arguments.{AreMistaken, AsksInPlace, IfAsked, all_given, counts_given};
+ghost use Rattle.acredact.specs.Arguments.{AreMistaken, AsksInPlace, IfAsked, all_given};
 ghost use Rattle.acredact.specs.Back.{AreBoth, IfBackIs};
 ghost use Rattle.acredact.specs.Calls.{IsWrongFailure, IsWrongLine, ReadsAsked};
 ghost use Rattle.acredact.specs.Files.{CanDo};

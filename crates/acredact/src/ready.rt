@@ -13,7 +13,7 @@ ghost use Rattle.acredact.specs.Files.{keyed_of, lines_of};
 ghost use Rattle.acredact.specs.LineRules.{pieces_with, texts_behind};
 ghost use Rattle.acredact.specs.Loading.{key_in, key_lent, lines_sought};
 ghost use Rattle.acredact.specs.Pieces.{pieces_by};
-ghost use Rattle.acredact.specs.Tables.{HaveNoEmpty, patterns_in, secrets_of};
+ghost use Rattle.acredact.specs.Tables.{patterns_in, secrets_of};
 ghost use Rattle.acredact.specs.declared.arguments.Word.TheVariants.{AsWord, IgnoreCase};
 ghost use Rattle.acredact.specs.declared.failure.Failure.TheVariants.{LineEnd};
 

@@ -6,7 +6,7 @@ ghost use Rattle.programs.specs.Telling.{TellsBytes};
 ghost use Rattle.acredact.specs.Counts.{PutsText};
 ghost use Rattle.acredact.specs.Loading.{lines_sought};
 ghost use Rattle.acredact.specs.Messages.{shown};
-ghost use Rattle.acredact.specs.RuleLines.{hex_digit, json_byte, json_text, long_count, long_told, rule_counts_told, rule_object, rule_summary_text};
+ghost use Rattle.acredact.specs.RuleLines.{hex_digit, json_text, long_count, long_told, rule_counts_told, rule_object, rule_summary_text};
 ghost use Rattle.acredact.specs.Summaries.{AreZeros, long_by};
 ghost use Rattle.acredact.specs.Tables.{secrets_of};
 

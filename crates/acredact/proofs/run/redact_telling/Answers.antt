@@ -1,6 +1,6 @@
 -- The files' outcome, and then the counts.
-use Rattle.std.proofs.Common.{List, ℕ, ◌≡◌, ◌∙◌, refl, sym, subst, ap}
-use Rattle.std.specs.Prelude.{MatchOption, None, Ok, Option, length, replicate, ◌+◌}
+use Rattle.std.proofs.Common.{List, ℕ, ◌≡◌, ◌∙◌, refl, subst, ap}
+use Rattle.std.specs.Prelude.{MatchOption, Ok, Option, length, replicate, ◌+◌}
 use Rattle.programs.specs.Streams.{bytes_left}
 use Rattle.acredact.specs.Arguments.{all_given, counts_asked, counts_given}
 use Rattle.acredact.specs.Bounds.{NumbersOfAll}

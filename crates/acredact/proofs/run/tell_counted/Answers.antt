@@ -1,5 +1,5 @@
 -- The number of long lines, and then the counts and the summary as one text.
-use Rattle.std.proofs.Common.{rules, ◌≡◌, List, ℕ, true, false, subst, sym}
+use Rattle.std.proofs.Common.{rules, ◌≡◌, true, false, subst, sym}
 use Rattle.std.specs.Prelude.{Bool, MatchBool}
 use Rattle.programs.specs.Telling.{Tells}
 use Rattle.programs.specs.declared.errors.Errors.{Errors}

@@ -1,5 +1,5 @@
 -- What comes of lines that are covered.
-use Rattle.std.proofs.Common.{sym, subst}
+use Rattle.std.proofs.Common.{subst}
 use Rattle.std.specs.Prelude.{OnOk, Result}
 use Rattle.secret_rules.specs.LineCovers.{of_devices}
 use Rattle.secret_rules.specs.declared.error.LineError.{LineError}
