@@ -1,6 +1,6 @@
 -- What is seen of files, one after another.
 use Rattle.std.proofs.Common.{◌≡◌, inl, inr, ℕ, List, [], ◌∷◌, ◌++◌, Option, true, false, refl, sym, ap, subst, ◌∙◌, append-nil, append_assoc, arith}
-use Rattle.std.specs.Prelude.{Bool, ◌⊎◌, ◌<◌, ◌||◌, ◌&&◌, not, Result, Ok, Err, IfErr}
+use Rattle.std.specs.Prelude.{Bool, None, Some, ◌⊎◌, ◌<◌, ◌||◌, ◌&&◌, not, Result, Ok, Err, IfErr}
 use Rattle.std.specs.Io.KnownBytes.{Keeps}
 use Rattle.std.specs.List.{All, concat}
 use Rattle.std.proofs.KnownBytes.{Consumes-nil}
@@ -14,7 +14,7 @@ use Rattle.programs.proofs.Tellings.{tells-later}
 use Rattle.acredact.specs.Builds.{patterns_by_given}
 use Rattle.acredact.specs.Arguments.{has}
 use Rattle.acredact.specs.Calls.{Call, IsUnreadLine, gives_pattern, names_asked, reading_by}
-use Rattle.acredact.specs.Checks.{AreSeen, AreUnmatched, CheckFails, CheckOutcome, CheckStatus, IsBuildFailure, IsCheckLine, IsLookOf, IsUnmatchedCall, Quest, SeesCall, SeesFiles, look_lines, quest_by}
+use Rattle.acredact.specs.Checks.{AreSeen, AreUnmatched, CheckFails, CheckOutcome, CheckStatus, IsBuildFailure, IsCheckLine, IsLookOf, IsUnmatchedCall, Quest, IsRunLine, SeesCall, SeesFiles, TellsRuns, TellsSeen, TellsSeenSome, look_lines, quest_by}
 use Rattle.acredact.specs.Doubts.{TellsDoubts, all_doubt_lines}
 use Rattle.acredact.specs.Failures.{IsFailureLine}
 use Rattle.acredact.specs.Faults.{IsReadReason}
@@ -22,7 +22,8 @@ use Rattle.acredact.specs.Files.{are_none, unread_line}
 use Rattle.acredact.specs.Loading.{AreGiven, CannotLoadAll}
 use Rattle.acredact.specs.Looks.{IsLook, HoldsNoMatch, is_found, is_unread_look, verdict_with}
 use Rattle.acredact.specs.Reads.{OfName}
-use Rattle.acredact.specs.Secrets.{Redactor}
+use Rattle.secret_rules.specs.declared.rule.Rule.{Rule as LineRule}
+use Rattle.acredact.specs.Secrets.{LineCovered, Redactor}
 use Rattle.acredact.specs.Statuses.{check_status}
 use Rattle.acredact.specs.Tables.{Secret, patterns_in}
 use Rattle.acredact.specs.declared.arguments.Word.TheVariants.{Strict}
@@ -89,26 +90,74 @@ or_false : (a : Bool) → (a || false) ≡ a
 or_false true = refl
 or_false false = refl
 
+-- where a rule marks in one of some files
+run_weaker : (rules : List LineRule) (most : ℕ) (name : List ℕ) (names : List (List ℕ)) → IsOneOf name names → (line : List ℕ) → IsRunLine rules most (name ∷ []) line → IsRunLine rules most names line
+run_weaker rules most name names among line (inl (file, number, called, inl same, is, told)) = inl (file, number, called, subst (λ (n : List ℕ). IsOneOf n names) (sym same) among, is, told)
+run_weaker rules most name names among line (inl (file, number, called, inr none, is, told)) = absurd none
+run_weaker rules most name names among line (inr long) = inr long
+
+module _ {E : Type 0} (K : SinkGhosts E) (names : List (List ℕ)) where
+  abbrev IsSeenLine : LineCovered → List ℕ → Type 0
+  IsSeenLine l line = IsUnreadLine names line ⊎ IsRunLine l.rules l.most names line
+
+  runs_told : (l : LineCovered) (name : List ℕ) (old new : Errors E) → IsOneOf name names → Tells K (IsRunLine l.rules l.most (name ∷ [])) old new → Tells K (IsSeenLine l) old new
+  runs_told l name old new among tells = record {
+    told = tells.told;
+    are_lines = All-weaker (IsRunLine l.rules l.most (name ∷ [])) (IsSeenLine l) (λ line is. inr (run_weaker l.rules l.most name names among line is)) tells.told tells.are_lines;
+    written = tells.written;
+  }
+
+  -- what is told of one more file
+  seen_told : (x : Option LineCovered) (name : List ℕ) (lines more : List (List ℕ)) (old mid between new : Errors E) → IsOneOf name names → All (IsUnreadLine names) more → TellsSeen K x names lines old mid → TellsRuns K x name mid between
+      → TellsBytes K between new (concat more) → TellsSeen K x names (lines ++ more) old new
+  seen_told None name lines more old mid between new among are first runs later =
+      subst (TellsBytes K old new) (sym (concat_both lines more)) (tells-later K first (subst (λ (e : Errors E). TellsBytes K e new (concat more)) runs later))
+  seen_told (Some l) name lines more old mid between new among are first runs later =
+      tells_both K (IsSeenLine l) old between new (tells_both K (IsSeenLine l) old mid between first (runs_told l name mid between among runs))
+      (record { told = more; are_lines = All-weaker (IsUnreadLine names) (IsSeenLine l) (λ line is. inl is) more are; written = later })
+
+  -- or of some files, and of one more that was not seen whole
+  some_told : (x : Option LineCovered) (name : List ℕ) (lines : List (List ℕ)) (old mid new : Errors E) → IsOneOf name names → All (IsUnreadLine names) lines → TellsSeen K x names lines old mid → TellsRuns K x name mid new → TellsSeenSome K x names old new
+  some_told None name lines old mid new among are first runs = record { told = lines; are_lines = are; written = subst (λ (e : Errors E). TellsBytes K old e (concat lines)) (sym runs) first }
+  some_told (Some l) name lines old mid new among are first runs = tells_both K (IsSeenLine l) old mid new first (runs_told l name mid new among runs)
+
+  none_seen : (x : Option LineCovered) (errors : Errors E) → TellsSeen K x names [] errors errors
+  none_seen None errors = tells_none K errors
+  none_seen (Some l) errors = tells_same K (IsSeenLine l) errors errors refl
+
+  none_some : (x : Option LineCovered) (errors : Errors E) → TellsSeenSome K x names errors errors
+  none_some None errors = tells_same K (IsUnreadLine names) errors errors refl
+  none_some (Some l) errors = tells_same K (IsSeenLine l) errors errors refl
+
+-- nothing was told of a file that cannot be opened
+pub told_nothing : {E : Type 0} (K : SinkGhosts E) (x : Option LineCovered) (name : List ℕ) (errors : Errors E) → TellsRuns K x name errors errors
+told_nothing K None name errors = refl
+told_nothing K (Some l) name errors = tells_same K (IsRunLine l.rules l.most (name ∷ [])) errors errors refl
+
+-- nothing was told of what is not looked at line by line
+no_runs : {E : Type 0} (K : SinkGhosts E) (x : Option LineCovered) (name : List ℕ) (old new : Errors E) → x ≡ None → TellsRuns K x name old new → new ≡ old
+no_runs K x name old new none runs = subst (λ (y : Option LineCovered). TellsRuns K y name old new) none runs
+
 module _ {E : Type 0} (K : SinkGhosts E) (quest : Quest) (names : List (List ℕ)) (old : Errors E) (before : Option (List ℕ)) where
   -- some first files were looked at: what is seen of the others is seen of all
   pub record SeenSoFar (rest : List (List ℕ)) (verdict : Verdict) (left : Option (List ℕ)) (errors : Errors E) : Type 0 where
     pub lines : List (List ℕ)
     pub is_all : verdict.all ≡ are_none lines
     pub are : All (IsUnreadLine names) lines
-    pub told : TellsBytes K old errors (concat lines)
-    pub quiet : verdict.all ≡ true → errors ≡ old
+    pub told : TellsSeen K quest.redactor.lines names lines old errors
+    pub quiet : quest.redactor.lines ≡ None → verdict.all ≡ true → errors ≡ old
     pub among : (name : List ℕ) → IsOneOf name rest → IsOneOf name names
     pub seen : (found : Bool) (more : List (List ℕ)) (left' : Option (List ℕ)) → AreSeen quest rest found more left left' → AreSeen quest names (verdict.found || found) (lines ++ more) before left'
 
   -- one more
-  pub seen_more : (name : List ℕ) (rest : List (List ℕ)) (verdict : Verdict) (look : Look) (left left' : Option (List ℕ)) (mid new : Errors E) → SeenSoFar (name ∷ rest) verdict left mid → IsLookOf quest name look left left'
-      → TellsBytes K mid new (concat (look_lines name look)) → (is_unread_look look ≡ false → new ≡ mid) → SeenSoFar rest (verdict_with verdict look) left' new
-  seen_more name rest verdict look left left' mid new so looks told quiet = record {
+  pub seen_more : (name : List ℕ) (rest : List (List ℕ)) (verdict : Verdict) (look : Look) (left left' : Option (List ℕ)) (mid between new : Errors E) → SeenSoFar (name ∷ rest) verdict left mid → IsLookOf quest name look left left'
+      → TellsRuns K quest.redactor.lines name mid between → TellsBytes K between new (concat (look_lines name look)) → (is_unread_look look ≡ false → new ≡ between) → SeenSoFar rest (verdict_with verdict look) left' new
+  seen_more name rest verdict look left left' mid between new so looks runs told quiet = record {
     lines = so.lines ++ look_lines name look;
     is_all = none_more so.lines name look verdict.all so.is_all;
     are = All-append (IsUnreadLine names) so.lines (look_lines name look) so.are (look_are name names look (so.among name (inl refl)));
-    told = subst (TellsBytes K old new) (sym (concat_both so.lines (look_lines name look))) (tells-later K so.told told);
-    quiet = λ is. let parts = both_all verdict.all look is in quiet parts.1 ∙ so.quiet parts.0;
+    told = seen_told K names quest.redactor.lines name so.lines (look_lines name look) old mid between new (so.among name (inl refl)) (look_are name names look (so.among name (inl refl))) so.told runs told;
+    quiet = λ none is. let parts = both_all verdict.all look is in quiet parts.1 ∙ no_runs K quest.redactor.lines name mid between none runs ∙ so.quiet none parts.0;
     among = λ other is. so.among other (inr is);
     seen = λ found more last rests.
         let here : AreSeen quest (name ∷ rest) (is_found look || found) (look_lines name look ++ more) left last = (look, found, more, refl, refl, left', looks, rests) in
@@ -132,8 +181,9 @@ module _ {E : Type 0} (K : SinkGhosts E) (quest : Quest) (names : List (List ℕ
   }
 
   -- memory runs out
-  pub seen_cut : {X : Type 0} (error : X) (rest : List (List ℕ)) (verdict : Verdict) (left left' : Option (List ℕ)) (errors : Errors E) → SeenSoFar rest verdict left errors → SeesFiles K quest names (Err error) before left' old errors
-  seen_cut error rest verdict left left' errors so = record { seen = tt; quiet = tt; told = record { told = so.lines; are_lines = so.are; written = so.told } }
+  pub seen_cut : {X : Type 0} (error : X) (name : List ℕ) (rest : List (List ℕ)) (verdict : Verdict) (left left' : Option (List ℕ)) (errors new : Errors E) → SeenSoFar (name ∷ rest) verdict left errors → TellsRuns K quest.redactor.lines name errors new
+      → SeesFiles K quest names (Err error) before left' old new
+  seen_cut error name rest verdict left left' errors new so runs = record { seen = tt; quiet = λ none. tt; told = some_told K names quest.redactor.lines name so.lines old errors new (so.among name (inl refl)) so.are so.told runs }
 
 -- before the first
 pub seen_none : {E : Type 0} (K : SinkGhosts E) (quest : Quest) (names : List (List ℕ)) (errors : Errors E) (left : Option (List ℕ)) → SeenSoFar K quest names errors left names (record { found = false; all = true }) left errors
@@ -141,21 +191,22 @@ seen_none K quest names errors left = record {
   lines = [];
   is_all = refl;
   are = All-nil (IsUnreadLine names);
-  told = tells_none K errors;
-  quiet = λ is. refl;
+  told = none_seen K names quest.redactor.lines errors;
+  quiet = λ none is. refl;
   among = λ name is. is;
   seen = λ found more left' seen. seen;
 }
 
 -- nothing was looked at
 pub seen_refused : {E X : Type 0} (K : SinkGhosts E) (quest : Quest) (names : List (List ℕ)) (error : X) (left left' : Option (List ℕ)) (errors : Errors E) → SeesFiles K quest names (Err error) left left' errors errors
-seen_refused K quest names error left left' errors = record { seen = tt; quiet = tt; told = tells_same K (IsUnreadLine names) errors errors refl }
+seen_refused K quest names error left left' errors = record { seen = tt; quiet = λ none. tt; told = none_some K names quest.redactor.lines errors }
 
 -- what is seen of files stays so, with another error
-pub seen_fails : {E X Y : Type 0} (K : SinkGhosts E) (quest quest' : Quest) (names names' : List (List ℕ)) (error : X) (other : Y) (left left' : Option (List ℕ)) (errors errors' : Errors E) → names ≡ names'
+pub seen_fails : {E X Y : Type 0} (K : SinkGhosts E) (quest quest' : Quest) (names names' : List (List ℕ)) (error : X) (other : Y) (left left' : Option (List ℕ)) (errors errors' : Errors E) → quest ≡ quest' → names ≡ names'
     → SeesFiles K quest names (Err error) left left' errors errors' → SeesFiles K quest' names' (Err other) left left' errors errors'
-seen_fails K quest quest' names names' error other left left' errors errors' same sees =
-    subst (λ (l : List (List ℕ)). SeesFiles K quest' l (Err other) left left' errors errors') same (record { seen = tt; quiet = tt; told = sees.told })
+seen_fails K quest quest' names names' error other left left' errors errors' alike same sees =
+    subst (λ (q : Quest). SeesFiles K q names' (Err other) left left' errors errors') alike
+    (subst (λ (l : List (List ℕ)). SeesFiles K quest l (Err other) left left' errors errors') same (record { seen = tt; quiet = λ none. tt; told = sees.told }))
 
 pub seen_whole : {E X Y : Type 0} (K : SinkGhosts E) (quest quest' : Quest) (names names' : List (List ℕ)) (verdict : Verdict) (left left' : Option (List ℕ)) (errors errors' : Errors E) → quest ≡ quest' → names ≡ names'
     → SeesFiles K {X = X} quest names (Ok verdict) left left' errors errors' → SeesFiles K {X = Y} quest' names' (Ok verdict) left left' errors errors'
@@ -192,9 +243,10 @@ pub unmatched_call : (call : Call) (left left' : Option (List ℕ)) → SeesCall
 unmatched_call call left left' sees = record {
   some = sees.some;
   secrets = sees.secrets;
+  rules = sees.rules;
   between = sees.between;
   loaded = sees.loaded;
-  unmatched = unmatched_all (quest_by call sees.secrets) (names_asked call.given) sees.between left' sees.seen;
+  unmatched = unmatched_all (quest_by call sees.secrets sees.rules) (names_asked call.given) sees.between left' sees.seen;
 }
 
 -- one of the options cannot be loaded, or memory runs out for the forms

@@ -4,11 +4,11 @@ use Rattle.std.specs.Prelude.{IfOk, Result, Ok, Err}
 use Rattle.std.specs.Io.KnownBytes.{Keeps}
 use Rattle.std.specs.declared.alloc.AllocError.{AllocError}
 use Rattle.programs.specs.Names.{is_input}
-use Rattle.acredact.specs.Checks.{IsLookOf, Quest, quest_of}
+use Rattle.acredact.specs.Checks.{IsLookOf, Quest, quest_for}
 use Rattle.acredact.specs.Faults.{IsReadReason}
 use Rattle.acredact.specs.Looks.{IsLook}
 use Rattle.acredact.specs.declared.look.Look.{Look}
-use Rattle.acredact.proofs.Checks.{look_input, look_opened, look_refused}
+use Rattle.acredact.proofs.Checks.{look_input, look_opened, look_refused, told_nothing}
 use Rattle.acredact.proofs.look.look_at_file.Goals as goal
 
 by_input : (quest : Quest) (name : List ℕ) (result : Result Look AllocError) (left left' : Option (List ℕ)) → is_input name ≡ true → IfOk result (λ look. IsLook quest.redactor IsReadReason look left left') → IfOk result (λ look. IsLookOf quest name look left left')
@@ -21,15 +21,21 @@ by_folder quest name (Err error) given left is kept looks = tt
 
 pub returns-then-is_input : goal.returns-then-is_input
 returns-then-is_input g c = record {
-  looks = λ p of. by_input (quest_of g.F.Folder c.args.files.now.folder.now c.args.files.now.words p) c.args.name.now _ _ _ (sym c.is_input.ensures.is ∙ c.if-is_input.true) (c.look_at_input.ensures.looks p of);
+  looks = λ r seeks. by_input (quest_for g.F.Folder c.args.files.now.folder.now r) c.args.name.now _ _ _ (sym c.is_input.ensures.is ∙ c.if-is_input.true) (c.look_at_input.ensures.looks r seeks);
+  told = c.look_at_input.ensures.told;
+  still = c.look_at_input.ensures.still;
 }
 
 pub returns-in-Ok : goal.returns-in-Ok
 returns-in-Ok g c = record {
-  looks = λ p of. by_folder (quest_of g.F.Folder c.args.files.now.folder.now c.args.files.now.words p) c.args.name.now _ _ _ (sym c.is_input.ensures.is ∙ c.if-is_input.false) c.in-Ok.ensures.told (c.look_at_opened.ensures.looks p of);
+  looks = λ r seeks. by_folder (quest_for g.F.Folder c.args.files.now.folder.now r) c.args.name.now _ _ _ (sym c.is_input.ensures.is ∙ c.if-is_input.false) c.in-Ok.ensures.told (c.look_at_opened.ensures.looks r seeks);
+  told = c.look_at_opened.ensures.told;
+  still = c.look_at_opened.ensures.still;
 }
 
 pub returns-in-Err : goal.returns-in-Err
 returns-in-Err g c = record {
-  looks = λ p of. look_refused (quest_of g.F.Folder c.args.files.now.folder.now c.args.files.now.words p) c.args.name.now c.in-Err.reason _ _ (sym c.is_input.ensures.is ∙ c.if-is_input.false) refl c.in-Err.ensures.refused;
+  looks = λ r seeks. look_refused (quest_for g.F.Folder c.args.files.now.folder.now r) c.args.name.now c.in-Err.reason _ _ (sym c.is_input.ensures.is ∙ c.if-is_input.false) refl c.in-Err.ensures.refused;
+  told = λ r seeks. told_nothing g.E.Sink r.lines c.args.name.now c.args.errors.now;
+  still = λ r seeks. seeks;
 }

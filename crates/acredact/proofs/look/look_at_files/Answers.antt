@@ -4,41 +4,50 @@ use Rattle.std.specs.Prelude.{Err, Result}
 use Rattle.std.specs.declared.alloc.AllocError.{AllocError}
 use Rattle.programs.specs.Names.{name_bytes}
 use Rattle.programs.specs.Streams.{bytes_left}
-use Rattle.acredact.specs.Checks.{SeesFiles, quest_of}
+use Rattle.acredact.specs.Checks.{SeesFiles, quest_for}
 use Rattle.acredact.specs.declared.look.Verdict.{Verdict}
 use Rattle.acredact.proofs.Checks.{SeenSoFar, seen_all, seen_cut, seen_more, seen_none}
 use Rattle.acredact.proofs.Done.{names_cut, names_end}
 use Rattle.acredact.proofs.look.look_at_files.Goals as goal
 
 pub loop-rest-init : goal.loop-rest-init
-loop-rest-init g c = λ p of. seen_none g.E.Sink (quest_of g.F.Folder c.args.files.now.folder.now c.args.files.now.words p) _ _ _
+loop-rest-init g c = λ r seeks. (seeks, seen_none g.E.Sink (quest_for g.F.Folder c.args.files.now.folder.now r) _ _ _)
+
+pub look_at_file-look-requires : goal.look_at_file-look-requires
+look_at_file-look-requires g c = let (r, seeks) = c.requires.ready in record { ready = (r, (c.loop-rest.invariant r seeks).0) }
 
 pub loop-rest-preserved : goal.loop-rest-preserved
-loop-rest-preserved g c = λ p of.
-    let quest = quest_of g.F.Folder c.args.files.now.folder.now c.args.files.now.words p in
+loop-rest-preserved g c = λ r seeks.
+    let (still, far) = c.loop-rest.invariant r seeks in
+    let quest = quest_for g.F.Folder c.args.files.now.folder.now r in
     let names = name_bytes c.args.files.now.names.now in
     let some : 1 ≤ length c.loop-rest.rest.now = search rules in
     let so = subst (λ (l : List (List ℕ)). SeenSoFar g.E.Sink quest names c.args.errors.now (bytes_left c.args.input.now) l c.loop-rest.verdict (bytes_left c.loop-rest.input) c.loop-rest.errors)
-    (names_cut c.loop-rest.rest.now _ some) (c.loop-rest.invariant p of) in
+    (names_cut c.loop-rest.rest.now _ some) far in
     let rest = name_bytes (take (length c.loop-rest.rest.now - 1) (drop 1 c.loop-rest.rest.now)) in
-    subst (λ (v : Verdict). SeenSoFar g.E.Sink quest names c.args.errors.now (bytes_left c.args.input.now) rest v (bytes_left c.look_at_file.new.input) c.tell_look.new.errors) (sym c.verdict_with-verdict.ensures.with)
-    (seen_more g.E.Sink quest names c.args.errors.now (bytes_left c.args.input.now) _ rest c.loop-rest.verdict c.in_ok-look.look _ _ _ _ so (c.in_ok-look.ensures.looks p of) c.tell_look.ensures.told c.tell_look.ensures.quiet)
+    (c.in_ok-look.ensures.still r still, subst (λ (v : Verdict). SeenSoFar g.E.Sink quest names c.args.errors.now (bytes_left c.args.input.now) rest v (bytes_left c.look_at_file.new.input) c.tell_look.new.errors) (sym c.verdict_with-verdict.ensures.with)
+    (seen_more g.E.Sink quest names c.args.errors.now (bytes_left c.args.input.now) _ rest c.loop-rest.verdict c.in_ok-look.look _ _ _ _ _ so (c.in_ok-look.ensures.looks r still) (c.in_ok-look.ensures.told r still) c.tell_look.ensures.told c.tell_look.ensures.quiet))
 
 pub returns-in_err-look : goal.returns-in_err-look
 returns-in_err-look g c =
     let is : c.from_residual.result ≡ Err c.in_err-look.field-0.0 = search rules in
+    let some : 1 ≤ length c.loop-rest.rest.now = search rules in
     record {
-      sees = λ p of.
-          subst (λ (r : Result Verdict AllocError). SeesFiles g.E.Sink (quest_of g.F.Folder c.args.files.now.folder.now c.args.files.now.words p) (name_bytes c.args.files.now.names.now) r (bytes_left c.args.input.now) (bytes_left c.look_at_file.new.input) c.args.errors.now c.loop-rest.errors) (sym is)
-          (seen_cut g.E.Sink _ _ _ _ _ _ c.loop-rest.verdict _ _ _ (c.loop-rest.invariant p of));
+      sees = λ r seeks.
+          let (still, far) = c.loop-rest.invariant r seeks in
+          let quest = quest_for g.F.Folder c.args.files.now.folder.now r in
+          let names = name_bytes c.args.files.now.names.now in
+          let so = subst (λ (l : List (List ℕ)). SeenSoFar g.E.Sink quest names c.args.errors.now (bytes_left c.args.input.now) l c.loop-rest.verdict (bytes_left c.loop-rest.input) c.loop-rest.errors) (names_cut c.loop-rest.rest.now _ some) far in
+          subst (λ (r : Result Verdict AllocError). SeesFiles g.E.Sink quest names r (bytes_left c.args.input.now) (bytes_left c.look_at_file.new.input) c.args.errors.now c.look_at_file.new.errors) (sym is)
+          (seen_cut g.E.Sink quest names _ _ _ _ _ c.loop-rest.verdict _ _ _ _ so (c.in_err-look.ensures.told r still));
     }
 
 pub returns : goal.returns
 returns g c =
     let none : length c.loop-rest.rest.now ≡ 0 = search rules in
     record {
-      sees = λ p of.
+      sees = λ r seeks.
           seen_all g.E.Sink _ _ _ _ c.loop-rest.verdict _ _
-          (subst (λ (l : List (List ℕ)). SeenSoFar g.E.Sink (quest_of g.F.Folder c.args.files.now.folder.now c.args.files.now.words p) (name_bytes c.args.files.now.names.now) c.args.errors.now (bytes_left c.args.input.now) l c.loop-rest.verdict (bytes_left c.loop-rest.input) c.loop-rest.errors)
-          (names_end c.loop-rest.rest.now none) (c.loop-rest.invariant p of));
+          (subst (λ (l : List (List ℕ)). SeenSoFar g.E.Sink (quest_for g.F.Folder c.args.files.now.folder.now r) (name_bytes c.args.files.now.names.now) c.args.errors.now (bytes_left c.args.input.now) l c.loop-rest.verdict (bytes_left c.loop-rest.input) c.loop-rest.errors)
+          (names_end c.loop-rest.rest.now none) (c.loop-rest.invariant r seeks).1);
     }

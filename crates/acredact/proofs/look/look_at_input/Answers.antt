@@ -6,13 +6,13 @@ use Rattle.aho_devices.specs.Counts.{counted}
 use Rattle.programs.specs.Streams.{bytes_left}
 use Rattle.programs.proofs.Ends.{at_end}
 use Rattle.acredact.specs.Faults.{IsReadReason}
-use Rattle.acredact.specs.Looks.{IsLook, is_failed_look, sought}
+use Rattle.acredact.specs.Looks.{IsLook, is_failed_look}
 use Rattle.acredact.specs.declared.look.Look.{Look}
 use Rattle.acredact.proofs.Looks.{look_failed, look_is}
 use Rattle.acredact.proofs.look.look_at_input.Goals as goal
 
 pub look_of-requires : goal.look_of-requires
-look_of-requires g c = record { ends = (c.counts_in.ensures.looks c.requires.ready.patterns c.requires.ready.of).only }
+look_of-requires g c = record { ends = (c.counts_in.ensures.looks c.requires.ready.0 c.requires.ready.1).only }
 
 pub returns : goal.returns
 returns g c =
@@ -20,10 +20,12 @@ returns g c =
     let none = c.restart.ensures.empty_reads in
     let ends = λ (some : c.counts_in.new.source.empty_reads ≢ 0). at_end _ (λ bytes known. c.counts_in.new.source.ended bytes some known) in
     record {
-      looks = λ p of.
-          subst (λ (r : Result Look AllocError). IfOk r (λ look. IsLook (sought p c.args.words) IsReadReason look (bytes_left c.args.input.now) (bytes_left c.counts_in.new.source))) (sym c.look_of.ensures.look)
-          (look_is _ (sought p c.args.words) _ _ (bytes_left c.args.input.now) left none ends c.counts_in.result (c.counts_in.ensures.looks p of));
+      looks = λ r seeks.
+          subst (λ (x : Result Look AllocError). IfOk x (λ look. IsLook r IsReadReason look (bytes_left c.args.input.now) (bytes_left c.counts_in.new.source))) (sym c.look_of.ensures.look)
+          (look_is _ r _ _ (bytes_left c.args.input.now) left none ends c.counts_in.result (c.counts_in.ensures.looks r seeks));
+      told = c.counts_in.ensures.told;
+      still = c.counts_in.ensures.still;
       failed =
-          (c.counts_in.ensures.looks c.requires.ready.patterns c.requires.ready.of).read_failed ∙ ap (counted _) c.restart.ensures.failures
+          (c.counts_in.ensures.looks c.requires.ready.0 c.requires.ready.1).read_failed ∙ ap (counted _) c.restart.ensures.failures
           ∙ ap (λ (b : Bool). counted b c.args.input.now.failures) (look_failed c.counts_in.result ∙ ap is_failed_look (sym c.look_of.ensures.look));
     }

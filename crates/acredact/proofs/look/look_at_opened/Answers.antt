@@ -4,7 +4,7 @@ use Rattle.std.specs.Prelude.{IfOk, Result, Ok, Err}
 use Rattle.std.specs.declared.alloc.AllocError.{AllocError}
 use Rattle.programs.specs.Streams.{bytes_left}
 use Rattle.acredact.specs.Faults.{IsReadReason}
-use Rattle.acredact.specs.Looks.{IsLook, sought}
+use Rattle.acredact.specs.Looks.{IsLook}
 use Rattle.acredact.specs.Secrets.{Redactor}
 use Rattle.acredact.specs.declared.look.Look.{Look}
 use Rattle.acredact.proofs.look.look_at_opened.Goals as goal
@@ -15,7 +15,9 @@ some_rest r (Err error) left rest is = tt
 
 pub returns : goal.returns
 returns g c = record {
-  looks = λ p of. some_rest (sought p c.args.words) _ _ (bytes_left c.look_at_input.new.input)
-      (subst (λ (left : Option (List ℕ)). IfOk c.look_at_input.result (λ look. IsLook (sought p c.args.words) IsReadReason look left (bytes_left c.look_at_input.new.input)))
-      (ap g.I.Read.remaining c.new-source.ensures.reader) (c.look_at_input.ensures.looks p of));
+  looks = λ r seeks. some_rest r _ _ (bytes_left c.look_at_input.new.input)
+      (subst (λ (left : Option (List ℕ)). IfOk c.look_at_input.result (λ look. IsLook r IsReadReason look left (bytes_left c.look_at_input.new.input)))
+      (ap g.I.Read.remaining c.new-source.ensures.reader) (c.look_at_input.ensures.looks r seeks));
+  told = c.look_at_input.ensures.told;
+  still = c.look_at_input.ensures.still;
 }
