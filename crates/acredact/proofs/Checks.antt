@@ -1,6 +1,6 @@
 -- What is seen of files, one after another.
 use Rattle.std.proofs.Common.{◌≡◌, inl, inr, ℕ, List, [], ◌∷◌, ◌++◌, Option, true, false, refl, sym, ap, subst, ◌∙◌, append-nil, append_assoc, arith}
-use Rattle.std.specs.Prelude.{Bool, None, Some, ◌⊎◌, ◌<◌, ◌||◌, ◌&&◌, not, Result, Ok, Err, IfErr}
+use Rattle.std.specs.Prelude.{Bool, None, Some, ◌⊎◌, ◌<◌, ◌||◌, ◌&&◌, not, Result, Ok, Err, IfErr, is_some, option_map}
 use Rattle.std.specs.Io.KnownBytes.{Keeps}
 use Rattle.std.specs.List.{All, concat}
 use Rattle.std.proofs.KnownBytes.{Consumes-nil}
@@ -12,28 +12,32 @@ use Rattle.programs.specs.declared.errors.Errors.{Errors}
 use Rattle.programs.specs.declared.reason.Reason.{Reason}
 use Rattle.programs.proofs.Tellings.{tells-later}
 use Rattle.acredact.specs.Builds.{patterns_by_given}
-use Rattle.acredact.specs.Arguments.{has}
-use Rattle.acredact.specs.Calls.{Call, IsUnreadLine, gives_pattern, names_asked, reading_by}
-use Rattle.acredact.specs.Checks.{AreSeen, AreUnmatched, CheckFails, CheckOutcome, CheckStatus, IsBuildFailure, IsCheckLine, IsLookOf, IsUnmatchedCall, Quest, IsRunLine, SeesCall, SeesFiles, TellsRuns, TellsSeen, TellsSeenSome, look_lines, quest_by}
+use Rattle.acredact.specs.Arguments.{Given, has}
+use Rattle.acredact.specs.Calls.{Call, CannotSeek, IsUnreadLine, gives_pattern, lines_by, names_asked, reading_by}
+use Rattle.acredact.specs.Checks.{AreSeen, AreUnmatched, CheckFails, CheckOutcome, CheckStatus, IsBuildFailure, IsCheckLine, IsReadyFailure, IsLookOf, IsUnmatchedCall, Quest, IsRunLine, SeesCall, SeesFiles, TellsRuns, TellsSeen, TellsSeenSome, look_lines, quest_by}
 use Rattle.acredact.specs.Doubts.{TellsDoubts, all_doubt_lines}
 use Rattle.acredact.specs.Failures.{IsFailureLine}
 use Rattle.acredact.specs.Faults.{IsReadReason}
 use Rattle.acredact.specs.Files.{are_none, unread_line}
-use Rattle.acredact.specs.Loading.{AreGiven, CannotLoadAll}
+use Rattle.acredact.specs.LineRules.{LinesLoaded}
+use Rattle.acredact.specs.Loading.{AreGiven, AreSought, lines_sought}
 use Rattle.acredact.specs.Looks.{IsLook, HoldsNoMatch, is_found, is_unread_look, verdict_with}
 use Rattle.acredact.specs.Reads.{OfName}
 use Rattle.secret_rules.specs.declared.rule.Rule.{Rule as LineRule}
 use Rattle.acredact.specs.Secrets.{LineCovered, Redactor}
 use Rattle.acredact.specs.Statuses.{check_status}
-use Rattle.acredact.specs.Tables.{Secret, patterns_in}
+use Rattle.acredact.specs.Tables.{Secret, patterns_in, secrets_of}
 use Rattle.acredact.specs.declared.arguments.Word.TheVariants.{Strict}
 use Rattle.acredact.specs.declared.failure.Failure.{Failure}
+use Rattle.acredact.specs.declared.failure.Failure.TheVariants.{LineEnd}
+use Rattle.acredact.specs.declared.load.Sought.{Sought}
 use Rattle.acredact.specs.declared.look.Look.{Look}
 use Rattle.acredact.specs.declared.look.Look.TheVariants.{Clean, Found, Unread}
 use Rattle.acredact.specs.declared.look.Verdict.{Verdict}
 use Rattle.acredact.proofs.Calls.{tells_same}
 use Rattle.acredact.proofs.Done.{concat_both, tells_none}
 use Rattle.acredact.proofs.OneFile.{known_read, of_folder, of_input}
+use Rattle.acredact.proofs.Unruled.{lines_none, lines_ruled, mapped_some}
 use Rattle.acredact.proofs.Warned.{all_members, tells_both}
 
 -- a look at what is known of a file, for reasons that may be more
@@ -249,10 +253,19 @@ unmatched_call call left left' sees = record {
   unmatched = unmatched_all (quest_by call sees.secrets sees.rules) (names_asked call.given) sees.between left' sees.seen;
 }
 
--- one of the options cannot be loaded, or memory runs out for the forms
-pub check_load_fails : (call : Call) (failure : Failure) → CannotLoadAll (reading_by call) call.given failure → CheckFails call failure
-check_load_fails call failure (inl one) = inr (inl one)
-check_load_fails call failure (inr memory) = inr (inr (inr (inl memory)))
+-- why nothing is ready, as it is held
+pub ready_fails : (given : List Given) (sought : Sought) (result : Result Verdict Failure) → IfErr result (IsReadyFailure given sought)
+    → IfErr result (λ failure. IsBuildFailure (patterns_by_given given (patterns_in (secrets_of sought.rules.items))) failure ⊎ ((is_some (lines_sought sought) ≡ true) × (number : ℕ) × (failure ≡ LineEnd number)))
+ready_fails given sought (Ok verdict) fails = tt
+ready_fails given sought (Err failure) (inl built) = inl built
+ready_fails given sought (Err failure) (inr (some, ends)) = inr (mapped_some _ sought.lines ∙ some, ends)
+
+-- nothing that is asked for can be loaded
+pub check_load_fails : (call : Call) (failure : Failure) → CannotSeek call failure → CheckFails call failure
+check_load_fails call failure (inl none) = inl (inr none)
+check_load_fails call failure (inr (inl (inl one))) = inr (inl (inl one))
+check_load_fails call failure (inr (inl (inr memory))) = inr (inr (inr (inl memory)))
+check_load_fails call failure (inr (inr lines)) = inr (inl (inr (inl lines)))
 
 -- no lines are none
 are_nothing : (lines : List (List ℕ)) → true ≡ are_none lines → lines ≡ []
@@ -266,39 +279,53 @@ module _ {E : Type 0} (K : SinkGhosts E) (call : Call) (left left' : Option (Lis
   lists_tell secrets between new loaded true is doubts = tells_same K (IsCheckLine call) old new doubts.1
   lists_tell secrets between new loaded false is doubts = record {
     told = all_doubt_lines call.given secrets;
-    are_lines = all_members (IsCheckLine call) (all_doubt_lines call.given secrets) (λ line member. inr (is, secrets, left, between, loaded, member));
+    are_lines = all_members (IsCheckLine call) (all_doubt_lines call.given secrets) (λ line member. inr (inl (is, secrets, left, between, loaded, member)));
     written = doubts;
   }
 
-  -- what comes of a check whose patterns were loaded
-  pub check_seen : (secrets : List Secret) (between : Option (List ℕ)) (mid new : Errors E) (result : Result Verdict Failure) → gives_pattern call.given ≡ true → AreGiven (reading_by call) call.given secrets left between
-      → TellsDoubts K (has Strict call.given) call.given secrets old mid → SeesFiles K (quest_by call secrets) (names_asked call.given) result between left' mid new
-      → IfErr result (IsBuildFailure (patterns_by_given call.given (patterns_in secrets))) → CheckOutcome K call result left left' old new
-  check_seen secrets between mid new (Ok verdict) some loaded doubts sees fails =
+  -- what was told of files may be told of a check
+  seen_tells : (secrets : List Secret) (rules : Option LinesLoaded) (between : Option (List ℕ)) (mid new : Errors E) → AreSought (reading_by call) call.given secrets rules left between
+      → TellsSeenSome K (option_map (lines_by []) rules) (names_asked call.given) mid new → Tells K (IsCheckLine call) mid new
+  seen_tells secrets None between mid new loaded tells =
+      record { told = tells.told; are_lines = All-weaker (IsUnreadLine (names_asked call.given)) (IsCheckLine call) (λ line is. inl is) tells.told tells.are_lines; written = tells.written }
+  seen_tells secrets (Some rules) between mid new loaded tells = record {
+    told = tells.told;
+    are_lines = All-weaker (λ line. IsUnreadLine (names_asked call.given) line ⊎ IsRunLine rules.rules rules.most (names_asked call.given) line) (IsCheckLine call)
+        (λ line is. elim is [
+          | inl unread ↦ inl unread
+          | inr run ↦ inr (inr (secrets, rules, left, between, loaded, run))
+        ]) tells.told tells.are_lines;
+    written = tells.written;
+  }
+
+  -- what comes of a check whose patterns and rules were loaded
+  pub check_seen : (secrets : List Secret) (rules : Option LinesLoaded) (between : Option (List ℕ)) (mid new : Errors E) (result : Result Verdict Failure) → gives_pattern call.given ≡ true → (loaded : AreSought (reading_by call) call.given secrets rules left between)
+      → TellsDoubts K (has Strict call.given) call.given secrets old mid → SeesFiles K (quest_by call secrets rules) (names_asked call.given) result between left' mid new
+      → IfErr result (λ failure. IsBuildFailure (patterns_by_given call.given (patterns_in secrets)) failure ⊎ ((is_some rules ≡ true) × (number : ℕ) × (failure ≡ LineEnd number))) → CheckOutcome K call result left left' old new
+  check_seen secrets rules between mid new (Ok verdict) some loaded doubts sees fails =
       let (lines, is_all, seen, told) = sees.seen in
       record {
-        seen = (lines, is_all, record { sees = record { some = some; secrets = secrets; between = between; loaded = loaded; seen = seen }; between = mid; doubts = doubts; told = told });
-        quiet = λ all. record { secrets = secrets; between = between; loaded = loaded; doubts = subst (λ (e : Errors E). TellsDoubts K (has Strict call.given) call.given secrets old e) (sym (sees.quiet all)) doubts };
+        seen = (lines, is_all, record { sees = record { some = some; secrets = secrets; rules = rules; between = between; loaded = loaded; seen = seen }; between = mid; doubts = doubts; told = told });
+        quiet = λ unruled all.
+            let none = ap (option_map (lines_by [])) (lines_none (reading_by call) call.given rules loaded.between between unruled loaded.lines_given) in
+            record { secrets = secrets; between = loaded.between; loaded = loaded.given_all; doubts = subst (λ (e : Errors E). TellsDoubts K (has Strict call.given) call.given secrets old e) (sym (sees.quiet none all)) doubts };
         told = tt;
         fails = tt;
       }
-  check_seen secrets between mid new (Err failure) some loaded doubts sees fails = record {
+  check_seen secrets rules between mid new (Err failure) some loaded doubts sees fails = record {
     seen = tt;
-    quiet = tt;
-    told = tells_both K (IsCheckLine call) old mid new (lists_tell secrets between mid loaded (has Strict call.given) refl doubts) (record {
-      told = sees.told.told;
-      are_lines = All-weaker (IsUnreadLine (names_asked call.given)) (IsCheckLine call) (λ line is. inl is) sees.told.told sees.told.are_lines;
-      written = sees.told.written;
-    });
-    fails = inr (inr (elim fails [
-      | inl refused ↦ inl (secrets, left, between, loaded, refused)
-      | inr memory ↦ inr (inl memory)
-    ]));
+    quiet = λ unruled. tt;
+    told = tells_both K (IsCheckLine call) old mid new (lists_tell secrets loaded.between mid loaded.given_all (has Strict call.given) refl doubts) (seen_tells secrets rules between mid new loaded sees.told);
+    fails = elim fails [
+      | inl (inl refused) ↦ inr (inr (inl (secrets, left, loaded.between, loaded.given_all, refused)))
+      | inl (inr memory) ↦ inr (inr (inr (inl memory)))
+      | inr (lined, number, ends) ↦ inr (inl (inr (inr ((lines_ruled (reading_by call) call.given rules loaded.between between lined loaded.lines_given).1, number, ends))))
+    ];
   }
 
   -- and of one that ends before
   pub check_refused : (failure : Failure) → CheckFails call failure → CheckOutcome K call (Err failure) left left' old old
-  check_refused failure fails = record { seen = tt; quiet = tt; told = tells_same K (IsCheckLine call) old old refl; fails = fails }
+  check_refused failure fails = record { seen = tt; quiet = λ unruled. tt; told = tells_same K (IsCheckLine call) old old refl; fails = fails }
 
   status_whole : (found : Bool) (new : Errors E) → CheckOutcome K call (Ok (record { found = found; all = true })) left left' old new → CheckStatus K call (check_status (record { found = found; all = true })) left left' old new
   status_whole true new of =
@@ -306,7 +333,7 @@ module _ {E : Type 0} (K : SinkGhosts E) (call : Call) (left left' : Option (Lis
       record {
         unmatched = λ (is : 1 ≡ 0). absurd (omega arith);
         matched = λ is. subst (λ (l : List (List ℕ)). SeesCall call true l left left') (are_nothing lines is_all) looks.sees;
-        quiet = λ less. of.quiet refl;
+        quiet = λ unruled less. of.quiet unruled refl;
         tells = λ (is : 1 ≡ 2). absurd (omega arith);
         bound = omega arith;
       }
@@ -315,7 +342,7 @@ module _ {E : Type 0} (K : SinkGhosts E) (call : Call) (left left' : Option (Lis
       record {
         unmatched = λ is. unmatched_call call left left' (subst (λ (l : List (List ℕ)). SeesCall call false l left left') (are_nothing lines is_all) looks.sees);
         matched = λ (is : 0 ≡ 1). absurd (omega arith);
-        quiet = λ less. of.quiet refl;
+        quiet = λ unruled less. of.quiet unruled refl;
         tells = λ (is : 0 ≡ 2). absurd (omega arith);
         bound = omega arith;
       }
@@ -331,7 +358,7 @@ module _ {E : Type 0} (K : SinkGhosts E) (call : Call) (left left' : Option (Lis
           record {
             unmatched = λ (is : 2 ≡ 0). absurd (omega arith);
             matched = λ (is : 2 ≡ 1). absurd (omega arith);
-            quiet = λ (less : 2 < 2). absurd (omega arith);
+            quiet = λ unruled (less : 2 < 2). absurd (omega arith);
             tells = λ is. inl (record { found = found; lines = lines; some = sym is_all; seen = looks });
             bound = omega arith;
           }
@@ -341,7 +368,7 @@ module _ {E : Type 0} (K : SinkGhosts E) (call : Call) (left left' : Option (Lis
   status_ended failure mid new line of is told = record {
     unmatched = λ (is : 2 ≡ 0). absurd (omega arith);
     matched = λ (is : 2 ≡ 1). absurd (omega arith);
-    quiet = λ (less : 2 < 2). absurd (omega arith);
+    quiet = λ unruled (less : 2 < 2). absurd (omega arith);
     tells = λ two. inr (record { lines = of.told.told; are_told = of.told.are_lines; failure = failure; fails = of.fails; line = line; is_line = is; told = tells-later K of.told.written told });
     bound = omega arith;
   }

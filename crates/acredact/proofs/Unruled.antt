@@ -5,7 +5,7 @@ use Rattle.acredact.specs.Arguments.{Given, all_given, covers_asked, gives_rules
 use Rattle.acredact.specs.Calls.{Call, lines_by, pieces_asked, reading_by, redactor_by_given}
 use Rattle.pseudonyms.specs.Pseudonyms.{pseudonym_rule}
 use Rattle.acredact.specs.LineRules.{LinesLoaded, fixed_at, key_beside}
-use Rattle.acredact.specs.Loading.{AreLinesGiven, AreLoaded, IsRuled, Loaded, Reading, lines_held, lines_sought, loaded_by, loaded_of}
+use Rattle.acredact.specs.Loading.{AreLinesGiven, AreLoaded, AreSought, IsRuled, Loaded, Reading, lines_held, lines_sought, loaded_by, loaded_of}
 use Rattle.acredact.specs.Named.{all_named}
 use Rattle.acredact.specs.Tables.{Secret, secrets_of}
 use Rattle.acredact.specs.declared.arguments.Item.{Item}
@@ -21,7 +21,7 @@ both_and : (a b : Bool) → (a && b) ≡ true → (a ≡ true) × (b ≡ true)
 both_and true b both = (refl, both)
 both_and false b both = let clash : false ≡ true = both in absurd (cc)
 
-mapped_some : {A B : Type 0} (f : A → B) (x : Option A) → is_some (option_map f x) ≡ is_some x
+pub mapped_some : {A B : Type 0} (f : A → B) (x : Option A) → is_some (option_map f x) ≡ is_some x
 mapped_some f None = refl
 mapped_some f (Some x) = refl
 
@@ -52,7 +52,7 @@ pub unlined_by : (call : Call) (load : Loaded) → load.lines ≡ None → (reda
 unlined_by call load is = ap (option_map (lines_by (pieces_asked call.given load.secrets))) is
 
 -- where lines were loaded an option gives rules
-lines_ruled : (reading : Reading) (given : List Given) (lines : Option LinesLoaded) (left left' : Option (List ℕ)) → is_some lines ≡ true → AreLinesGiven reading given lines left left' → (covers_asked given ≡ true) × (gives_rules given ≡ true)
+pub lines_ruled : (reading : Reading) (given : List Given) (lines : Option LinesLoaded) (left left' : Option (List ℕ)) → is_some lines ≡ true → AreLinesGiven reading given lines left left' → (covers_asked given ≡ true) × (gives_rules given ≡ true)
 lines_ruled reading given None left left' some are = let clash : false ≡ true = some in absurd (cc)
 lines_ruled reading given (Some lines) left left' some are = both_and (covers_asked given) (gives_rules given) are.0
 
@@ -90,3 +90,10 @@ ruled_of items call sought left between same loaded = by sought.lines (λ some. 
         → IfSome x (λ lines. covers_asked (all_given items) ≡ true)
     by None asked = tt
     by (Some lines) asked = subst (λ (l : List Given). covers_asked l ≡ true) same ((asked refl).0)
+
+pub ruled_sought : (items : List Item) (call : Call) (sought : Sought) (left between : Option (List ℕ)) → (loaded : AreSought (reading_by call) (all_given items) (secrets_of sought.rules.items) (lines_sought sought) left between) → IsRuled items sought
+ruled_sought items call sought left between loaded = by sought.lines (λ some. lines_ruled (reading_by call) (all_given items) (lines_sought sought) loaded.between between some loaded.lines_given)
+  where
+    by : (x : Option LineRules) → (is_some (lines_held sought.fixed x) ≡ true → (covers_asked (all_given items) ≡ true) × (gives_rules (all_given items) ≡ true)) → IfSome x (λ lines. covers_asked (all_given items) ≡ true)
+    by None asked = tt
+    by (Some lines) asked = (asked refl).0

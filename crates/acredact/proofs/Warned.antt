@@ -82,7 +82,7 @@ judged_job p job answer none some = by job.lines none some
     by (Some l) none some = some refl
 
 -- what is not clean is a piece of a cover
-judged_unclean : (r : Redactor) (unclean : Unclean) → IsJudged r (Some unclean) → (r.covers ≡ true) × IsUncleanOf r unclean
+pub judged_unclean : (r : Redactor) (unclean : Unclean) → IsJudged r (Some unclean) → (r.covers ≡ true) × IsUncleanOf r unclean
 judged_unclean r unclean judged = by r.lines judged
   where
     by : (x : Option LineCovered) → MatchOption x (IsJudgedBy r.patterns r.covers (is_some r.key) r.pieces (Some unclean)) (λ l. r.covers ≡ true)

@@ -291,6 +291,7 @@ fn place_warned<
     requires rows { IfSome rows (λ rows. CanDo B.Automaton rows.now job.now) }
     requires back { AreBoth A.Automaton C.Automaton automaton.now back }
     requires words { length judge.now.rules.now ≡ length judge.now.words.now }
+    requires behind { job.now.lines ≡ None → length judge.now.behind.now ≡ 0 }
     ensures outcome { IfOfAll A.Automaton B.Automaton automaton.now rows.entry judge.now
         (λ p. IfBackIs C.Automaton back.entry p
         (WarnsPlaces O.File.Write E.Sink F.Folder O.Outputs

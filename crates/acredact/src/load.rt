@@ -1,11 +1,11 @@
 //! The rules of all patterns, files and tables that are given.
 
-ghost use Rattle.std.specs.Prelude.{◌≡◌, ◌⊎◌, ℕ, List, None, Option, Some, IfErr, IfOk, OnOk, false, ⊥};
+ghost use Rattle.std.specs.Prelude.{◌≡◌, ◌⊎◌, ℕ, List, None, Option, Some, IfErr, IfOk, OnOk, false, true, ⊥};
 ghost use Rattle.aho_core.specs.Replacement.{pieces_of};
 ghost use Rattle.aho_devices.specs.Counts.{counted};
 ghost use Rattle.programs.specs.Streams.{bytes_left};
 ghost use Rattle.acredact.specs.Arguments.{GivesNoPattern, all_given, given_of};
-ghost use Rattle.acredact.specs.Calls.{CannotLoadSought, CannotSeek, GivesSought, IsKeyedBy, LoadsSought, call_of, reading_by, rules_asked};
+ghost use Rattle.acredact.specs.Calls.{CannotLoadSought, CannotSeek, GivesSought, IsKeyedBy, LoadsSought, call_of, gives_pattern, reading_by, rules_asked};
 ghost use Rattle.acredact.specs.Forms.{HaveForms, forms_asked};
 ghost use Rattle.acredact.specs.Loading.{CannotLoadLines, LoadsLines, loaded_of, loaded_with, AddsFile, AddsItem, AddsList, CannotLoad, CannotLoadAll, CannotLoadKey, CannotLoadOne, CannotRead, GivesEnvironment, GivesRules, GivesValues, HoldsSecrets, HoldsVariables, HoldsWhole, IsEnvironmentFailure, IsFileFailure, IsKeyFailure, IsListedFailure, IsValuesFailure, IsVariablesFailure, IsWholeFailure, IsPatternFailure, IsTextFailure, IsTextReason, LoadsKey, ReadsKey, ReadsList, ReadsRules, form_by, is_failed_text, reading_of_lists, rules_for};
 ghost use Rattle.acredact.specs.Parts.{AddsSome, ArePartsBy, GivesPattern};
@@ -112,7 +112,8 @@ pub fn load_patterns<'a, F: Folder, I: Read>(
     ensures unread { GivesNoPattern (all_given given.now) → input.new ≡ input.old }
     ensures given { IfOk result (λ sought. GivesSought F.Folder
         folder.now (all_given given.now) sought input.old input.new) }
-    ensures keyless { IfOk result (λ sought. sought.key ≡ None) }
+    ensures some { IfOk result (λ _. gives_pattern (all_given given.now) ≡ true) }
+    ensures keyless { IfOk result (λ sought. (sought.key ≡ None) × (sought.fixed ≡ 0)) }
     ensures fails { IfErr result (CannotSeek (call_of F.Folder folder.now (all_given given.now))) }
 {
     if !gives_pattern(given) {
@@ -180,7 +181,7 @@ fn with_key<'a, F: Folder, I: Read>(
     folder: &F,
     input: &mut FromRead<I>,
 ) -> Result<Sought, Failure<'a>>
-    requires keyless { sought.key ≡ None }
+    requires keyless { (sought.key ≡ None) × (sought.fixed ≡ 0) }
     ensures loaded { IfOk result (λ all. IsKeyedBy F.Folder
         folder.now (all_given given.now) sought.entry all input.old input.new) }
     ensures fails { IfErr result (λ failure.
