@@ -1,6 +1,6 @@
 //! A call that replaces each file: a new one is written beside it, and takes its place where all of it was redacted.
 
-ghost use Rattle.std.specs.Prelude.{◌≡◌, ◌≤◌, Err, IfErr, IfOk, IfSome, Ok, OnErr, false, length, true};
+ghost use Rattle.std.specs.Prelude.{◌≡◌, ◌≤◌, Err, IfErr, IfOk, IfSome, None, Ok, OnErr, false, length, true};
 ghost use Rattle.aho_core.specs.declared.error.stream.StreamError.TheVariants.{Memory};
 ghost use Rattle.programs.specs.Arguments.{texts};
 ghost use Rattle.programs.specs.Streams.{output_bytes};
