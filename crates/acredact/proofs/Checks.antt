@@ -13,14 +13,14 @@ use Rattle.programs.specs.declared.reason.Reason.{Reason}
 use Rattle.programs.proofs.Tellings.{tells-later}
 use Rattle.acredact.specs.Builds.{patterns_by_given}
 use Rattle.acredact.specs.Arguments.{Given, has}
-use Rattle.acredact.specs.Calls.{Call, CannotSeek, IsUnreadLine, gives_pattern, lines_by, names_asked, reading_by}
+use Rattle.acredact.specs.Calls.{Call, CannotSeek, IsUnreadLine, gives_pattern, lines_with, names_asked, reading_by}
 use Rattle.acredact.specs.Checks.{AreSeen, AreUnmatched, CheckFails, CheckOutcome, CheckStatus, IsBuildFailure, IsCheckLine, IsReadyFailure, IsLookOf, IsUnmatchedCall, Quest, IsRunLine, SeesCall, SeesFiles, TellsRuns, TellsSeen, TellsSeenSome, look_lines, quest_by}
 use Rattle.acredact.specs.Doubts.{TellsDoubts, all_doubt_lines}
 use Rattle.acredact.specs.Failures.{IsFailureLine}
 use Rattle.acredact.specs.Faults.{IsReadReason}
 use Rattle.acredact.specs.Files.{are_none, unread_line}
 use Rattle.acredact.specs.LineRules.{LinesLoaded}
-use Rattle.acredact.specs.Loading.{AreGiven, AreSought, lines_sought}
+use Rattle.acredact.specs.Loading.{AreGiven, AreAllSought, sought_lines}
 use Rattle.acredact.specs.Looks.{IsLook, HoldsNoMatch, is_found, is_unread_look, verdict_with}
 use Rattle.acredact.specs.Reads.{OfName}
 use Rattle.secret_rules.specs.declared.rule.Rule.{Rule as LineRule}
@@ -255,7 +255,7 @@ unmatched_call call left left' sees = record {
 
 -- why nothing is ready, as it is held
 pub ready_fails : (given : List Given) (sought : Sought) (result : Result Verdict Failure) → IfErr result (IsReadyFailure given sought)
-    → IfErr result (λ failure. IsBuildFailure (patterns_by_given given (patterns_in (secrets_of sought.rules.items))) failure ⊎ ((is_some (lines_sought sought) ≡ true) × (number : ℕ) × (failure ≡ LineEnd number)))
+    → IfErr result (λ failure. IsBuildFailure (patterns_by_given given (patterns_in (secrets_of sought.rules.items))) failure ⊎ ((is_some (sought_lines sought) ≡ true) × (number : ℕ) × (failure ≡ LineEnd number)))
 ready_fails given sought (Ok verdict) fails = tt
 ready_fails given sought (Err failure) (inl built) = inl built
 ready_fails given sought (Err failure) (inr (some, ends)) = inr (mapped_some _ sought.lines ∙ some, ends)
@@ -284,8 +284,8 @@ module _ {E : Type 0} (K : SinkGhosts E) (call : Call) (left left' : Option (Lis
   }
 
   -- what was told of files may be told of a check
-  seen_tells : (secrets : List Secret) (rules : Option LinesLoaded) (between : Option (List ℕ)) (mid new : Errors E) → AreSought (reading_by call) call.given secrets rules left between
-      → TellsSeenSome K (option_map (lines_by []) rules) (names_asked call.given) mid new → Tells K (IsCheckLine call) mid new
+  seen_tells : (secrets : List Secret) (rules : Option LinesLoaded) (between : Option (List ℕ)) (mid new : Errors E) → AreAllSought (reading_by call) call.given secrets rules left between
+      → TellsSeenSome K (option_map (lines_with []) rules) (names_asked call.given) mid new → Tells K (IsCheckLine call) mid new
   seen_tells secrets None between mid new loaded tells =
       record { told = tells.told; are_lines = All-weaker (IsUnreadLine (names_asked call.given)) (IsCheckLine call) (λ line is. inl is) tells.told tells.are_lines; written = tells.written }
   seen_tells secrets (Some rules) between mid new loaded tells = record {
@@ -299,7 +299,7 @@ module _ {E : Type 0} (K : SinkGhosts E) (call : Call) (left left' : Option (Lis
   }
 
   -- what comes of a check whose patterns and rules were loaded
-  pub check_seen : (secrets : List Secret) (rules : Option LinesLoaded) (between : Option (List ℕ)) (mid new : Errors E) (result : Result Verdict Failure) → gives_pattern call.given ≡ true → (loaded : AreSought (reading_by call) call.given secrets rules left between)
+  pub check_seen : (secrets : List Secret) (rules : Option LinesLoaded) (between : Option (List ℕ)) (mid new : Errors E) (result : Result Verdict Failure) → gives_pattern call.given ≡ true → (loaded : AreAllSought (reading_by call) call.given secrets rules left between)
       → TellsDoubts K (has Strict call.given) call.given secrets old mid → SeesFiles K (quest_by call secrets rules) (names_asked call.given) result between left' mid new
       → IfErr result (λ failure. IsBuildFailure (patterns_by_given call.given (patterns_in secrets)) failure ⊎ ((is_some rules ≡ true) × (number : ℕ) × (failure ≡ LineEnd number))) → CheckOutcome K call result left left' old new
   check_seen secrets rules between mid new (Ok verdict) some loaded doubts sees fails =
@@ -307,7 +307,7 @@ module _ {E : Type 0} (K : SinkGhosts E) (call : Call) (left left' : Option (Lis
       record {
         seen = (lines, is_all, record { sees = record { some = some; secrets = secrets; rules = rules; between = between; loaded = loaded; seen = seen }; between = mid; doubts = doubts; told = told });
         quiet = λ unruled all.
-            let none = ap (option_map (lines_by [])) (lines_none (reading_by call) call.given rules loaded.between between unruled loaded.lines_given) in
+            let none = ap (option_map (lines_with [])) (lines_none (reading_by call) call.given rules loaded.between between unruled loaded.lines_given) in
             record { secrets = secrets; between = loaded.between; loaded = loaded.given_all; doubts = subst (λ (e : Errors E). TellsDoubts K (has Strict call.given) call.given secrets old e) (sym (sees.quiet none all)) doubts };
         told = tt;
         fails = tt;

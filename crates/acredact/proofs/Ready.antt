@@ -24,7 +24,7 @@ use Rattle.acredact.specs.LineRules.{LinesLoaded}
 use Rattle.acredact.specs.Named.{named_secret}
 use Rattle.acredact.specs.declared.load.Sought.{Sought}
 use Rattle.acredact.specs.Forms.{forms_from}
-use Rattle.acredact.specs.Loading.{AreGiven, AreLoaded, AreRead, AreSought, Loaded, lines_sought, loaded_by, loaded_of, OptionGives, Reading, Rules, form_by, reading_of_lists, rules_for, values_in_text}
+use Rattle.acredact.specs.Loading.{AreGiven, AreLoaded, AreRead, AreAllSought, Loaded, sought_lines, loaded_by, loaded_of, OptionGives, Reading, Rules, form_by, reading_of_lists, rules_for, values_in_text}
 use Rattle.acredact.specs.Looks.{CanLook}
 use Rattle.acredact.specs.Parts.{ArePartsBy, GivesPattern, line_secrets, secret_given}
 use Rattle.acredact.specs.Secrets.{CanRedact}
@@ -139,7 +139,7 @@ loaded_full given secrets lines (Some key) are = by (has Forms given)
     by true = named_some (pseudonym_rule (has IgnoreCase given) key) secrets secrets are
     by false = are
 
-pub sought_some : (call : Call) (sought : Sought) (left between : Option (List ℕ)) → AreSought (reading_by call) call.given (secrets_of sought.rules.items) (lines_sought sought) left between → HaveNoEmpty (secrets_of sought.rules.items)
+pub sought_some : (call : Call) (sought : Sought) (left between : Option (List ℕ)) → AreAllSought (reading_by call) call.given (secrets_of sought.rules.items) (sought_lines sought) left between → HaveNoEmpty (secrets_of sought.rules.items)
 sought_some call sought left between loaded = given_some (reading_by call) call.given (secrets_of sought.rules.items) left loaded.between loaded.given_all
 
 pub loaded_some : (call : Call) (sought : Sought) (left between : Option (List ℕ)) → AreLoaded (reading_by call) call.given (loaded_of sought) left between → HaveNoEmpty (secrets_of sought.rules.items)

@@ -36,7 +36,7 @@ use Rattle.aho_cover.specs.Pieces.{IsCoverWith, piece_in}
 use Rattle.aho_cover.specs.Words.{AreRunsWith, all_runs}
 use Rattle.aho_cover.proofs.Chosen.{all-are, all-covers, all-made}
 use Rattle.pseudonyms.specs.Pseudonyms.{pseudonym_rule}
-use Rattle.acredact.specs.Secrets.{AreCleanBy, AreReplaced, AreReplacedInLines, AreReplacedWhole, BeginsInLines, BeginsRedaction, BeginsWhole, CountsFor, IsLineRedaction, IsRedaction, IsWholeRedaction, Keyed, LineCovered, NoByteIsKept, NoneIsWhole, NoneOccurs, Redactor, own_in, rule_by, rule_of}
+use Rattle.acredact.specs.Secrets.{AreCleanBy, AreReplaced, AreReplacedInLines, AreReplacedWhole, BeginsInLines, BeginsRedaction, BeginsPlain, CountsFor, IsLineRedaction, IsRedaction, IsWholeRedaction, Keyed, LineCovered, NoByteIsKept, NoneIsWhole, NoneOccurs, Redactor, own_in, rule_by, rule_of}
 use Rattle.acredact.specs.Streams.{ReachesStream, RedactsStream, StartsStream, StreamOutcome}
 use Rattle.acredact.specs.Totals.{CountsOfStream}
 use Rattle.acredact.proofs.Covered.{none_left}
@@ -95,12 +95,12 @@ whole_redaction r unlined text redaction is = subst (λ (x : Option LineCovered)
 pub redaction_whole : (r : Redactor) → r.lines ≡ None → (text redaction : List ℕ) → IsRedaction r text redaction → IsWholeRedaction r text redaction
 redaction_whole r unlined text redaction is = subst (λ (x : Option LineCovered). MatchOption x (IsWholeRedaction r text redaction) (λ l. IsLineRedaction r l text redaction)) unlined is
 
-pub begins_as : (r : Redactor) → r.lines ≡ None → (given : List ℕ) (ended : Bool) (part : List ℕ) → BeginsWhole r given ended part → BeginsRedaction r given ended part
-begins_as r unlined given ended part begins = subst (λ (x : Option LineCovered). MatchOption x (BeginsWhole r given ended part) (λ l. BeginsInLines r l given ended part)) (sym unlined) begins
+pub begins_as : (r : Redactor) → r.lines ≡ None → (given : List ℕ) (ended : Bool) (part : List ℕ) → BeginsPlain r given ended part → BeginsRedaction r given ended part
+begins_as r unlined given ended part begins = subst (λ (x : Option LineCovered). MatchOption x (BeginsPlain r given ended part) (λ l. BeginsInLines r l given ended part)) (sym unlined) begins
 
 -- and with rules line by line
 pub begins_lined : (r : Redactor) (l : LineCovered) → r.lines ≡ Some l → (given : List ℕ) (ended : Bool) (part : List ℕ) → BeginsInLines r l given ended part → BeginsRedaction r given ended part
-begins_lined r l lined given ended part begins = subst (λ (x : Option LineCovered). MatchOption x (BeginsWhole r given ended part) (λ l. BeginsInLines r l given ended part)) (sym lined) begins
+begins_lined r l lined given ended part begins = subst (λ (x : Option LineCovered). MatchOption x (BeginsPlain r given ended part) (λ l. BeginsInLines r l given ended part)) (sym lined) begins
 
 -- a text with ranges replaced
 abbrev pub redacted : Redactor → List ℕ → List Occurrence → List ℕ

@@ -24,7 +24,7 @@ use Rattle.aho_cover.specs.declared.progress.CoverProgress.{CoverProgress}
 use Rattle.aho_devices.specs.declared.device.Sink.{Ghosts as SinkGhosts}
 use Rattle.aho_stream.specs.Replacing.{IsMakingRefusal}
 use Rattle.aho_stream.specs.StreamRun.{CanBegin}
-use Rattle.acredact.specs.Files.{AreCut, CanDo, FilesOutcome, Work, key_for, lines_of}
+use Rattle.acredact.specs.Files.{AreCut, CanDo, FilesOutcome, Work, key_for, job_lines}
 use Rattle.acredact.specs.Secrets.{CanRedact, CanSeek, Keyed, LineCovered, Redactor, rule_of}
 use Rattle.acredact.specs.Ways.{IsCoverer, IsNamedCover, IsRedactor}
 use Rattle.acredact.specs.declared.files.Job.{Job}
@@ -159,5 +159,5 @@ module _ {A F : Type 0} (G : Ghosts A) (automaton : A) (job : Job F) where
   lined_ready l ready some = subst DoesBy some ready
 
 -- what a job without rules writes
-pub unlined_job : {F : Type 0} (job : Job F) (pieces : List (List ℕ)) → job.lines ≡ None → option_map (lines_of pieces) job.lines ≡ None
-unlined_job job pieces none = ap (option_map (lines_of pieces)) none
+pub unlined_job : {F : Type 0} (job : Job F) (pieces : List (List ℕ)) → job.lines ≡ None → option_map (job_lines pieces) job.lines ≡ None
+unlined_job job pieces none = ap (option_map (job_lines pieces)) none

@@ -9,7 +9,7 @@ use Rattle.programs.proofs.Tellings.{tells-later}
 use Rattle.acredact.specs.Arguments.{Given, counts_asked}
 use Rattle.acredact.specs.Calls.{IsCountsLine, TellsLong}
 use Rattle.acredact.specs.LineRules.{LinesLoaded}
-use Rattle.acredact.specs.Loading.{lines_held, lines_sought}
+use Rattle.acredact.specs.Loading.{lines_held, sought_lines}
 use Rattle.acredact.specs.Summaries.{IsToldOf, long_by, totals_behind, totals_by}
 use Rattle.acredact.specs.Tables.{Secret}
 use Rattle.acredact.specs.declared.line_rules.LineRules.{LineRules}
@@ -18,7 +18,7 @@ use Rattle.acredact.specs.declared.summary.Volume.{Volume}
 use Rattle.acredact.proofs.Calls.{tells_same, told_is_counts}
 
 -- nothing is held where nothing was loaded
-pub quiet_by : {E : Type 0} (sought : Sought) (old new : Errors E) → (sought.lines ≡ None → new ≡ old) → lines_sought sought ≡ None → new ≡ old
+pub quiet_by : {E : Type 0} (sought : Sought) (old new : Errors E) → (sought.lines ≡ None → new ≡ old) → sought_lines sought ≡ None → new ≡ old
 quiet_by sought old new quiet none = by sought.lines quiet none
   where
     by : (x : Option LineRules) → (x ≡ None → new ≡ old) → lines_held sought.fixed x ≡ None → new ≡ old

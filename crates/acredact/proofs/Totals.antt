@@ -17,7 +17,7 @@ use Rattle.acredact.specs.Counts.{zeros}
 use Rattle.acredact.specs.Files.{Work}
 use Rattle.acredact.specs.Secrets.{Redactor}
 use Rattle.acredact.specs.LineRules.{LinesLoaded, numbers_with}
-use Rattle.acredact.specs.Loading.{lines_held, lines_sought}
+use Rattle.acredact.specs.Loading.{lines_held, sought_lines}
 use Rattle.acredact.specs.Summaries.{AreZeros}
 use Rattle.acredact.specs.Tables.{Secret, secret_of, secrets_of}
 use Rattle.acredact.specs.Totals.{AreTotals, CountsOfName, CountsOfNames, CountsOfStream, CountsOfText, HasRanges, NameHasRanges, NamesHaveRanges}
@@ -117,7 +117,7 @@ no_count zero number within = absurd (omega (arith, within))
 no_count (suc count) zero within = refl
 no_count (suc count) (suc number) within = no_count count number (omega (arith, within))
 
-pub zeros_of : (items : List Item) (sought : Sought) (tally : List ℕ) → counts_given items ≡ true → AreZeros items sought tally → WereZero (numbers_with (lines_sought sought) (length (secrets_of sought.rules.items))) tally
+pub zeros_of : (items : List Item) (sought : Sought) (tally : List ℕ) → counts_given items ≡ true → AreZeros items sought tally → WereZero (numbers_with (sought_lines sought) (length (secrets_of sought.rules.items))) tally
 zeros_of items sought tally counted zero = by sought.lines zero
   where
     by : (x : Option LineRules) → MatchOption x (tally ≡ zeros (counts_given items) sought.rules.items) (λ lines. tally ≡ replicate (length sought.rules.items + (length lines.rules + 1)) 0)

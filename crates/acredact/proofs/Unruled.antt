@@ -2,10 +2,10 @@
 use Rattle.std.proofs.Common.{◌≡◌, ℕ, List, Option, true, false, refl, sym, ap, subst, ◌∙◌}
 use Rattle.std.specs.Prelude.{Bool, ◌&&◌, None, Some, IfSome, is_some, length, option_map, if◌then◌else◌}
 use Rattle.acredact.specs.Arguments.{Given, all_given, covers_asked, gives_rules, has}
-use Rattle.acredact.specs.Calls.{Call, lines_by, pieces_asked, reading_by, redactor_by_given}
+use Rattle.acredact.specs.Calls.{Call, lines_with, pieces_asked, reading_by, redactor_by_given}
 use Rattle.pseudonyms.specs.Pseudonyms.{pseudonym_rule}
 use Rattle.acredact.specs.LineRules.{LinesLoaded, fixed_at, key_beside}
-use Rattle.acredact.specs.Loading.{AreLinesGiven, AreLoaded, AreSought, IsRuled, Loaded, Reading, lines_held, lines_sought, loaded_by, loaded_of}
+use Rattle.acredact.specs.Loading.{AreLinesGiven, AreLoaded, AreAllSought, IsRuled, Loaded, Reading, lines_held, sought_lines, loaded_by, loaded_of}
 use Rattle.acredact.specs.Named.{all_named}
 use Rattle.acredact.specs.Tables.{Secret, secrets_of}
 use Rattle.acredact.specs.declared.arguments.Item.{Item}
@@ -49,7 +49,7 @@ unruled_lines call load left between none loaded =
     ∙ loaded_none call.given loaded.secrets loaded.lines loaded.key (lines_none (reading_by call) call.given loaded.lines loaded.between loaded.meanwhile none loaded.lines_given)
 
 pub unlined_by : (call : Call) (load : Loaded) → load.lines ≡ None → (redactor_by_given call.given load).lines ≡ None
-unlined_by call load is = ap (option_map (lines_by (pieces_asked call.given load.secrets))) is
+unlined_by call load is = ap (option_map (lines_with (pieces_asked call.given load.secrets))) is
 
 -- where lines were loaded an option gives rules
 pub lines_ruled : (reading : Reading) (given : List Given) (lines : Option LinesLoaded) (left left' : Option (List ℕ)) → is_some lines ≡ true → AreLinesGiven reading given lines left left' → (covers_asked given ≡ true) × (gives_rules given ≡ true)
@@ -64,18 +64,18 @@ loaded_some given secrets lines (Some key) = by (has Forms given)
     by true = mapped_some (fixed_at (length secrets)) lines
     by false = refl
 
-lines_are : (call : Call) (load : Loaded) (left between : Option (List ℕ)) → AreLoaded (reading_by call) call.given load left between → is_some (option_map (lines_by (pieces_asked call.given load.secrets)) load.lines) ≡ true
+lines_are : (call : Call) (load : Loaded) (left between : Option (List ℕ)) → AreLoaded (reading_by call) call.given load left between → is_some (option_map (lines_with (pieces_asked call.given load.secrets)) load.lines) ≡ true
     → (covers_asked call.given ≡ true) × (gives_rules call.given ≡ true)
 lines_are call load left between loaded some =
     lines_ruled (reading_by call) call.given loaded.lines loaded.between loaded.meanwhile
-    (sym (loaded_some call.given loaded.secrets loaded.lines loaded.key) ∙ sym (ap (λ (l : Loaded). is_some l.lines) loaded.is) ∙ sym (mapped_some (lines_by (pieces_asked call.given load.secrets)) load.lines) ∙ some)
+    (sym (loaded_some call.given loaded.secrets loaded.lines loaded.key) ∙ sym (ap (λ (l : Loaded). is_some l.lines) loaded.is) ∙ sym (mapped_some (lines_with (pieces_asked call.given load.secrets)) load.lines) ∙ some)
     loaded.lines_given
 
 pub ruled_by : (call : Call) (load : Loaded) (left between : Option (List ℕ)) → AreLoaded (reading_by call) call.given load left between → is_some (redactor_by_given call.given load).lines ≡ true → gives_rules call.given ≡ true
 ruled_by call load left between loaded some = (lines_are call load left between loaded some).1
 
 -- what is held is what was loaded
-pub unheld : (sought : Sought) → lines_sought sought ≡ None → sought.lines ≡ None
+pub unheld : (sought : Sought) → sought_lines sought ≡ None → sought.lines ≡ None
 unheld sought none = by sought.lines none
   where
     by : (x : Option LineRules) → lines_held sought.fixed x ≡ None → x ≡ None
@@ -86,13 +86,13 @@ unheld sought none = by sought.lines none
 pub ruled_of : (items : List Item) (call : Call) (sought : Sought) (left between : Option (List ℕ)) → call.given ≡ all_given items → AreLoaded (reading_by call) call.given (loaded_of sought) left between → IsRuled items sought
 ruled_of items call sought left between same loaded = by sought.lines (λ some. lines_are call (loaded_of sought) left between loaded some)
   where
-    by : (x : Option LineRules) → (is_some (option_map (lines_by (pieces_asked call.given (secrets_of sought.rules.items))) (lines_held sought.fixed x)) ≡ true → (covers_asked call.given ≡ true) × (gives_rules call.given ≡ true))
+    by : (x : Option LineRules) → (is_some (option_map (lines_with (pieces_asked call.given (secrets_of sought.rules.items))) (lines_held sought.fixed x)) ≡ true → (covers_asked call.given ≡ true) × (gives_rules call.given ≡ true))
         → IfSome x (λ lines. covers_asked (all_given items) ≡ true)
     by None asked = tt
     by (Some lines) asked = subst (λ (l : List Given). covers_asked l ≡ true) same ((asked refl).0)
 
-pub ruled_sought : (items : List Item) (call : Call) (sought : Sought) (left between : Option (List ℕ)) → (loaded : AreSought (reading_by call) (all_given items) (secrets_of sought.rules.items) (lines_sought sought) left between) → IsRuled items sought
-ruled_sought items call sought left between loaded = by sought.lines (λ some. lines_ruled (reading_by call) (all_given items) (lines_sought sought) loaded.between between some loaded.lines_given)
+pub ruled_sought : (items : List Item) (call : Call) (sought : Sought) (left between : Option (List ℕ)) → (loaded : AreAllSought (reading_by call) (all_given items) (secrets_of sought.rules.items) (sought_lines sought) left between) → IsRuled items sought
+ruled_sought items call sought left between loaded = by sought.lines (λ some. lines_ruled (reading_by call) (all_given items) (sought_lines sought) loaded.between between some loaded.lines_given)
   where
     by : (x : Option LineRules) → (is_some (lines_held sought.fixed x) ≡ true → (covers_asked (all_given items) ≡ true) × (gives_rules (all_given items) ≡ true)) → IfSome x (λ lines. covers_asked (all_given items) ≡ true)
     by None asked = tt

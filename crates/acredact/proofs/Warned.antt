@@ -14,10 +14,10 @@ use Rattle.programs.specs.declared.errors.Errors.{Errors}
 use Rattle.programs.specs.declared.failure.Failure.TheVariants.{OutOfMemory}
 use Rattle.programs.proofs.Tellings.{tells-later}
 use Rattle.acredact.specs.Arguments.{Given, counts_asked, has}
-use Rattle.acredact.specs.Calls.{AreBounded, Call, CallOutcome, IsCountsFailure, IsCountsLine, IsLineOf, IsReadyRefusal, IsRunFailure, IsUntouched, IsWordLine, MayFail, OutputFails, RestOutcome, RunOutcome, TellsAnyNumbers, TellsCounts, TellsLong, TellsNumbers, WarnedOutcome, names_asked, reading_by, redactor_by_given, work_by}
+use Rattle.acredact.specs.Calls.{AreBounded, Call, CallOutcome, IsCountsFailure, IsCountsLine, IsLineOf, IsMadeRefusal, IsRunFailure, IsUntouched, IsWordLine, MayFail, OutputFails, RestOutcome, RunOutcome, TellsAnyNumbers, TellsCounts, TellsLong, TellsNumbers, WarnedOutcome, names_asked, reading_by, redactor_by_given, work_by}
 use Rattle.acredact.specs.Doubts.{TellsDoubts, all_doubt_lines}
 use Rattle.aho_core.specs.Replacement.{pieces_of}
-use Rattle.acredact.specs.Files.{Work, key_for, keyed_of, lines_of, redactor_of}
+use Rattle.acredact.specs.Files.{Work, key_for, keyed_of, job_lines, redactor_of}
 use Rattle.acredact.specs.LineRules.{numbers_with}
 use Rattle.acredact.specs.Loading.{AreLoaded, Loaded}
 use Rattle.acredact.specs.Messages.{unclean_line}
@@ -77,7 +77,7 @@ pub judged_job : {F : Type 0} (p : Patterns) (job : Job F) (answer : Option Uncl
 judged_job p job answer none some = by job.lines none some
   where
     by : (x : Option JobLines) → (x ≡ None → IsJudgedBy p job.covers (is_some (key_for job.covers job.key)) (pieces_of job.replacements.now) answer) → (is_some x ≡ true → job.covers ≡ true)
-        → MatchOption (option_map (lines_of (pieces_of job.replacements.now)) x) (IsJudgedBy p job.covers (is_some (key_for job.covers job.key)) (pieces_of job.replacements.now) answer) (λ l. job.covers ≡ true)
+        → MatchOption (option_map (job_lines (pieces_of job.replacements.now)) x) (IsJudgedBy p job.covers (is_some (key_for job.covers job.key)) (pieces_of job.replacements.now) answer) (λ l. job.covers ≡ true)
     by None none some = none refl
     by (Some l) none some = some refl
 
@@ -195,7 +195,7 @@ module _ {R : Type 0} {Reads : Readers R} {W E : Type 0} (Writes : Writers W) (K
   warned_memory streams = warned_refused streams (Other OutOfMemory) (inl refl)
 
   -- the library refuses the patterns
-  pub warned_built : (streams : Streams R W E Reads) (failure : Failure) → IsReadyRefusal work.redactor failure → WarnedOutcome Writes K strict work (Err failure) streams streams
+  pub warned_built : (streams : Streams R W E Reads) (failure : Failure) → IsMadeRefusal work.redactor failure → WarnedOutcome Writes K strict work (Err failure) streams streams
   warned_built streams failure refused = inl (failure, refl, refl, inr (inl refused))
 
   -- a piece is refused

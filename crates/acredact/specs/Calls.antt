@@ -27,7 +27,7 @@ use Rattle.acredact.specs.Forms.{forms_asked}
 use Rattle.acredact.specs.Files.{AreCut, AreDone, AreFree, AreRedacted, Does, Work, are_none, redactor_of, unread_line, work_of}
 use Rattle.acredact.specs.Hidden.{AreHidden}
 use Rattle.acredact.specs.LineRules.{LinesLoaded, numbers_with, pieces_with}
-use Rattle.acredact.specs.Loading.{AreLoaded, AreSought, CannotLoadAll, CannotLoadKey, CannotLoadLines, CannotLoadOne, IsKeyGiven, Loaded, Reading, Rules, lines_sought, loaded_by, loaded_of}
+use Rattle.acredact.specs.Loading.{AreLoaded, AreAllSought, CannotLoadAll, CannotLoadKey, CannotLoadLines, CannotLoadOne, IsKeyGiven, Loaded, Reading, Rules, sought_lines, loaded_by, loaded_of}
 use Rattle.acredact.specs.Messages.{output_line, unclean_line}
 use Rattle.acredact.specs.Mistakes.{IsMistakeOfCall}
 use Rattle.acredact.specs.Pieces.{IsUncleanOf, TellsOfPieces}
@@ -107,8 +107,8 @@ abbrev pub key_asked : List Given → Option (List ℕ) → Option Keyed
 key_asked given key = key_of_cover (covers_asked given) (option_map (keyed_as (has IgnoreCase given)) key)
 
 -- what was loaded of rules, with the texts of the patterns that have their own though there is a key
-abbrev pub lines_by : List (List ℕ) → LinesLoaded → LineCovered
-lines_by pieces lines = record { rules = lines.rules; most = lines.most; own = take lines.fixed pieces }
+abbrev pub lines_with : List (List ℕ) → LinesLoaded → LineCovered
+lines_with pieces lines = record { rules = lines.rules; most = lines.most; own = take lines.fixed pieces }
 
 abbrev pub redactor_by_given : List Given → Loaded → Redactor
 redactor_by_given given loaded = record {
@@ -117,7 +117,7 @@ redactor_by_given given loaded = record {
   words = words_asked given;
   pieces = pieces_with loaded.lines (pieces_asked given loaded.secrets) (text_asked given);
   key = key_asked given loaded.key;
-  lines = option_map (lines_by (pieces_asked given loaded.secrets)) loaded.lines;
+  lines = option_map (lines_with (pieces_asked given loaded.secrets)) loaded.lines;
 }
 
 abbrev pub work_by : Call → Loaded → Work
@@ -147,8 +147,8 @@ abbrev pub IsBuildRefusal : Patterns → Failure → Type 0
 IsBuildRefusal p failure = (error : BuildError) × (failure ≡ Other (Build error)) × RefusesPatterns p error
 
 -- or a pattern holds a line end, beside rules
-abbrev pub IsReadyRefusal : Redactor → Failure → Type 0
-IsReadyRefusal r failure = IsBuildRefusal r.patterns failure ⊎ ((is_some r.lines ≡ true) × (number : ℕ) × (failure ≡ LineEnd number))
+abbrev pub IsMadeRefusal : Redactor → Failure → Type 0
+IsMadeRefusal r failure = IsBuildRefusal r.patterns failure ⊎ ((is_some r.lines ≡ true) × (number : ℕ) × (failure ≡ LineEnd number))
 
 -- why pieces are refused: one of a cover is not clean
 abbrev pub IsStrictFailure : (strict : Bool) → Redactor → Failure → Type 0
@@ -432,7 +432,7 @@ module _ {R : Type 0} {Reads : Readers R} {W : Type 0} (Writes : Writers W) wher
     WarnedOutcome strict work result streams streams' =
         ((failure : Failure) × (result ≡ Err failure) × (streams' ≡ streams)
         × (IsStrictFailure strict work.redactor failure
-        ⊎ (IsReadyRefusal work.redactor failure ⊎ IsRunFailure (OutputFails streams.output streams.output) failure)))
+        ⊎ (IsMadeRefusal work.redactor failure ⊎ IsRunFailure (OutputFails streams.output streams.output) failure)))
         ⊎ ((errors : Errors E) × TellsOfPieces K strict work.redactor streams.errors errors × RunOutcome work result (record streams { errors = errors }) streams')
 
     -- the same of a job, where files are redacted by these patterns
@@ -502,13 +502,13 @@ module _ {F X R : Type 0} {Reads : Readers R} (D : Folders F X) (folder : F) (gi
   -- patterns and rules were loaded, and held so
   abbrev pub GivesSought : Sought → (input input' : FromRead R Reads) → Type 0
   GivesSought sought input input' =
-      AreSought (reading_by (call_of D folder given)) given (secrets_of sought.rules.items) (lines_sought sought) (bytes_left input) (bytes_left input')
+      AreAllSought (reading_by (call_of D folder given)) given (secrets_of sought.rules.items) (sought_lines sought) (bytes_left input) (bytes_left input')
 
   -- and the key, by which they are held then
   abbrev pub IsKeyedBy : (sought all : Sought) → (input input' : FromRead R Reads) → Type 0
   IsKeyedBy sought all input input' = (key : Option (List ℕ))
       × IsKeyGiven (reading_by (call_of D folder given)) (last_value Pseudonym given) key (bytes_left input) (bytes_left input')
-      × (loaded_of all ≡ loaded_by given (secrets_of sought.rules.items) (lines_sought sought) key)
+      × (loaded_of all ≡ loaded_by given (secrets_of sought.rules.items) (sought_lines sought) key)
 
   abbrev pub LoadsSought : Sought → (input input' : FromRead R Reads) → Type 0
   LoadsSought sought input input' = AreLoaded (reading_by (call_of D folder given)) given (loaded_of sought) (bytes_left input) (bytes_left input')

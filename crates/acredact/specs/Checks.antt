@@ -15,17 +15,17 @@ use Rattle.programs.specs.declared.failure.Failure.TheVariants.{OutOfMemory}
 use Rattle.programs.specs.declared.reason.Reason.{Reason}
 use Rattle.acredact.specs.Arguments.{AsksToCheck, Given, GivesNoPattern, gives_rules, has, words_asked}
 use Rattle.acredact.specs.Builds.{patterns_by_given}
-use Rattle.acredact.specs.Calls.{Call, IsBuildRefusal, IsLineEndFailure, IsUnreadLine, call_of, gives_pattern, lines_by, names_asked, reading_by}
+use Rattle.acredact.specs.Calls.{Call, IsBuildRefusal, IsLineEndFailure, IsUnreadLine, call_of, gives_pattern, lines_with, names_asked, reading_by}
 use Rattle.acredact.specs.Doubts.{IsDoubtFailure, TellsDoubts, all_doubt_lines}
 use Rattle.acredact.specs.Failures.{IsFailureLine}
 use Rattle.acredact.specs.Faults.{IsReadReason}
 use Rattle.acredact.specs.Files.{are_none, unread_line}
 use Rattle.acredact.specs.LineRules.{LinesLoaded}
-use Rattle.acredact.specs.Loading.{AreGiven, AreSought, CannotLoadLines, CannotLoadOne, lines_sought}
+use Rattle.acredact.specs.Loading.{AreGiven, AreAllSought, CannotLoadLines, CannotLoadOne, sought_lines}
 use Rattle.acredact.specs.Looks.{IsLineLookFor, IsLook, HoldsNoMatch, is_found, sought, sought_with}
 use Rattle.acredact.specs.Messages.{shown}
 use Rattle.acredact.specs.Reads.{OfName}
-use Rattle.acredact.specs.RuleLines.{long_line}
+use Rattle.acredact.specs.RuleLines.{long_row}
 use Rattle.acredact.specs.Secrets.{LineCovered, Redactor}
 use Rattle.acredact.specs.Tables.{Secret, patterns_in, secrets_of}
 use Rattle.acredact.specs.declared.arguments.Mistake.TheVariants.{NoPattern, OutOfMemory as NoRoom}
@@ -65,7 +65,7 @@ abbrev pub quest_by : Call → List Secret → Option LinesLoaded → Quest
 quest_by call secrets lines = record {
   holds = call.holds;
   refuses = call.refuses;
-  redactor = sought_with (patterns_by_given call.given (patterns_in secrets)) (words_asked call.given) (option_map (lines_by []) lines);
+  redactor = sought_with (patterns_by_given call.given (patterns_in secrets)) (words_asked call.given) (option_map (lines_with []) lines);
 }
 
 -- how what counts in a line is called: a pattern by its number, a rule by its name, or a line that is too long
@@ -95,7 +95,7 @@ run_line file number name = shown file ++ (codes ":" ++ (decimal number ++ (code
 abbrev pub IsRunLine : List LineRule → ℕ → List (List ℕ) → List ℕ → Type 0
 IsRunLine rules most files line =
     ((file : List ℕ) × (number : ℕ) × (name : List ℕ) × IsOneOf file files × IsRunName rules most name × (line ≡ run_line file number name))
-    ⊎ ((count : ℕ) × (line ≡ long_line most count))
+    ⊎ ((count : ℕ) × (line ≡ long_row most count))
 
 -- the file of this name was found to be this: what may be told of one is that a read fails, or that the folder refuses it
 abbrev pub IsLookOf : Quest → List ℕ → Look → (left left' : Option (List ℕ)) → Type 0
@@ -126,7 +126,7 @@ pub record SeesCall (call : Call) (found : Bool) (lines : List (List ℕ)) (left
   pub secrets : List Secret
   pub rules : Option LinesLoaded
   pub between : Option (List ℕ)
-  pub loaded : AreSought (reading_by call) call.given secrets rules left between
+  pub loaded : AreAllSought (reading_by call) call.given secrets rules left between
   pub seen : AreSeen (quest_by call secrets rules) (names_asked call.given) found lines between left'
 
 -- and nothing counts in any
@@ -135,7 +135,7 @@ pub record IsUnmatchedCall (call : Call) (left left' : Option (List ℕ)) : Type
   pub secrets : List Secret
   pub rules : Option LinesLoaded
   pub between : Option (List ℕ)
-  pub loaded : AreSought (reading_by call) call.given secrets rules left between
+  pub loaded : AreAllSought (reading_by call) call.given secrets rules left between
   pub unmatched : AreUnmatched (quest_by call secrets rules) (names_asked call.given) between left'
 
 -- why patterns are not searched for: the library refuses just these, or memory runs out
@@ -174,7 +174,7 @@ WarnsOfList call line = (has Strict call.given ≡ false) × (secrets : List Sec
 -- with rules a line that tells where one marks, or how many lines were too long
 abbrev pub TellsRun : Call → List ℕ → Type 0
 TellsRun call line = (secrets : List Secret) × (rules : LinesLoaded) × (left : Option (List ℕ)) × (between : Option (List ℕ))
-    × AreSought (reading_by call) call.given secrets (Some rules) left between × IsRunLine rules.rules rules.most (names_asked call.given) line
+    × AreAllSought (reading_by call) call.given secrets (Some rules) left between × IsRunLine rules.rules rules.most (names_asked call.given) line
 
 -- what may be told of a check before it ends: of a file that cannot be read, such a warning, or such a line
 abbrev pub IsCheckLine : Call → List ℕ → Type 0
@@ -201,7 +201,7 @@ module _ {E : Type 0} (K : SinkGhosts E) where
     pub sees : SeesCall call found lines left left'
     pub between : Errors E
     pub doubts : TellsDoubts K (has Strict call.given) call.given sees.secrets errors between
-    pub told : TellsSeen K (option_map (lines_by []) sees.rules) (names_asked call.given) lines between errors'
+    pub told : TellsSeen K (option_map (lines_with []) sees.rules) (names_asked call.given) lines between errors'
 
   -- nothing was told but of the patterns of the lists that were loaded
   pub record TellsListsAlone (call : Call) (left : Option (List ℕ)) (errors errors' : Errors E) : Type 0 where
@@ -262,12 +262,12 @@ module _ {E F Y R : Type 0} {Reads : Readers R} (K : SinkGhosts E) (D : Folders 
   -- and for what is sought in the files that are asked for
   abbrev pub SeesSought : F → List Given → Sought → Result Verdict Failure → (input input' : FromRead R Reads) → (errors errors' : Errors E) → Type 0
   SeesSought folder given sought result input input' errors errors' =
-      SeesFiles K (quest_by (call_of D folder given) (secrets_of sought.rules.items) (lines_sought sought)) (names_asked given) result (bytes_left input) (bytes_left input') errors errors'
+      SeesFiles K (quest_by (call_of D folder given) (secrets_of sought.rules.items) (sought_lines sought)) (names_asked given) result (bytes_left input) (bytes_left input') errors errors'
 
   -- and for what was loaded so, with the bytes that the input has left since
   abbrev pub ChecksSought : F → List Given → Sought → Result Verdict Failure → (input input' : FromRead R Reads) → (errors errors' : Errors E) → Type 0
   ChecksSought folder given sought result input input' errors errors' = (left : Option (List ℕ))
-      → gives_pattern given ≡ true → AreSought (reading_by (call_of D folder given)) given (secrets_of sought.rules.items) (lines_sought sought) left (bytes_left input)
+      → gives_pattern given ≡ true → AreAllSought (reading_by (call_of D folder given)) given (secrets_of sought.rules.items) (sought_lines sought) left (bytes_left input)
       → CheckOutcome K (call_of D folder given) result left (bytes_left input') errors errors'
 
   abbrev pub ChecksGiven : F → List Given → Result Verdict Failure → (input input' : FromRead R Reads) → (errors errors' : Errors E) → Type 0

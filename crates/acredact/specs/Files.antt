@@ -43,8 +43,8 @@ keyed_of key = record { bytes = key.bytes.now; ignore_case = key.ignore_case }
 abbrev pub key_for : Bool → Option Key → Option Keyed
 key_for covers key = key_of_cover covers (option_map keyed_of key)
 
-abbrev pub lines_of : List (List ℕ) → JobLines → LineCovered
-lines_of pieces lines = record { rules = lines.rules.now; most = lines.most; own = take lines.fixed pieces }
+abbrev pub job_lines : List (List ℕ) → JobLines → LineCovered
+job_lines pieces lines = record { rules = lines.rules.now; most = lines.most; own = take lines.fixed pieces }
 
 abbrev pub redactor_of : {F : Type 0} → Job F → Patterns → Redactor
 redactor_of job p = record {
@@ -53,7 +53,7 @@ redactor_of job p = record {
   words = job.covers && job.words;
   pieces = pieces_of job.replacements.now;
   key = key_for job.covers job.key;
-  lines = option_map (lines_of (pieces_of job.replacements.now)) job.lines;
+  lines = option_map (job_lines (pieces_of job.replacements.now)) job.lines;
 }
 
 -- an automaton suits it. With rules a job is a cover, and there are texts behind those of patterns

@@ -17,7 +17,7 @@ use Rattle.programs.specs.declared.errors.Errors.{Errors}
 use Rattle.programs.specs.declared.failure.Failure.TheVariants.{OutOfMemory}
 use Rattle.programs.specs.declared.reason.Reason.{Reason}
 use Rattle.acredact.specs.Arguments.{Given, RefusesUnclean, all_given, counts_asked, has}
-use Rattle.acredact.specs.Calls.{Call, IsLineOf, IsReadyRefusal, IsStrictFailure, MayFail, TellsTotals, WarnsCall, call_of, names_asked, reading_by, redactor_by_given, work_by}
+use Rattle.acredact.specs.Calls.{Call, IsLineOf, IsMadeRefusal, IsStrictFailure, MayFail, TellsTotals, WarnsCall, call_of, names_asked, reading_by, redactor_by_given, work_by}
 use Rattle.acredact.specs.Doubts.{TellsDoubts, TellsWarnings}
 use Rattle.acredact.specs.Failures.{IsFailureLine}
 use Rattle.acredact.specs.Files.{AreFree, AreRedacted, Work, are_none, redactor_of, unread_line, work_of}
@@ -124,7 +124,7 @@ module _ {O Z : Type 0} (Writes : Writers Z) (U : Places O Z) (work : Work) wher
     abbrev pub WarnedPlaces : (strict : Bool) → Result Bool Failure → (outputs outputs' : O) → (errors errors' : Errors E) → Type 0
     WarnedPlaces strict result outputs outputs' errors errors' =
         ((failure : Failure) × (result ≡ Err failure) × (outputs' ≡ outputs) × (errors' ≡ errors)
-        × (IsStrictFailure strict work.redactor failure ⊎ (IsReadyRefusal work.redactor failure ⊎ (failure ≡ Other OutOfMemory))))
+        × (IsStrictFailure strict work.redactor failure ⊎ (IsMadeRefusal work.redactor failure ⊎ (failure ≡ Other OutOfMemory))))
         ⊎ ((mid : Errors E) × TellsOfPieces K strict work.redactor errors mid × PlacesOutcome (Other OutOfMemory) result outputs outputs' mid errors')
 
 module _ {F X R O Z E : Type 0} {Reads : Readers R} (Writes : Writers Z) (K : SinkGhosts E) (D : Folders F X) (U : Places O Z) where

@@ -229,7 +229,7 @@ loaded_by given secrets lines (Some key) =
     else record { secrets = secrets; key = Some key; lines = lines }
 
 -- the secrets and the rules were read
-pub record AreSought (reading : Reading) (given : List Given) (secrets : List Secret) (lines : Option LinesLoaded) (left left' : Option (List ℕ)) : Type 0 where
+pub record AreAllSought (reading : Reading) (given : List Given) (secrets : List Secret) (lines : Option LinesLoaded) (left left' : Option (List ℕ)) : Type 0 where
   pub between : Option (List ℕ)
   pub given_all : AreGiven reading given secrets left between
   pub lines_given : AreLinesGiven reading given lines between left'
@@ -256,15 +256,15 @@ key_lent key = option_map (λ bytes. bytes.now) key
 abbrev pub lines_held : ℕ → Option LineRules → Option LinesLoaded
 lines_held fixed lines = option_map (λ (l : LineRules). record { rules = l.rules; most = l.most; fixed = fixed }) lines
 
-abbrev pub lines_sought : Sought → Option LinesLoaded
-lines_sought sought = lines_held sought.fixed sought.lines
+abbrev pub sought_lines : Sought → Option LinesLoaded
+sought_lines sought = lines_held sought.fixed sought.lines
 
 abbrev pub loaded_of : Sought → Loaded
-loaded_of sought = record { secrets = secrets_of sought.rules.items; key = key_in sought.key; lines = lines_sought sought }
+loaded_of sought = record { secrets = secrets_of sought.rules.items; key = key_in sought.key; lines = sought_lines sought }
 
 -- the same with a key that is to be heeded
 abbrev pub loaded_with : List Given → Sought → List ℕ → Loaded
-loaded_with given sought key = loaded_by given (secrets_of sought.rules.items) (lines_sought sought) (Some key)
+loaded_with given sought key = loaded_by given (secrets_of sought.rules.items) (sought_lines sought) (Some key)
 
 -- there are rules of covers alone
 abbrev pub IsRuled : List Item → Sought → Type 0

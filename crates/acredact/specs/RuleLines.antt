@@ -47,12 +47,12 @@ abbrev pub IsBadRuleLine : List ℕ → BadRule → List ℕ → Type 0
 IsBadRuleLine file bad line = (why : List ℕ) × IsFlawText bad.flaw why × (line ≡ bad_rule_line file bad why)
 
 -- the line that tells how many lines were too long: none where no line was
-abbrev pub long_line : (most count : ℕ) → List ℕ
-long_line most count =
+abbrev pub long_row : (most count : ℕ) → List ℕ
+long_row most count =
     codes "acredact" ++ (codes ": lines of more than " ++ (decimal most ++ (codes " bytes, each covered whole: " ++ (decimal count ++ codes "\n"))))
 
 abbrev pub long_told : (most count : ℕ) → List ℕ
-long_told most count = if count == 0 then [] else long_line most count
+long_told most count = if count == 0 then [] else long_row most count
 
 -- the count behind those of some rules: that of long lines
 abbrev pub long_count : List Rule → (counts : List ℕ) → ℕ
@@ -68,17 +68,17 @@ rule_counts_told (rule ∷ rules) [] = []
 rule_counts_told (rule ∷ rules) (count ∷ counts) = rule_count_line count rule ++ rule_counts_told rules counts
 
 -- a hexadecimal digit, where that of ten is this byte; and a byte of a name between the quotes of a string of JSON
-abbrev pub hex_digit : (ten digit : ℕ) → ℕ
-hex_digit ten digit = if nat_lt digit 10 then 48 + digit else ten + (digit - 10)
+abbrev pub digit_by : (ten digit : ℕ) → ℕ
+digit_by ten digit = if nat_lt digit 10 then 48 + digit else ten + (digit - 10)
 
-abbrev pub json_byte : ℕ → List ℕ
-json_byte byte =
+abbrev pub json_told : ℕ → List ℕ
+json_told byte =
     if byte == 34 || byte == 92 then 92 ∷ byte ∷ []
-    else if nat_lt byte 32 then codes "\\u00" ++ (hex_digit 97 (byte / 16) ∷ hex_digit 97 (byte % 16) ∷ [])
+    else if nat_lt byte 32 then codes "\\u00" ++ (digit_by 97 (byte / 16) ∷ digit_by 97 (byte % 16) ∷ [])
     else byte ∷ []
 
 abbrev pub json_text : List ℕ → List ℕ
-json_text name = flat_map json_byte name
+json_text name = flat_map json_told name
 
 -- a rule with its count as an object of JSON
 abbrev pub rule_object : Rule → ℕ → List ℕ

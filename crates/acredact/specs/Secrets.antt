@@ -153,8 +153,8 @@ abbrev pub IsRedaction : Redactor → List ℕ → List ℕ → Type 0
 IsRedaction r text redaction = MatchOption r.lines (IsWholeRedaction r text redaction) (λ l. IsLineRedaction r l text redaction)
 
 -- a beginning of the redaction of a text of which these bytes were read, whatever bytes follow: none once its end was seen
-abbrev pub BeginsWhole : Redactor → List ℕ → Bool → List ℕ → Type 0
-BeginsWhole r given ended part =
+abbrev pub BeginsPlain : Redactor → List ℕ → Bool → List ℕ → Type 0
+BeginsPlain r given ended part =
     (text : List ℕ) → MayBe given ended text → (redaction : List ℕ) × IsWholeRedaction r text redaction × StartsWith redaction part
 
 -- of lines, whatever is replaced in them
@@ -163,7 +163,7 @@ BeginsInLines r l given ended part =
     (text redaction : List ℕ) → MayBe given ended text → IsLineRedaction r l text redaction → StartsWith redaction part
 
 abbrev pub BeginsRedaction : Redactor → List ℕ → Bool → List ℕ → Type 0
-BeginsRedaction r given ended part = MatchOption r.lines (BeginsWhole r given ended part) (λ l. BeginsInLines r l given ended part)
+BeginsRedaction r given ended part = MatchOption r.lines (BeginsPlain r given ended part) (λ l. BeginsInLines r l given ended part)
 
 -- each byte given from a place on lies in what counts, or is among the last ones, that begin a pattern. Where words alone count, the last
 -- byte that was given waits for the next

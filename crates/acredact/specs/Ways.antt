@@ -11,7 +11,7 @@ use Rattle.secret_rules.specs.LineCovers.{AreSearchedFor}
 use Rattle.secret_rules.specs.Ready.{CanCoverLines, most_of, rules_of, searched_automaton, words_of}
 use Rattle.secret_rules.specs.declared.line_cover.LineCover.{LineCover}
 use Rattle.acredact.specs.Secrets.{CanRedact, LineCovered, Redactor, own_in, redactor_by, rule_by, rule_of}
-use Rattle.acredact.specs.Files.{keyed_of, lines_of}
+use Rattle.acredact.specs.Files.{keyed_of, job_lines}
 use Rattle.acredact.specs.declared.files.Job.{Job}
 use Rattle.acredact.specs.declared.ways.Coverer.{Ghosts as Coverers}
 use Rattle.acredact.specs.declared.ways.Way.{Ghosts as Ways}
@@ -67,7 +67,7 @@ pub record Covers {C : Type 0} (G : Coverers C) (coverer : C) (rule : PieceRule)
 
 -- the pieces of a job: the text of each number, or by its key the pseudonym of each run
 abbrev pub rule_in : {F : Type 0} → Job F → PieceRule
-rule_in job = rule_by (own_in (option_map (lines_of (pieces_of job.replacements.now)) job.lines)) (option_map keyed_of job.key) (pieces_of job.replacements.now)
+rule_in job = rule_by (own_in (option_map (job_lines (pieces_of job.replacements.now)) job.lines)) (option_map keyed_of job.key) (pieces_of job.replacements.now)
 
 module _ {C F : Type 0} (G : Coverers C) (coverer : C) (job : Job F) where
   -- a coverer covers by some patterns with the pieces of a job

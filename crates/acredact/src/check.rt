@@ -3,7 +3,7 @@
 ghost use Rattle.std.specs.Prelude.{◌≡◌, IfErr, IfSome, OnOk, Some, [], option_map, ⊥};
 ghost use Rattle.acredact.specs.Arguments.{GivesNoPattern, all_given};
 ghost use Rattle.acredact.specs.Checks.{ChecksGiven, ChecksSought, EndsCheck, IsReadyFailure, NamesThese, SeesSearchedFor, SeesSought};
-ghost use Rattle.acredact.specs.Files.{lines_of};
+ghost use Rattle.acredact.specs.Files.{job_lines};
 ghost use Rattle.acredact.specs.Loading.{IsRuled};
 ghost use Rattle.acredact.specs.Looks.{CanLook, sought_with};
 ghost use Rattle.acredact.specs.Secrets.{CanSeek, IfOf};
@@ -158,7 +158,7 @@ fn look_by<A: Automaton, B: Automaton, F: Folder, I: Read, E: Sink>(
     requires rows_lined { IfSome lines (λ _. IfSome rows (λ rows. CanSeek B.Automaton rows.now)) }
     requires named { IfSome names (NamesThese A.Automaton automaton.now lines) }
     ensures sees { IfOf A.Automaton automaton.now (λ p. IfSome rows.entry (λ rows. B.is_of rows.now p)
-        → SeesSearchedFor E.Sink F.Folder files.now (sought_with p files.now.words (option_map (lines_of []) lines.entry))
+        → SeesSearchedFor E.Sink F.Folder files.now (sought_with p files.now.words (option_map (job_lines []) lines.entry))
         result input.old input.new errors.old errors.new) }
 {
     match rows {
@@ -180,7 +180,7 @@ fn look_for<A: Automaton, F: Folder, I: Read, E: Sink>(
     requires lined { IfSome lines (λ _. CanSeek A.Automaton automaton.now) }
     requires named { IfSome names (NamesThese A.Automaton automaton.now lines) }
     ensures sees { IfOf A.Automaton automaton.now (λ p. SeesSearchedFor E.Sink F.Folder files.now
-        (sought_with p files.now.words (option_map (lines_of []) lines.entry)) result input.old input.new errors.old errors.new) }
+        (sought_with p files.now.words (option_map (job_lines []) lines.entry)) result input.old input.new errors.old errors.new) }
 {
     match lines {
         Some(lines) => look_at_lines(automaton, lines, names, files, input, errors),
@@ -207,7 +207,7 @@ fn look_at_lines<A: Automaton, F: Folder, I: Read, E: Sink>(
     requires ready { CanSeek A.Automaton automaton.now }
     requires named { IfSome names (NamesThese A.Automaton automaton.now (Some lines)) }
     ensures sees { IfOf A.Automaton automaton.now (λ p. SeesSearchedFor E.Sink F.Folder files.now
-        (sought_with p files.now.words (Some (lines_of [] lines.entry))) result input.old input.new errors.old errors.new) }
+        (sought_with p files.now.words (Some (job_lines [] lines.entry))) result input.old input.new errors.old errors.new) }
 {
     let mut look = LineLook::new(files.alloc, automaton, lines, files.words, names)?;
     let verdict = look_at_files(&mut look, files, input, errors)?;

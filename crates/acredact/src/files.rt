@@ -9,7 +9,7 @@ ghost use Rattle.programs.specs.Streams.{bytes_left};
 ghost use Rattle.acredact.specs.Back.{BackCounts, BackOutcome};
 ghost use Rattle.acredact.specs.Bounds.{JobNumbers, NumbersGiven, NumbersOfFile, NumbersOfInput, NumbersOpened, NumbersTold};
 ghost use Rattle.acredact.specs.Faults.{is_unread, reading_of};
-ghost use Rattle.acredact.specs.Files.{CanDo, FileJob, FilesOutcome, InputOutcome, JobOutcome, OpenedOutcome, ToldJob, lines_of, work_of};
+ghost use Rattle.acredact.specs.Files.{CanDo, FileJob, FilesOutcome, InputOutcome, JobOutcome, OpenedOutcome, ToldJob, job_lines, work_of};
 ghost use Rattle.acredact.specs.Secrets.{CanSeek, IfOf, Redactor, own_in};
 ghost use Rattle.acredact.specs.Totals.{CountsFile, CountsJob, CountsOfStream, CountsOfText, CountsOpened, CountsTold, JobCounts};
 ghost use Rattle.acredact.specs.Streams.{StreamOutcome};
@@ -173,9 +173,9 @@ fn cover_by<C: Coverer + Drop, F: Folder, I: Read, W: Write, E: Sink>(
     streams: &mut Streams<'_, I, W, E>,
 ) -> Result<bool, StreamError>
     requires ready { CanCover C.Coverer coverer job.now }
-    ensures outcome { IfCovers C.Coverer coverer.entry job.now (λ r. FilesOutcome W.Write E.Sink
+    ensures outcome { IfCovers C.Coverer coverer job.now (λ r. FilesOutcome W.Write E.Sink
         (work_of F.Folder job.now r) result streams.old streams.new) }
-    ensures counted { IfCovers C.Coverer coverer.entry job.now (CountsJob F.Folder job.now
+    ensures counted { IfCovers C.Coverer coverer job.now (CountsJob F.Folder job.now
         result streams.old streams.new counts.old counts.new) }
     ensures read { JobVolume F.Folder job.now result volume.old volume.new streams.old streams.new }
     ensures most { job.now.lines ≡ None → OnOk result (JobNumbers F.Folder job.now counts.old counts.new
@@ -212,7 +212,7 @@ fn cover_by<C: Coverer + Drop, F: Folder, I: Read, W: Write, E: Sink>(
 /// The texts of the first patterns, where these have their own though there is a key.
 fn own_of<'s, 't, F>(job: &Job<'s, 't, F>) -> &'s [&'t [u8]]
     ensures own { pieces_of result.now
-        ≡ own_in (option_map (lines_of (pieces_of job.now.replacements.now)) job.now.lines) }
+        ≡ own_in (option_map (job_lines (pieces_of job.now.replacements.now)) job.now.lines) }
 {
     match job.lines {
         Some(lines) => first_of(job.replacements, lines.fixed),

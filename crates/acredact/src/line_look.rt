@@ -2,7 +2,7 @@
 
 ghost use Rattle.std.specs.Prelude.{[], IfOk, IfSome, None, Some};
 ghost use Rattle.acredact.specs.Checks.{IsLineLookOf, NamesThese};
-ghost use Rattle.acredact.specs.Files.{lines_of};
+ghost use Rattle.acredact.specs.Files.{job_lines};
 ghost use Rattle.acredact.specs.Looks.{sought_with};
 ghost use Rattle.acredact.specs.Secrets.{CanSeek, IfOf};
 
@@ -60,7 +60,7 @@ impl<'s, A: Automaton> LineLook<'s, A> {
         requires ready { CanSeek A.Automaton automaton.now }
         requires named { IfSome told (NamesThese A.Automaton automaton.now (Some lines)) }
         ensures seeks { IfOk result (λ look. IfOf A.Automaton automaton.entry.now (λ p.
-            IsLineLookOf A.Automaton look (sought_with p words (Some (lines_of [] lines.entry))))) }
+            IsLineLookOf A.Automaton look (sought_with p words (Some (job_lines [] lines.entry))))) }
     {
         let numbers = automaton.patterns_len() + lines.rules.as_slice().len() + 1;
         Ok(LineLook {

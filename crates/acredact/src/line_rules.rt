@@ -280,8 +280,8 @@ fn add_each<'a>(
     parsed: Vec<LineRule>,
     named: bool,
 ) -> Result<(), Failure<'a>>
-    ensures added { OnOk result (rules.new.items ≡ rules.old.items ++ parsed.entry.items) }
-    ensures right { OnOk result (All (IsLineRule named) parsed.entry.items) }
+    ensures added { OnOk result (rules.new.items ≡ rules.old.items ++ parsed.items) }
+    ensures right { OnOk result (All (IsLineRule named) parsed.items) }
     ensures fails { IfErr result (IsFailureNamed (λ told. told ≡ name.now)) }
 {
     let mut number: usize = 0;

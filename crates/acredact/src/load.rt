@@ -135,7 +135,7 @@ fn with_lines<'a, F: Folder, I: Read>(
 ) -> Result<Sought, Failure<'a>>
     ensures lines { IfOk result (λ sought.
         LoadsLines F.Folder lists.now (all_given given.now) sought.lines input.old input.new) }
-    ensures rules { IfOk result (λ sought. sought.rules ≡ rules.entry) }
+    ensures rules { IfOk result (λ sought. sought.rules ≡ rules) }
     ensures keyless { IfOk result (λ sought. (sought.key ≡ None) × (sought.fixed ≡ 0)) }
     ensures fails { IfErr result (CannotLoadLines (all_given given.now)) }
 {
@@ -183,7 +183,7 @@ fn with_key<'a, F: Folder, I: Read>(
 ) -> Result<Sought, Failure<'a>>
     requires keyless { (sought.key ≡ None) × (sought.fixed ≡ 0) }
     ensures loaded { IfOk result (λ all. IsKeyedBy F.Folder
-        folder.now (all_given given.now) sought.entry all input.old input.new) }
+        folder.now (all_given given.now) sought all input.old input.new) }
     ensures fails { IfErr result (λ failure.
         CannotLoadKey (reading_by (call_of F.Folder folder.now (all_given given.now))) (all_given given.now) failure
         ⊎ (failure ≡ Other OutOfMemoryFailure)) }
@@ -205,8 +205,8 @@ fn named_by(
     key: Vec<u8>,
 ) -> Result<Sought, AllocError>
     ensures named { IfOk result (λ all. loaded_of all
-        ≡ loaded_with (all_given given.now) sought.entry key.entry.items) }
-    ensures lines { IfOk result (λ all. all.lines ≡ sought.entry.lines) }
+        ≡ loaded_with (all_given given.now) sought key.items) }
+    ensures lines { IfOk result (λ all. all.lines ≡ sought.lines) }
 {
     let Sought { rules, lines, .. } = sought;
     if !has(given, Word::Forms) {

@@ -7,11 +7,11 @@ ghost use Rattle.programs.specs.Names.{name_bytes};
 ghost use Rattle.acredact.specs.Arguments.{all_given, covers_asked, has};
 ghost use Rattle.acredact.specs.Back.{IsBackAsked};
 ghost use Rattle.acredact.specs.Builds.{patterns_by_given};
-ghost use Rattle.acredact.specs.Calls.{keyed_as, lines_by, names_asked, pieces_asked, text_asked};
+ghost use Rattle.acredact.specs.Calls.{keyed_as, lines_with, names_asked, pieces_asked, text_asked};
 ghost use Rattle.acredact.specs.Checks.{IsReadyFailure};
-ghost use Rattle.acredact.specs.Files.{keyed_of, lines_of};
+ghost use Rattle.acredact.specs.Files.{keyed_of, job_lines};
 ghost use Rattle.acredact.specs.LineRules.{pieces_with, texts_behind};
-ghost use Rattle.acredact.specs.Loading.{key_in, key_lent, lines_sought};
+ghost use Rattle.acredact.specs.Loading.{key_in, key_lent, sought_lines};
 ghost use Rattle.acredact.specs.Pieces.{pieces_by};
 ghost use Rattle.acredact.specs.Tables.{patterns_in, secrets_of};
 ghost use Rattle.acredact.specs.declared.arguments.Word.TheVariants.{AsWord, IgnoreCase};
@@ -141,7 +141,7 @@ impl<'r> Texts<'r> {
     ) -> Result<Texts<'r>, AllocError>
         ensures usual { IfOk result (λ texts. texts.usual.now ≡ text_asked (all_given given.now)) }
         ensures replacements { IfOk result (λ texts. pieces_of texts.replacements.items
-            ≡ pieces_with (lines_sought sought.entry.now) (pieces_asked (all_given given.now) (secrets_of sought.entry.now.rules.items))
+            ≡ pieces_with (sought_lines sought.entry.now) (pieces_asked (all_given given.now) (secrets_of sought.entry.now.rules.items))
             (text_asked (all_given given.now))) }
         ensures back { IfOk result (λ texts. IsBackAsked ⟦<NFA as Automaton>⟧ (all_given given.now)
             (pieces_of ready.now.patterns.items) texts.back) }
@@ -198,8 +198,8 @@ pub fn job_of<'s, F: Folder>(
         ≡ option_map (keyed_as (has IgnoreCase (all_given given.now))) (key_in sought.now.key) }
     ensures covers { result.covers ≡ covers_asked (all_given given.now) }
     ensures words { result.words ≡ has AsWord (all_given given.now) }
-    ensures lines { (pieces : List (List ℕ)) → option_map (lines_of pieces) result.lines
-        ≡ option_map (lines_by pieces) (lines_sought sought.now) }
+    ensures lines { (pieces : List (List ℕ)) → option_map (job_lines pieces) result.lines
+        ≡ option_map (lines_with pieces) (sought_lines sought.now) }
 {
     Job {
         alloc,
@@ -215,8 +215,8 @@ pub fn job_of<'s, F: Folder>(
 
 /// By what lines are covered, where they are.
 pub fn lines_in(sought: &Sought) -> Option<Lines<'_>>
-    ensures lines { (pieces : List (List ℕ)) → option_map (lines_of pieces) result
-        ≡ option_map (lines_by pieces) (lines_sought sought.entry.now) }
+    ensures lines { (pieces : List (List ℕ)) → option_map (job_lines pieces) result
+        ≡ option_map (lines_with pieces) (sought_lines sought.entry.now) }
 {
     match &sought.lines {
         Some(lines) => Some(Lines {

@@ -4,9 +4,9 @@
 ghost use Rattle.std.specs.Prelude.{◌≡◌, ◌+◌, ◌/◌, ◌%◌, ◌<◌, ◌≤◌, ◌++◌, ◌∷◌, [], IfOk, None, OnOk, drop, length, replicate};
 ghost use Rattle.programs.specs.Telling.{TellsBytes};
 ghost use Rattle.acredact.specs.Counts.{PutsText};
-ghost use Rattle.acredact.specs.Loading.{lines_sought};
+ghost use Rattle.acredact.specs.Loading.{sought_lines};
 ghost use Rattle.acredact.specs.Messages.{shown};
-ghost use Rattle.acredact.specs.RuleLines.{hex_digit, json_text, long_count, long_told, rule_counts_told, rule_object, rule_summary_text};
+ghost use Rattle.acredact.specs.RuleLines.{digit_by, json_text, long_count, long_told, rule_counts_told, rule_object, rule_summary_text};
 ghost use Rattle.acredact.specs.Summaries.{AreZeros, long_by};
 ghost use Rattle.acredact.specs.Tables.{secrets_of};
 
@@ -58,7 +58,7 @@ pub fn counts_behind<'t>(sought: &Sought, tally: &'t [u64]) -> &'t [u64]
 /// Tells as a line how many lines were too long, if some were.
 pub fn tell_long<E: Sink>(errors: &mut Errors<'_, E>, sought: &Sought, tally: &[u64])
     ensures told { TellsBytes E.Sink errors.old errors.new
-        (long_by (lines_sought sought.now) (secrets_of sought.now.rules.items) tally.now) }
+        (long_by (sought_lines sought.now) (secrets_of sought.now.rules.items) tally.now) }
     ensures quiet { sought.now.lines ≡ None → errors.new ≡ errors.old }
 {
     if let Some(lines) = &sought.lines {
@@ -138,7 +138,7 @@ fn put_shown(text: &mut Vec<u8>, name: &[u8]) -> Result<(), AllocError>
 fn put_hexadecimal(text: &mut Vec<u8>, byte: u8, ten: u8) -> Result<(), AllocError>
     requires letters { ten ≤ 97 }
     ensures put { OnOk result (PutsText text.old text.new
-        (hex_digit ten (byte / 16) ∷ hex_digit ten (byte % 16) ∷ [])) }
+        (digit_by ten (byte / 16) ∷ digit_by ten (byte % 16) ∷ [])) }
 {
     text.push(digit_of(byte / 16, ten))?;
     text.push(digit_of(byte % 16, ten))?;
@@ -149,7 +149,7 @@ fn put_hexadecimal(text: &mut Vec<u8>, byte: u8, ten: u8) -> Result<(), AllocErr
 fn digit_of(digit: u8, ten: u8) -> u8
     requires small { digit < 16 }
     requires letters { ten ≤ 97 }
-    ensures digit { result ≡ hex_digit ten digit }
+    ensures digit { result ≡ digit_by ten digit }
 {
     if digit < 10 {
         return b'0' + digit;

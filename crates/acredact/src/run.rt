@@ -14,7 +14,7 @@ ghost use Rattle.acredact.specs.Checks.{MatchedAsked, SaysOfCheck, TellsListsAsk
 ghost use Rattle.acredact.specs.Counts.{PutsText, lines_of_rules};
 ghost use Rattle.acredact.specs.Failures.{IsFailureLine};
 ghost use Rattle.acredact.specs.Files.{CanDo, keyed_of};
-ghost use Rattle.acredact.specs.Loading.{IsRuled, key_lent, lines_sought, loaded_of};
+ghost use Rattle.acredact.specs.Loading.{IsRuled, key_lent, sought_lines, loaded_of};
 ghost use Rattle.acredact.specs.Pieces.{IfOfAll, TellsUnclean, pieces_by};
 ghost use Rattle.acredact.specs.Secrets.{IfOf};
 ghost use Rattle.acredact.specs.Statuses.{IsIdle, SaysOfRedaction};
@@ -366,11 +366,11 @@ pub fn tell_counted<'a, E: Sink>(
 ) -> Result<bool, Failure<'a>>
     ensures all { IfOk result (λ done. done ≡ all) }
     ensures told { OnOk result (TellsAnyCounts E.Sink (all_given given.now) (secrets_of sought.now.rules.items)
-        (lines_sought sought.now) tally.now volume errors.old errors.new) }
+        (sought_lines sought.now) tally.now volume errors.old errors.new) }
     ensures lines { Tells E.Sink (IsCountsLine (all_given given.now) (secrets_of sought.now.rules.items)
-        (lines_sought sought.now)) errors.old errors.new }
+        (sought_lines sought.now)) errors.old errors.new }
     ensures these { Tells E.Sink (IsToldOf (all_given given.now) (secrets_of sought.now.rules.items)
-        (lines_sought sought.now) tally.now volume) errors.old errors.new }
+        (sought_lines sought.now) tally.now volume) errors.old errors.new }
     ensures fails { IfErr result (IsCountsFailure (counts_given given.now)) }
 {
     tell_long(errors, sought, tally);
@@ -398,7 +398,7 @@ fn tell_totals<E: Sink>(
     volume: Volume,
 ) -> Result<(), AllocError>
     ensures told { OnOk result (TellsBytes E.Sink errors.old errors.new
-        (totals_behind (lines_sought sought.now) (all_given given.now) (secrets_of sought.now.rules.items) tally.now volume)) }
+        (totals_behind (sought_lines sought.now) (all_given given.now) (secrets_of sought.now.rules.items) tally.now volume)) }
     ensures untold { OnErr result (errors.new ≡ errors.old) }
 {
     let sums = sums_of(alloc, sought.rules.as_slice(), tally)?;
@@ -419,7 +419,7 @@ fn put_asked_counts(
     tally: &[u64],
 ) -> Result<(), AllocError>
     ensures put { OnOk result (PutsText text.old text.new
-        (counts_part (lines_sought sought.now) (all_given given.now) (lines_of_rules sought.now.rules.items) sums.now
+        (counts_part (sought_lines sought.now) (all_given given.now) (lines_of_rules sought.now.rules.items) sums.now
         (drop (length sought.now.rules.items) tally.now))) }
 {
     if !has(given, Word::Count) {
@@ -442,7 +442,7 @@ fn put_asked_summary(
     volume: Volume,
 ) -> Result<(), AllocError>
     ensures put { OnOk result (PutsText text.old text.new
-        (summary_part (lines_sought sought.now) (all_given given.now) sums.now
+        (summary_part (sought_lines sought.now) (all_given given.now) sums.now
         (drop (length sought.now.rules.items) tally.now) volume)) }
 {
     if !has(given, Word::Summary) {

@@ -7,7 +7,7 @@ use Rattle.acredact.specs.Arguments.{all_given, has}
 use Rattle.acredact.specs.Calls.{call_of}
 use Rattle.acredact.specs.Checks.{CheckOutcome}
 use Rattle.acredact.specs.Doubts.{IsDoubtFailure, TellsDoubts}
-use Rattle.acredact.specs.Loading.{lines_sought}
+use Rattle.acredact.specs.Loading.{sought_lines}
 use Rattle.acredact.specs.Tables.{secrets_of}
 use Rattle.acredact.specs.declared.arguments.Word.TheVariants.{Strict}
 use Rattle.acredact.specs.declared.patterns.Rule.{Rule}
@@ -20,7 +20,7 @@ returns-in-Ok g c = record {
       let sought = c.args.sought.now in
       let doubts = subst (λ (l : List Rule). TellsDoubts g.E.Sink (has Strict (all_given c.args.given.now)) (all_given c.args.given.now) (secrets_of l) c.args.errors.now c.warn_of_lists.new.errors) c.as_slice.ensures.value
       (subst (λ (b : Bool). TellsDoubts g.E.Sink b (all_given c.args.given.now) (secrets_of c.as_slice.result.now) c.args.errors.now c.warn_of_lists.new.errors) c.has-strict.ensures.has c.in-Ok.ensures.told) in
-      check_seen g.E.Sink (call_of g.F.Folder c.args.folder.now (all_given c.args.given.now)) left (bytes_left c.check_sought.new.input) c.args.errors.now (secrets_of sought.rules.items) (lines_sought sought) (bytes_left c.args.input.now) c.warn_of_lists.new.errors c.check_sought.new.errors
+      check_seen g.E.Sink (call_of g.F.Folder c.args.folder.now (all_given c.args.given.now)) left (bytes_left c.check_sought.new.input) c.args.errors.now (secrets_of sought.rules.items) (sought_lines sought) (bytes_left c.args.input.now) c.warn_of_lists.new.errors c.check_sought.new.errors
       c.check_sought.result some loaded doubts c.check_sought.ensures.sees (ready_fails (all_given c.args.given.now) sought c.check_sought.result c.check_sought.ensures.fails);
 }
 
