@@ -6,7 +6,7 @@ use Rattle.std.specs.declared.io.traits.Read.{Ghosts as Readers}
 use Rattle.std.specs.declared.io.traits.Write.{Ghosts as Writers}
 use Rattle.aho_core.specs.Patterns.{Patterns}
 use Rattle.aho_devices.specs.declared.device.Sink.{Ghosts as SinkGhosts}
-use Rattle.chromesquid.specs.Searcher.{IsBuiltFrom, Searcher}
+use Rattle.chromesquid.specs.Searcher.{IsBuiltFrom, IsBuiltFromSome}
 use Rattle.programs.specs.Names.{name_bytes}
 use Rattle.acgrep.specs.Contexts.{BeginsLines, BeginsSearched, IsChosenBy, SearchesText, ShowsEach, ShowsGroup, WalksBegun, WalksLines, WalksText, walk_of}
 use Rattle.acgrep.specs.Files.{AreFilesBegun, BeginsFile, IfBroken, IfSearched, SearchesFile, SearchesReader}
@@ -22,7 +22,20 @@ use Rattle.acgrep.specs.declared.options.Context.{Context}
 use Rattle.acgrep.specs.declared.open.Open.{Ghosts as Openers}
 use Rattle.acgrep.specs.declared.print.Place.{Place}
 use Rattle.acgrep.specs.declared.select.Job.{Job}
+use Rattle.acgrep.specs.declared.select.Search.{Search}
 use Rattle.acgrep.specs.declared.select.State.{State}
+
+-- the patterns that its searcher was built from
+abbrev pub IsSought : Search → Patterns → Type 0
+IsSought search p = IsBuiltFrom search.searcher.now p
+
+-- it was built from some
+abbrev pub IsReady : Search → Type 0
+IsReady search = IsBuiltFromSome search.searcher.now
+
+-- what holds of them where none holds the byte that ends a line
+abbrev pub ForSought : Search → (Patterns → Type 0) → Type 0
+ForSought search Holds = ForLines search.job.style.ending (IsSought search) Holds
 
 -- what is asked of a selected line is written where a call does not fail
 abbrev pub WritesLineBy : (Patterns → Type 0) → Job → Place → (held held' : Option (List ℕ)) → List ℕ → {T E : Type 0} → Result T E → Type 0
@@ -33,150 +46,150 @@ abbrev pub WritesNextBy : (Patterns → Type 0) → Job → State → (held held
 WritesNextBy Are job before held held' line result = (p : Patterns) → Are p → OnOk result (WritesNext p job before held held' line)
 
 -- the lines of a text are searched where a call does not fail, and where it fails a beginning of what is told of them is written
-module _ {W : Type 0} (sinks : SinkGhosts W) (searcher : Searcher) (job : Job) (before after : State) (old new : W) where
+module _ {W : Type 0} (sinks : SinkGhosts W) (search : Search) (before after : State) (old new : W) where
   abbrev pub SearchesTextBy : {T E : Type 0} → List ℕ → Result T E → Type 0
   SearchesTextBy text result =
-      ForLines job.style.ending (IsBuiltFrom searcher) (λ p. OnOk result (SearchesText p job before after (sinks.taken old) (sinks.taken new) text))
+      ForSought search (λ p. OnOk result (SearchesText p search.job before after (sinks.taken old) (sinks.taken new) text))
 
   abbrev pub BeginsTextBy : {T E : Type 0} → List ℕ → Result T E → Type 0
   BeginsTextBy text result =
-      ForLines job.style.ending (IsBuiltFrom searcher) (λ p. OnErr result (BeginsSearched p job before after.selected (sinks.taken old) (sinks.taken new) (lines job.style.ending text)))
+      ForSought search (λ p. OnErr result (BeginsSearched p search.job before after.selected (sinks.taken old) (sinks.taken new) (lines search.job.style.ending text)))
 
   -- where no lines around selected ones are asked for
   abbrev pub SearchesPlainBy : {T E : Type 0} → List ℕ → Result T E → Type 0
   SearchesPlainBy text result =
-      ForLines job.style.ending (IsBuiltFrom searcher) (λ p. OnOk result (SearchesPlain p job before after (sinks.taken old) (sinks.taken new) text))
+      ForSought search (λ p. OnOk result (SearchesPlain p search.job before after (sinks.taken old) (sinks.taken new) text))
 
   abbrev pub BeginsPlainBy : {T E : Type 0} → List ℕ → Result T E → Type 0
   BeginsPlainBy text result =
-      ForLines job.style.ending (IsBuiltFrom searcher) (λ p. OnErr result (BeginsLines p job before after.selected (sinks.taken old) (sinks.taken new) (lines job.style.ending text)))
+      ForSought search (λ p. OnErr result (BeginsLines p search.job before after.selected (sinks.taken old) (sinks.taken new) (lines search.job.style.ending text)))
 
   -- where they are
   abbrev pub WalksBy : {T E : Type 0} → Context → List ℕ → Result T E → Type 0
   WalksBy context text result =
-      (p : Patterns) → IsBuiltFrom searcher p → OnOk result (WalksText p job context before after (sinks.taken old) (sinks.taken new) text)
+      (p : Patterns) → IsSought search p → OnOk result (WalksText p search.job context before after (sinks.taken old) (sinks.taken new) text)
 
   abbrev pub BegunBy : {T E : Type 0} → Context → List ℕ → Result T E → Type 0
   BegunBy context text result =
-      (p : Patterns) → IsBuiltFrom searcher p → OnErr result (WalksBegun p job context (walk_of before) (sinks.taken old) (sinks.taken new) (lines job.style.ending text))
+      (p : Patterns) → IsSought search p → OnErr result (WalksBegun p search.job context (walk_of before) (sinks.taken old) (sinks.taken new) (lines search.job.style.ending text))
 
   -- of one line
   abbrev pub StepsBy : {T E : Type 0} → Context → List ℕ → Result T E → Type 0
-  StepsBy context line result = (p : Patterns) → IsBuiltFrom searcher p
-      → OnOk result (WalksLines p job context (walk_of before) (walk_of after) (sinks.taken old) (sinks.taken new) (line ∷ []))
+  StepsBy context line result = (p : Patterns) → IsSought search p
+      → OnOk result (WalksLines p search.job context (walk_of before) (walk_of after) (sinks.taken old) (sinks.taken new) (line ∷ []))
 
   abbrev pub BeginsLineAround : {T E : Type 0} → Context → List ℕ → Result T E → Type 0
-  BeginsLineAround context line result = (p : Patterns) → IsBuiltFrom searcher p
-      → OnErr result (WalksBegun p job context (walk_of before) (sinks.taken old) (sinks.taken new) (line ∷ []))
+  BeginsLineAround context line result = (p : Patterns) → IsSought search p
+      → OnErr result (WalksBegun p search.job context (walk_of before) (sinks.taken old) (sinks.taken new) (line ∷ []))
 
   -- that is selected, where more are asked for
   abbrev pub TakesBy : {T E : Type 0} → Context → List ℕ → Result T E → Type 0
-  TakesBy context line result = (p : Patterns) → IsBuiltFrom searcher p → IsChosenBy p job before.selected line true
-      → OnOk result (WalksLines p job context (walk_of before) (walk_of after) (sinks.taken old) (sinks.taken new) (line ∷ []))
+  TakesBy context line result = (p : Patterns) → IsSought search p → IsChosenBy p search.job before.selected line true
+      → OnOk result (WalksLines p search.job context (walk_of before) (walk_of after) (sinks.taken old) (sinks.taken new) (line ∷ []))
 
   abbrev pub BeginsTakenBy : {T E : Type 0} → Context → List ℕ → Result T E → Type 0
-  BeginsTakenBy context line result = (p : Patterns) → IsBuiltFrom searcher p → IsChosenBy p job before.selected line true
-      → OnErr result (WalksBegun p job context (walk_of before) (sinks.taken old) (sinks.taken new) (line ∷ []))
+  BeginsTakenBy context line result = (p : Patterns) → IsSought search p → IsChosenBy p search.job before.selected line true
+      → OnErr result (WalksBegun p search.job context (walk_of before) (sinks.taken old) (sinks.taken new) (line ∷ []))
 
   -- that is not
   abbrev pub SkipsBy : {T E : Type 0} → Context → List ℕ → Result T E → Type 0
-  SkipsBy context line result = (p : Patterns) → IsBuiltFrom searcher p → IsChosenBy p job before.selected line false
-      → OnOk result (WalksLines p job context (walk_of before) (walk_of after) (sinks.taken old) (sinks.taken new) (line ∷ []))
+  SkipsBy context line result = (p : Patterns) → IsSought search p → IsChosenBy p search.job before.selected line false
+      → OnOk result (WalksLines p search.job context (walk_of before) (walk_of after) (sinks.taken old) (sinks.taken new) (line ∷ []))
 
   abbrev pub BeginsPassedBy : {T E : Type 0} → Context → List ℕ → Result T E → Type 0
-  BeginsPassedBy context line result = (p : Patterns) → IsBuiltFrom searcher p → IsChosenBy p job before.selected line false
-      → OnErr result (WalksBegun p job context (walk_of before) (sinks.taken old) (sinks.taken new) (line ∷ []))
+  BeginsPassedBy context line result = (p : Patterns) → IsSought search p → IsChosenBy p search.job before.selected line false
+      → OnErr result (WalksBegun p search.job context (walk_of before) (sinks.taken old) (sinks.taken new) (line ∷ []))
 
   -- up to those that are answered
   abbrev pub SearchesSomeBy : {E : Type 0} → List ℕ → Result (Bor (List ℕ)) E → Type 0
   SearchesSomeBy text result =
-      ForLines job.style.ending (IsBuiltFrom searcher) (λ p. IfOk result (λ left. SearchesTo p job before after (sinks.taken old) (sinks.taken new) text left.now))
+      ForSought search (λ p. IfOk result (λ left. SearchesTo p search.job before after (sinks.taken old) (sinks.taken new) text left.now))
 
   -- of a line of which it is known whether it matches
   abbrev pub TellsLineBy : {T E : Type 0} → Bool → List ℕ → Result T E → Type 0
-  TellsLineBy matched line result = (p : Patterns) → IsBuiltFrom searcher p → IsMatched p job.fit line matched
-      → OnOk result (TellsLines p job before after (sinks.taken old) (sinks.taken new) (line ∷ []))
+  TellsLineBy matched line result = (p : Patterns) → IsSought search p → IsMatched p search.job.fit line matched
+      → OnOk result (TellsLines p search.job before after (sinks.taken old) (sinks.taken new) (line ∷ []))
 
   abbrev pub BeginsOneBy : {T E : Type 0} → Bool → List ℕ → Result T E → Type 0
-  BeginsOneBy matched line result = (p : Patterns) → IsBuiltFrom searcher p → IsMatched p job.fit line matched
-      → OnErr result (BeginsLines p job before after.selected (sinks.taken old) (sinks.taken new) (line ∷ []))
+  BeginsOneBy matched line result = (p : Patterns) → IsSought search p → IsMatched p search.job.fit line matched
+      → OnErr result (BeginsLines p search.job before after.selected (sinks.taken old) (sinks.taken new) (line ∷ []))
 
   -- of a line in which a pattern occurs
   abbrev pub TellsMatchBy : {T E : Type 0} → List ℕ → Result T E → Type 0
-  TellsMatchBy line result = (p : Patterns) → IsBuiltFrom searcher p → HasMatch p line
-      → OnOk result (TellsLines p job before after (sinks.taken old) (sinks.taken new) (line ∷ []))
+  TellsMatchBy line result = (p : Patterns) → IsSought search p → HasMatch p line
+      → OnOk result (TellsLines p search.job before after (sinks.taken old) (sinks.taken new) (line ∷ []))
 
   abbrev pub BeginsMatchBy : {T E : Type 0} → List ℕ → Result T E → Type 0
-  BeginsMatchBy line result = (p : Patterns) → IsBuiltFrom searcher p → HasMatch p line
-      → OnErr result (BeginsLines p job before after.selected (sinks.taken old) (sinks.taken new) (line ∷ []))
+  BeginsMatchBy line result = (p : Patterns) → IsSought search p → HasMatch p line
+      → OnErr result (BeginsLines p search.job before after.selected (sinks.taken old) (sinks.taken new) (line ∷ []))
 
   -- of a line that is selected
   abbrev pub BeginsSelectedBy : {T E : Type 0} → List ℕ → Result T E → Type 0
-  BeginsSelectedBy line result = (p : Patterns) → IsBuiltFrom searcher p → IsSelected p job.fit job.invert line
-      → OnErr result (BeginsLines p job before after.selected (sinks.taken old) (sinks.taken new) (line ∷ []))
+  BeginsSelectedBy line result = (p : Patterns) → IsSought search p → IsSelected p search.job.fit search.job.invert line
+      → OnErr result (BeginsLines p search.job before after.selected (sinks.taken old) (sinks.taken new) (line ∷ []))
 
   -- of lines without a match
   abbrev pub TellsOthersBy : {T E : Type 0} → List ℕ → Result T E → Type 0
-  TellsOthersBy text result = (p : Patterns) → IsBuiltFrom searcher p → EachLine (HasNone p) (lines job.style.ending text)
-      → OnOk result (TellsLines p job before after (sinks.taken old) (sinks.taken new) (lines job.style.ending text))
+  TellsOthersBy text result = (p : Patterns) → IsSought search p → EachLine (HasNone p) (lines search.job.style.ending text)
+      → OnOk result (TellsLines p search.job before after (sinks.taken old) (sinks.taken new) (lines search.job.style.ending text))
 
   abbrev pub BeginsOthersBy : {T E : Type 0} → List ℕ → Result T E → Type 0
-  BeginsOthersBy text result = (p : Patterns) → IsBuiltFrom searcher p → EachLine (HasNone p) (lines job.style.ending text)
-      → OnErr result (BeginsLines p job before after.selected (sinks.taken old) (sinks.taken new) (lines job.style.ending text))
+  BeginsOthersBy text result = (p : Patterns) → IsSought search p → EachLine (HasNone p) (lines search.job.style.ending text)
+      → OnErr result (BeginsLines p search.job before after.selected (sinks.taken old) (sinks.taken new) (lines search.job.style.ending text))
 
   -- of such lines, where they are selected
   abbrev pub TellsInvertedBy : {T E : Type 0} → List ℕ → Result T E → Type 0
-  TellsInvertedBy text result = (p : Patterns) → IsBuiltFrom searcher p → job.invert ≡ true → EachLine (HasNone p) (lines job.style.ending text)
-      → OnOk result (TellsLines p job before after (sinks.taken old) (sinks.taken new) (lines job.style.ending text))
+  TellsInvertedBy text result = (p : Patterns) → IsSought search p → search.job.invert ≡ true → EachLine (HasNone p) (lines search.job.style.ending text)
+      → OnOk result (TellsLines p search.job before after (sinks.taken old) (sinks.taken new) (lines search.job.style.ending text))
 
   abbrev pub BeginsInvertedBy : {T E : Type 0} → List ℕ → Result T E → Type 0
-  BeginsInvertedBy text result = (p : Patterns) → IsBuiltFrom searcher p → job.invert ≡ true → EachLine (HasNone p) (lines job.style.ending text)
-      → OnErr result (BeginsLines p job before after.selected (sinks.taken old) (sinks.taken new) (lines job.style.ending text))
+  BeginsInvertedBy text result = (p : Patterns) → IsSought search p → search.job.invert ≡ true → EachLine (HasNone p) (lines search.job.style.ending text)
+      → OnErr result (BeginsLines p search.job before after.selected (sinks.taken old) (sinks.taken new) (lines search.job.style.ending text))
 
 -- a file was searched, or a beginning of what is asked of it is written
-module _ {W : Type 0} (sinks : SinkGhosts W) (searcher : Searcher) (job : Job) (known : Option (List ℕ)) (old new : W) (outcome : Outcome) where
+module _ {W : Type 0} (sinks : SinkGhosts W) (search : Search) (known : Option (List ℕ)) (old new : W) (outcome : Outcome) where
   abbrev pub SearchesFileBy : Type 0
-  SearchesFileBy = ForLines job.style.ending (IsBuiltFrom searcher) (λ p. IfSearched outcome (SearchesFile p job known (sinks.taken old) (sinks.taken new)))
+  SearchesFileBy = ForSought search (λ p. IfSearched outcome (SearchesFile p search.job known (sinks.taken old) (sinks.taken new)))
 
   abbrev pub BeginsFileBy : Type 0
-  BeginsFileBy = ForLines job.style.ending (IsBuiltFrom searcher) (λ p. IfBroken outcome (BeginsFile p job known (sinks.taken old) (sinks.taken new)))
+  BeginsFileBy = ForSought search (λ p. IfBroken outcome (BeginsFile p search.job known (sinks.taken old) (sinks.taken new)))
 
 -- all that a reader has left was searched
-abbrev pub SearchesReaderBy : {R W : Type 0} → Readers R → SinkGhosts W → Searcher → Job → R → R → W → W → Outcome → Type 0
-SearchesReaderBy readers sinks searcher job reader reader' old new outcome = ForLines job.style.ending (IsBuiltFrom searcher)
-    (λ p. IfSearched outcome (SearchesReader p job (readers.remaining reader) (readers.remaining reader') (sinks.taken old) (sinks.taken new)))
+abbrev pub SearchesReaderBy : {R W : Type 0} → Readers R → SinkGhosts W → Search → R → R → W → W → Outcome → Type 0
+SearchesReaderBy readers sinks search reader reader' old new outcome = ForSought search
+    (λ p. IfSearched outcome (SearchesReader p search.job (readers.remaining reader) (readers.remaining reader') (sinks.taken old) (sinks.taken new)))
 
 -- where lines with a zero byte are kept from the output too: where a call does not fail, and where it fails a beginning of that is written
-module _ {R W : Type 0} (readers : Readers R) (sinks : SinkGhosts W) (searcher : Searcher) (job : Job) where
+module _ {R W : Type 0} (readers : Readers R) (sinks : SinkGhosts W) (search : Search) where
   abbrev pub SearchesGuardedBy : {E : Type 0} → R → R → W → W → Result Bool E → Type 0
-  SearchesGuardedBy reader reader' old new result = ForLines job.style.ending (IsBuiltFrom searcher)
-      (λ p. IfOk result (SearchesReader p job (readers.remaining reader) (readers.remaining reader') (sinks.taken old) (sinks.taken new)))
+  SearchesGuardedBy reader reader' old new result = ForSought search
+      (λ p. IfOk result (SearchesReader p search.job (readers.remaining reader) (readers.remaining reader') (sinks.taken old) (sinks.taken new)))
 
   abbrev pub BeginsGuardedBy : {T E : Type 0} → R → W → W → Result T E → Type 0
-  BeginsGuardedBy reader old new result = ForLines job.style.ending (IsBuiltFrom searcher)
-      (λ p. OnErr result (BeginsFile p job (readers.remaining reader) (sinks.taken old) (sinks.taken new)))
+  BeginsGuardedBy reader old new result = ForSought search
+      (λ p. OnErr result (BeginsFile p search.job (readers.remaining reader) (sinks.taken old) (sinks.taken new)))
 
   -- the lines of what is there and comes are searched, and where a call fails a beginning of what is told of them is written
   abbrev pub BeginsReadBy : {T E : Type 0} → (alone : Bool) → State → State → R → W → W → List ℕ → Result T E → Type 0
-  BeginsReadBy alone before after reader old new kept result = ForLines job.style.ending (IsBuiltFrom searcher)
-      (λ p. OnErr result (BeginsBehind p job alone before after (sinks.taken old) (sinks.taken new) (readers.remaining reader) kept))
+  BeginsReadBy alone before after reader old new kept result = ForSought search
+      (λ p. OnErr result (BeginsBehind p search.job alone before after (sinks.taken old) (sinks.taken new) (readers.remaining reader) kept))
 
   -- whether a line is selected of those that are there or come
   abbrev pub FindsBy : {E : Type 0} → Buffer → R → R → W → W → Result Bool E → Type 0
-  FindsBy buffer reader reader' old new result = ForLines job.style.ending (IsBuiltFrom searcher)
-      (λ p. IfOk result (FindsSelected p job (bytes_buffered buffer) (readers.remaining reader) (readers.remaining reader') (sinks.taken old) (sinks.taken new)))
+  FindsBy buffer reader reader' old new result = ForSought search
+      (λ p. IfOk result (FindsSelected p search.job (bytes_buffered buffer) (readers.remaining reader) (readers.remaining reader') (sinks.taken old) (sinks.taken new)))
 
 -- of some first ones of the files of these names all that is asked is written, or a beginning of it
-abbrev pub BeginsFilesBy : {F X R W : Type 0} → Openers F X → Readers R → SinkGhosts W → Searcher → Job → F → List (Bor (List ℕ)) → R → W → W → Type 0
-BeginsFilesBy openers readers sinks searcher job files names input old new = ForLines job.style.ending (IsBuiltFrom searcher)
-    (λ p. AreFilesBegun p job false (openers.holds files) (name_bytes names) (readers.remaining input) (sinks.taken old) (sinks.taken new))
+abbrev pub BeginsFilesBy : {F X R W : Type 0} → Openers F X → Readers R → SinkGhosts W → Search → F → List (Bor (List ℕ)) → R → W → W → Type 0
+BeginsFilesBy openers readers sinks search files names input old new = ForSought search
+    (λ p. AreFilesBegun p search.job false (openers.holds files) (name_bytes names) (readers.remaining input) (sinks.taken old) (sinks.taken new))
 
 -- what is asked of lines around a selected one is written, from a place on
-abbrev pub ShowsEachBy : {W : Type 0} → Writers W → Searcher → Job → Place → List (List ℕ) → W → W → {T E : Type 0} → Result T E → Type 0
-ShowsEachBy writers searcher job place ls old new result = (p : Patterns) → IsBuiltFrom searcher p
-    → OnOk result ((bytes : List ℕ) × ShowsEach p job place ls bytes × Appends (writers.contents old) (writers.contents new) bytes)
+abbrev pub ShowsEachBy : {W : Type 0} → Writers W → Search → Place → List (List ℕ) → W → W → {T E : Type 0} → Result T E → Type 0
+ShowsEachBy writers search place ls old new result = (p : Patterns) → IsSought search p
+    → OnOk result ((bytes : List ℕ) × ShowsEach p search.job place ls bytes × Appends (writers.contents old) (writers.contents new) bytes)
 
 -- and of a selected one with those held before it
-abbrev pub ShowsGroupBy : {W : Type 0} → Writers W → Searcher → Job → Context → State → List ℕ → W → W → {T E : Type 0} → Result T E → Type 0
-ShowsGroupBy writers searcher job context state line old new result = (p : Patterns) → IsBuiltFrom searcher p
-    → OnOk result ((bytes : List ℕ) × ShowsGroup p job context (walk_of state) line bytes × Appends (writers.contents old) (writers.contents new) bytes)
+abbrev pub ShowsGroupBy : {W : Type 0} → Writers W → Search → Context → State → List ℕ → W → W → {T E : Type 0} → Result T E → Type 0
+ShowsGroupBy writers search context state line old new result = (p : Patterns) → IsSought search p
+    → OnOk result ((bytes : List ℕ) × ShowsGroup p search.job context (walk_of state) line bytes × Appends (writers.contents old) (writers.contents new) bytes)

@@ -2,7 +2,7 @@
 
 ghost use Rattle.std.specs.Prelude.{◌≡◌, ◌≤◌, ◌<◌, IfOk, true, false};
 ghost use Rattle.programs.specs.Names.{name_bytes};
-ghost use Rattle.chromesquid.specs.Searcher.{IsBuiltFrom, IsBuiltFromSome};
+ghost use Rattle.chromesquid.specs.Searcher.{IsBuiltFromSome};
 ghost use Rattle.acgrep.specs.Arguments.{said};
 ghost use Rattle.acgrep.specs.Files.{AreFilesBegun, AreSearchedOr};
 ghost use Rattle.acgrep.specs.Folders.{known_by, missed_of, tree_of};
@@ -10,7 +10,7 @@ ghost use Rattle.acgrep.specs.Listed.{listed_bytes};
 ghost use Rattle.acgrep.specs.Reached.{SearchesOperands, TellsMissed};
 ghost use Rattle.acgrep.specs.Runs.{AreReached, BeginsOrKeeps, are_several, asks_to_look, is_alone, status_reached};
 ghost use Rattle.acgrep.specs.Searchers.{ForSearcher};
-ghost use Rattle.acgrep.specs.Selected.{ForJob};
+ghost use Rattle.acgrep.specs.Searched.{ForSought, IsReady};
 ghost use Rattle.acgrep.specs.Told.{TellsOfFiles, TellsOfReached};
 
 use crate::arguments::Given;
@@ -22,7 +22,7 @@ use crate::folders::Folders;
 use crate::open::Open;
 use crate::options::Flags;
 use crate::run::job_of;
-use crate::select::Job;
+use crate::select::Search;
 use crate::tell::{tell_memory, tell_missed};
 use crate::walk::{Found, Unread, walk};
 use chromesquid::{AhoCorasick, Sink};
@@ -56,7 +56,7 @@ pub fn search_operands<F: Open + Folders, R: Read, W: Sink, E: Sink>(
         return search_below(searcher, given, screen, operands, input, output, errors);
     }
     let job = job_of(operands.alloc, given, screen, operands.names.len() > 1);
-    search_files(searcher, &job, operands, input, output, errors)
+    search_files(&Search { searcher, job }, operands, input, output, errors)
 }
 
 /// Whether operands are looked at before they are searched: those that are folders are entered, there are rules, or some kind of operand
@@ -106,7 +106,8 @@ fn search_below<F: Open + Folders, R: Read, W: Sink, E: Sink>(
         files: operands.files,
     };
     tell_each(given.flags.no_messages, found.unread.as_slice(), errors);
-    let status = search_found(searcher, &job, &named, input, output, errors);
+    let search = Search { searcher, job };
+    let status = search_found(&search, &named, input, output, errors);
     status_below(&given.flags, found.unread.as_slice(), status)
 }
 
@@ -144,29 +145,28 @@ fn status_below(flags: &Flags, unread: &[Unread], status: u8) -> u8
 
 /// Searches these files. Where there is none, standard input is not read.
 fn search_found<F: Open, R: Read, W: Sink, E: Sink>(
-    searcher: &AhoCorasick,
-    job: &Job<'_>,
+    search: &Search<'_, '_>,
     files: &Files<'_, F>,
     input: &mut R,
     output: &mut W,
     errors: &mut Errors<'_, E>,
 ) -> u8
-    requires of { IsBuiltFromSome searcher.now }
+    requires of { IsReady search.now }
     ensures bound { result ≤ 2 }
-    ensures searched { ForJob job.now (IsBuiltFrom searcher.now) (λ p. result < 2
-        → AreSearchedOr p job.now (F.holds files.now.files.now) (name_bytes files.now.names.now)
+    ensures searched { ForSought search.now (λ p. result < 2
+        → AreSearchedOr p search.now.job (F.holds files.now.files.now) (name_bytes files.now.names.now)
         (R.remaining input.old) (R.remaining input.new)
         (W.taken output.old) (W.taken output.new) result) }
-    ensures begun { ForJob job.now (IsBuiltFrom searcher.now) (λ p.
-        AreFilesBegun p job.now false (F.holds files.now.files.now) (name_bytes files.now.names.now)
+    ensures begun { ForSought search.now (λ p.
+        AreFilesBegun p search.now.job false (F.holds files.now.files.now) (name_bytes files.now.names.now)
         (R.remaining input.old) (W.taken output.old) (W.taken output.new)) }
-    ensures told { TellsOfFiles E.Sink job.now.hushed job.now.label.now (name_bytes files.now.names.now)
-        job.now.shown result errors.old errors.new }
+    ensures told { TellsOfFiles E.Sink search.now.job.hushed search.now.job.label.now (name_bytes files.now.names.now)
+        search.now.job.shown result errors.old errors.new }
 {
     if files.names.is_empty() {
         return 1;
     }
-    search_files(searcher, job, files, input, output, errors)
+    search_files(search, files, input, output, errors)
 }
 
 /// Tells what cannot be looked at, and which folders cannot be read, if that is asked for.

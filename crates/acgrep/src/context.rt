@@ -2,11 +2,10 @@
 
 ghost use Rattle.std.specs.Prelude.{◌≡◌, ◌&&◌, ◌<◌, IfOk};
 ghost use Rattle.aho_core.specs.Patterns.{Patterns};
-ghost use Rattle.chromesquid.specs.Searcher.{IsBuiltFrom, IsBuiltFromSome};
 ghost use Rattle.acgrep.specs.Contexts.{IsChosenBy, beside, separator_if};
 ghost use Rattle.acgrep.specs.Filled.{held_lines};
 ghost use Rattle.acgrep.specs.Printed.{Puts};
-ghost use Rattle.acgrep.specs.Searched.{BeginsLineAround, BeginsPassedBy, BeginsTakenBy, BegunBy, ShowsEachBy, ShowsGroupBy, SkipsBy, StepsBy, TakesBy, WalksBy};
+ghost use Rattle.acgrep.specs.Searched.{IsReady, IsSought, BeginsLineAround, BeginsPassedBy, BeginsTakenBy, BegunBy, ShowsEachBy, ShowsGroupBy, SkipsBy, StepsBy, TakesBy, WalksBy};
 ghost use Rattle.acgrep.specs.Written.{IsMatched};
 
 use crate::failure::Stop;
@@ -14,34 +13,33 @@ use crate::held::Held;
 use crate::lines::{behind, line_end};
 use crate::options::Context;
 use crate::print::{Place, put_separator};
-use crate::select::{Job, State, behind_line, is_match, put_shown};
+use crate::select::{Job, Search, State, behind_line, is_match, put_shown};
 use crate::trail::Trail;
-use chromesquid::{AhoCorasick, Sink, write_whole};
+use chromesquid::{Sink, write_whole};
 use std::io;
 use std::io::Write;
 
 /// Searches a text of whole lines, and writes what is asked of those that are selected and of those around them.
 pub fn search_around<W: Sink>(
-    searcher: &AhoCorasick,
-    job: &Job<'_>,
+    search: &Search<'_, '_>,
     context: &Context,
     text: &[u8],
     state: &mut State,
     page: &mut Vec<u8>,
     output: &mut W,
 ) -> Result<(), Stop>
-    requires of { IsBuiltFromSome searcher.now }
-    ensures walks { WalksBy W.Sink searcher.now job.now
+    requires of { IsReady search.now }
+    ensures walks { WalksBy W.Sink search.now
         state.old state.new output.old output.new context.now text.now result }
 
     // Where it fails a beginning of that is written.
-    ensures begun { BegunBy W.Sink searcher.now job.now
+    ensures begun { BegunBy W.Sink search.now
         state.old state.new output.old output.new context.now text.now result }
 {
     let mut rest = text;
-    while job.goes_on(rest, state) {
-        let end = line_end(rest, job.style.ending);
-        pass_any(searcher, job, context, &rest[..end], state, page, output)?;
+    while search.job.goes_on(rest, state) {
+        let end = line_end(rest, search.job.style.ending);
+        pass_any(search, context, &rest[..end], state, page, output)?;
         rest = behind(rest, end);
     }
     Ok(())
@@ -49,69 +47,67 @@ pub fn search_around<W: Sink>(
 
 /// Goes over a line.
 fn pass_any<W: Sink>(
-    searcher: &AhoCorasick,
-    job: &Job<'_>,
+    search: &Search<'_, '_>,
     context: &Context,
     line: &[u8],
     state: &mut State,
     page: &mut Vec<u8>,
     output: &mut W,
 ) -> Result<(), Stop>
-    requires of { IsBuiltFromSome searcher.now }
-    ensures walks { StepsBy W.Sink searcher.now job.now
+    requires of { IsReady search.now }
+    ensures walks { StepsBy W.Sink search.now
         state.old state.new output.old output.new context.now line.now result }
-    ensures begun { BeginsLineAround W.Sink searcher.now job.now
+    ensures begun { BeginsLineAround W.Sink search.now
         state.old state.new output.old output.new context.now line.now result }
 {
-    if is_chosen(searcher, job, line, state.selected)? {
-        return pass_chosen(searcher, job, context, line, state, page, output);
+    if is_chosen(search, line, state.selected)? {
+        return pass_chosen(search, context, line, state, page, output);
     }
-    pass_beside(searcher, job, context, line, state, page, output)
+    pass_beside(search, context, line, state, page, output)
 }
 
 /// Whether a line is selected, and more are asked for.
-fn is_chosen(searcher: &AhoCorasick, job: &Job<'_>, line: &[u8], count: u64) -> Result<bool, Stop>
-    requires of { IsBuiltFromSome searcher.now }
-    ensures chosen { (p : Patterns) → IsBuiltFrom searcher.now p
-        → IfOk result (IsChosenBy p job.now count line.now) }
+fn is_chosen(search: &Search<'_, '_>, line: &[u8], count: u64) -> Result<bool, Stop>
+    requires of { IsReady search.now }
+    ensures chosen { (p : Patterns) → IsSought search.now p
+        → IfOk result (IsChosenBy p search.now.job count line.now) }
 {
-    if job.is_full(count) {
+    if search.job.is_full(count) {
         return Ok(false);
     }
-    let matched = has_match(searcher, job, line)?;
-    Ok(job.selects(matched))
+    let matched = has_match(search, line)?;
+    Ok(search.job.selects(matched))
 }
 
 /// Whether a line matches.
-fn has_match(searcher: &AhoCorasick, job: &Job<'_>, line: &[u8]) -> Result<bool, Stop>
-    requires of { IsBuiltFromSome searcher.now }
-    ensures matched { (p : Patterns) → IsBuiltFrom searcher.now p
-        → IfOk result (IsMatched p job.now.fit line.now) }
+fn has_match(search: &Search<'_, '_>, line: &[u8]) -> Result<bool, Stop>
+    requires of { IsReady search.now }
+    ensures matched { (p : Patterns) → IsSought search.now p
+        → IfOk result (IsMatched p search.now.job.fit line.now) }
 {
-    match searcher.try_find(line)? {
-        Some(_) => is_match(searcher, job, line),
+    match search.searcher.try_find(line)? {
+        Some(_) => is_match(search, line),
         None => Ok(false),
     }
 }
 
 /// Goes over a line that is selected, and writes what is asked of it and of those before it.
 fn pass_chosen<W: Sink>(
-    searcher: &AhoCorasick,
-    job: &Job<'_>,
+    search: &Search<'_, '_>,
     context: &Context,
     line: &[u8],
     state: &mut State,
     page: &mut Vec<u8>,
     output: &mut W,
 ) -> Result<(), Stop>
-    requires of { IsBuiltFromSome searcher.now }
-    ensures walks { TakesBy W.Sink searcher.now job.now
+    requires of { IsReady search.now }
+    ensures walks { TakesBy W.Sink search.now
         state.old state.new output.old output.new context.now line.now result }
-    ensures begun { BeginsTakenBy W.Sink searcher.now job.now
+    ensures begun { BeginsTakenBy W.Sink search.now
         state.old state.new output.old output.new context.now line.now result }
 {
     page.clear();
-    put_group(searcher, job, context, line, state, page)?;
+    put_group(search, context, line, state, page)?;
     write_whole(output, page.as_slice())?;
     state.trail.restart(context.after);
     state.selected = state.selected.saturating_add(1);
@@ -121,21 +117,24 @@ fn pass_chosen<W: Sink>(
 
 /// Puts together what is asked of a selected line and of those that are held before it.
 fn put_group<W: Write>(
-    searcher: &AhoCorasick,
-    job: &Job<'_>,
+    search: &Search<'_, '_>,
     context: &Context,
     line: &[u8],
     state: &State,
     output: &mut W,
 ) -> Result<(), Stop>
-    requires of { IsBuiltFromSome searcher.now }
-    ensures shown { ShowsGroupBy W.Write searcher.now job.now
+    requires of { IsReady search.now }
+    ensures shown { ShowsGroupBy W.Write search.now
         context.now state.now line.now output.old output.new result }
 {
     let trail = &state.trail;
-    put_between(job, is_parted(context, trail), output)?;
-    put_each_line(searcher, &job.beside(), &trail.held, trail.first, output)?;
-    put_shown(searcher, job, line, state.place, output)
+    let beside = Search {
+        searcher: search.searcher,
+        job: search.job.beside(),
+    };
+    put_between(&search.job, is_parted(context, trail), output)?;
+    put_each_line(&beside, &trail.held, trail.first, output)?;
+    put_shown(search, line, state.place, output)
 }
 
 /// Whether a line stands between the next one and those that were written before.
@@ -158,21 +157,20 @@ fn put_between<W: Write>(job: &Job<'_>, asked: bool, output: &mut W) -> io::Resu
 
 /// Puts together what is asked of each of some held lines, the first of which stands there.
 fn put_each_line<W: Write>(
-    searcher: &AhoCorasick,
-    job: &Job<'_>,
+    search: &Search<'_, '_>,
     held: &Held,
     first: Place,
     output: &mut W,
 ) -> Result<(), Stop>
-    requires of { IsBuiltFromSome searcher.now }
-    ensures shown { ShowsEachBy W.Write searcher.now job.now
+    requires of { IsReady search.now }
+    ensures shown { ShowsEachBy W.Write search.now
         first (held_lines held.now) output.old output.new result }
 {
     let mut place = first;
     let mut rest = held.bytes();
     for index in 0..held.sizes.len() {
         let (line, behind) = rest.split_at(held.sizes[index]);
-        put_shown(searcher, job, line, place, output)?;
+        put_shown(search, line, place, output)?;
         place = behind_line(place, line);
         rest = behind;
     }
@@ -181,22 +179,21 @@ fn put_each_line<W: Write>(
 
 /// Goes over any other line. It is written where it is due behind a selected one, and else held.
 fn pass_beside<W: Sink>(
-    searcher: &AhoCorasick,
-    job: &Job<'_>,
+    search: &Search<'_, '_>,
     context: &Context,
     line: &[u8],
     state: &mut State,
     page: &mut Vec<u8>,
     output: &mut W,
 ) -> Result<(), Stop>
-    requires of { IsBuiltFromSome searcher.now }
-    ensures walks { SkipsBy W.Sink searcher.now job.now
+    requires of { IsReady search.now }
+    ensures walks { SkipsBy W.Sink search.now
         state.old state.new output.old output.new context.now line.now result }
-    ensures begun { BeginsPassedBy W.Sink searcher.now job.now
+    ensures begun { BeginsPassedBy W.Sink search.now
         state.old state.new output.old output.new context.now line.now result }
 {
     if state.trail.due > 0 {
-        return pass_due(searcher, job, context, line, state, page, output);
+        return pass_due(search, context, line, state, page, output);
     }
     state.trail.hold(context.before, line, state.place)?;
     state.place = behind_line(state.place, line);
@@ -205,23 +202,26 @@ fn pass_beside<W: Sink>(
 
 /// Goes over a line that is due behind a selected one.
 fn pass_due<W: Sink>(
-    searcher: &AhoCorasick,
-    job: &Job<'_>,
+    search: &Search<'_, '_>,
     context: &Context,
     line: &[u8],
     state: &mut State,
     page: &mut Vec<u8>,
     output: &mut W,
 ) -> Result<(), Stop>
-    requires of { IsBuiltFromSome searcher.now }
+    requires of { IsReady search.now }
     requires due { 0 < state.now.trail.due }
-    ensures walks { SkipsBy W.Sink searcher.now job.now
+    ensures walks { SkipsBy W.Sink search.now
         state.old state.new output.old output.new context.now line.now result }
-    ensures begun { BeginsPassedBy W.Sink searcher.now job.now
+    ensures begun { BeginsPassedBy W.Sink search.now
         state.old state.new output.old output.new context.now line.now result }
 {
+    let beside = Search {
+        searcher: search.searcher,
+        job: search.job.beside(),
+    };
     page.clear();
-    put_shown(searcher, &job.beside(), line, state.place, page)?;
+    put_shown(&beside, line, state.place, page)?;
     write_whole(output, page.as_slice())?;
     state.trail.due -= 1;
     state.place = behind_line(state.place, line);

@@ -2,15 +2,13 @@
 
 ghost use Rattle.std.specs.Prelude.{◌≡◌, ◌≤◌, ◌<◌, ◌⊎◌, [], IsTrue, OnOk, false, length, true};
 ghost use Rattle.std.specs.Io.KnownBytes.{Appends};
-ghost use Rattle.chromesquid.specs.Searcher.{IsBuiltFrom, IsBuiltFromSome};
 ghost use Rattle.acgrep.specs.Binary.{takes_text};
 ghost use Rattle.acgrep.specs.Filled.{ReadsOn};
 ghost use Rattle.programs.specs.Names.{name_bytes};
 ghost use Rattle.acgrep.specs.Told.{IsMessage, TellsIf, TellsOfEnd, TellsOfFiles, TellsOfOutcome, files_told};
 ghost use Rattle.acgrep.specs.Files.{AreFilesBegun, AreSearchedOr, BeginsName, BeginsTotal, EndsFile, IfBroken, IfSearched, IsNamed, LeavesInput, SearchesName, SearchesNames, files_named, is_enough, nothing_seen, seen_after, shown_name, status_by, total_if};
 ghost use Rattle.acgrep.specs.Printed.{Puts};
-ghost use Rattle.acgrep.specs.Searched.{BeginsFileBy, BeginsFilesBy, SearchesFileBy, SearchesReaderBy};
-ghost use Rattle.acgrep.specs.Selected.{ForJob};
+ghost use Rattle.acgrep.specs.Searched.{ForSought, IsReady, BeginsFileBy, BeginsFilesBy, SearchesFileBy, SearchesReaderBy};
 
 use crate::buffer::Buffer;
 use crate::failure::Stop;
@@ -19,11 +17,11 @@ use crate::keys::{INPUT, is_input, open_named};
 use crate::open::Open;
 use crate::options::Shown;
 use crate::print::{put_count, put_name};
-use crate::select::{Job, State};
+use crate::select::{Job, Search, State};
 use crate::stream::search_front;
 use crate::tell::tell_memory;
 use crate::unread::{tell_closed, tell_same, tell_stop, tell_total, tell_unreadable};
-use chromesquid::{AhoCorasick, Sink, write_whole};
+use chromesquid::{Sink, write_whole};
 use programs::errors::Errors;
 use programs::reason::Reason;
 use std::alloc::Global;
@@ -126,34 +124,32 @@ fn is_enough(shown: Shown, any: bool) -> bool
 
 /// Searches all files, and answers the status. A file that cannot be read does not stop the others.
 pub fn search_files<F: Open, R: Read, W: Sink, E: Sink>(
-    searcher: &AhoCorasick,
-    job: &Job<'_>,
+    search: &Search<'_, '_>,
     files: &Files<'_, F>,
     input: &mut R,
     output: &mut W,
     errors: &mut Errors<'_, E>,
 ) -> u8
-    requires of { IsBuiltFromSome searcher.now }
+    requires of { IsReady search.now }
     ensures bound { result ≤ 2 }
-    ensures searched { ForJob job.now (IsBuiltFrom searcher.now) (λ p. result < 2
-        → AreSearchedOr p job.now (F.holds files.now.files.now) (files_named files.now)
+    ensures searched { ForSought search.now (λ p. result < 2
+        → AreSearchedOr p search.now.job (F.holds files.now.files.now) (files_named files.now)
         (R.remaining input.old) (R.remaining input.new)
         (W.taken output.old) (W.taken output.new) result) }
 
     // Whatever the status, a beginning of what is asked is written.
-    ensures begun { ForJob job.now (IsBuiltFrom searcher.now) (λ p.
-        AreFilesBegun p job.now false (F.holds files.now.files.now) (files_named files.now)
+    ensures begun { ForSought search.now (λ p.
+        AreFilesBegun p search.now.job false (F.holds files.now.files.now) (files_named files.now)
         (R.remaining input.old) (W.taken output.old) (W.taken output.new)) }
 
     // What is told tells why a file was not searched; where the status tells of no error, nothing is told.
-    ensures told { TellsOfFiles E.Sink job.now.hushed job.now.label.now (files_named files.now)
-        job.now.shown result errors.old errors.new }
+    ensures told { TellsOfFiles E.Sink search.now.job.hushed search.now.job.label.now (files_named files.now)
+        search.now.job.shown result errors.old errors.new }
 {
     if files.names.is_empty() {
         let names = [INPUT];
         return search_names(
-            searcher,
-            job,
+            search,
             files.alloc,
             files.files,
             &names,
@@ -163,8 +159,7 @@ pub fn search_files<F: Open, R: Read, W: Sink, E: Sink>(
         );
     }
     search_names(
-        searcher,
-        job,
+        search,
         files.alloc,
         files.files,
         files.names,
@@ -176,8 +171,7 @@ pub fn search_files<F: Open, R: Read, W: Sink, E: Sink>(
 
 /// Searches the files of these names, and answers the status.
 fn search_names<F: Open, R: Read, W: Sink, E: Sink>(
-    searcher: &AhoCorasick,
-    job: &Job<'_>,
+    search: &Search<'_, '_>,
     alloc: Global,
     files: &F,
     names: &[&[u8]],
@@ -185,26 +179,25 @@ fn search_names<F: Open, R: Read, W: Sink, E: Sink>(
     output: &mut W,
     errors: &mut Errors<'_, E>,
 ) -> u8
-    requires of { IsBuiltFromSome searcher.now }
+    requires of { IsReady search.now }
     ensures bound { result ≤ 2 }
-    ensures searched { ForJob job.now (IsBuiltFrom searcher.now) (λ p. result < 2
-        → AreSearchedOr p job.now (F.holds files.now) (name_bytes names.now)
+    ensures searched { ForSought search.now (λ p. result < 2
+        → AreSearchedOr p search.now.job (F.holds files.now) (name_bytes names.now)
         (R.remaining input.old) (R.remaining input.new)
         (W.taken output.old) (W.taken output.new) result) }
-    ensures begun { BeginsFilesBy F.Open R.Read W.Sink searcher.now job.now
+    ensures begun { BeginsFilesBy F.Open R.Read W.Sink search.now
         files.now names.now input.old output.old output.new }
-    ensures told { TellsOfFiles E.Sink job.now.hushed job.now.label.now (name_bytes names.now)
-        job.now.shown result errors.old errors.new }
+    ensures told { TellsOfFiles E.Sink search.now.job.hushed search.now.job.label.now (name_bytes names.now)
+        search.now.job.shown result errors.old errors.new }
 {
     let Ok(mut buffer) = Buffer::new(alloc) else {
         tell_memory(errors);
         return 2;
     };
     let mut page = Vec::new(alloc);
-    let mut state = State::new(alloc, job.first);
+    let mut state = State::new(alloc, search.job.first);
     let seen = search_each(
-        searcher,
-        job,
+        search,
         files,
         names,
         &mut buffer,
@@ -214,13 +207,12 @@ fn search_names<F: Open, R: Read, W: Sink, E: Sink>(
         output,
         errors,
     );
-    seen.status(job.shown)
+    seen.status(search.job.shown)
 }
 
 /// Searches the files of these names, one after another, and answers what was seen.
 fn search_each<F: Open, R: Read, W: Sink, E: Sink>(
-    searcher: &AhoCorasick,
-    job: &Job<'_>,
+    search: &Search<'_, '_>,
     files: &F,
     names: &[&[u8]],
     buffer: &mut Buffer,
@@ -230,22 +222,21 @@ fn search_each<F: Open, R: Read, W: Sink, E: Sink>(
     output: &mut W,
     errors: &mut Errors<'_, E>,
 ) -> Seen
-    requires of { IsBuiltFromSome searcher.now }
-    ensures searched { ForJob job.now (IsBuiltFrom searcher.now) (λ p.
-        SearchesNames p job.now (F.holds files.now) (name_bytes names.now)
+    requires of { IsReady search.now }
+    ensures searched { ForSought search.now (λ p.
+        SearchesNames p search.now.job (F.holds files.now) (name_bytes names.now)
         (R.remaining input.old) (R.remaining input.new)
         (W.taken output.old) (W.taken output.new) result) }
-    ensures begun { BeginsFilesBy F.Open R.Read W.Sink searcher.now job.now
+    ensures begun { BeginsFilesBy F.Open R.Read W.Sink search.now
         files.now names.now input.old output.old output.new }
-    ensures told { TellsIf E.Sink (IsMessage (files_told job.now.hushed job.now.label.now (name_bytes names.now)))
-        job.now.hushed result.failed errors.old errors.new }
+    ensures told { TellsIf E.Sink (IsMessage (files_told search.now.job.hushed search.now.job.label.now (name_bytes names.now)))
+        search.now.job.hushed result.failed errors.old errors.new }
 {
     let mut seen = Seen::new();
     let mut rest = names;
     while goes_on(rest, seen) {
         let outcome = search_name(
-            searcher,
-            job,
+            search,
             files,
             rest[0],
             seen.selected,
@@ -256,7 +247,7 @@ fn search_each<F: Open, R: Read, W: Sink, E: Sink>(
             output,
             errors,
         );
-        seen = seen.after(job.shown, outcome);
+        seen = seen.after(search.job.shown, outcome);
         rest = &rest[1..];
     }
     seen
@@ -273,8 +264,7 @@ fn goes_on(rest: &[&[u8]], seen: Seen) -> bool
 
 /// Searches the file of a name.
 fn search_name<F: Open, R: Read, W: Sink, E: Sink>(
-    searcher: &AhoCorasick,
-    job: &Job<'_>,
+    search: &Search<'_, '_>,
     files: &F,
     name: &[u8],
     follows: bool,
@@ -285,34 +275,37 @@ fn search_name<F: Open, R: Read, W: Sink, E: Sink>(
     output: &mut W,
     errors: &mut Errors<'_, E>,
 ) -> Outcome
-    requires of { IsBuiltFromSome searcher.now }
-    ensures searched { ForJob job.now (IsBuiltFrom searcher.now) (λ p.
-        IfSearched result (SearchesName p job.now follows (F.holds files.now) name.now
+    requires of { IsReady search.now }
+    ensures searched { ForSought search.now (λ p.
+        IfSearched result (SearchesName p search.now.job follows (F.holds files.now) name.now
         (R.remaining input.old) (R.remaining input.new)
         (W.taken output.old) (W.taken output.new))) }
-    ensures begun { ForJob job.now (IsBuiltFrom searcher.now) (λ p.
-        IfBroken result (BeginsName p job.now follows (F.holds files.now) name.now
+    ensures begun { ForSought search.now (λ p.
+        IfBroken result (BeginsName p search.now.job follows (F.holds files.now) name.now
         (R.remaining input.old) (W.taken output.old) (W.taken output.new))) }
     ensures leaves { LeavesInput name.now (R.remaining input.old) (R.remaining input.new) }
-    ensures told { TellsOfOutcome E.Sink job.now.hushed (shown_name job.now.label.now name.now) result
+    ensures told { TellsOfOutcome E.Sink search.now.job.hushed (shown_name search.now.job.label.now name.now) result
         errors.old errors.new }
 {
     if is_input(name) {
-        let named = job_for(job, job.label, follows);
-        return search_input(
-            searcher, &named, files, buffer, input, state, page, output, errors,
-        );
+        let named = job_for(&search.job, search.job.label, follows);
+        let search = Search {
+            searcher: search.searcher,
+            job: named,
+        };
+        return search_input(&search, files, buffer, input, state, page, output, errors);
     }
-    let named = job_for(job, name, follows);
-    search_named(
-        searcher, &named, files, name, buffer, state, page, output, errors,
-    )
+    let named = job_for(&search.job, name, follows);
+    let search = Search {
+        searcher: search.searcher,
+        job: named,
+    };
+    search_named(&search, files, name, buffer, state, page, output, errors)
 }
 
 /// Opens the file of a name and searches it.
 fn search_named<F: Open, W: Sink, E: Sink>(
-    searcher: &AhoCorasick,
-    job: &Job<'_>,
+    search: &Search<'_, '_>,
     files: &F,
     name: &[u8],
     buffer: &mut Buffer,
@@ -321,26 +314,24 @@ fn search_named<F: Open, W: Sink, E: Sink>(
     output: &mut W,
     errors: &mut Errors<'_, E>,
 ) -> Outcome
-    requires of { IsBuiltFromSome searcher.now }
-    ensures searched { SearchesFileBy W.Sink searcher.now job.now
+    requires of { IsReady search.now }
+    ensures searched { SearchesFileBy W.Sink search.now
         (F.holds files.now name.now) output.old output.new result }
-    ensures begun { BeginsFileBy W.Sink searcher.now job.now
+    ensures begun { BeginsFileBy W.Sink search.now
         (F.holds files.now name.now) output.old output.new result }
-    ensures told { TellsOfOutcome E.Sink job.now.hushed job.now.style.name.now result
+    ensures told { TellsOfOutcome E.Sink search.now.job.hushed search.now.job.style.name.now result
         errors.old errors.new }
 {
-    if writes_into(job, files, name) {
+    if writes_into(&search.job, files, name) {
         let _ = output.flush();
-        tell_same(job, errors);
+        tell_same(&search.job, errors);
         return Outcome::Unread;
     }
     match open_named(files, name) {
-        Ok(mut file) => search_one(
-            searcher, job, buffer, &mut file, state, page, output, errors,
-        ),
+        Ok(mut file) => search_one(search, buffer, &mut file, state, page, output, errors),
         Err(error) => {
             let _ = output.flush();
-            tell_closed(job, Reason::of(&error), errors);
+            tell_closed(&search.job, Reason::of(&error), errors);
             Outcome::Unread
         }
     }
@@ -348,8 +339,7 @@ fn search_named<F: Open, W: Sink, E: Sink>(
 
 /// Searches standard input, unless the output goes to it.
 fn search_input<F: Open, R: Read, W: Sink, E: Sink>(
-    searcher: &AhoCorasick,
-    job: &Job<'_>,
+    search: &Search<'_, '_>,
     files: &F,
     buffer: &mut Buffer,
     input: &mut R,
@@ -358,27 +348,27 @@ fn search_input<F: Open, R: Read, W: Sink, E: Sink>(
     output: &mut W,
     errors: &mut Errors<'_, E>,
 ) -> Outcome
-    requires of { IsBuiltFromSome searcher.now }
-    ensures searched { SearchesReaderBy R.Read W.Sink searcher.now job.now
+    requires of { IsReady search.now }
+    ensures searched { SearchesReaderBy R.Read W.Sink search.now
         input.old input.new output.old output.new result }
-    ensures begun { BeginsFileBy W.Sink searcher.now job.now
+    ensures begun { BeginsFileBy W.Sink search.now
         (R.remaining input.old) output.old output.new result }
     ensures reads { ReadsOn (R.remaining input.old) (R.remaining input.new) }
-    ensures told { TellsOfOutcome E.Sink job.now.hushed job.now.style.name.now result
+    ensures told { TellsOfOutcome E.Sink search.now.job.hushed search.now.job.style.name.now result
         errors.old errors.new }
 {
-    if writes_into(job, files, b"/dev/stdin") {
+    if writes_into(&search.job, files, b"/dev/stdin") {
         let _ = output.flush();
-        tell_same(job, errors);
+        tell_same(&search.job, errors);
         return Outcome::Unread;
     }
     // Where it cannot be read at all, nothing is told of its lines.
     if let Some(why) = files.unusable_input() {
         let _ = output.flush();
-        tell_unreadable(job, why, errors);
+        tell_unreadable(&search.job, why, errors);
         return Outcome::Unread;
     }
-    search_one(searcher, job, buffer, input, state, page, output, errors)
+    search_one(search, buffer, input, state, page, output, errors)
 }
 
 /// Whether several lines of the file of this name may be written to it.
@@ -407,8 +397,7 @@ fn is_output<F: Open>(files: &F, name: &[u8]) -> bool {
 
 /// Searches what a reader gives, and writes what is asked of it.
 fn search_one<R: Read, W: Sink, E: Sink>(
-    searcher: &AhoCorasick,
-    job: &Job<'_>,
+    search: &Search<'_, '_>,
     buffer: &mut Buffer,
     reader: &mut R,
     state: &mut State,
@@ -416,26 +405,26 @@ fn search_one<R: Read, W: Sink, E: Sink>(
     output: &mut W,
     errors: &mut Errors<'_, E>,
 ) -> Outcome
-    requires of { IsBuiltFromSome searcher.now }
-    ensures searched { SearchesReaderBy R.Read W.Sink searcher.now job.now
+    requires of { IsReady search.now }
+    ensures searched { SearchesReaderBy R.Read W.Sink search.now
         reader.old reader.new output.old output.new result }
-    ensures begun { BeginsFileBy W.Sink searcher.now job.now
+    ensures begun { BeginsFileBy W.Sink search.now
         (R.remaining reader.old) output.old output.new result }
     ensures reads { ReadsOn (R.remaining reader.old) (R.remaining reader.new) }
-    ensures told { TellsOfOutcome E.Sink job.now.hushed job.now.style.name.now result
+    ensures told { TellsOfOutcome E.Sink search.now.job.hushed search.now.job.style.name.now result
         errors.old errors.new }
 {
-    if job.is_guarded() {
-        return match search_guarded(searcher, job, buffer, reader, state, page, output) {
+    if search.job.is_guarded() {
+        return match search_guarded(search, buffer, reader, state, page, output) {
             Ok(any) => Outcome::Searched(any),
-            Err(stop) => break_off(job, state, &stop, page, output, errors),
+            Err(stop) => break_off(&search.job, state, &stop, page, output, errors),
         };
     }
-    state.begin(job);
-    let alone = job.takes_text();
-    match search_front(searcher, job, alone, buffer, reader, state, page, output) {
-        Ok(_) => end_file(job, state, page, output, errors),
-        Err(stop) => break_off(job, state, &stop, page, output, errors),
+    state.begin(&search.job);
+    let alone = search.job.takes_text();
+    match search_front(search, alone, buffer, reader, state, page, output) {
+        Ok(_) => end_file(&search.job, state, page, output, errors),
+        Err(stop) => break_off(&search.job, state, &stop, page, output, errors),
     }
 }
 

@@ -4,54 +4,51 @@
 ghost use Rattle.std.specs.Prelude.{◌≡◌, [], OnErr, OnOk, true};
 ghost use Rattle.std.specs.Io.KnownBytes.{Appends};
 ghost use Rattle.aho_devices.specs.Counts.{AppendsBeginning};
-ghost use Rattle.chromesquid.specs.Searcher.{IsBuiltFrom, IsBuiltFromSome};
 ghost use Rattle.acgrep.specs.Binary.{binary_by, is_guarded};
 ghost use Rattle.acgrep.specs.Filled.{ReadsOn};
 ghost use Rattle.acgrep.specs.Printed.{Puts};
-ghost use Rattle.acgrep.specs.Searched.{BeginsGuardedBy, FindsBy, SearchesGuardedBy};
-ghost use Rattle.acgrep.specs.Selected.{ForJob};
+ghost use Rattle.acgrep.specs.Searched.{BeginsGuardedBy, FindsBy, ForSought, IsReady, SearchesGuardedBy};
 
 use crate::buffer::Buffer;
 use crate::failure::Stop;
 use crate::print::Style;
-use crate::select::{Job, State};
+use crate::select::{Search, State};
 use crate::stream::{search_behind, search_front};
-use chromesquid::{AhoCorasick, Sink, write_whole};
+use chromesquid::{Sink, write_whole};
 use std::io;
 use std::io::{Read, Write};
 
 /// Searches all that a reader gives, and answers whether a line is selected. Of the lines from the first on that holds a zero byte is
 /// told alone that one is, unless so many were selected before them as are asked for.
 pub fn search_guarded<R: Read, W: Sink>(
-    searcher: &AhoCorasick,
-    job: &Job<'_>,
+    search: &Search<'_, '_>,
     buffer: &mut Buffer,
     input: &mut R,
     state: &mut State,
     page: &mut Vec<u8>,
     output: &mut W,
 ) -> Result<bool, Stop>
-    requires of { IsBuiltFromSome searcher.now }
-    requires guarded { is_guarded job.now ≡ true }
-    ensures searched { SearchesGuardedBy R.Read W.Sink searcher.now job.now
+    requires of { IsReady search.now }
+    requires guarded { is_guarded search.now.job ≡ true }
+    ensures searched { SearchesGuardedBy R.Read W.Sink search.now
         input.old input.new output.old output.new result }
 
     // Where it fails a beginning of that is written.
-    ensures begun { BeginsGuardedBy R.Read W.Sink searcher.now job.now
+    ensures begun { BeginsGuardedBy R.Read W.Sink search.now
         input.old output.old output.new result }
     ensures reads { ReadsOn (R.remaining input.old) (R.remaining input.new) }
 {
-    state.begin(job);
-    let binary = search_front(searcher, job, true, buffer, input, state, page, output)?;
+    state.begin(&search.job);
+    let binary = search_front(search, true, buffer, input, state, page, output)?;
     let any = state.selected > 0;
     if !binary {
         return Ok(any);
     }
-    if job.is_full(state.selected) {
+    if search.job.is_full(state.selected) {
         return Ok(any);
     }
-    if finds(searcher, job, buffer, input, state, page, output)? {
-        write_binary(&job.style, page, output)?;
+    if finds(search, buffer, input, state, page, output)? {
+        write_binary(&search.job.style, page, output)?;
         return Ok(true);
     }
     Ok(any)
@@ -59,26 +56,27 @@ pub fn search_guarded<R: Read, W: Sink>(
 
 /// Whether a line is selected of those that are there or come. Nothing is written.
 fn finds<R: Read, W: Sink>(
-    searcher: &AhoCorasick,
-    job: &Job<'_>,
+    search: &Search<'_, '_>,
     buffer: &mut Buffer,
     input: &mut R,
     state: &mut State,
     page: &mut Vec<u8>,
     output: &mut W,
 ) -> Result<bool, Stop>
-    requires of { IsBuiltFromSome searcher.now }
-    ensures found { FindsBy R.Read W.Sink searcher.now job.now
+    requires of { IsReady search.now }
+    ensures found { FindsBy R.Read W.Sink search.now
         buffer.old input.old input.new output.old output.new result }
-    ensures unwritten { ForJob job.now (IsBuiltFrom searcher.now) (λ p.
+    ensures unwritten { ForSought search.now (λ p.
         OnErr result (Appends (W.taken output.old) (W.taken output.new) [])) }
     ensures reads { ReadsOn (R.remaining input.old) (R.remaining input.new) }
 {
-    let seeking = job.seeking();
+    let seeking = search.job.seeking();
     state.begin(&seeking);
-    search_behind(
-        searcher, &seeking, false, buffer, input, state, page, output,
-    )?;
+    let search = Search {
+        searcher: search.searcher,
+        job: seeking,
+    };
+    search_behind(&search, false, buffer, input, state, page, output)?;
     Ok(state.selected > 0)
 }
 

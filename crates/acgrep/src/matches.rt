@@ -9,12 +9,13 @@ ghost use Rattle.chromesquid.specs.Searcher.{ForItsPatterns, IsBuiltFromSome};
 ghost use Rattle.acgrep.specs.Alone.{asks_alone};
 ghost use Rattle.acgrep.specs.Matches.{PutsColored, PutsMatches, behind_by, found_by, rest_behind, shown_from};
 ghost use Rattle.acgrep.specs.Printed.{Puts, PutsEach};
+ghost use Rattle.acgrep.specs.Searched.{IsReady};
 
 use crate::alone::{behind_alone, next_alone};
 use crate::failure::Stop;
 use crate::json::put_object;
 use crate::print::{Place, Style, part, put_head, put_match, put_up_to};
-use crate::select::Job;
+use crate::select::Search;
 use chromesquid::{AhoCorasick, Match};
 use std::alloc::Global;
 use std::io;
@@ -33,46 +34,44 @@ pub enum Shape {
 
 /// Writes a line with its matches coloured, or those that stand alone.
 pub fn put_colored_line<W: Write>(
-    searcher: &AhoCorasick,
-    job: &Job<'_>,
+    search: &Search<'_, '_>,
     place: Place,
     line: &[u8],
     output: &mut W,
 ) -> Result<(), Stop>
-    requires of { IsBuiltFromSome searcher.now }
-    ensures written { PutsColored W.Write searcher.now
-        (asks_alone job.now.fit) job.now.style place line.now output.old output.new result }
+    requires of { IsReady search.now }
+    ensures written { PutsColored W.Write search.now.searcher.now
+        (asks_alone search.now.job.fit) search.now.job.style place line.now output.old output.new result }
 {
-    let style = &job.style;
+    let style = &search.job.style;
     let number = place.lines.wrapping_add(1);
     put_head(output, style, number, place.bytes, line)?;
-    put_matches(searcher, job, Shape::Colored, place, line, output)?;
+    put_matches(search, Shape::Colored, place, line, output)?;
     output.write_all(&[style.ending])?;
     Ok(())
 }
 
 /// Writes each match of a line that is not empty, or each of those that stand alone.
 pub fn put_matches<W: Write>(
-    searcher: &AhoCorasick,
-    job: &Job<'_>,
+    search: &Search<'_, '_>,
     shape: Shape,
     place: Place,
     line: &[u8],
     output: &mut W,
 ) -> Result<(), Stop>
-    requires of { IsBuiltFromSome searcher.now }
-    ensures written { PutsMatches W.Write searcher.now
-        shape (asks_alone job.now.fit) job.now.style place line.now output.old output.new result }
+    requires of { IsReady search.now }
+    ensures written { PutsMatches W.Write search.now.searcher.now
+        shape (asks_alone search.now.job.fit) search.now.job.style place line.now output.old output.new result }
 {
-    let style = &job.style;
-    if job.asks_alone() {
-        return put_alone(searcher, output, shape, style, place, line);
+    let style = &search.job.style;
+    if search.job.asks_alone() {
+        return put_alone(search, shape, place, line, output);
     }
-    if let Some(found) = list_finds(job.alloc, searcher, line) {
+    if let Some(found) = list_finds(search.job.alloc, search.searcher, line) {
         put_listed(output, shape, style, place, line, found.as_slice())?;
         return Ok(());
     }
-    let matches = searcher.try_find_iter(line)?;
+    let matches = search.searcher.try_find_iter(line)?;
     put_each(output, shape, style, place, line, matches)?;
     Ok(())
 }
@@ -95,20 +94,20 @@ fn list_finds(alloc: Global, searcher: &AhoCorasick, line: &[u8]) -> Option<Vec<
 
 /// Writes each match of a line that stands alone.
 fn put_alone<W: Write>(
-    searcher: &AhoCorasick,
-    output: &mut W,
+    search: &Search<'_, '_>,
     shape: Shape,
-    style: &Style<'_>,
     place: Place,
     line: &[u8],
+    output: &mut W,
 ) -> Result<(), Stop>
-    requires of { IsBuiltFromSome searcher.now }
-    ensures written { PutsMatches W.Write searcher.now
-        shape true style.now place line.now output.old output.new result }
+    requires of { IsReady search.now }
+    ensures written { PutsMatches W.Write search.now.searcher.now
+        shape true search.now.job.style place line.now output.old output.new result }
 {
+    let style = &search.job.style;
     let mut at = 0;
     let mut from = 0;
-    while let Some(found) = next_alone(searcher, line, from)? {
+    while let Some(found) = next_alone(search.searcher, line, from)? {
         at = put_found(output, shape, style, place, line, at, &found)?;
         from = behind_alone(&found);
     }

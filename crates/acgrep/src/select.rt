@@ -7,8 +7,8 @@ ghost use Rattle.aho_core.specs.declared.search.MatchKind.TheVariants.{LeftmostL
 ghost use Rattle.chromesquid.specs.Searcher.{IsBuiltFrom, IsBuiltFromSome};
 ghost use Rattle.acgrep.specs.Alone.{asks_alone};
 ghost use Rattle.acgrep.specs.declared.options.Fit.TheVariants.{AnyPart, WholeLine};
-ghost use Rattle.acgrep.specs.Searched.{BeginsInvertedBy, BeginsMatchBy, BeginsOneBy, BeginsOthersBy, BeginsSelectedBy, BeginsPlainBy, BeginsTextBy, SearchesPlainBy, SearchesSomeBy, SearchesTextBy, TellsInvertedBy, TellsLineBy, TellsMatchBy, TellsOthersBy, WritesLineBy, WritesNextBy};
-ghost use Rattle.acgrep.specs.Selected.{EndsBy, FindsNone, ForJob, ForLines, IsLine, IsNextLine, IsNoneSelected, lines_by};
+ghost use Rattle.acgrep.specs.Searched.{ForSought, IsReady, IsSought, BeginsInvertedBy, BeginsMatchBy, BeginsOneBy, BeginsOthersBy, BeginsSelectedBy, BeginsPlainBy, BeginsTextBy, SearchesPlainBy, SearchesSomeBy, SearchesTextBy, TellsInvertedBy, TellsLineBy, TellsMatchBy, TellsOthersBy, WritesLineBy, WritesNextBy};
+ghost use Rattle.acgrep.specs.Selected.{EndsBy, FindsNone, ForLines, IsLine, IsNextLine, IsNoneSelected, lines_by};
 ghost use Rattle.acgrep.specs.Written.{HasMatch, IsMatched, NumbersLines, IsSettled, SamePlace, after_line, after_lines, is_full, is_numbered, needs_one, next_count, place_behind, selects};
 
 use crate::alone::has_alone;
@@ -176,6 +176,15 @@ impl<'a> Job<'a> {
     }
 }
 
+/// What is searched by, and what is written of which lines of a file.
+#[derive(Clone, Copy)]
+pub struct Search<'s, 'a> {
+    /// The searcher.
+    pub searcher: &'s AhoCorasick,
+    /// What is written.
+    pub job: Job<'a>,
+}
+
 /// How far a file was searched.
 #[derive(Drop)]
 pub struct State {
@@ -239,91 +248,81 @@ fn line_around(text: &[u8], place: usize, ending: u8) -> Span
 
 /// Searches a text of whole lines, and writes what is asked of those that are selected.
 pub fn search_text<W: Sink>(
-    searcher: &AhoCorasick,
-    job: &Job<'_>,
+    search: &Search<'_, '_>,
     text: &[u8],
     state: &mut State,
     page: &mut Vec<u8>,
     output: &mut W,
 ) -> Result<(), Stop>
-    requires of { IsBuiltFromSome searcher.now }
+    requires of { IsReady search.now }
 
     // Where no line was selected, no pattern occurs.
-    ensures none { ForJob job.now (IsBuiltFrom searcher.now) (λ p.
-        OnOk result (IsNoneSelected p job.now text.now state.new)) }
+    ensures none { ForSought search.now (λ p.
+        OnOk result (IsNoneSelected p search.now.job text.now state.new)) }
 
     // What is told of the lines is written, in order.
-    ensures written { SearchesTextBy W.Sink searcher.now job.now
+    ensures written { SearchesTextBy W.Sink search.now
         state.old state.new output.old output.new text.now result }
 
     // Where it fails a beginning of that is.
-    ensures begun { BeginsTextBy W.Sink searcher.now job.now
+    ensures begun { BeginsTextBy W.Sink search.now
         state.old state.new output.old output.new text.now result }
 {
-    match job.around() {
-        Some(context) => search_around(searcher, job, &context, text, state, page, output),
-        None => search_plain(searcher, job, text, state, page, output),
+    match search.job.around() {
+        Some(context) => search_around(search, &context, text, state, page, output),
+        None => search_plain(search, text, state, page, output),
     }
 }
 
 /// The same where no lines around selected ones are written.
 fn search_plain<W: Sink>(
-    searcher: &AhoCorasick,
-    job: &Job<'_>,
+    search: &Search<'_, '_>,
     text: &[u8],
     state: &mut State,
     page: &mut Vec<u8>,
     output: &mut W,
 ) -> Result<(), Stop>
-    requires of { IsBuiltFromSome searcher.now }
-    ensures none { ForJob job.now (IsBuiltFrom searcher.now) (λ p.
-        OnOk result (IsNoneSelected p job.now text.now state.new)) }
-    ensures written { SearchesPlainBy W.Sink searcher.now job.now
+    requires of { IsReady search.now }
+    ensures none { ForSought search.now (λ p.
+        OnOk result (IsNoneSelected p search.now.job text.now state.new)) }
+    ensures written { SearchesPlainBy W.Sink search.now
         state.old state.new output.old output.new text.now result }
-    ensures begun { BeginsPlainBy W.Sink searcher.now job.now
+    ensures begun { BeginsPlainBy W.Sink search.now
         state.old state.new output.old output.new text.now result }
 {
     let mut rest = text;
-    while job.goes_on(rest, state) {
-        rest = search_some(searcher, job, rest, state, page, output)?;
+    while search.job.goes_on(rest, state) {
+        rest = search_some(search, rest, state, page, output)?;
     }
     Ok(())
 }
 
 /// Searches the lines up to the first with a match and that one, and answers what follows.
 fn search_some<'t, W: Sink>(
-    searcher: &AhoCorasick,
-    job: &Job<'_>,
+    search: &Search<'_, '_>,
     text: &'t [u8],
     state: &mut State,
     page: &mut Vec<u8>,
     output: &mut W,
 ) -> Result<&'t [u8], Stop>
-    requires of { IsBuiltFromSome searcher.now }
+    requires of { IsReady search.now }
     requires some { 0 < length text.now }
     ensures shorter { IfOk result (λ left. length left.now < length text.now) }
-    ensures none { ForJob job.now (IsBuiltFrom searcher.now) (λ p. job.now.invert ≡ false
-        → job.now.fit ≡ AnyPart → OnOk result (FindsNone p state.old state.new text.now)) }
-    ensures written { SearchesSomeBy W.Sink searcher.now job.now
+    ensures none { ForSought search.now (λ p. search.now.job.invert ≡ false
+        → search.now.job.fit ≡ AnyPart → OnOk result (FindsNone p state.old state.new text.now)) }
+    ensures written { SearchesSomeBy W.Sink search.now
         state.old state.new output.old output.new text.now result }
-    ensures begun { BeginsPlainBy W.Sink searcher.now job.now
+    ensures begun { BeginsPlainBy W.Sink search.now
         state.old state.new output.old output.new text.now result }
 {
-    match next_line(searcher, text, job.style.ending)? {
+    match next_line(search.searcher, text, search.job.style.ending)? {
         Some(line) => {
-            pass_others(searcher, job, &text[..line.start], state, page, output)?;
-            pass_matched(
-                searcher,
-                job,
-                &text[line.start..line.end],
-                state,
-                page,
-                output,
-            )?;
+            pass_others(search, &text[..line.start], state, page, output)?;
+            pass_matched(search, &text[line.start..line.end], state, page, output)?;
             Ok(behind(text, line.end))
         }
         None => {
-            pass_others(searcher, job, text, state, page, output)?;
+            pass_others(search, text, state, page, output)?;
             Ok(&text[text.len()..])
         }
     }
@@ -331,37 +330,36 @@ fn search_some<'t, W: Sink>(
 
 /// Goes over a line in which a pattern occurs.
 fn pass_matched<W: Sink>(
-    searcher: &AhoCorasick,
-    job: &Job<'_>,
+    search: &Search<'_, '_>,
     line: &[u8],
     state: &mut State,
     page: &mut Vec<u8>,
     output: &mut W,
 ) -> Result<(), Stop>
-    requires of { IsBuiltFromSome searcher.now }
-    ensures selected { job.now.invert ≡ false → job.now.fit ≡ AnyPart
+    requires of { IsReady search.now }
+    ensures selected { search.now.job.invert ≡ false → search.now.job.fit ≡ AnyPart
         → OnOk result (0 < state.new.selected) }
     ensures placed { OnOk result (state.new.place ≡ after_line state.old.place line.now) }
-    ensures written { TellsMatchBy W.Sink searcher.now job.now
+    ensures written { TellsMatchBy W.Sink search.now
         state.old state.new output.old output.new line.now result }
-    ensures begun { BeginsMatchBy W.Sink searcher.now job.now
+    ensures begun { BeginsMatchBy W.Sink search.now
         state.old state.new output.old output.new line.now result }
 {
-    let matched = is_match(searcher, job, line)?;
-    pass_line(searcher, job, matched, line, state, page, output)
+    let matched = is_match(search, line)?;
+    pass_line(search, matched, line, state, page, output)
 }
 
 /// Whether a line in which a pattern occurs matches.
-pub fn is_match(searcher: &AhoCorasick, job: &Job<'_>, line: &[u8]) -> Result<bool, Stop>
-    requires of { IsBuiltFromSome searcher.now }
-    ensures any { job.now.fit ≡ AnyPart → IfOk result (λ matched. matched ≡ true) }
-    ensures matched { (p : Patterns) → IsBuiltFrom searcher.now p → HasMatch p line.now
-        → IfOk result (IsMatched p job.now.fit line.now) }
+pub fn is_match(search: &Search<'_, '_>, line: &[u8]) -> Result<bool, Stop>
+    requires of { IsReady search.now }
+    ensures any { search.now.job.fit ≡ AnyPart → IfOk result (λ matched. matched ≡ true) }
+    ensures matched { (p : Patterns) → IsSought search.now p → HasMatch p line.now
+        → IfOk result (IsMatched p search.now.job.fit line.now) }
 {
-    match job.fit {
+    match search.job.fit {
         Fit::AnyPart => Ok(true),
-        Fit::WholeWord => has_alone(searcher, line),
-        Fit::WholeLine => is_whole(searcher, line),
+        Fit::WholeWord => has_alone(search.searcher, line),
+        Fit::WholeLine => is_whole(search.searcher, line),
     }
 }
 
@@ -398,25 +396,24 @@ fn spans(start: usize, end: usize, len: usize) -> bool
 
 /// Goes over a line of which it is known whether it matches.
 fn pass_line<W: Sink>(
-    searcher: &AhoCorasick,
-    job: &Job<'_>,
+    search: &Search<'_, '_>,
     matched: bool,
     line: &[u8],
     state: &mut State,
     page: &mut Vec<u8>,
     output: &mut W,
 ) -> Result<(), Stop>
-    requires of { IsBuiltFromSome searcher.now }
-    ensures selected { matched ≡ true → job.now.invert ≡ false
+    requires of { IsReady search.now }
+    ensures selected { matched ≡ true → search.now.job.invert ≡ false
         → OnOk result (0 < state.new.selected) }
     ensures placed { OnOk result (state.new.place ≡ after_line state.old.place line.now) }
-    ensures written { TellsLineBy W.Sink searcher.now job.now
+    ensures written { TellsLineBy W.Sink search.now
         state.old state.new output.old output.new matched line.now result }
-    ensures begun { BeginsOneBy W.Sink searcher.now job.now
+    ensures begun { BeginsOneBy W.Sink search.now
         state.old state.new output.old output.new matched line.now result }
 {
-    if job.selects(matched) {
-        return pass_selected(searcher, job, line, state, page, output);
+    if search.job.selects(matched) {
+        return pass_selected(search, line, state, page, output);
     }
     state.place = behind_line(state.place, line);
     Ok(())
@@ -425,28 +422,27 @@ fn pass_line<W: Sink>(
 /// Goes over a selected line. What is asked of it is put together first: where the output cannot be written to the end, what is
 /// there is a beginning of it. Where so many lines are selected already as are asked for nothing is written.
 fn pass_selected<W: Sink>(
-    searcher: &AhoCorasick,
-    job: &Job<'_>,
+    search: &Search<'_, '_>,
     line: &[u8],
     state: &mut State,
     page: &mut Vec<u8>,
     output: &mut W,
 ) -> Result<(), Stop>
-    requires of { IsBuiltFromSome searcher.now }
+    requires of { IsReady search.now }
     ensures counted { OnOk result
-        (state.new.selected ≡ next_count job.now.most state.old.selected) }
+        (state.new.selected ≡ next_count search.now.job.most state.old.selected) }
     ensures placed { OnOk result (state.new.place ≡ after_line state.old.place line.now) }
-    ensures shown { WritesNextBy (IsBuiltFrom searcher.now) job.now state.old
+    ensures shown { WritesNextBy (IsSought search.now) search.now.job state.old
         (W.taken output.old) (W.taken output.new) line.now result }
-    ensures begun { BeginsSelectedBy W.Sink searcher.now job.now
+    ensures begun { BeginsSelectedBy W.Sink search.now
         state.old state.new output.old output.new line.now result }
 {
-    if job.is_full(state.selected) {
+    if search.job.is_full(state.selected) {
         state.place = behind_line(state.place, line);
         return Ok(());
     }
     page.clear();
-    put_shown(searcher, job, line, state.place, page)?;
+    put_shown(search, line, state.place, page)?;
     state.selected = state.selected.saturating_add(1);
     write_whole(output, page.as_slice())?;
     state.place = behind_line(state.place, line);
@@ -455,50 +451,48 @@ fn pass_selected<W: Sink>(
 
 /// Goes over lines without a match.
 fn pass_others<W: Sink>(
-    searcher: &AhoCorasick,
-    job: &Job<'_>,
+    search: &Search<'_, '_>,
     text: &[u8],
     state: &mut State,
     page: &mut Vec<u8>,
     output: &mut W,
 ) -> Result<(), Stop>
-    requires of { IsBuiltFromSome searcher.now }
-    ensures selected { job.now.invert ≡ false
+    requires of { IsReady search.now }
+    ensures selected { search.now.job.invert ≡ false
         → OnOk result (state.new.selected ≡ state.old.selected) }
-    ensures placed { EndsBy job.now text.now → OnOk result
-        (SamePlace job.now state.new.place (after_lines state.old.place (lines_by job.now text.now))) }
-    ensures written { TellsOthersBy W.Sink searcher.now job.now
+    ensures placed { EndsBy search.now.job text.now → OnOk result
+        (SamePlace search.now.job state.new.place (after_lines state.old.place (lines_by search.now.job text.now))) }
+    ensures written { TellsOthersBy W.Sink search.now
         state.old state.new output.old output.new text.now result }
-    ensures begun { BeginsOthersBy W.Sink searcher.now job.now
+    ensures begun { BeginsOthersBy W.Sink search.now
         state.old state.new output.old output.new text.now result }
 {
-    if job.invert {
-        return pass_each(searcher, job, text, state, page, output);
+    if search.job.invert {
+        return pass_each(search, text, state, page, output);
     }
-    skip(job, text, state);
+    skip(&search.job, text, state);
     Ok(())
 }
 
 /// Goes over lines that are all selected.
 fn pass_each<W: Sink>(
-    searcher: &AhoCorasick,
-    job: &Job<'_>,
+    search: &Search<'_, '_>,
     text: &[u8],
     state: &mut State,
     page: &mut Vec<u8>,
     output: &mut W,
 ) -> Result<(), Stop>
-    requires of { IsBuiltFromSome searcher.now }
-    ensures placed { OnOk result (state.new.place ≡ after_lines state.old.place (lines_by job.now text.now)) }
-    ensures written { TellsInvertedBy W.Sink searcher.now job.now
+    requires of { IsReady search.now }
+    ensures placed { OnOk result (state.new.place ≡ after_lines state.old.place (lines_by search.now.job text.now)) }
+    ensures written { TellsInvertedBy W.Sink search.now
         state.old state.new output.old output.new text.now result }
-    ensures begun { BeginsInvertedBy W.Sink searcher.now job.now
+    ensures begun { BeginsInvertedBy W.Sink search.now
         state.old state.new output.old output.new text.now result }
 {
     let mut rest = text;
     while !rest.is_empty() {
-        let end = line_end(rest, job.style.ending);
-        pass_selected(searcher, job, &rest[..end], state, page, output)?;
+        let end = line_end(rest, search.job.style.ending);
+        pass_selected(search, &rest[..end], state, page, output)?;
         rest = behind(rest, end);
     }
     Ok(())
@@ -555,24 +549,23 @@ fn endings(text: &[u8], ending: u8) -> u64
 
 /// Puts together what is asked of a selected line.
 pub fn put_shown<W: Write>(
-    searcher: &AhoCorasick,
-    job: &Job<'_>,
+    search: &Search<'_, '_>,
     line: &[u8],
     place: Place,
     output: &mut W,
 ) -> Result<(), Stop>
-    requires of { IsBuiltFromSome searcher.now }
-    ensures shown { WritesLineBy (IsBuiltFrom searcher.now) job.now place
+    requires of { IsReady search.now }
+    ensures shown { WritesLineBy (IsSought search.now) search.now.job place
         (W.contents output.old) (W.contents output.new) line.now result }
 {
-    match job.shown {
-        Shown::Lines if job.colors() => put_colored_line(searcher, job, place, line, output),
-        Shown::Lines => Ok(put_line(output, &job.style, place, line)?),
-        Shown::Matches if !job.invert => {
-            put_matches(searcher, job, Shape::OnLines, place, line, output)
+    match search.job.shown {
+        Shown::Lines if search.job.colors() => put_colored_line(search, place, line, output),
+        Shown::Lines => Ok(put_line(output, &search.job.style, place, line)?),
+        Shown::Matches if !search.job.invert => {
+            put_matches(search, Shape::OnLines, place, line, output)
         }
-        Shown::Objects if !job.invert => {
-            put_matches(searcher, job, Shape::AsFields, place, line, output)
+        Shown::Objects if !search.job.invert => {
+            put_matches(search, Shape::AsFields, place, line, output)
         }
         _ => Ok(()),
     }

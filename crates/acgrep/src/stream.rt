@@ -2,20 +2,18 @@
 
 ghost use Rattle.std.specs.Prelude.{◌≡◌, ◌≤◌, ◌-◌, ◌<◌, [], IfOk, IfSome, OnErr, OnOk, length, take, true};
 ghost use Rattle.std.specs.Io.KnownBytes.{Keeps};
-ghost use Rattle.chromesquid.specs.Searcher.{IsBuiltFrom, IsBuiltFromSome};
 ghost use Rattle.acgrep.specs.Binary.{is_text};
 ghost use Rattle.acgrep.specs.Filled.{FillsBehind, ReadsOn, bytes_buffered};
 ghost use Rattle.acgrep.specs.Guarded.{EndsFront, IsZeroLine, ReadsFront};
 ghost use Rattle.acgrep.specs.Lines.{IsEnding};
-ghost use Rattle.acgrep.specs.Searched.{BeginsReadBy};
-ghost use Rattle.acgrep.specs.Selected.{ForJob};
+ghost use Rattle.acgrep.specs.Searched.{BeginsReadBy, ForSought, IsReady};
 ghost use Rattle.acgrep.specs.Streamed.{BeginsWhole, SearchesWhole, TextIf, course_of};
 
 use crate::buffer::Buffer;
 use crate::failure::Stop;
 use crate::lines::line_start;
-use crate::select::{Job, State, search_text};
-use chromesquid::{AhoCorasick, Sink};
+use crate::select::{Search, State, search_text};
+use chromesquid::Sink;
 use memchr::memchr;
 use programs::reason::Reason;
 use std::io::Read;
@@ -34,8 +32,7 @@ enum Came {
 /// Searches all that a reader gives, or the lines up to the first that holds a zero byte alone, and answers whether there is one. The
 /// buffer then begins with it. What is settled is handed on before each read.
 pub fn search_front<R: Read, W: Sink>(
-    searcher: &AhoCorasick,
-    job: &Job<'_>,
+    search: &Search<'_, '_>,
     alone: bool,
     buffer: &mut Buffer,
     input: &mut R,
@@ -43,26 +40,25 @@ pub fn search_front<R: Read, W: Sink>(
     page: &mut Vec<u8>,
     output: &mut W,
 ) -> Result<bool, Stop>
-    requires of { IsBuiltFromSome searcher.now }
-    ensures front { ForJob job.now (IsBuiltFrom searcher.now) (λ p. IfOk result (EndsFront p job.now alone
+    requires of { IsReady search.now }
+    ensures front { ForSought search.now (λ p. IfOk result (EndsFront p search.now.job alone
         (course_of W.Sink R.Read state.old state.new output.old output.new input.old input.new)
         [] (bytes_buffered buffer.new))) }
 
     // Where it fails a beginning of that is written.
-    ensures begun { BeginsReadBy R.Read W.Sink searcher.now job.now alone
+    ensures begun { BeginsReadBy R.Read W.Sink search.now alone
         state.old state.new input.old output.old output.new [] result }
 
     // Whatever comes of it, the reader is only read.
     ensures reads { ReadsOn (R.remaining input.old) (R.remaining input.new) }
 {
     buffer.clear();
-    search_behind(searcher, job, alone, buffer, input, state, page, output)
+    search_behind(search, alone, buffer, input, state, page, output)
 }
 
 /// The same of what is there and all that a reader gives behind it.
 pub fn search_behind<R: Read, W: Sink>(
-    searcher: &AhoCorasick,
-    job: &Job<'_>,
+    search: &Search<'_, '_>,
     alone: bool,
     buffer: &mut Buffer,
     input: &mut R,
@@ -70,26 +66,26 @@ pub fn search_behind<R: Read, W: Sink>(
     page: &mut Vec<u8>,
     output: &mut W,
 ) -> Result<bool, Stop>
-    requires of { IsBuiltFromSome searcher.now }
+    requires of { IsReady search.now }
     requires text { TextIf alone (bytes_buffered buffer.now) }
-    ensures front { ForJob job.now (IsBuiltFrom searcher.now) (λ p. IfOk result (EndsFront p job.now alone
+    ensures front { ForSought search.now (λ p. IfOk result (EndsFront p search.now.job alone
         (course_of W.Sink R.Read state.old state.new output.old output.new input.old input.new)
         (bytes_buffered buffer.old) (bytes_buffered buffer.new))) }
-    ensures begun { BeginsReadBy R.Read W.Sink searcher.now job.now alone
+    ensures begun { BeginsReadBy R.Read W.Sink search.now alone
         state.old state.new input.old output.old output.new (bytes_buffered buffer.old) result }
     ensures reads { ReadsOn (R.remaining input.old) (R.remaining input.new) }
 {
     let count = buffer.bytes().len();
-    search_whole(searcher, job, buffer, count, state, page, output)?;
+    search_whole(search, buffer, count, state, page, output)?;
     for _ in 0..u64::MAX {
-        if job.is_done(state) {
+        if search.job.is_done(state) {
             return Ok(false);
         }
-        match read_front(searcher, job, alone, buffer, input, state, page, output)? {
+        match read_front(search, alone, buffer, input, state, page, output)? {
             Came::Text => {}
             Came::Binary => return Ok(true),
             Came::End => {
-                search_text(searcher, job, buffer.bytes(), state, page, output)?;
+                search_text(search, buffer.bytes(), state, page, output)?;
                 return Ok(false);
             }
         }
@@ -99,8 +95,7 @@ pub fn search_behind<R: Read, W: Sink>(
 
 /// Reads once and searches the whole lines that are there, or those up to the first that holds a zero byte alone.
 fn read_front<R: Read, W: Sink>(
-    searcher: &AhoCorasick,
-    job: &Job<'_>,
+    search: &Search<'_, '_>,
     alone: bool,
     buffer: &mut Buffer,
     input: &mut R,
@@ -108,12 +103,12 @@ fn read_front<R: Read, W: Sink>(
     page: &mut Vec<u8>,
     output: &mut W,
 ) -> Result<Came, Stop>
-    requires of { IsBuiltFromSome searcher.now }
-    ensures read { ForJob job.now (IsBuiltFrom searcher.now) (λ p. IfOk result (ReadsFront p job.now alone
+    requires of { IsReady search.now }
+    ensures read { ForSought search.now (λ p. IfOk result (ReadsFront p search.now.job alone
         (course_of W.Sink R.Read state.old state.new output.old output.new input.old input.new)
         (bytes_buffered buffer.old) (bytes_buffered buffer.new))) }
     ensures begun { TextIf alone (bytes_buffered buffer.old)
-        → BeginsReadBy R.Read W.Sink searcher.now job.now alone
+        → BeginsReadBy R.Read W.Sink search.now alone
         state.old state.new input.old output.old output.new (bytes_buffered buffer.old) result }
     ensures reads { ReadsOn (R.remaining input.old) (R.remaining input.new) }
 {
@@ -121,15 +116,15 @@ fn read_front<R: Read, W: Sink>(
     if count == 0 {
         return Ok(Came::End);
     }
-    match first_zero(alone, buffer.bytes(), count, job.style.ending) {
+    match first_zero(alone, buffer.bytes(), count, search.job.style.ending) {
         Some(start) => {
             let text = &buffer.bytes()[..start];
-            search_text(searcher, job, text, state, page, output)?;
+            search_text(search, text, state, page, output)?;
             buffer.drop_front(start);
             Ok(Came::Binary)
         }
         None => {
-            search_whole(searcher, job, buffer, count, state, page, output)?;
+            search_whole(search, buffer, count, state, page, output)?;
             Ok(Came::Text)
         }
     }
@@ -184,25 +179,24 @@ fn read_more<R: Read, W: Sink>(
 
 /// Searches the whole lines, where a line can end among the last `count` bytes alone, and keeps what follows.
 fn search_whole<W: Sink>(
-    searcher: &AhoCorasick,
-    job: &Job<'_>,
+    search: &Search<'_, '_>,
     buffer: &mut Buffer,
     count: usize,
     state: &mut State,
     page: &mut Vec<u8>,
     output: &mut W,
 ) -> Result<(), Stop>
-    requires of { IsBuiltFromSome searcher.now }
-    ensures searched { ForJob job.now (IsBuiltFrom searcher.now) (λ p.
-        OnOk result (SearchesWhole p job.now state.old state.new
+    requires of { IsReady search.now }
+    ensures searched { ForSought search.now (λ p.
+        OnOk result (SearchesWhole p search.now.job state.old state.new
         (W.taken output.old) (W.taken output.new)
         (bytes_buffered buffer.old) (bytes_buffered buffer.new))) }
-    ensures begun { ForJob job.now (IsBuiltFrom searcher.now) (λ p.
-        OnErr result (BeginsWhole p job.now state.old state.new
+    ensures begun { ForSought search.now (λ p.
+        OnErr result (BeginsWhole p search.now.job state.old state.new
         (W.taken output.old) (W.taken output.new) (bytes_buffered buffer.old))) }
 {
-    let whole = whole_lines(buffer.bytes(), count, job.style.ending);
-    search_text(searcher, job, &buffer.bytes()[..whole], state, page, output)?;
+    let whole = whole_lines(buffer.bytes(), count, search.job.style.ending);
+    search_text(search, &buffer.bytes()[..whole], state, page, output)?;
     buffer.drop_front(whole);
     Ok(())
 }

@@ -11,11 +11,11 @@ use Rattle.acgrep.proofs.below.search_found.Goals as goal
 
 pub returns-then-is_empty-clause-told : goal.returns-then-is_empty-clause-told
 returns-then-is_empty-clause-told g c =
-    status-none g.E.Sink (IsMessage (files_told c.args.job.now.hushed c.args.job.now.label.now (name_bytes c.args.files.now.names.now))) c.args.job.now.hushed c.args.job.now.shown 1 c.args.errors.now (omega arith)
+    status-none g.E.Sink (IsMessage (files_told c.args.search.now.job.hushed c.args.search.now.job.label.now (name_bytes c.args.files.now.names.now))) c.args.search.now.job.hushed c.args.search.now.job.shown 1 c.args.errors.now (omega arith)
 
 pub returns-clause-searched : goal.returns-clause-searched
 returns-clause-searched g c = λ p is plain low.
-    let job = c.args.job.now in
+    let job = c.args.search.now.job in
     let holds = g.F.Open.holds c.args.files.now.files.now in
     let names = name_bytes c.args.files.now.names.now in
     let full : 0 < length c.args.files.now.names.now = grind (arith, common_steps, c.is_empty.ensures, c.if-is_empty.false) in
@@ -25,7 +25,7 @@ returns-clause-searched g c = λ p is plain low.
 
 pub returns-clause-begun : goal.returns-clause-begun
 returns-clause-begun g c = λ p is plain.
-    let job = c.args.job.now in
+    let job = c.args.search.now.job in
     let holds = g.F.Open.holds c.args.files.now.files.now in
     let names = name_bytes c.args.files.now.names.now in
     let full : 0 < length c.args.files.now.names.now = grind (arith, common_steps, c.is_empty.ensures, c.if-is_empty.false) in
@@ -35,7 +35,7 @@ returns-clause-begun g c = λ p is plain.
 
 pub returns-clause-told : goal.returns-clause-told
 returns-clause-told g c =
-    let job = c.args.job.now in
+    let job = c.args.search.now.job in
     let names = name_bytes c.args.files.now.names.now in
     let full : 0 < length c.args.files.now.names.now = grind (arith, common_steps, c.is_empty.ensures, c.if-is_empty.false) in
     let some : 0 < length names = subst (λ (n : ℕ). 0 < n) (sym (length-map c.args.files.now.names.now (λ name. name.now))) full in

@@ -9,20 +9,20 @@ use Rattle.acgrep.proofs.context.pass_any.Goals as goal
 pub returns-in_err-is_chosen-clause-begun : goal.returns-in_err-is_chosen-clause-begun
 returns-in_err-is_chosen-clause-begun g c = λ p is.
     let held = g.W.Sink.taken c.args.output.now in
-    on_err c.from_residual.result (begins_nothing (WalksSome p c.args.job.now c.args.context.now (walk_of c.args.state.now)) (c.args.line.now ∷ []) held held [] (walk_of c.args.state.now, (refl, refl)) (Appends-nil held))
+    on_err c.from_residual.result (begins_nothing (WalksSome p c.args.search.now.job c.args.context.now (walk_of c.args.state.now)) (c.args.line.now ∷ []) held held [] (walk_of c.args.state.now, (refl, refl)) (Appends-nil held))
 
 pub returns-then-branch-clause-walks : goal.returns-then-branch-clause-walks
 returns-then-branch-clause-walks g c = λ p is.
-    c.pass_chosen.ensures.walks p is (subst (IsChosenBy p c.args.job.now c.args.state.now.selected c.args.line.now) c.if-branch.true (c.in_ok-is_chosen.ensures.chosen p is))
+    c.pass_chosen.ensures.walks p is (subst (IsChosenBy p c.args.search.now.job c.args.state.now.selected c.args.line.now) c.if-branch.true (c.in_ok-is_chosen.ensures.chosen p is))
 
 pub returns-then-branch-clause-begun : goal.returns-then-branch-clause-begun
 returns-then-branch-clause-begun g c = λ p is.
-    c.pass_chosen.ensures.begun p is (subst (IsChosenBy p c.args.job.now c.args.state.now.selected c.args.line.now) c.if-branch.true (c.in_ok-is_chosen.ensures.chosen p is))
+    c.pass_chosen.ensures.begun p is (subst (IsChosenBy p c.args.search.now.job c.args.state.now.selected c.args.line.now) c.if-branch.true (c.in_ok-is_chosen.ensures.chosen p is))
 
 pub returns-clause-walks : goal.returns-clause-walks
 returns-clause-walks g c = λ p is.
-    c.pass_beside.ensures.walks p is (subst (IsChosenBy p c.args.job.now c.args.state.now.selected c.args.line.now) c.if-branch.false (c.in_ok-is_chosen.ensures.chosen p is))
+    c.pass_beside.ensures.walks p is (subst (IsChosenBy p c.args.search.now.job c.args.state.now.selected c.args.line.now) c.if-branch.false (c.in_ok-is_chosen.ensures.chosen p is))
 
 pub returns-clause-begun : goal.returns-clause-begun
 returns-clause-begun g c = λ p is.
-    c.pass_beside.ensures.begun p is (subst (IsChosenBy p c.args.job.now c.args.state.now.selected c.args.line.now) c.if-branch.false (c.in_ok-is_chosen.ensures.chosen p is))
+    c.pass_beside.ensures.begun p is (subst (IsChosenBy p c.args.search.now.job c.args.state.now.selected c.args.line.now) c.if-branch.false (c.in_ok-is_chosen.ensures.chosen p is))

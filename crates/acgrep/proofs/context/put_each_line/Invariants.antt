@@ -2,7 +2,7 @@
 use Rattle.std.proofs.Common.{◌≡◌, drop, length}
 use Rattle.std.specs.List.{sum}
 use Rattle.aho_core.specs.Patterns.{Patterns}
-use Rattle.chromesquid.specs.Searcher.{IsBuiltFrom}
+use Rattle.acgrep.specs.Searched.{IsSought}
 use Rattle.acgrep.specs.Filled.{cut_by, held_lines}
 use Rattle.acgrep.proofs.Stepped.{ShowsTo}
 use Rattle.acgrep.proofs.context.put_each_line.Given as goal
@@ -10,6 +10,6 @@ use Rattle.acgrep.proofs.context.put_each_line.Given as goal
 abbrev pub invariant-loop-index : goal.invariant-loop-index
 invariant-loop-index g l = record {
   sized : sum (drop l.index l.fn.held.sizes.items) ≡ length l.rest;
-  shown : (p : Patterns) → IsBuiltFrom l.fn.searcher p
-      → ShowsTo p l.fn.job l.fn.first l.place (g.W.Write.contents l.initial.output) (g.W.Write.contents l.output) (held_lines l.fn.held) (cut_by (drop l.index l.fn.held.sizes.items) l.rest);
+  shown : (p : Patterns) → IsSought l.fn.search p
+      → ShowsTo p l.fn.search.job l.fn.first l.place (g.W.Write.contents l.initial.output) (g.W.Write.contents l.output) (held_lines l.fn.held) (cut_by (drop l.index l.fn.held.sizes.items) l.rest);
 }

@@ -16,7 +16,7 @@ returns g c = record {
       let between = contents c.put_between.new.output in
       let meanwhile = contents c.put_each_line.new.output in
       on_ok_weaker c.put_shown.result
-      (group_put p c.args.job.now c.args.context.now (walk_of c.args.state.now) c.args.line.now c.is_parted.result (contents c.args.output.now) between meanwhile (contents c.put_shown.new.output)
+      (group_put p c.args.search.now.job c.args.context.now (walk_of c.args.state.now) c.args.line.now c.is_parted.result (contents c.args.output.now) between meanwhile (contents c.put_shown.new.output)
       c.is_parted.ensures.parted c.in_ok-put_between.ensures.written
       (subst (λ (job : Job). (bytes : List ℕ) × ShowsEach p job trail.first (held_lines trail.held) bytes × Appends between meanwhile bytes) c.beside.ensures.beside (c.in_ok-put_each_line.ensures.shown p is)))
       (c.put_shown.ensures.shown p is);

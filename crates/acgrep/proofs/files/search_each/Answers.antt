@@ -12,7 +12,7 @@ use Rattle.acgrep.proofs.files.search_each.Goals as goal
 
 pub loop-rest-init : goal.loop-rest-init
 loop-rest-init g c =
-    let job = c.args.job.now in
+    let job = c.args.search.now.job in
     let holds = g.F.Open.holds c.args.files.now in
     let names = name_bytes c.args.names.now in
     let left = g.R.Read.remaining c.args.input.now in
@@ -25,7 +25,7 @@ loop-rest-init g c =
 
 pub loop-rest-preserved : goal.loop-rest-preserved
 loop-rest-preserved g c =
-    let job = c.args.job.now in
+    let job = c.args.search.now.job in
     let holds = g.F.Open.holds c.args.files.now in
     let names = name_bytes c.args.names.now in
     let begin = g.R.Read.remaining c.args.input.now in
@@ -55,7 +55,7 @@ loop-rest-preserved g c =
     }
 
 pub returns-clause-searched : goal.returns-clause-searched
-returns-clause-searched g c = λ p is plain. so_far_end p c.args.job.now (g.F.Open.holds c.args.files.now) (name_bytes c.args.names.now)
+returns-clause-searched g c = λ p is plain. so_far_end p c.args.search.now.job (g.F.Open.holds c.args.files.now) (name_bytes c.args.names.now)
     (g.R.Read.remaining c.args.input.now) (g.W.Sink.taken c.args.output.now) (name_bytes c.loop-rest.rest.now)
     (g.R.Read.remaining c.loop-rest.input) (g.W.Sink.taken c.loop-rest.output) c.loop-rest.seen (ends_by c.loop-rest.rest.now c.loop-rest.seen (c.goes_on.ensures.stops c.loop-rest-test.false)) (c.loop-rest.invariant.so_far p is plain)
 
@@ -63,4 +63,4 @@ pub returns-clause-begun : goal.returns-clause-begun
 returns-clause-begun g c = λ p is plain.
     let held = g.W.Sink.taken c.loop-rest.output in
     (c.loop-rest.invariant.so_far p is plain).begun held
-    (begun_none p c.args.job.now (g.F.Open.holds c.args.files.now) c.loop-rest.seen.selected (name_bytes c.loop-rest.rest.now) (g.R.Read.remaining c.loop-rest.input) held held (Keeps-refl held))
+    (begun_none p c.args.search.now.job (g.F.Open.holds c.args.files.now) c.loop-rest.seen.selected (name_bytes c.loop-rest.rest.now) (g.R.Read.remaining c.loop-rest.input) held held (Keeps-refl held))

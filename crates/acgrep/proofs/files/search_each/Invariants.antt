@@ -2,7 +2,7 @@
 use Rattle.std.proofs.Common.{length}
 use Rattle.aho_core.specs.Patterns.{Patterns}
 use Rattle.programs.specs.Names.{name_bytes}
-use Rattle.chromesquid.specs.Searcher.{IsBuiltFrom}
+use Rattle.acgrep.specs.Searched.{IsSought}
 use Rattle.acgrep.specs.Selected.{HoldNoEnding}
 use Rattle.acgrep.specs.Told.{IsMessage, TellsIf, files_told}
 use Rattle.acgrep.proofs.NamesSearched.{SoFar}
@@ -11,11 +11,11 @@ use Rattle.acgrep.proofs.files.search_each.Given as goal
 
 abbrev pub invariant-loop-rest : goal.invariant-loop-rest
 invariant-loop-rest g l = record {
-  so_far : (p : Patterns) → IsBuiltFrom l.fn.searcher p → HoldNoEnding l.fn.job.style.ending p
-      → SoFar p l.fn.job (g.F.Open.holds l.fn.files) (name_bytes l.fn.names) (g.R.Read.remaining l.initial.input) (g.W.Sink.taken l.initial.output)
+  so_far : (p : Patterns) → IsSought l.fn.search p → HoldNoEnding l.fn.search.job.style.ending p
+      → SoFar p l.fn.search.job (g.F.Open.holds l.fn.files) (name_bytes l.fn.names) (g.R.Read.remaining l.initial.input) (g.W.Sink.taken l.initial.output)
       (name_bytes l.rest) (g.R.Read.remaining l.input) (g.W.Sink.taken l.output) l.seen;
-  told : TellsIf g.E.Sink (IsMessage (files_told l.fn.job.hushed l.fn.job.label.now (name_bytes l.fn.names))) l.fn.job.hushed l.seen.failed l.initial.errors l.errors;
-  within : AreWithin (files_told l.fn.job.hushed l.fn.job.label.now (name_bytes l.rest)) (files_told l.fn.job.hushed l.fn.job.label.now (name_bytes l.fn.names));
+  told : TellsIf g.E.Sink (IsMessage (files_told l.fn.search.job.hushed l.fn.search.job.label.now (name_bytes l.fn.names))) l.fn.search.job.hushed l.seen.failed l.initial.errors l.errors;
+  within : AreWithin (files_told l.fn.search.job.hushed l.fn.search.job.label.now (name_bytes l.rest)) (files_told l.fn.search.job.hushed l.fn.search.job.label.now (name_bytes l.fn.names));
 }
 
 abbrev pub decreases-loop-rest : goal.decreases-loop-rest

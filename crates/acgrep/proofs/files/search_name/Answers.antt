@@ -12,7 +12,7 @@ use Rattle.acgrep.proofs.files.search_name.Goals as goal
 pub returns-then-is_input-clause-told : goal.returns-then-is_input-clause-told
 returns-then-is_input-clause-told g c = λ names is.
     let input : is_input c.args.name.now ≡ true = sym c.is_input.ensures ∙ c.if-is_input.true in
-    let same : shown_name c.args.job.now.label.now c.args.name.now ≡ c.args.job.now.label.now = rw input refl in
+    let same : shown_name c.args.search.now.job.label.now c.args.name.now ≡ c.args.search.now.job.label.now = rw input refl in
     let hushed = ap (λ (j : Job). j.hushed) c.job_for-named.ensures.named.is in
     subst (λ (b : Bool). TellsOutcome g.E.Sink (IsMessage names) b c.search_input.result c.args.errors.now c.search_input.new.errors) hushed
     (c.search_input.ensures.told names (λ asked. subst (λ (n : List ℕ). IsOneOf n names) (same ∙ sym (c.job_for-named.ensures.named.of) ∙ sym (ap (λ (j : Job). j.style.name.now) c.job_for-named.ensures.named.is)) (is (sym hushed ∙ asked))))
@@ -20,14 +20,14 @@ returns-then-is_input-clause-told g c = λ names is.
 pub returns-clause-told : goal.returns-clause-told
 returns-clause-told g c = λ names is.
     let file : is_input c.args.name.now ≡ false = sym c.is_input.ensures ∙ c.if-is_input.false in
-    let same : shown_name c.args.job.now.label.now c.args.name.now ≡ c.args.name.now = rw file refl in
+    let same : shown_name c.args.search.now.job.label.now c.args.name.now ≡ c.args.name.now = rw file refl in
     let hushed = ap (λ (j : Job). j.hushed) c.job_for-named-2.ensures.named.is in
     subst (λ (b : Bool). TellsOutcome g.E.Sink (IsMessage names) b c.search_named.result c.args.errors.now c.search_named.new.errors) hushed
     (c.search_named.ensures.told names (λ asked. subst (λ (n : List ℕ). IsOneOf n names) (same ∙ sym (c.job_for-named-2.ensures.named.of) ∙ sym (ap (λ (j : Job). j.style.name.now) c.job_for-named-2.ensures.named.is)) (is (sym hushed ∙ asked))))
 
 pub returns-then-is_input-clause-searched : goal.returns-then-is_input-clause-searched
 returns-then-is_input-clause-searched g c = λ p is plain.
-    let job = c.args.job.now in
+    let job = c.args.search.now.job in
     let named = c.job_for-named.result in
     let holds = g.F.Open.holds c.args.files.now in
     let name = c.args.name.now in
@@ -41,13 +41,13 @@ returns-then-is_input-clause-searched g c = λ p is plain.
 pub returns-then-is_input-clause-begun : goal.returns-then-is_input-clause-begun
 returns-then-is_input-clause-begun g c = λ p is plain.
     if_broken c.search_input.result
-    (input_begun p c.args.job.now c.job_for-named.result c.args.follows (g.F.Open.holds c.args.files.now) c.args.name.now (g.R.Read.remaining c.args.input.now)
+    (input_begun p c.args.search.now.job c.job_for-named.result c.args.follows (g.F.Open.holds c.args.files.now) c.args.name.now (g.R.Read.remaining c.args.input.now)
     (g.W.Sink.taken c.args.output.now) (g.W.Sink.taken c.search_input.new.output) (sym c.is_input.ensures ∙ c.if-is_input.true) c.job_for-named.ensures.named)
     (c.search_input.ensures.begun p is (subst (λ (n : ℕ). HoldNoEnding n p) (sym (ap (λ (j : Job). j.style.ending) c.job_for-named.ensures.named.is)) plain))
 
 pub returns-clause-searched : goal.returns-clause-searched
 returns-clause-searched g c = λ p is plain.
-    let job = c.args.job.now in
+    let job = c.args.search.now.job in
     let named = c.job_for-named-2.result in
     let holds = g.F.Open.holds c.args.files.now in
     let name = c.args.name.now in
@@ -60,6 +60,6 @@ returns-clause-searched g c = λ p is plain.
 pub returns-clause-begun : goal.returns-clause-begun
 returns-clause-begun g c = λ p is plain.
     if_broken c.search_named.result
-    (file_begun p c.args.job.now c.job_for-named-2.result c.args.follows (g.F.Open.holds c.args.files.now) c.args.name.now (g.R.Read.remaining c.args.input.now)
+    (file_begun p c.args.search.now.job c.job_for-named-2.result c.args.follows (g.F.Open.holds c.args.files.now) c.args.name.now (g.R.Read.remaining c.args.input.now)
     (g.W.Sink.taken c.args.output.now) (g.W.Sink.taken c.search_named.new.output) (sym c.is_input.ensures ∙ c.if-is_input.false) c.job_for-named-2.ensures.named)
     (c.search_named.ensures.begun p is (subst (λ (n : ℕ). HoldNoEnding n p) (sym (ap (λ (j : Job). j.style.ending) c.job_for-named-2.ensures.named.is)) plain))

@@ -10,7 +10,7 @@ use Rattle.acgrep.proofs.files.search_one.Goals as goal
 
 pub returns-in-Ok-search_front-clause-searched : goal.returns-in-Ok-search_front-clause-searched
 returns-in-Ok-search_front-clause-searched g c = λ p is plain.
-    let job = c.args.job.now in
+    let job = c.args.search.now.job in
     let left = g.R.Read.remaining c.args.reader.now in
     let left' = g.R.Read.remaining c.search_front.new.input in
     let held = g.W.Sink.taken c.args.output.now in
@@ -23,7 +23,7 @@ returns-in-Ok-search_front-clause-searched g c = λ p is plain.
 
 pub returns-in-Ok-search_front-clause-begun : goal.returns-in-Ok-search_front-clause-begun
 returns-in-Ok-search_front-clause-begun g c = λ p is plain.
-    let job = c.args.job.now in
+    let job = c.args.search.now.job in
     let left = g.R.Read.remaining c.args.reader.now in
     let left' = g.R.Read.remaining c.search_front.new.input in
     let held = g.W.Sink.taken c.args.output.now in
@@ -37,7 +37,7 @@ returns-in-Ok-search_front-clause-begun g c = λ p is plain.
 
 pub returns-in-Err-search_front-clause-begun : goal.returns-in-Err-search_front-clause-begun
 returns-in-Err-search_front-clause-begun g c = λ p is plain.
-    let job = c.args.job.now in
+    let job = c.args.search.now.job in
     let left = g.R.Read.remaining c.args.reader.now in
     let held = g.W.Sink.taken c.args.output.now in
     let meanwhile = g.W.Sink.taken c.search_front.new.output in
@@ -50,5 +50,5 @@ returns-in-Err-search_front-clause-begun g c = λ p is plain.
 pub returns-in-Err-clause-begun : goal.returns-in-Err-clause-begun
 returns-in-Err-clause-begun g c = λ p is plain.
     on_broken c.break_off.result
-    (file_grown p c.args.job.now (sym c.is_guarded.ensures.guarded ∙ c.if-is_guarded.true) (g.R.Read.remaining c.args.reader.now) (g.W.Sink.taken c.args.output.now)
+    (file_grown p c.args.search.now.job (sym c.is_guarded.ensures.guarded ∙ c.if-is_guarded.true) (g.R.Read.remaining c.args.reader.now) (g.W.Sink.taken c.args.output.now)
     (g.W.Sink.taken c.search_guarded.new.output) (g.W.Sink.taken c.break_off.new.output) c.search_guarded.new.state.selected (c.in-Err.ensures.begun p is plain) c.break_off.ensures.begun)

@@ -18,12 +18,12 @@ pub returns-in_err-binary-clause-begun : goal.returns-in_err-binary-clause-begun
 returns-in_err-binary-clause-begun g c = λ p is plain.
     let held' = g.W.Sink.taken c.search_front.new.output in
     on_err c.from_residual.result
-    (file_begins p c.args.job.now true (ap (λ (b : Bool). b || takes_text c.args.job.now) c.requires.guarded) c.begin.new.self c.search_front.new.state (g.R.Read.remaining c.args.input.now) (g.W.Sink.taken c.args.output.now) held' held'
-    c.begin.ensures.begin (c.in_err-binary.ensures.begun p is plain) (total_none c.args.job.now c.search_front.new.state.selected held' held' (Keeps-refl held')))
+    (file_begins p c.args.search.now.job true (ap (λ (b : Bool). b || takes_text c.args.search.now.job) c.requires.guarded) c.begin.new.self c.search_front.new.state (g.R.Read.remaining c.args.input.now) (g.W.Sink.taken c.args.output.now) held' held'
+    c.begin.ensures.begin (c.in_err-binary.ensures.begun p is plain) (total_none c.args.search.now.job c.search_front.new.state.selected held' held' (Keeps-refl held')))
 
 pub returns-then-not-binary-clause-searched : goal.returns-then-not-binary-clause-searched
 returns-then-not-binary-clause-searched g c = λ p is plain.
-    let job = c.args.job.now in
+    let job = c.args.search.now.job in
     let before = c.begin.new.self in
     let state = c.search_front.new.state in
     let left = g.R.Read.remaining c.args.input.now in
@@ -36,7 +36,7 @@ returns-then-not-binary-clause-searched g c = λ p is plain.
 
 pub returns-then-is_full-clause-searched : goal.returns-then-is_full-clause-searched
 returns-then-is_full-clause-searched g c = λ p is plain.
-    let job = c.args.job.now in
+    let job = c.args.search.now.job in
     let before = c.begin.new.self in
     let state = c.search_front.new.state in
     let left = g.R.Read.remaining c.args.input.now in
@@ -49,7 +49,7 @@ returns-then-is_full-clause-searched g c = λ p is plain.
 
 pub returns-in_err-finds-clause-begun : goal.returns-in_err-finds-clause-begun
 returns-in_err-finds-clause-begun g c = λ p is plain.
-    let job = c.args.job.now in
+    let job = c.args.search.now.job in
     let before = c.begin.new.self in
     let state = c.search_front.new.state in
     let left = g.R.Read.remaining c.args.input.now in
@@ -59,7 +59,7 @@ returns-in_err-finds-clause-begun g c = λ p is plain.
     let kept = take c.search_front.new.buffer.held c.search_front.new.buffer.room.items in
     let (asked, front, binary) = subst (EndsFront p job true (course before state held meanwhile left left') [] kept) c.if-not-binary.false (c.in_ok-binary.ensures.front p is plain) in
     on_err c.from_residual-in_err-finds.result
-    (front_begins p job (ap (λ (b : Bool). b || takes_text c.args.job.now) c.requires.guarded) before state left left' held meanwhile (g.W.Sink.taken c.finds.new.output) kept c.begin.ensures.begin front
+    (front_begins p job (ap (λ (b : Bool). b || takes_text c.args.search.now.job) c.requires.guarded) before state left left' held meanwhile (g.W.Sink.taken c.finds.new.output) kept c.begin.ensures.begin front
     (record { begun = []; missing = total_if job.shown job.style state.selected; cut = refl; written = c.in_err-finds.ensures.unwritten p is plain }))
 
 pub returns-in_err-finds-clause-reads : goal.returns-in_err-finds-clause-reads
@@ -68,7 +68,7 @@ returns-in_err-finds-clause-reads g c =
 
 pub returns-in_err-write_binary-clause-begun : goal.returns-in_err-write_binary-clause-begun
 returns-in_err-write_binary-clause-begun g c = λ p is plain.
-    let job = c.args.job.now in
+    let job = c.args.search.now.job in
     let before = c.begin.new.self in
     let state = c.search_front.new.state in
     let left = g.R.Read.remaining c.args.input.now in
@@ -90,7 +90,7 @@ returns-in_err-write_binary-clause-reads g c =
 
 pub returns-then-branch-clause-searched : goal.returns-then-branch-clause-searched
 returns-then-branch-clause-searched g c = λ p is plain.
-    let job = c.args.job.now in
+    let job = c.args.search.now.job in
     let before = c.begin.new.self in
     let state = c.search_front.new.state in
     let left = g.R.Read.remaining c.args.input.now in
@@ -112,7 +112,7 @@ returns-then-branch-clause-reads g c =
 
 pub returns-clause-searched : goal.returns-clause-searched
 returns-clause-searched g c = λ p is plain.
-    let job = c.args.job.now in
+    let job = c.args.search.now.job in
     let before = c.begin.new.self in
     let state = c.search_front.new.state in
     let left = g.R.Read.remaining c.args.input.now in

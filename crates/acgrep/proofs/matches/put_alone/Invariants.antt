@@ -2,7 +2,7 @@
 use Rattle.std.proofs.Common.{◌≤◌, ◌+◌, ◌-◌, List, length}
 use Rattle.aho_core.specs.Occurrence.{Occurrence}
 use Rattle.aho_core.specs.Patterns.{Patterns}
-use Rattle.chromesquid.specs.Searcher.{IsBuiltFrom}
+use Rattle.acgrep.specs.Searched.{IsSought}
 use Rattle.acgrep.proofs.AloneTried.{AloneSoFar}
 use Rattle.acgrep.proofs.Coloring.{PutSoFar}
 use Rattle.acgrep.proofs.matches.put_alone.Given as goal
@@ -10,7 +10,7 @@ use Rattle.acgrep.proofs.matches.put_alone.Given as goal
 abbrev pub invariant-loop-found : goal.invariant-loop-found
 invariant-loop-found g l = record {
   within : l.from ≤ length l.fn.line + 1;
-  written : (p : Patterns) → IsBuiltFrom l.fn.searcher p → (ms : List Occurrence) × AloneSoFar p l.fn.line l.from ms
+  written : (p : Patterns) → IsSought l.fn.search p → (ms : List Occurrence) × AloneSoFar p l.fn.line l.from ms
       × PutSoFar l.fn.shape l.fn.style l.fn.place l.fn.line ms l.at (g.W.Write.contents l.initial.output) (g.W.Write.contents l.output);
 }
 

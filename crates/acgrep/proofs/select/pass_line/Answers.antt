@@ -13,7 +13,7 @@ on_both (Err e) P Q R follows one other = tt
 pub returns-then-selects-clause-written : goal.returns-then-selects-clause-written
 returns-then-selects-clause-written g c = λ p is matched.
     let held = g.W.Sink.taken in
-    let job = c.args.job.now in
+    let job = c.args.search.now.job in
     let line = c.args.line.now in
     let selected : IsSelected p job.fit job.invert line = selected_by p job.fit job.invert c.args.matched line matched (sym c.selects.ensures.selects ∙ c.if-selects.true) in
     on_both c.pass_selected.result _ _ _
@@ -22,13 +22,13 @@ returns-then-selects-clause-written g c = λ p is matched.
 
 pub returns-then-selects-clause-begun : goal.returns-then-selects-clause-begun
 returns-then-selects-clause-begun g c = λ p is matched.
-    let job = c.args.job.now in
+    let job = c.args.search.now.job in
     c.pass_selected.ensures.begun p is (selected_by p job.fit job.invert c.args.matched c.args.line.now matched (sym c.selects.ensures.selects ∙ c.if-selects.true))
 
 pub returns-clause-written : goal.returns-clause-written
 returns-clause-written g c = λ p is matched.
     let held = g.W.Sink.taken c.args.output.now in
-    let job = c.args.job.now in
+    let job = c.args.search.now.job in
     let line = c.args.line.now in
     let passed : IsPassedOver p job.fit job.invert line = passed_by p job.fit job.invert c.args.matched line matched (sym c.selects.ensures.selects ∙ c.if-selects.false) in
     one_passed p job c.args.state.now _ held held line passed refl refl

@@ -10,7 +10,7 @@ returns-in-Lines g c =
     record {
       shown = λ p is.
           on_ok_weaker c.put_colored_line.result
-          (colored_shows p c.args.job.now c.args.place (held c.args.output.now) (held c.put_colored_line.new.output) c.args.line.now
+          (colored_shows p c.args.search.now.job c.args.place (held c.args.output.now) (held c.put_colored_line.new.output) c.args.line.now
           c.in-Lines.is (sym c.colors.ensures.colored ∙ c.if-colors.true))
           (c.put_colored_line.ensures.written p is);
     }

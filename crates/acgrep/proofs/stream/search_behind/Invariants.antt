@@ -1,7 +1,7 @@
 -- The whole lines that were read so far are searched, and what follows them is in the buffer.
 use Rattle.std.proofs.Common.{take}
 use Rattle.aho_core.specs.Patterns.{Patterns}
-use Rattle.chromesquid.specs.Searcher.{IsBuiltFrom}
+use Rattle.acgrep.specs.Searched.{IsSought}
 use Rattle.acgrep.specs.Filled.{ReadsOn}
 use Rattle.acgrep.specs.Guarded.{SearchesFront}
 use Rattle.acgrep.specs.Selected.{HoldNoEnding}
@@ -10,8 +10,8 @@ use Rattle.acgrep.proofs.stream.search_behind.Given as goal
 
 abbrev pub invariant-loop : goal.invariant-loop
 invariant-loop g l = record {
-  searched : (p : Patterns) → IsBuiltFrom l.fn.searcher p → HoldNoEnding l.fn.job.style.ending p
-      → SearchesFront p l.fn.job l.fn.alone (course l.fn.state l.state (g.W.Sink.taken l.fn.output) (g.W.Sink.taken l.output)
+  searched : (p : Patterns) → IsSought l.fn.search p → HoldNoEnding l.fn.search.job.style.ending p
+      → SearchesFront p l.fn.search.job l.fn.alone (course l.fn.state l.state (g.W.Sink.taken l.fn.output) (g.W.Sink.taken l.output)
       (g.R.Read.remaining l.fn.input) (g.R.Read.remaining l.input)) (take l.fn.buffer.held l.fn.buffer.room.items) (take l.buffer.held l.buffer.room.items)
       × TextIf l.fn.alone (take l.buffer.held l.buffer.room.items);
   reads : ReadsOn (g.R.Read.remaining l.fn.input) (g.R.Read.remaining l.input);
