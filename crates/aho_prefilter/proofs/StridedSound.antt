@@ -16,9 +16,8 @@ use Rattle.aho_prefilter.proofs.Tables.{IsTable-long, length-with_grams, length-
 -- a place stands within the table
 place_within : (words hash : ℕ) → 0 < words → hash < 2 ^ 64 → place_in words hash / 64 < words
 place_within words hash some small =
-    let high : hash / 2 ^ 32 < 2 ^ 32 = omega arith in
-    let product : hash / 2 ^ 32 * (64 * words) < 2 ^ 32 * (64 * words) = mul-lt-mul_of_pos_right high (omega arith) in
-    let place : place_in words hash < 64 * words = div_below (hash / 2 ^ 32 * (64 * words)) (2 ^ 32) (64 * words) (omega arith) (omega arith) in
+    let product : hash * (64 * words) < 2 ^ 64 * (64 * words) = mul-lt-mul_of_pos_right small (omega arith) in
+    let place : place_in words hash < 64 * words = div_below (hash * (64 * words)) (2 ^ 64) (64 * words) (omega arith) (omega arith) in
     div_below (place_in words hash) 64 words (omega arith) (omega arith)
 
 pub HasMark-keeps : (old new : List ℕ) (hash : ℕ) → Keeps old new → HasMark old hash → HasMark new hash
@@ -66,9 +65,8 @@ word_within : (lines : Bool) (words line hash : ℕ) → 8 ≤ words → line < 
 word_within false words line hash some low high = place_within words hash (omega arith) high
 word_within true words line hash some low high =
     let rows = words / 8 in
-    let upper : line / 2 ^ 32 < 2 ^ 32 = omega arith in
-    let product : line / 2 ^ 32 * rows < 2 ^ 32 * rows = mul-lt-mul_of_pos_right upper (omega arith) in
-    let row : line / 2 ^ 32 * rows / 2 ^ 32 < rows = div_below (line / 2 ^ 32 * rows) (2 ^ 32) rows (omega arith) (omega arith) in
+    let product : line * rows < 2 ^ 64 * rows = mul-lt-mul_of_pos_right low (omega arith) in
+    let row : line * rows / 2 ^ 64 < rows = div_below (line * rows) (2 ^ 64) rows (omega arith) (omega arith) in
     let one : hash / 2 ^ 61 < 8 = omega arith in
     omega arith
 

@@ -55,7 +55,7 @@ head_hash sizes bytes at = hash_of_head sizes.ignore_case sizes.head bytes at
 
 -- the place of a hash's bit among those of so many words
 abbrev pub place_in : ℕ → ℕ → ℕ
-place_in words hash = hash / 2 ^ 32 * (64 * words) / 2 ^ 32
+place_in words hash = hash * (64 * words) / 2 ^ 64
 
 -- the bit of a hash is set
 abbrev pub HasMark : List ℕ → ℕ → Type 0
@@ -76,7 +76,7 @@ line_hash sizes bytes at = hash_at sizes.ignore_case 0xA076_1D64_78BD_642F 3 byt
 -- of them and two bits of it
 abbrev pub place_in_line : ℕ → ℕ → ℕ → Place
 place_in_line words line hash = record {
-  word = line / 2 ^ 32 * (words / 8) / 2 ^ 32 * 8 + hash / 2 ^ 61;
+  word = line * (words / 8) / 2 ^ 64 * 8 + hash / 2 ^ 61;
   first = hash / 2 ^ 55 % 64;
   second = hash / 2 ^ 49 % 64;
 }

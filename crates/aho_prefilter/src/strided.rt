@@ -104,6 +104,15 @@ fn factor_for(number: u64, count: usize) -> u64
     number << (64 - 8 * count as u32)
 }
 
+/// Which of so many numbers a hash tells: the high half of the product.
+#[inline(always)]
+fn high_half(hash: u64, count: usize) -> usize
+    requires few { count ≤ 2 ^ 24 }
+    ensures half { result ≡ hash * count / 2 ^ 64 }
+{
+    (hash as u128 * count as u128 >> 64) as usize
+}
+
 /// The place of a hash's bit in a table of so many words.
 #[inline(always)]
 fn place_in(words: usize, hash: u64) -> usize
@@ -112,7 +121,7 @@ fn place_in(words: usize, hash: u64) -> usize
     ensures place { result ≡ place_in words hash }
     ensures within { result < 64 * words }
 {
-    ((hash >> 32) * (64 * words as u64) >> 32) as usize
+    high_half(hash, 64 * words)
 }
 
 /// The hash of a head of so many bytes at a place.
@@ -289,7 +298,11 @@ impl Strided {
         let grams = self.grams.as_slice();
         for turn in from..turns {
             let last = turn * sizes.stride + (sizes.stride - 1);
-            if has_bits(grams, sizes.gram_place(lines, grams.len(), bytes, last)) {
+            if has_bits(
+                lines,
+                grams,
+                sizes.gram_place(lines, grams.len(), bytes, last),
+            ) {
                 return Some(turn);
             }
         }

@@ -18,13 +18,15 @@ ghost use Rattle.chromesquid.specs.declared.kinds.AhoCorasickKind.TheVariants.{H
 use crate::kinds::AhoCorasickKind;
 use crate::prefilters::prefilter_of;
 use aho_automaton::automaton::{Automaton, Counted, find_in};
+use aho_automaton::patience::Patience;
+use aho_automaton::patient::find_in_by;
 use aho_build::settings::Settings;
 use aho_corasick::noncontiguous::NFA;
 use aho_core::error::{BuildError, MatchError};
 use aho_core::search::{Anchored, Input, Match, MatchKind, PatternID, Span, StateID, Work};
 use aho_hybrid::hybrid::{DEFAULT_BUDGET, Hybrid};
 use aho_prefilter::prefilter::Prefilter;
-use aho_prefilter::text::Text;
+use aho_prefilter::text::{Bytes, Text};
 use std::alloc::{AllocError, Global};
 
 /// An automaton of one of the kinds.
@@ -126,12 +128,17 @@ impl Engine {
         }
     }
 
-    /// What the search of the automaton that is held finds. The kind is asked for once, and not at each byte.
+    /// What the search of the automaton that is held finds, with what earlier searches have left of the patience with the
+    /// prefilter. The kind is asked for once, and not at each byte.
     ///
     /// # Errors
     ///
     /// As those of `Automaton::try_find`.
-    pub(crate) fn find(&self, input: &Input) -> Result<Option<Match>, MatchError>
+    pub(crate) fn find(
+        &self,
+        input: &Input,
+        patience: &mut Patience,
+    ) -> Result<Option<Match>, MatchError>
         requires of { (p : Patterns) × ⟦<Engine as Automaton>⟧.is_of self.now p }
         ensures found { (p : Patterns) → ⟦<Engine as Automaton>⟧.is_of self.now p
             → IfOk result (IsAnswer p input.now) }
@@ -142,8 +149,8 @@ impl Engine {
         ensures done { input.now.end < input.now.start → result ≡ Ok None }
     {
         match self {
-            Engine::Noncontiguous(nfa) => found_by(nfa, input),
-            Engine::Rows(hybrid) => found_by(hybrid, input),
+            Engine::Noncontiguous(nfa) => found_by(nfa, input, patience),
+            Engine::Rows(hybrid) => found_by(hybrid, input, patience),
         }
     }
 
@@ -193,14 +200,31 @@ impl Engine {
 }
 
 /// What an automaton's search finds.
-fn found_by<A: Automaton>(automaton: &A, input: &Input) -> Result<Option<Match>, MatchError>
+fn found_by<A: Automaton>(
+    automaton: &A,
+    input: &Input,
+    patience: &mut Patience,
+) -> Result<Option<Match>, MatchError>
     requires of { (p : Patterns) × A.is_of automaton.now p }
     ensures found { (p : Patterns) → A.is_of automaton.now p → IfOk result (IsAnswer p input.now) }
     ensures ok { (sid : ℕ) → A.start automaton.now input.now.anchored ≡ Ok sid → IsOk result }
     ensures refused { RefusesAs (A.start automaton.now input.now.anchored) input.now result }
     ensures done { input.now.end < input.now.start → result ≡ Ok None }
 {
-    automaton.try_find(input)
+    let mut walk = Counted::new(automaton);
+    let mut text = Bytes::new(input.haystack());
+    let span = Span {
+        start: input.start(),
+        end: input.end(),
+    };
+    find_in_by(
+        &mut walk,
+        &mut text,
+        span,
+        input.get_anchored(),
+        input.get_earliest(),
+        patience,
+    )
 }
 
 /// The match that ends first in a span of a text, by an automaton.

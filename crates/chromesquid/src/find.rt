@@ -18,6 +18,7 @@ use crate::kinds::{is_allowed, why_refused};
 pub use crate::overlapping::FindOverlappingIter;
 use crate::searcher::AhoCorasick;
 use aho_automaton::automaton::Automaton;
+use aho_automaton::patience::Patience;
 use aho_core::error::MatchError;
 use aho_core::search::{Anchored, Input, Match, Span};
 use aho_prefilter::text::{Bytes, Text};
@@ -26,19 +27,24 @@ impl AhoCorasick {
     ghost use Rattle.chromesquid.specs.Found.{RefusesUnlessDone, most_listed};
     ghost use Rattle.chromesquid.specs.Searcher.{Answers, ForItsPatterns, RefusesSearch, TellsIfFound, match_kind_of, why_refused};
 
-    /// What the search finds, by the automaton that is held; it is asked once which one that is.
+    /// What the search finds, by the automaton that is held; it is asked once which one that is. The patience is that with the
+    /// prefilter: no answer depends on it.
     ///
     /// # Errors
     ///
     /// As those of `try_find`.
-    pub(crate) fn search(&self, input: &Input) -> Result<Option<Match>, MatchError>
+    pub(crate) fn search(
+        &self,
+        input: &Input,
+        patience: &mut Patience,
+    ) -> Result<Option<Match>, MatchError>
         ensures found { ForItsPatterns self.now (λ p. IfOk result (IsAnswer p input.now)) }
         ensures ok { Answers self.now input.now.anchored → IsOk result }
         ensures refused { RefusesUnlessDone self.now input.now result }
         ensures done { input.now.end < input.now.start → result ≡ Ok None }
     {
         if is_allowed(self.start_kind(), input.get_anchored()) {
-            self.built().automaton().find(input)
+            self.built().automaton().find(input, patience)
         } else {
             Automaton::try_find(self.built(), input)
         }
@@ -51,7 +57,7 @@ impl AhoCorasick {
         requires starts { Answers self.now (I.search input).anchored }
         ensures found { ForItsPatterns self.now (λ p. IsAnswer p (I.search input) result) }
     {
-        match self.search(&input.into_input()) {
+        match self.search(&input.into_input(), &mut Patience::new()) {
             Ok(found) => found,
             Err(_) => unreachable!(),
         }
@@ -68,7 +74,7 @@ impl AhoCorasick {
         ensures refused { RefusesUnlessDone self.now (I.search input) result }
         ensures done { (I.search input).end < (I.search input).start → result ≡ Ok None }
     {
-        self.search(&input.into_input())
+        self.search(&input.into_input(), &mut Patience::new())
     }
 
     /// The match that ends first in a span of a text, none where nothing occurs in it. It reads each byte at most once, and

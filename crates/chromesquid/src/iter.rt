@@ -9,6 +9,7 @@ ghost use Rattle.aho_automaton.specs.Fused.{IsFused};
 ghost use Rattle.chromesquid.specs.Searcher.{Answers, ForItsPatterns, IsBuiltFrom, IsBuiltFromSome};
 
 use crate::searcher::AhoCorasick;
+use aho_automaton::patience::Patience;
 use aho_core::search::{Input, Match};
 use std::iter::FusedIterator;
 
@@ -21,6 +22,8 @@ pub struct FindIter<'a, 'h> {
     searcher: &'a AhoCorasick,
     input: Input<'h>,
     last_match_end: Option<usize>,
+    /// What the searches so far have left of the patience with the prefilter.
+    patience: Patience,
 }
 
 impl<'a, 'h> FindIter<'a, 'h> {
@@ -41,16 +44,18 @@ impl<'a, 'h> FindIter<'a, 'h> {
             searcher,
             input,
             last_match_end: None,
+            patience: Patience::new(),
         }
     }
 
     /// What the search of what is left finds.
-    fn search(&self) -> Option<Match>
-        requires starts { Answers self.now.searcher.now self.now.input.anchored }
-        ensures found { ForItsPatterns self.now.searcher.now (λ p.
-            IsAnswer p self.now.input result) }
+    fn search(&mut self) -> Option<Match>
+        requires starts { Answers self.old.searcher.now self.old.input.anchored }
+        ensures found { ForItsPatterns self.old.searcher.now (λ p.
+            IsAnswer p self.old.input result) }
+        ensures moved { self.new ≡ record self.old { patience = self.new.patience } }
     {
-        match self.searcher.search(&self.input) {
+        match self.searcher.search(&self.input, &mut self.patience) {
             Ok(found) => found,
             Err(_) => unreachable!(),
         }
@@ -64,6 +69,7 @@ impl<'a, 'h> FindIter<'a, 'h> {
             IsAnswer p (from_next_place self.old.input) result) }
         ensures moved { self.new ≡ record self.old {
           input = from_next_place self.old.input;
+          patience = self.new.patience;
         } }
     {
         let _end = self.input.end();
@@ -82,6 +88,7 @@ impl<'a, 'h> FindIter<'a, 'h> {
         ensures done { self.old.input.end < self.old.input.start → result ≡ None }
         ensures moved { self.new ≡ record self.old {
           input = record self.old.input { start = self.new.input.start };
+          patience = self.new.patience;
         } }
     {
         let found = self.search();
@@ -107,6 +114,7 @@ impl<'a, 'h> FindIter<'a, 'h> {
             < places_left self.old.input self.old.last_match_end) }
         ensures moved { self.new ≡ record self.old {
           input = record self.old.input { start = self.new.input.start };
+          patience = self.new.patience;
         } }
     {
         self.answer()

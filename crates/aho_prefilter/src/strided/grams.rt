@@ -3,11 +3,11 @@
 //! A gram has one bit, which its hash tells. Of many patterns it has two bits of one word, and the word is one of eight in a row,
 //! which its first three bytes tell. A text has few different runs of three bytes, so the rows that it asks for stay at hand.
 
-ghost use Rattle.std.specs.Prelude.{◌≡◌, ◌↔◌, ◌+◌, ◌<◌, ◌≤◌, ◌^◌, length, IsTrue};
+ghost use Rattle.std.specs.Prelude.{◌≡◌, ◌↔◌, ◌+◌, ◌<◌, ◌≤◌, ◌^◌, false, length, IsTrue};
 ghost use Rattle.aho_prefilter.specs.Strided.{AreStrideSizes, HasBits, IsTable, gram_place, place_by, with_bits, with_grams};
 
 use crate::strided::sizes::Sizes;
-use crate::strided::{GRAM, HIGH, bits_kept, factor_for, place_in, word_at};
+use crate::strided::{GRAM, HIGH, bits_kept, factor_for, high_half, place_in, word_at};
 
 /// How many bytes of a gram tell its line.
 const LINE_BYTES: usize = 3;
@@ -34,9 +34,8 @@ fn place_by(lines: bool, words: usize, line: u64, hash: u64) -> Place
     ensures second { result.second < 64 }
 {
     if lines {
-        let row = ((line >> 32) * (words / 8) as u64 >> 32) as usize;
         Place {
-            word: row * 8 + (hash >> 61) as usize,
+            word: high_half(line, words / 8) * 8 + (hash >> 61) as usize,
             first: (hash >> 55) as u32 % 64,
             second: (hash >> 49) as u32 % 64,
         }
@@ -51,16 +50,17 @@ fn place_by(lines: bool, words: usize, line: u64, hash: u64) -> Place
     }
 }
 
-/// Whether both bits are set.
+/// Whether both bits are set. Without lines they are the same one.
 #[inline(always)]
-pub(super) fn has_bits(table: &[u64], place: Place) -> bool
+pub(super) fn has_bits(lines: bool, table: &[u64], place: Place) -> bool
+    requires alike { lines ≡ false → place.second ≡ place.first }
     requires within { place.word < length table.now }
     requires first { place.first < 64 }
     requires second { place.second < 64 }
     ensures set { IsTrue result ↔ HasBits table.now place }
 {
     let word = table[place.word];
-    word >> place.first & 1 == 1 && word >> place.second & 1 == 1
+    word >> place.first & 1 == 1 && (!lines || word >> place.second & 1 == 1)
 }
 
 /// Sets both bits.
