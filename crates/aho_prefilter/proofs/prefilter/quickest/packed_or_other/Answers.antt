@@ -8,7 +8,6 @@ use Rattle.aho_prefilter.specs.Taken.{HasTakenPacked}
 use Rattle.aho_prefilter.proofs.Held.{whole-is}
 use Rattle.aho_prefilter.proofs.HeldPacked.{held_or_packed-kind}
 use Rattle.aho_prefilter.proofs.prefilter.quickest.packed_or_other.Goals as goal
-use Rattle.aho_prefilter.proofs.prefilter.quickest.packed_or_other.Goals.{After-build}
 
 pub loop-pattern-init : goal.loop-pattern-init
 loop-pattern-init c = c.new-builder.ensures.empty (patterns_from Standard c.args.ignore_case []) refl refl
