@@ -20,6 +20,8 @@ use Rattle.aho_corasick.specs.declared.noncontiguous.NFA.{NFA}
 use Rattle.aho_corasick.specs.contracts.noncontiguous.NFAAutomaton.TheImpl.{ghosts as of_nfa}
 use Rattle.aho_hybrid.specs.contracts.hybrid.HybridAutomaton.TheImpl.{ghosts as of_rows}
 use Rattle.aho_hybrid.specs.declared.hybrid.Hybrid.{Hybrid as HybridOf}
+use Rattle.aho_levels.specs.contracts.levels.LevelsAutomaton.TheImpl.{ghosts as of_levels}
+use Rattle.aho_levels.specs.declared.levels.Levels.{Levels as LevelsOf}
 use Rattle.aho_backward.specs.declared.backward.Backward.{Backward}
 use Rattle.chromesquid.specs.Backward.{IsHeldFor}
 use Rattle.chromesquid.specs.Engine.{kind_in, laws_by}
@@ -27,7 +29,7 @@ use Rattle.chromesquid.specs.Searcher.{Answers, IsBuiltFrom, IsBuiltFromSome, Re
 use Rattle.chromesquid.specs.contracts.automaton.AhoCorasickAutomaton.TheImpl.{ghosts as of_searcher}
 use Rattle.chromesquid.specs.contracts.engine.EngineAutomaton.TheImpl.{ghosts}
 use Rattle.chromesquid.specs.declared.engine.Engine.{Engine}
-use Rattle.chromesquid.specs.declared.engine.Engine.TheVariants.{Noncontiguous, Rows}
+use Rattle.chromesquid.specs.declared.engine.Engine.TheVariants.{Levels, Noncontiguous, Rows}
 use Rattle.chromesquid.specs.declared.kinds.AhoCorasickKind.{AhoCorasickKind}
 use Rattle.chromesquid.specs.declared.kinds.AhoCorasickKind.TheVariants.{NoncontiguousNFA, Hybrid}
 use Rattle.chromesquid.specs.declared.kinds.StartKind.{StartKind}
@@ -59,6 +61,7 @@ suits : (start_kind : StartKind) (asked : Option AhoCorasickKind) (engine : Engi
     → allows start_kind anchored ≡ true → IsOk (ghosts.start engine anchored)
 suits start_kind asked (Noncontiguous nfa) anchored kind allowed = refl
 suits start_kind asked (Rows hybrid) No kind allowed = refl
+suits start_kind asked (Levels levels) anchored kind allowed = refl
 suits Both asked (Rows hybrid) Yes kind allowed = absurd (rows_are_no_trie (kind refl))
 suits Unanchored asked (Rows hybrid) Yes kind allowed = absurd (both_ways false refl allowed)
 suits AnchoredOnly asked (Rows hybrid) Yes kind allowed = absurd (rows_are_no_trie (kind refl))
@@ -100,6 +103,29 @@ copy_of_trie nfa copy clone =
 
 pub copy_of_rows : (hybrid copy : HybridOf) → IsCloneOf of_rows copy hybrid → IsCloneOf ghosts (Rows copy) (Rows hybrid)
 copy_of_rows hybrid copy clone =
+    record {
+      same_patterns = clone.same_patterns;
+      same_held = clone.same_held;
+      same_valid = clone.same_valid;
+      same_kind = clone.same_kind;
+      same_lengths = clone.same_lengths;
+      same_list = clone.same_list;
+      same_dead = clone.same_dead;
+      same_special = clone.same_special;
+      same_marked = clone.same_marked;
+      same_starts = clone.same_starts;
+      same_depth = clone.same_depth;
+      same_reach = clone.same_reach;
+      same_next = clone.same_next;
+      same_lookups = clone.same_lookups;
+      same_start = clone.same_start;
+      same_memory = clone.same_memory;
+      same_prefilter = clone.same_prefilter;
+      same_skips_streams = refl;
+    }
+
+pub copy_of_levels : (levels copy : LevelsOf) → IsCloneOf of_levels copy levels → IsCloneOf ghosts (Levels copy) (Levels levels)
+copy_of_levels levels copy clone =
     record {
       same_patterns = clone.same_patterns;
       same_held = clone.same_held;

@@ -8,6 +8,8 @@ pub mod Builds
 pub mod ByRows
 -- what a cover of a stream is of, and which searcher covers
 pub mod Covered
+-- where sizes fit, the limits refuse nothing
+pub mod Fitting
 -- whether a walk backward is held, and of which patterns
 pub mod Held
 -- an iterator that holds one of two others

@@ -10,6 +10,8 @@ pub mod CoverIters
 pub mod Covers
 -- the automaton that searches, of one of several kinds
 pub mod Engine
+-- how small patterns have to be so that the limits refuse nothing
+pub mod Fitting
 -- what a search answers that may be refused
 pub mod Found
 -- what a replacement in memory gives and writes

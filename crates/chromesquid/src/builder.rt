@@ -1,17 +1,18 @@
 //! The settings of a searcher, and its build.
 
-ghost use Rattle.std.specs.Prelude.{◌≡◌, IfErr, IfOk, IsOk, IsOkUnless, None, OnOk, false, true};
+ghost use Rattle.std.specs.Prelude.{◌≡◌, IfErr, IfOk, IfSome, IsOk, IsOkUnless, None, OnOk, false, true};
 ghost use Rattle.std.specs.Iterator.{IsFinite};
 ghost use Rattle.std.specs.Iterator.Runs.{WholeRun};
 ghost use Rattle.aho_core.specs.declared.error.BuildError.TheVariants.{OutOfMemory};
 ghost use Rattle.aho_build.specs.Automaton.{memory_for};
 ghost use Rattle.aho_build.specs.Items.{IsFailure, OfAccepted, patterns_of};
 ghost use Rattle.chromesquid.specs.Building.{Accepts, FailsFor};
-ghost use Rattle.chromesquid.specs.declared.kinds.AhoCorasickKind.TheVariants.{NoncontiguousNFA};
+ghost use Rattle.chromesquid.specs.declared.kinds.AhoCorasickKind.TheVariants.{Hybrid as OfRows, NoncontiguousNFA};
 
 use crate::backward::{Backward, backward_of};
 use crate::engine::Engine;
 use crate::kinds::{AhoCorasickKind, StartKind, is_allowed, kind_for};
+use crate::levels::{FROM_LEVELS, levels_of};
 use crate::searcher::AhoCorasick;
 use aho_automaton::automaton::Automaton;
 use aho_build::settings::{Limits, Settings};
@@ -90,9 +91,9 @@ fn automaton_of(settings: &Settings, alloc: Global, patterns: &[&[u8]]) -> Resul
 }
 
 impl AhoCorasickBuilder {
-    ghost use Rattle.chromesquid.specs.Backward.{IsHeldFor};
+    ghost use Rattle.chromesquid.specs.Backward.{HoldsIfWorth, IsHeldFor};
     ghost use Rattle.chromesquid.specs.Building.{HasCount, HasLengths, HasMatchKind, HasMemory, HasNoBackward, HasSizeOf, HasStartKind, HasTrie, HoldsAsAsked, IsBuiltWithMemory, IsHeldAsAsked, SearchesAsAsked, kind_to_make};
-    ghost use Rattle.chromesquid.specs.Searcher.{IsBuiltFrom, default_building};
+    ghost use Rattle.chromesquid.specs.Searcher.{IsBuiltFrom, automaton_kind_of, default_building};
 
     /// Standard, with regard to case, for searches that are not anchored, with a prefilter where one can be held, dense rows
     /// up to depth 3, and the greatest limits. No kind of automaton is asked for, nor a walk backward, and refused memory is a failure.
@@ -130,8 +131,35 @@ impl AhoCorasickBuilder {
         ensures accepted { OnOk result (Accepts self.now.settings patterns.now) }
         ensures refused { IfErr result (FailsFor self.now.settings patterns.now) }
     {
+        if let Some(built) = self.build_by_levels(alloc, patterns) {
+            return Ok(built);
+        }
         let nfa = automaton_of(&self.settings, alloc, patterns)?;
         self.build_from_noncontiguous(alloc, nfa, patterns)
+    }
+
+    /// The searcher of many patterns by rows that are made of these alone, where rows are to be made, and so they can be.
+    fn build_by_levels(&self, alloc: Global, patterns: &[&[u8]]) -> Option<AhoCorasick>
+        ensures of { IfSome result (λ built.
+            IsBuiltFrom built (patterns_of self.now.settings patterns.now)) }
+        ensures start_kind { IfSome result (HasStartKind self.now.start_kind) }
+        ensures asked { IfSome result (λ _. kind_to_make self.now ≡ OfRows) }
+        ensures rows { IfSome result (λ built. automaton_kind_of built ≡ OfRows) }
+        ensures unasked { IfSome result HasNoBackward }
+        ensures worth { self.now.finds_all ≡ true → IfSome result (λ _.
+            HoldsIfWorth (patterns_of self.now.settings patterns.now) None) }
+        ensures accepted { IfSome result (λ _. Accepts self.now.settings patterns.now) }
+    {
+        if patterns.len() < FROM_LEVELS {
+            return None;
+        }
+        match kind_for(self.start_kind, self.kind) {
+            AhoCorasickKind::NoncontiguousNFA => None,
+            AhoCorasickKind::Hybrid => {
+                let engine = levels_of(alloc, &self.settings, patterns, self.finds_all)?;
+                Some(AhoCorasick::of_automaton(engine, self.start_kind, None))
+            }
+        }
     }
 
     /// The searcher of these patterns by an `NFA` of them that was built before: what is made beside it, is made of it. The builder

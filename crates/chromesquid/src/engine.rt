@@ -24,10 +24,14 @@ use aho_build::settings::Settings;
 use aho_corasick::noncontiguous::NFA;
 use aho_core::error::{BuildError, MatchError};
 use aho_core::search::{Anchored, Input, Match, MatchKind, PatternID, Span, StateID, Work};
-use aho_hybrid::hybrid::{DEFAULT_BUDGET, Hybrid};
+use aho_hybrid::hybrid::Hybrid;
+use aho_levels::levels::Levels;
 use aho_prefilter::prefilter::Prefilter;
 use aho_prefilter::text::{Bytes, Text};
 use std::alloc::{AllocError, Global};
+
+/// How many bytes the rows take at most that are made of an `NFA`. It is measured: with twice that a thousand words are not searched faster.
+pub(crate) const ROWS_BUDGET: usize = 640 * 1024;
 
 /// An automaton of one of the kinds.
 #[derive(Drop)]
@@ -36,6 +40,8 @@ pub enum Engine {
     Noncontiguous(NFA),
     /// The automaton of rows.
     Rows(Hybrid),
+    /// That of many patterns, with rows for its first states.
+    Levels(Levels),
 }
 
 impl Engine {
@@ -96,7 +102,7 @@ impl Engine {
         ensures sure { best_effort ≡ true → IsOk result }
         ensures refused { IsOkUnless result OutOfMemory }
     {
-        match Hybrid::with_prefilter(alloc, &nfa, DEFAULT_BUDGET, prefilter) {
+        match Hybrid::with_prefilter(alloc, &nfa, ROWS_BUDGET, prefilter) {
             Ok(hybrid) => Ok(Engine::Rows(hybrid)),
             Err(BuildError::StateIDOverflow { .. }) => Ok(Engine::Noncontiguous(nfa)),
             Err(error) => {
@@ -114,7 +120,7 @@ impl Engine {
     {
         match self {
             Engine::Noncontiguous(_) => AhoCorasickKind::NoncontiguousNFA,
-            Engine::Rows(_) => AhoCorasickKind::Hybrid,
+            Engine::Rows(_) | Engine::Levels(_) => AhoCorasickKind::Hybrid,
         }
     }
 
@@ -123,7 +129,7 @@ impl Engine {
         ensures held { IfSome result (λ hybrid. self.now ≡ Rows hybrid.now) }
     {
         match self {
-            Engine::Noncontiguous(_) => None,
+            Engine::Noncontiguous(_) | Engine::Levels(_) => None,
             Engine::Rows(hybrid) => Some(hybrid),
         }
     }
@@ -151,6 +157,7 @@ impl Engine {
         match self {
             Engine::Noncontiguous(nfa) => found_by(nfa, input, patience),
             Engine::Rows(hybrid) => found_by(hybrid, input, patience),
+            Engine::Levels(levels) => found_by(levels, input, patience),
         }
     }
 
@@ -180,6 +187,7 @@ impl Engine {
         match self {
             Engine::Noncontiguous(nfa) => earliest_by(nfa, text, span, anchored),
             Engine::Rows(hybrid) => earliest_by(hybrid, text, span, anchored),
+            Engine::Levels(levels) => earliest_by(levels, text, span, anchored),
         }
     }
 
@@ -195,11 +203,13 @@ impl Engine {
         match self {
             Engine::Noncontiguous(nfa) => Ok(Engine::Noncontiguous(nfa.try_clone()?)),
             Engine::Rows(hybrid) => Ok(Engine::Rows(hybrid.try_clone()?)),
+            Engine::Levels(levels) => Ok(Engine::Levels(levels.try_clone()?)),
         }
     }
 }
 
-/// What an automaton's search finds.
+/// What an automaton's search finds. It stays a function of its own: then its loop holds the state in a register.
+#[inline(never)]
 fn found_by<A: Automaton>(
     automaton: &A,
     input: &Input,
@@ -292,6 +302,7 @@ impl Automaton for Engine {
         match self {
             Engine::Noncontiguous(nfa) => nfa.start_state(anchored),
             Engine::Rows(hybrid) => hybrid.start_state(anchored),
+            Engine::Levels(levels) => levels.start_state(anchored),
         }
     }
 
@@ -299,6 +310,7 @@ impl Automaton for Engine {
         match self {
             Engine::Noncontiguous(nfa) => nfa.next_state(anchored, sid, byte),
             Engine::Rows(hybrid) => hybrid.next_state(anchored, sid, byte),
+            Engine::Levels(levels) => levels.next_state(anchored, sid, byte),
         }
     }
 
@@ -307,6 +319,7 @@ impl Automaton for Engine {
         match self {
             Engine::Noncontiguous(nfa) => nfa.step(anchored, sid, byte, work),
             Engine::Rows(hybrid) => hybrid.step(anchored, sid, byte, work),
+            Engine::Levels(levels) => levels.step(anchored, sid, byte, work),
         }
     }
 
@@ -315,6 +328,7 @@ impl Automaton for Engine {
         match self {
             Engine::Noncontiguous(nfa) => nfa.is_special(sid),
             Engine::Rows(hybrid) => hybrid.is_special(sid),
+            Engine::Levels(levels) => levels.is_special(sid),
         }
     }
 
@@ -323,6 +337,7 @@ impl Automaton for Engine {
         match self {
             Engine::Noncontiguous(nfa) => nfa.is_marked(sid),
             Engine::Rows(hybrid) => hybrid.is_marked(sid),
+            Engine::Levels(levels) => levels.is_marked(sid),
         }
     }
 
@@ -330,6 +345,7 @@ impl Automaton for Engine {
         match self {
             Engine::Noncontiguous(nfa) => nfa.is_dead(sid),
             Engine::Rows(hybrid) => hybrid.is_dead(sid),
+            Engine::Levels(levels) => levels.is_dead(sid),
         }
     }
 
@@ -337,6 +353,7 @@ impl Automaton for Engine {
         match self {
             Engine::Noncontiguous(nfa) => nfa.is_match(sid),
             Engine::Rows(hybrid) => hybrid.is_match(sid),
+            Engine::Levels(levels) => levels.is_match(sid),
         }
     }
 
@@ -344,6 +361,7 @@ impl Automaton for Engine {
         match self {
             Engine::Noncontiguous(nfa) => nfa.is_start(sid),
             Engine::Rows(hybrid) => hybrid.is_start(sid),
+            Engine::Levels(levels) => levels.is_start(sid),
         }
     }
 
@@ -351,6 +369,7 @@ impl Automaton for Engine {
         match self {
             Engine::Noncontiguous(nfa) => nfa.reach_back(sid),
             Engine::Rows(hybrid) => hybrid.reach_back(sid),
+            Engine::Levels(levels) => levels.reach_back(sid),
         }
     }
 
@@ -358,6 +377,7 @@ impl Automaton for Engine {
         match self {
             Engine::Noncontiguous(nfa) => nfa.match_kind(),
             Engine::Rows(hybrid) => hybrid.match_kind(),
+            Engine::Levels(levels) => levels.match_kind(),
         }
     }
 
@@ -365,6 +385,7 @@ impl Automaton for Engine {
         match self {
             Engine::Noncontiguous(nfa) => nfa.prefilter(),
             Engine::Rows(hybrid) => hybrid.prefilter(),
+            Engine::Levels(levels) => levels.prefilter(),
         }
     }
 
@@ -376,6 +397,7 @@ impl Automaton for Engine {
         match self {
             Engine::Noncontiguous(nfa) => nfa.match_len(sid),
             Engine::Rows(hybrid) => hybrid.match_len(sid),
+            Engine::Levels(levels) => levels.match_len(sid),
         }
     }
 
@@ -383,6 +405,7 @@ impl Automaton for Engine {
         match self {
             Engine::Noncontiguous(nfa) => nfa.match_pattern(sid, index),
             Engine::Rows(hybrid) => hybrid.match_pattern(sid, index),
+            Engine::Levels(levels) => levels.match_pattern(sid, index),
         }
     }
 
@@ -390,6 +413,7 @@ impl Automaton for Engine {
         match self {
             Engine::Noncontiguous(nfa) => nfa.patterns_len(),
             Engine::Rows(hybrid) => hybrid.patterns_len(),
+            Engine::Levels(levels) => levels.patterns_len(),
         }
     }
 
@@ -397,6 +421,7 @@ impl Automaton for Engine {
         match self {
             Engine::Noncontiguous(nfa) => nfa.pattern_len(pid),
             Engine::Rows(hybrid) => hybrid.pattern_len(pid),
+            Engine::Levels(levels) => levels.pattern_len(pid),
         }
     }
 
@@ -404,6 +429,7 @@ impl Automaton for Engine {
         match self {
             Engine::Noncontiguous(nfa) => nfa.min_pattern_len(),
             Engine::Rows(hybrid) => hybrid.min_pattern_len(),
+            Engine::Levels(levels) => levels.min_pattern_len(),
         }
     }
 
@@ -411,6 +437,7 @@ impl Automaton for Engine {
         match self {
             Engine::Noncontiguous(nfa) => nfa.max_pattern_len(),
             Engine::Rows(hybrid) => hybrid.max_pattern_len(),
+            Engine::Levels(levels) => levels.max_pattern_len(),
         }
     }
 
@@ -418,6 +445,7 @@ impl Automaton for Engine {
         match self {
             Engine::Noncontiguous(nfa) => nfa.memory_usage(),
             Engine::Rows(hybrid) => hybrid.memory_usage(),
+            Engine::Levels(levels) => levels.memory_usage(),
         }
     }
 

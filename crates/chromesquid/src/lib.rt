@@ -16,6 +16,7 @@ pub mod impls;
 pub mod input;
 pub mod iter;
 pub mod kinds;
+mod levels;
 mod overlapping;
 mod prefilters;
 mod push;
