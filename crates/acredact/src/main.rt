@@ -1,4 +1,4 @@
-//! `acredact [-i] [--kind KIND] (-e PATTERN | -f FILE | -t TABLE | --env NAME | --env-file FILE | --whole FILE).. [--with TEXT | --pseudonym KEYFILE] [--output FILE | --in-place] [--count] [--summary] [--check] [FILE]..` writes each FILE with a
+//! `acredact [-i] [--kind KIND] (-e PATTERN | -f FILE | -t TABLE | --env NAME | --env-file FILE | --whole FILE | --rules FILE | --after KEYWORD).. [--max-line SIZE] [--with TEXT | --pseudonym KEYFILE] [--output FILE | --in-place] [--count] [--summary] [--check] [FILE]..` writes each FILE with a
 //! text in the place of each match of some patterns: `[redacted]`, TEXT, the pattern's own of a TABLE, or a pseudonym by the key of
 //! KEYFILE. No FILE, or `-`, is standard
 //! input.
@@ -11,6 +11,7 @@
 mod apart;
 mod arguments;
 mod back;
+mod bad_rule;
 mod beside;
 mod check;
 mod clean;
@@ -26,6 +27,8 @@ mod help;
 mod in_place;
 mod into;
 mod left;
+mod line_rules;
+mod line_size;
 mod load;
 mod long;
 mod look;
@@ -36,6 +39,9 @@ mod parts;
 mod patterns;
 mod redact;
 mod rows;
+mod ruled;
+mod ruled_failure;
+mod ruled_files;
 mod run;
 mod seen;
 mod short;

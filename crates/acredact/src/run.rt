@@ -28,7 +28,7 @@ ghost use Rattle.acredact.specs.declared.failure.Failure.TheVariants.{Unclean as
 ghost use Rattle.acredact.specs.declared.arguments.Word.TheVariants.{Forms, IgnoreCase, Strict};
 
 use crate::arguments::{
-    Item, Mistake, Word, checks, counts, covers, has, is_same, items, last_value,
+    Item, Mistake, Word, asks_rules, checks, counts, covers, has, is_same, items, last_value,
 };
 use crate::back::back_of;
 use crate::check::check;
@@ -43,6 +43,7 @@ use crate::load::{key_of, lists_of, rules};
 use crate::named::named_rules;
 use crate::patterns::{Rule, patterns_of, replacements_of};
 use crate::rows::build;
+use crate::ruled::redact_by_rules;
 use crate::streams::Streams;
 use crate::summary::{Volume, put_summary};
 use crate::sums::sums_of;
@@ -165,6 +166,9 @@ fn answer<F: Folder, I: Read, W: Write, E: Sink>(
         → streams.new.output.device.flushed ≡ true }
     ensures bound { checks_asked (all_given given.now) ≡ false → (result ≡ 0) ⊎ (result ≡ 2) }
 {
+    if asks_rules(given) {
+        return redact_by_rules(alloc, given, folder, streams);
+    }
     if checks(given) {
         return check(
             alloc,
