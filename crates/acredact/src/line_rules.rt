@@ -1,8 +1,10 @@
 //! The rules that are given, by which lines are redacted.
 
-ghost use Rattle.std.specs.Prelude.{◌≡◌, ◌++◌, ◌∷◌, IfErr, IfOk, OnOk};
+ghost use Rattle.std.specs.Prelude.{◌≡◌, ◌++◌, ◌∷◌, [], IfOk, OnOk};
+ghost use Rattle.secret_rules.specs.Rules.{AreSound};
+ghost use Rattle.secret_rules.specs.Tables.{TellsRules};
 ghost use Rattle.acredact.specs.Arguments.{all_given, given_of};
-ghost use Rattle.acredact.specs.Loading.{reading_of_lists};
+ghost use Rattle.acredact.specs.LineRules.{AddsNamed, AddsOption, AddsThese, GivesBehind, ReadsLineRules};
 
 use crate::arguments::{Item, Word};
 use crate::bad_rule::{BadRule, RuleFlaw};
@@ -35,6 +37,9 @@ pub fn line_rules_of<'a, F: Folder, I: Read>(
     items: &[Item<'a>],
     input: &mut FromRead<I>,
 ) -> Result<Rules, RuledFailure<'a>>
+    ensures given { IfOk result (λ rules. ReadsLineRules F.Folder lists.now (all_given items.now)
+        rules input.old input.new) }
+    ensures sound { IfOk result AreSound }
 {
     match read_rules(lists, items, input) {
         Ok(rules) => sound(lists.alloc, rules),
@@ -48,6 +53,8 @@ fn read_rules<'a, F: Folder, I: Read>(
     items: &[Item<'a>],
     input: &mut FromRead<I>,
 ) -> Result<Vec<LineRule>, RuledFailure<'a>>
+    ensures read { IfOk result (λ rules. ReadsLineRules F.Folder lists.now (all_given items.now)
+        rules.items input.old input.new) }
 {
     let mut rules = Vec::new(lists.alloc);
     let mut rest = items;
@@ -69,6 +76,8 @@ fn add_rules<'a, F: Folder, I: Read>(
     item: Item<'a>,
     input: &mut FromRead<I>,
 ) -> Result<(), RuledFailure<'a>>
+    ensures added { OnOk result (AddsOption F.Folder lists.now (given_of item.entry)
+        rules.old rules.new input.old input.new) }
 {
     match item.word {
         Word::After => add_after(lists.alloc, rules, item.value),
@@ -83,6 +92,7 @@ fn add_after<'a>(
     rules: &mut Vec<LineRule>,
     keyword: &str,
 ) -> Result<(), RuledFailure<'a>>
+    ensures added { OnOk result (AddsThese (GivesBehind keyword.now) rules.old rules.new) }
 {
     let rule = LineRule::after(alloc, keyword)?;
     add_rule(alloc, rules, AFTER, 1, rule)
@@ -95,6 +105,8 @@ fn add_named<'a, F: Folder, I: Read>(
     name: &'a str,
     input: &mut FromRead<I>,
 ) -> Result<(), RuledFailure<'a>>
+    ensures added { OnOk result (AddsNamed F.Folder lists.now name.now
+        rules.old rules.new input.old input.new) }
 {
     if name == BUILTIN_NAME {
         return add_parsed(lists, rules, name, BUILTIN);
@@ -112,6 +124,7 @@ fn add_text<'a, F>(
     name: &'a str,
     text: &[u8],
 ) -> Result<(), RuledFailure<'a>>
+    ensures added { OnOk result (AddsThese (TellsRules text.now) rules.old rules.new) }
 {
     if let Some(fault) = mark_of(text) {
         let bad = BadLine { number: 1, fault };
@@ -146,6 +159,7 @@ fn add_parsed<'a, F>(
     name: &'a str,
     text: &str,
 ) -> Result<(), RuledFailure<'a>>
+    ensures added { OnOk result (AddsThese (TellsRules text.now) rules.old rules.new) }
 {
     match parse(lists.alloc, text) {
         Ok(parsed) => add_some(lists, rules, name, parsed),
@@ -160,6 +174,7 @@ fn add_some<'a, F>(
     name: &'a str,
     parsed: Vec<LineRule>,
 ) -> Result<(), RuledFailure<'a>>
+    ensures added { OnOk result (rules.new.items ≡ rules.old.items ++ parsed.items) }
 {
     if parsed.is_empty() && !lists.allow_empty {
         return Err(RuledFailure::NoRule(name));
@@ -174,6 +189,7 @@ fn add_each<'a>(
     name: &'a str,
     parsed: Vec<LineRule>,
 ) -> Result<(), RuledFailure<'a>>
+    ensures added { OnOk result (rules.new.items ≡ rules.old.items ++ parsed.items) }
 {
     let mut number: usize = 0;
     for rule in parsed {
@@ -194,6 +210,7 @@ fn add_rule<'a>(
     number: usize,
     rule: LineRule,
 ) -> Result<(), RuledFailure<'a>>
+    ensures added { OnOk result (rules.new.items ≡ rules.old.items ++ (rule ∷ [])) }
 {
     match flaw_of(alloc, &rule)? {
         None => Ok(push_rule(rules, rule)?),
@@ -280,6 +297,7 @@ fn has_line_end(keywords: &[String]) -> bool {
 /// These rules, by which lines can be covered. Each expression is compiled when a line first needs it.
 fn sound<'a>(alloc: Global, rules: Vec<LineRule>) -> Result<Rules, RuledFailure<'a>>
     ensures rules { IfOk result (λ made. made ≡ rules.items) }
+    ensures sound { IfOk result AreSound }
 {
     match Rules::new(alloc, rules) {
         Ok(rules) => Ok(rules),

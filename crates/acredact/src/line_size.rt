@@ -2,7 +2,8 @@
 
 ghost use Rattle.std.specs.Prelude.{◌≡◌};
 ghost use Rattle.acredact.specs.Arguments.{all_given};
-ghost use Rattle.acredact.specs.LineSizes.{most_asked, size_in, with_digit};
+ghost use Rattle.acredact.specs.LineRules.{most_asked};
+ghost use Rattle.acredact.specs.LineSizes.{size_in, with_digit};
 
 use crate::arguments::{Item, Word, last_value};
 

@@ -1,5 +1,14 @@
 //! A call with rules: each line is redacted by what rules mark in it, and by the patterns that occur in it.
 
+ghost use Rattle.std.specs.Prelude.{◌≡◌, ◌⊎◌, ◌++◌, ◌∷◌, [], IfOk, IsOk, OnOk, length, map, true};
+ghost use Rattle.aho_core.specs.Replacement.{pieces_of};
+ghost use Rattle.aho_core.specs.declared.search.Anchored.TheVariants.{No};
+ghost use Rattle.programs.specs.Telling.{Tells};
+ghost use Rattle.acredact.specs.Arguments.{all_given};
+ghost use Rattle.acredact.specs.Calls.{text_asked};
+ghost use Rattle.acredact.specs.Ruled.{AskedRuled, IsLongLine, LoadedRuled, SaysOfRules, UnruledOutcome, own_text, patterns_by_case, ruled_load, texts_asked};
+ghost use Rattle.acredact.specs.Tables.{HaveNoEmpty, secrets_of};
+
 use crate::arguments::{Item, Word, has};
 use crate::doubts::warn_of_lists;
 use crate::folder::Folder;
@@ -8,14 +17,16 @@ use crate::line_size::most_of;
 use crate::load::{lists_of, rules};
 use crate::patterns::{Rule, patterns_of, replacements_of, split_at};
 use crate::ruled_failure::{RuledFailure, tell_long, tell_ruled};
-use crate::ruled_files::{Lined, line_cover, cover_files};
+use crate::ruled_files::{Lined, cover_files, line_cover};
 use crate::run::{FAILED, names, text_of};
 use crate::streams::Streams;
+use aho_automaton::automaton::Automaton;
 use aho_corasick::noncontiguous::NFA;
 use aho_core::error::BuildError;
 use aho_core::search::MatchKind;
 use aho_cover::pieces::PatternPieces;
 use aho_devices::device::Sink;
+use programs::errors::Errors;
 use secret_rules::{Rule as LineRule, Rules};
 use std::alloc::{AllocError, Global};
 use std::io::{Read, Write};
@@ -27,7 +38,12 @@ pub fn redact_by_rules<F: Folder, I: Read, W: Write, E: Sink>(
     given: &[Item<'_>],
     folder: &F,
     streams: &mut Streams<'_, I, W, E>,
-) -> u8 {
+) -> u8
+    ensures says { SaysOfRules W.Write E.Sink F.Folder folder.now (all_given given.now)
+        result streams.old streams.new }
+    ensures bound { (result ≡ 0) ⊎ (result ≡ 2) }
+    ensures flushed { result ≡ 0 → streams.new.output.device.flushed ≡ true }
+{
     match load_ruled(alloc, given, folder, streams) {
         Ok(true) => 0,
         Ok(false) => FAILED,
@@ -44,7 +60,11 @@ fn load_ruled<'a, F: Folder, I: Read, W: Write, E: Sink>(
     given: &[Item<'a>],
     folder: &F,
     streams: &mut Streams<'_, I, W, E>,
-) -> Result<bool, RuledFailure<'a>> {
+) -> Result<bool, RuledFailure<'a>>
+    ensures outcome { AskedRuled W.Write E.Sink F.Folder folder.now (all_given given.now)
+        result streams.old streams.new }
+    ensures flushed { OnOk result (streams.new.output.device.flushed ≡ true) }
+{
     let lists = lists_of(alloc, given, folder);
     match rules(&lists, given, &mut streams.input) {
         Ok(secrets) => load_rules(alloc, given, secrets.as_slice(), folder, streams),
@@ -59,7 +79,12 @@ fn load_rules<'a, F: Folder, I: Read, W: Write, E: Sink>(
     secrets: &[Rule],
     folder: &F,
     streams: &mut Streams<'_, I, W, E>,
-) -> Result<bool, RuledFailure<'a>> {
+) -> Result<bool, RuledFailure<'a>>
+    requires some { HaveNoEmpty (secrets_of secrets.now) }
+    ensures outcome { UnruledOutcome W.Write E.Sink F.Folder folder.now (all_given given.now) secrets.now
+        result streams.old streams.new }
+    ensures flushed { OnOk result (streams.new.output.device.flushed ≡ true) }
+{
     let lists = lists_of(alloc, given, folder);
     match line_rules_of(&lists, given, &mut streams.input) {
         Ok(line_rules) => redact_doubted(alloc, given, secrets, &line_rules, folder, streams),
@@ -75,7 +100,12 @@ fn redact_doubted<'a, F: Folder, I: Read, W: Write, E: Sink>(
     line_rules: &Rules,
     folder: &F,
     streams: &mut Streams<'_, I, W, E>,
-) -> Result<bool, RuledFailure<'a>> {
+) -> Result<bool, RuledFailure<'a>>
+    requires some { HaveNoEmpty (secrets_of secrets.now) }
+    ensures outcome { LoadedRuled W.Write E.Sink F.Folder folder.now (all_given given.now) secrets.now line_rules.now
+        result streams.old streams.new }
+    ensures flushed { OnOk result (streams.new.output.device.flushed ≡ true) }
+{
     match warn_of_lists(&mut streams.errors, given, secrets, false) {
         Ok(()) => redact_ruled(alloc, given, secrets, line_rules, folder, streams),
         Err(failure) => Err(RuledFailure::Plain(failure)),
@@ -90,7 +120,12 @@ fn redact_ruled<'a, F: Folder, I: Read, W: Write, E: Sink>(
     line_rules: &Rules,
     folder: &F,
     streams: &mut Streams<'_, I, W, E>,
-) -> Result<bool, RuledFailure<'a>> {
+) -> Result<bool, RuledFailure<'a>>
+    requires some { HaveNoEmpty (secrets_of secrets.now) }
+    ensures outcome { LoadedRuled W.Write E.Sink F.Folder folder.now (all_given given.now) secrets.now line_rules.now
+        result streams.old streams.new }
+    ensures flushed { OnOk result (streams.new.output.device.flushed ≡ true) }
+{
     if let Some(number) = line_end_in(secrets) {
         return Err(RuledFailure::LineEnd(number));
     }
@@ -113,7 +148,7 @@ fn redact_ruled<'a, F: Folder, I: Read, W: Write, E: Sink>(
     );
     match done {
         Ok(all) => {
-            tell_long(&mut streams.errors, most, last_of(counts.as_slice()));
+            tell_last(&mut streams.errors, most, counts.as_slice());
             Ok(all)
         }
         Err(error) => Err(failure_in(alloc, line_rules.as_slice(), error)),
@@ -139,7 +174,11 @@ fn build_lined(
     alloc: Global,
     given: &[Item<'_>],
     patterns: &[&[u8]],
-) -> Result<NFA, BuildError> {
+) -> Result<NFA, BuildError>
+    ensures of { IfOk result (λ nfa. ⟦<NFA as Automaton>⟧.is_of nfa
+        (patterns_by_case (all_given given.now) (pieces_of patterns.now))) }
+    ensures starts { IfOk result (λ nfa. IsOk (⟦<NFA as Automaton>⟧.start nfa No)) }
+{
     NFA::builder()
         .match_kind(MatchKind::Standard)
         .ascii_case_insensitive(has(given, Word::IgnoreCase))
@@ -152,7 +191,10 @@ fn texts_of<'r>(
     given: &[Item<'r>],
     secrets: &'r [Rule],
     line_rules: &'r [LineRule],
-) -> Result<Vec<&'r [u8]>, AllocError> {
+) -> Result<Vec<&'r [u8]>, AllocError>
+    ensures texts { IfOk result (λ texts. pieces_of texts.items
+        ≡ texts_asked (all_given given.now) (ruled_load secrets.entry.now line_rules.entry.now)) }
+{
     let usual = text_of(given);
     let mut texts = replacements_of(alloc, secrets, usual)?;
     push_texts(&mut texts, line_rules, usual)?;
@@ -164,7 +206,10 @@ fn push_texts<'r>(
     texts: &mut Vec<&'r [u8]>,
     line_rules: &'r [LineRule],
     usual: &'r [u8],
-) -> Result<(), AllocError> {
+) -> Result<(), AllocError>
+    ensures pushed { OnOk result (pieces_of texts.new.items ≡ pieces_of texts.old.items
+        ++ (map (own_text usual.entry.now) line_rules.entry.now ++ (usual.entry.now ∷ []))) }
+{
     let mut rest = line_rules;
     while !rest.is_empty() {
         texts.push(own_text(&rest[0], usual))?;
@@ -175,7 +220,9 @@ fn push_texts<'r>(
 }
 
 /// The text of a rule, its own or the usual one.
-fn own_text<'r>(rule: &'r LineRule, usual: &'r [u8]) -> &'r [u8] {
+fn own_text<'r>(rule: &'r LineRule, usual: &'r [u8]) -> &'r [u8]
+    ensures own { result.now ≡ own_text usual.entry.now rule.entry.now }
+{
     match &rule.with {
         Some(own) => own.as_bytes(),
         None => usual,
@@ -191,10 +238,12 @@ fn counts_for(alloc: Global, count: usize) -> Result<Vec<u64>, AllocError> {
     Ok(counts)
 }
 
-/// The last of some counts.
-fn last_of(counts: &[u64]) -> u64 {
+/// Tells how many lines were too long, if some were: the last of these counts.
+fn tell_last<E: Sink>(errors: &mut Errors<'_, E>, most: usize, counts: &[u64])
+    ensures told { Tells E.Sink (IsLongLine most) errors.old errors.new }
+{
     match counts.last() {
-        Some(count) => *count,
-        None => 0,
+        Some(count) if *count > 0 => tell_long(errors, most, *count),
+        _ => {}
     }
 }

@@ -2,6 +2,7 @@
 
 ghost use Rattle.std.specs.Prelude.{◌≡◌, ℕ, List};
 ghost use Rattle.programs.specs.Telling.{TellsBytes};
+ghost use Rattle.acredact.specs.RuleLines.{IsRuledLine, IsTomlLine, line_end_line, too_long_line};
 
 use crate::bad_rule::{BadRule, tell_rule};
 use crate::failure::{Failure, tell_failure};
@@ -58,6 +59,8 @@ impl From<BuildError> for RuledFailure<'_> {
 
 /// Tells as a line why a call with rules ends early.
 pub fn tell_ruled<E: Sink>(errors: &mut Errors<'_, E>, failure: &RuledFailure<'_>)
+    ensures told { (line : List ℕ) × IsRuledLine failure.now line
+        × TellsBytes E.Sink errors.old errors.new line }
 {
     match failure {
         RuledFailure::Plain(other) => tell_failure(errors, other),
@@ -79,6 +82,8 @@ pub fn tell_ruled<E: Sink>(errors: &mut Errors<'_, E>, failure: &RuledFailure<'_
 
 /// Tells as a line why a file is no TOML.
 fn tell_toml<E: Sink>(errors: &mut Errors<'_, E>, name: &str, line: usize, error: &TomlError)
+    ensures told { (text : List ℕ) × IsTomlLine name.now line text
+        × TellsBytes E.Sink errors.old errors.new text }
 {
     let line = Some(line as u64);
     tell_shown(errors, name.as_bytes(), line, error.message().as_bytes());
@@ -86,6 +91,7 @@ fn tell_toml<E: Sink>(errors: &mut Errors<'_, E>, name: &str, line: usize, error
 
 /// Tells as a line which pattern holds a line end.
 fn tell_line_end<E: Sink>(errors: &mut Errors<'_, E>, number: usize)
+    ensures told { TellsBytes E.Sink errors.old errors.new (line_end_line number) }
 {
     let mut room = [0; MAX_DIGITS];
     errors.write(&[
@@ -96,12 +102,10 @@ fn tell_line_end<E: Sink>(errors: &mut Errors<'_, E>, number: usize)
     ]);
 }
 
-/// Tells as a line how many lines have more bytes than this, if some have.
+/// Tells as a line how many lines have more bytes than this.
 pub fn tell_long<E: Sink>(errors: &mut Errors<'_, E>, most: usize, count: u64)
+    ensures told { TellsBytes E.Sink errors.old errors.new (too_long_line most count) }
 {
-    if count == 0 {
-        return;
-    }
     let mut room = [0; MAX_DIGITS];
     let mut most_room = [0; MAX_DIGITS];
     errors.write(&[

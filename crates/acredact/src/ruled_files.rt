@@ -1,12 +1,20 @@
 //! The redaction of files line by line, one after another.
 
+ghost use Rattle.std.specs.Prelude.{◌≡◌, IfErr, IfOk, OnOk, false, true};
+ghost use Rattle.aho_core.specs.Numbers.{greatest_index};
+ghost use Rattle.programs.specs.Names.{name_bytes};
+ghost use Rattle.programs.specs.Streams.{bytes_left, output_bytes};
+ghost use Rattle.secret_rules.specs.OpenLines.{CanSearch};
+ghost use Rattle.secret_rules.specs.Ready.{CanCoverLines, most_of, rules_of, searched_automaton, words_of};
+ghost use Rattle.acredact.specs.Ruled.{AreSearchedBy, IfLined, IsLined, LinedFile, LinedFiles, LinesOutcome, NamedOutcome, OpenedLines, Ruling, ruled_in, unread_of};
+
 use crate::failure::{tell_output, tell_unread};
 use crate::files::{both, is_input};
 use crate::folder::Folder;
 use crate::streams::Streams;
 use aho_automaton::automaton::Automaton;
 use aho_core::error::StreamError;
-use aho_cover::pieces::PatternPieces;
+use aho_cover::pieces::Pieces;
 use aho_devices::adapters::{FromRead, FromWrite};
 use aho_devices::device::Sink;
 use programs::reason::Reason;
@@ -19,11 +27,11 @@ const MOST_NUMBERS: usize = 2_147_483_646;
 
 /// What redacts lines: by what they are covered, and what is written.
 #[derive(Drop)]
-pub struct Lined<'r, 'a, 'p, 'q, A> {
+pub struct Lined<'r, 'a, A, P> {
     /// What covers them.
     pub cover: LineCover<'r, 'a, A>,
     /// What is written for each number: of a pattern, behind those of a rule, and behind these of lines that are too long.
-    pub pieces: PatternPieces<'p, 'q>,
+    pub pieces: P,
 }
 
 /// What covers lines, by rules and by the patterns of an automaton, where it has some.
@@ -37,7 +45,14 @@ pub fn line_cover<'r, 'a, A: Automaton>(
     rules: &'r Rules,
     words: bool,
     most: usize,
-) -> Result<LineCover<'r, 'a, A>, AllocError> {
+) -> Result<LineCover<'r, 'a, A>, AllocError>
+    requires ready { CanSearch A.Automaton automaton.now }
+    ensures ready { IfOk result (CanCoverLines A.Automaton) }
+    ensures searched { IfOk result (λ cover. AreSearchedBy A.Automaton automaton.entry.now (searched_automaton cover)) }
+    ensures words { IfOk result (λ cover. words_of cover ≡ words) }
+    ensures rules { IfOk result (λ cover. rules_of cover ≡ rules.entry.now) }
+    ensures most { IfOk result (λ cover. most_of cover ≡ most) }
+{
     let count = rules.as_slice().len();
     let patterns = automaton.patterns_len();
     if count >= MOST_NUMBERS || patterns >= MOST_NUMBERS - count {
@@ -47,7 +62,9 @@ pub fn line_cover<'r, 'a, A: Automaton>(
 }
 
 /// An automaton, if it has a pattern.
-fn some_of<A: Automaton>(automaton: &A) -> Option<&A> {
+fn some_of<A: Automaton>(automaton: &A) -> Option<&A>
+    ensures searched { AreSearchedBy A.Automaton automaton.entry.now result }
+{
     if automaton.patterns_len() == 0 {
         return None;
     }
@@ -61,26 +78,35 @@ fn some_of<A: Automaton>(automaton: &A) -> Option<&A> {
 ///
 /// `Write` and `WriteZero` where the output fails or takes nothing, and `Mark` where the expression of a rule is too big or memory runs
 /// out.
-pub fn cover_files<A: Automaton, F: Folder, I: Read, W: Write, E: Sink>(
-    lined: &mut Lined<'_, '_, '_, '_, A>,
+pub fn cover_files<A: Automaton, P: Pieces, F: Folder, I: Read, W: Write, E: Sink>(
+    lined: &mut Lined<'_, '_, A, P>,
     folder: &F,
     names: &[&str],
     counts: &mut [u64],
     streams: &mut Streams<'_, I, W, E>,
-) -> Result<bool, LineError> {
+) -> Result<bool, LineError>
+    requires ready { (r : Ruling) × IsLined A.Automaton P.Pieces lined.old r }
+    ensures outcome { IfLined A.Automaton P.Pieces lined.old (λ r. LinedFiles W.Write E.Sink
+        (ruled_in F.Folder folder.now r) (name_bytes names.now) result streams.old streams.new) }
+    ensures flushed { OnOk result (streams.new.output.device.flushed ≡ true) }
+{
     let all = cover_each(lined, folder, names, counts, streams)?;
     streams.output.flush()?;
     Ok(all)
 }
 
 /// Redacts each file, and answers whether all were read to their ends.
-fn cover_each<A: Automaton, F: Folder, I: Read, W: Write, E: Sink>(
-    lined: &mut Lined<'_, '_, '_, '_, A>,
+fn cover_each<A: Automaton, P: Pieces, F: Folder, I: Read, W: Write, E: Sink>(
+    lined: &mut Lined<'_, '_, A, P>,
     folder: &F,
     names: &[&str],
     counts: &mut [u64],
     streams: &mut Streams<'_, I, W, E>,
-) -> Result<bool, LineError> {
+) -> Result<bool, LineError>
+    requires ready { (r : Ruling) × IsLined A.Automaton P.Pieces lined.old r }
+    ensures outcome { IfLined A.Automaton P.Pieces lined.old (λ r. LinedFiles W.Write E.Sink
+        (ruled_in F.Folder folder.now r) (name_bytes names.now) result streams.old streams.new) }
+{
     let mut all = true;
     let mut rest = names;
     while !rest.is_empty() {
@@ -93,13 +119,18 @@ fn cover_each<A: Automaton, F: Folder, I: Read, W: Write, E: Sink>(
 
 /// Redacts a file, and answers whether it was read to its end. One that was not is told, and so is one that the output goes to: it is
 /// not read.
-fn cover_told<A: Automaton, F: Folder, I: Read, W: Write, E: Sink>(
-    lined: &mut Lined<'_, '_, '_, '_, A>,
+fn cover_told<A: Automaton, P: Pieces, F: Folder, I: Read, W: Write, E: Sink>(
+    lined: &mut Lined<'_, '_, A, P>,
     folder: &F,
     name: &str,
     counts: &mut [u64],
     streams: &mut Streams<'_, I, W, E>,
-) -> Result<bool, LineError> {
+) -> Result<bool, LineError>
+    requires ready { (r : Ruling) × IsLined A.Automaton P.Pieces lined.old r }
+    ensures outcome { IfLined A.Automaton P.Pieces lined.old (λ r. LinedFile W.Write E.Sink
+        (ruled_in F.Folder folder.now r) name.now result streams.old streams.new) }
+    ensures still { IfLined A.Automaton P.Pieces lined.old (IsLined A.Automaton P.Pieces lined.new) }
+{
     if folder.is_output(name) {
         tell_output(&mut streams.errors, name);
         return Ok(false);
@@ -108,13 +139,19 @@ fn cover_told<A: Automaton, F: Folder, I: Read, W: Write, E: Sink>(
 }
 
 /// Redacts a file that the output does not go to, and answers whether it was read to its end. One that was not is told.
-fn cover_apart<A: Automaton, F: Folder, I: Read, W: Write, E: Sink>(
-    lined: &mut Lined<'_, '_, '_, '_, A>,
+fn cover_apart<A: Automaton, P: Pieces, F: Folder, I: Read, W: Write, E: Sink>(
+    lined: &mut Lined<'_, '_, A, P>,
     folder: &F,
     name: &str,
     counts: &mut [u64],
     streams: &mut Streams<'_, I, W, E>,
-) -> Result<bool, LineError> {
+) -> Result<bool, LineError>
+    requires ready { (r : Ruling) × IsLined A.Automaton P.Pieces lined.old r }
+    requires apart { F.meets folder.now name.now false }
+    ensures outcome { IfLined A.Automaton P.Pieces lined.old (λ r. LinedFile W.Write E.Sink
+        (ruled_in F.Folder folder.now r) name.now result streams.old streams.new) }
+    ensures still { IfLined A.Automaton P.Pieces lined.old (IsLined A.Automaton P.Pieces lined.new) }
+{
     match cover_file(
         lined,
         folder,
@@ -132,14 +169,20 @@ fn cover_apart<A: Automaton, F: Folder, I: Read, W: Write, E: Sink>(
 }
 
 /// Redacts a file, and answers why it cannot be read to its end, where it cannot.
-fn cover_file<A: Automaton, F: Folder, I: Read, W: Write>(
-    lined: &mut Lined<'_, '_, '_, '_, A>,
+fn cover_file<A: Automaton, P: Pieces, F: Folder, I: Read, W: Write>(
+    lined: &mut Lined<'_, '_, A, P>,
     folder: &F,
     name: &str,
     counts: &mut [u64],
     input: &mut FromRead<I>,
     output: &mut FromWrite<W>,
-) -> Result<Option<Reason>, LineError> {
+) -> Result<Option<Reason>, LineError>
+    requires ready { (r : Ruling) × IsLined A.Automaton P.Pieces lined.old r }
+    ensures outcome { IfLined A.Automaton P.Pieces lined.old (λ r. NamedOutcome
+        (ruled_in F.Folder folder.now r) name.now result (bytes_left input.old) (bytes_left input.new)
+        (output_bytes W.Write output.old) (output_bytes W.Write output.new)) }
+    ensures still { IfLined A.Automaton P.Pieces lined.old (IsLined A.Automaton P.Pieces lined.new) }
+{
     if is_input(name) {
         return cover_input(lined, counts, input, output);
     }
@@ -150,23 +193,33 @@ fn cover_file<A: Automaton, F: Folder, I: Read, W: Write>(
 }
 
 /// Redacts a reader to its end, and answers why it cannot be read to that, where it cannot.
-fn cover_opened<A: Automaton, I: Read + Drop, W: Write>(
-    lined: &mut Lined<'_, '_, '_, '_, A>,
+fn cover_opened<A: Automaton, P: Pieces, I: Read + Drop, W: Write>(
+    lined: &mut Lined<'_, '_, A, P>,
     counts: &mut [u64],
     reader: I,
     output: &mut FromWrite<W>,
-) -> Result<Option<Reason>, LineError> {
+) -> Result<Option<Reason>, LineError>
+    requires ready { (r : Ruling) × IsLined A.Automaton P.Pieces lined.old r }
+    ensures outcome { IfLined A.Automaton P.Pieces lined.old (λ r. OpenedLines r result (I.remaining reader)
+        (output_bytes W.Write output.old) (output_bytes W.Write output.new)) }
+    ensures still { IfLined A.Automaton P.Pieces lined.old (IsLined A.Automaton P.Pieces lined.new) }
+{
     let mut source = FromRead::new(reader);
     cover_input(lined, counts, &mut source, output)
 }
 
 /// Redacts the input to its end, and answers why it cannot be read to that, where it cannot.
-fn cover_input<A: Automaton, I: Read, W: Write>(
-    lined: &mut Lined<'_, '_, '_, '_, A>,
+fn cover_input<A: Automaton, P: Pieces, I: Read, W: Write>(
+    lined: &mut Lined<'_, '_, A, P>,
     counts: &mut [u64],
     input: &mut FromRead<I>,
     output: &mut FromWrite<W>,
-) -> Result<Option<Reason>, LineError> {
+) -> Result<Option<Reason>, LineError>
+    requires ready { (r : Ruling) × IsLined A.Automaton P.Pieces lined.old r }
+    ensures outcome { IfLined A.Automaton P.Pieces lined.old (λ r. LinesOutcome r result
+        (bytes_left input.old) (bytes_left input.new) (output_bytes W.Write output.old) (output_bytes W.Write output.new)) }
+    ensures still { IfLined A.Automaton P.Pieces lined.old (IsLined A.Automaton P.Pieces lined.new) }
+{
     input.restart();
     unread_of(cover_lines(
         &mut lined.cover,
@@ -178,7 +231,9 @@ fn cover_input<A: Automaton, I: Read, W: Write>(
 }
 
 /// Why a stream was not read to its end, where that is so; any other error ends the program.
-fn unread_of(done: Result<(), LineError>) -> Result<Option<Reason>, LineError> {
+fn unread_of(done: Result<(), LineError>) -> Result<Option<Reason>, LineError>
+    ensures unread { result ≡ unread_of done }
+{
     match done {
         Ok(()) => Ok(None),
         Err(LineError::Stream(StreamError::Read(_))) => Ok(Some(Reason::ReadFault)),
