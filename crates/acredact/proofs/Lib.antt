@@ -58,3 +58,8 @@ mod SetApart
 mod Readings
 mod Ready
 mod Naming
+-- calls with rules
+mod RulesRead
+mod RuledText
+mod RuledFiles
+mod Ruled

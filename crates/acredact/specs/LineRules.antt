@@ -1,5 +1,6 @@
 -- The rules that options give, and how long a line may be by them.
-use Rattle.std.specs.Prelude.{◌≡◌, ◌⊎◌, ℕ, List, [], ◌∷◌, ◌++◌, Option, Vec, codes, option_and_then, string_bytes, unwrap_or, None}
+use Rattle.std.specs.Prelude.{◌≡◌, ℕ, Bool, MatchBool, List, [], ◌∷◌, ◌++◌, Option, Vec, codes, option_and_then, string_bytes, unwrap_or, None}
+use Rattle.std.specs.Str.{bytes_eq}
 use Rattle.std.specs.declared.io.traits.Read.{Ghosts as Readers}
 use Rattle.aho_devices.specs.declared.adapters.FromRead.{FromRead}
 use Rattle.programs.specs.Streams.{bytes_left}
@@ -38,12 +39,17 @@ pub record GivesFileRules (reading : Reading) (name : List ℕ) (rules : List Ru
   pub reads : OfName reading.holds name (ReadsText text) left left'
   pub told : TellsRules text rules
 
--- or the name stands for the rules of the program, which a text of its own tells
-abbrev pub GivesOwnRules : List ℕ → List Rule → (left left' : Option (List ℕ)) → Type 0
-GivesOwnRules name rules left left' = (name ≡ codes "builtin") × (left' ≡ left) × ((text : List ℕ) × TellsRules text rules)
+-- those of the program: a text of its own tells them
+abbrev pub GivesOwnRules : List Rule → (left left' : Option (List ℕ)) → Type 0
+GivesOwnRules rules left left' = (left' ≡ left) × ((text : List ℕ) × TellsRules text rules)
+
+-- the name that stands for them
+abbrev pub is_builtin : List ℕ → Bool
+is_builtin name = bytes_eq name (codes "builtin")
 
 abbrev pub GivesNamedRules : Reading → List ℕ → List Rule → (left left' : Option (List ℕ)) → Type 0
-GivesNamedRules reading name rules left left' = GivesOwnRules name rules left left' ⊎ GivesFileRules reading name rules left left'
+GivesNamedRules reading name rules left left' =
+    MatchBool (is_builtin name) (GivesOwnRules rules left left') (GivesFileRules reading name rules left left')
 
 -- an option gives no rules
 abbrev pub GivesNoRules : List Rule → (left left' : Option (List ℕ)) → Type 0

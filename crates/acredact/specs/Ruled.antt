@@ -130,14 +130,15 @@ AreBegun work [] left left' held held' = (left' ≡ left) × Keeps held held'
 AreBegun work (name ∷ names) left left' held held' = (between : Option (List ℕ)) × (meanwhile : Option (List ℕ))
     × WritesRuled work name left between held meanwhile × AreBegun work names between left' meanwhile held'
 
+-- by these words, rules, lengths and patterns, with these pieces
+abbrev pub ruling_as : Bool → List Rule → ℕ → PieceRule → Patterns → Ruling
+ruling_as words rules most rule p = record { covering = covering_by words rules most p; rule = rule }
+
 -- what covers lines does so by this
 pub record IsLined {A P : Type 0} (G : Automata A) (Q : PieceGhosts P) (lined : Lined A P) (ruling : Ruling) : Type 0 where
   pub can : CanCoverLines G lined.cover
   pub searched : AreSearchedFor G (searched_automaton lined.cover) ruling.covering.patterns
-  pub words : words_of lined.cover ≡ ruling.covering.words
-  pub rules : rules_of lined.cover ≡ ruling.covering.rules
-  pub most : most_of lined.cover ≡ ruling.covering.most
-  pub rule : Q.rule lined.pieces ≡ ruling.rule
+  pub is : ruling ≡ ruling_as (words_of lined.cover) (rules_of lined.cover) (most_of lined.cover) (Q.rule lined.pieces) ruling.covering.patterns
 
 -- the patterns of an automaton are those that are searched for: by it, or by none where it has none
 abbrev pub AreSearchedBy : {A : Type 0} → Automata A → A → Option (Bor A) → Type 0
@@ -178,10 +179,8 @@ abbrev pub texts_asked : List Given → RuledLoad → List (List ℕ)
 texts_asked given load = pieces_asked given load.secrets ++ (map (own_text (text_asked given)) load.rules ++ text_asked given ∷ [])
 
 abbrev pub ruling_by : List Given → RuledLoad → Ruling
-ruling_by given load = record {
-  covering = covering_by (has AsWord given) load.rules (most_asked given) (patterns_by_case given (patterns_in load.secrets));
-  rule = fixed_rule (texts_asked given load);
-}
+ruling_by given load =
+    ruling_as (has AsWord given) load.rules (most_asked given) (fixed_rule (texts_asked given load)) (patterns_by_case given (patterns_in load.secrets))
 
 abbrev pub ruled_by : Call → RuledLoad → RuledWork
 ruled_by call load = record { holds = call.holds; meets = call.meets; ruling = ruling_by call.given load }
@@ -203,87 +202,103 @@ IsRuledTold call line =
     ⊎ (((failure : RuledFailure) × IsRuledLine failure line)
     ⊎ IsRuledNotice call line)
 
+module _ (call : Call) (left left' held held' : Option (List ℕ)) where
+  -- all patterns and rules were loaded, and all files were redacted
+  pub record RedactsByRules : Type 0 where
+    pub load : RuledLoad
+    pub between : Option (List ℕ)
+    pub loaded : AreRuledLoaded (reading_by call) call.given load left between
+    pub redacted : AreRuled (ruled_by call load) (names_asked call.given) between left' held held'
+
+  -- they were loaded, and of each file the redaction or a beginning of it was written
+  pub record BeginsLoaded : Type 0 where
+    pub load : RuledLoad
+    pub between : Option (List ℕ)
+    pub loaded : AreRuledLoaded (reading_by call) call.given load left between
+    pub begun : AreBegun (ruled_by call load) (names_asked call.given) between left' held held'
+
+  -- or nothing was written
+  abbrev pub BeginsByRules : Type 0
+  BeginsByRules = Keeps held held' ⊎ BeginsLoaded
+
+module _ {E : Type 0} (K : SinkGhosts E) where
+  -- what a call tells: where all was redacted, of doubtful patterns and of lines that were too long alone
+  pub record TellsRuled (call : Call) (result : Result Bool RuledFailure) (errors errors' : Errors E) : Type 0 where
+    pub told : Tells K (IsRuledTold call) errors errors'
+    pub partly : result ≡ Ok false → TellsSome K (IsRuledTold call) errors errors'
+    pub quiet : result ≡ Ok true → Tells K (IsRuledNotice call) errors errors'
+
+  -- what comes of a file: its redaction was written, or a beginning of it; and where it was not read to its end that is told
+  pub record LinedFile (work : RuledWork) (name : List ℕ) (result : Result Bool LineError) (left left' held held' : Option (List ℕ)) (errors errors' : Errors E) : Type 0 where
+    pub whole : result ≡ Ok true → RedactsRuled work name left left' held held'
+    pub begun : WritesRuled work name left left' held held'
+    pub partly : result ≡ Ok false → TellsSome K (IsUnreadLine (name ∷ [])) errors errors'
+    pub untold : (result ≡ Ok false → ⊥) → errors' ≡ errors
+
+  -- the same of files, one after another
+  pub record LinedFiles (work : RuledWork) (names : List (List ℕ)) (result : Result Bool LineError) (left left' held held' : Option (List ℕ)) (errors errors' : Errors E) : Type 0 where
+    pub whole : result ≡ Ok true → AreRuled work names left left' held held'
+    pub begun : AreBegun work names left left' held held'
+    pub told : Tells K (IsUnreadLine names) errors errors'
+    pub partly : result ≡ Ok false → TellsSome K (IsUnreadLine names) errors errors'
+    pub quiet : result ≡ Ok true → errors' ≡ errors
+
+  -- of the files of a call whose patterns and rules were loaded
+  pub record RuledOutcome (call : Call) (load : RuledLoad) (result : Result Bool RuledFailure) (left left' held held' : Option (List ℕ)) (errors errors' : Errors E) : Type 0 where
+    pub whole : result ≡ Ok true → AreRuled (ruled_by call load) (names_asked call.given) left left' held held'
+    pub begun : AreBegun (ruled_by call load) (names_asked call.given) left left' held held'
+    pub tells : TellsRuled call result errors errors'
+
+  -- and of the whole call
+  pub record RuledCall (call : Call) (result : Result Bool RuledFailure) (left left' held held' : Option (List ℕ)) (errors errors' : Errors E) : Type 0 where
+    pub whole : result ≡ Ok true → RedactsByRules call left left' held held'
+    pub begun : BeginsByRules call left left' held held'
+    pub tells : TellsRuled call result errors errors'
+
+  -- what its status says
+  pub record RuledStatus (call : Call) (status : ℕ) (left left' held held' : Option (List ℕ)) (errors errors' : Errors E) : Type 0 where
+    pub redacts : status ≡ 0 → RedactsByRules call left left' held held'
+    pub begins : BeginsByRules call left left' held held'
+    pub tells : status ≡ 2 → TellsSome K (IsRuledTold call) errors errors'
+    pub quiet : status ≡ 0 → Tells K (IsRuledNotice call) errors errors'
+
 module _ {R : Type 0} {Reads : Readers R} {W E : Type 0} (Writes : Writers W) where
-  module _ (call : Call) (left : Option (List ℕ)) (streams streams' : Streams R W E Reads) where
-    -- all patterns and rules were loaded, and all files were redacted
-    pub record RedactsByRules : Type 0 where
-      pub load : RuledLoad
-      pub between : Option (List ℕ)
-      pub loaded : AreRuledLoaded (reading_by call) call.given load left between
-      pub redacted : AreRuled (ruled_by call load) (names_asked call.given) between (bytes_left streams'.input)
-          (output_bytes Writes streams.output) (output_bytes Writes streams'.output)
+  -- what holds from one state of the streams to another
+  abbrev pub Between : ((left left' held held' : Option (List ℕ)) → (errors errors' : Errors E) → Type 0) → (streams streams' : Streams R W E Reads) → Type 0
+  Between Holds streams streams' =
+      Holds (bytes_left streams.input) (bytes_left streams'.input) (output_bytes Writes streams.output) (output_bytes Writes streams'.output) streams.errors streams'.errors
 
-    -- they were loaded, and of each file the redaction or a beginning of it was written
-    pub record BeginsLoaded : Type 0 where
-      pub load : RuledLoad
-      pub between : Option (List ℕ)
-      pub loaded : AreRuledLoaded (reading_by call) call.given load left between
-      pub begun : AreBegun (ruled_by call load) (names_asked call.given) between (bytes_left streams'.input)
-          (output_bytes Writes streams.output) (output_bytes Writes streams'.output)
+  -- what these options ask for is redacted by rules, or some of it
+  abbrev pub RuledAsked : {F X : Type 0} → Folders F X → F → List Given → (streams streams' : Streams R W E Reads) → Type 0
+  RuledAsked D folder given streams streams' =
+      RedactsByRules (call_of D folder given) (bytes_left streams.input) (bytes_left streams'.input) (output_bytes Writes streams.output) (output_bytes Writes streams'.output)
 
-    -- or nothing was written
-    abbrev pub BeginsByRules : Type 0
-    BeginsByRules = (streams'.output ≡ streams.output) ⊎ BeginsLoaded
+  abbrev pub RuledBegins : {F X : Type 0} → Folders F X → F → List Given → (streams streams' : Streams R W E Reads) → Type 0
+  RuledBegins D folder given streams streams' =
+      BeginsByRules (call_of D folder given) (bytes_left streams.input) (bytes_left streams'.input) (output_bytes Writes streams.output) (output_bytes Writes streams'.output)
 
   module _ (K : SinkGhosts E) where
-    -- what comes of a file: its redaction was written, or a beginning of it; and where it was not read to its end that is told
-    pub record LinedFile (work : RuledWork) (name : List ℕ) (result : Result Bool LineError) (streams streams' : Streams R W E Reads) : Type 0 where
-      pub whole : result ≡ Ok true → RedactsRuled work name (bytes_left streams.input) (bytes_left streams'.input)
-          (output_bytes Writes streams.output) (output_bytes Writes streams'.output)
-      pub begun : WritesRuled work name (bytes_left streams.input) (bytes_left streams'.input)
-          (output_bytes Writes streams.output) (output_bytes Writes streams'.output)
-      pub partly : result ≡ Ok false → TellsSome K (IsUnreadLine (name ∷ [])) streams.errors streams'.errors
-      pub untold : (result ≡ Ok false → ⊥) → streams'.errors ≡ streams.errors
-
-    -- the same of files, one after another
-    pub record LinedFiles (work : RuledWork) (names : List (List ℕ)) (result : Result Bool LineError) (streams streams' : Streams R W E Reads) : Type 0 where
-      pub whole : result ≡ Ok true → AreRuled work names (bytes_left streams.input) (bytes_left streams'.input)
-          (output_bytes Writes streams.output) (output_bytes Writes streams'.output)
-      pub begun : AreBegun work names (bytes_left streams.input) (bytes_left streams'.input)
-          (output_bytes Writes streams.output) (output_bytes Writes streams'.output)
-      pub told : Tells K (IsUnreadLine names) streams.errors streams'.errors
-      pub partly : result ≡ Ok false → TellsSome K (IsUnreadLine names) streams.errors streams'.errors
-      pub quiet : result ≡ Ok true → streams'.errors ≡ streams.errors
-
-    -- what a call tells: where all was redacted, of doubtful patterns and of lines that were too long alone
-    pub record TellsRuled (call : Call) (result : Result Bool RuledFailure) (errors errors' : Errors E) : Type 0 where
-      pub told : Tells K (IsRuledTold call) errors errors'
-      pub partly : result ≡ Ok false → TellsSome K (IsRuledTold call) errors errors'
-      pub quiet : result ≡ Ok true → Tells K (IsRuledNotice call) errors errors'
-
-    -- what comes of the files of a call whose patterns and rules were loaded
-    pub record RuledOutcome (call : Call) (load : RuledLoad) (result : Result Bool RuledFailure) (streams streams' : Streams R W E Reads) : Type 0 where
-      pub whole : result ≡ Ok true → AreRuled (ruled_by call load) (names_asked call.given) (bytes_left streams.input) (bytes_left streams'.input)
-          (output_bytes Writes streams.output) (output_bytes Writes streams'.output)
-      pub begun : AreBegun (ruled_by call load) (names_asked call.given) (bytes_left streams.input) (bytes_left streams'.input)
-          (output_bytes Writes streams.output) (output_bytes Writes streams'.output)
-      pub tells : TellsRuled call result streams.errors streams'.errors
-
-    -- and of the whole call, where the input had so many bytes left
-    pub record RuledCall (call : Call) (left : Option (List ℕ)) (result : Result Bool RuledFailure) (streams streams' : Streams R W E Reads) : Type 0 where
-      pub whole : result ≡ Ok true → RedactsByRules call left streams streams'
-      pub begun : BeginsByRules call left streams streams'
-      pub tells : TellsRuled call result streams.errors streams'.errors
-
-    -- what its status says
-    pub record RuledStatus (call : Call) (status : ℕ) (streams streams' : Streams R W E Reads) : Type 0 where
-      pub redacts : status ≡ 0 → RedactsByRules call (bytes_left streams.input) streams streams'
-      pub begins : BeginsByRules call (bytes_left streams.input) streams streams'
-      pub tells : status ≡ 2 → TellsSome K (IsRuledTold call) streams.errors streams'.errors
-      pub quiet : status ≡ 0 → Tells K (IsRuledNotice call) streams.errors streams'.errors
-
-    -- the same of what these options ask for, and of patterns and rules that were loaded
+    -- what comes of patterns and rules that were loaded
     abbrev pub LoadedRuled : {F X : Type 0} → Folders F X → F → List Given → List PatternRule → List Rule → Result Bool RuledFailure → (streams streams' : Streams R W E Reads) → Type 0
-    LoadedRuled D folder given secrets rules result streams streams' = RuledOutcome (call_of D folder given) (ruled_load secrets rules) result streams streams'
+    LoadedRuled D folder given secrets rules result streams streams' =
+        Between (RuledOutcome K (call_of D folder given) (ruled_load secrets rules) result) streams streams'
 
     -- of patterns that were loaded, where the rules are to be
     abbrev pub UnruledOutcome : {F X : Type 0} → Folders F X → F → List Given → List PatternRule → Result Bool RuledFailure → (streams streams' : Streams R W E Reads) → Type 0
     UnruledOutcome D folder given secrets result streams streams' = (left : Option (List ℕ))
         → AreGiven (reading_by (call_of D folder given)) given (secrets_of secrets) left (bytes_left streams.input)
-        → RuledCall (call_of D folder given) left result streams streams'
+        → RuledCall K (call_of D folder given) result left (bytes_left streams'.input) (output_bytes Writes streams.output) (output_bytes Writes streams'.output) streams.errors streams'.errors
 
+    -- and of what these options ask for
     abbrev pub AskedRuled : {F X : Type 0} → Folders F X → F → List Given → Result Bool RuledFailure → (streams streams' : Streams R W E Reads) → Type 0
-    AskedRuled D folder given result streams streams' = RuledCall (call_of D folder given) (bytes_left streams.input) result streams streams'
+    AskedRuled D folder given result streams streams' = Between (RuledCall K (call_of D folder given) result) streams streams'
 
     abbrev pub SaysOfRules : {F X : Type 0} → Folders F X → F → List Given → ℕ → (streams streams' : Streams R W E Reads) → Type 0
-    SaysOfRules D folder given status streams streams' = AsksForRules given → RuledStatus (call_of D folder given) status streams streams'
+    SaysOfRules D folder given status streams streams' = AsksForRules given → Between (RuledStatus K (call_of D folder given) status) streams streams'
+
+    -- and of files by what covers lines
+    abbrev pub DoesFile : {F X : Type 0} → Folders F X → F → List ℕ → Result Bool LineError → (streams streams' : Streams R W E Reads) → Ruling → Type 0
+    DoesFile D folder name result streams streams' ruling = Between (LinedFile K (ruled_in D folder ruling) name result) streams streams'
+
+    abbrev pub DoesFiles : {F X : Type 0} → Folders F X → F → List (List ℕ) → Result Bool LineError → (streams streams' : Streams R W E Reads) → Ruling → Type 0
+    DoesFiles D folder names result streams streams' ruling = Between (LinedFiles K (ruled_in D folder ruling) names result) streams streams'

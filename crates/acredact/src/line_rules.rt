@@ -4,7 +4,7 @@ ghost use Rattle.std.specs.Prelude.{◌≡◌, ◌++◌, ◌∷◌, [], IfOk, On
 ghost use Rattle.secret_rules.specs.Rules.{AreSound};
 ghost use Rattle.secret_rules.specs.Tables.{TellsRules};
 ghost use Rattle.acredact.specs.Arguments.{all_given, given_of};
-ghost use Rattle.acredact.specs.LineRules.{AddsNamed, AddsOption, AddsThese, GivesBehind, ReadsLineRules};
+ghost use Rattle.acredact.specs.LineRules.{AddsNamed, AddsOption, AddsThese, GivesBehind, ReadsLineRules, is_builtin};
 
 use crate::arguments::{Item, Word};
 use crate::bad_rule::{BadRule, RuleFlaw};
@@ -20,9 +20,6 @@ use secret_rules::{
 };
 use std::alloc::{AllocError, Global};
 use std::io::Read;
-
-/// The name that means the rules of the program, and no file.
-const BUILTIN_NAME: &str = "builtin";
 
 /// What stands for a file in messages about the rule of a keyword.
 const AFTER: &str = "--after";
@@ -95,7 +92,10 @@ fn add_after<'a>(
     ensures added { OnOk result (AddsThese (GivesBehind keyword.now) rules.old rules.new) }
 {
     let rule = LineRule::after(alloc, keyword)?;
-    add_rule(alloc, rules, AFTER, 1, rule)
+    match flaw_of(alloc, &rule)? {
+        None => Ok(push_rule(rules, rule)?),
+        Some(flaw) => Err(bad_rule(alloc, AFTER, 1, &rule, flaw)),
+    }
 }
 
 /// Adds the rules of a file, or those of the program.
@@ -108,13 +108,20 @@ fn add_named<'a, F: Folder, I: Read>(
     ensures added { OnOk result (AddsNamed F.Folder lists.now name.now
         rules.old rules.new input.old input.new) }
 {
-    if name == BUILTIN_NAME {
+    if is_builtin(name) {
         return add_parsed(lists, rules, name, BUILTIN);
     }
     match read_list(lists, name, input) {
         Ok(text) => add_text(lists, rules, name, text.as_slice()),
         Err(reason) => Err(RuledFailure::Plain(Failure::Unread(name, reason))),
     }
+}
+
+/// Whether the name stands for the rules of the program.
+fn is_builtin(name: &str) -> bool
+    ensures is { result ≡ is_builtin name.now }
+{
+    name == "builtin"
 }
 
 /// Adds the rules of the bytes of a file.
@@ -179,43 +186,37 @@ fn add_some<'a, F>(
     if parsed.is_empty() && !lists.allow_empty {
         return Err(RuledFailure::NoRule(name));
     }
-    add_each(lists.alloc, rules, name, parsed)
+    match look_at_each(lists.alloc, name, parsed.as_slice()) {
+        Ok(()) => Ok(append_rules(rules, parsed)?),
+        Err(failure) => Err(failure),
+    }
 }
 
-/// Adds each of these rules, which stand in a file in this order.
-fn add_each<'a>(
+/// Looks at each of these rules, which stand in a file in this order, and refuses the first with which something is wrong.
+fn look_at_each<'a>(
     alloc: Global,
-    rules: &mut Vec<LineRule>,
     name: &'a str,
-    parsed: Vec<LineRule>,
-) -> Result<(), RuledFailure<'a>>
-    ensures added { OnOk result (rules.new.items ≡ rules.old.items ++ parsed.items) }
-{
-    let mut number: usize = 0;
-    for rule in parsed {
-        number = number.saturating_add(1);
-        match add_rule(alloc, rules, name, number, rule) {
-            Ok(()) => {}
-            Err(failure) => return Err(failure),
+    rules: &[LineRule],
+) -> Result<(), RuledFailure<'a>> {
+    let mut number: usize = 1;
+    let mut rest = rules;
+    while !rest.is_empty() {
+        if let Some(flaw) = flaw_of(alloc, &rest[0])? {
+            return Err(bad_rule(alloc, name, number, &rest[0], flaw));
         }
+        number = number.saturating_add(1);
+        rest = &rest[1..];
     }
     Ok(())
 }
 
-/// Adds a rule, if nothing is wrong with it.
-fn add_rule<'a>(
-    alloc: Global,
-    rules: &mut Vec<LineRule>,
-    name: &'a str,
-    number: usize,
-    rule: LineRule,
-) -> Result<(), RuledFailure<'a>>
-    ensures added { OnOk result (rules.new.items ≡ rules.old.items ++ (rule ∷ [])) }
+/// Adds these rules.
+fn append_rules(rules: &mut Vec<LineRule>, more: Vec<LineRule>) -> Result<(), AllocError>
+    ensures appended { OnOk result (rules.new.items ≡ rules.old.items ++ more.items) }
 {
-    match flaw_of(alloc, &rule)? {
-        None => Ok(push_rule(rules, rule)?),
-        Some(flaw) => Err(bad_rule(name, number, rule, flaw)),
-    }
+    let mut more = more;
+    rules.append(&mut more)?;
+    Ok(())
 }
 
 /// Adds a rule.
@@ -259,14 +260,24 @@ fn without_id<'a>(name: &'a str, number: usize, flaw: RuleFlaw) -> RuledFailure<
 }
 
 /// What is wrong with a rule that has a name.
-fn bad_rule<'a>(name: &'a str, number: usize, rule: LineRule, flaw: RuleFlaw) -> RuledFailure<'a> {
-    let LineRule { id, .. } = rule;
-    let bad = BadRule {
-        number,
-        id: Some(id),
-        flaw,
-    };
-    RuledFailure::Rule(name, bad)
+fn bad_rule<'a>(
+    alloc: Global,
+    name: &'a str,
+    number: usize,
+    rule: &LineRule,
+    flaw: RuleFlaw,
+) -> RuledFailure<'a> {
+    match String::from_str(alloc, rule.id.as_str()) {
+        Ok(id) => {
+            let bad = BadRule {
+                number,
+                id: Some(id),
+                flaw,
+            };
+            RuledFailure::Rule(name, bad)
+        }
+        Err(_) => no_memory(),
+    }
 }
 
 /// What is wrong with a rule, if something is: it is none, or a keyword holds a line end.
@@ -320,18 +331,11 @@ pub fn failure_in<'a>(alloc: Global, rules: &[LineRule], error: LineError) -> Ru
 
 /// The expression of the rule of this number is too big to be compiled.
 fn too_big<'a>(alloc: Global, rules: &[LineRule], number: usize) -> RuledFailure<'a> {
-    let Some(rule) = rules.get(number) else {
-        return no_memory();
-    };
-    match String::from_str(alloc, rule.id.as_str()) {
-        Ok(id) => {
-            let bad = BadRule {
-                number: number.saturating_add(1),
-                id: Some(id),
-                flaw: RuleFlaw::TooBig,
-            };
-            RuledFailure::Rule("--rules", bad)
+    match rules.get(number) {
+        Some(rule) => {
+            let number = number.saturating_add(1);
+            bad_rule(alloc, "--rules", number, rule, RuleFlaw::TooBig)
         }
-        Err(_) => no_memory(),
+        None => no_memory(),
     }
 }

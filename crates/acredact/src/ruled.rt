@@ -5,7 +5,7 @@ ghost use Rattle.aho_core.specs.Replacement.{pieces_of};
 ghost use Rattle.aho_core.specs.declared.search.Anchored.TheVariants.{No};
 ghost use Rattle.programs.specs.Telling.{Tells};
 ghost use Rattle.acredact.specs.Arguments.{all_given};
-ghost use Rattle.acredact.specs.Calls.{text_asked};
+ghost use Rattle.acredact.specs.Builds.{build_settings};
 ghost use Rattle.acredact.specs.Ruled.{AskedRuled, IsLongLine, LoadedRuled, SaysOfRules, UnruledOutcome, own_text, patterns_by_case, ruled_load, texts_asked};
 ghost use Rattle.acredact.specs.Tables.{HaveNoEmpty, secrets_of};
 
@@ -17,14 +17,13 @@ use crate::line_size::most_of;
 use crate::load::{lists_of, rules};
 use crate::patterns::{Rule, patterns_of, replacements_of, split_at};
 use crate::ruled_failure::{RuledFailure, tell_long, tell_ruled};
-use crate::ruled_files::{Lined, cover_files, line_cover};
+use crate::ruled_files::{cover_files, lined_of};
 use crate::run::{FAILED, names, text_of};
 use crate::streams::Streams;
 use aho_automaton::automaton::Automaton;
-use aho_corasick::noncontiguous::NFA;
+use aho_corasick::noncontiguous::{Builder, NFA};
 use aho_core::error::BuildError;
 use aho_core::search::MatchKind;
-use aho_cover::pieces::PatternPieces;
 use aho_devices::device::Sink;
 use programs::errors::Errors;
 use secret_rules::{Rule as LineRule, Rules};
@@ -135,17 +134,10 @@ fn redact_ruled<'a, F: Folder, I: Read, W: Write, E: Sink>(
     let nfa = build_lined(alloc, given, patterns.as_slice())?;
     let most = most_of(given);
     let mut counts = counts_for(alloc, texts.len())?;
-    let mut lined = Lined {
-        cover: line_cover(alloc, &nfa, line_rules, has(given, Word::AsWord), most)?,
-        pieces: PatternPieces::new(texts.as_slice()),
-    };
-    let done = cover_files(
-        &mut lined,
-        folder,
-        names.as_slice(),
-        counts.as_mut_slice(),
-        streams,
-    );
+    let words = has(given, Word::AsWord);
+    let mut lined = lined_of(alloc, &nfa, line_rules, texts.as_slice(), words, most)?;
+    let names = names.as_slice();
+    let done = cover_files(&mut lined, folder, names, counts.as_mut_slice(), streams);
     match done {
         Ok(all) => {
             tell_last(&mut streams.errors, most, counts.as_slice());
@@ -170,19 +162,23 @@ fn line_end_in(secrets: &[Rule]) -> Option<usize> {
 }
 
 /// The automaton of these patterns, by the case rule that is given.
-fn build_lined(
-    alloc: Global,
-    given: &[Item<'_>],
-    patterns: &[&[u8]],
-) -> Result<NFA, BuildError>
+fn build_lined(alloc: Global, given: &[Item<'_>], patterns: &[&[u8]]) -> Result<NFA, BuildError>
     ensures of { IfOk result (λ nfa. ⟦<NFA as Automaton>⟧.is_of nfa
         (patterns_by_case (all_given given.now) (pieces_of patterns.now))) }
     ensures starts { IfOk result (λ nfa. IsOk (⟦<NFA as Automaton>⟧.start nfa No)) }
 {
-    NFA::builder()
+    builder_lined(given).build(alloc, patterns.iter().copied())
+}
+
+/// How the automaton is built: all that occurs counts.
+fn builder_lined(given: &[Item<'_>]) -> Builder
+    ensures settings { result ≡ build_settings (patterns_by_case (all_given given.now) []) }
+{
+    let mut builder = NFA::builder();
+    builder
         .match_kind(MatchKind::Standard)
-        .ascii_case_insensitive(has(given, Word::IgnoreCase))
-        .build(alloc, patterns.iter().copied())
+        .ascii_case_insensitive(has(given, Word::IgnoreCase));
+    builder
 }
 
 /// What is written for each pattern, then for each rule, and then for lines that are too long.

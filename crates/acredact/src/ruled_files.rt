@@ -1,12 +1,14 @@
 //! The redaction of files line by line, one after another.
 
-ghost use Rattle.std.specs.Prelude.{◌≡◌, IfErr, IfOk, OnOk, false, true};
-ghost use Rattle.aho_core.specs.Numbers.{greatest_index};
+ghost use Rattle.std.specs.Prelude.{◌≡◌, IfOk, IfSome, OnOk, false, true};
+ghost use Rattle.aho_core.specs.Patterns.{Patterns};
+ghost use Rattle.aho_core.specs.Replacement.{pieces_of};
+ghost use Rattle.aho_cover.specs.Pieces.{fixed_rule};
 ghost use Rattle.programs.specs.Names.{name_bytes};
 ghost use Rattle.programs.specs.Streams.{bytes_left, output_bytes};
 ghost use Rattle.secret_rules.specs.OpenLines.{CanSearch};
 ghost use Rattle.secret_rules.specs.Ready.{CanCoverLines, most_of, rules_of, searched_automaton, words_of};
-ghost use Rattle.acredact.specs.Ruled.{AreSearchedBy, IfLined, IsLined, LinedFile, LinedFiles, LinesOutcome, NamedOutcome, OpenedLines, Ruling, ruled_in, unread_of};
+ghost use Rattle.acredact.specs.Ruled.{AreSearchedBy, DoesFile, DoesFiles, IfLined, IsLined, LinesOutcome, NamedOutcome, OpenedLines, Ruling, ruled_in, ruling_as, unread_of};
 
 use crate::failure::{tell_output, tell_unread};
 use crate::files::{both, is_input};
@@ -14,7 +16,7 @@ use crate::folder::Folder;
 use crate::streams::Streams;
 use aho_automaton::automaton::Automaton;
 use aho_core::error::StreamError;
-use aho_cover::pieces::Pieces;
+use aho_cover::pieces::{PatternPieces, Pieces};
 use aho_devices::adapters::{FromRead, FromWrite};
 use aho_devices::device::Sink;
 use programs::reason::Reason;
@@ -34,12 +36,31 @@ pub struct Lined<'r, 'a, A, P> {
     pub pieces: P,
 }
 
-/// What covers lines, by rules and by the patterns of an automaton, where it has some.
+/// What redacts lines by these rules and the patterns of an automaton, where it has some, with these texts.
 ///
 /// # Errors
 ///
 /// Out of memory: that is also told where there are more numbers than one may have.
-pub fn line_cover<'r, 'a, A: Automaton>(
+pub fn lined_of<'r, 'a, 'p, 'q, A: Automaton>(
+    alloc: Global,
+    automaton: &'a A,
+    rules: &'r Rules,
+    texts: &'p [&'q [u8]],
+    words: bool,
+    most: usize,
+) -> Result<Lined<'r, 'a, A, PatternPieces<'p, 'q>>, AllocError>
+    requires ready { CanSearch A.Automaton automaton.now }
+    ensures lined { IfOk result (λ lined. (p : Patterns) → A.is_of automaton.entry.now p
+        → IsLined A.Automaton ⟦<PatternPieces as Pieces>⟧ lined
+        (ruling_as words rules.entry.now most (fixed_rule (pieces_of texts.entry.now)) p)) }
+{
+    let cover = line_cover(alloc, automaton, rules, words, most)?;
+    let pieces = PatternPieces::new(texts);
+    Ok(Lined { cover, pieces })
+}
+
+/// What covers lines, by rules and by the patterns of an automaton, where it has some.
+fn line_cover<'r, 'a, A: Automaton>(
     alloc: Global,
     automaton: &'a A,
     rules: &'r Rules,
@@ -48,14 +69,18 @@ pub fn line_cover<'r, 'a, A: Automaton>(
 ) -> Result<LineCover<'r, 'a, A>, AllocError>
     requires ready { CanSearch A.Automaton automaton.now }
     ensures ready { IfOk result (CanCoverLines A.Automaton) }
-    ensures searched { IfOk result (λ cover. AreSearchedBy A.Automaton automaton.entry.now (searched_automaton cover)) }
+    ensures searched { IfOk result (λ cover. AreSearchedBy A.Automaton automaton.entry.now
+        (searched_automaton cover)) }
     ensures words { IfOk result (λ cover. words_of cover ≡ words) }
     ensures rules { IfOk result (λ cover. rules_of cover ≡ rules.entry.now) }
     ensures most { IfOk result (λ cover. most_of cover ≡ most) }
 {
     let count = rules.as_slice().len();
     let patterns = automaton.patterns_len();
-    if count >= MOST_NUMBERS || patterns >= MOST_NUMBERS - count {
+    if count >= MOST_NUMBERS {
+        return Err(AllocError);
+    }
+    if patterns >= MOST_NUMBERS - count {
         return Err(AllocError);
     }
     LineCover::new(alloc, rules, some_of(automaton), words, most)
@@ -64,6 +89,7 @@ pub fn line_cover<'r, 'a, A: Automaton>(
 /// An automaton, if it has a pattern.
 fn some_of<A: Automaton>(automaton: &A) -> Option<&A>
     ensures searched { AreSearchedBy A.Automaton automaton.entry.now result }
+    ensures same { IfSome result (λ a. a.now ≡ automaton.entry.now) }
 {
     if automaton.patterns_len() == 0 {
         return None;
@@ -86,8 +112,8 @@ pub fn cover_files<A: Automaton, P: Pieces, F: Folder, I: Read, W: Write, E: Sin
     streams: &mut Streams<'_, I, W, E>,
 ) -> Result<bool, LineError>
     requires ready { (r : Ruling) × IsLined A.Automaton P.Pieces lined.old r }
-    ensures outcome { IfLined A.Automaton P.Pieces lined.old (λ r. LinedFiles W.Write E.Sink
-        (ruled_in F.Folder folder.now r) (name_bytes names.now) result streams.old streams.new) }
+    ensures outcome { IfLined A.Automaton P.Pieces lined.old (DoesFiles W.Write E.Sink F.Folder
+        folder.now (name_bytes names.now) result streams.old streams.new) }
     ensures flushed { OnOk result (streams.new.output.device.flushed ≡ true) }
 {
     let all = cover_each(lined, folder, names, counts, streams)?;
@@ -104,8 +130,8 @@ fn cover_each<A: Automaton, P: Pieces, F: Folder, I: Read, W: Write, E: Sink>(
     streams: &mut Streams<'_, I, W, E>,
 ) -> Result<bool, LineError>
     requires ready { (r : Ruling) × IsLined A.Automaton P.Pieces lined.old r }
-    ensures outcome { IfLined A.Automaton P.Pieces lined.old (λ r. LinedFiles W.Write E.Sink
-        (ruled_in F.Folder folder.now r) (name_bytes names.now) result streams.old streams.new) }
+    ensures outcome { IfLined A.Automaton P.Pieces lined.old (DoesFiles W.Write E.Sink F.Folder
+        folder.now (name_bytes names.now) result streams.old streams.new) }
 {
     let mut all = true;
     let mut rest = names;
@@ -127,8 +153,8 @@ fn cover_told<A: Automaton, P: Pieces, F: Folder, I: Read, W: Write, E: Sink>(
     streams: &mut Streams<'_, I, W, E>,
 ) -> Result<bool, LineError>
     requires ready { (r : Ruling) × IsLined A.Automaton P.Pieces lined.old r }
-    ensures outcome { IfLined A.Automaton P.Pieces lined.old (λ r. LinedFile W.Write E.Sink
-        (ruled_in F.Folder folder.now r) name.now result streams.old streams.new) }
+    ensures outcome { IfLined A.Automaton P.Pieces lined.old (DoesFile W.Write E.Sink F.Folder
+        folder.now name.now result streams.old streams.new) }
     ensures still { IfLined A.Automaton P.Pieces lined.old (IsLined A.Automaton P.Pieces lined.new) }
 {
     if folder.is_output(name) {
@@ -148,8 +174,8 @@ fn cover_apart<A: Automaton, P: Pieces, F: Folder, I: Read, W: Write, E: Sink>(
 ) -> Result<bool, LineError>
     requires ready { (r : Ruling) × IsLined A.Automaton P.Pieces lined.old r }
     requires apart { F.meets folder.now name.now false }
-    ensures outcome { IfLined A.Automaton P.Pieces lined.old (λ r. LinedFile W.Write E.Sink
-        (ruled_in F.Folder folder.now r) name.now result streams.old streams.new) }
+    ensures outcome { IfLined A.Automaton P.Pieces lined.old (DoesFile W.Write E.Sink F.Folder
+        folder.now name.now result streams.old streams.new) }
     ensures still { IfLined A.Automaton P.Pieces lined.old (IsLined A.Automaton P.Pieces lined.new) }
 {
     match cover_file(
