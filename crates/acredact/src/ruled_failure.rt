@@ -94,10 +94,11 @@ fn tell_line_end<E: Sink>(errors: &mut Errors<'_, E>, number: usize)
     ensures told { TellsBytes E.Sink errors.old errors.new (line_end_line number) }
 {
     let mut room = [0; MAX_DIGITS];
+    let digits = digits_of(number as u64, &mut room);
     errors.write(&[
         PROGRAM,
         b": pattern ",
-        digits_of(number as u64, &mut room),
+        digits,
         b" holds a line end: it stands in no line, and rules go line by line\n",
     ]);
 }
@@ -107,13 +108,15 @@ pub fn tell_long<E: Sink>(errors: &mut Errors<'_, E>, most: usize, count: u64)
     ensures told { TellsBytes E.Sink errors.old errors.new (too_long_line most count) }
 {
     let mut room = [0; MAX_DIGITS];
-    let mut most_room = [0; MAX_DIGITS];
+    let mut other_room = [0; MAX_DIGITS];
+    let digits = digits_of(most as u64, &mut room);
+    let other_digits = digits_of(count, &mut other_room);
     errors.write(&[
         PROGRAM,
         b": lines of more than ",
-        digits_of(most as u64, &mut most_room),
+        digits,
         b" bytes, each covered whole: ",
-        digits_of(count, &mut room),
+        other_digits,
         b"\n",
     ]);
 }
