@@ -8,13 +8,17 @@ use Rattle.std.specs.declared.io.traits.Write.{Ghosts as Writers}
 use Rattle.aho_core.specs.Listing.{IsMember}
 use Rattle.aho_core.specs.Occurrence.{Occurrence}
 use Rattle.aho_core.specs.Patterns.{Patterns}
+use Rattle.aho_core.specs.Replacement.{pieces_of}
 use Rattle.aho_core.specs.declared.error.stream.StreamError.TheVariants.{Match, Read, Write, WriteZero, Memory, PositionLimit}
 use Rattle.aho_core.specs.declared.search.MatchKind.TheVariants.{Standard}
 use Rattle.aho_automaton.specs.declared.automaton.Automaton.{Ghosts as Automata}
 use Rattle.aho_cover.specs.Pieces.{PieceRule, fixed_rule}
 use Rattle.aho_cover.specs.declared.pieces.Pieces.{Ghosts as PieceGhosts}
+use Rattle.aho_devices.specs.declared.adapters.FromRead.{FromRead}
+use Rattle.aho_devices.specs.declared.adapters.FromWrite.{FromWrite}
 use Rattle.aho_devices.specs.declared.device.Sink.{Ghosts as SinkGhosts}
 use Rattle.aho_stream.specs.Replacing.{MayBe}
+use Rattle.programs.specs.Names.{name_bytes}
 use Rattle.programs.specs.Streams.{bytes_left, output_bytes}
 use Rattle.programs.specs.Telling.{Tells, TellsSome}
 use Rattle.programs.specs.declared.errors.Errors.{Errors}
@@ -28,7 +32,7 @@ use Rattle.secret_rules.specs.Rules.{AreSound}
 use Rattle.secret_rules.specs.declared.error.LineError.{LineError}
 use Rattle.secret_rules.specs.declared.error.LineError.TheVariants.{Mark, Stream}
 use Rattle.secret_rules.specs.declared.rule.Rule.{Rule}
-use Rattle.acredact.specs.Arguments.{AsksForRules, Given, has}
+use Rattle.acredact.specs.Arguments.{AsksForRules, Given, all_given, has}
 use Rattle.acredact.specs.Calls.{Call, IsUnreadLine, call_of, names_asked, pieces_asked, reading_by, text_asked}
 use Rattle.acredact.specs.Doubts.{all_doubt_lines}
 use Rattle.acredact.specs.Files.{WritesText}
@@ -38,6 +42,7 @@ use Rattle.acredact.specs.Reads.{OfName}
 use Rattle.acredact.specs.RuleLines.{IsRuledLine, too_long_line}
 use Rattle.acredact.specs.Tables.{Secret, patterns_in, secrets_of}
 use Rattle.acredact.specs.declared.arguments.Word.TheVariants.{AsWord, IgnoreCase}
+use Rattle.acredact.specs.declared.arguments.Item.{Item}
 use Rattle.acredact.specs.declared.folder.Folder.{Ghosts as Folders}
 use Rattle.acredact.specs.declared.patterns.Rule.{Rule as PatternRule}
 use Rattle.acredact.specs.declared.ruled_failure.RuledFailure.{RuledFailure}
@@ -94,10 +99,6 @@ pub record LinesOutcome (ruling : Ruling) (result : Result (Option Reason) LineE
   pub whole : result ≡ Ok None → RedactsLines ruling left left' held held'
   pub begun : WritesLines ruling left left' held held'
 
--- whatever an opened file has left afterwards
-abbrev pub OpenedLines : Ruling → Result (Option Reason) LineError → (left held held' : Option (List ℕ)) → Type 0
-OpenedLines ruling result left held held' = (rest : Option (List ℕ)) × LinesOutcome ruling result left rest held held'
-
 -- what is redacted so: what the folder holds under a name, where it tells that, and whether the output may go to it
 pub record RuledWork : Type 1 where
   pub holds : List ℕ → Option (List ℕ)
@@ -148,7 +149,20 @@ AreSearchedBy G automaton searched = (p : Patterns) → G.is_of automaton p → 
 abbrev pub IfLined : {A P : Type 0} → Automata A → PieceGhosts P → Lined A P → (Ruling → Type 0) → Type 0
 IfLined G Q lined Holds = (ruling : Ruling) → IsLined G Q lined ruling → Holds ruling
 
--- and of what it does in a folder
+-- it does so by the patterns of an automaton, where it has these texts
+abbrev pub LinesBy : {A P : Type 0} → Automata A → PieceGhosts P → A → Bool → List Rule → ℕ → List (Bor (List ℕ)) → Lined A P → Type 0
+LinesBy G Q automaton words rules most texts lined =
+    (p : Patterns) → G.is_of automaton p → IsLined G Q lined (ruling_as words rules most (fixed_rule (pieces_of texts)) p)
+
+-- it does so by something
+abbrev pub IsAnyLined : {A P : Type 0} → Automata A → PieceGhosts P → Lined A P → Type 0
+IsAnyLined G Q lined = (ruling : Ruling) × IsLined G Q lined ruling
+
+-- and afterwards as before
+abbrev pub StaysLined : {A P : Type 0} → Automata A → PieceGhosts P → Lined A P → Lined A P → Type 0
+StaysLined G Q lined lined' = IfLined G Q lined (IsLined G Q lined')
+
+-- what it does in a folder
 abbrev pub ruled_in : {F X : Type 0} → Folders F X → F → Ruling → RuledWork
 ruled_in D folder ruling = record { holds = D.holds folder; meets = D.meets folder; ruling = ruling }
 
@@ -262,6 +276,21 @@ module _ {E : Type 0} (K : SinkGhosts E) where
     pub tells : status ≡ 2 → TellsSome K (IsRuledTold call) errors errors'
     pub quiet : status ≡ 0 → Tells K (IsRuledNotice call) errors errors'
 
+-- whatever an opened file has left afterwards
+abbrev pub OpenedDone : {W : Type 0} → Writers W → Result (Option Reason) LineError → (left : Option (List ℕ)) → (output output' : FromWrite W) → Ruling → Type 0
+OpenedDone Writes result left output output' ruling =
+    (rest : Option (List ℕ)) × LinesOutcome ruling result left rest (output_bytes Writes output) (output_bytes Writes output')
+
+module _ {R : Type 0} {Reads : Readers R} {W : Type 0} (Writes : Writers W) where
+  -- what comes of an input, of an opened file, and of the file of a name
+  abbrev pub LinesDone : Result (Option Reason) LineError → (input input' : FromRead R Reads) → (output output' : FromWrite W) → Ruling → Type 0
+  LinesDone result input input' output output' ruling =
+      LinesOutcome ruling result (bytes_left input) (bytes_left input') (output_bytes Writes output) (output_bytes Writes output')
+
+  abbrev pub NamedDone : {F X : Type 0} → Folders F X → F → List ℕ → Result (Option Reason) LineError → (input input' : FromRead R Reads) → (output output' : FromWrite W) → Ruling → Type 0
+  NamedDone D folder name result input input' output output' ruling =
+      NamedOutcome (ruled_in D folder ruling) name result (bytes_left input) (bytes_left input') (output_bytes Writes output) (output_bytes Writes output')
+
 module _ {R : Type 0} {Reads : Readers R} {W E : Type 0} (Writes : Writers W) where
   -- what holds from one state of the streams to another
   abbrev pub Between : ((left left' held held' : Option (List ℕ)) → (errors errors' : Errors E) → Type 0) → (streams streams' : Streams R W E Reads) → Type 0
@@ -279,9 +308,9 @@ module _ {R : Type 0} {Reads : Readers R} {W E : Type 0} (Writes : Writers W) wh
 
   module _ (K : SinkGhosts E) where
     -- what comes of patterns and rules that were loaded
-    abbrev pub LoadedRuled : {F X : Type 0} → Folders F X → F → List Given → List PatternRule → List Rule → Result Bool RuledFailure → (streams streams' : Streams R W E Reads) → Type 0
-    LoadedRuled D folder given secrets rules result streams streams' =
-        Between (RuledOutcome K (call_of D folder given) (ruled_load secrets rules) result) streams streams'
+    abbrev pub LoadedRuled : {F X : Type 0} → Folders F X → F → List Item → List PatternRule → List Rule → Result Bool RuledFailure → (streams streams' : Streams R W E Reads) → Type 0
+    LoadedRuled D folder items secrets rules result streams streams' =
+        Between (RuledOutcome K (call_of D folder (all_given items)) (ruled_load secrets rules) result) streams streams'
 
     -- of patterns that were loaded, where the rules are to be
     abbrev pub UnruledOutcome : {F X : Type 0} → Folders F X → F → List Given → List PatternRule → Result Bool RuledFailure → (streams streams' : Streams R W E Reads) → Type 0
@@ -300,5 +329,5 @@ module _ {R : Type 0} {Reads : Readers R} {W E : Type 0} (Writes : Writers W) wh
     abbrev pub DoesFile : {F X : Type 0} → Folders F X → F → List ℕ → Result Bool LineError → (streams streams' : Streams R W E Reads) → Ruling → Type 0
     DoesFile D folder name result streams streams' ruling = Between (LinedFile K (ruled_in D folder ruling) name result) streams streams'
 
-    abbrev pub DoesFiles : {F X : Type 0} → Folders F X → F → List (List ℕ) → Result Bool LineError → (streams streams' : Streams R W E Reads) → Ruling → Type 0
-    DoesFiles D folder names result streams streams' ruling = Between (LinedFiles K (ruled_in D folder ruling) names result) streams streams'
+    abbrev pub DoesFiles : {F X : Type 0} → Folders F X → F → List (Bor (List ℕ)) → Result Bool LineError → (streams streams' : Streams R W E Reads) → Ruling → Type 0
+    DoesFiles D folder names result streams streams' ruling = Between (LinedFiles K (ruled_in D folder ruling) (name_bytes names) result) streams streams'

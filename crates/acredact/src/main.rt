@@ -57,9 +57,10 @@ ghost use Rattle.std.specs.Prelude.{◌≡◌, ◌≤◌, IfErr, IfOk, false, tr
 ghost use Rattle.std.specs.Process.{exit_status};
 ghost use Rattle.programs.specs.Telling.{TellsSome};
 ghost use Rattle.acredact.specs.Apart.{tells_nothing};
-ghost use Rattle.acredact.specs.Arguments.{AreMistaken, IfAsked, IfChecking, IfNoCheck, IsCheck, RefusesUnclean};
+ghost use Rattle.acredact.specs.Arguments.{AreMistaken, IfAsked, IfChecking, IfNoCheck, IfRuled, IsCheck, RefusesUnclean};
 ghost use Rattle.acredact.specs.Calls.{BeginsAsked, IsRefusedLine, LeavesNoneAsked, RedactsAsked};
 ghost use Rattle.acredact.specs.Checks.{MatchedAsked, UnmatchedAsked};
+ghost use Rattle.acredact.specs.Ruled.{RuledAsked, RuledBegins};
 
 use aho_devices::adapters::{FromRead, FromWrite};
 use aho_devices::device::Sink;
@@ -185,6 +186,10 @@ fn exit_code<F: Folder, I: Read, W: Write, E: Sink>(
         → LeavesNoneAsked W.Write F.Folder folder.now given streams.old streams.new)) }
     ensures begins { IfOk given (λ apart. IfAsked apart.arguments.items (λ all.
         BeginsAsked W.Write F.Folder folder.now all streams.old streams.new)) }
+    ensures ruled { IfOk given (λ apart. IfRuled apart.arguments.items (λ given.
+        exit_status result ≡ 0 → RuledAsked W.Write F.Folder folder.now given streams.old streams.new)) }
+    ensures ruled_begins { IfOk given (λ apart. IfRuled apart.arguments.items (λ all.
+        RuledBegins W.Write F.Folder folder.now all streams.old streams.new)) }
     ensures unmatched { IfOk given (λ apart. IfChecking apart.arguments.items (λ given.
         exit_status result ≡ 0 → UnmatchedAsked F.Folder folder.now given streams.old streams.new)) }
     ensures matched { IfOk given (λ apart. IfChecking apart.arguments.items (λ given.

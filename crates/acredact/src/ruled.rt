@@ -101,7 +101,7 @@ fn redact_doubted<'a, F: Folder, I: Read, W: Write, E: Sink>(
     streams: &mut Streams<'_, I, W, E>,
 ) -> Result<bool, RuledFailure<'a>>
     requires some { HaveNoEmpty (secrets_of secrets.now) }
-    ensures outcome { LoadedRuled W.Write E.Sink F.Folder folder.now (all_given given.now) secrets.now line_rules.now
+    ensures outcome { LoadedRuled W.Write E.Sink F.Folder folder.now given.now secrets.now line_rules.now
         result streams.old streams.new }
     ensures flushed { OnOk result (streams.new.output.device.flushed ≡ true) }
 {
@@ -121,7 +121,7 @@ fn redact_ruled<'a, F: Folder, I: Read, W: Write, E: Sink>(
     streams: &mut Streams<'_, I, W, E>,
 ) -> Result<bool, RuledFailure<'a>>
     requires some { HaveNoEmpty (secrets_of secrets.now) }
-    ensures outcome { LoadedRuled W.Write E.Sink F.Folder folder.now (all_given given.now) secrets.now line_rules.now
+    ensures outcome { LoadedRuled W.Write E.Sink F.Folder folder.now given.now secrets.now line_rules.now
         result streams.old streams.new }
     ensures flushed { OnOk result (streams.new.output.device.flushed ≡ true) }
 {

@@ -1,14 +1,9 @@
 //! The redaction of files line by line, one after another.
 
 ghost use Rattle.std.specs.Prelude.{◌≡◌, IfOk, IfSome, OnOk, false, true};
-ghost use Rattle.aho_core.specs.Patterns.{Patterns};
-ghost use Rattle.aho_core.specs.Replacement.{pieces_of};
-ghost use Rattle.aho_cover.specs.Pieces.{fixed_rule};
-ghost use Rattle.programs.specs.Names.{name_bytes};
-ghost use Rattle.programs.specs.Streams.{bytes_left, output_bytes};
 ghost use Rattle.secret_rules.specs.OpenLines.{CanSearch};
 ghost use Rattle.secret_rules.specs.Ready.{CanCoverLines, most_of, rules_of, searched_automaton, words_of};
-ghost use Rattle.acredact.specs.Ruled.{AreSearchedBy, DoesFile, DoesFiles, IfLined, IsLined, LinesOutcome, NamedOutcome, OpenedLines, Ruling, ruled_in, ruling_as, unread_of};
+ghost use Rattle.acredact.specs.Ruled.{AreSearchedBy, DoesFile, DoesFiles, IfLined, IsAnyLined, LinesBy, LinesDone, NamedDone, OpenedDone, StaysLined, unread_of};
 
 use crate::failure::{tell_output, tell_unread};
 use crate::files::{both, is_input};
@@ -50,9 +45,8 @@ pub fn lined_of<'r, 'a, 'p, 'q, A: Automaton>(
     most: usize,
 ) -> Result<Lined<'r, 'a, A, PatternPieces<'p, 'q>>, AllocError>
     requires ready { CanSearch A.Automaton automaton.now }
-    ensures lined { IfOk result (λ lined. (p : Patterns) → A.is_of automaton.entry.now p
-        → IsLined A.Automaton ⟦<PatternPieces as Pieces>⟧ lined
-        (ruling_as words rules.entry.now most (fixed_rule (pieces_of texts.entry.now)) p)) }
+    ensures lined { IfOk result (LinesBy A.Automaton ⟦<PatternPieces<'p, 'q> as Pieces>⟧
+        automaton.entry.now words rules.entry.now most texts.entry.now) }
 {
     let cover = line_cover(alloc, automaton, rules, words, most)?;
     let pieces = PatternPieces::new(texts);
@@ -111,9 +105,9 @@ pub fn cover_files<A: Automaton, P: Pieces, F: Folder, I: Read, W: Write, E: Sin
     counts: &mut [u64],
     streams: &mut Streams<'_, I, W, E>,
 ) -> Result<bool, LineError>
-    requires ready { (r : Ruling) × IsLined A.Automaton P.Pieces lined.old r }
+    requires ready { IsAnyLined A.Automaton P.Pieces lined.old }
     ensures outcome { IfLined A.Automaton P.Pieces lined.old (DoesFiles W.Write E.Sink F.Folder
-        folder.now (name_bytes names.now) result streams.old streams.new) }
+        folder.now names.now result streams.old streams.new) }
     ensures flushed { OnOk result (streams.new.output.device.flushed ≡ true) }
 {
     let all = cover_each(lined, folder, names, counts, streams)?;
@@ -129,9 +123,9 @@ fn cover_each<A: Automaton, P: Pieces, F: Folder, I: Read, W: Write, E: Sink>(
     counts: &mut [u64],
     streams: &mut Streams<'_, I, W, E>,
 ) -> Result<bool, LineError>
-    requires ready { (r : Ruling) × IsLined A.Automaton P.Pieces lined.old r }
+    requires ready { IsAnyLined A.Automaton P.Pieces lined.old }
     ensures outcome { IfLined A.Automaton P.Pieces lined.old (DoesFiles W.Write E.Sink F.Folder
-        folder.now (name_bytes names.now) result streams.old streams.new) }
+        folder.now names.now result streams.old streams.new) }
 {
     let mut all = true;
     let mut rest = names;
@@ -152,10 +146,10 @@ fn cover_told<A: Automaton, P: Pieces, F: Folder, I: Read, W: Write, E: Sink>(
     counts: &mut [u64],
     streams: &mut Streams<'_, I, W, E>,
 ) -> Result<bool, LineError>
-    requires ready { (r : Ruling) × IsLined A.Automaton P.Pieces lined.old r }
+    requires ready { IsAnyLined A.Automaton P.Pieces lined.old }
     ensures outcome { IfLined A.Automaton P.Pieces lined.old (DoesFile W.Write E.Sink F.Folder
         folder.now name.now result streams.old streams.new) }
-    ensures still { IfLined A.Automaton P.Pieces lined.old (IsLined A.Automaton P.Pieces lined.new) }
+    ensures still { StaysLined A.Automaton P.Pieces lined.old lined.new }
 {
     if folder.is_output(name) {
         tell_output(&mut streams.errors, name);
@@ -172,11 +166,11 @@ fn cover_apart<A: Automaton, P: Pieces, F: Folder, I: Read, W: Write, E: Sink>(
     counts: &mut [u64],
     streams: &mut Streams<'_, I, W, E>,
 ) -> Result<bool, LineError>
-    requires ready { (r : Ruling) × IsLined A.Automaton P.Pieces lined.old r }
+    requires ready { IsAnyLined A.Automaton P.Pieces lined.old }
     requires apart { F.meets folder.now name.now false }
     ensures outcome { IfLined A.Automaton P.Pieces lined.old (DoesFile W.Write E.Sink F.Folder
         folder.now name.now result streams.old streams.new) }
-    ensures still { IfLined A.Automaton P.Pieces lined.old (IsLined A.Automaton P.Pieces lined.new) }
+    ensures still { StaysLined A.Automaton P.Pieces lined.old lined.new }
 {
     match cover_file(
         lined,
@@ -203,11 +197,10 @@ fn cover_file<A: Automaton, P: Pieces, F: Folder, I: Read, W: Write>(
     input: &mut FromRead<I>,
     output: &mut FromWrite<W>,
 ) -> Result<Option<Reason>, LineError>
-    requires ready { (r : Ruling) × IsLined A.Automaton P.Pieces lined.old r }
-    ensures outcome { IfLined A.Automaton P.Pieces lined.old (λ r. NamedOutcome
-        (ruled_in F.Folder folder.now r) name.now result (bytes_left input.old) (bytes_left input.new)
-        (output_bytes W.Write output.old) (output_bytes W.Write output.new)) }
-    ensures still { IfLined A.Automaton P.Pieces lined.old (IsLined A.Automaton P.Pieces lined.new) }
+    requires ready { IsAnyLined A.Automaton P.Pieces lined.old }
+    ensures outcome { IfLined A.Automaton P.Pieces lined.old (NamedDone W.Write F.Folder
+        folder.now name.now result input.old input.new output.old output.new) }
+    ensures still { StaysLined A.Automaton P.Pieces lined.old lined.new }
 {
     if is_input(name) {
         return cover_input(lined, counts, input, output);
@@ -225,10 +218,10 @@ fn cover_opened<A: Automaton, P: Pieces, I: Read + Drop, W: Write>(
     reader: I,
     output: &mut FromWrite<W>,
 ) -> Result<Option<Reason>, LineError>
-    requires ready { (r : Ruling) × IsLined A.Automaton P.Pieces lined.old r }
-    ensures outcome { IfLined A.Automaton P.Pieces lined.old (λ r. OpenedLines r result (I.remaining reader)
-        (output_bytes W.Write output.old) (output_bytes W.Write output.new)) }
-    ensures still { IfLined A.Automaton P.Pieces lined.old (IsLined A.Automaton P.Pieces lined.new) }
+    requires ready { IsAnyLined A.Automaton P.Pieces lined.old }
+    ensures outcome { IfLined A.Automaton P.Pieces lined.old (OpenedDone W.Write
+        result (I.remaining reader) output.old output.new) }
+    ensures still { StaysLined A.Automaton P.Pieces lined.old lined.new }
 {
     let mut source = FromRead::new(reader);
     cover_input(lined, counts, &mut source, output)
@@ -241,10 +234,10 @@ fn cover_input<A: Automaton, P: Pieces, I: Read, W: Write>(
     input: &mut FromRead<I>,
     output: &mut FromWrite<W>,
 ) -> Result<Option<Reason>, LineError>
-    requires ready { (r : Ruling) × IsLined A.Automaton P.Pieces lined.old r }
-    ensures outcome { IfLined A.Automaton P.Pieces lined.old (λ r. LinesOutcome r result
-        (bytes_left input.old) (bytes_left input.new) (output_bytes W.Write output.old) (output_bytes W.Write output.new)) }
-    ensures still { IfLined A.Automaton P.Pieces lined.old (IsLined A.Automaton P.Pieces lined.new) }
+    requires ready { IsAnyLined A.Automaton P.Pieces lined.old }
+    ensures outcome { IfLined A.Automaton P.Pieces lined.old (LinesDone W.Write
+        result input.old input.new output.old output.new) }
+    ensures still { StaysLined A.Automaton P.Pieces lined.old lined.new }
 {
     input.restart();
     unread_of(cover_lines(

@@ -35,7 +35,7 @@ returns-in_err-whole g c =
           let far = subst (λ (l : List (List ℕ)). LinedSoFar g.E.Sink work (name_bytes c.args.names.now) l c.loop-rest.all (bytes_left c.args.streams.now.input) (bytes_left c.loop-rest.streams.input)
           (output_bytes g.W.Write c.args.streams.now.output) (output_bytes g.W.Write c.loop-rest.streams.output) c.args.streams.now.errors c.loop-rest.streams.errors)
           (names_cut c.loop-rest.rest.now _ some) so.1 in
-          subst (λ (r : Result Bool LineError). DoesFiles g.W.Write g.E.Sink g.F.Folder c.args.folder.now (name_bytes c.args.names.now) r c.args.streams.now c.cover_told.new.streams ruling) (sym is)
+          subst (λ (r : Result Bool LineError). DoesFiles g.W.Write g.E.Sink g.F.Folder c.args.folder.now c.args.names.now r c.args.streams.now c.cover_told.new.streams ruling) (sym is)
           (lined_fails g.E.Sink work (name_bytes c.args.names.now) _ _ c.loop-rest.all _ _ _ _ _ _ _ _ _ _ far (c.in_err-whole.ensures.outcome ruling so.0));
     }
 
