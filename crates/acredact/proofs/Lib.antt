@@ -60,6 +60,7 @@ mod Ready
 mod Naming
 -- calls with rules
 mod RulesRead
+mod LongLines
 mod RuledText
 mod RuledFiles
 mod Ruled

@@ -1,8 +1,8 @@
 -- What comes of a call with rules, and its status.
-use Rattle.std.proofs.Common.{◌≡◌, inl, inr, ℕ, ◌≤◌, List, Option, true, false, refl, sym, ap, subst, ◌∙◌, arith}
-use Rattle.std.specs.Prelude.{Bool, Result, Ok, Err}
-use Rattle.std.specs.Io.KnownBytes.{Keeps}
+use Rattle.std.proofs.Common.{◌≡◌, inl, inr, ℕ, ◌-◌, List, [], ◌∷◌, Option, true, false, refl, sym, ap, subst, append-nil, arith}
+use Rattle.std.specs.Prelude.{Bool, Result, Ok, Err, min, ◌^◌, ◌==◌, if◌then◌else◌}
 use Rattle.std.proofs.KnownBytes.{Keeps-refl}
+use Rattle.std.proofs.lemmas.List.Elements.{All-cons, All-nil}
 use Rattle.aho_devices.specs.declared.device.Sink.{Ghosts as SinkGhosts}
 use Rattle.programs.specs.Telling.{Tells, TellsBytes}
 use Rattle.programs.specs.declared.errors.Errors.{Errors}
@@ -11,8 +11,9 @@ use Rattle.acredact.specs.Calls.{Call, IsUnreadLine, names_asked, reading_by}
 use Rattle.acredact.specs.Doubts.{TellsDoubts, all_doubt_lines}
 use Rattle.acredact.specs.Failures.{IsFailureLine}
 use Rattle.acredact.specs.LineRules.{most_asked}
-use Rattle.acredact.specs.RuleLines.{IsRuledLine}
-use Rattle.acredact.specs.Ruled.{AreRuledLoaded, IsLongLine, IsRuledNotice, IsRuledTold, LinedFiles, RuledCall, RuledLoad, RuledOutcome, RuledStatus, TellsRuled, ruled_by}
+use Rattle.acredact.specs.RuleLines.{IsRuledLine, too_long_line}
+use Rattle.acredact.specs.LongLines.{CountsLongAll, HaveLong, long_told}
+use Rattle.acredact.specs.Ruled.{AreRuledLoaded, DoubtedRuled, IsRuledNotice, IsRuledTold, LinedFiles, RuledCall, RuledLoad, RuledOutcome, RuledStatus, TellsRuled, ruled_by, ruling_by}
 use Rattle.acredact.specs.Tables.{Secret}
 use Rattle.acredact.specs.declared.failure.Failure.{Failure}
 use Rattle.acredact.specs.declared.ruled_failure.RuledFailure.{RuledFailure}
@@ -23,6 +24,10 @@ use Rattle.acredact.proofs.RuledFiles.{all_then, none_begun, some_then, some_wea
 use Rattle.acredact.proofs.Statuses.{tells_one}
 use Rattle.acredact.proofs.Warned.{all_members}
 
+-- so many lines of all files are too long, and the count of them is this
+abbrev pub HaveLongTold : Call → (left left' : Option (List ℕ)) → ℕ → Type 0
+HaveLongTold call left left' told = (count : ℕ) × HaveLong call.holds (most_asked call.given) (names_asked call.given) count left left' × (told ≡ min count (2 ^ 64 - 1))
+
 module _ {E : Type 0} (K : SinkGhosts E) (call : Call) where
   -- the arguments were refused, or there was no memory to read them
   pub ruled_refused : (left held : Option (List ℕ)) (failure : Failure) (errors errors' : Errors E) (line : List ℕ) → IsFailureLine failure line → TellsBytes K errors errors' line
@@ -31,7 +36,7 @@ module _ {E : Type 0} (K : SinkGhosts E) (call : Call) where
     redacts = λ (none : 2 ≡ 0). absurd (omega (arith, none));
     begins = inl (Keeps-refl held);
     tells = λ two. tells_one K (IsRuledTold call) errors errors' line (inr (inl (Plain failure, is))) told;
-    quiet = λ (none : 2 ≡ 0). absurd (omega (arith, none));
+    notes = λ (none : 2 ≡ 0). absurd (omega (arith, none));
   }
 
   -- nothing is told of a call that ends early, but why it does
@@ -39,7 +44,6 @@ module _ {E : Type 0} (K : SinkGhosts E) (call : Call) where
   tells_nothing failure errors = record {
     told = tells_same K (IsRuledTold call) errors errors refl;
     partly = λ (is : Err failure ≡ Ok false). absurd (cc);
-    quiet = λ (is : Err failure ≡ Ok true). absurd (cc);
   }
 
   -- it ended before anything was loaded
@@ -48,6 +52,7 @@ module _ {E : Type 0} (K : SinkGhosts E) (call : Call) where
     whole = λ (is : Err failure ≡ Ok true). absurd (cc);
     begun = inl (Keeps-refl held);
     tells = tells_nothing failure errors;
+    notes = λ (is : Err failure ≡ Ok true). absurd (cc);
   }
 
   -- or before a file was read
@@ -56,15 +61,26 @@ module _ {E : Type 0} (K : SinkGhosts E) (call : Call) where
     whole = λ (is : Err failure ≡ Ok true). absurd (cc);
     begun = none_begun (ruled_by call load) (names_asked call.given) left held;
     tells = tells_nothing failure errors;
+    notes = λ (is : Err failure ≡ Ok true). absurd (cc);
+  }
+
+  -- before doubtful patterns were told
+  pub doubted_none : (load : RuledLoad) (failure : RuledFailure) (left held : Option (List ℕ)) (errors : Errors E) → DoubtedRuled K call load (Err failure) left left held held errors errors
+  doubted_none load failure left held errors = record {
+    whole = λ (is : Err failure ≡ Ok true). absurd (cc);
+    begun = none_begun (ruled_by call load) (names_asked call.given) left held;
+    tells = tells_nothing failure errors;
+    notes = λ (is : Err failure ≡ Ok true). absurd (cc);
   }
 
   -- what was loaded decides what comes of the call
   pub call_loaded : (load : RuledLoad) (result : Result Bool RuledFailure) (left between left' held held' : Option (List ℕ)) (errors errors' : Errors E)
-      → AreRuledLoaded (reading_by call) call.given load left between → RuledOutcome K call load result between left' held held' errors errors' → RuledCall K call result left left' held held' errors errors'
+      → AreRuledLoaded (reading_by call) call.given load left between → DoubtedRuled K call load result between left' held held' errors errors' → RuledCall K call result left left' held held' errors errors'
   call_loaded load result left between left' held held' errors errors' loaded of = record {
     whole = λ is. record { load = load; between = between; loaded = loaded; redacted = of.whole is };
     begun = inr (record { load = load; between = between; loaded = loaded; begun = of.begun });
     tells = of.tells;
+    notes = λ is. record { load = load; between = between; loaded = loaded; notes = of.notes is };
   }
 
   -- doubtful patterns of lists may be told
@@ -78,51 +94,74 @@ module _ {E : Type 0} (K : SinkGhosts E) (call : Call) where
   notice_told : (line : List ℕ) → IsRuledNotice call line → IsRuledTold call line
   notice_told line is = inr (inr is)
 
-  -- behind such notices
-  pub ruled_behind : (load : RuledLoad) (result : Result Bool RuledFailure) (left left' held held' : Option (List ℕ)) (errors meanwhile errors' : Errors E) → Tells K (IsRuledNotice call) errors meanwhile
-      → RuledOutcome K call load result left left' held held' meanwhile errors' → RuledOutcome K call load result left left' held held' errors errors'
-  ruled_behind load result left left' held held' errors meanwhile errors' first of =
-      let before = tells_weaker K (IsRuledNotice call) (IsRuledTold call) errors meanwhile notice_told first in
+  -- behind what is told of them
+  pub ruled_behind : (load : RuledLoad) (result : Result Bool RuledFailure) (left left' held held' : Option (List ℕ)) (errors meanwhile errors' : Errors E) → TellsDoubts K false call.given load.secrets errors meanwhile
+      → RuledOutcome K call load result left left' held held' meanwhile errors' → DoubtedRuled K call load result left left' held held' errors errors'
+  ruled_behind load result left left' held held' errors meanwhile errors' doubted of =
+      let before = tells_weaker K (IsRuledNotice call) (IsRuledTold call) errors meanwhile notice_told (doubts_told load.secrets errors meanwhile doubted) in
       record {
         whole = of.whole;
         begun = of.begun;
         tells = record {
           told = all_then K (IsRuledTold call) errors meanwhile errors' before of.tells.told;
           partly = λ is. then_some K (IsRuledTold call) errors meanwhile errors' before (of.tells.partly is);
-          quiet = λ is. all_then K (IsRuledNotice call) errors meanwhile errors' first (of.tells.quiet is);
         };
+        notes = λ is. record { meanwhile = meanwhile; doubted = doubted; long = of.notes is };
+      }
+
+  -- how many lines were too long may be told
+  long_lines : (count : ℕ) (errors errors' : Errors E) → TellsBytes K errors errors' (long_told (most_asked call.given) count) → Tells K (IsRuledTold call) errors errors'
+  long_lines count errors errors' told = by (count == 0) told
+    where
+      by : (b : Bool) → TellsBytes K errors errors' (if b then [] else too_long_line (most_asked call.given) count) → Tells K (IsRuledTold call) errors errors'
+      by true none = record { told = []; are_lines = All-nil (IsRuledTold call); written = none }
+      by false line = record {
+        told = too_long_line (most_asked call.given) count ∷ [];
+        are_lines = All-cons (IsRuledTold call) (too_long_line (most_asked call.given) count) [] (inr (inr (inr (count, refl)))) (All-nil (IsRuledTold call));
+        written = subst (TellsBytes K errors errors') (sym (append-nil (too_long_line (most_asked call.given) count))) line;
       }
 
   -- the files were redacted, and it is told how many lines were too long
-  pub files_done : (load : RuledLoad) (all : Bool) (left left' held held' : Option (List ℕ)) (errors meanwhile errors' : Errors E)
-      → LinedFiles K (ruled_by call load) (names_asked call.given) (Ok all) left left' held held' errors meanwhile → Tells K (IsLongLine (most_asked call.given)) meanwhile errors'
-      → RuledOutcome K call load (Ok all) left left' held held' errors errors'
-  files_done load all left left' held held' errors meanwhile errors' files long =
+  pub files_done : (load : RuledLoad) (all : Bool) (counts counts' : List ℕ) (count : ℕ) (left left' held held' : Option (List ℕ)) (errors meanwhile errors' : Errors E)
+      → LinedFiles K (ruled_by call load) (names_asked call.given) (Ok all) counts counts' left left' held held' errors meanwhile
+      → (CountsLongAll call.holds (ruling_by call.given load).covering (names_asked call.given) left left' counts counts' → HaveLongTold call left left' count)
+      → TellsBytes K meanwhile errors' (long_told (most_asked call.given) count) → RuledOutcome K call load (Ok all) left left' held held' errors errors'
+  files_done load all counts counts' count left left' held held' errors meanwhile errors' files counted long =
       let unread = λ (line : List ℕ) (is : IsUnreadLine (names_asked call.given) line). inl is in
-      let later = tells_weaker K (IsLongLine (most_asked call.given)) (IsRuledTold call) meanwhile errors' (λ line is. inr (inr (inr is))) long in
+      let later = long_lines count meanwhile errors' long in
       record {
-        whole = λ is. files.whole (ap Ok (let same = is in cc));
+        whole = λ is. files.whole (ap Ok (ok_is all true is));
         begun = files.begun;
         tells = record {
           told = all_then K (IsRuledTold call) errors meanwhile errors' (tells_weaker K (IsUnreadLine (names_asked call.given)) (IsRuledTold call) errors meanwhile unread files.told) later;
           partly = λ is. some_then K (IsRuledTold call) errors meanwhile errors'
-              (some_weaker K (IsUnreadLine (names_asked call.given)) (IsRuledTold call) errors meanwhile unread (files.partly (ap Ok (let same = is in cc)))) later;
-          quiet = λ is. subst (λ (e : Errors E). Tells K (IsRuledNotice call) e errors') (files.quiet (ap Ok (let same = is in cc)))
-              (tells_weaker K (IsLongLine (most_asked call.given)) (IsRuledNotice call) meanwhile errors' (λ line is. inr is) long);
+              (some_weaker K (IsUnreadLine (names_asked call.given)) (IsRuledTold call) errors meanwhile unread (files.partly (ap Ok (ok_is all false is)))) later;
         };
+        notes = λ is.
+            let whole = ok_is all true is in
+            let have = counted (files.long (ap Ok whole)) in
+            record {
+              count = have.0;
+              have = have.1;
+              told = subst (λ (e : Errors E). TellsBytes K e errors' (long_told (most_asked call.given) (min have.0 (2 ^ 64 - 1)))) (files.quiet (ap Ok whole))
+                  (subst (λ (n : ℕ). TellsBytes K meanwhile errors' (long_told (most_asked call.given) n)) have.2 long);
+            };
       }
+    where
+      ok_is : (a b : Bool) → Ok {E = RuledFailure} a ≡ Ok b → a ≡ b
+      ok_is a b same = let is = same in cc
 
   -- or not all of them
-  pub files_failed : (load : RuledLoad) (error : LineError) (failure : RuledFailure) (left left' held held' : Option (List ℕ)) (errors errors' : Errors E)
-      → LinedFiles K (ruled_by call load) (names_asked call.given) (Err error) left left' held held' errors errors' → RuledOutcome K call load (Err failure) left left' held held' errors errors'
-  files_failed load error failure left left' held held' errors errors' files = record {
+  pub files_failed : (load : RuledLoad) (error : LineError) (failure : RuledFailure) (counts counts' : List ℕ) (left left' held held' : Option (List ℕ)) (errors errors' : Errors E)
+      → LinedFiles K (ruled_by call load) (names_asked call.given) (Err error) counts counts' left left' held held' errors errors' → RuledOutcome K call load (Err failure) left left' held held' errors errors'
+  files_failed load error failure counts counts' left left' held held' errors errors' files = record {
     whole = λ (is : Err failure ≡ Ok true). absurd (cc);
     begun = files.begun;
     tells = record {
       told = tells_weaker K (IsUnreadLine (names_asked call.given)) (IsRuledTold call) errors errors' (λ line is. inl is) files.told;
       partly = λ (is : Err failure ≡ Ok false). absurd (cc);
-      quiet = λ (is : Err failure ≡ Ok true). absurd (cc);
     };
+    notes = λ (is : Err failure ≡ Ok true). absurd (cc);
   }
 
   -- all was done
@@ -131,7 +170,7 @@ module _ {E : Type 0} (K : SinkGhosts E) (call : Call) where
     redacts = λ is. of.whole refl;
     begins = of.begun;
     tells = λ (is : 0 ≡ 2). absurd (omega (arith, is));
-    quiet = λ is. of.tells.quiet refl;
+    notes = λ is. of.notes refl;
   }
 
   -- some file was not read to its end
@@ -140,7 +179,7 @@ module _ {E : Type 0} (K : SinkGhosts E) (call : Call) where
     redacts = λ (is : 2 ≡ 0). absurd (omega (arith, is));
     begins = of.begun;
     tells = λ is. of.tells.partly refl;
-    quiet = λ (is : 2 ≡ 0). absurd (omega (arith, is));
+    notes = λ (is : 2 ≡ 0). absurd (omega (arith, is));
   }
 
   -- the call ended early, and that is told
@@ -150,5 +189,5 @@ module _ {E : Type 0} (K : SinkGhosts E) (call : Call) where
     redacts = λ (none : 2 ≡ 0). absurd (omega (arith, none));
     begins = of.begun;
     tells = λ two. tells_last K (IsRuledTold call) errors meanwhile errors' line of.tells.told (inr (inl (failure, is))) told;
-    quiet = λ (none : 2 ≡ 0). absurd (omega (arith, none));
+    notes = λ (none : 2 ≡ 0). absurd (omega (arith, none));
   }

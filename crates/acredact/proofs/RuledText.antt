@@ -1,6 +1,6 @@
 -- What comes of a text, by what a cover of its lines leaves.
 use Rattle.std.proofs.Common.{◌≡◌, ◌≢◌, inl, inr, ℕ, List, [], ◌∷◌, ◌++◌, Option, true, false, ◌≤◌, length, map, refl, sym, ap, subst, ◌∙◌, arith}
-use Rattle.std.specs.Prelude.{Bool, IfSome, IsOk, None, Some, Result, Ok, Err}
+use Rattle.std.specs.Prelude.{Bool, IfSome, IsOk, None, Some, Result, Ok, Err, slice_index}
 use Rattle.std.specs.Borrow.{Bor}
 use Rattle.std.specs.Io.{StartsWith}
 use Rattle.std.specs.Io.KnownBytes.{Consumes, IsAtEnd, Keeps}
@@ -12,6 +12,7 @@ use Rattle.aho_core.specs.declared.error.stream.StreamError.TheVariants.{Match, 
 use Rattle.aho_core.specs.declared.search.Anchored.TheVariants.{No}
 use Rattle.aho_core.specs.declared.search.MatchKind.TheVariants.{Standard}
 use Rattle.aho_automaton.specs.declared.automaton.Automaton.{Ghosts as Automata}
+use Rattle.aho_cover.specs.Counting.{grown_count}
 use Rattle.aho_cover.specs.Pieces.{PieceRule}
 use Rattle.aho_cover.specs.declared.pieces.Pieces.{Ghosts as PieceGhosts}
 use Rattle.aho_cover.proofs.Copied.{begins_longer}
@@ -29,8 +30,10 @@ use Rattle.secret_rules.specs.declared.error.LineError.{LineError}
 use Rattle.secret_rules.specs.declared.error.LineError.TheVariants.{Mark, Stream}
 use Rattle.secret_rules.specs.declared.rule.Rule.{Rule}
 use Rattle.secret_rules.proofs.LineRuns.{lines_cover-append}
+use Rattle.acredact.specs.LongLines.{CountsLong, HasLong, long_among, whole_number}
 use Rattle.acredact.specs.Ruled.{BeginsLinesText, IsLined, IsLinesRedaction, LinesOutcome, RedactsLines, Ruling, WritesLines, ruling_as, unread_of}
 use Rattle.acredact.specs.declared.ruled_files.Lined.{Lined}
+use Rattle.acredact.proofs.LongLines.{long_named}
 use Rattle.acredact.proofs.OneFile.{ends_by, known_read}
 
 -- a beginning behind the same bytes
@@ -77,26 +80,43 @@ module _ {R W : Type 0} (S : SourceGhosts R) (K : SinkGhosts W) (Searched : Patt
     written = begun.writes;
   }
 
+  -- each line that is too long is counted
+  long_text : CoversLines S K Searched words rules most rule source source' sink sink' counts counts' → CountsLong (covering_by words rules most p) before (S.remaining source') counts counts'
+  long_text whole =
+      let covering = covering_by words rules most p in (
+        long_among most (stream_lines whole.given),
+        record { text = whole.given; reads = (covers_text whole).reads; are = refl },
+        record {
+          as_many = whole.counted.as_many;
+          grown = λ within. whole.counted.grown (whole_number covering) within
+              ∙ ap (grown_count (slice_index counts (whole_number covering))) (long_named covering [] (stream_lines whole.given) whole.runs (whole.runs_are p sought));
+        },
+      )
+
   -- either by what is answered
   writes_text : (done : Result (Unit {0}) LineError) → LeavesLines S K Searched words rules most rule source source' sink sink' counts counts' done
       → WritesLines (ruling_as words rules most rule p) before (S.remaining source') (K.taken sink) (K.taken sink')
   writes_text (Ok tt) leaves = inl (covers_text leaves.covered)
   writes_text (Err error) leaves = inr (begins_text leaves.begun)
 
-  reads_text : (done : Result (Unit {0}) LineError) → LeavesLines S K Searched words rules most rule source source' sink sink' counts counts' done → unread_of done ≡ Ok None
-      → RedactsLines (ruling_as words rules most rule p) before (S.remaining source') (K.taken sink) (K.taken sink')
-  reads_text (Ok tt) leaves is = covers_text leaves.covered
-  reads_text (Err (Stream (Match cause))) leaves is = absurd (cc)
-  reads_text (Err (Stream (Read fault))) leaves is = absurd (cc)
-  reads_text (Err (Stream (Write fault))) leaves is = absurd (cc)
-  reads_text (Err (Stream WriteZero)) leaves is = absurd (cc)
-  reads_text (Err (Stream Memory)) leaves is = absurd (cc)
-  reads_text (Err (Stream PositionLimit)) leaves is = absurd (cc)
-  reads_text (Err (Mark error)) leaves is = absurd (cc)
+  by_text : (P : Type 0) → (CoversLines S K Searched words rules most rule source source' sink sink' counts counts' → P) → (done : Result (Unit {0}) LineError)
+      → LeavesLines S K Searched words rules most rule source source' sink sink' counts counts' done → unread_of done ≡ Ok None → P
+  by_text P of (Ok tt) leaves is = of leaves.covered
+  by_text P of (Err (Stream (Match cause))) leaves is = absurd (cc)
+  by_text P of (Err (Stream (Read fault))) leaves is = absurd (cc)
+  by_text P of (Err (Stream (Write fault))) leaves is = absurd (cc)
+  by_text P of (Err (Stream WriteZero)) leaves is = absurd (cc)
+  by_text P of (Err (Stream Memory)) leaves is = absurd (cc)
+  by_text P of (Err (Stream PositionLimit)) leaves is = absurd (cc)
+  by_text P of (Err (Mark error)) leaves is = absurd (cc)
 
   pub lines_outcome : (done : Result (Unit {0}) LineError) → LeavesLines S K Searched words rules most rule source source' sink sink' counts counts' done
-      → LinesOutcome (ruling_as words rules most rule p) (unread_of done) before (S.remaining source') (K.taken sink) (K.taken sink')
-  lines_outcome done leaves = record { whole = reads_text done leaves; begun = writes_text done leaves }
+      → LinesOutcome (ruling_as words rules most rule p) (unread_of done) counts counts' before (S.remaining source') (K.taken sink) (K.taken sink')
+  lines_outcome done leaves = record {
+    whole = by_text (RedactsLines (ruling_as words rules most rule p) before (S.remaining source') (K.taken sink) (K.taken sink')) covers_text done leaves;
+    begun = writes_text done leaves;
+    long = by_text (CountsLong (covering_by words rules most p) before (S.remaining source') counts counts') long_text done leaves;
+  }
 
 -- it covers lines as before
 pub still_lined : {A P : Type 0} (G : Automata A) (Q : PieceGhosts P) (old new : Lined A P) (ruling : Ruling) → CanCoverLines G new.cover → CoversTheSame old.cover new.cover
@@ -180,4 +200,12 @@ can_search G automaton p of are standard starts some = record {
   standard = standard;
   starts = starts;
   full = subst (λ (ns : List ℕ). 1 ≤ shortest ns) (sym are) some;
+}
+
+-- so many lines of a text that is known
+pub known_long : (most count : ℕ) (told left left' : Option (List ℕ)) → Keeps told left → HasLong most count left left' → HasLong most count told left'
+known_long most count told left left' kept has = record {
+  text = has.text;
+  reads = record { read = known_read told left left' has.text kept has.reads.read; ended = has.reads.ended };
+  are = has.are;
 }

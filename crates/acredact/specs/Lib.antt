@@ -56,4 +56,5 @@ pub mod InPlace
 -- calls with rules
 pub mod LineRules
 pub mod RuleLines
+pub mod LongLines
 pub mod Ruled

@@ -34,9 +34,10 @@ use Rattle.secret_rules.specs.declared.error.LineError.TheVariants.{Mark, Stream
 use Rattle.secret_rules.specs.declared.rule.Rule.{Rule}
 use Rattle.acredact.specs.Arguments.{AsksForRules, Given, all_given, has}
 use Rattle.acredact.specs.Calls.{Call, IsUnreadLine, call_of, names_asked, pieces_asked, reading_by, text_asked}
-use Rattle.acredact.specs.Doubts.{all_doubt_lines}
+use Rattle.acredact.specs.Doubts.{TellsDoubts, all_doubt_lines}
 use Rattle.acredact.specs.Files.{WritesText}
 use Rattle.acredact.specs.LineRules.{AreRulesRead, most_asked}
+use Rattle.acredact.specs.LongLines.{CountsLong, CountsLongAll, CountsLongNamed, TellsLong}
 use Rattle.acredact.specs.Loading.{AreGiven, Reading}
 use Rattle.acredact.specs.Reads.{OfName}
 use Rattle.acredact.specs.RuleLines.{IsRuledLine, too_long_line}
@@ -95,9 +96,10 @@ unread_of (Err (Stream PositionLimit)) = Ok (Some TooLong)
 unread_of (Err (Mark error)) = Err (Mark error)
 
 -- what comes of a text: its redaction was written, or a beginning of it; and where no reason is answered it was read to its end
-pub record LinesOutcome (ruling : Ruling) (result : Result (Option Reason) LineError) (left left' held held' : Option (List ℕ)) : Type 0 where
+pub record LinesOutcome (ruling : Ruling) (result : Result (Option Reason) LineError) (counts counts' : List ℕ) (left left' held held' : Option (List ℕ)) : Type 0 where
   pub whole : result ≡ Ok None → RedactsLines ruling left left' held held'
   pub begun : WritesLines ruling left left' held held'
+  pub long : result ≡ Ok None → CountsLong ruling.covering left left' counts counts'
 
 -- what is redacted so: what the folder holds under a name, where it tells that, and whether the output may go to it
 pub record RuledWork : Type 1 where
@@ -115,9 +117,10 @@ abbrev pub WritesRuled : RuledWork → List ℕ → (left left' held held' : Opt
 WritesRuled work name left left' held held' = OfName work.holds name (λ l l'. WritesLines work.ruling l l' held held') left left'
 
 -- what comes of the file of a name
-pub record NamedOutcome (work : RuledWork) (name : List ℕ) (result : Result (Option Reason) LineError) (left left' held held' : Option (List ℕ)) : Type 0 where
+pub record NamedOutcome (work : RuledWork) (name : List ℕ) (result : Result (Option Reason) LineError) (counts counts' : List ℕ) (left left' held held' : Option (List ℕ)) : Type 0 where
   pub whole : result ≡ Ok None → OfName work.holds name (λ l l'. RedactsLines work.ruling l l' held held') left left'
   pub begun : WritesRuled work name left left' held held'
+  pub long : result ≡ Ok None → CountsLongNamed work.holds work.ruling.covering name left left' counts counts'
 
 -- of each file the redaction was written, one after another
 abbrev pub AreRuled : RuledWork → List (List ℕ) → (left left' held held' : Option (List ℕ)) → Type 0
@@ -199,15 +202,11 @@ ruling_by given load =
 abbrev pub ruled_by : Call → RuledLoad → RuledWork
 ruled_by call load = record { holds = call.holds; meets = call.meets; ruling = ruling_by call.given load }
 
--- the line that tells how many lines have more bytes than this
-abbrev pub IsLongLine : ℕ → List ℕ → Type 0
-IsLongLine most line = (count : ℕ) × (line ≡ too_long_line most count)
-
 -- what may be told of a call: a doubtful pattern of a list, or how many lines were too long
 abbrev pub IsRuledNotice : Call → List ℕ → Type 0
 IsRuledNotice call line =
     ((secrets : List Secret) × IsMember (all_doubt_lines call.given secrets) line)
-    ⊎ IsLongLine (most_asked call.given) line
+    ⊎ ((count : ℕ) × (line ≡ too_long_line (most_asked call.given) count))
 
 -- or a file that is not read to its end, or why it ends early
 abbrev pub IsRuledTold : Call → List ℕ → Type 0
@@ -236,23 +235,37 @@ module _ (call : Call) (left left' held held' : Option (List ℕ)) where
   BeginsByRules = Keeps held held' ⊎ BeginsLoaded
 
 module _ {E : Type 0} (K : SinkGhosts E) where
-  -- what a call tells: where all was redacted, of doubtful patterns and of lines that were too long alone
+  -- what a call tells that does not redact all
   pub record TellsRuled (call : Call) (result : Result Bool RuledFailure) (errors errors' : Errors E) : Type 0 where
     pub told : Tells K (IsRuledTold call) errors errors'
     pub partly : result ≡ Ok false → TellsSome K (IsRuledTold call) errors errors'
-    pub quiet : result ≡ Ok true → Tells K (IsRuledNotice call) errors errors'
+
+  -- where all was redacted it is told which patterns of lists are doubtful, and how many lines were too long
+  pub record NotesOf (call : Call) (load : RuledLoad) (left left' : Option (List ℕ)) (errors errors' : Errors E) : Type 0 where
+    pub meanwhile : Errors E
+    pub doubted : TellsDoubts K false call.given load.secrets errors meanwhile
+    pub long : TellsLong K call.holds (most_asked call.given) (names_asked call.given) left left' meanwhile errors'
+
+  -- of the patterns and rules that were loaded
+  pub record NotesByRules (call : Call) (left left' : Option (List ℕ)) (errors errors' : Errors E) : Type 0 where
+    pub load : RuledLoad
+    pub between : Option (List ℕ)
+    pub loaded : AreRuledLoaded (reading_by call) call.given load left between
+    pub notes : NotesOf call load between left' errors errors'
 
   -- what comes of a file: its redaction was written, or a beginning of it; and where it was not read to its end that is told
-  pub record LinedFile (work : RuledWork) (name : List ℕ) (result : Result Bool LineError) (left left' held held' : Option (List ℕ)) (errors errors' : Errors E) : Type 0 where
+  pub record LinedFile (work : RuledWork) (name : List ℕ) (result : Result Bool LineError) (counts counts' : List ℕ) (left left' held held' : Option (List ℕ)) (errors errors' : Errors E) : Type 0 where
     pub whole : result ≡ Ok true → RedactsRuled work name left left' held held'
     pub begun : WritesRuled work name left left' held held'
+    pub long : result ≡ Ok true → CountsLongNamed work.holds work.ruling.covering name left left' counts counts'
     pub partly : result ≡ Ok false → TellsSome K (IsUnreadLine (name ∷ [])) errors errors'
     pub untold : (result ≡ Ok false → ⊥) → errors' ≡ errors
 
   -- the same of files, one after another
-  pub record LinedFiles (work : RuledWork) (names : List (List ℕ)) (result : Result Bool LineError) (left left' held held' : Option (List ℕ)) (errors errors' : Errors E) : Type 0 where
+  pub record LinedFiles (work : RuledWork) (names : List (List ℕ)) (result : Result Bool LineError) (counts counts' : List ℕ) (left left' held held' : Option (List ℕ)) (errors errors' : Errors E) : Type 0 where
     pub whole : result ≡ Ok true → AreRuled work names left left' held held'
     pub begun : AreBegun work names left left' held held'
+    pub long : result ≡ Ok true → CountsLongAll work.holds work.ruling.covering names left left' counts counts'
     pub told : Tells K (IsUnreadLine names) errors errors'
     pub partly : result ≡ Ok false → TellsSome K (IsUnreadLine names) errors errors'
     pub quiet : result ≡ Ok true → errors' ≡ errors
@@ -262,34 +275,43 @@ module _ {E : Type 0} (K : SinkGhosts E) where
     pub whole : result ≡ Ok true → AreRuled (ruled_by call load) (names_asked call.given) left left' held held'
     pub begun : AreBegun (ruled_by call load) (names_asked call.given) left left' held held'
     pub tells : TellsRuled call result errors errors'
+    pub notes : result ≡ Ok true → TellsLong K call.holds (most_asked call.given) (names_asked call.given) left left' errors errors'
+
+  -- the same behind what is told of doubtful patterns
+  pub record DoubtedRuled (call : Call) (load : RuledLoad) (result : Result Bool RuledFailure) (left left' held held' : Option (List ℕ)) (errors errors' : Errors E) : Type 0 where
+    pub whole : result ≡ Ok true → AreRuled (ruled_by call load) (names_asked call.given) left left' held held'
+    pub begun : AreBegun (ruled_by call load) (names_asked call.given) left left' held held'
+    pub tells : TellsRuled call result errors errors'
+    pub notes : result ≡ Ok true → NotesOf call load left left' errors errors'
 
   -- and of the whole call
   pub record RuledCall (call : Call) (result : Result Bool RuledFailure) (left left' held held' : Option (List ℕ)) (errors errors' : Errors E) : Type 0 where
     pub whole : result ≡ Ok true → RedactsByRules call left left' held held'
     pub begun : BeginsByRules call left left' held held'
     pub tells : TellsRuled call result errors errors'
+    pub notes : result ≡ Ok true → NotesByRules call left left' errors errors'
 
   -- what its status says
   pub record RuledStatus (call : Call) (status : ℕ) (left left' held held' : Option (List ℕ)) (errors errors' : Errors E) : Type 0 where
     pub redacts : status ≡ 0 → RedactsByRules call left left' held held'
     pub begins : BeginsByRules call left left' held held'
     pub tells : status ≡ 2 → TellsSome K (IsRuledTold call) errors errors'
-    pub quiet : status ≡ 0 → Tells K (IsRuledNotice call) errors errors'
+    pub notes : status ≡ 0 → NotesByRules call left left' errors errors'
 
 -- whatever an opened file has left afterwards
-abbrev pub OpenedDone : {W : Type 0} → Writers W → Result (Option Reason) LineError → (left : Option (List ℕ)) → (output output' : FromWrite W) → Ruling → Type 0
-OpenedDone Writes result left output output' ruling =
-    (rest : Option (List ℕ)) × LinesOutcome ruling result left rest (output_bytes Writes output) (output_bytes Writes output')
+abbrev pub OpenedDone : {W : Type 0} → Writers W → Result (Option Reason) LineError → (counts counts' : List ℕ) → (left : Option (List ℕ)) → (output output' : FromWrite W) → Ruling → Type 0
+OpenedDone Writes result counts counts' left output output' ruling =
+    (rest : Option (List ℕ)) × LinesOutcome ruling result counts counts' left rest (output_bytes Writes output) (output_bytes Writes output')
 
 module _ {R : Type 0} {Reads : Readers R} {W : Type 0} (Writes : Writers W) where
   -- what comes of an input, of an opened file, and of the file of a name
-  abbrev pub LinesDone : Result (Option Reason) LineError → (input input' : FromRead R Reads) → (output output' : FromWrite W) → Ruling → Type 0
-  LinesDone result input input' output output' ruling =
-      LinesOutcome ruling result (bytes_left input) (bytes_left input') (output_bytes Writes output) (output_bytes Writes output')
+  abbrev pub LinesDone : Result (Option Reason) LineError → (counts counts' : List ℕ) → (input input' : FromRead R Reads) → (output output' : FromWrite W) → Ruling → Type 0
+  LinesDone result counts counts' input input' output output' ruling =
+      LinesOutcome ruling result counts counts' (bytes_left input) (bytes_left input') (output_bytes Writes output) (output_bytes Writes output')
 
-  abbrev pub NamedDone : {F X : Type 0} → Folders F X → F → List ℕ → Result (Option Reason) LineError → (input input' : FromRead R Reads) → (output output' : FromWrite W) → Ruling → Type 0
-  NamedDone D folder name result input input' output output' ruling =
-      NamedOutcome (ruled_in D folder ruling) name result (bytes_left input) (bytes_left input') (output_bytes Writes output) (output_bytes Writes output')
+  abbrev pub NamedDone : {F X : Type 0} → Folders F X → F → List ℕ → Result (Option Reason) LineError → (counts counts' : List ℕ) → (input input' : FromRead R Reads) → (output output' : FromWrite W) → Ruling → Type 0
+  NamedDone D folder name result counts counts' input input' output output' ruling =
+      NamedOutcome (ruled_in D folder ruling) name result counts counts' (bytes_left input) (bytes_left input') (output_bytes Writes output) (output_bytes Writes output')
 
 module _ {R : Type 0} {Reads : Readers R} {W E : Type 0} (Writes : Writers W) where
   -- what holds from one state of the streams to another
@@ -312,6 +334,11 @@ module _ {R : Type 0} {Reads : Readers R} {W E : Type 0} (Writes : Writers W) wh
     LoadedRuled D folder items secrets rules result streams streams' =
         Between (RuledOutcome K (call_of D folder (all_given items)) (ruled_load secrets rules) result) streams streams'
 
+    -- where doubtful ones are to be told
+    abbrev pub UndoubtedRuled : {F X : Type 0} → Folders F X → F → List Item → List PatternRule → List Rule → Result Bool RuledFailure → (streams streams' : Streams R W E Reads) → Type 0
+    UndoubtedRuled D folder items secrets rules result streams streams' =
+        Between (DoubtedRuled K (call_of D folder (all_given items)) (ruled_load secrets rules) result) streams streams'
+
     -- of patterns that were loaded, where the rules are to be
     abbrev pub UnruledOutcome : {F X : Type 0} → Folders F X → F → List Given → List PatternRule → Result Bool RuledFailure → (streams streams' : Streams R W E Reads) → Type 0
     UnruledOutcome D folder given secrets result streams streams' = (left : Option (List ℕ))
@@ -326,8 +353,15 @@ module _ {R : Type 0} {Reads : Readers R} {W E : Type 0} (Writes : Writers W) wh
     SaysOfRules D folder given status streams streams' = AsksForRules given → Between (RuledStatus K (call_of D folder given) status) streams streams'
 
     -- and of files by what covers lines
-    abbrev pub DoesFile : {F X : Type 0} → Folders F X → F → List ℕ → Result Bool LineError → (streams streams' : Streams R W E Reads) → Ruling → Type 0
-    DoesFile D folder name result streams streams' ruling = Between (LinedFile K (ruled_in D folder ruling) name result) streams streams'
+    abbrev pub DoesFile : {F X : Type 0} → Folders F X → F → List ℕ → Result Bool LineError → (counts counts' : List ℕ) → (streams streams' : Streams R W E Reads) → Ruling → Type 0
+    DoesFile D folder name result counts counts' streams streams' ruling = Between (LinedFile K (ruled_in D folder ruling) name result counts counts') streams streams'
 
-    abbrev pub DoesFiles : {F X : Type 0} → Folders F X → F → List (Bor (List ℕ)) → Result Bool LineError → (streams streams' : Streams R W E Reads) → Ruling → Type 0
-    DoesFiles D folder names result streams streams' ruling = Between (LinedFiles K (ruled_in D folder ruling) (name_bytes names) result) streams streams'
+    abbrev pub DoesFiles : {F X : Type 0} → Folders F X → F → List (Bor (List ℕ)) → Result Bool LineError → (counts counts' : List ℕ) → (streams streams' : Streams R W E Reads) → Ruling → Type 0
+    DoesFiles D folder names result counts counts' streams streams' ruling = Between (LinedFiles K (ruled_in D folder ruling) (name_bytes names) result counts counts') streams streams'
+
+-- what a call that asks for this tells: at status 0, and else
+abbrev pub NotesAsked : {R W E F X : Type 0} {Reads : Readers R} → SinkGhosts E → Folders F X → F → List Given → (streams streams' : Streams R W E Reads) → Type 0
+NotesAsked K D folder given streams streams' = NotesByRules K (call_of D folder given) (bytes_left streams.input) (bytes_left streams'.input) streams.errors streams'.errors
+
+abbrev pub RuledTells : {R W E F X : Type 0} {Reads : Readers R} → SinkGhosts E → Folders F X → F → List Given → (streams streams' : Streams R W E Reads) → Type 0
+RuledTells K D folder given streams streams' = TellsSome K (IsRuledTold (call_of D folder given)) streams.errors streams'.errors

@@ -1,12 +1,13 @@
 //! A call with rules: each line is redacted by what rules mark in it, and by the patterns that occur in it.
 
-ghost use Rattle.std.specs.Prelude.{◌≡◌, ◌⊎◌, ◌++◌, ◌∷◌, [], IfOk, IsOk, OnOk, length, map, true};
+ghost use Rattle.std.specs.Prelude.{◌≡◌, ◌⊎◌, ◌++◌, ◌∷◌, ◌-◌, ◌≤◌, [], IfOk, IsOk, OnOk, length, map, replicate, slice_index, true};
 ghost use Rattle.aho_core.specs.Replacement.{pieces_of};
 ghost use Rattle.aho_core.specs.declared.search.Anchored.TheVariants.{No};
-ghost use Rattle.programs.specs.Telling.{Tells};
+ghost use Rattle.programs.specs.Telling.{TellsBytes};
+ghost use Rattle.acredact.specs.LongLines.{long_told};
 ghost use Rattle.acredact.specs.Arguments.{all_given};
 ghost use Rattle.acredact.specs.Builds.{build_settings};
-ghost use Rattle.acredact.specs.Ruled.{AskedRuled, IsLongLine, LoadedRuled, SaysOfRules, UnruledOutcome, own_text, patterns_by_case, ruled_load, texts_asked};
+ghost use Rattle.acredact.specs.Ruled.{AskedRuled, LoadedRuled, SaysOfRules, UndoubtedRuled, UnruledOutcome, own_text, patterns_by_case, ruled_load, texts_asked};
 ghost use Rattle.acredact.specs.Tables.{HaveNoEmpty, secrets_of};
 
 use crate::arguments::{Item, Word, has};
@@ -101,7 +102,7 @@ fn redact_doubted<'a, F: Folder, I: Read, W: Write, E: Sink>(
     streams: &mut Streams<'_, I, W, E>,
 ) -> Result<bool, RuledFailure<'a>>
     requires some { HaveNoEmpty (secrets_of secrets.now) }
-    ensures outcome { LoadedRuled W.Write E.Sink F.Folder folder.now given.now secrets.now line_rules.now
+    ensures outcome { UndoubtedRuled W.Write E.Sink F.Folder folder.now given.now secrets.now line_rules.now
         result streams.old streams.new }
     ensures flushed { OnOk result (streams.new.output.device.flushed ≡ true) }
 {
@@ -226,7 +227,9 @@ fn own_text<'r>(rule: &'r LineRule, usual: &'r [u8]) -> &'r [u8]
 }
 
 /// So many counts.
-fn counts_for(alloc: Global, count: usize) -> Result<Vec<u64>, AllocError> {
+fn counts_for(alloc: Global, count: usize) -> Result<Vec<u64>, AllocError>
+    ensures zeros { IfOk result (λ counts. counts.items ≡ replicate count 0) }
+{
     let mut counts = Vec::new(alloc);
     while counts.len() < count {
         counts.push(0)?;
@@ -236,10 +239,12 @@ fn counts_for(alloc: Global, count: usize) -> Result<Vec<u64>, AllocError> {
 
 /// Tells how many lines were too long, if some were: the last of these counts.
 fn tell_last<E: Sink>(errors: &mut Errors<'_, E>, most: usize, counts: &[u64])
-    ensures told { Tells E.Sink (IsLongLine most) errors.old errors.new }
+    requires some { 1 ≤ length counts.now }
+    ensures told { TellsBytes E.Sink errors.old errors.new
+        (long_told most (slice_index counts.now (length counts.now - 1))) }
 {
-    match counts.last() {
-        Some(count) if *count > 0 => tell_long(errors, most, *count),
-        _ => {}
+    let count = counts[counts.len() - 1];
+    if count > 0 {
+        tell_long(errors, most, count);
     }
 }

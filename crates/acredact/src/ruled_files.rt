@@ -107,7 +107,7 @@ pub fn cover_files<A: Automaton, P: Pieces, F: Folder, I: Read, W: Write, E: Sin
 ) -> Result<bool, LineError>
     requires ready { IsAnyLined A.Automaton P.Pieces lined.old }
     ensures outcome { IfLined A.Automaton P.Pieces lined.old (DoesFiles W.Write E.Sink F.Folder
-        folder.now names.now result streams.old streams.new) }
+        folder.now names.now result counts.old counts.new streams.old streams.new) }
     ensures flushed { OnOk result (streams.new.output.device.flushed ≡ true) }
 {
     let all = cover_each(lined, folder, names, counts, streams)?;
@@ -125,7 +125,7 @@ fn cover_each<A: Automaton, P: Pieces, F: Folder, I: Read, W: Write, E: Sink>(
 ) -> Result<bool, LineError>
     requires ready { IsAnyLined A.Automaton P.Pieces lined.old }
     ensures outcome { IfLined A.Automaton P.Pieces lined.old (DoesFiles W.Write E.Sink F.Folder
-        folder.now names.now result streams.old streams.new) }
+        folder.now names.now result counts.old counts.new streams.old streams.new) }
 {
     let mut all = true;
     let mut rest = names;
@@ -148,7 +148,7 @@ fn cover_told<A: Automaton, P: Pieces, F: Folder, I: Read, W: Write, E: Sink>(
 ) -> Result<bool, LineError>
     requires ready { IsAnyLined A.Automaton P.Pieces lined.old }
     ensures outcome { IfLined A.Automaton P.Pieces lined.old (DoesFile W.Write E.Sink F.Folder
-        folder.now name.now result streams.old streams.new) }
+        folder.now name.now result counts.old counts.new streams.old streams.new) }
     ensures still { StaysLined A.Automaton P.Pieces lined.old lined.new }
 {
     if folder.is_output(name) {
@@ -169,7 +169,7 @@ fn cover_apart<A: Automaton, P: Pieces, F: Folder, I: Read, W: Write, E: Sink>(
     requires ready { IsAnyLined A.Automaton P.Pieces lined.old }
     requires apart { F.meets folder.now name.now false }
     ensures outcome { IfLined A.Automaton P.Pieces lined.old (DoesFile W.Write E.Sink F.Folder
-        folder.now name.now result streams.old streams.new) }
+        folder.now name.now result counts.old counts.new streams.old streams.new) }
     ensures still { StaysLined A.Automaton P.Pieces lined.old lined.new }
 {
     match cover_file(
@@ -199,7 +199,7 @@ fn cover_file<A: Automaton, P: Pieces, F: Folder, I: Read, W: Write>(
 ) -> Result<Option<Reason>, LineError>
     requires ready { IsAnyLined A.Automaton P.Pieces lined.old }
     ensures outcome { IfLined A.Automaton P.Pieces lined.old (NamedDone W.Write F.Folder
-        folder.now name.now result input.old input.new output.old output.new) }
+        folder.now name.now result counts.old counts.new input.old input.new output.old output.new) }
     ensures still { StaysLined A.Automaton P.Pieces lined.old lined.new }
 {
     if is_input(name) {
@@ -220,7 +220,7 @@ fn cover_opened<A: Automaton, P: Pieces, I: Read + Drop, W: Write>(
 ) -> Result<Option<Reason>, LineError>
     requires ready { IsAnyLined A.Automaton P.Pieces lined.old }
     ensures outcome { IfLined A.Automaton P.Pieces lined.old (OpenedDone W.Write
-        result (I.remaining reader) output.old output.new) }
+        result counts.old counts.new (I.remaining reader) output.old output.new) }
     ensures still { StaysLined A.Automaton P.Pieces lined.old lined.new }
 {
     let mut source = FromRead::new(reader);
@@ -236,7 +236,7 @@ fn cover_input<A: Automaton, P: Pieces, I: Read, W: Write>(
 ) -> Result<Option<Reason>, LineError>
     requires ready { IsAnyLined A.Automaton P.Pieces lined.old }
     ensures outcome { IfLined A.Automaton P.Pieces lined.old (LinesDone W.Write
-        result input.old input.new output.old output.new) }
+        result counts.old counts.new input.old input.new output.old output.new) }
     ensures still { StaysLined A.Automaton P.Pieces lined.old lined.new }
 {
     input.restart();

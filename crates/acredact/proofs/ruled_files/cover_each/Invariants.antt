@@ -9,7 +9,7 @@ use Rattle.acredact.proofs.ruled_files.cover_each.Given as goal
 abbrev pub invariant-loop-rest : goal.invariant-loop-rest
 invariant-loop-rest g l =
     IfLined g.A.Automaton g.P.Pieces l.initial.lined (λ ruling. IsLined g.A.Automaton g.P.Pieces l.lined ruling
-    × LinedSoFar g.E.Sink (ruled_in g.F.Folder l.fn.folder ruling) (name_bytes l.fn.names) (name_bytes l.rest) l.all
+    × LinedSoFar g.E.Sink (ruled_in g.F.Folder l.fn.folder ruling) (name_bytes l.fn.names) (name_bytes l.rest) l.all l.initial.counts l.counts
     (bytes_left l.initial.streams.input) (bytes_left l.streams.input) (output_bytes g.W.Write l.initial.streams.output) (output_bytes g.W.Write l.streams.output) l.initial.streams.errors l.streams.errors)
 
 abbrev pub decreases-loop-rest : goal.decreases-loop-rest

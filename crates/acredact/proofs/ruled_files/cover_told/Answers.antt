@@ -7,7 +7,7 @@ use Rattle.acredact.proofs.ruled_files.cover_told.Goals as goal
 
 pub returns-then-is_output-clause-outcome : goal.returns-then-is_output-clause-outcome
 returns-then-is_output-clause-outcome g c = λ ruling lined.
-    lined_output g.E.Sink (ruled_in g.F.Folder c.args.folder.now ruling) c.args.name.now _ _ _ _ c.tell_output.ensures.told
+    lined_output g.E.Sink (ruled_in g.F.Folder c.args.folder.now ruling) c.args.name.now _ _ _ _ _ c.tell_output.ensures.told
 
 pub cover_apart-requires : goal.cover_apart-requires
 cover_apart-requires g c = record {

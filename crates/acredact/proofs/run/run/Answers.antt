@@ -58,7 +58,7 @@ returns-in-Ok g c =
       ruled = λ given right asks. (ruled given right asks).redacts;
       ruled_begins = λ given right asks. (ruled given right asks).begins;
       ruled_tells = λ given right asks. (ruled given right asks).tells;
-      ruled_quiet = λ given right asks. (ruled given right asks).quiet;
+      ruled_quiet = λ given right asks. (ruled given right asks).notes;
       flushed = λ redacts zero. flushed_by items (λ asks. redacts (items, mine, asks)) (λ none. c.answer.ensures.flushed none zero);
       bound = bound_by items c.answer.result (λ asks. (c.answer.ensures.checked asks).says.bound) c.answer.ensures.bound;
       one = λ is. (items, mine, one_by items c.answer.result c.answer.ensures.bound is);
@@ -105,7 +105,7 @@ returns-in-Err g c =
       ruled = λ given right asks. (ruled given).redacts;
       ruled_begins = λ given right asks. (ruled given).begins;
       ruled_tells = λ given right asks. (ruled given).tells;
-      ruled_quiet = λ given right asks. (ruled given).quiet;
+      ruled_quiet = λ given right asks. (ruled given).notes;
       flushed = λ redacts (zero : c.report.result ≡ 0). let clash : 2 ≡ 0 = sym c.report.ensures.failed ∙ zero in absurd (cc);
       bound = omega (arith, c.report.ensures.failed);
       one = λ (is : c.report.result ≡ 1). let clash : 2 ≡ 1 = sym c.report.ensures.failed ∙ is in absurd (cc);
