@@ -1,10 +1,11 @@
 //! A call with rules: each line is redacted by what rules mark in it, and by the patterns that occur in it.
 
-ghost use Rattle.std.specs.Prelude.{◌≡◌, ◌⊎◌, ◌++◌, ◌∷◌, ◌-◌, ◌≤◌, [], IfOk, IsOk, OnOk, length, map, replicate, slice_index, true};
+ghost use Rattle.std.specs.Prelude.{◌≡◌, ◌⊎◌, ◌++◌, ◌∷◌, [], IfOk, IsOk, OnOk, map, replicate, true};
 ghost use Rattle.aho_core.specs.Replacement.{pieces_of};
 ghost use Rattle.aho_core.specs.declared.search.Anchored.TheVariants.{No};
 ghost use Rattle.programs.specs.Telling.{TellsBytes};
 ghost use Rattle.acredact.specs.LongLines.{long_told};
+ghost use Rattle.acredact.specs.Doubts.{last_of};
 ghost use Rattle.acredact.specs.Arguments.{all_given};
 ghost use Rattle.acredact.specs.Builds.{build_settings};
 ghost use Rattle.acredact.specs.Ruled.{AskedRuled, LoadedRuled, SaysOfRules, UndoubtedRuled, UnruledOutcome, own_text, patterns_by_case, ruled_load, texts_asked};
@@ -141,7 +142,8 @@ fn redact_ruled<'a, F: Folder, I: Read, W: Write, E: Sink>(
     let done = cover_files(&mut lined, folder, names, counts.as_mut_slice(), streams);
     match done {
         Ok(all) => {
-            tell_last(&mut streams.errors, most, counts.as_slice());
+            let count = last_of(counts.as_slice());
+            tell_count(&mut streams.errors, most, count);
             Ok(all)
         }
         Err(error) => Err(failure_in(alloc, line_rules.as_slice(), error)),
@@ -237,14 +239,22 @@ fn counts_for(alloc: Global, count: usize) -> Result<Vec<u64>, AllocError>
     Ok(counts)
 }
 
-/// Tells how many lines were too long, if some were: the last of these counts.
-fn tell_last<E: Sink>(errors: &mut Errors<'_, E>, most: usize, counts: &[u64])
-    requires some { 1 ≤ length counts.now }
-    ensures told { TellsBytes E.Sink errors.old errors.new
-        (long_told most (slice_index counts.now (length counts.now - 1))) }
+/// The last of some counts, which has one for each text that is written.
+fn last_of(counts: &[u64]) -> u64
+    ensures last { result ≡ last_of counts.now }
 {
-    let count = counts[counts.len() - 1];
-    if count > 0 {
-        tell_long(errors, most, count);
+    if counts.is_empty() {
+        return 0;
     }
+    counts[counts.len() - 1]
+}
+
+/// Tells how many lines were too long, if some were.
+fn tell_count<E: Sink>(errors: &mut Errors<'_, E>, most: usize, count: u64)
+    ensures told { TellsBytes E.Sink errors.old errors.new (long_told most count) }
+{
+    if count == 0 {
+        return;
+    }
+    tell_long(errors, most, count);
 }
