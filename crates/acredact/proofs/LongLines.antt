@@ -62,7 +62,7 @@ named_append number xs ys =
 
 long_more : (b : Bool) (line : Line) (lines : List Line) → length (if b then line ∷ lines else lines) ≡ (if b then 1 else 0) + length lines
 long_more true line lines = refl
-long_more false line lines = refl
+long_more false line lines = omega arith
 
 pub long_named : (covering : Covering) (before : List (List ℕ)) (lines : List Line) (runs : List (List Occurrence)) → AreLineRuns covering before lines runs
     → runs_named (whole_number covering) (all_of runs) ≡ long_among covering.most lines

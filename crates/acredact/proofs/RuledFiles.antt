@@ -193,7 +193,7 @@ pub record LongSoFar (work : RuledWork) (names rest : List (List ℕ)) (counts c
   pub grown : GrowsBy (whole_number work.ruling.covering) done counts counts'
 
 long_none : (work : RuledWork) (names : List (List ℕ)) (counts : List ℕ) (left : Option (List ℕ)) → LongSoFar work names names counts counts left left
-long_none work names counts left = record { done = 0; have = λ more end have. have; grown = grows_none (whole_number work.ruling.covering) counts }
+long_none work names counts left = record { done = 0; have = λ more end have. subst (λ (n : ℕ). HaveLong work.holds work.ruling.covering.most names n left end) (omega arith) have; grown = grows_none (whole_number work.ruling.covering) counts }
 
 long_next : (work : RuledWork) (names rest : List (List ℕ)) (name : List ℕ) (counts half counts' : List ℕ) (left mid left' : Option (List ℕ)) → LongSoFar work names (name ∷ rest) counts half left mid
     → CountsLongNamed work.holds work.ruling.covering name mid left' half counts' → LongSoFar work names rest counts counts' left left'
@@ -206,6 +206,12 @@ long_next work names rest name counts half counts' left mid left' so (count, has
 long_all : (work : RuledWork) (names : List (List ℕ)) (counts counts' : List ℕ) (left left' : Option (List ℕ)) → LongSoFar work names [] counts counts' left left' → CountsLongAll work.holds work.ruling.covering names left left' counts counts'
 long_all work names counts counts' left left' so =
     (so.done, subst (λ (n : ℕ). HaveLong work.holds work.ruling.covering.most names n left left') (omega arith) (so.have 0 left' (refl, refl)), so.grown)
+
+abbrev done_as : Bool → Result Bool LineError
+done_as all = Ok all
+
+ok_is : (a b : Bool) → done_as a ≡ done_as b → a ≡ b
+ok_is a b same = let is = same in cc
 
 module _ {E : Type 0} (K : SinkGhosts E) (work : RuledWork) (names : List (List ℕ)) where
   -- some first files were done from one state to another: what comes of the rest comes of all
@@ -240,9 +246,6 @@ module _ {E : Type 0} (K : SinkGhosts E) (work : RuledWork) (names : List (List 
   both_not true true both is so one two = let clash : true ≡ false = sym is ∙ so in absurd (cc)
   both_not true false both is so one two = two refl
   both_not false second both is so one two = one refl
-
-  ok_is : (a b : Bool) → Ok {E = LineError} a ≡ Ok b → a ≡ b
-  ok_is a b same = let is = same in cc
 
   -- behind one more
   pub lined_next : (rest : List (List ℕ)) (name : List ℕ) (all whole both : Bool) (counts some counts' : List ℕ) (left mid left' held half held' : Option (List ℕ)) (errors meanwhile errors' : Errors E)

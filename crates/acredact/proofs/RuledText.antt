@@ -85,7 +85,14 @@ module _ {R W : Type 0} (S : SourceGhosts R) (K : SinkGhosts W) (Searched : Patt
   long_text whole =
       let covering = covering_by words rules most p in (
         long_among most (stream_lines whole.given),
-        record { text = whole.given; reads = (covers_text whole).reads; are = refl },
+        record {
+          text = whole.given;
+          reads = record {
+            read = subst (λ bytes. Consumes bytes (S.remaining source') whole.given) left whole.gives.bytes;
+            ended = ends_by (S.empty_reads source) (S.empty_reads source') true none ends whole.gives.end refl;
+          };
+          are = refl;
+        },
         record {
           as_many = whole.counted.as_many;
           grown = λ within. whole.counted.grown (whole_number covering) within

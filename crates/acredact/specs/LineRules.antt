@@ -109,6 +109,6 @@ module _ {F X R Z : Type 0} {Reads : Readers R} (D : Folders F X) (lists : Lists
   AddsOption item rules rules' input input' =
       IsAddedRules (OptionGivesRules (reading_of_lists D lists) item.word item.value) rules.items rules'.items (bytes_left input) (bytes_left input')
 
-  -- the rules of all options were read
-  abbrev pub ReadsLineRules : List Given → List Rule → (input input' : FromRead R Reads) → Type 0
-  ReadsLineRules given rules input input' = AreRulesRead (reading_of_lists D lists) given rules (bytes_left input) (bytes_left input')
+-- the rules of all options were read
+abbrev pub ReadsLineRules : {F X R : Type 0} {Reads : Readers R} → Folders F X → Lists F → List Given → List Rule → (input input' : FromRead R Reads) → Type 0
+ReadsLineRules D lists given rules input input' = AreRulesRead (reading_of_lists D lists) given rules (bytes_left input) (bytes_left input')

@@ -28,6 +28,12 @@ use Rattle.acredact.proofs.Warned.{all_members}
 abbrev pub HaveLongTold : Call → (left left' : Option (List ℕ)) → ℕ → Type 0
 HaveLongTold call left left' told = (count : ℕ) × HaveLong call.holds (most_asked call.given) (names_asked call.given) count left left' × (told ≡ min count (2 ^ 64 - 1))
 
+abbrev done_as : Bool → Result Bool RuledFailure
+done_as all = Ok all
+
+ok_is : (a b : Bool) → done_as a ≡ done_as b → a ≡ b
+ok_is a b same = let is = same in cc
+
 module _ {E : Type 0} (K : SinkGhosts E) (call : Call) where
   -- the arguments were refused, or there was no memory to read them
   pub ruled_refused : (left held : Option (List ℕ)) (failure : Failure) (errors errors' : Errors E) (line : List ℕ) → IsFailureLine failure line → TellsBytes K errors errors' line
@@ -147,9 +153,6 @@ module _ {E : Type 0} (K : SinkGhosts E) (call : Call) where
                   (subst (λ (n : ℕ). TellsBytes K meanwhile errors' (long_told (most_asked call.given) n)) have.2 long);
             };
       }
-    where
-      ok_is : (a b : Bool) → Ok {E = RuledFailure} a ≡ Ok b → a ≡ b
-      ok_is a b same = let is = same in cc
 
   -- or not all of them
   pub files_failed : (load : RuledLoad) (error : LineError) (failure : RuledFailure) (counts counts' : List ℕ) (left left' held held' : Option (List ℕ)) (errors errors' : Errors E)
