@@ -1,6 +1,5 @@
 -- Lines that come to their ends, are written, and their runs counted, some after others.
-use Rattle.std.proofs.Common.{◌≡◌, ℕ, ◌+◌, Bool, List, [], ◌∷◌, ◌++◌, length, map, refl, sym, ◌∙◌, ap, subst, arith, append_assoc, length-append}
-use Rattle.std.specs.Prelude.{flat_map}
+use Rattle.std.proofs.Common.{◌≡◌, ℕ, ◌+◌, Bool, List, [], ◌∷◌, ◌++◌, refl, sym, ◌∙◌, ap, subst, arith, append_assoc, length-append}
 use Rattle.std.specs.Io.KnownBytes.{Appends}
 use Rattle.std.proofs.KnownBytes.{Appends-nil, Appends-trans}
 use Rattle.std.proofs.lemmas.Grind.{flat_map-append}
@@ -11,13 +10,13 @@ use Rattle.aho_devices.specs.declared.device.Sink.{Ghosts as SinkGhosts}
 use Rattle.aho_cover.specs.Counting.{CountsThese}
 use Rattle.aho_cover.specs.Pieces.{PieceRule}
 use Rattle.aho_cover.proofs.Counted.{counts_none, counts_then}
-use Rattle.secret_rules.specs.Covering.{AreLineRuns, CoveredIn, covering_by, lines_cover, seen_line}
+use Rattle.secret_rules.specs.Covering.{AreLineRuns, covering_by, lines_cover, seen_line}
 use Rattle.secret_rules.specs.LineCovers.{BeginsNextLine, all_of}
-use Rattle.secret_rules.specs.Lines.{Line, ended_line, last_line, lines_from}
+use Rattle.secret_rules.specs.Lines.{Line, ended_line, lines_from}
 use Rattle.secret_rules.specs.OpenLines.{StopsInLine, StopsInLines, WritesLine, WritesLines}
 use Rattle.secret_rules.specs.Writing.{line_cover}
 use Rattle.secret_rules.specs.declared.rule.Rule.{Rule}
-use Rattle.secret_rules.proofs.LineRuns.{NoEnds, lines-end, lines-part, lines-some, lines_cover-append, runs-append, runs-split, seen_lines}
+use Rattle.secret_rules.proofs.LineRuns.{NoEnds, lines-part, lines-some, lines_cover-append, runs-append, runs-split, seen_lines}
 
 -- lines that go on with a next one, behind some others
 pub BeginsNextLine-behind : (rule : PieceRule) (first lines all : List Line) (runs more rest : List (List Occurrence)) (part : List ℕ) → BeginsNextLine rule lines more part all rest

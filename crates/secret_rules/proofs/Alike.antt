@@ -1,12 +1,11 @@
 -- What searches find by expressions that match alike.
-use Rattle.std.proofs.Common.{◌≡◌, ◌≢◌, ℕ, ◌<◌, ◌≤◌, ◌-◌, ◌*◌, ◌+◌, List, All, Option, None, Some, option_map, false, sym, ap, ◌∙◌, refl, arith, length, get_or, subst, Fits, w8}
+use Rattle.std.proofs.Common.{◌≡◌, ◌≢◌, ℕ, ◌<◌, ◌≤◌, ◌-◌, ◌*◌, ◌+◌, List, All, Option, None, Some, option_map, false, sym, ap, ◌∙◌, refl, arith, get_or, subst, Fits, w8}
 use Rattle.std.proofs.lemmas.List.{get_or_default}
 use Rattle.std.proofs.lemmas.Option.{none-some, same_Some}
-use Rattle.regex.specs.Locations.{AreLocationsOf, location_count}
 use Rattle.regex.specs.Patterns.{Match, Re, SameCaptures, find, span, slot_of}
 use Rattle.regex.specs.Writes.{group_of, both}
-use Rattle.regex.specs.Search.{Answers, LiesWithin, next_match}
-use Rattle.regex.proofs.SearchLemmas.{leftmost_within, next_same, next_later, next_within}
+use Rattle.regex.specs.Search.{Answers, next_match}
+use Rattle.regex.proofs.SearchLemmas.{next_same, next_later}
 use Rattle.regex_syntax.proofs.CapturesLemmas.{spans, find_alike}
 use Rattle.regex.specs.declared.locations.CaptureLocations.{CaptureLocations}
 use Rattle.secret_rules.specs.Readers.{IsLocated}

@@ -7,10 +7,8 @@ use Rattle.std.proofs.lemmas.Option.{same_Some}
 use Rattle.std.specs.List.{slice_get}
 use Rattle.aho_core.specs.Listing.{IsMember}
 use Rattle.aho_core.specs.Occurrence.{Occurrence}
-use Rattle.aho_core.specs.Occurs.{Occurs, OccursIn}
+use Rattle.aho_core.specs.Occurs.{Occurs}
 use Rattle.aho_core.specs.Overlapping.{all_occurrences}
-use Rattle.aho_core.specs.Search.{plain_search}
-use Rattle.aho_core.specs.Patterns.{Patterns, pattern_at}
 use Rattle.aho_core.specs.Bytes.{IsSameWord}
 use Rattle.std.specs.List.{slice_range}
 use Rattle.aho_core.specs.declared.search.Anchored.TheVariants.{No}
@@ -20,7 +18,6 @@ use Rattle.secret_rules.specs.Rules.{KeywordOccurs, keyword_patterns, keywords_o
 use Rattle.secret_rules.specs.declared.rule.Rule.{Rule}
 use Rattle.secret_rules.specs.Keywords.{is_always}
 use Rattle.secret_rules.specs.Markers.{AreFlagsFor, flag_at}
-use Rattle.secret_rules.specs.Rules.{AppliesTo}
 use Rattle.secret_rules.proofs.Owners.{length-owners, member-get_or, word-owned, word-placed}
 
 HasOwner-some : (owners : List ℕ) (ms : List Occurrence) (number : ℕ) → HasOwner owners ms number → (m : Occurrence) × IsMember ms m × (slice_index owners m.pattern ≡ number)

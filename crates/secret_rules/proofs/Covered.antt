@@ -5,13 +5,11 @@ use Rattle.std.specs.Borrow.{Bor}
 use Rattle.std.proofs.lemmas.List.{length-map}
 use Rattle.std.proofs.lemmas.Option.{slice_get_within}
 use Rattle.std.proofs.lemmas.Bool.{cond-true, cond-false, lt-ltb, le-ltb}
-use Rattle.aho_core.specs.Cover.{AreRunsOf, IsCovered, IsRunOf}
-use Rattle.aho_core.specs.Laws.{Reads, shortest}
+use Rattle.aho_core.specs.Cover.{AreRunsOf, IsRunOf}
+use Rattle.aho_core.specs.Laws.{shortest}
 use Rattle.aho_core.specs.Listing.{IsListedBy, IsMember}
 use Rattle.aho_core.specs.Occurrence.{Occurrence}
-use Rattle.aho_core.specs.Occurs.{OccursIn}
-use Rattle.aho_core.specs.Patterns.{Patterns, pattern_at}
-use Rattle.aho_core.specs.Search.{plain_search}
+use Rattle.aho_core.specs.Patterns.{Patterns}
 use Rattle.aho_core.specs.declared.search.MatchKind.TheVariants.{Standard}
 use Rattle.aho_automaton.specs.declared.automaton.Automaton.{Ghosts as Automata}
 use Rattle.aho_cover.specs.Words.{CountsIn}
@@ -19,11 +17,11 @@ use Rattle.aho_laws.specs.CoverLaws.{StandApart}
 use Rattle.aho_laws.proofs.CoverRuns.{runs-covering}
 use Rattle.aho_laws.proofs.Listed.{member-left, member-of_append, member-right}
 use Rattle.aho_laws.proofs.Members.{member-map, member-of_map}
-use Rattle.secret_rules.specs.Covering.{CoveredIn, Covering, IsMarkedIn, covering_by, marked, seen_line, whole_line}
+use Rattle.secret_rules.specs.Covering.{CoveredIn, Covering, covering_by, marked, seen_line, whole_line}
 use Rattle.secret_rules.specs.LineCovers.{AreSearchedFor}
-use Rattle.secret_rules.specs.Marks.{AreAllMarks, IsMarkOf, IsRuleAt}
+use Rattle.secret_rules.specs.Marks.{AreAllMarks}
 use Rattle.secret_rules.specs.OpenLines.{CanSearch, IsSetting}
-use Rattle.secret_rules.specs.Picking.{HasFor, StandForAll}
+use Rattle.secret_rules.specs.Picking.{StandForAll}
 use Rattle.secret_rules.specs.Writing.{LieFrom}
 use Rattle.secret_rules.specs.declared.marks.Mark.{Mark}
 use Rattle.secret_rules.specs.declared.open_line.Setting.{Setting}

@@ -1,6 +1,6 @@
 -- A line that comes to its end: what was written of it, and which errors are told.
 use Rattle.std.proofs.Common.{◌≡◌, ℕ, ◌+◌, ◌<◌, ◌≤◌, Bool, true, false, List, [], ◌∷◌, ◌++◌, drop, length, take, refl, sym, ◌∙◌, ap, subst, arith}
-use Rattle.std.specs.Prelude.{◌-◌, Result, Ok, Err, IfErr}
+use Rattle.std.specs.Prelude.{◌-◌, Ok, Err}
 use Rattle.std.specs.Io.{StartsWith}
 use Rattle.std.specs.Io.KnownBytes.{Appends}
 use Rattle.std.proofs.KnownBytes.{Appends-nil}
@@ -22,9 +22,8 @@ use Rattle.secret_rules.specs.Covering.{CoveredIn, covering_by, seen_line}
 use Rattle.secret_rules.specs.LineCovers.{AreSearchedFor}
 use Rattle.secret_rules.specs.Lines.{Line, line_with}
 use Rattle.secret_rules.specs.Marking.{HasMarked, IsLineFailure}
-use Rattle.secret_rules.specs.OpenLines.{IsLineRefusal, IsSetting, StandsBehind, StopsInLine, TellsLine, WritesLine}
+use Rattle.secret_rules.specs.OpenLines.{IsSetting, StandsBehind, StopsInLine, TellsLine, WritesLine}
 use Rattle.secret_rules.specs.Writing.{LieFrom, line_cover}
-use Rattle.secret_rules.specs.declared.error.LineError.{LineError}
 use Rattle.secret_rules.specs.declared.error.LineError.TheVariants.{Mark, Stream}
 use Rattle.secret_rules.specs.declared.error.MarkError.{MarkError}
 use Rattle.secret_rules.specs.declared.marker.Marker.{Marker}

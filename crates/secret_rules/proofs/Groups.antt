@@ -5,7 +5,7 @@ use Rattle.std.specs.List.{range_with_len}
 use Rattle.regex.specs.Locations.{AreLocationsOf, location, location_count}
 use Rattle.regex.specs.Patterns.{Match}
 use Rattle.regex.specs.declared.locations.CaptureLocations.{CaptureLocations}
-use Rattle.secret_rules.specs.Secrets.{filled_group, first_filled, if_filled}
+use Rattle.secret_rules.specs.Secrets.{first_filled, if_filled}
 
 module _ (m : Match) (l : CaptureLocations) (are : AreLocationsOf m l) (number : ℕ) (low : 1 ≤ number) (high : number < location_count l) where
   first_filled-step : first_filled m (range_with_len number (location_count l - number))

@@ -8,7 +8,7 @@ use Rattle.aho_core.specs.Listing.{IsListedBy, IsMember}
 use Rattle.aho_core.specs.Occurrence.{Occurrence}
 use Rattle.aho_core.specs.Order.{IsBefore}
 use Rattle.aho_laws.specs.CoverLaws.{StandApart}
-use Rattle.aho_laws.proofs.CoverRuns.{Covers, Lies, runs-covering}
+use Rattle.aho_laws.proofs.CoverRuns.{Lies, runs-covering}
 use Rattle.aho_laws.proofs.Listed.{listed-append, member-left, member-of_append, member-right}
 use Rattle.aho_laws.proofs.Orders.{IsBefore-trans, same_occurrence}
 use Rattle.secret_rules.specs.Joining.{Beats, IsGrown, JoinsOne, closed, opened, with_hand}

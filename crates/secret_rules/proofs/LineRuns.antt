@@ -1,16 +1,14 @@
 -- The lines of a text, as they come, with their runs.
-use Rattle.std.proofs.Common.{◌≡◌, inl, inr, ℕ, zero, suc, ◌+◌, ◌<◌, ◌≤◌, Bool, true, false, List, [], ◌∷◌, ◌++◌, length, map, refl, sym, ◌∙◌, ap, subst, arith, append_assoc, length-append}
-use Rattle.std.specs.Prelude.{◌==◌, flat_map, slice_index, take}
+use Rattle.std.proofs.Common.{◌≡◌, inl, inr, ℕ, zero, suc, ◌+◌, ◌<◌, ◌≤◌, Bool, true, false, List, [], ◌∷◌, ◌++◌, length, map, refl, sym, ◌∙◌, ap, subst, arith, append_assoc}
+use Rattle.std.specs.Prelude.{◌==◌}
 use Rattle.std.proofs.lemmas.Bool.{cases_Bool, cond-true, cond-false}
-use Rattle.std.proofs.lemmas.Grind.{flat_map-append}
-use Rattle.std.proofs.lemmas.List.{append-nil, map-append}
+use Rattle.std.proofs.lemmas.List.{append-nil}
 use Rattle.memchr.specs.Find.{Nowhere, Passes, is_byte}
-use Rattle.aho_core.specs.Cover.{AreRunsOf}
 use Rattle.aho_core.specs.Occurrence.{Occurrence}
 use Rattle.aho_cover.specs.Pieces.{PieceRule}
 use Rattle.aho_laws.proofs.CoverRuns.{runs-unique}
 use Rattle.secret_rules.specs.Covering.{AreLineRuns, CoveredIn, Covering, lines_cover, seen_line}
-use Rattle.secret_rules.specs.Lines.{Line, ended_line, last_line, lines_from, stream_lines}
+use Rattle.secret_rules.specs.Lines.{Line, ended_line, last_line, lines_from}
 use Rattle.secret_rules.specs.Writing.{line_cover}
 
 -- no byte of a part ends a line

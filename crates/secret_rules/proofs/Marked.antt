@@ -1,10 +1,10 @@
 -- Marks as members of a list.
-use Rattle.std.proofs.Common.{◌≡◌, ◌∙◌, ◌⊎◌, ◌↔◌, ℕ, ◌<◌, ◌≤◌, Bool, true, false, List, [], ◌∷◌, ◌++◌, None, IsSome, IsTrue, ap, flat_map, length, map, refl, subst, sym, inl, inr, arith}
+use Rattle.std.proofs.Common.{◌≡◌, ◌∙◌, ◌⊎◌, ◌↔◌, ℕ, ◌<◌, ◌≤◌, Bool, true, false, List, [], ◌∷◌, ◌++◌, None, IsSome, IsTrue, ap, length, map, refl, subst, sym, inl, inr, arith}
 use Rattle.std.proofs.lemmas.Bool.{cases_lt, false≢true, le-ltb, lt-ltb}
 use Rattle.regex_hir.proofs.OptionLemmas.{value_of_IsSome}
 use Rattle.aho_core.specs.Listing.{IsMember}
 use Rattle.aho_laws.proofs.Listed.{member-left, member-of_append, member-right}
-use Rattle.secret_rules.specs.MarkLists.{mark_at, marks_at, onward, onward_marks, secret_marks}
+use Rattle.secret_rules.specs.MarkLists.{mark_at, marks_at, onward, secret_marks}
 use Rattle.secret_rules.specs.Markers.{AddsMarks, applied_marks, whole_mark}
 use Rattle.secret_rules.specs.Marks.{BeginsAt, MarksOnward, MarksRange}
 use Rattle.secret_rules.specs.Rules.{AppliesTo, regex_of}

@@ -1,9 +1,9 @@
 -- Walks over the matches of a line: what is made of those that are left.
-use Rattle.std.proofs.Common.{◌≡◌, ◌⊎◌, ◌↔◌, ℕ, ◌+◌, List, [], ◌∷◌, ◌++◌, Option, None, Some, true, false, map, sym, ap, ◌∙◌, refl, append_assoc, subst, inl, inr}
+use Rattle.std.proofs.Common.{◌≡◌, ◌⊎◌, ◌↔◌, ℕ, ◌+◌, List, [], ◌∷◌, ◌++◌, Option, Some, true, false, map, sym, ap, ◌∙◌, refl, append_assoc, subst, inl, inr}
 use Rattle.std.proofs.lemmas.Bool.{false≢true}
 use Rattle.regex.specs.Patterns.{Match, Re, find_all, span}
 use Rattle.regex.specs.Search.{matches_after, next_match}
-use Rattle.regex.proofs.SearchLemmas.{matches_after_bytes, matches_after_none, matches_after_some}
+use Rattle.regex.proofs.SearchLemmas.{matches_after_bytes, matches_after_some}
 use Rattle.secret_rules.specs.MarkLists.{HasOneOpen}
 use Rattle.secret_rules.specs.Standing.{StandsFrom}
 use Rattle.secret_rules.specs.declared.marks.Mark.{Mark}

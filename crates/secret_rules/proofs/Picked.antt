@@ -3,7 +3,7 @@ use Rattle.std.proofs.Common.{◌≡◌, inl, inr, ℕ, zero, suc, ◌+◌, ◌<
 use Rattle.std.specs.Prelude.{◌⊎◌, ◌-◌}
 use Rattle.std.proofs.lemmas.Bool.{and_parts, and_from, cases_lt}
 use Rattle.aho_core.specs.declared.search.MatchKind.TheVariants.{LeftmostLongest, Standard}
-use Rattle.aho_core.specs.Cover.{AreRunsOf, IsCovered, IsLongestFrom, IsRunOf, IsStretch}
+use Rattle.aho_core.specs.Cover.{AreRunsOf, IsCovered, IsLongestFrom, IsStretch}
 use Rattle.aho_core.specs.Listing.{IsListedBy, IsMember}
 use Rattle.aho_core.specs.Occurrence.{Occurrence}
 use Rattle.aho_core.specs.Occurs.{OccursIn}

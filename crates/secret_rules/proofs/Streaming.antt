@@ -1,8 +1,8 @@
 -- How far the cover of a stream has come, line by line, from one read to the next.
-use Rattle.std.proofs.Common.{◌≡◌, ℕ, Bool, true, false, List, [], ◌∷◌, ◌++◌, length, refl, sym, ◌∙◌, ap, subst, arith, append_assoc}
-use Rattle.std.specs.Prelude.{Result, Ok, Err, IfErr, IsErrAnd, OnErr, OnOk}
+use Rattle.std.proofs.Common.{◌≡◌, ℕ, Bool, true, false, List, [], ◌∷◌, ◌++◌, length, refl, sym, ◌∙◌, ap, subst, arith}
+use Rattle.std.specs.Prelude.{Result, Ok, Err, IfErr, OnErr, OnOk}
 use Rattle.std.specs.Io.KnownBytes.{Appends, Consumes, Keeps}
-use Rattle.std.proofs.KnownBytes.{Appends-kept, Appends-nil, Appends-trans, Consumes-nil, Consumes-trans}
+use Rattle.std.proofs.KnownBytes.{Appends-kept, Appends-trans, Consumes-nil, Consumes-trans}
 use Rattle.std.proofs.lemmas.Grind.{flat_map-append}
 use Rattle.std.proofs.lemmas.List.{append-nil}
 use Rattle.aho_core.specs.Cover.{AreRunsOf}
@@ -15,23 +15,22 @@ use Rattle.aho_devices.specs.Errors.{CountsErrors}
 use Rattle.aho_devices.specs.Refusals.{IsFillRefusal, IsWriteRefusal, is_read_fault, is_write_fault, is_write_of_nothing}
 use Rattle.aho_devices.specs.declared.device.Sink.{Ghosts as SinkGhosts}
 use Rattle.aho_devices.specs.declared.device.Source.{Ghosts as SourceGhosts}
-use Rattle.aho_stream.specs.After.{MayFollow}
-use Rattle.aho_stream.specs.Replacing.{MayBe, SourceGave}
+use Rattle.aho_stream.specs.Replacing.{SourceGave}
 use Rattle.aho_cover.specs.Counting.{CountsThese}
 use Rattle.aho_cover.specs.Pieces.{PieceRule}
 use Rattle.aho_cover.specs.declared.pieces.Pieces.{Ghosts as PieceGhosts}
-use Rattle.aho_cover.proofs.Counted.{counts_none, counts_then}
-use Rattle.secret_rules.specs.Covering.{AreLineRuns, CoveredIn, covering_by, lines_cover, seen_line}
+use Rattle.aho_cover.proofs.Counted.{counts_then}
+use Rattle.secret_rules.specs.Covering.{AreLineRuns, CoveredIn, covering_by, lines_cover}
 use Rattle.secret_rules.specs.LineCovers.{BeginsLines, CoversLines, CoversWholeLines, BeginsNextLine, IsCoverFailure, IsReadFailure, LeavesLines, all_of, of_devices}
-use Rattle.secret_rules.specs.Lines.{Line, last_line, lines_from, stream_lines}
+use Rattle.secret_rules.specs.Lines.{Line, last_line, stream_lines}
 use Rattle.secret_rules.specs.OpenLines.{GoesOnBehind, IsLineRefusal, StandsBehind, StopsInLine, StopsInLines, TellsLine, WritesLine, WritesLines}
 use Rattle.secret_rules.specs.Writing.{line_cover}
 use Rattle.secret_rules.specs.declared.error.LineError.{LineError}
 use Rattle.secret_rules.specs.declared.error.LineError.TheVariants.{Mark, Stream}
 use Rattle.secret_rules.specs.declared.open_line.OpenLine.{OpenLine}
 use Rattle.secret_rules.specs.declared.rule.Rule.{Rule}
-use Rattle.secret_rules.proofs.Advancing.{BeginsNextLine-behind, StopsInLines-none, StopsInLines-then, WritesLines-part, WritesLines-then}
-use Rattle.secret_rules.proofs.LineRuns.{NoEnds, lines_cover-append, runs-append, runs-split}
+use Rattle.secret_rules.proofs.Advancing.{StopsInLines-none, StopsInLines-then, WritesLines-part, WritesLines-then}
+use Rattle.secret_rules.proofs.LineRuns.{lines_cover-append, runs-append, runs-split}
 
 -- what a write refuses is no failure of a read, and what a fill refuses none of a write
 written-unread : (error : StreamError) → IsWriteRefusal error → IsFillRefusal error → ⊥

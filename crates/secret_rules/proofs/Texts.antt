@@ -1,9 +1,9 @@
 -- Texts and tables of an array, one after another.
-use Rattle.std.proofs.Common.{◌≡◌, ◌∙◌, ℕ, zero, suc, ◌+◌, ◌<◌, List, [], ◌∷◌, ◌++◌, Some, None, IsSome, String, Global, ap, sym, refl, get_or, length, map, option_map, string_bytes, take, arith}
+use Rattle.std.proofs.Common.{◌≡◌, ◌∙◌, ℕ, zero, suc, ◌+◌, ◌<◌, List, [], ◌∷◌, ◌++◌, Some, None, String, Global, ap, sym, refl, get_or, length, map, string_bytes, take, arith}
 use Rattle.std.proofs.lemmas.List.{take_more}
 use Rattle.toml.proofs.Views.{items_view-push}
 use Rattle.toml.specs.Data.{Data, Items, as_str, get_item, item, no_items, push_item, string}
-use Rattle.toml.specs.View.{items_of, items_view, view}
+use Rattle.toml.specs.View.{items_view, view}
 use Rattle.toml.specs.declared.value.Value.{Value}
 use Rattle.secret_rules.specs.Tables.{AreRulesIn, AllTexts, IsFaultIn, IsRuleOf, IsTableFault, text_items}
 use Rattle.secret_rules.specs.declared.parsing.ParseError.{ParseError}

@@ -1,13 +1,13 @@
 -- The turns of rules at a line, one after another.
-use Rattle.std.proofs.Common.{◌≡◌, ◌≢◌, ◌∙◌, ◌⊎◌, ◌↔◌, ℕ, zero, suc, ◌+◌, ◌<◌, ◌≤◌, Bool, false, List, [], ◌∷◌, ◌++◌, None, Option, Some, IfOk, IsSome, IsTrue, Result, Ok, Err, String, Global, ap, get_or, length, refl, slice_set, subst, sym, inl, inr, arith}
-use Rattle.std.proofs.lemmas.Bool.{cases_eq, cases_lt, false≢true}
+use Rattle.std.proofs.Common.{◌≡◌, ◌≢◌, ◌∙◌, ◌⊎◌, ◌↔◌, ℕ, zero, suc, ◌+◌, ◌<◌, ◌≤◌, Bool, false, List, [], ◌∷◌, ◌++◌, None, Option, Some, IfOk, IsSome, IsTrue, Result, Ok, Err, String, Global, get_or, length, refl, slice_set, subst, sym, inl, inr, arith}
+use Rattle.std.proofs.lemmas.Bool.{cases_eq}
 use Rattle.std.proofs.lemmas.Option.{same_Some, slice_get-get_or, slice_get_within}
 use Rattle.aho_core.specs.Listing.{IsMember}
 use Rattle.secret_rules.specs.Faults.{IsMarkFailure}
 use Rattle.secret_rules.specs.Markers.{AddsMarks, AreFlagsBehind, AreMarksWith, IsMarkWith, flag_at}
 use Rattle.secret_rules.specs.Marking.{IsLineFailure}
 use Rattle.secret_rules.specs.MarkLists.{HasOneOpen}
-use Rattle.secret_rules.specs.Marks.{AreAllMarks, GoesOnAfter, IsMarkOf, IsRuleAt, MarksOnward, MarksRange, StaysOpen}
+use Rattle.secret_rules.specs.Marks.{AreAllMarks, GoesOnAfter, IsRuleAt, MarksOnward, MarksRange, StaysOpen}
 use Rattle.secret_rules.specs.Rules.{AppliesTo, regex_of, until_of}
 use Rattle.secret_rules.specs.Secrets.{match_ranges}
 use Rattle.secret_rules.specs.Standing.{StandsInLine}

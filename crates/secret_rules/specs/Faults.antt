@@ -1,5 +1,5 @@
 -- What may be wrong with rules, and why a line is not marked.
-use Rattle.std.specs.Prelude.{◌≡◌, ◌≤◌, ℕ, List, [], Some, String, slice_get, string_bytes, take, flat_map}
+use Rattle.std.specs.Prelude.{◌≡◌, ◌≤◌, ℕ, List, [], Some, String, slice_get, take, flat_map}
 use Rattle.std.specs.declared.alloc.Global.{Global}
 use Rattle.aho_core.specs.Listing.{IsMember}
 use Rattle.aho_build.specs.Settings.{default_settings}

@@ -3,9 +3,8 @@ use Rattle.std.specs.Prelude.{◌≡◌, ◌⊎◌, ◌<◌, ◌≤◌, ℕ, Boo
 use Rattle.aho_core.specs.Listing.{IsListedBy, IsMember}
 use Rattle.aho_core.specs.Occurrence.{Occurrence}
 use Rattle.aho_core.specs.Order.{IsBefore}
-use Rattle.aho_core.specs.Patterns.{Patterns}
 use Rattle.aho_core.specs.declared.search.MatchKind.TheVariants.{Standard}
-use Rattle.aho_cover.specs.Words.{CountsIn, stands_as_word}
+use Rattle.aho_cover.specs.Words.{stands_as_word}
 
 -- whether an occurrence counts: any, or one beside which no letter, digit or `_` stands
 abbrev pub is_counted : Bool → List ℕ → Occurrence → Bool

@@ -3,7 +3,7 @@ use Rattle.std.specs.Prelude.{◌≡◌, ◌≤◌, ℕ, List, []}
 use Rattle.regex.specs.Bytes.{matcher_pattern}
 use Rattle.regex.specs.Locations.{AreLocationsOf, location_count}
 use Rattle.regex.specs.Patterns.{Match, Re, SameCaptures, find, span}
-use Rattle.regex.specs.Search.{Answers, next_match, matches_after}
+use Rattle.regex.specs.Search.{Answers, next_match}
 use Rattle.regex.specs.declared.bytes.matcher.Matcher.{Matcher}
 use Rattle.regex.specs.declared.locations.CaptureLocations.{CaptureLocations}
 use Rattle.std.specs.Prelude.{Option, false}

@@ -1,9 +1,7 @@
 -- What a cover of lines is of.
 use Rattle.std.specs.Prelude.{◌≡◌, ℕ, Bool, List, Option}
 use Rattle.std.specs.Borrow.{Bor}
-use Rattle.aho_core.specs.Patterns.{Patterns}
 use Rattle.aho_automaton.specs.declared.automaton.Automaton.{Ghosts as Automata}
-use Rattle.secret_rules.specs.LineCovers.{AreSearchedFor}
 use Rattle.secret_rules.specs.OpenLines.{IsSetting, line_rules}
 use Rattle.secret_rules.specs.declared.line_cover.LineCover.{LineCover}
 use Rattle.secret_rules.specs.declared.rule.Rule.{Rule}

@@ -1,5 +1,5 @@
 -- What was searched of the reader, and what is asked of the file as a whole.
-use Rattle.std.proofs.Common.{Bool, ap, false, sym, take, ◌∙◌}
+use Rattle.std.proofs.Common.{Bool, ap, sym, take, ◌∙◌}
 use Rattle.std.specs.Prelude.{◌||◌}
 use Rattle.acgrep.specs.Binary.{takes_text}
 use Rattle.acgrep.specs.Files.{EndsFile, SearchesReader}

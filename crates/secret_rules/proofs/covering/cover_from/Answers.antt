@@ -1,10 +1,10 @@
-use Rattle.std.proofs.Common.{◌≡◌, ◌==◌, ◌∙◌, ℕ, Bool, true, false, List, [], length, refl, sym, ap, subst, arith, ne_eqb}
+use Rattle.std.proofs.Common.{◌≡◌, ◌==◌, ◌∙◌, ℕ, Bool, true, false, List, [], refl, sym, subst, arith, ne_eqb}
 use Rattle.std.proofs.lemmas.Result.{err_from_is_err_and}
 use Rattle.std.specs.Io.KnownBytes.{Consumes}
 use Rattle.aho_devices.specs.Counts.{counted}
 use Rattle.aho_cover.proofs.Written.{if_err, if_ok}
 use Rattle.secret_rules.specs.Lines.{last_line}
-use Rattle.secret_rules.specs.OpenLines.{TellsLine, line_rules}
+use Rattle.secret_rules.specs.OpenLines.{line_rules}
 use Rattle.secret_rules.specs.LineCovers.{AreSearchedFor}
 use Rattle.secret_rules.specs.declared.error.LineError.TheVariants.{Stream}
 use Rattle.secret_rules.proofs.Same.{all-stop-same, goes-same, setting-same, stops-same, tells-same, writes-same}

@@ -1,4 +1,4 @@
-use Rattle.std.proofs.Common.{◌∙◌, [], sym, subst}
+use Rattle.std.proofs.Common.{◌∙◌, [], sym}
 use Rattle.secret_rules.specs.OpenLines.{line_rules}
 use Rattle.secret_rules.proofs.Ending.{stands-next}
 use Rattle.secret_rules.proofs.Same.{leaves-same, setting-same}

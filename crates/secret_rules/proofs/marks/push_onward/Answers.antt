@@ -1,10 +1,10 @@
-use Rattle.std.proofs.Common.{◌≡◌, ◌∙◌, ◌++◌, ◌+◌, ◌∷◌, ◌⊎◌, ◌↔◌, List, ℕ, [], map, false, refl, sym, ap, arith, inl, inr, IsTrue, subst, ⊎_elim}
+use Rattle.std.proofs.Common.{◌≡◌, ◌∙◌, ◌++◌, ◌+◌, ◌∷◌, ◌⊎◌, ◌↔◌, List, ℕ, [], map, false, refl, sym, ap, IsTrue}
 use Rattle.std.proofs.lemmas.List.{append-nil}
-use Rattle.regex.specs.Patterns.{Match, find_all, span}
+use Rattle.regex.specs.Patterns.{Match, span}
 use Rattle.regex.specs.Search.{matches_after}
-use Rattle.regex.proofs.SearchLemmas.{matches_after_bytes, matches_after_none}
+use Rattle.regex.proofs.SearchLemmas.{matches_after_none}
 use Rattle.secret_rules.specs.Expressions.{expression_of}
-use Rattle.secret_rules.specs.MarkLists.{HasOneOpen, mark_at, marks_at, onward}
+use Rattle.secret_rules.specs.MarkLists.{mark_at, marks_at, onward}
 use Rattle.secret_rules.specs.declared.marks.Mark.{Mark}
 use Rattle.secret_rules.proofs.Matching.{added-first, added-next, matches_after-next, open-next, open-first, open-last}
 use Rattle.secret_rules.proofs.marks.push_onward.Goals as goal

@@ -1,6 +1,5 @@
-use Rattle.std.proofs.Common.{◌≡◌, ◌∙◌, ap₂, ℕ, ap, sym, arith, false, Some, None}
+use Rattle.std.proofs.Common.{◌≡◌, ◌∙◌, ap₂, ℕ, ap, arith, false, Some, None}
 use Rattle.regex.specs.Bytes.{matcher_pattern}
-use Rattle.regex.specs.Patterns.{SameCaptures}
 use Rattle.regex.proofs.SearchLemmas.{leftmost_within}
 use Rattle.secret_rules.proofs.Alike.{found_as_by}
 use Rattle.secret_rules.proofs.reader.read_at.Goals as goal

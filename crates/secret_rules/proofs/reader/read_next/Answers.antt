@@ -1,6 +1,5 @@
-use Rattle.std.proofs.Common.{◌≡◌, ◌∙◌, ◌-◌, ap, sym, arith, false, Some, None, subst}
+use Rattle.std.proofs.Common.{◌≡◌, ◌∙◌, ◌-◌, sym, arith, false, subst}
 use Rattle.std.proofs.lemmas.Option.{IfSome_then}
-use Rattle.regex.specs.Bytes.{matcher_pattern}
 use Rattle.regex.specs.Patterns.{SameCaptures, Re}
 use Rattle.secret_rules.proofs.Alike.{next_none, next_found, next_further}
 use Rattle.secret_rules.proofs.reader.read_next.Goals as goal

@@ -1,4 +1,4 @@
-use Rattle.std.proofs.Common.{◌≡◌, ◌∙◌, ap, sym, Some, arith, List, ℕ, length}
+use Rattle.std.proofs.Common.{◌≡◌, ◌∙◌, ap, Some, arith, List, ℕ, length}
 use Rattle.std.specs.List.{slice_get}
 use Rattle.secret_rules.proofs.Placed.{ArePlacesOf-added, slice_get-append_last}
 use Rattle.secret_rules.proofs.readers.place_of.Goals as goal

@@ -1,9 +1,5 @@
-use Rattle.std.proofs.Common.{◌≡◌, ◌++◌, ◌≤◌, List, ℕ, drop, length, Ok}
-use Rattle.std.specs.Prelude.{Result}
-use Rattle.std.specs.Io.KnownBytes.{Appends}
-use Rattle.aho_core.specs.Replacement.{replaced_by, replaced_from}
+use Rattle.std.proofs.Common.{◌≡◌, ◌++◌, ◌≤◌, List, ℕ, drop}
 use Rattle.aho_cover.specs.Pieces.{piece_in}
-use Rattle.aho_cover.specs.Writes.{TellsWrites}
 use Rattle.secret_rules.specs.Writing.{LieFrom}
 use Rattle.secret_rules.proofs.WrittenLines.{HasWritten}
 use Rattle.secret_rules.proofs.writing.write_line.Given as goal

@@ -1,7 +1,7 @@
-use Rattle.std.proofs.Common.{◌≡◌, ◌∙◌, ap, length, map, sym, vec_len, arith, option_map, string_bytes}
+use Rattle.std.proofs.Common.{◌≡◌, ◌∙◌, ap, length, vec_len, arith, option_map, string_bytes}
 use Rattle.std.proofs.lemmas.Result.{IfOk-weaker}
 use Rattle.std.proofs.lemmas.List.{length-map}
-use Rattle.regex.specs.Bytes.{regex_names, regex_source}
+use Rattle.regex.specs.Bytes.{regex_names}
 use Rattle.secret_rules.specs.Expressions.{group_total}
 use Rattle.secret_rules.proofs.Compiled.{regex_names-of_source}
 use Rattle.secret_rules.proofs.expression.Expression.locations.Goals as goal

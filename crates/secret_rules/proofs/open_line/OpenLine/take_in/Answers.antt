@@ -1,8 +1,7 @@
-use Rattle.std.proofs.Common.{◌≡◌, ℕ, List, [], ◌∷◌, ◌++◌, ◌+◌, ◌∙◌, length, take, drop, refl, sym, ap, subst, arith}
+use Rattle.std.proofs.Common.{◌≡◌, ℕ, List, [], ◌∷◌, ◌++◌, ◌+◌, ◌∙◌, length, take, drop, refl, sym, ap, arith}
 use Rattle.std.proofs.lemmas.List.{length-drop, take_rest}
 use Rattle.std.proofs.lemmas.Result.{err_from_is_err_and}
-use Rattle.aho_core.specs.Patterns.{Patterns}
-use Rattle.aho_cover.proofs.Written.{if_err, on_err}
+use Rattle.aho_cover.proofs.Written.{on_err}
 use Rattle.secret_rules.specs.LineCovers.{AreSearchedFor}
 use Rattle.secret_rules.specs.Lines.{ended_line}
 use Rattle.secret_rules.specs.Marking.{marker_rules}

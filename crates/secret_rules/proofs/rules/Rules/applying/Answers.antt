@@ -1,6 +1,5 @@
-use Rattle.std.proofs.Common.{◌≡◌, ◌∙◌, ◌<◌, ℕ, All, Bool, List, ap, arith, drop, length, map, subst, sym, take}
+use Rattle.std.proofs.Common.{◌≡◌, ◌∙◌, ◌<◌, ℕ, Bool, List, ap, arith, drop, length, map, subst, sym}
 use Rattle.std.proofs.lemmas.List.{length-map, take_at}
-use Rattle.aho_core.specs.Occurrence.{Occurrence}
 use Rattle.secret_rules.specs.Keywords.{all_keywords, is_always}
 use Rattle.secret_rules.specs.Markers.{AreFlagsFor}
 use Rattle.secret_rules.specs.declared.rule.Rule.{Rule}
