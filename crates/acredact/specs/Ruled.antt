@@ -1,5 +1,5 @@
 -- What a call with rules does: each line is redacted by what rules mark in it and patterns hold.
-use Rattle.std.specs.Prelude.{◌≡◌, ◌⊎◌, ℕ, Bool, true, false, List, [], ◌∷◌, ◌++◌, Option, None, Some, Result, Ok, Err, map, option_map, string_bytes, unwrap_or}
+use Rattle.std.specs.Prelude.{◌≡◌, ◌⊎◌, ℕ, Bool, true, false, List, [], ◌∷◌, ◌++◌, Option, None, Some, Result, Ok, Err, map, option_map, string_bytes, unwrap_or, Vec}
 use Rattle.std.specs.Borrow.{Bor}
 use Rattle.std.specs.Io.{StartsWith}
 use Rattle.std.specs.Io.KnownBytes.{Appends, Consumes, IsAtEnd, Keeps}
@@ -194,6 +194,9 @@ own_text usual rule = unwrap_or (option_map string_bytes rule.with) usual
 -- for each pattern, then for each rule, and then for lines that are too long
 abbrev pub texts_asked : List Given → RuledLoad → List (List ℕ)
 texts_asked given load = pieces_asked given load.secrets ++ (map (own_text (text_asked given)) load.rules ++ text_asked given ∷ [])
+
+abbrev pub AreTextsAsked : {Z : Type 0} → List Item → List PatternRule → List Rule → Vec (Bor (List ℕ)) Z → Type 0
+AreTextsAsked items secrets rules texts = pieces_of texts.items ≡ texts_asked (all_given items) (ruled_load secrets rules)
 
 abbrev pub ruling_by : List Given → RuledLoad → Ruling
 ruling_by given load =

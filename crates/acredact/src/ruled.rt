@@ -8,7 +8,7 @@ ghost use Rattle.acredact.specs.LongLines.{long_told};
 ghost use Rattle.acredact.specs.Doubts.{last_of};
 ghost use Rattle.acredact.specs.Arguments.{all_given};
 ghost use Rattle.acredact.specs.Builds.{build_settings};
-ghost use Rattle.acredact.specs.Ruled.{AskedRuled, LoadedRuled, SaysOfRules, UndoubtedRuled, UnruledOutcome, own_text, patterns_by_case, ruled_load, texts_asked};
+ghost use Rattle.acredact.specs.Ruled.{AreTextsAsked, AskedRuled, LoadedRuled, SaysOfRules, UndoubtedRuled, UnruledOutcome, own_text, patterns_by_case};
 ghost use Rattle.acredact.specs.Tables.{HaveNoEmpty, secrets_of};
 
 use crate::arguments::{Item, Word, has};
@@ -191,8 +191,7 @@ fn texts_of<'r>(
     secrets: &'r [Rule],
     line_rules: &'r [LineRule],
 ) -> Result<Vec<&'r [u8]>, AllocError>
-    ensures texts { IfOk result (λ texts. pieces_of texts.items
-        ≡ texts_asked (all_given given.now) (ruled_load secrets.entry.now line_rules.entry.now)) }
+    ensures texts { IfOk result (AreTextsAsked given.now secrets.entry.now line_rules.entry.now) }
 {
     let usual = text_of(given);
     let mut texts = replacements_of(alloc, secrets, usual)?;
