@@ -63,4 +63,4 @@ mod RulesRead
 mod LongLines
 mod RuledText
 mod RuledFiles
-mod Ruled
+mod RuledCalls

@@ -7,7 +7,7 @@ use Rattle.acredact.specs.Loading.{AreGiven}
 use Rattle.acredact.specs.Tables.{HaveNoEmpty, Secret, secrets_of}
 use Rattle.acredact.specs.declared.ruled_failure.RuledFailure.TheVariants.{Plain}
 use Rattle.acredact.proofs.Ready.{given_some, reading_from}
-use Rattle.acredact.proofs.Ruled.{ruled_early}
+use Rattle.acredact.proofs.RuledCalls.{ruled_early}
 use Rattle.acredact.proofs.ruled.load_ruled.Goals as goal
 
 pub load_rules-requires : goal.load_rules-requires

@@ -5,7 +5,7 @@ use Rattle.acredact.specs.Calls.{call_of, rules_asked}
 use Rattle.acredact.specs.LineRules.{AreRulesRead}
 use Rattle.acredact.specs.Ruled.{ruled_load}
 use Rattle.acredact.proofs.Ready.{reading_from}
-use Rattle.acredact.proofs.Ruled.{call_loaded, ruled_early}
+use Rattle.acredact.proofs.RuledCalls.{call_loaded, ruled_early}
 use Rattle.acredact.proofs.ruled.load_rules.Goals as goal
 
 pub returns-in-Ok-clause-outcome : goal.returns-in-Ok-clause-outcome

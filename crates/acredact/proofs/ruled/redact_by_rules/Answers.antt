@@ -5,7 +5,7 @@ use Rattle.acredact.specs.Arguments.{all_given}
 use Rattle.acredact.specs.Calls.{call_of}
 use Rattle.acredact.specs.Ruled.{AskedRuled}
 use Rattle.acredact.specs.declared.ruled_failure.RuledFailure.{RuledFailure}
-use Rattle.acredact.proofs.Ruled.{ruled_done, ruled_failed, ruled_partly}
+use Rattle.acredact.proofs.RuledCalls.{ruled_done, ruled_failed, ruled_partly}
 use Rattle.acredact.proofs.ruled.redact_by_rules.Goals as goal
 
 pub returns-in-Ok-true-clause-says : goal.returns-in-Ok-true-clause-says

@@ -7,7 +7,7 @@ use Rattle.acredact.specs.Calls.{call_of}
 use Rattle.acredact.specs.Ruled.{DoubtedRuled, ruled_load}
 use Rattle.acredact.specs.declared.ruled_failure.RuledFailure.TheVariants.{Plain}
 use Rattle.std.specs.Prelude.{Err}
-use Rattle.acredact.proofs.Ruled.{doubted_none, ruled_behind}
+use Rattle.acredact.proofs.RuledCalls.{doubted_none, ruled_behind}
 use Rattle.acredact.proofs.ruled.redact_doubted.Goals as goal
 
 pub returns-in-Ok-clause-outcome : goal.returns-in-Ok-clause-outcome

@@ -14,7 +14,7 @@ use Rattle.acredact.specs.declared.failure.Failure.TheVariants.{Other}
 use Rattle.acredact.specs.declared.ruled_failure.RuledFailure.{RuledFailure}
 use Rattle.acredact.specs.declared.ruled_failure.RuledFailure.TheVariants.{LineEnd, Plain}
 use Rattle.acredact.proofs.Ready.{some_shortest}
-use Rattle.acredact.proofs.Ruled.{files_done, files_failed, ruled_none}
+use Rattle.acredact.proofs.RuledCalls.{files_done, files_failed, ruled_none}
 use Rattle.acredact.proofs.RuledText.{can_search}
 use Rattle.acredact.proofs.ruled.redact_ruled.Goals as goal
 

@@ -14,7 +14,7 @@ use Rattle.acredact.proofs.Checks.{check_refused, status_ended}
 use Rattle.acredact.proofs.Given.{forms_cover, forms_unworded, memory_alone, same_given}
 use Rattle.acredact.proofs.Hiding.{call_hides}
 use Rattle.acredact.proofs.Statuses.{bound_by, flushed_by, one_by, status_failed, tells_one}
-use Rattle.acredact.proofs.Ruled.{ruled_refused}
+use Rattle.acredact.proofs.RuledCalls.{ruled_refused}
 use Rattle.acredact.proofs.run.run.Goals as goal
 
 pub returns-in-Ok : goal.returns-in-Ok
