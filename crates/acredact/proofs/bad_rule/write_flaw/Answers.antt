@@ -1,5 +1,5 @@
 -- Of an expression the line tells the place in it.
-use Rattle.std.proofs.Common.{◌≡◌, ℕ, List, ◌++◌, ◌+◌, ◌-◌, ◌∙◌, refl, sym, ap, subst, codes, append-nil}
+use Rattle.std.proofs.Common.{◌≡◌, ℕ, List, ◌++◌, ◌+◌, ◌-◌, ◌∙◌, sym, ap, subst, codes, append-nil}
 use Rattle.std.specs.Prelude.{◌^◌, decimal, min}
 use Rattle.programs.specs.Telling.{TellsBytes}
 use Rattle.acredact.specs.RuleLines.{IsFlawText}
