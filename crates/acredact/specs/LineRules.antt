@@ -100,12 +100,12 @@ pub record IsAddedRules (Gives : List Rule → (left left' : Option (List ℕ)) 
 abbrev pub AddsThese : {Z : Type 0} → (List Rule → Type 0) → (rules rules' : Vec Rule Z) → Type 0
 AddsThese Gives rules rules' = (more : List Rule) × (rules'.items ≡ rules.items ++ more) × Gives more
 
-module _ {F X R Z : Type 0} {Reads : Readers R} (D : Folders F X) (lists : Lists F) where
-  abbrev pub AddsNamed : List ℕ → (rules rules' : Vec Rule Z) → (input input' : FromRead R Reads) → Type 0
+module _ {F X R : Type 0} {Reads : Readers R} (D : Folders F X) (lists : Lists F) where
+  abbrev pub AddsNamed : {Z : Type 0} → List ℕ → (rules rules' : Vec Rule Z) → (input input' : FromRead R Reads) → Type 0
   AddsNamed name rules rules' input input' =
       IsAddedRules (GivesNamedRules (reading_of_lists D lists) name) rules.items rules'.items (bytes_left input) (bytes_left input')
 
-  abbrev pub AddsOption : Given → (rules rules' : Vec Rule Z) → (input input' : FromRead R Reads) → Type 0
+  abbrev pub AddsOption : {Z : Type 0} → Given → (rules rules' : Vec Rule Z) → (input input' : FromRead R Reads) → Type 0
   AddsOption item rules rules' input input' =
       IsAddedRules (OptionGivesRules (reading_of_lists D lists) item.word item.value) rules.items rules'.items (bytes_left input) (bytes_left input')
 

@@ -312,9 +312,16 @@ fn sound<'a>(alloc: Global, rules: Vec<LineRule>) -> Result<Rules, RuledFailure<
 {
     match Rules::new(alloc, rules) {
         Ok(rules) => Ok(rules),
-        Err(RulesError::Keywords(error)) => Err(RuledFailure::Keywords(error)),
-        // Each rule was looked at before.
-        Err(RulesError::Rule(_, _, _) | RulesError::OutOfMemory) => Err(no_memory()),
+        Err(error) => Err(unsound(error)),
+    }
+}
+
+/// Why rules are none. Each was looked at before.
+fn unsound<'a>(error: RulesError) -> RuledFailure<'a> {
+    match error {
+        RulesError::Keywords(error) => RuledFailure::Keywords(error),
+        RulesError::Rule(_number, _id, _fault) => no_memory(),
+        RulesError::OutOfMemory => no_memory(),
     }
 }
 
