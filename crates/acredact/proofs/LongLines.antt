@@ -61,7 +61,7 @@ named_append number xs ys =
     ap length (filter-append (λ (o : Occurrence). nat_eq o.pattern number) xs ys) ∙ length-append (filter (λ (o : Occurrence). nat_eq o.pattern number) xs) (filter (λ (o : Occurrence). nat_eq o.pattern number) ys)
 
 long_more : (b : Bool) (line : Line) (lines : List Line) → length (if b then line ∷ lines else lines) ≡ (if b then 1 else 0) + length lines
-long_more true line lines = refl
+long_more true line lines = omega arith
 long_more false line lines = omega arith
 
 pub long_named : (covering : Covering) (before : List (List ℕ)) (lines : List Line) (runs : List (List Occurrence)) → AreLineRuns covering before lines runs

@@ -1,20 +1,23 @@
 -- What comes of a call with rules, and its status.
-use Rattle.std.proofs.Common.{◌≡◌, inl, inr, ℕ, ◌-◌, List, [], ◌∷◌, Option, true, false, refl, sym, ap, subst, append-nil, arith}
-use Rattle.std.specs.Prelude.{Bool, Result, Ok, Err, min, ◌^◌, ◌==◌, if◌then◌else◌}
+use Rattle.std.proofs.Common.{◌≡◌, inl, inr, ℕ, ◌-◌, List, [], ◌∷◌, Option, true, false, refl, sym, ap, subst, ◌+◌, ◌++◌, ◌∙◌, append-nil, length, length-append, map, arith}
+use Rattle.std.specs.Prelude.{Bool, Result, Ok, Err, min, replicate, slice_index, ◌^◌, ◌==◌, if◌then◌else◌}
 use Rattle.std.proofs.KnownBytes.{Keeps-refl}
+use Rattle.std.proofs.lemmas.List.{get_or-replicate, length-map, length-replicate}
 use Rattle.std.proofs.lemmas.List.Elements.{All-cons, All-nil}
+use Rattle.aho_cover.specs.Counting.{grown_count}
 use Rattle.aho_devices.specs.declared.device.Sink.{Ghosts as SinkGhosts}
 use Rattle.programs.specs.Telling.{Tells, TellsBytes}
 use Rattle.programs.specs.declared.errors.Errors.{Errors}
 use Rattle.secret_rules.specs.declared.error.LineError.{LineError}
-use Rattle.acredact.specs.Calls.{Call, IsUnreadLine, names_asked, reading_by}
-use Rattle.acredact.specs.Doubts.{TellsDoubts, all_doubt_lines}
+use Rattle.acredact.specs.Arguments.{Given}
+use Rattle.acredact.specs.Calls.{Call, IsUnreadLine, names_asked, pieces_asked, reading_by, text_asked}
+use Rattle.acredact.specs.Doubts.{TellsDoubts, all_doubt_lines, last_of}
 use Rattle.acredact.specs.Failures.{IsFailureLine}
 use Rattle.acredact.specs.LineRules.{most_asked}
 use Rattle.acredact.specs.RuleLines.{IsRuledLine, too_long_line}
-use Rattle.acredact.specs.LongLines.{CountsLongAll, HaveLong, long_told}
-use Rattle.acredact.specs.Ruled.{AreRuledLoaded, DoubtedRuled, IsRuledNotice, IsRuledTold, LinedFiles, RuledCall, RuledLoad, RuledOutcome, RuledStatus, TellsRuled, ruled_by, ruling_by}
-use Rattle.acredact.specs.Tables.{Secret}
+use Rattle.acredact.specs.LongLines.{CountsLongAll, HaveLong, long_told, whole_number}
+use Rattle.acredact.specs.Ruled.{AreRuledLoaded, DoubtedRuled, IsRuledNotice, IsRuledTold, LinedFiles, RuledCall, RuledLoad, RuledOutcome, RuledStatus, TellsRuled, own_text, ruled_by, ruling_by, texts_asked}
+use Rattle.acredact.specs.Tables.{Secret, piece_by}
 use Rattle.acredact.specs.declared.failure.Failure.{Failure}
 use Rattle.acredact.specs.declared.ruled_failure.RuledFailure.{RuledFailure}
 use Rattle.acredact.specs.declared.ruled_failure.RuledFailure.TheVariants.{Plain}
@@ -194,3 +197,29 @@ module _ {E : Type 0} (K : SinkGhosts E) (call : Call) where
     tells = λ two. tells_last K (IsRuledTold call) errors meanwhile errors' line of.tells.told (inr (inl (failure, is))) told;
     notes = λ (none : 2 ≡ 0). absurd (omega (arith, none));
   }
+
+-- the last of the counts, which were zero, is that of lines that are too long
+pub long_told_of : (call : Call) (load : RuledLoad) (zeros counts' : List ℕ) (count : ℕ) (left left' : Option (List ℕ)) → zeros ≡ replicate count 0 → count ≡ whole_number (ruling_by call.given load).covering + 1
+    → CountsLongAll call.holds (ruling_by call.given load).covering (names_asked call.given) left left' zeros counts' → HaveLongTold call left left' (last_of counts')
+long_told_of call load zeros counts' count left left' are sized (total, have, grows) =
+    let whole = whole_number (ruling_by call.given load).covering in
+    let many : length zeros ≡ count = ap length are ∙ length-replicate count 0 in
+    let place : length counts' - 1 ≡ whole = omega (arith, grows.as_many, many, sized) in
+    let zero : slice_index zeros whole ≡ 0 = ap (λ (l : List ℕ). slice_index l whole) are ∙ get_or-replicate count whole 0 0 (omega (arith, sized)) in
+    (total, have, ap (slice_index counts') place ∙ grows.grown (omega (arith, many, sized)) ∙ ap (λ (n : ℕ). grown_count n total) zero ∙ from_none total)
+  where
+    from_none : (total : ℕ) → grown_count 0 total ≡ min total (2 ^ 64 - 1)
+    from_none total = omega arith
+
+-- there is a text for each pattern, each rule, and lines that are too long
+pub texts_many : (given : List Given) (load : RuledLoad) → length (texts_asked given load) ≡ whole_number (ruling_by given load).covering + 1
+texts_many given load =
+    let rules = map (own_text (text_asked given)) load.rules in
+    omega (
+      arith,
+      length-append (pieces_asked given load.secrets) (rules ++ text_asked given ∷ []),
+      length-append rules (text_asked given ∷ []),
+      length-map load.rules (own_text (text_asked given)),
+      length-map load.secrets (piece_by (text_asked given)),
+      length-map load.secrets (λ secret. secret.pattern),
+    )
