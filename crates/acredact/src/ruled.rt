@@ -135,9 +135,10 @@ fn redact_ruled<'a, F: Folder, I: Read, W: Write, E: Sink>(
     let names = names(alloc, given)?;
     let nfa = build_lined(alloc, given, patterns.as_slice())?;
     let most = most_of(given);
+    let texts = texts.as_slice();
     let mut counts = counts_for(alloc, texts.len())?;
     let words = has(given, Word::AsWord);
-    let mut lined = lined_of(alloc, &nfa, line_rules, texts.as_slice(), words, most)?;
+    let mut lined = lined_of(alloc, &nfa, line_rules, texts, words, most)?;
     let names = names.as_slice();
     let done = cover_files(&mut lined, folder, names, counts.as_mut_slice(), streams);
     match done {

@@ -91,11 +91,11 @@ returns-in-Ok-clause-outcome g c =
     let words : pieces_of c.as_slice-2.result.now ≡ patterns_in load.secrets = ap pieces_of c.as_slice-2.ensures.value ∙ c.in_ok-patterns.ensures.patterns in
     let texts : pieces_of c.in_ok-texts.texts.items ≡ texts_asked given load =
     c.in_ok-texts.ensures.texts ∙ ap (λ (l : List LineRule). texts_asked given (ruled_load c.args.secrets.now l)) c.as_slice.ensures.same in
-    let written : pieces_of c.as_slice-3.result.now ≡ texts_asked given load = ap pieces_of c.as_slice-3.ensures.value ∙ texts in
+    let written : pieces_of c.as_slice-texts.result.now ≡ texts_asked given load = ap pieces_of c.as_slice-texts.ensures.value ∙ texts in
     let names : name_bytes c.as_slice-names.result.now ≡ names_asked given = ap name_bytes c.as_slice-names.ensures.value ∙ c.in_ok-names.ensures.names in
-    let ruling : ruling_as c.has-words.result rules c.most_of-most.result (fixed_rule (pieces_of c.as_slice-3.result.now)) (patterns_by_case given (pieces_of c.as_slice-2.result.now)) ≡ ruling_by given load =
-    ap (λ (w : Bool). ruling_as w rules c.most_of-most.result (fixed_rule (pieces_of c.as_slice-3.result.now)) (patterns_by_case given (pieces_of c.as_slice-2.result.now))) c.has-words.ensures.has
-    ∙ ap (λ (m : ℕ). ruling_as (has AsWord given) rules m (fixed_rule (pieces_of c.as_slice-3.result.now)) (patterns_by_case given (pieces_of c.as_slice-2.result.now))) c.most_of-most.ensures.most
+    let ruling : ruling_as c.has-words.result rules c.most_of-most.result (fixed_rule (pieces_of c.as_slice-texts.result.now)) (patterns_by_case given (pieces_of c.as_slice-2.result.now)) ≡ ruling_by given load =
+    ap (λ (w : Bool). ruling_as w rules c.most_of-most.result (fixed_rule (pieces_of c.as_slice-texts.result.now)) (patterns_by_case given (pieces_of c.as_slice-2.result.now))) c.has-words.ensures.has
+    ∙ ap (λ (m : ℕ). ruling_as (has AsWord given) rules m (fixed_rule (pieces_of c.as_slice-texts.result.now)) (patterns_by_case given (pieces_of c.as_slice-2.result.now))) c.most_of-most.ensures.most
     ∙ ap (λ (l : List (List ℕ)). ruling_as (has AsWord given) rules (most_asked given) (fixed_rule l) (patterns_by_case given (pieces_of c.as_slice-2.result.now))) written
     ∙ ap (λ (l : List (List ℕ)). ruling_as (has AsWord given) rules (most_asked given) (fixed_rule (texts_asked given load)) (patterns_by_case given l)) words in
     let lined = c.in_ok-lined.ensures.lined (patterns_by_case given (pieces_of c.as_slice-2.result.now)) c.in_ok-nfa.ensures.of in
@@ -106,8 +106,8 @@ returns-in-Ok-clause-outcome g c =
     (bytes_left c.args.streams.now.input) (bytes_left c.cover_files-done.new.streams.input) (output_bytes g.W.Write c.args.streams.now.output) (output_bytes g.W.Write c.cover_files-done.new.streams.output)
     c.args.streams.now.errors c.cover_files-done.new.streams.errors) names done in
     let zeros : c.as_mut_slice.result.now ≡ replicate c.len.result 0 = c.as_mut_slice.ensures.value ∙ c.in_ok-counts.ensures.zeros in
-    let many : c.len.result ≡ length c.in_ok-texts.texts.items = search rules in
-    let sized = many ∙ sym (length-map c.in_ok-texts.texts.items (λ piece. piece.now)) ∙ ap length texts ∙ texts_many given load in
+    let many : c.len.result ≡ length c.as_slice-texts.result.now = c.len.ensures in
+    let sized = many ∙ sym (length-map c.as_slice-texts.result.now (λ piece. piece.now)) ∙ ap length written ∙ texts_many given load in
     let kept : c.as_slice-in-Ok.result.now ≡ c.cover_files-done.new.counts = c.as_slice-in-Ok.ensures.value in
     let count : c.last_of-count.result ≡ last_of c.cover_files-done.new.counts = c.last_of-count.ensures.last ∙ ap last_of kept in
     files_done g.E.Sink call load c.in-Ok.all c.as_mut_slice.result.now c.cover_files-done.new.counts c.last_of-count.result _ _ _ _ _ _ _ files
@@ -115,8 +115,8 @@ returns-in-Ok-clause-outcome g c =
     (long_told_of call load c.as_mut_slice.result.now c.cover_files-done.new.counts c.len.result _ _ zeros sized all))
     (subst (λ (m : ℕ). TellsBytes g.E.Sink c.cover_files-done.new.streams.errors c.tell_count.new.errors (long_told m c.last_of-count.result)) c.most_of-most.ensures.most c.tell_count.ensures.told)
 
-pub returns-in-Err-clause-outcome : goal.returns-in-Err-clause-outcome
-returns-in-Err-clause-outcome g c =
+pub returns-clause-outcome : goal.returns-clause-outcome
+returns-clause-outcome g c =
     let given = all_given c.args.given.now in
     let call = call_of g.F.Folder c.args.folder.now given in
     let load = ruled_load c.args.secrets.now c.args.line_rules.now in
@@ -124,11 +124,11 @@ returns-in-Err-clause-outcome g c =
     let words : pieces_of c.as_slice-2.result.now ≡ patterns_in load.secrets = ap pieces_of c.as_slice-2.ensures.value ∙ c.in_ok-patterns.ensures.patterns in
     let texts : pieces_of c.in_ok-texts.texts.items ≡ texts_asked given load =
     c.in_ok-texts.ensures.texts ∙ ap (λ (l : List LineRule). texts_asked given (ruled_load c.args.secrets.now l)) c.as_slice.ensures.same in
-    let written : pieces_of c.as_slice-3.result.now ≡ texts_asked given load = ap pieces_of c.as_slice-3.ensures.value ∙ texts in
+    let written : pieces_of c.as_slice-texts.result.now ≡ texts_asked given load = ap pieces_of c.as_slice-texts.ensures.value ∙ texts in
     let names : name_bytes c.as_slice-names.result.now ≡ names_asked given = ap name_bytes c.as_slice-names.ensures.value ∙ c.in_ok-names.ensures.names in
-    let ruling : ruling_as c.has-words.result rules c.most_of-most.result (fixed_rule (pieces_of c.as_slice-3.result.now)) (patterns_by_case given (pieces_of c.as_slice-2.result.now)) ≡ ruling_by given load =
-    ap (λ (w : Bool). ruling_as w rules c.most_of-most.result (fixed_rule (pieces_of c.as_slice-3.result.now)) (patterns_by_case given (pieces_of c.as_slice-2.result.now))) c.has-words.ensures.has
-    ∙ ap (λ (m : ℕ). ruling_as (has AsWord given) rules m (fixed_rule (pieces_of c.as_slice-3.result.now)) (patterns_by_case given (pieces_of c.as_slice-2.result.now))) c.most_of-most.ensures.most
+    let ruling : ruling_as c.has-words.result rules c.most_of-most.result (fixed_rule (pieces_of c.as_slice-texts.result.now)) (patterns_by_case given (pieces_of c.as_slice-2.result.now)) ≡ ruling_by given load =
+    ap (λ (w : Bool). ruling_as w rules c.most_of-most.result (fixed_rule (pieces_of c.as_slice-texts.result.now)) (patterns_by_case given (pieces_of c.as_slice-2.result.now))) c.has-words.ensures.has
+    ∙ ap (λ (m : ℕ). ruling_as (has AsWord given) rules m (fixed_rule (pieces_of c.as_slice-texts.result.now)) (patterns_by_case given (pieces_of c.as_slice-2.result.now))) c.most_of-most.ensures.most
     ∙ ap (λ (l : List (List ℕ)). ruling_as (has AsWord given) rules (most_asked given) (fixed_rule l) (patterns_by_case given (pieces_of c.as_slice-2.result.now))) written
     ∙ ap (λ (l : List (List ℕ)). ruling_as (has AsWord given) rules (most_asked given) (fixed_rule (texts_asked given load)) (patterns_by_case given l)) words in
     let lined = c.in_ok-lined.ensures.lined (patterns_by_case given (pieces_of c.as_slice-2.result.now)) c.in_ok-nfa.ensures.of in
