@@ -1,5 +1,5 @@
 -- What is told of rules: what is wrong with one, why a call with rules ends early, and how many lines were too long.
-use Rattle.std.specs.Prelude.{◌≡◌, ℕ, ◌+◌, ◌-◌, ◌^◌, ◌==◌, min, List, [], ◌∷◌, ◌++◌, Option, None, Some, codes, decimal, if◌then◌else◌, option_map, string_bytes}
+use Rattle.std.specs.Prelude.{◌≡◌, ℕ, ◌+◌, ◌-◌, ◌^◌, min, List, [], ◌∷◌, ◌++◌, Option, None, Some, codes, decimal, option_map, string_bytes}
 use Rattle.aho_core.specs.Texts.{build_error_text}
 use Rattle.secret_rules.specs.Tables.{key_name}
 use Rattle.secret_rules.specs.declared.parsing.Key.{Key}

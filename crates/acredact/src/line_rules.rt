@@ -16,7 +16,8 @@ use crate::ruled_failure::RuledFailure;
 use aho_devices::adapters::FromRead;
 use programs::failure;
 use secret_rules::{
-    BUILTIN, LineError, MarkError, ParseError, Rule as LineRule, RuleFault, Rules, RulesError, parse,
+    BUILTIN, LineError, MarkError, ParseError, Rule as LineRule, RuleFault, Rules, RulesError,
+    parse,
 };
 use std::alloc::{AllocError, Global};
 use std::io::Read;
@@ -139,10 +140,7 @@ fn add_text<'a, F>(
     }
     match str::from_utf8(text) {
         Ok(text) => add_parsed(lists, rules, name, text),
-        Err(error) => Err(RuledFailure::NotText(
-            name,
-            line_at(text, error.valid_up_to()),
-        )),
+        Err(error) => Err(RuledFailure::NotText(name, line_at(text, error.valid_up_to()))),
     }
 }
 

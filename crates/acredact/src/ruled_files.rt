@@ -240,13 +240,7 @@ fn cover_input<A: Automaton, P: Pieces, I: Read, W: Write>(
     ensures still { StaysLined A.Automaton P.Pieces lined.old lined.new }
 {
     input.restart();
-    unread_of(cover_lines(
-        &mut lined.cover,
-        input,
-        output,
-        &mut lined.pieces,
-        counts,
-    ))
+    unread_of(cover_lines(&mut lined.cover, input, output, &mut lined.pieces, counts))
 }
 
 /// Why a stream was not read to its end, where that is so; any other error ends the program.
