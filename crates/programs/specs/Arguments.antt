@@ -40,13 +40,13 @@ asked_by (command ∷ rest) =
     else if bytes_eq command (codes "overlap") then patterns_by Overlap rest
     else None
 
--- P1 R1 P2 R2 ..: at least one pattern, and a piece for each
+-- PATTERN PIECE PATTERN PIECE ..: at least one pattern, and a piece for each
 abbrev pub pairs_by : List (List ℕ) → Option Replacing
 pairs_by arguments =
     if length arguments == 0 || not (length arguments % 2 == 0) then None
     else Some (replacing_for arguments)
 
--- replace P1 R1 P2 R2 ..
+-- replace PATTERN PIECE PATTERN PIECE ..
 abbrev pub replacing_by : List (List ℕ) → Option Replacing
 replacing_by [] = None
 replacing_by (command ∷ rest) = if bytes_eq command (codes "replace") then pairs_by rest else None
