@@ -58,3 +58,9 @@ mod SetApart
 mod Readings
 mod Ready
 mod Naming
+-- calls with rules
+mod RulesRead
+mod LongLines
+mod RuledText
+mod RuledFiles
+mod RuledCalls

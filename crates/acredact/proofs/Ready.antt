@@ -26,7 +26,7 @@ use Rattle.acredact.specs.Secrets.{CanRedact}
 use Rattle.acredact.specs.Tables.{HaveNoEmpty, HoldsBy, Secret, patterns_in}
 use Rattle.acredact.specs.Values.{GiveEach, no_bytes, value_of_entry, whole_in}
 use Rattle.acredact.specs.declared.arguments.Word.{Word}
-use Rattle.acredact.specs.declared.arguments.Word.TheVariants.{IgnoreCase, Kind, Pattern, Patterns as PatternFile, Table, Env, EnvFile, Whole, With, Pseudonym, Forms, AsWord, Output, InPlace, Count, Summary, Crlf, AllowEmpty, Strict, Check, Help, Version, File}
+use Rattle.acredact.specs.declared.arguments.Word.TheVariants.{IgnoreCase, Kind, Pattern, Patterns as PatternFile, Table, Env, EnvFile, Whole, With, Pseudonym, Forms, AsWord, Rules as RulesFile, After, MaxLine, Output, InPlace, Count, Summary, Crlf, AllowEmpty, Strict, Check, Help, Version, File}
 use Rattle.acredact.specs.declared.folder.Folder.{Ghosts as Folders}
 use Rattle.acredact.specs.declared.load.Lists.{Lists}
 use Rattle.acredact.specs.declared.patterns.Form.{Form}
@@ -92,6 +92,9 @@ option_some reading Kind value secrets left left' gives = none_some secrets give
 option_some reading With value secrets left left' gives = none_some secrets gives.0
 option_some reading Pseudonym value secrets left left' gives = none_some secrets gives.0
 option_some reading Forms value secrets left left' gives = none_some secrets gives.0
+option_some reading RulesFile value secrets left left' gives = none_some secrets gives.0
+option_some reading After value secrets left left' gives = none_some secrets gives.0
+option_some reading MaxLine value secrets left left' gives = none_some secrets gives.0
 option_some reading Output value secrets left left' gives = none_some secrets gives.0
 option_some reading Count value secrets left left' gives = none_some secrets gives.0
 option_some reading Summary value secrets left left' gives = none_some secrets gives.0

@@ -52,3 +52,18 @@ three_parts p s b n e end =
     ap (λ x. ((p ++ (s ++ x)) ++ n) ++ (e ++ (end ++ []))) (append-nil b)
     ∙ ap (λ x. ((p ++ (s ++ b)) ++ n) ++ (e ++ x)) (append-nil end)
     ∙ append_assoc (p ++ (s ++ b)) n (e ++ end) ∙ append_assoc p (s ++ b) (n ++ (e ++ end)) ∙ ap (λ x. p ++ x) (append_assoc s b (n ++ (e ++ end)))
+
+-- and one that is written in seven
+pub seven_parts : (p s f r n c why end : List ℕ)
+    → (((((((p ++ (s ++ [])) ++ f) ++ (r ++ [])) ++ n) ++ (c ++ [])) ++ why) ++ (end ++ [])) ≡ p ++ (s ++ (f ++ (r ++ (n ++ (c ++ (why ++ end))))))
+seven_parts p s f r n c why end =
+    ap (λ x. ((((((p ++ x) ++ f) ++ (r ++ [])) ++ n) ++ (c ++ [])) ++ why) ++ (end ++ [])) (append-nil s)
+    ∙ ap (λ x. ((((((p ++ s) ++ f) ++ x) ++ n) ++ (c ++ [])) ++ why) ++ (end ++ [])) (append-nil r)
+    ∙ ap (λ x. ((((((p ++ s) ++ f) ++ r) ++ n) ++ x) ++ why) ++ (end ++ [])) (append-nil c)
+    ∙ ap (λ x. ((((((p ++ s) ++ f) ++ r) ++ n) ++ c) ++ why) ++ x) (append-nil end)
+    ∙ append_assoc (((((p ++ s) ++ f) ++ r) ++ n) ++ c) why end
+    ∙ append_assoc ((((p ++ s) ++ f) ++ r) ++ n) c (why ++ end)
+    ∙ append_assoc (((p ++ s) ++ f) ++ r) n (c ++ (why ++ end))
+    ∙ append_assoc ((p ++ s) ++ f) r (n ++ (c ++ (why ++ end)))
+    ∙ append_assoc (p ++ s) f (r ++ (n ++ (c ++ (why ++ end))))
+    ∙ append_assoc p s (f ++ (r ++ (n ++ (c ++ (why ++ end)))))

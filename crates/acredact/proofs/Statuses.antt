@@ -7,7 +7,7 @@ use Rattle.aho_devices.specs.declared.device.Sink.{Ghosts as SinkGhosts}
 use Rattle.programs.specs.Streams.{bytes_left}
 use Rattle.programs.specs.Telling.{TellsBytes, TellsSome}
 use Rattle.programs.specs.declared.errors.Errors.{Errors}
-use Rattle.acredact.specs.Arguments.{AsksToCheck, AsksToRedact, Given, GivesNoPattern, checks_asked, has}
+use Rattle.acredact.specs.Arguments.{AsksForRules, AsksToCheck, AsksToRedact, Given, GivesNoPattern, checks_asked, gives_rules, has, rules_asked}
 use Rattle.acredact.specs.Calls.{Call, CallOutcome, IsLineOf, OutputFails}
 use Rattle.acredact.specs.Failures.{IsFailureLine}
 use Rattle.acredact.specs.Statuses.{CallStatus, IsIdle}
@@ -23,11 +23,13 @@ tells_one K IsLine old new line is told = tells_last K IsLine old old new line (
 -- whether a check is asked for
 pub asks_check : (given : List Given) → AsksToCheck given → checks_asked given ≡ true
 asks_check given asks =
-    ap (λ (b : Bool). b && not (has Help given) && not (has Version given)) asks.check
-    ∙ ap (λ (b : Bool). true && not b && not (has Version given)) asks.no_help ∙ ap (λ (b : Bool). true && not false && not b) asks.no_version
+    ap (λ (b : Bool). b && not (has Help given) && not (has Version given) && not (gives_rules given)) asks.check
+    ∙ ap (λ (b : Bool). true && not b && not (has Version given) && not (gives_rules given)) asks.no_help
+    ∙ ap (λ (b : Bool). true && not false && not b && not (gives_rules given)) asks.no_version
+    ∙ ap (λ (b : Bool). true && not false && not false && not b) asks.no_rules
 
 asks_none : (given : List Given) → AsksToRedact given → checks_asked given ≡ false
-asks_none given asks = ap (λ (b : Bool). b && not (has Help given) && not (has Version given)) asks.no_check
+asks_none given asks = ap (λ (b : Bool). b && not (has Help given) && not (has Version given) && not (gives_rules given)) asks.no_check
 
 pub no_redaction : (given : List Given) → checks_asked given ≡ true → AsksToRedact given → ⊥
 no_redaction given checks asks = let clash : true ≡ false = sym checks ∙ asks_none given asks in cc
@@ -35,14 +37,40 @@ no_redaction given checks asks = let clash : true ≡ false = sym checks ∙ ask
 pub no_checking : (given : List Given) → checks_asked given ≡ false → AsksToCheck given → ⊥
 no_checking given none asks = let clash : true ≡ false = sym (asks_check given asks) ∙ none in cc
 
-check_parts : (check help version : Bool) → (check && not help && not version) ≡ true → (help ≡ false) × (version ≡ false) × (check ≡ true)
-check_parts true false false is = (refl, refl, refl)
-check_parts true false true is = absurd (cc)
-check_parts true true version is = absurd (cc)
-check_parts false help version is = absurd (cc)
+check_parts : (check help version rules : Bool) → (check && not help && not version && not rules) ≡ true → (help ≡ false) × (version ≡ false) × (check ≡ true) × (rules ≡ false)
+check_parts true false false false is = (refl, refl, refl, refl)
+check_parts true false false true is = absurd (cc)
+check_parts true false true rules is = absurd (cc)
+check_parts true true version rules is = absurd (cc)
+check_parts false help version rules is = absurd (cc)
 
 checks_of : (given : List Given) → checks_asked given ≡ true → AsksToCheck given
-checks_of given is = let parts = check_parts (has Check given) (has Help given) (has Version given) is in record { no_help = parts.0; no_version = parts.1; check = parts.2 }
+checks_of given is =
+    let parts = check_parts (has Check given) (has Help given) (has Version given) (gives_rules given) is in
+    record { no_help = parts.0; no_version = parts.1; check = parts.2; no_rules = parts.3 }
+
+-- whether rules are asked for
+rules_part : (rules help version : Bool) → (rules && not help && not version) ≡ true → rules ≡ true
+rules_part true help version is = refl
+rules_part false help version is = absurd (cc)
+
+pub asks_rules : (given : List Given) → AsksForRules given → rules_asked given ≡ true
+asks_rules given asks =
+    ap (λ (b : Bool). b && not (has Help given) && not (has Version given)) asks.rules
+    ∙ ap (λ (b : Bool). true && not b && not (has Version given)) asks.no_help
+    ∙ ap (λ (b : Bool). true && not false && not b) asks.no_version
+
+-- a call with rules is no other, and one without them is no call with rules
+pub ruled_redacts : (given : List Given) → rules_asked given ≡ true → AsksToRedact given → ⊥
+ruled_redacts given is asks =
+    let clash : true ≡ false = sym (rules_part (gives_rules given) (has Help given) (has Version given) is) ∙ asks.no_rules in cc
+
+pub ruled_checks : (given : List Given) → rules_asked given ≡ true → AsksToCheck given → ⊥
+ruled_checks given is asks =
+    let clash : true ≡ false = sym (rules_part (gives_rules given) (has Help given) (has Version given) is) ∙ asks.no_rules in cc
+
+pub unruled : (given : List Given) → rules_asked given ≡ false → AsksForRules given → ⊥
+unruled given none asks = let clash : true ≡ false = sym (asks_rules given asks) ∙ none in cc
 
 -- a call checks or does not
 by_checks : {P : Type 0} (given : List Given) → (AsksToCheck given → P) → (checks_asked given ≡ false → P) → P

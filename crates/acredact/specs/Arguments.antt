@@ -7,14 +7,15 @@ use Rattle.programs.specs.Arguments.{kind_by, texts}
 use Rattle.call_options.specs.Forms.{Form, argument_form, joined_letters, long_name, long_with, no_more, no_option}
 use Rattle.acredact.specs.Forms.{are_forms}
 use Rattle.acredact.specs.Long.{word_by_name}
+use Rattle.acredact.specs.LineSizes.{is_size}
 use Rattle.acredact.specs.Values.{is_variable_name}
 use Rattle.acredact.specs.declared.arguments.Word.{Word}
-use Rattle.acredact.specs.declared.arguments.Word.TheVariants.{IgnoreCase, Kind, Pattern, Patterns, Table, Env, EnvFile, Whole, With, Pseudonym, Forms, AsWord, Output, InPlace, Count, Summary, Crlf, AllowEmpty, Strict, Check, Help, Version, File}
+use Rattle.acredact.specs.declared.arguments.Word.TheVariants.{IgnoreCase, Kind, Pattern, Patterns, Table, Env, EnvFile, Whole, With, Pseudonym, Forms, AsWord, Rules, After, MaxLine, Output, InPlace, Count, Summary, Crlf, AllowEmpty, Strict, Check, Help, Version, File}
 use Rattle.acredact.specs.declared.arguments.Expects.{Expects}
 use Rattle.acredact.specs.declared.arguments.Expects.TheVariants.{Any, Value, Name}
 use Rattle.acredact.specs.declared.arguments.Item.{Item}
 use Rattle.acredact.specs.declared.arguments.Mixture.{Mixture}
-use Rattle.acredact.specs.declared.arguments.Mixture.TheVariants.{StrictKind, PseudonymKind, PseudonymWith, PseudonymTable, FormsKind, WordsKind, WordsForms, CountCheck, SummaryCheck, OutputCheck, InPlaceCheck, InPlaceOutput}
+use Rattle.acredact.specs.declared.arguments.Mixture.TheVariants.{StrictKind, PseudonymKind, PseudonymWith, PseudonymTable, FormsKind, WordsKind, WordsForms, RulesKind, RulesCheck, RulesInPlace, RulesPseudonym, RulesCounts, RulesStrict, MaxLineAlone, CountCheck, SummaryCheck, OutputCheck, InPlaceCheck, InPlaceOutput}
 
 -- an option with its value, or a file with its name
 pub record Given : Type 0 where
@@ -42,6 +43,9 @@ takes_value Whole = true
 takes_value With = true
 takes_value Pseudonym = true
 takes_value Forms = true
+takes_value Rules = true
+takes_value After = true
+takes_value MaxLine = true
 takes_value Output = true
 takes_value IgnoreCase = false
 takes_value AsWord = false
@@ -74,6 +78,9 @@ is_value_of EnvFile value = true
 is_value_of Whole value = true
 is_value_of With value = true
 is_value_of Pseudonym value = true
+is_value_of Rules value = true
+is_value_of After value = true
+is_value_of MaxLine value = is_size value
 is_value_of Output value = true
 is_value_of InPlace value = true
 is_value_of Count value = true
@@ -180,6 +187,9 @@ abbrev pub is_same : Word → Word → Bool
 is_same IgnoreCase IgnoreCase = true
 is_same Kind Kind = true
 is_same Pattern Pattern = true
+is_same Rules Rules = true
+is_same After After = true
+is_same MaxLine MaxLine = true
 is_same Patterns Patterns = true
 is_same Table Table = true
 is_same Env Env = true
@@ -232,6 +242,9 @@ option_name Whole = codes "--whole"
 option_name With = codes "--with"
 option_name Pseudonym = codes "--pseudonym"
 option_name Forms = codes "--forms"
+option_name Rules = codes "--rules"
+option_name After = codes "--after"
+option_name MaxLine = codes "--max-line"
 option_name Output = codes "--output"
 option_name IgnoreCase = codes "-e"
 option_name AsWord = codes "-e"
@@ -269,12 +282,32 @@ counts_given items = counts_asked (all_given items)
 abbrev pub words_asked : List Given → Bool
 words_asked items = covers_asked items && has AsWord items
 
+-- whether an option gives rules
+abbrev pub gives_rules : List Given → Bool
+gives_rules items = has Rules items || has After items
+
+-- the length of lines is that of rules
+abbrev pub max_line_mixture_of : List Given → Option Mixture
+max_line_mixture_of given = if has MaxLine given then Some MaxLineAlone else None
+
+-- the options that do not go together with rules
+abbrev pub rules_mixture_of : List Given → Option Mixture
+rules_mixture_of given =
+    if not (gives_rules given) then max_line_mixture_of given
+    else if not (covers_asked given) then Some RulesKind
+    else if has Check given then Some RulesCheck
+    else if has InPlace given then Some RulesInPlace
+    else if has Pseudonym given then Some RulesPseudonym
+    else if counts_asked given then Some RulesCounts
+    else if has Strict given then Some RulesStrict
+    else None
+
 -- those of --in-place
 abbrev pub in_place_mixture_of : List Given → Option Mixture
 in_place_mixture_of given =
     if has InPlace given && has Check given then Some InPlaceCheck
     else if has InPlace given && has Output given then Some InPlaceOutput
-    else None
+    else rules_mixture_of given
 
 -- and those of --word
 abbrev pub words_mixture_of : List Given → Option Mixture
@@ -306,20 +339,31 @@ fitting_by (Some mixture) given = None
 abbrev pub all_asked : List (List ℕ) → Option (List Given)
 all_asked arguments = option_and_then (λ given. fitting_by (mixture_of given) given) (given_by arguments)
 
--- a redaction is asked for: no help, no version and no check
+-- a redaction is asked for: no help, no version and no check; and there are no rules
 pub record AsksToRedact (given : List Given) : Type 0 where
   pub no_help : has Help given ≡ false
   pub no_version : has Version given ≡ false
   pub no_check : has Check given ≡ false
+  pub no_rules : gives_rules given ≡ false
 
--- or a check
+-- or a check, with which rules are refused
 pub record AsksToCheck (given : List Given) : Type 0 where
   pub no_help : has Help given ≡ false
   pub no_version : has Version given ≡ false
   pub check : has Check given ≡ true
+  pub no_rules : gives_rules given ≡ false
 
 abbrev pub checks_asked : List Given → Bool
-checks_asked given = has Check given && not (has Help given) && not (has Version given)
+checks_asked given = has Check given && not (has Help given) && not (has Version given) && not (gives_rules given)
+
+-- or a redaction by rules
+pub record AsksForRules (given : List Given) : Type 0 where
+  pub no_help : has Help given ≡ false
+  pub no_version : has Version given ≡ false
+  pub rules : gives_rules given ≡ true
+
+abbrev pub rules_asked : List Given → Bool
+rules_asked given = gives_rules given && not (has Help given) && not (has Version given)
 
 -- whether files are to be replaced in place
 abbrev pub in_place_asked : List Given → Bool
@@ -347,6 +391,10 @@ IfAsked arguments Holds = (given : List Given) → all_asked (texts arguments) �
 -- or for a check
 abbrev pub IfChecking : {Z : Type 0} → List (String Z) → (List Given → Type 0) → Type 0
 IfChecking arguments Holds = (given : List Given) → all_asked (texts arguments) ≡ Some given → AsksToCheck given → Holds given
+
+-- or for a redaction by rules
+abbrev pub IfRuled : {Z : Type 0} → List (String Z) → (List Given → Type 0) → Type 0
+IfRuled arguments Holds = (given : List Given) → all_asked (texts arguments) ≡ Some given → AsksForRules given → Holds given
 
 -- the options that are given name this file for the output, or none
 abbrev pub NamesOutput : {Z : Type 0} → List (String Z) → Option (List ℕ) → Type 0

@@ -1,5 +1,6 @@
 -- what the arguments ask for, and what is told of wrong ones
 pub mod Long
+pub mod LineSizes
 pub mod Arguments
 pub mod Messages
 pub mod Mistakes
@@ -52,3 +53,8 @@ pub mod Back
 -- files for the output
 pub mod Into
 pub mod InPlace
+-- calls with rules
+pub mod LineRules
+pub mod RuleLines
+pub mod LongLines
+pub mod Ruled

@@ -19,7 +19,7 @@ use Rattle.acredact.specs.Reads.{OfName, ReadsText}
 use Rattle.acredact.specs.Tables.{HaveLines, HoldsBy, Secret, lines_in, secrets_of, stripped_by}
 use Rattle.acredact.specs.Values.{GiveEach, are_refused, first_fault, value_in_line, value_of_entry, whole_in}
 use Rattle.acredact.specs.declared.arguments.Word.{Word}
-use Rattle.acredact.specs.declared.arguments.Word.TheVariants.{IgnoreCase, Kind, Pattern, Patterns, Table, Env, EnvFile, Whole, With, Pseudonym, Forms, AsWord, Output, InPlace, Count, Summary, Crlf, AllowEmpty, Strict, Check, Help, Version, File}
+use Rattle.acredact.specs.declared.arguments.Word.TheVariants.{IgnoreCase, Kind, Pattern, Patterns, Table, Env, EnvFile, Whole, With, Pseudonym, Forms, AsWord, Rules as RulesFile, After, MaxLine, Output, InPlace, Count, Summary, Crlf, AllowEmpty, Strict, Check, Help, Version, File}
 use Rattle.acredact.specs.declared.failure.Failure.{Failure}
 use Rattle.acredact.specs.declared.failure.Failure.TheVariants.{NotText, Arguments, Pattern as BadPattern, Unread, Empty, NoValue, ShortKey, Line, Short, Unclean, Counts, Other}
 use Rattle.acredact.specs.declared.folder.Folder.{Ghosts as Folders}
@@ -111,6 +111,9 @@ OptionGives reading Kind value secrets left left' = (secrets ≡ []) × (left' �
 OptionGives reading With value secrets left left' = (secrets ≡ []) × (left' ≡ left)
 OptionGives reading Pseudonym value secrets left left' = (secrets ≡ []) × (left' ≡ left)
 OptionGives reading Forms value secrets left left' = (secrets ≡ []) × (left' ≡ left)
+OptionGives reading RulesFile value secrets left left' = (secrets ≡ []) × (left' ≡ left)
+OptionGives reading After value secrets left left' = (secrets ≡ []) × (left' ≡ left)
+OptionGives reading MaxLine value secrets left left' = (secrets ≡ []) × (left' ≡ left)
 OptionGives reading Output value secrets left left' = (secrets ≡ []) × (left' ≡ left)
 OptionGives reading Count value secrets left left' = (secrets ≡ []) × (left' ≡ left)
 OptionGives reading Summary value secrets left left' = (secrets ≡ []) × (left' ≡ left)

@@ -5,7 +5,7 @@ use Rattle.call_options.specs.Names.{Named, found_among, meant, named}
 use Rattle.call_options.specs.declared.found.Found.{Found}
 use Rattle.call_options.specs.declared.found.Found.TheVariants.{Unknown}
 use Rattle.acredact.specs.declared.arguments.Word.{Word}
-use Rattle.acredact.specs.declared.arguments.Word.TheVariants.{IgnoreCase, Kind, Pattern, Patterns, Table, Env, EnvFile, Whole, With, Pseudonym, Forms, AsWord, Output, InPlace, Count, Summary, Crlf, AllowEmpty, Strict, Check, Help, Version}
+use Rattle.acredact.specs.declared.arguments.Word.TheVariants.{IgnoreCase, Kind, Pattern, Patterns, Table, Env, EnvFile, Whole, With, Pseudonym, Forms, AsWord, Rules, After, MaxLine, Output, InPlace, Count, Summary, Crlf, AllowEmpty, Strict, Check, Help, Version}
 
 -- the options that say what is replaced, and by what
 abbrev pub options_of_patterns : List (Named Word)
@@ -21,6 +21,9 @@ options_of_patterns = named (codes "ignore-case") IgnoreCase
     ∷ named (codes "pseudonym") Pseudonym
     ∷ named (codes "forms") Forms
     ∷ named (codes "word") AsWord
+    ∷ named (codes "rules") Rules
+    ∷ named (codes "after") After
+    ∷ named (codes "max-line") MaxLine
     ∷ named (codes "crlf") Crlf
     ∷ named (codes "allow-empty") AllowEmpty
     ∷ []

@@ -13,11 +13,11 @@ use Rattle.acredact.specs.declared.arguments.Expects.{Expects}
 use Rattle.acredact.specs.declared.arguments.Expects.TheVariants.{Any, Value, Name}
 use Rattle.acredact.specs.declared.arguments.Item.{Item}
 use Rattle.acredact.specs.declared.arguments.Mistake.{Mistake}
-use Rattle.acredact.specs.declared.arguments.Mistake.TheVariants.{UnknownLetter, NotFound, NoValue, TakesNone, UnknownKind, UnknownForm, BadName, NoPattern, Mixed, OutOfMemory}
+use Rattle.acredact.specs.declared.arguments.Mistake.TheVariants.{UnknownLetter, NotFound, NoValue, TakesNone, UnknownKind, UnknownForm, BadName, BadSize, NoPattern, Mixed, OutOfMemory}
 use Rattle.acredact.specs.declared.arguments.Mixture.{Mixture}
-use Rattle.acredact.specs.declared.arguments.Mixture.TheVariants.{StrictKind, PseudonymKind, PseudonymWith, PseudonymTable, FormsKind, WordsKind, WordsForms, CountCheck, SummaryCheck, OutputCheck, InPlaceCheck, InPlaceOutput}
+use Rattle.acredact.specs.declared.arguments.Mixture.TheVariants.{StrictKind, PseudonymKind, PseudonymWith, PseudonymTable, FormsKind, WordsKind, WordsForms, RulesKind, RulesCheck, RulesInPlace, RulesPseudonym, RulesCounts, RulesStrict, MaxLineAlone, CountCheck, SummaryCheck, OutputCheck, InPlaceCheck, InPlaceOutput}
 use Rattle.acredact.specs.declared.arguments.Word.{Word}
-use Rattle.acredact.specs.declared.arguments.Word.TheVariants.{Env, Forms}
+use Rattle.acredact.specs.declared.arguments.Word.TheVariants.{Env, Forms, MaxLine}
 
 -- what is told of options that do not go together
 abbrev pub mixture_text : Mixture → List ℕ
@@ -28,6 +28,13 @@ mixture_text PseudonymTable = codes "--pseudonym and -t do not go together: a ta
 mixture_text FormsKind = codes "--forms needs --kind cover: by other kinds a part of a form can stay"
 mixture_text WordsKind = codes "--word needs --kind cover: by other kinds a match that is no word can hide one"
 mixture_text WordsForms = codes "--word and --forms do not go together: a form can stand within a word"
+mixture_text RulesKind = codes "--rules and --after need --kind cover: what rules mark may overlap"
+mixture_text RulesCheck = codes "--check does not go with --rules and --after: a check is of patterns"
+mixture_text RulesInPlace = codes "--in-place does not go with --rules and --after: give --output"
+mixture_text RulesPseudonym = codes "--pseudonym does not go with --rules and --after: each says what is written"
+mixture_text RulesCounts = codes "--count and --summary do not go with --rules and --after: what rules mark is not counted"
+mixture_text RulesStrict = codes "--strict does not go with --rules and --after: it promises nothing of what rules mark"
+mixture_text MaxLineAlone = codes "--max-line needs --rules or --after: without them no line is kept"
 mixture_text SummaryCheck = codes "--summary and --check do not go together: a check counts nothing"
 mixture_text OutputCheck = codes "--output and --check do not go together: a check writes nothing"
 mixture_text InPlaceCheck = codes "--in-place and --check do not go together: a check writes nothing"
@@ -58,9 +65,17 @@ form_line = told_line (alone (codes "option '--forms' takes all, or some of base
 abbrev pub variable_line : List ℕ
 variable_line = told_line (alone (codes "option '--env' takes a name of letters, digits and '_', and at its end a star"))
 
+-- nor is this a number of bytes
+abbrev pub size_line : List ℕ
+size_line = told_line (alone (codes "option '--max-line' takes a number of bytes, from 1 on"))
+
 -- an option cannot have a value
 abbrev pub value_line : Word → List ℕ
-value_line word = if is_same Forms word then form_line else if is_same Env word then variable_line else kind_line
+value_line word =
+    if is_same Forms word then form_line
+    else if is_same Env word then variable_line
+    else if is_same MaxLine word then size_line
+    else kind_line
 
 -- the line that tells a mistake
 abbrev pub mistake_line : Mistake → List ℕ
@@ -71,6 +86,7 @@ mistake_line (TakesNone name) = misuse_line Argued name.now
 mistake_line UnknownKind = kind_line
 mistake_line UnknownForm = form_line
 mistake_line BadName = variable_line
+mistake_line BadSize = size_line
 mistake_line NoPattern = told_line (alone (codes "no pattern: give -e, -f or -t, or --help"))
 mistake_line (Mixed mixture) = told_line (alone (mixture_text mixture))
 mistake_line OutOfMemory = told_line (alone (codes "out of memory"))

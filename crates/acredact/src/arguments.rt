@@ -2,11 +2,12 @@
 
 ghost use Rattle.std.specs.Prelude.{◌≡◌, ◌++◌, [], ◌∷◌, Some, None, IfErr, IfOk, OnOk, option_map, string_bytes};
 ghost use Rattle.programs.specs.Arguments.{kind_by, texts};
-ghost use Rattle.acredact.specs.Arguments.{ReadsAs, all_asked, all_given, by_any, by_argument, checks_asked, counts_asked, covers_asked, given, given_by, has, in_place_asked, in_place_mixture_of, is_cover, is_same, is_value_of, by_joined, kind_asked, last_value, by_letter, by_letters, mixture_of, by_name, option_name, output_asked, by_taken, takes_value, words_asked, words_mixture_of, by_value};
+ghost use Rattle.acredact.specs.Arguments.{ReadsAs, all_asked, all_given, by_any, by_argument, checks_asked, counts_asked, covers_asked, given, given_by, has, in_place_asked, in_place_mixture_of, is_cover, is_same, is_value_of, by_joined, kind_asked, last_value, by_letter, by_letters, mixture_of, by_name, option_name, output_asked, by_taken, takes_value, max_line_mixture_of, rules_mixture_of, gives_rules, rules_asked, words_asked, words_mixture_of, by_value};
 ghost use Rattle.acredact.specs.Long.{word_by_name};
 ghost use Rattle.acredact.specs.Mistakes.{FailsAs, IsMistake, IsMistakeOfCall, TellsAs, line_of_any, line_of_argument, line_of_joined, line_of_letter, line_of_letters, line_of_name, mistake_line, value_line};
 
 use crate::forms::are_forms;
+use crate::line_size::size_of;
 use crate::long::option_of;
 use crate::values::is_variable_name;
 use aho_core::search::MatchKind;
@@ -41,6 +42,12 @@ pub enum Word {
     Forms,
     /// `-w`: an occurrence counts where no letter, digit or `_` stands beside it.
     AsWord,
+    /// `--rules`: a file of rules, or those of the program.
+    Rules,
+    /// `--after`: a keyword; what stands behind it is redacted.
+    After,
+    /// `--max-line`: how many bytes a line may have that is not redacted whole.
+    MaxLine,
     /// `--output`: the file that is written, in the place of standard output.
     Output,
     /// `--in-place`: each file is replaced, and nothing goes to standard output.
@@ -102,6 +109,20 @@ pub enum Mixture {
     WordsKind,
     /// `--word` with `--forms`: a form can stand within a word.
     WordsForms,
+    /// `--rules` or `--after` with another kind than cover: what rules mark may overlap.
+    RulesKind,
+    /// `--rules` or `--after` with `--check`.
+    RulesCheck,
+    /// `--rules` or `--after` with `--in-place`.
+    RulesInPlace,
+    /// `--rules` or `--after` with `--pseudonym`.
+    RulesPseudonym,
+    /// `--rules` or `--after` with `--count` or `--summary`.
+    RulesCounts,
+    /// `--rules` or `--after` with `--strict`, which promises nothing of what rules mark.
+    RulesStrict,
+    /// `--max-line` without rules: no line is kept.
+    MaxLineAlone,
     /// `--count` with `--check`, which counts nothing.
     CountCheck,
     /// `--summary` with `--check`.
@@ -131,6 +152,8 @@ pub enum Mistake<'a> {
     UnknownForm,
     /// The value of `--env` can be no name of a variable. It is not told: it may be the value of one.
     BadName,
+    /// The value of `--max-line` is no number of bytes. It is not told either.
+    BadSize,
     /// No option gives a pattern.
     NoPattern,
     /// These options do not go together.
@@ -163,6 +186,9 @@ pub fn name_of(word: Word) -> &'static str
         Word::With => "--with",
         Word::Pseudonym => "--pseudonym",
         Word::Forms => "--forms",
+        Word::Rules => "--rules",
+        Word::After => "--after",
+        Word::MaxLine => "--max-line",
         Word::Output => "--output",
         _ => "-e",
     }
@@ -184,6 +210,9 @@ pub fn takes_value(word: Word) -> bool
             | Word::With
             | Word::Pseudonym
             | Word::Forms
+            | Word::Rules
+            | Word::After
+            | Word::MaxLine
             | Word::Output
     )
 }
@@ -266,6 +295,44 @@ fn in_place_mixture_of(items: &[Item<'_>]) -> Option<Mixture>
     }
     if has(items, Word::InPlace) && has(items, Word::Output) {
         return Some(Mixture::InPlaceOutput);
+    }
+    rules_mixture_of(items)
+}
+
+/// That of rules with another option, where they do not go together.
+fn rules_mixture_of(items: &[Item<'_>]) -> Option<Mixture>
+    ensures mixture { result ≡ rules_mixture_of (all_given items.now) }
+{
+    if !gives_rules(items) {
+        return max_line_mixture_of(items);
+    }
+    if !covers(items) {
+        return Some(Mixture::RulesKind);
+    }
+    if has(items, Word::Check) {
+        return Some(Mixture::RulesCheck);
+    }
+    if has(items, Word::InPlace) {
+        return Some(Mixture::RulesInPlace);
+    }
+    if has(items, Word::Pseudonym) {
+        return Some(Mixture::RulesPseudonym);
+    }
+    if counts(items) {
+        return Some(Mixture::RulesCounts);
+    }
+    if has(items, Word::Strict) {
+        return Some(Mixture::RulesStrict);
+    }
+    None
+}
+
+/// That of `--max-line`, where no rules are given.
+fn max_line_mixture_of(items: &[Item<'_>]) -> Option<Mixture>
+    ensures mixture { result ≡ max_line_mixture_of (all_given items.now) }
+{
+    if has(items, Word::MaxLine) {
+        return Some(Mixture::MaxLineAlone);
     }
     None
 }
@@ -451,6 +518,9 @@ fn unknown_value<'a>(word: Word) -> Mistake<'a>
     if is_same(Word::Env, word) {
         return Mistake::BadName;
     }
+    if is_same(Word::MaxLine, word) {
+        return Mistake::BadSize;
+    }
     Mistake::UnknownKind
 }
 
@@ -461,8 +531,8 @@ fn is_cover(name: &str) -> bool
     name == "cover"
 }
 
-/// Whether an option can have this value: that of `--kind` is `cover` or a match kind, that of `--forms` names forms, and that of
-/// `--env` variables.
+/// Whether an option can have this value: that of `--kind` is `cover` or a match kind, that of `--forms` names forms, that of `--env`
+/// variables, and that of `--max-line` is a number of bytes.
 fn is_value_of(word: Word, value: &str) -> bool
     ensures is { result ≡ is_value_of word value.now }
 {
@@ -470,6 +540,7 @@ fn is_value_of(word: Word, value: &str) -> bool
         Word::Kind => is_cover(value) || kind_by(value).is_some(),
         Word::Forms => are_forms(value),
         Word::Env => is_variable_name(value),
+        Word::MaxLine => size_of(value).is_some(),
         _ => true,
     }
 }
@@ -503,11 +574,14 @@ pub fn last_value<'a>(items: &[Item<'a>], word: Word) -> Option<&'a str>
     value
 }
 
-/// Whether a check is asked for, and no help and no version.
+/// Whether a check is asked for, and no help, no version and no rules.
 pub fn checks(items: &[Item<'_>]) -> bool
     ensures checks { result ≡ checks_asked (all_given items.now) }
 {
-    has(items, Word::Check) && !has(items, Word::Help) && !has(items, Word::Version)
+    has(items, Word::Check)
+        && !has(items, Word::Help)
+        && !has(items, Word::Version)
+        && !gives_rules(items)
 }
 
 /// The file that is written, where that is asked for, and no help and no version.
@@ -535,6 +609,20 @@ pub fn covers(items: &[Item<'_>]) -> bool
         Some(name) => is_cover(name),
         None => true,
     }
+}
+
+/// Whether an option gives rules.
+pub fn gives_rules(items: &[Item<'_>]) -> bool
+    ensures gives { result ≡ gives_rules (all_given items.now) }
+{
+    has(items, Word::Rules) || has(items, Word::After)
+}
+
+/// Whether lines are to be redacted by rules, and no help and no version is asked for.
+pub fn asks_rules(items: &[Item<'_>]) -> bool
+    ensures asks { result ≡ rules_asked (all_given items.now) }
+{
+    gives_rules(items) && !has(items, Word::Help) && !has(items, Word::Version)
 }
 
 /// Whether words alone count: of a cover.

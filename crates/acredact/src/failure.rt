@@ -266,6 +266,10 @@ fn tell_mistake<E: Sink>(errors: &mut Errors<'_, E>, mistake: Mistake<'_>)
             errors,
             "option '--env' takes a name of letters, digits and '_', and at its end a star",
         ),
+        Mistake::BadSize => tell_alone(
+            errors,
+            "option '--max-line' takes a number of bytes, from 1 on",
+        ),
         Mistake::NoPattern => tell_alone(errors, "no pattern: give -e, -f or -t, or --help"),
         Mistake::Mixed(mixture) => tell_alone(errors, mixture_text(mixture)),
         Mistake::OutOfMemory => tell_alone(errors, "out of memory"),
@@ -311,6 +315,27 @@ fn mixture_text(mixture: Mixture) -> &'static str
         }
         Mixture::WordsForms => {
             "--word and --forms do not go together: a form can stand within a word"
+        }
+        Mixture::RulesKind => {
+            "--rules and --after need --kind cover: what rules mark may overlap"
+        }
+        Mixture::RulesCheck => {
+            "--check does not go with --rules and --after: a check is of patterns"
+        }
+        Mixture::RulesInPlace => {
+            "--in-place does not go with --rules and --after: give --output"
+        }
+        Mixture::RulesPseudonym => {
+            "--pseudonym does not go with --rules and --after: each says what is written"
+        }
+        Mixture::RulesCounts => {
+            "--count and --summary do not go with --rules and --after: what rules mark is not counted"
+        }
+        Mixture::RulesStrict => {
+            "--strict does not go with --rules and --after: it promises nothing of what rules mark"
+        }
+        Mixture::MaxLineAlone => {
+            "--max-line needs --rules or --after: without them no line is kept"
         }
         Mixture::SummaryCheck => {
             "--summary and --check do not go together: a check counts nothing"

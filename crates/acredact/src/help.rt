@@ -9,7 +9,7 @@ Writes each FILE with a text in the place of each run of bytes that lie in
 matches of the patterns. FILE '-' is standard input, which is read too where no
 FILE is given.
 
-Patterns, one at least:
+Patterns, one at least, or rules:
   -e, --pattern PATTERN redact PATTERN
   -f, --file FILE       redact each line of FILE
   -t, --table TABLE     redact by TABLE: each line is a pattern, a TAB and its
@@ -25,6 +25,14 @@ Patterns, one at least:
   --crlf                a carriage return at the end of a line of FILE or TABLE
                         is no part of it
   --allow-empty         FILE and TABLE may have no line, and variables no value
+
+Rules, which mark what is not known, line by line:
+  --rules FILE          redact by the rules of FILE, TOML as gitleaks has it; by
+                        builtin, those of the program
+  --after KEYWORD       redact what stands behind KEYWORD, up to the next blank,
+                        quote, comma, semicolon, '&' or closing bracket
+  --max-line SIZE       redact a line of more than SIZE bytes whole, not of more
+                        than 1048576
 
 Replacements:
   --kind KIND           what is replaced: cover (the default), each byte of each

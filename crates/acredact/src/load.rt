@@ -446,7 +446,7 @@ fn add_lines_of<'a, F>(
 }
 
 /// All bytes of a file, or of the input.
-fn read_list<F: Folder, I: Read>(
+pub fn read_list<F: Folder, I: Read>(
     lists: &Lists<'_, '_, F>,
     name: &str,
     input: &mut FromRead<I>,

@@ -45,6 +45,9 @@ fn or_patterns(found: Found<Word>, name: &[u8]) -> Found<Word>
         .or(name, b"pseudonym", Word::Pseudonym)
         .or(name, b"forms", Word::Forms)
         .or(name, b"word", Word::AsWord)
+        .or(name, b"rules", Word::Rules)
+        .or(name, b"after", Word::After)
+        .or(name, b"max-line", Word::MaxLine)
         .or(name, b"crlf", Word::Crlf)
         .or(name, b"allow-empty", Word::AllowEmpty)
 }

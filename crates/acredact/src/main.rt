@@ -1,4 +1,4 @@
-//! `acredact [-i] [--kind KIND] (-e PATTERN | -f FILE | -t TABLE | --env NAME | --env-file FILE | --whole FILE).. [--with TEXT | --pseudonym KEYFILE] [--output FILE | --in-place] [--count] [--summary] [--check] [FILE]..` writes each FILE with a
+//! `acredact [-i] [--kind KIND] (-e PATTERN | -f FILE | -t TABLE | --env NAME | --env-file FILE | --whole FILE | --rules FILE | --after KEYWORD).. [--max-line SIZE] [--with TEXT | --pseudonym KEYFILE] [--output FILE | --in-place] [--count] [--summary] [--check] [FILE]..` writes each FILE with a
 //! text in the place of each match of some patterns: `[redacted]`, TEXT, the pattern's own of a TABLE, or a pseudonym by the key of
 //! KEYFILE. No FILE, or `-`, is standard
 //! input.
@@ -11,6 +11,7 @@
 mod apart;
 mod arguments;
 mod back;
+mod bad_rule;
 mod beside;
 mod check;
 mod clean;
@@ -26,6 +27,8 @@ mod help;
 mod in_place;
 mod into;
 mod left;
+mod line_rules;
+mod line_size;
 mod load;
 mod long;
 mod look;
@@ -36,6 +39,9 @@ mod parts;
 mod patterns;
 mod redact;
 mod rows;
+mod ruled;
+mod ruled_failure;
+mod ruled_files;
 mod run;
 mod seen;
 mod short;
@@ -51,9 +57,10 @@ ghost use Rattle.std.specs.Prelude.{◌≡◌, ◌≤◌, IfErr, IfOk, false, tr
 ghost use Rattle.std.specs.Process.{exit_status};
 ghost use Rattle.programs.specs.Telling.{TellsSome};
 ghost use Rattle.acredact.specs.Apart.{tells_nothing};
-ghost use Rattle.acredact.specs.Arguments.{AreMistaken, IfAsked, IfChecking, IfNoCheck, IsCheck, RefusesUnclean};
+ghost use Rattle.acredact.specs.Arguments.{AreMistaken, IfAsked, IfChecking, IfNoCheck, IfRuled, IsCheck, RefusesUnclean};
 ghost use Rattle.acredact.specs.Calls.{BeginsAsked, IsRefusedLine, LeavesNoneAsked, RedactsAsked};
 ghost use Rattle.acredact.specs.Checks.{MatchedAsked, UnmatchedAsked};
+ghost use Rattle.acredact.specs.Ruled.{RuledAsked, RuledBegins};
 
 use aho_devices::adapters::{FromRead, FromWrite};
 use aho_devices::device::Sink;
@@ -179,6 +186,10 @@ fn exit_code<F: Folder, I: Read, W: Write, E: Sink>(
         → LeavesNoneAsked W.Write F.Folder folder.now given streams.old streams.new)) }
     ensures begins { IfOk given (λ apart. IfAsked apart.arguments.items (λ all.
         BeginsAsked W.Write F.Folder folder.now all streams.old streams.new)) }
+    ensures ruled { IfOk given (λ apart. IfRuled apart.arguments.items (λ given.
+        exit_status result ≡ 0 → RuledAsked W.Write F.Folder folder.now given streams.old streams.new)) }
+    ensures ruled_begins { IfOk given (λ apart. IfRuled apart.arguments.items (λ all.
+        RuledBegins W.Write F.Folder folder.now all streams.old streams.new)) }
     ensures unmatched { IfOk given (λ apart. IfChecking apart.arguments.items (λ given.
         exit_status result ≡ 0 → UnmatchedAsked F.Folder folder.now given streams.old streams.new)) }
     ensures matched { IfOk given (λ apart. IfChecking apart.arguments.items (λ given.

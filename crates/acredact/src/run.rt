@@ -6,7 +6,7 @@ ghost use Rattle.programs.specs.Arguments.{texts};
 ghost use Rattle.programs.specs.Names.{name_bytes};
 ghost use Rattle.programs.specs.Streams.{WritesBytes, bytes_left};
 ghost use Rattle.programs.specs.Telling.{Tells, TellsBytes, TellsSome};
-ghost use Rattle.acredact.specs.Arguments.{AreMistaken, AsksToRedact, GivesNoPattern, IfAsked, IfChecking, IfNoCheck, IsCheck, RefusesUnclean, all_given, checks_asked, counts_asked, counts_given, has};
+ghost use Rattle.acredact.specs.Arguments.{AreMistaken, AsksToRedact, GivesNoPattern, IfAsked, IfChecking, IfNoCheck, IfRuled, IsCheck, RefusesUnclean, all_given, checks_asked, counts_asked, counts_given, has};
 ghost use Rattle.acredact.specs.Back.{AreBoth, FilesJob, IfBackIs, RowsCounts, RowsOutcome};
 ghost use Rattle.acredact.specs.Bounds.{JobNumbers};
 ghost use Rattle.acredact.specs.Calls.{AskedOutcome, BeginsAsked, CountsAsked, DoubtedOutcome, HidesAsked, IsCountsFailure, IsCountsLine, IsPrintFailure, IsRefusedLine, IsWrongLine, KeyedOutcome, KeylessOutcome, LeavesNoneAsked, LoadOutcome, NumbersAsked, NumbersToldAsked, OutputFails, ReadsAsked, RedactsAsked, TellsAsked, TellsAnyCounts, WarnedJob, WarnedOutcome, WarnsAsked, call_of, gives_pattern, gives_value, keyed_as, names_asked, text_asked, work_by};
@@ -16,6 +16,7 @@ ghost use Rattle.acredact.specs.Failures.{IsFailureLine};
 ghost use Rattle.acredact.specs.Files.{CanDo, keyed_of};
 ghost use Rattle.acredact.specs.Loading.{key_lent, loaded_as};
 ghost use Rattle.acredact.specs.Pieces.{IfOfAll, TellsUnclean, pieces_by};
+ghost use Rattle.acredact.specs.Ruled.{NotesAsked, RuledAsked, RuledBegins, RuledTells, SaysOfRules};
 ghost use Rattle.acredact.specs.Secrets.{IfOf};
 ghost use Rattle.acredact.specs.Statuses.{IsIdle, SaysOfRedaction};
 ghost use Rattle.acredact.specs.Sums.{sums_of};
@@ -28,7 +29,7 @@ ghost use Rattle.acredact.specs.declared.failure.Failure.TheVariants.{Unclean as
 ghost use Rattle.acredact.specs.declared.arguments.Word.TheVariants.{Forms, IgnoreCase, Strict};
 
 use crate::arguments::{
-    Item, Mistake, Word, checks, counts, covers, has, is_same, items, last_value,
+    Item, Mistake, Word, asks_rules, checks, counts, covers, has, is_same, items, last_value,
 };
 use crate::back::back_of;
 use crate::check::check;
@@ -43,6 +44,7 @@ use crate::load::{key_of, lists_of, rules};
 use crate::named::named_rules;
 use crate::patterns::{Rule, patterns_of, replacements_of};
 use crate::rows::build;
+use crate::ruled::redact_by_rules;
 use crate::streams::Streams;
 use crate::summary::{Volume, put_summary};
 use crate::sums::sums_of;
@@ -138,6 +140,20 @@ pub fn run<F: Folder, I: Read, W: Write, E: Sink>(
     ensures check_unwritten { IfChecking arguments.now (λ _.
         streams.new.output ≡ streams.old.output) }
 
+    // With rules: where the status is 0, each line of each file was written with just those bytes replaced that a rule marks or a pattern
+    // holds. Whatever it is, of each file that was written or a beginning of it, and nothing else.
+    ensures ruled { IfRuled arguments.now (λ given. result ≡ 0
+        → RuledAsked W.Write F.Folder folder.now given streams.old streams.new) }
+    ensures ruled_begins { IfRuled arguments.now (λ given.
+        RuledBegins W.Write F.Folder folder.now given streams.old streams.new) }
+
+    // Lines say why it is 2, and hold nothing of a line. Where it is 0 they tell which patterns of lists may be meant otherwise, and how
+    // many lines were too long.
+    ensures ruled_tells { IfRuled arguments.now (λ given. result ≡ 2
+        → RuledTells E.Sink F.Folder folder.now given streams.old streams.new) }
+    ensures ruled_quiet { IfRuled arguments.now (λ given. result ≡ 0
+        → NotesAsked E.Sink F.Folder folder.now given streams.old streams.new) }
+
     // All output was flushed where the status tells of no failure. A check has none, and it alone ends with status 1.
     ensures flushed { IfNoCheck arguments.now (result ≡ 0
         → streams.new.output.device.flushed ≡ true) }
@@ -161,10 +177,15 @@ fn answer<F: Folder, I: Read, W: Write, E: Sink>(
         result streams.old streams.new }
     ensures checked { SaysOfCheck E.Sink F.Folder folder.now (all_given given.now)
         result streams.old streams.new }
+    ensures ruled { SaysOfRules W.Write E.Sink F.Folder folder.now (all_given given.now)
+        result streams.old streams.new }
     ensures flushed { checks_asked (all_given given.now) ≡ false → result ≡ 0
         → streams.new.output.device.flushed ≡ true }
     ensures bound { checks_asked (all_given given.now) ≡ false → (result ≡ 0) ⊎ (result ≡ 2) }
 {
+    if asks_rules(given) {
+        return redact_by_rules(alloc, given, folder, streams);
+    }
     if checks(given) {
         return check(
             alloc,

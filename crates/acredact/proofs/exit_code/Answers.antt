@@ -2,9 +2,10 @@
 use Rattle.std.proofs.Common.{◌≡◌, IfOk, true, sym, subst, ◌∙◌}
 use Rattle.std.specs.Process.{exit_status}
 use Rattle.acredact.specs.Apart.{status_behind}
-use Rattle.acredact.specs.Arguments.{AreMistaken, IfAsked, IfChecking, IfNoCheck, RefusesUnclean}
+use Rattle.acredact.specs.Arguments.{AreMistaken, IfAsked, IfChecking, IfNoCheck, IfRuled, RefusesUnclean}
 use Rattle.acredact.specs.Calls.{LeavesNoneAsked, RedactsAsked}
 use Rattle.acredact.specs.Checks.{MatchedAsked, UnmatchedAsked}
+use Rattle.acredact.specs.Ruled.{RuledAsked}
 use Rattle.acredact.proofs.SetApart.{behind_one, behind_two, behind_zero}
 use Rattle.acredact.proofs.exit_code.Goals as goal
 
@@ -26,6 +27,14 @@ returns-in-Ok-clause-redacts g c =
     (λ asked is redacts zero. subst (λ l. IfAsked l (λ asked. c.run-status.result ≡ 0
     → RedactsAsked g.W.Write g.F.Folder c.args.folder.now asked c.args.streams.now c.run-status.new.streams)) c.as_slice.ensures.value
     c.run-status.ensures.redacts asked is redacts (behind_zero c.args.told c.run-status.result (sym c.status_behind.ensures.status ∙ (sym c.from.ensures ∙ zero))))
+
+pub returns-in-Ok-clause-ruled : goal.returns-in-Ok-clause-ruled
+returns-in-Ok-clause-ruled g c =
+    subst (λ given. IfOk given (λ apart. IfRuled apart.arguments.items (λ asked. exit_status c.from.result ≡ 0
+    → RuledAsked g.W.Write g.F.Folder c.args.folder.now asked c.args.streams.now c.run-status.new.streams))) (sym c.in-Ok.is)
+    (λ asked is rules zero. subst (λ l. IfRuled l (λ asked. c.run-status.result ≡ 0
+    → RuledAsked g.W.Write g.F.Folder c.args.folder.now asked c.args.streams.now c.run-status.new.streams)) c.as_slice.ensures.value
+    c.run-status.ensures.ruled asked is rules (behind_zero c.args.told c.run-status.result (sym c.status_behind.ensures.status ∙ (sym c.from.ensures ∙ zero))))
 
 pub returns-in-Ok-clause-strict : goal.returns-in-Ok-clause-strict
 returns-in-Ok-clause-strict g c =

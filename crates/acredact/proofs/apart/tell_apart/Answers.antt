@@ -1,9 +1,10 @@
 -- What is told is what the other arguments ask for.
-use Rattle.std.proofs.Common.{◌≡◌, List, length, ap, subst, ◌∙◌}
+use Rattle.std.proofs.Common.{◌≡◌, List, length, ap, refl, subst, ◌∙◌}
 use Rattle.std.specs.Prelude.{◌==◌, Some}
 use Rattle.programs.specs.Arguments.{texts}
 use Rattle.acredact.specs.Apart.{told_by}
 use Rattle.acredact.specs.Arguments.{all_asked, all_given}
+use Rattle.acredact.specs.Mistakes.{IsMistakeOfCall}
 use Rattle.acredact.proofs.SetApart.{none_is}
 use Rattle.acredact.proofs.apart.tell_apart.Goals as goal
 
@@ -15,3 +16,10 @@ returns-in-Ok-clause-which g c =
       c.told_by-told.ensures.told ∙ ap (λ l. told_by (all_given l) c.is_empty.result) c.as_slice-in-Ok.ensures.value
           ∙ ap (told_by (all_given items)) (c.is_empty.ensures ∙ ap (λ (l : List _). length l == 0) c.as_slice-names.ensures.value ∙ none_is c.args.apart.now.names.items),
     )
+
+pub returns-in-Err-clause-wrong : goal.returns-in-Err-clause-wrong
+returns-in-Err-clause-wrong g c = (
+  c.in-Err.mistake,
+  refl,
+  subst (λ (l : List _). IsMistakeOfCall (texts l) c.in-Err.mistake) c.as_slice.ensures.value c.in-Err.ensures.wrong,
+)

@@ -35,6 +35,11 @@ returns-in-NoValue g c = record {
       (subst (λ (name : List ℕ). TellsBytes g.E.Sink c.args.errors.now c.tell_misuse-in-NoValue.new.errors (misuse_line NoArgument name)) (c.as_bytes.ensures.value ∙ c.name_of.ensures.name) c.tell_misuse-in-NoValue.ensures.told);
 }
 
+pub returns-in-BadSize : goal.returns-in-BadSize
+returns-in-BadSize g c = record {
+  told = subst (λ (m : Mistake). TellsBytes g.E.Sink c.args.errors.now c.tell_alone-in-BadSize.new.errors (mistake_line m)) (sym c.in-BadSize.is) c.tell_alone-in-BadSize.ensures.told;
+}
+
 pub returns-in-NoPattern : goal.returns-in-NoPattern
 returns-in-NoPattern g c = record {
   told = subst (λ (m : Mistake). TellsBytes g.E.Sink c.args.errors.now c.tell_alone-in-NoPattern.new.errors (mistake_line m)) (sym c.in-NoPattern.is) c.tell_alone-in-NoPattern.ensures.told;

@@ -2,12 +2,23 @@
 use Rattle.std.proofs.Common.{rules, ◌≡◌, ℕ, refl, sym, subst, ◌∙◌, true, false}
 use Rattle.std.specs.Prelude.{Bool, Ok, OnOk, Result}
 use Rattle.programs.specs.Streams.{bytes_left}
-use Rattle.acredact.specs.Arguments.{all_given, checks_asked}
+use Rattle.acredact.specs.Arguments.{all_given, checks_asked, rules_asked}
 use Rattle.acredact.specs.Calls.{CallOutcome, call_of}
 use Rattle.acredact.specs.Statuses.{CallStatus}
 use Rattle.acredact.specs.declared.failure.Failure.{Failure}
-use Rattle.acredact.proofs.Statuses.{no_checking, no_redaction, status_done, status_failed, status_partly}
+use Rattle.acredact.proofs.Statuses.{no_checking, no_redaction, ruled_checks, ruled_redacts, status_done, status_failed, status_partly, unruled}
 use Rattle.acredact.proofs.run.answer.Goals as goal
+
+pub returns-then-asks_rules : goal.returns-then-asks_rules
+returns-then-asks_rules g c =
+    let is : rules_asked (all_given c.args.given.now) ≡ true = sym c.asks_rules.ensures.asks ∙ c.if-asks_rules.true in
+    record {
+      redacted = λ asks. absurd (ruled_redacts (all_given c.args.given.now) is asks);
+      checked = λ asks. absurd (ruled_checks (all_given c.args.given.now) is asks);
+      ruled = c.redact_by_rules.ensures.says;
+      flushed = λ none zero. c.redact_by_rules.ensures.flushed zero;
+      bound = λ none. c.redact_by_rules.ensures.bound;
+    }
 
 pub returns-then-checks : goal.returns-then-checks
 returns-then-checks g c =
@@ -15,6 +26,7 @@ returns-then-checks g c =
     record {
       redacted = λ asks. absurd (no_redaction (all_given c.args.given.now) is asks);
       checked = λ asks. record { patternless = c.check.ensures.patternless; unread = c.check.ensures.unread; says = c.check.ensures.says; unwritten = refl };
+      ruled = λ asks. absurd (unruled (all_given c.args.given.now) (sym c.asks_rules.ensures.asks ∙ c.if-asks_rules.false) asks);
       flushed = λ none. let clash : true ≡ false = sym is ∙ none in absurd (cc);
       bound = λ none. let clash : true ≡ false = sym is ∙ none in absurd (cc);
     }
@@ -50,3 +62,12 @@ returns-in-Err-clause-redacted g c = λ asks.
 
 pub returns-in-Err-clause-checked : goal.returns-in-Err-clause-checked
 returns-in-Err-clause-checked g c = λ asks. absurd (no_checking (all_given c.args.given.now) (sym c.checks.ensures.checks ∙ c.if-checks.false) asks)
+
+pub returns-in-Ok-true-clause-ruled : goal.returns-in-Ok-true-clause-ruled
+returns-in-Ok-true-clause-ruled g c = λ asks. absurd (unruled (all_given c.args.given.now) (sym c.asks_rules.ensures.asks ∙ c.if-asks_rules.false) asks)
+
+pub returns-in-Ok-false-clause-ruled : goal.returns-in-Ok-false-clause-ruled
+returns-in-Ok-false-clause-ruled g c = λ asks. absurd (unruled (all_given c.args.given.now) (sym c.asks_rules.ensures.asks ∙ c.if-asks_rules.false) asks)
+
+pub returns-in-Err-clause-ruled : goal.returns-in-Err-clause-ruled
+returns-in-Err-clause-ruled g c = λ asks. absurd (unruled (all_given c.args.given.now) (sym c.asks_rules.ensures.asks ∙ c.if-asks_rules.false) asks)

@@ -3,9 +3,10 @@ use Rattle.std.proofs.Common.{◌≡◌, inl, ℕ, List, ap, refl, sym, subst, �
 use Rattle.std.specs.Prelude.{None, Some}
 use Rattle.programs.specs.Arguments.{texts}
 use Rattle.programs.specs.Streams.{bytes_left}
-use Rattle.acredact.specs.Arguments.{AsksToCheck, AsksToRedact, Given, all_asked, all_given}
+use Rattle.acredact.specs.Arguments.{AsksForRules, AsksToCheck, AsksToRedact, Given, all_asked, all_given}
 use Rattle.acredact.specs.Calls.{IsWrongLine, call_of}
 use Rattle.acredact.specs.Checks.{ChecksAlone, CheckStatus}
+use Rattle.acredact.specs.Ruled.{Between, RuledStatus}
 use Rattle.acredact.specs.Statuses.{CallStatus}
 use Rattle.acredact.specs.declared.failure.Failure.TheVariants.{Arguments}
 use Rattle.acredact.proofs.Calls.{call_refused}
@@ -13,6 +14,7 @@ use Rattle.acredact.proofs.Checks.{check_refused, status_ended}
 use Rattle.acredact.proofs.Given.{forms_cover, forms_unworded, memory_alone, same_given}
 use Rattle.acredact.proofs.Hiding.{call_hides}
 use Rattle.acredact.proofs.Statuses.{bound_by, flushed_by, one_by, status_failed, tells_one}
+use Rattle.acredact.proofs.RuledCalls.{ruled_refused}
 use Rattle.acredact.proofs.run.run.Goals as goal
 
 pub returns-in-Ok : goal.returns-in-Ok
@@ -27,6 +29,10 @@ returns-in-Ok g c =
     let same : items ≡ given = same_given (all_asked (texts c.args.arguments.now)) given items right mine in
     subst (λ (l : List Given). ChecksAlone g.E.Sink (call_of g.F.Folder c.args.folder.now l) c.answer.result c.args.streams.now c.answer.new.streams) same
     (c.answer.ensures.checked (subst AsksToCheck (sym same) asks)) in
+    let ruled = λ (given : List Given) (right : all_asked (texts c.args.arguments.now) ≡ Some given) (asks : AsksForRules given).
+    let same : items ≡ given = same_given (all_asked (texts c.args.arguments.now)) given items right mine in
+    subst (λ (l : List Given). Between g.W.Write (RuledStatus g.E.Sink (call_of g.F.Folder c.args.folder.now l) c.answer.result) c.args.streams.now c.answer.new.streams) same
+    (c.answer.ensures.ruled (subst AsksForRules (sym same) asks)) in
     record {
       wrong = λ wrong. let clash : None ≡ Some items = sym wrong ∙ mine in absurd (cc);
       unread = λ wrong. let clash : None ≡ Some items = sym wrong ∙ mine in absurd (cc);
@@ -49,6 +55,10 @@ returns-in-Ok g c =
       unchecked = λ given right asks. (checked given right asks).says.tells;
       check_quiet = λ given right asks. (checked given right asks).says.quiet;
       check_unwritten = λ given right asks. (checked given right asks).unwritten;
+      ruled = λ given right asks. (ruled given right asks).redacts;
+      ruled_begins = λ given right asks. (ruled given right asks).begins;
+      ruled_tells = λ given right asks. (ruled given right asks).tells;
+      ruled_quiet = λ given right asks. (ruled given right asks).notes;
       flushed = λ redacts zero. flushed_by items (λ asks. redacts (items, mine, asks)) (λ none. c.answer.ensures.flushed none zero);
       bound = bound_by items c.answer.result (λ asks. (c.answer.ensures.checked asks).says.bound) c.answer.ensures.bound;
       one = λ is. (items, mine, one_by items c.answer.result c.answer.ensures.bound is);
@@ -68,6 +78,8 @@ returns-in-Err g c =
     (status_ended g.E.Sink (call_of g.F.Folder c.args.folder.now given) (bytes_left c.args.streams.now.input) (bytes_left c.args.streams.now.input) c.args.streams.now.errors (Arguments c.in-Err.mistake) c.args.streams.now.errors c.report.new.errors told.0
     (check_refused g.E.Sink (call_of g.F.Folder c.args.folder.now given) (bytes_left c.args.streams.now.input) (bytes_left c.args.streams.now.input) c.args.streams.now.errors (Arguments c.in-Err.mistake) (inl (inl (memory given right))))
     told.1 told.2) in
+    let ruled = λ (given : List Given). subst (λ (status : ℕ). Between g.W.Write (RuledStatus g.E.Sink (call_of g.F.Folder c.args.folder.now given) status) c.args.streams.now (record c.args.streams.now { errors = c.report.new.errors })) (sym c.report.ensures.failed)
+    (ruled_refused g.E.Sink (call_of g.F.Folder c.args.folder.now given) _ _ (Arguments c.in-Err.mistake) c.args.streams.now.errors c.report.new.errors told.0 told.1 told.2) in
     record {
       wrong = λ wrong. c.report.ensures.failed;
       unread = λ wrong. refl;
@@ -90,6 +102,10 @@ returns-in-Err g c =
       unchecked = λ given right asks. (checked given right).tells;
       check_quiet = λ given right asks. (checked given right).quiet;
       check_unwritten = λ given right asks. refl;
+      ruled = λ given right asks. (ruled given).redacts;
+      ruled_begins = λ given right asks. (ruled given).begins;
+      ruled_tells = λ given right asks. (ruled given).tells;
+      ruled_quiet = λ given right asks. (ruled given).notes;
       flushed = λ redacts (zero : c.report.result ≡ 0). let clash : 2 ≡ 0 = sym c.report.ensures.failed ∙ zero in absurd (cc);
       bound = omega (arith, c.report.ensures.failed);
       one = λ (is : c.report.result ≡ 1). let clash : 2 ≡ 1 = sym c.report.ensures.failed ∙ is in absurd (cc);

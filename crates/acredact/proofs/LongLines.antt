@@ -1,0 +1,78 @@
+-- A line that is too long is one run of a number of its own.
+use Rattle.std.proofs.Common.{◌≡◌, inl, inr, ℕ, ◌+◌, ◌<◌, ◌≤◌, List, [], ◌∷◌, ◌++◌, true, false, length, refl, sym, ap, subst, ◌∙◌, arith, length-append}
+use Rattle.std.specs.Prelude.{Bool, Some, filter, nat_eq, nat_lt, if◌then◌else◌, slice_get}
+use Rattle.std.proofs.lemmas.Bool.{eq-eqb, ltb-false, ltb-true, ne_eqb}
+use Rattle.std.proofs.lemmas.List.Elements.{filter-append}
+use Rattle.std.proofs.lemmas.Option.{slice_get_within}
+use Rattle.aho_core.specs.Listing.{IsMember}
+use Rattle.aho_core.specs.Occurrence.{Occurrence}
+use Rattle.aho_core.specs.Patterns.{Patterns}
+use Rattle.aho_core.specs.Cover.{AreRunsOf}
+use Rattle.aho_cover.specs.Counting.{runs_named}
+use Rattle.aho_cover.specs.Words.{CountsIn}
+use Rattle.aho_laws.proofs.CoverRuns.{runs-unique}
+use Rattle.secret_rules.specs.Covering.{AreLineRuns, CoveredIn, Covering, seen_line, whole_line}
+use Rattle.secret_rules.specs.LineCovers.{all_of}
+use Rattle.secret_rules.specs.Lines.{Line}
+use Rattle.secret_rules.proofs.Covered.{whole-runs}
+use Rattle.acredact.specs.LongLines.{long_among, whole_number}
+
+-- what counts has the number of a pattern
+counts_numbered : (words : Bool) (p : Patterns) (line : List ℕ) (m : Occurrence) → CountsIn words p line m → m.pattern < length p.words
+counts_numbered false p line m counts = counts.numbered
+counts_numbered true p line m counts = counts.occurs.numbered
+
+-- what is covered of a line that is not too long has a smaller number
+covered_below : (covering : Covering) (before : List (List ℕ)) (line : List ℕ) (m : Occurrence) → length line ≤ covering.most → CoveredIn covering before line m → m.pattern < whole_number covering
+covered_below covering before line m short (inl (long, is)) = absurd (omega (arith, short, long))
+covered_below covering before line m short (inr (fits, inl counts)) = let below = counts_numbered covering.words covering.patterns line m counts in omega (arith, below)
+covered_below covering before line m short (inr (fits, inr marked)) =
+    let below = slice_get_within covering.rules marked.mark.rule marked.marks.rule marked.marks.numbered in
+    omega (arith, below, ap (λ (o : Occurrence). o.pattern) marked.same)
+
+named_none : (number : ℕ) (runs : List Occurrence) → ((run : Occurrence) → IsMember runs run → run.pattern < number) → runs_named number runs ≡ 0
+named_none number [] below = refl
+named_none number (run ∷ runs) below =
+    let not : nat_eq run.pattern number ≡ false = ne_eqb run.pattern number (λ (is : run.pattern ≡ number). omega (arith, is, below run (inl refl))) in
+    ap (λ (b : Bool). length (if b then run ∷ filter (λ (o : Occurrence). nat_eq o.pattern number) runs else filter (λ (o : Occurrence). nat_eq o.pattern number) runs)) not
+    ∙ named_none number runs (λ other there. below other (inr there))
+
+named_one : (number : ℕ) (run : Occurrence) → run.pattern ≡ number → runs_named number (run ∷ []) ≡ 1
+named_one number run is =
+    ap (λ (b : Bool). length (if b then run ∷ [] else [])) (eq-eqb run.pattern number is)
+
+-- so the runs of that number are those of lines that are too long
+long_one : (covering : Covering) (before : List (List ℕ)) (line : List ℕ) (own : List Occurrence) → AreRunsOf (CoveredIn covering before line) own
+    → runs_named (whole_number covering) own ≡ (if nat_lt covering.most (length line) then 1 else 0)
+long_one covering before line own are = by (nat_lt covering.most (length line)) refl
+  where
+    by : (b : Bool) → b ≡ nat_lt covering.most (length line) → runs_named (whole_number covering) own ≡ (if b then 1 else 0)
+    by true is =
+        let long : covering.most < length line = ltb-true _ _ (sym is) in
+        ap (runs_named (whole_number covering)) (runs-unique (CoveredIn covering before line) own (whole_line covering line ∷ []) are (whole-runs covering before line long))
+        ∙ named_one (whole_number covering) (whole_line covering line) refl
+    by false is =
+        let short : length line ≤ covering.most = omega (arith, ltb-false _ _ (sym is)) in
+        named_none (whole_number covering) own
+        (λ run there. let is_run = (are.members run).0 there in omega (arith, is_run.named, covered_below covering before line is_run.longest short is_run.longest_is.0.0))
+
+named_append : (number : ℕ) (xs ys : List Occurrence) → runs_named number (xs ++ ys) ≡ runs_named number xs + runs_named number ys
+named_append number xs ys =
+    ap length (filter-append (λ (o : Occurrence). nat_eq o.pattern number) xs ys) ∙ length-append (filter (λ (o : Occurrence). nat_eq o.pattern number) xs) (filter (λ (o : Occurrence). nat_eq o.pattern number) ys)
+
+long_more : (b : Bool) (line : Line) (lines : List Line) → length (if b then line ∷ lines else lines) ≡ (if b then 1 else 0) + length lines
+long_more true line lines = omega arith
+long_more false line lines = omega arith
+
+pub long_named : (covering : Covering) (before : List (List ℕ)) (lines : List Line) (runs : List (List Occurrence)) → AreLineRuns covering before lines runs
+    → runs_named (whole_number covering) (all_of runs) ≡ long_among covering.most lines
+long_named covering before [] [] are = refl
+long_named covering before [] (own ∷ runs) are = absurd are
+long_named covering before (line ∷ lines) [] are = absurd are
+long_named covering before (line ∷ lines) (own ∷ runs) are =
+    let long = λ (l : Line). nat_lt covering.most (length l.bytes) in
+    let rest = long_named covering (before ++ seen_line covering.most line.bytes ∷ []) lines runs are.1 in
+    named_append (whole_number covering) own (all_of runs)
+    ∙ ap (λ n. n + runs_named (whole_number covering) (all_of runs)) (long_one covering before line.bytes own are.0)
+    ∙ ap (λ n. (if nat_lt covering.most (length line.bytes) then 1 else 0) + n) rest
+    ∙ sym (long_more (nat_lt covering.most (length line.bytes)) line (filter long lines))

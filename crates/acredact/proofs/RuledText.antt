@@ -1,0 +1,218 @@
+-- What comes of a text, by what a cover of its lines leaves.
+use Rattle.std.proofs.Common.{◌≡◌, ◌≢◌, inl, inr, ℕ, List, [], ◌∷◌, ◌++◌, Option, true, false, ◌≤◌, length, map, refl, sym, ap, subst, ◌∙◌, arith}
+use Rattle.std.specs.Prelude.{Bool, IfSome, IsOk, None, Some, Result, Ok, Err, slice_index}
+use Rattle.std.specs.Borrow.{Bor}
+use Rattle.std.specs.Io.{StartsWith}
+use Rattle.std.specs.Io.KnownBytes.{Consumes, IsAtEnd, Keeps}
+use Rattle.std.proofs.KnownBytes.{Appends-nil, Consumes-nil}
+use Rattle.aho_core.specs.Laws.{shortest}
+use Rattle.aho_core.specs.Occurrence.{Occurrence}
+use Rattle.aho_core.specs.Patterns.{Patterns}
+use Rattle.aho_core.specs.declared.error.stream.StreamError.TheVariants.{Match, Read, Write, WriteZero, Memory, PositionLimit}
+use Rattle.aho_core.specs.declared.search.Anchored.TheVariants.{No}
+use Rattle.aho_core.specs.declared.search.MatchKind.TheVariants.{Standard}
+use Rattle.aho_automaton.specs.declared.automaton.Automaton.{Ghosts as Automata}
+use Rattle.aho_cover.specs.Counting.{grown_count}
+use Rattle.aho_cover.specs.Pieces.{PieceRule}
+use Rattle.aho_cover.specs.declared.pieces.Pieces.{Ghosts as PieceGhosts}
+use Rattle.aho_cover.proofs.Copied.{begins_longer}
+use Rattle.aho_devices.specs.declared.device.Sink.{Ghosts as SinkGhosts}
+use Rattle.aho_devices.specs.declared.device.Source.{Ghosts as SourceGhosts}
+use Rattle.aho_stream.specs.Replacing.{MayBe}
+use Rattle.programs.specs.declared.reason.Reason.{Reason}
+use Rattle.secret_rules.specs.Covering.{AreLineRuns, covering_by, lines_cover}
+use Rattle.secret_rules.specs.LineCovers.{AreSearchedFor, BeginsLines, BeginsNextLine, CoversLines, LeavesLines}
+use Rattle.secret_rules.specs.Lines.{Line, stream_lines}
+use Rattle.secret_rules.specs.OpenLines.{CanSearch}
+use Rattle.secret_rules.specs.Ready.{CanCoverLines, CoversTheSame, most_of, rules_of, searched_automaton, words_of}
+use Rattle.secret_rules.specs.Writing.{line_cover}
+use Rattle.secret_rules.specs.declared.error.LineError.{LineError}
+use Rattle.secret_rules.specs.declared.error.LineError.TheVariants.{Mark, Stream}
+use Rattle.secret_rules.specs.declared.rule.Rule.{Rule}
+use Rattle.secret_rules.proofs.LineRuns.{lines_cover-append}
+use Rattle.acredact.specs.LongLines.{CountsLong, HasLong, long_among, whole_number}
+use Rattle.acredact.specs.Ruled.{BeginsLinesText, IsLined, IsLinesRedaction, LinesOutcome, RedactsLines, Ruling, WritesLines, ruling_as, unread_of}
+use Rattle.acredact.specs.declared.ruled_files.Lined.{Lined}
+use Rattle.acredact.proofs.LongLines.{long_named}
+use Rattle.acredact.proofs.OneFile.{ends_by, known_read}
+
+-- a beginning behind the same bytes
+begins_behind : (front all first : List ℕ) → StartsWith all first → StartsWith (front ++ all) (front ++ first)
+begins_behind [] all first is = is
+begins_behind (byte ∷ front) all first is = ap (λ l. byte ∷ l) (begins_behind front all first is)
+
+-- the cover of all lines begins with that of the first ones, and a beginning of that of the next
+begins_cover : (rule : PieceRule) (lines : List Line) (runs : List (List Occurrence)) (part : List ℕ) (all : List Line) (all_runs : List (List Occurrence)) → length runs ≡ length lines
+    → BeginsNextLine rule lines runs part all all_runs → StartsWith (lines_cover rule all all_runs) (lines_cover rule lines runs ++ part)
+begins_cover rule lines runs part all all_runs same is =
+    let whole : lines_cover rule all all_runs ≡ lines_cover rule lines runs ++ (line_cover rule is.next is.own ++ lines_cover rule is.later is.more) =
+    ap (λ l. lines_cover rule l all_runs) is.lines_are ∙ ap (λ r. lines_cover rule (lines ++ is.next ∷ is.later) r) is.runs_are
+    ∙ lines_cover-append rule lines (is.next ∷ is.later) runs (is.own ∷ is.more) same in
+    subst (λ bytes. StartsWith bytes (lines_cover rule lines runs ++ part)) (sym whole)
+    (begins_behind (lines_cover rule lines runs) (line_cover rule is.next is.own ++ lines_cover rule is.later is.more) part
+    (begins_longer (line_cover rule is.next is.own) (lines_cover rule is.later is.more) part is.begins))
+
+module _ {R W : Type 0} (S : SourceGhosts R) (K : SinkGhosts W) (Searched : Patterns → Type 0) (words : Bool) (rules : List Rule) (most : ℕ) (rule : PieceRule) (p : Patterns) (sought : Searched p)
+    (source source' : R) (sink sink' : W) (counts counts' : List ℕ) (before : Option (List ℕ))
+    (left : S.remaining source ≡ before) (none : S.empty_reads source ≡ 0) (ends : S.empty_reads source' ≢ 0 → IsAtEnd (S.remaining source')) where
+  covers_text : CoversLines S K Searched words rules most rule source source' sink sink' counts counts' → RedactsLines (ruling_as words rules most rule p) before (S.remaining source') (K.taken sink) (K.taken sink')
+  covers_text whole = record {
+    text = whole.given;
+    reads = record {
+      read = subst (λ bytes. Consumes bytes (S.remaining source') whole.given) left whole.gives.bytes;
+      ended = ends_by (S.empty_reads source) (S.empty_reads source') true none ends whole.gives.end refl;
+    };
+    redaction = lines_cover rule (stream_lines whole.given) whole.runs;
+    redacts = record { runs = whole.runs; runs_are = whole.runs_are p sought; is = refl };
+    written = whole.writes;
+  }
+
+  begins_text : BeginsLines S K Searched words rules most rule source source' sink sink' counts counts' → BeginsLinesText (ruling_as words rules most rule p) before (S.remaining source') (K.taken sink) (K.taken sink')
+  begins_text begun = record {
+    given = begun.given;
+    ended = begun.ended;
+    read = subst (λ bytes. Consumes bytes (S.remaining source') begun.given) left begun.gives.bytes;
+    at_end = ends_by (S.empty_reads source) (S.empty_reads source') begun.ended none ends begun.gives.end;
+    part = lines_cover rule begun.lines begun.runs ++ begun.part;
+    begins = λ text redaction may is.
+        subst (λ bytes. StartsWith bytes (lines_cover rule begun.lines begun.runs ++ begun.part)) (sym is.is)
+        (begins_cover rule begun.lines begun.runs begun.part (stream_lines text) is.runs begun.as_many (begun.goes_on p text is.runs sought may is.runs_are));
+    written = begun.writes;
+  }
+
+  -- each line that is too long is counted
+  long_text : CoversLines S K Searched words rules most rule source source' sink sink' counts counts' → CountsLong (covering_by words rules most p) before (S.remaining source') counts counts'
+  long_text whole =
+      let covering = covering_by words rules most p in (
+        long_among most (stream_lines whole.given),
+        record {
+          text = whole.given;
+          reads = record {
+            read = subst (λ bytes. Consumes bytes (S.remaining source') whole.given) left whole.gives.bytes;
+            ended = ends_by (S.empty_reads source) (S.empty_reads source') true none ends whole.gives.end refl;
+          };
+          are = refl;
+        },
+        record {
+          as_many = whole.counted.as_many;
+          grown = λ within. whole.counted.grown (whole_number covering) within
+              ∙ ap (grown_count (slice_index counts (whole_number covering))) (long_named covering [] (stream_lines whole.given) whole.runs (whole.runs_are p sought));
+        },
+      )
+
+  -- either by what is answered
+  writes_text : (done : Result (Unit {0}) LineError) → LeavesLines S K Searched words rules most rule source source' sink sink' counts counts' done
+      → WritesLines (ruling_as words rules most rule p) before (S.remaining source') (K.taken sink) (K.taken sink')
+  writes_text (Ok tt) leaves = inl (covers_text leaves.covered)
+  writes_text (Err error) leaves = inr (begins_text leaves.begun)
+
+  by_text : (P : Type 0) → (CoversLines S K Searched words rules most rule source source' sink sink' counts counts' → P) → (done : Result (Unit {0}) LineError)
+      → LeavesLines S K Searched words rules most rule source source' sink sink' counts counts' done → unread_of done ≡ Ok None → P
+  by_text P of (Ok tt) leaves is = of leaves.covered
+  by_text P of (Err (Stream (Match cause))) leaves is = absurd (cc)
+  by_text P of (Err (Stream (Read fault))) leaves is = absurd (cc)
+  by_text P of (Err (Stream (Write fault))) leaves is = absurd (cc)
+  by_text P of (Err (Stream WriteZero)) leaves is = absurd (cc)
+  by_text P of (Err (Stream Memory)) leaves is = absurd (cc)
+  by_text P of (Err (Stream PositionLimit)) leaves is = absurd (cc)
+  by_text P of (Err (Mark error)) leaves is = absurd (cc)
+
+  pub lines_outcome : (done : Result (Unit {0}) LineError) → LeavesLines S K Searched words rules most rule source source' sink sink' counts counts' done
+      → LinesOutcome (ruling_as words rules most rule p) (unread_of done) counts counts' before (S.remaining source') (K.taken sink) (K.taken sink')
+  lines_outcome done leaves = record {
+    whole = by_text (RedactsLines (ruling_as words rules most rule p) before (S.remaining source') (K.taken sink) (K.taken sink')) covers_text done leaves;
+    begun = writes_text done leaves;
+    long = by_text (CountsLong (covering_by words rules most p) before (S.remaining source') counts counts') long_text done leaves;
+  }
+
+-- it covers lines as before
+pub still_lined : {A P : Type 0} (G : Automata A) (Q : PieceGhosts P) (old new : Lined A P) (ruling : Ruling) → CanCoverLines G new.cover → CoversTheSame old.cover new.cover
+    → Q.rule new.pieces ≡ Q.rule old.pieces → IsLined G Q old ruling → IsLined G Q new ruling
+still_lined G Q old new ruling can same rule is = record {
+  can = can;
+  searched = subst (λ o. AreSearchedFor G o ruling.covering.patterns) (sym same.automaton) is.searched;
+  is = is.is
+      ∙ ap (λ w. ruling_as w (rules_of old.cover) (most_of old.cover) (Q.rule old.pieces) ruling.covering.patterns) (sym same.words)
+      ∙ ap (λ r. ruling_as (words_of new.cover) r (most_of old.cover) (Q.rule old.pieces) ruling.covering.patterns) (sym same.rules)
+      ∙ ap (λ m. ruling_as (words_of new.cover) (rules_of new.cover) m (Q.rule old.pieces) ruling.covering.patterns) (sym same.most)
+      ∙ ap (λ r. ruling_as (words_of new.cover) (rules_of new.cover) (most_of new.cover) r ruling.covering.patterns) (sym rule);
+}
+
+-- nothing was read or written
+pub begun_nothing : (ruling : Ruling) (left held : Option (List ℕ)) → BeginsLinesText ruling left left held held
+begun_nothing ruling left held = record {
+  given = [];
+  ended = false;
+  read = Consumes-nil left;
+  at_end = λ (is : false ≡ true). absurd (cc);
+  part = [];
+  begins = λ text redaction may is. refl;
+  written = Appends-nil held;
+}
+
+-- of a text that is known
+module _ (ruling : Ruling) (told left left' held held' : Option (List ℕ)) (kept : Keeps told left) where
+  pub known_lines : RedactsLines ruling left left' held held' → RedactsLines ruling told left' held held'
+  known_lines whole = record {
+    text = whole.text;
+    reads = record { read = known_read told left left' whole.text kept whole.reads.read; ended = whole.reads.ended };
+    redaction = whole.redaction;
+    redacts = whole.redacts;
+    written = whole.written;
+  }
+
+  pub known_writes : WritesLines ruling left left' held held' → WritesLines ruling told left' held held'
+  known_writes (inl whole) = inl (known_lines whole)
+  known_writes (inr begun) = inr (record {
+    given = begun.given;
+    ended = begun.ended;
+    read = known_read told left left' begun.given kept begun.read;
+    at_end = begun.at_end;
+    part = begun.part;
+    begins = begun.begins;
+    written = begun.written;
+  })
+
+-- an automaton that is lent is the same
+pub some_same : {A : Type 0} (P : A → Type 0) (automaton : A) (lent : Option (Bor A)) → IfSome lent (λ a. a.now ≡ automaton) → P automaton → IfSome lent (λ a. P a.now)
+some_same P automaton None same holds = tt
+some_same P automaton (Some a) same holds = subst P (sym same) holds
+
+-- what covers lines by such parts does so by these
+pub lined_by : {A P : Type 0} (G : Automata A) (Q : PieceGhosts P) (lined : Lined A P) (words : Bool) (rules : List Rule) (most : ℕ) (rule : PieceRule) (p : Patterns) → CanCoverLines G lined.cover
+    → AreSearchedFor G (searched_automaton lined.cover) p → words_of lined.cover ≡ words → rules_of lined.cover ≡ rules → most_of lined.cover ≡ most → Q.rule lined.pieces ≡ rule
+    → IsLined G Q lined (ruling_as words rules most rule p)
+lined_by G Q lined words rules most rule p can searched is_words is_rules is_most is_rule = record {
+  can = can;
+  searched = searched;
+  is = ap (λ w. ruling_as w rules most rule p) (sym is_words)
+      ∙ ap (λ r. ruling_as (words_of lined.cover) r most rule p) (sym is_rules)
+      ∙ ap (λ m. ruling_as (words_of lined.cover) (rules_of lined.cover) m rule p) (sym is_most)
+      ∙ ap (λ r. ruling_as (words_of lined.cover) (rules_of lined.cover) (most_of lined.cover) r p) (sym is_rule);
+}
+
+-- an automaton without a pattern is of none
+pub no_words : (p : Patterns) (lengths : List ℕ) → lengths ≡ map length p.words → length lengths ≡ 0 → p.words ≡ []
+no_words p lengths are none = by p.words (ap length (sym are) ∙ none)
+  where
+    by : (words : List (List ℕ)) → length (map length words) ≡ 0 → words ≡ []
+    by [] is = refl
+    by (word ∷ words) is = absurd (omega (arith, is))
+
+-- lines can be searched by such an automaton
+pub can_search : {A : Type 0} (G : Automata A) (automaton : A) (p : Patterns) → G.is_of automaton p → G.lengths automaton ≡ map length p.words → G.kind automaton ≡ Standard → IsOk (G.start automaton No)
+    → 1 ≤ shortest (map length p.words) → CanSearch G automaton
+can_search G automaton p of are standard starts some = record {
+  of = (p, of);
+  standard = standard;
+  starts = starts;
+  full = subst (λ (ns : List ℕ). 1 ≤ shortest ns) (sym are) some;
+}
+
+-- so many lines of a text that is known
+pub known_long : (most count : ℕ) (told left left' : Option (List ℕ)) → Keeps told left → HasLong most count left left' → HasLong most count told left'
+known_long most count told left left' kept has = record {
+  text = has.text;
+  reads = record { read = known_read told left left' has.text kept has.reads.read; ended = has.reads.ended };
+  are = has.are;
+}

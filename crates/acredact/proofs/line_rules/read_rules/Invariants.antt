@@ -1,0 +1,13 @@
+-- The rules that the options so far give were read.
+use Rattle.std.proofs.Common.{length}
+use Rattle.programs.specs.Streams.{bytes_left}
+use Rattle.acredact.specs.Arguments.{all_given}
+use Rattle.acredact.specs.Loading.{reading_of_lists}
+use Rattle.acredact.proofs.RulesRead.{RulesSoFar}
+use Rattle.acredact.proofs.line_rules.read_rules.Given as goal
+
+abbrev pub invariant-loop-rest : goal.invariant-loop-rest
+invariant-loop-rest g l = RulesSoFar (reading_of_lists g.F.Folder l.fn.lists) (all_given l.fn.items) (bytes_left l.initial.input) (all_given l.rest) l.rules.items (bytes_left l.input)
+
+abbrev pub decreases-loop-rest : goal.decreases-loop-rest
+decreases-loop-rest g l = length l.rest

@@ -1,0 +1,11 @@
+-- Those so far, and those of what is left.
+use Rattle.std.proofs.Common.{◌≡◌, ◌++◌, length, map}
+use Rattle.aho_core.specs.Replacement.{pieces_of}
+use Rattle.acredact.specs.Ruled.{own_text}
+use Rattle.acredact.proofs.ruled.push_texts.Given as goal
+
+abbrev pub invariant-loop-rest : goal.invariant-loop-rest
+invariant-loop-rest l = pieces_of l.texts.items ++ map (own_text l.fn.usual) l.rest ≡ pieces_of l.initial.texts.items ++ map (own_text l.fn.usual) l.fn.line_rules
+
+abbrev pub decreases-loop-rest : goal.decreases-loop-rest
+decreases-loop-rest l = length l.rest

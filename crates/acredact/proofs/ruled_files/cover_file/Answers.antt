@@ -1,0 +1,18 @@
+-- The file is that of the input, or of the folder.
+use Rattle.std.proofs.Common.{◌∙◌, sym, refl}
+use Rattle.acredact.specs.Ruled.{ruled_in}
+use Rattle.acredact.proofs.RuledFiles.{named_input, named_opened, named_refused}
+use Rattle.acredact.proofs.ruled_files.cover_file.Goals as goal
+
+pub returns-then-is_input-clause-outcome : goal.returns-then-is_input-clause-outcome
+returns-then-is_input-clause-outcome g c = λ ruling lined.
+    named_input (ruled_in g.F.Folder c.args.folder.now ruling) c.args.name.now _ _ _ _ _ _ _ (sym c.is_input.ensures.is ∙ c.if-is_input.true) (c.cover_input.ensures.outcome ruling lined)
+
+pub returns-in-Ok-clause-outcome : goal.returns-in-Ok-clause-outcome
+returns-in-Ok-clause-outcome g c = λ ruling lined.
+    let opened = c.cover_opened.ensures.outcome ruling lined in
+    named_opened (ruled_in g.F.Folder c.args.folder.now ruling) c.args.name.now _ _ _ _ _ _ _ (sym c.is_input.ensures.is ∙ c.if-is_input.false) refl _ opened.0 c.in-Ok.ensures.told opened.1
+
+pub returns-in-Err-clause-outcome : goal.returns-in-Err-clause-outcome
+returns-in-Err-clause-outcome g c = λ ruling lined.
+    named_refused (ruled_in g.F.Folder c.args.folder.now ruling) c.args.name.now _ _ _ _ (sym c.is_input.ensures.is ∙ c.if-is_input.false)

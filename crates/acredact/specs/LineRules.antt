@@ -1,0 +1,114 @@
+-- The rules that options give, and how long a line may be by them.
+use Rattle.std.specs.Prelude.{◌≡◌, ℕ, Bool, MatchBool, List, [], ◌∷◌, ◌++◌, Option, Vec, codes, option_and_then, string_bytes, unwrap_or, None}
+use Rattle.std.specs.Str.{bytes_eq}
+use Rattle.std.specs.declared.io.traits.Read.{Ghosts as Readers}
+use Rattle.aho_devices.specs.declared.adapters.FromRead.{FromRead}
+use Rattle.programs.specs.Streams.{bytes_left}
+use Rattle.secret_rules.specs.After.{after_expression}
+use Rattle.secret_rules.specs.Rules.{keywords_of, regex_of}
+use Rattle.secret_rules.specs.Tables.{TellsRules}
+use Rattle.secret_rules.specs.declared.rule.Rule.{Rule}
+use Rattle.acredact.specs.Arguments.{Given, last_value}
+use Rattle.acredact.specs.LineSizes.{size_in}
+use Rattle.acredact.specs.Loading.{Reading, reading_of_lists}
+use Rattle.acredact.specs.Reads.{OfName, ReadsText}
+use Rattle.acredact.specs.declared.arguments.Word.{Word}
+use Rattle.acredact.specs.declared.arguments.Word.TheVariants.{IgnoreCase, Kind, Pattern, Patterns, Table, Env, EnvFile, Whole, With, Pseudonym, Forms, AsWord, Rules, After, MaxLine, Output, InPlace, Count, Summary, Crlf, AllowEmpty, Strict, Check, Help, Version, File}
+use Rattle.acredact.specs.declared.folder.Folder.{Ghosts as Folders}
+use Rattle.acredact.specs.declared.load.Lists.{Lists}
+
+-- how many bytes a line may have: the last number that is given, or 1 MiB
+abbrev pub most_asked : List Given → ℕ
+most_asked given = unwrap_or (option_and_then size_in (last_value MaxLine given)) 1048576
+
+-- the rule of what stands behind a keyword
+pub record IsBehind (keyword : List ℕ) (rule : Rule) : Type 0 where
+  pub id : string_bytes rule.id ≡ keyword
+  pub regex : regex_of rule ≡ after_expression keyword
+  pub keywords : keywords_of rule ≡ keyword ∷ []
+  pub group : rule.secret_group ≡ 1
+  pub line : rule.until ≡ None
+  pub own : rule.with ≡ None
+
+abbrev pub GivesBehind : List ℕ → List Rule → Type 0
+GivesBehind keyword rules = (rule : Rule) × (rules ≡ rule ∷ []) × IsBehind keyword rule
+
+-- a text of TOML was read from the file of this name, and tells these
+pub record GivesFileRules (reading : Reading) (name : List ℕ) (rules : List Rule) (left left' : Option (List ℕ)) : Type 0 where
+  pub text : List ℕ
+  pub reads : OfName reading.holds name (ReadsText text) left left'
+  pub told : TellsRules text rules
+
+-- those of the program: a text of its own tells them
+abbrev pub GivesOwnRules : List Rule → (left left' : Option (List ℕ)) → Type 0
+GivesOwnRules rules left left' = (left' ≡ left) × ((text : List ℕ) × TellsRules text rules)
+
+-- the name that stands for them
+abbrev pub is_builtin : List ℕ → Bool
+is_builtin name = bytes_eq name (codes "builtin")
+
+abbrev pub GivesNamedRules : Reading → List ℕ → List Rule → (left left' : Option (List ℕ)) → Type 0
+GivesNamedRules reading name rules left left' =
+    MatchBool (is_builtin name) (GivesOwnRules rules left left') (GivesFileRules reading name rules left left')
+
+-- an option gives no rules
+abbrev pub GivesNoRules : List Rule → (left left' : Option (List ℕ)) → Type 0
+GivesNoRules rules left left' = (rules ≡ []) × (left' ≡ left)
+
+-- the rules that an option gives
+abbrev pub OptionGivesRules : Reading → Word → List ℕ → List Rule → (left left' : Option (List ℕ)) → Type 0
+OptionGivesRules reading Rules value rules left left' = GivesNamedRules reading value rules left left'
+OptionGivesRules reading After value rules left left' = GivesBehind value rules × (left' ≡ left)
+OptionGivesRules reading Pattern value rules left left' = GivesNoRules rules left left'
+OptionGivesRules reading Patterns value rules left left' = GivesNoRules rules left left'
+OptionGivesRules reading Table value rules left left' = GivesNoRules rules left left'
+OptionGivesRules reading Env value rules left left' = GivesNoRules rules left left'
+OptionGivesRules reading EnvFile value rules left left' = GivesNoRules rules left left'
+OptionGivesRules reading Whole value rules left left' = GivesNoRules rules left left'
+OptionGivesRules reading IgnoreCase value rules left left' = GivesNoRules rules left left'
+OptionGivesRules reading AsWord value rules left left' = GivesNoRules rules left left'
+OptionGivesRules reading Kind value rules left left' = GivesNoRules rules left left'
+OptionGivesRules reading With value rules left left' = GivesNoRules rules left left'
+OptionGivesRules reading Pseudonym value rules left left' = GivesNoRules rules left left'
+OptionGivesRules reading Forms value rules left left' = GivesNoRules rules left left'
+OptionGivesRules reading MaxLine value rules left left' = GivesNoRules rules left left'
+OptionGivesRules reading Output value rules left left' = GivesNoRules rules left left'
+OptionGivesRules reading Count value rules left left' = GivesNoRules rules left left'
+OptionGivesRules reading Summary value rules left left' = GivesNoRules rules left left'
+OptionGivesRules reading Crlf value rules left left' = GivesNoRules rules left left'
+OptionGivesRules reading InPlace value rules left left' = GivesNoRules rules left left'
+OptionGivesRules reading AllowEmpty value rules left left' = GivesNoRules rules left left'
+OptionGivesRules reading Strict value rules left left' = GivesNoRules rules left left'
+OptionGivesRules reading Check value rules left left' = GivesNoRules rules left left'
+OptionGivesRules reading Help value rules left left' = GivesNoRules rules left left'
+OptionGivesRules reading Version value rules left left' = GivesNoRules rules left left'
+OptionGivesRules reading File value rules left left' = GivesNoRules rules left left'
+
+-- those that all options give, in order
+abbrev pub AreRulesRead : Reading → List Given → List Rule → (left left' : Option (List ℕ)) → Type 0
+AreRulesRead reading [] rules left left' = GivesNoRules rules left left'
+AreRulesRead reading (item ∷ items) rules left left' = (first : List Rule) × (rest : List Rule) × (rules ≡ first ++ rest)
+    × (between : Option (List ℕ)) × OptionGivesRules reading item.word item.value first left between × AreRulesRead reading items rest between left'
+
+-- what an option gives is added
+pub record IsAddedRules (Gives : List Rule → (left left' : Option (List ℕ)) → Type 0) (old new : List Rule) (left left' : Option (List ℕ)) : Type 0 where
+  pub more : List Rule
+  pub grown : new ≡ old ++ more
+  pub of : Gives more left left'
+
+-- the same where the input stays as it is
+abbrev pub AddsThese : {Z : Type 0} → (List Rule → Type 0) → (rules rules' : Vec Rule Z) → Type 0
+AddsThese Gives rules rules' = (more : List Rule) × (rules'.items ≡ rules.items ++ more) × Gives more
+
+module _ {F X R : Type 0} {Reads : Readers R} (D : Folders F X) (lists : Lists F) where
+  abbrev pub AddsNamed : {Z : Type 0} → List ℕ → (rules rules' : Vec Rule Z) → (input input' : FromRead R Reads) → Type 0
+  AddsNamed name rules rules' input input' =
+      IsAddedRules (GivesNamedRules (reading_of_lists D lists) name) rules.items rules'.items (bytes_left input) (bytes_left input')
+
+  abbrev pub AddsOption : {Z : Type 0} → Given → (rules rules' : Vec Rule Z) → (input input' : FromRead R Reads) → Type 0
+  AddsOption item rules rules' input input' =
+      IsAddedRules (OptionGivesRules (reading_of_lists D lists) item.word item.value) rules.items rules'.items (bytes_left input) (bytes_left input')
+
+-- the rules of all options were read
+abbrev pub ReadsLineRules : {F X R : Type 0} {Reads : Readers R} → Folders F X → Lists F → List Given → List Rule → (input input' : FromRead R Reads) → Type 0
+ReadsLineRules D lists given rules input input' = AreRulesRead (reading_of_lists D lists) given rules (bytes_left input) (bytes_left input')

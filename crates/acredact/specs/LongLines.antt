@@ -1,0 +1,58 @@
+-- How many lines are too long, and so covered whole.
+use Rattle.std.specs.Prelude.{◌≡◌, ℕ, ◌+◌, ◌-◌, ◌<◌, ◌^◌, ◌==◌, min, nat_lt, List, [], ◌∷◌, Option, filter, if◌then◌else◌, length, slice_index}
+use Rattle.aho_cover.specs.Counting.{grown_count}
+use Rattle.aho_devices.specs.declared.device.Sink.{Ghosts as SinkGhosts}
+use Rattle.programs.specs.Telling.{TellsBytes}
+use Rattle.programs.specs.declared.errors.Errors.{Errors}
+use Rattle.secret_rules.specs.Covering.{Covering}
+use Rattle.secret_rules.specs.Lines.{Line, stream_lines}
+use Rattle.acredact.specs.Reads.{OfName, ReadsText}
+use Rattle.acredact.specs.RuleLines.{too_long_line}
+
+-- the number of such a line, behind those of patterns and rules
+abbrev pub whole_number : Covering → ℕ
+whole_number covering = length covering.patterns.words + length covering.rules
+
+-- how many of some lines have more bytes than this
+abbrev pub long_among : ℕ → List Line → ℕ
+long_among most lines = length (filter (λ (line : Line). nat_lt most (length line.bytes)) lines)
+
+-- a text was read to its end, and has so many lines with more bytes
+pub record HasLong (most count : ℕ) (left left' : Option (List ℕ)) : Type 0 where
+  pub text : List ℕ
+  pub reads : ReadsText text left left'
+  pub are : count ≡ long_among most (stream_lines text)
+
+-- all files together, one after another, have so many
+abbrev pub HaveLong : (holds : List ℕ → Option (List ℕ)) → (most : ℕ) → List (List ℕ) → ℕ → (left left' : Option (List ℕ)) → Type 0
+HaveLong holds most [] count left left' = (count ≡ 0) × (left' ≡ left)
+HaveLong holds most (name ∷ names) count left left' = (first : ℕ) × (rest : ℕ) × (count ≡ first + rest)
+    × (between : Option (List ℕ)) × OfName holds name (HasLong most first) left between × HaveLong holds most names rest between left'
+
+-- the count of a number has grown by so many, and there are as many counts as before
+pub record GrowsBy (number more : ℕ) (counts counts' : List ℕ) : Type 0 where
+  pub as_many : length counts' ≡ length counts
+  pub grown : number < length counts → slice_index counts' number ≡ grown_count (slice_index counts number) more
+
+-- so many are counted of a text that was read to its end, or of all files
+abbrev pub CountsLong : Covering → (left left' : Option (List ℕ)) → (counts counts' : List ℕ) → Type 0
+CountsLong covering left left' counts counts' =
+    (count : ℕ) × HasLong covering.most count left left' × GrowsBy (whole_number covering) count counts counts'
+
+abbrev pub CountsLongNamed : (holds : List ℕ → Option (List ℕ)) → Covering → List ℕ → (left left' : Option (List ℕ)) → (counts counts' : List ℕ) → Type 0
+CountsLongNamed holds covering name left left' counts counts' =
+    (count : ℕ) × OfName holds name (HasLong covering.most count) left left' × GrowsBy (whole_number covering) count counts counts'
+
+abbrev pub CountsLongAll : (holds : List ℕ → Option (List ℕ)) → Covering → List (List ℕ) → (left left' : Option (List ℕ)) → (counts counts' : List ℕ) → Type 0
+CountsLongAll holds covering names left left' counts counts' =
+    (count : ℕ) × HaveLong holds covering.most names count left left' × GrowsBy (whole_number covering) count counts counts'
+
+-- what is told of so many: nothing where there is none
+abbrev pub long_told : (most count : ℕ) → List ℕ
+long_told most count = if count == 0 then [] else too_long_line most count
+
+-- it is told how many lines of all files are too long. The count stops at the greatest number of 64 bits
+pub record TellsLong {E : Type 0} (K : SinkGhosts E) (holds : List ℕ → Option (List ℕ)) (most : ℕ) (names : List (List ℕ)) (left left' : Option (List ℕ)) (errors errors' : Errors E) : Type 0 where
+  pub count : ℕ
+  pub have : HaveLong holds most names count left left'
+  pub told : TellsBytes K errors errors' (long_told most (min count (2 ^ 64 - 1)))

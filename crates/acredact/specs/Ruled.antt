@@ -1,0 +1,370 @@
+-- What a call with rules does: each line is redacted by what rules mark in it and patterns hold.
+use Rattle.std.specs.Prelude.{◌≡◌, ◌⊎◌, ℕ, Bool, true, false, List, [], ◌∷◌, ◌++◌, Option, None, Some, Result, Ok, Err, map, option_map, string_bytes, unwrap_or, Vec}
+use Rattle.std.specs.Borrow.{Bor}
+use Rattle.std.specs.Io.{StartsWith}
+use Rattle.std.specs.Io.KnownBytes.{Appends, Consumes, IsAtEnd, Keeps}
+use Rattle.std.specs.declared.io.traits.Read.{Ghosts as Readers}
+use Rattle.std.specs.declared.io.traits.Write.{Ghosts as Writers}
+use Rattle.aho_core.specs.Listing.{IsMember}
+use Rattle.aho_core.specs.Occurrence.{Occurrence}
+use Rattle.aho_core.specs.Patterns.{Patterns}
+use Rattle.aho_core.specs.Replacement.{pieces_of}
+use Rattle.aho_core.specs.declared.error.stream.StreamError.TheVariants.{Match, Read, Write, WriteZero, Memory, PositionLimit}
+use Rattle.aho_core.specs.declared.search.MatchKind.TheVariants.{Standard}
+use Rattle.aho_automaton.specs.declared.automaton.Automaton.{Ghosts as Automata}
+use Rattle.aho_cover.specs.Pieces.{PieceRule, fixed_rule}
+use Rattle.aho_cover.specs.declared.pieces.Pieces.{Ghosts as PieceGhosts}
+use Rattle.aho_devices.specs.declared.adapters.FromRead.{FromRead}
+use Rattle.aho_devices.specs.declared.adapters.FromWrite.{FromWrite}
+use Rattle.aho_devices.specs.declared.device.Sink.{Ghosts as SinkGhosts}
+use Rattle.aho_stream.specs.Replacing.{MayBe}
+use Rattle.programs.specs.Names.{name_bytes}
+use Rattle.programs.specs.Streams.{bytes_left, output_bytes}
+use Rattle.programs.specs.Telling.{Tells, TellsSome}
+use Rattle.programs.specs.declared.errors.Errors.{Errors}
+use Rattle.programs.specs.declared.reason.Reason.{Reason}
+use Rattle.programs.specs.declared.reason.Reason.TheVariants.{PositionLimit as TooLong, ReadFault}
+use Rattle.secret_rules.specs.Covering.{AreLineRuns, Covering, covering_by, lines_cover}
+use Rattle.secret_rules.specs.LineCovers.{AreSearchedFor}
+use Rattle.secret_rules.specs.Lines.{stream_lines}
+use Rattle.secret_rules.specs.Ready.{CanCoverLines, most_of, rules_of, searched_automaton, words_of}
+use Rattle.secret_rules.specs.Rules.{AreSound}
+use Rattle.secret_rules.specs.declared.error.LineError.{LineError}
+use Rattle.secret_rules.specs.declared.error.LineError.TheVariants.{Mark, Stream}
+use Rattle.secret_rules.specs.declared.rule.Rule.{Rule}
+use Rattle.acredact.specs.Arguments.{AsksForRules, Given, all_given, has}
+use Rattle.acredact.specs.Calls.{Call, IsUnreadLine, call_of, names_asked, pieces_asked, reading_by, text_asked}
+use Rattle.acredact.specs.Doubts.{TellsDoubts, all_doubt_lines}
+use Rattle.acredact.specs.Files.{WritesText}
+use Rattle.acredact.specs.LineRules.{AreRulesRead, most_asked}
+use Rattle.acredact.specs.LongLines.{CountsLong, CountsLongAll, CountsLongNamed, TellsLong}
+use Rattle.acredact.specs.Loading.{AreGiven, Reading}
+use Rattle.acredact.specs.Reads.{OfName}
+use Rattle.acredact.specs.RuleLines.{IsRuledLine, too_long_line}
+use Rattle.acredact.specs.Tables.{Secret, patterns_in, secrets_of}
+use Rattle.acredact.specs.declared.arguments.Word.TheVariants.{AsWord, IgnoreCase}
+use Rattle.acredact.specs.declared.arguments.Item.{Item}
+use Rattle.acredact.specs.declared.folder.Folder.{Ghosts as Folders}
+use Rattle.acredact.specs.declared.patterns.Rule.{Rule as PatternRule}
+use Rattle.acredact.specs.declared.ruled_failure.RuledFailure.{RuledFailure}
+use Rattle.acredact.specs.declared.ruled_files.Lined.{Lined}
+use Rattle.acredact.specs.declared.streams.Streams.{Streams}
+
+-- by what lines are covered, and what is written for each number
+pub record Ruling : Type 0 where
+  pub covering : Covering
+  pub rule : PieceRule
+
+-- the redaction of a text: each line with just those bytes replaced that a rule marks or a pattern holds
+pub record IsLinesRedaction (ruling : Ruling) (text redaction : List ℕ) : Type 0 where
+  pub runs : List (List Occurrence)
+  pub runs_are : AreLineRuns ruling.covering [] (stream_lines text) runs
+  pub is : redaction ≡ lines_cover ruling.rule (stream_lines text) runs
+
+-- a beginning of the redaction of whatever the text may be, of which this was given
+abbrev pub BeginsLinesRedaction : Ruling → (given : List ℕ) → (ended : Bool) → List ℕ → Type 0
+BeginsLinesRedaction ruling given ended part =
+    (text redaction : List ℕ) → MayBe given ended text → IsLinesRedaction ruling text redaction → StartsWith redaction part
+
+-- a text was read to its end, and its redaction was written
+abbrev pub RedactsLines : Ruling → (left left' held held' : Option (List ℕ)) → Type 0
+RedactsLines ruling left left' held held' = WritesText (IsLinesRedaction ruling) left left' held held'
+
+-- some of a text was read, and a beginning of its redaction was written
+pub record BeginsLinesText (ruling : Ruling) (left left' held held' : Option (List ℕ)) : Type 0 where
+  pub given : List ℕ
+  pub ended : Bool
+  pub read : Consumes left left' given
+  pub at_end : ended ≡ true → IsAtEnd left'
+  pub part : List ℕ
+  pub begins : BeginsLinesRedaction ruling given ended part
+  pub written : Appends held held' part
+
+-- its redaction was written, or a beginning of it
+abbrev pub WritesLines : Ruling → (left left' held held' : Option (List ℕ)) → Type 0
+WritesLines ruling left left' held held' = RedactsLines ruling left left' held held' ⊎ BeginsLinesText ruling left left' held held'
+
+-- what the end of a stream means for its file: a file that cannot be read is told, and anything else ends the call
+abbrev pub unread_of : Result (Unit {0}) LineError → Result (Option Reason) LineError
+unread_of (Ok x) = Ok None
+unread_of (Err (Stream (Match cause))) = Err (Stream (Match cause))
+unread_of (Err (Stream (Read fault))) = Ok (Some ReadFault)
+unread_of (Err (Stream (Write fault))) = Err (Stream (Write fault))
+unread_of (Err (Stream WriteZero)) = Err (Stream WriteZero)
+unread_of (Err (Stream Memory)) = Err (Stream Memory)
+unread_of (Err (Stream PositionLimit)) = Ok (Some TooLong)
+unread_of (Err (Mark error)) = Err (Mark error)
+
+-- what comes of a text: its redaction was written, or a beginning of it; and where no reason is answered it was read to its end
+pub record LinesOutcome (ruling : Ruling) (result : Result (Option Reason) LineError) (counts counts' : List ℕ) (left left' held held' : Option (List ℕ)) : Type 0 where
+  pub whole : result ≡ Ok None → RedactsLines ruling left left' held held'
+  pub begun : WritesLines ruling left left' held held'
+  pub long : result ≡ Ok None → CountsLong ruling.covering left left' counts counts'
+
+-- what is redacted so: what the folder holds under a name, where it tells that, and whether the output may go to it
+pub record RuledWork : Type 1 where
+  pub holds : List ℕ → Option (List ℕ)
+  pub meets : List ℕ → Bool → Type 0
+  pub ruling : Ruling
+
+-- the redaction of the file of this name was written, and the output does not go to it
+abbrev pub RedactsRuled : RuledWork → List ℕ → (left left' held held' : Option (List ℕ)) → Type 0
+RedactsRuled work name left left' held held' =
+    work.meets name false × OfName work.holds name (λ l l'. RedactsLines work.ruling l l' held held') left left'
+
+-- or a beginning of it
+abbrev pub WritesRuled : RuledWork → List ℕ → (left left' held held' : Option (List ℕ)) → Type 0
+WritesRuled work name left left' held held' = OfName work.holds name (λ l l'. WritesLines work.ruling l l' held held') left left'
+
+-- what comes of the file of a name
+pub record NamedOutcome (work : RuledWork) (name : List ℕ) (result : Result (Option Reason) LineError) (counts counts' : List ℕ) (left left' held held' : Option (List ℕ)) : Type 0 where
+  pub whole : result ≡ Ok None → OfName work.holds name (λ l l'. RedactsLines work.ruling l l' held held') left left'
+  pub begun : WritesRuled work name left left' held held'
+  pub long : result ≡ Ok None → CountsLongNamed work.holds work.ruling.covering name left left' counts counts'
+
+-- of each file the redaction was written, one after another
+abbrev pub AreRuled : RuledWork → List (List ℕ) → (left left' held held' : Option (List ℕ)) → Type 0
+AreRuled work [] left left' held held' = (left' ≡ left) × Keeps held held'
+AreRuled work (name ∷ names) left left' held held' = (between : Option (List ℕ)) × (meanwhile : Option (List ℕ))
+    × RedactsRuled work name left between held meanwhile × AreRuled work names between left' meanwhile held'
+
+-- or a beginning of it, of some perhaps nothing
+abbrev pub AreBegun : RuledWork → List (List ℕ) → (left left' held held' : Option (List ℕ)) → Type 0
+AreBegun work [] left left' held held' = (left' ≡ left) × Keeps held held'
+AreBegun work (name ∷ names) left left' held held' = (between : Option (List ℕ)) × (meanwhile : Option (List ℕ))
+    × WritesRuled work name left between held meanwhile × AreBegun work names between left' meanwhile held'
+
+-- by these words, rules, lengths and patterns, with these pieces
+abbrev pub ruling_as : Bool → List Rule → ℕ → PieceRule → Patterns → Ruling
+ruling_as words rules most rule p = record { covering = covering_by words rules most p; rule = rule }
+
+-- what covers lines does so by this
+pub record IsLined {A P : Type 0} (G : Automata A) (Q : PieceGhosts P) (lined : Lined A P) (ruling : Ruling) : Type 0 where
+  pub can : CanCoverLines G lined.cover
+  pub searched : AreSearchedFor G (searched_automaton lined.cover) ruling.covering.patterns
+  pub is : ruling ≡ ruling_as (words_of lined.cover) (rules_of lined.cover) (most_of lined.cover) (Q.rule lined.pieces) ruling.covering.patterns
+
+-- the patterns of an automaton are those that are searched for: by it, or by none where it has none
+abbrev pub AreSearchedBy : {A : Type 0} → Automata A → A → Option (Bor A) → Type 0
+AreSearchedBy G automaton searched = (p : Patterns) → G.is_of automaton p → AreSearchedFor G searched p
+
+-- what holds of all by which it does
+abbrev pub IfLined : {A P : Type 0} → Automata A → PieceGhosts P → Lined A P → (Ruling → Type 0) → Type 0
+IfLined G Q lined Holds = (ruling : Ruling) → IsLined G Q lined ruling → Holds ruling
+
+-- it does so by the patterns of an automaton, where it has these texts
+abbrev pub LinesBy : {A P : Type 0} → Automata A → PieceGhosts P → A → Bool → List Rule → ℕ → List (Bor (List ℕ)) → Lined A P → Type 0
+LinesBy G Q automaton words rules most texts lined =
+    (p : Patterns) → G.is_of automaton p → IsLined G Q lined (ruling_as words rules most (fixed_rule (pieces_of texts)) p)
+
+-- it does so by something
+abbrev pub IsAnyLined : {A P : Type 0} → Automata A → PieceGhosts P → Lined A P → Type 0
+IsAnyLined G Q lined = (ruling : Ruling) × IsLined G Q lined ruling
+
+-- and afterwards as before
+abbrev pub StaysLined : {A P : Type 0} → Automata A → PieceGhosts P → Lined A P → Lined A P → Type 0
+StaysLined G Q lined lined' = IfLined G Q lined (IsLined G Q lined')
+
+-- what it does in a folder
+abbrev pub ruled_in : {F X : Type 0} → Folders F X → F → Ruling → RuledWork
+ruled_in D folder ruling = record { holds = D.holds folder; meets = D.meets folder; ruling = ruling }
+
+-- what is loaded: the secrets that are patterns, and the rules
+pub record RuledLoad : Type 0 where
+  pub secrets : List Secret
+  pub rules : List Rule
+
+pub record AreRuledLoaded (reading : Reading) (given : List Given) (load : RuledLoad) (left left' : Option (List ℕ)) : Type 0 where
+  pub between : Option (List ℕ)
+  pub secrets_given : AreGiven reading given load.secrets left between
+  pub rules_given : AreRulesRead reading given load.rules between left'
+  pub sound : AreSound load.rules
+
+abbrev pub ruled_load : List PatternRule → List Rule → RuledLoad
+ruled_load secrets rules = record { secrets = secrets_of secrets; rules = rules }
+
+-- the patterns that are searched for: all that occurs counts
+abbrev pub patterns_by_case : List Given → List (List ℕ) → Patterns
+patterns_by_case given words = record { words = words; kind = Standard; ignore_case = has IgnoreCase given }
+
+-- what is written for a rule: its own text, or the usual one
+abbrev pub own_text : (usual : List ℕ) → Rule → List ℕ
+own_text usual rule = unwrap_or (option_map string_bytes rule.with) usual
+
+-- for each pattern, then for each rule, and then for lines that are too long
+abbrev pub texts_asked : List Given → RuledLoad → List (List ℕ)
+texts_asked given load = pieces_asked given load.secrets ++ (map (own_text (text_asked given)) load.rules ++ text_asked given ∷ [])
+
+abbrev pub AreTextsAsked : {Z : Type 0} → List Item → List PatternRule → List Rule → Vec (Bor (List ℕ)) Z → Type 0
+AreTextsAsked items secrets rules texts = pieces_of texts.items ≡ texts_asked (all_given items) (ruled_load secrets rules)
+
+abbrev pub ruling_by : List Given → RuledLoad → Ruling
+ruling_by given load =
+    ruling_as (has AsWord given) load.rules (most_asked given) (fixed_rule (texts_asked given load)) (patterns_by_case given (patterns_in load.secrets))
+
+abbrev pub ruled_by : Call → RuledLoad → RuledWork
+ruled_by call load = record { holds = call.holds; meets = call.meets; ruling = ruling_by call.given load }
+
+-- what may be told of a call: a doubtful pattern of a list, or how many lines were too long
+abbrev pub IsRuledNotice : Call → List ℕ → Type 0
+IsRuledNotice call line =
+    ((secrets : List Secret) × IsMember (all_doubt_lines call.given secrets) line)
+    ⊎ ((count : ℕ) × (line ≡ too_long_line (most_asked call.given) count))
+
+-- or a file that is not read to its end, or why it ends early
+abbrev pub IsRuledTold : Call → List ℕ → Type 0
+IsRuledTold call line =
+    IsUnreadLine (names_asked call.given) line
+    ⊎ (((failure : RuledFailure) × IsRuledLine failure line)
+    ⊎ IsRuledNotice call line)
+
+module _ (call : Call) (left left' held held' : Option (List ℕ)) where
+  -- all patterns and rules were loaded, and all files were redacted
+  pub record RedactsByRules : Type 0 where
+    pub load : RuledLoad
+    pub between : Option (List ℕ)
+    pub loaded : AreRuledLoaded (reading_by call) call.given load left between
+    pub redacted : AreRuled (ruled_by call load) (names_asked call.given) between left' held held'
+
+  -- they were loaded, and of each file the redaction or a beginning of it was written
+  pub record BeginsLoaded : Type 0 where
+    pub load : RuledLoad
+    pub between : Option (List ℕ)
+    pub loaded : AreRuledLoaded (reading_by call) call.given load left between
+    pub begun : AreBegun (ruled_by call load) (names_asked call.given) between left' held held'
+
+  -- or nothing was written
+  abbrev pub BeginsByRules : Type 0
+  BeginsByRules = Keeps held held' ⊎ BeginsLoaded
+
+module _ {E : Type 0} (K : SinkGhosts E) where
+  -- what a call tells that does not redact all
+  pub record TellsRuled (call : Call) (result : Result Bool RuledFailure) (errors errors' : Errors E) : Type 0 where
+    pub told : Tells K (IsRuledTold call) errors errors'
+    pub partly : result ≡ Ok false → TellsSome K (IsRuledTold call) errors errors'
+
+  -- where all was redacted it is told which patterns of lists are doubtful, and how many lines were too long
+  pub record NotesOf (call : Call) (load : RuledLoad) (left left' : Option (List ℕ)) (errors errors' : Errors E) : Type 0 where
+    pub meanwhile : Errors E
+    pub doubted : TellsDoubts K false call.given load.secrets errors meanwhile
+    pub long : TellsLong K call.holds (most_asked call.given) (names_asked call.given) left left' meanwhile errors'
+
+  -- of the patterns and rules that were loaded
+  pub record NotesByRules (call : Call) (left left' : Option (List ℕ)) (errors errors' : Errors E) : Type 0 where
+    pub load : RuledLoad
+    pub between : Option (List ℕ)
+    pub loaded : AreRuledLoaded (reading_by call) call.given load left between
+    pub notes : NotesOf call load between left' errors errors'
+
+  -- what comes of a file: its redaction was written, or a beginning of it; and where it was not read to its end that is told
+  pub record LinedFile (work : RuledWork) (name : List ℕ) (result : Result Bool LineError) (counts counts' : List ℕ) (left left' held held' : Option (List ℕ)) (errors errors' : Errors E) : Type 0 where
+    pub whole : result ≡ Ok true → RedactsRuled work name left left' held held'
+    pub begun : WritesRuled work name left left' held held'
+    pub long : result ≡ Ok true → CountsLongNamed work.holds work.ruling.covering name left left' counts counts'
+    pub partly : result ≡ Ok false → TellsSome K (IsUnreadLine (name ∷ [])) errors errors'
+    pub untold : (result ≡ Ok false → ⊥) → errors' ≡ errors
+
+  -- the same of files, one after another
+  pub record LinedFiles (work : RuledWork) (names : List (List ℕ)) (result : Result Bool LineError) (counts counts' : List ℕ) (left left' held held' : Option (List ℕ)) (errors errors' : Errors E) : Type 0 where
+    pub whole : result ≡ Ok true → AreRuled work names left left' held held'
+    pub begun : AreBegun work names left left' held held'
+    pub long : result ≡ Ok true → CountsLongAll work.holds work.ruling.covering names left left' counts counts'
+    pub told : Tells K (IsUnreadLine names) errors errors'
+    pub partly : result ≡ Ok false → TellsSome K (IsUnreadLine names) errors errors'
+    pub quiet : result ≡ Ok true → errors' ≡ errors
+
+  -- of the files of a call whose patterns and rules were loaded
+  pub record RuledOutcome (call : Call) (load : RuledLoad) (result : Result Bool RuledFailure) (left left' held held' : Option (List ℕ)) (errors errors' : Errors E) : Type 0 where
+    pub whole : result ≡ Ok true → AreRuled (ruled_by call load) (names_asked call.given) left left' held held'
+    pub begun : AreBegun (ruled_by call load) (names_asked call.given) left left' held held'
+    pub tells : TellsRuled call result errors errors'
+    pub notes : result ≡ Ok true → TellsLong K call.holds (most_asked call.given) (names_asked call.given) left left' errors errors'
+
+  -- the same behind what is told of doubtful patterns
+  pub record DoubtedRuled (call : Call) (load : RuledLoad) (result : Result Bool RuledFailure) (left left' held held' : Option (List ℕ)) (errors errors' : Errors E) : Type 0 where
+    pub whole : result ≡ Ok true → AreRuled (ruled_by call load) (names_asked call.given) left left' held held'
+    pub begun : AreBegun (ruled_by call load) (names_asked call.given) left left' held held'
+    pub tells : TellsRuled call result errors errors'
+    pub notes : result ≡ Ok true → NotesOf call load left left' errors errors'
+
+  -- and of the whole call
+  pub record RuledCall (call : Call) (result : Result Bool RuledFailure) (left left' held held' : Option (List ℕ)) (errors errors' : Errors E) : Type 0 where
+    pub whole : result ≡ Ok true → RedactsByRules call left left' held held'
+    pub begun : BeginsByRules call left left' held held'
+    pub tells : TellsRuled call result errors errors'
+    pub notes : result ≡ Ok true → NotesByRules call left left' errors errors'
+
+  -- what its status says
+  pub record RuledStatus (call : Call) (status : ℕ) (left left' held held' : Option (List ℕ)) (errors errors' : Errors E) : Type 0 where
+    pub redacts : status ≡ 0 → RedactsByRules call left left' held held'
+    pub begins : BeginsByRules call left left' held held'
+    pub tells : status ≡ 2 → TellsSome K (IsRuledTold call) errors errors'
+    pub notes : status ≡ 0 → NotesByRules call left left' errors errors'
+
+-- whatever an opened file has left afterwards
+abbrev pub OpenedDone : {W : Type 0} → Writers W → Result (Option Reason) LineError → (counts counts' : List ℕ) → (left : Option (List ℕ)) → (output output' : FromWrite W) → Ruling → Type 0
+OpenedDone Writes result counts counts' left output output' ruling =
+    (rest : Option (List ℕ)) × LinesOutcome ruling result counts counts' left rest (output_bytes Writes output) (output_bytes Writes output')
+
+module _ {R : Type 0} {Reads : Readers R} {W : Type 0} (Writes : Writers W) where
+  -- what comes of an input, of an opened file, and of the file of a name
+  abbrev pub LinesDone : Result (Option Reason) LineError → (counts counts' : List ℕ) → (input input' : FromRead R Reads) → (output output' : FromWrite W) → Ruling → Type 0
+  LinesDone result counts counts' input input' output output' ruling =
+      LinesOutcome ruling result counts counts' (bytes_left input) (bytes_left input') (output_bytes Writes output) (output_bytes Writes output')
+
+  abbrev pub NamedDone : {F X : Type 0} → Folders F X → F → List ℕ → Result (Option Reason) LineError → (counts counts' : List ℕ) → (input input' : FromRead R Reads) → (output output' : FromWrite W) → Ruling → Type 0
+  NamedDone D folder name result counts counts' input input' output output' ruling =
+      NamedOutcome (ruled_in D folder ruling) name result counts counts' (bytes_left input) (bytes_left input') (output_bytes Writes output) (output_bytes Writes output')
+
+module _ {R : Type 0} {Reads : Readers R} {W E : Type 0} (Writes : Writers W) where
+  -- what holds from one state of the streams to another
+  abbrev pub Between : ((left left' held held' : Option (List ℕ)) → (errors errors' : Errors E) → Type 0) → (streams streams' : Streams R W E Reads) → Type 0
+  Between Holds streams streams' =
+      Holds (bytes_left streams.input) (bytes_left streams'.input) (output_bytes Writes streams.output) (output_bytes Writes streams'.output) streams.errors streams'.errors
+
+  -- what these options ask for is redacted by rules, or some of it
+  abbrev pub RuledAsked : {F X : Type 0} → Folders F X → F → List Given → (streams streams' : Streams R W E Reads) → Type 0
+  RuledAsked D folder given streams streams' =
+      RedactsByRules (call_of D folder given) (bytes_left streams.input) (bytes_left streams'.input) (output_bytes Writes streams.output) (output_bytes Writes streams'.output)
+
+  abbrev pub RuledBegins : {F X : Type 0} → Folders F X → F → List Given → (streams streams' : Streams R W E Reads) → Type 0
+  RuledBegins D folder given streams streams' =
+      BeginsByRules (call_of D folder given) (bytes_left streams.input) (bytes_left streams'.input) (output_bytes Writes streams.output) (output_bytes Writes streams'.output)
+
+  module _ (K : SinkGhosts E) where
+    -- what comes of patterns and rules that were loaded
+    abbrev pub LoadedRuled : {F X : Type 0} → Folders F X → F → List Item → List PatternRule → List Rule → Result Bool RuledFailure → (streams streams' : Streams R W E Reads) → Type 0
+    LoadedRuled D folder items secrets rules result streams streams' =
+        Between (RuledOutcome K (call_of D folder (all_given items)) (ruled_load secrets rules) result) streams streams'
+
+    -- where doubtful ones are to be told
+    abbrev pub UndoubtedRuled : {F X : Type 0} → Folders F X → F → List Item → List PatternRule → List Rule → Result Bool RuledFailure → (streams streams' : Streams R W E Reads) → Type 0
+    UndoubtedRuled D folder items secrets rules result streams streams' =
+        Between (DoubtedRuled K (call_of D folder (all_given items)) (ruled_load secrets rules) result) streams streams'
+
+    -- of patterns that were loaded, where the rules are to be
+    abbrev pub UnruledOutcome : {F X : Type 0} → Folders F X → F → List Given → List PatternRule → Result Bool RuledFailure → (streams streams' : Streams R W E Reads) → Type 0
+    UnruledOutcome D folder given secrets result streams streams' = (left : Option (List ℕ))
+        → AreGiven (reading_by (call_of D folder given)) given (secrets_of secrets) left (bytes_left streams.input)
+        → RuledCall K (call_of D folder given) result left (bytes_left streams'.input) (output_bytes Writes streams.output) (output_bytes Writes streams'.output) streams.errors streams'.errors
+
+    -- and of what these options ask for
+    abbrev pub AskedRuled : {F X : Type 0} → Folders F X → F → List Given → Result Bool RuledFailure → (streams streams' : Streams R W E Reads) → Type 0
+    AskedRuled D folder given result streams streams' = Between (RuledCall K (call_of D folder given) result) streams streams'
+
+    abbrev pub SaysOfRules : {F X : Type 0} → Folders F X → F → List Given → ℕ → (streams streams' : Streams R W E Reads) → Type 0
+    SaysOfRules D folder given status streams streams' = AsksForRules given → Between (RuledStatus K (call_of D folder given) status) streams streams'
+
+    -- and of files by what covers lines
+    abbrev pub DoesFile : {F X : Type 0} → Folders F X → F → List ℕ → Result Bool LineError → (counts counts' : List ℕ) → (streams streams' : Streams R W E Reads) → Ruling → Type 0
+    DoesFile D folder name result counts counts' streams streams' ruling = Between (LinedFile K (ruled_in D folder ruling) name result counts counts') streams streams'
+
+    abbrev pub DoesFiles : {F X : Type 0} → Folders F X → F → List (Bor (List ℕ)) → Result Bool LineError → (counts counts' : List ℕ) → (streams streams' : Streams R W E Reads) → Ruling → Type 0
+    DoesFiles D folder names result counts counts' streams streams' ruling = Between (LinedFiles K (ruled_in D folder ruling) (name_bytes names) result counts counts') streams streams'
+
+-- what a call that asks for this tells: at status 0, and else
+abbrev pub NotesAsked : {R W E F X : Type 0} {Reads : Readers R} → SinkGhosts E → Folders F X → F → List Given → (streams streams' : Streams R W E Reads) → Type 0
+NotesAsked K D folder given streams streams' = NotesByRules K (call_of D folder given) (bytes_left streams.input) (bytes_left streams'.input) streams.errors streams'.errors
+
+abbrev pub RuledTells : {R W E F X : Type 0} {Reads : Readers R} → SinkGhosts E → Folders F X → F → List Given → (streams streams' : Streams R W E Reads) → Type 0
+RuledTells K D folder given streams streams' = TellsSome K (IsRuledTold (call_of D folder given)) streams.errors streams'.errors

@@ -1,0 +1,346 @@
+//! The rules that are given, by which lines are redacted.
+
+ghost use Rattle.std.specs.Prelude.{◌≡◌, ◌++◌, ◌∷◌, [], IfOk, OnOk};
+ghost use Rattle.secret_rules.specs.Rules.{AreSound};
+ghost use Rattle.secret_rules.specs.Tables.{TellsRules};
+ghost use Rattle.acredact.specs.Arguments.{all_given, given_of};
+ghost use Rattle.acredact.specs.LineRules.{AddsNamed, AddsOption, AddsThese, GivesBehind, ReadsLineRules, is_builtin};
+
+use crate::arguments::{Item, Word};
+use crate::bad_rule::{BadRule, RuleFlaw};
+use crate::failure::Failure;
+use crate::folder::Folder;
+use crate::load::{Lists, read_list};
+use crate::patterns::{BadLine, mark_of, split_at};
+use crate::ruled_failure::RuledFailure;
+use aho_devices::adapters::FromRead;
+use programs::failure;
+use secret_rules::{
+    BUILTIN, LineError, MarkError, ParseError, Rule as LineRule, RuleFault, Rules, RulesError,
+    parse,
+};
+use std::alloc::{AllocError, Global};
+use std::io::Read;
+
+/// What stands for a file in messages about the rule of a keyword.
+const AFTER: &str = "--after";
+
+/// The rules of all files and keywords that are given, in order.
+///
+/// # Errors
+///
+/// The first file that gives no rules, or the first rule that is none, with the reason; or memory runs out.
+pub fn line_rules_of<'a, F: Folder, I: Read>(
+    lists: &Lists<'_, '_, F>,
+    items: &[Item<'a>],
+    input: &mut FromRead<I>,
+) -> Result<Rules, RuledFailure<'a>>
+    ensures given { IfOk result (λ rules. ReadsLineRules F.Folder lists.now (all_given items.now)
+        rules input.old input.new) }
+    ensures sound { IfOk result AreSound }
+{
+    match read_rules(lists, items, input) {
+        Ok(rules) => sound(lists.alloc, rules),
+        Err(failure) => Err(failure),
+    }
+}
+
+/// The rules that the options give, in order.
+fn read_rules<'a, F: Folder, I: Read>(
+    lists: &Lists<'_, '_, F>,
+    items: &[Item<'a>],
+    input: &mut FromRead<I>,
+) -> Result<Vec<LineRule>, RuledFailure<'a>>
+    ensures read { IfOk result (λ rules. ReadsLineRules F.Folder lists.now (all_given items.now)
+        rules.items input.old input.new) }
+{
+    let mut rules = Vec::new(lists.alloc);
+    let mut rest = items;
+    while !rest.is_empty() {
+        // Not by `?`: this error holds names.
+        match add_rules(lists, &mut rules, rest[0], input) {
+            Ok(()) => {}
+            Err(failure) => return Err(failure),
+        }
+        rest = &rest[1..];
+    }
+    Ok(rules)
+}
+
+/// Adds the rules of an item, if it has any.
+fn add_rules<'a, F: Folder, I: Read>(
+    lists: &Lists<'_, '_, F>,
+    rules: &mut Vec<LineRule>,
+    item: Item<'a>,
+    input: &mut FromRead<I>,
+) -> Result<(), RuledFailure<'a>>
+    ensures added { OnOk result (AddsOption F.Folder lists.now (given_of item.entry)
+        rules.old rules.new input.old input.new) }
+{
+    match item.word {
+        Word::After => add_after(lists.alloc, rules, item.value),
+        Word::Rules => add_named(lists, rules, item.value, input),
+        _ => Ok(()),
+    }
+}
+
+/// Adds the rule of what stands behind a keyword.
+fn add_after<'a>(
+    alloc: Global,
+    rules: &mut Vec<LineRule>,
+    keyword: &str,
+) -> Result<(), RuledFailure<'a>>
+    ensures added { OnOk result (AddsThese (GivesBehind keyword.now) rules.old rules.new) }
+{
+    let rule = LineRule::after(alloc, keyword)?;
+    match flaw_of(alloc, &rule)? {
+        None => Ok(push_rule(rules, rule)?),
+        Some(flaw) => Err(bad_rule(alloc, AFTER, 1, &rule, flaw)),
+    }
+}
+
+/// Adds the rules of a file, or those of the program.
+fn add_named<'a, F: Folder, I: Read>(
+    lists: &Lists<'_, '_, F>,
+    rules: &mut Vec<LineRule>,
+    name: &'a str,
+    input: &mut FromRead<I>,
+) -> Result<(), RuledFailure<'a>>
+    ensures added { OnOk result (AddsNamed F.Folder lists.now name.now
+        rules.old rules.new input.old input.new) }
+{
+    if is_builtin(name) {
+        return add_parsed(lists, rules, name, BUILTIN);
+    }
+    match read_list(lists, name, input) {
+        Ok(text) => add_text(lists, rules, name, text.as_slice()),
+        Err(reason) => Err(RuledFailure::Plain(Failure::Unread(name, reason))),
+    }
+}
+
+/// Whether the name stands for the rules of the program.
+fn is_builtin(name: &str) -> bool
+    ensures is { result ≡ is_builtin name.now }
+{
+    name == "builtin"
+}
+
+/// Adds the rules of the bytes of a file.
+fn add_text<'a, F>(
+    lists: &Lists<'_, '_, F>,
+    rules: &mut Vec<LineRule>,
+    name: &'a str,
+    text: &[u8],
+) -> Result<(), RuledFailure<'a>>
+    ensures added { OnOk result (AddsThese (TellsRules text.now) rules.old rules.new) }
+{
+    if let Some(fault) = mark_of(text) {
+        let bad = BadLine { number: 1, fault };
+        return Err(RuledFailure::Plain(Failure::Line(name, bad)));
+    }
+    match str::from_utf8(text) {
+        Ok(text) => add_parsed(lists, rules, name, text),
+        Err(error) => Err(RuledFailure::NotText(name, line_at(text, error.valid_up_to()))),
+    }
+}
+
+/// The number, from 1 on, of the line in which a place lies.
+fn line_at(text: &[u8], place: usize) -> usize {
+    let mut number: usize = 1;
+    let mut at = 0;
+    while at < place && at < text.len() {
+        if text[at] == b'\n' {
+            number = number.saturating_add(1);
+        }
+        at += 1;
+    }
+    number
+}
+
+/// Adds the rules of a text of TOML.
+fn add_parsed<'a, F>(
+    lists: &Lists<'_, '_, F>,
+    rules: &mut Vec<LineRule>,
+    name: &'a str,
+    text: &str,
+) -> Result<(), RuledFailure<'a>>
+    ensures added { OnOk result (AddsThese (TellsRules text.now) rules.old rules.new) }
+{
+    match parse(lists.alloc, text) {
+        Ok(parsed) => add_some(lists, rules, name, parsed),
+        Err(error) => Err(failure_of(name, text, error)),
+    }
+}
+
+/// Adds these rules of a file. There may be none only where that is allowed.
+fn add_some<'a, F>(
+    lists: &Lists<'_, '_, F>,
+    rules: &mut Vec<LineRule>,
+    name: &'a str,
+    parsed: Vec<LineRule>,
+) -> Result<(), RuledFailure<'a>>
+    ensures added { OnOk result (rules.new.items ≡ rules.old.items ++ parsed.items) }
+{
+    if parsed.is_empty() && !lists.allow_empty {
+        return Err(RuledFailure::NoRule(name));
+    }
+    match look_at_each(lists.alloc, name, parsed.as_slice()) {
+        Ok(()) => Ok(append_rules(rules, parsed)?),
+        Err(failure) => Err(failure),
+    }
+}
+
+/// Looks at each of these rules, which stand in a file in this order, and refuses the first with which something is wrong.
+fn look_at_each<'a>(
+    alloc: Global,
+    name: &'a str,
+    rules: &[LineRule],
+) -> Result<(), RuledFailure<'a>> {
+    let mut number: usize = 1;
+    let mut rest = rules;
+    while !rest.is_empty() {
+        if let Some(flaw) = flaw_of(alloc, &rest[0])? {
+            return Err(bad_rule(alloc, name, number, &rest[0], flaw));
+        }
+        number = number.saturating_add(1);
+        rest = &rest[1..];
+    }
+    Ok(())
+}
+
+/// Adds these rules.
+fn append_rules(rules: &mut Vec<LineRule>, more: Vec<LineRule>) -> Result<(), AllocError>
+    ensures appended { OnOk result (rules.new.items ≡ rules.old.items ++ more.items) }
+{
+    let mut more = more;
+    rules.append(&mut more)?;
+    Ok(())
+}
+
+/// Adds a rule.
+fn push_rule(rules: &mut Vec<LineRule>, rule: LineRule) -> Result<(), AllocError>
+    ensures pushed { OnOk result (rules.new.items ≡ rules.old.items ++ (rule ∷ [])) }
+{
+    rules.push(rule)?;
+    Ok(())
+}
+
+/// Why a text of TOML gives no rules.
+fn failure_of<'a>(name: &'a str, text: &str, error: ParseError) -> RuledFailure<'a> {
+    match error {
+        ParseError::Toml(error) => {
+            let place = match error.span() {
+                Some(span) => span.start,
+                None => 0,
+            };
+            RuledFailure::Toml(name, line_at(text.as_bytes(), place), error)
+        }
+        ParseError::NoRules => RuledFailure::NoRule(name),
+        ParseError::Missing(number, key) => without_id(name, number, RuleFlaw::Missing(key)),
+        ParseError::WrongType(number, key) => without_id(name, number, RuleFlaw::WrongType(key)),
+        ParseError::OutOfMemory => no_memory(),
+    }
+}
+
+/// Memory runs out.
+fn no_memory<'a>() -> RuledFailure<'a> {
+    RuledFailure::Plain(Failure::Other(failure::Failure::OutOfMemory))
+}
+
+/// What is wrong with the rule of a number, from 0 on in its file, that has no name.
+fn without_id<'a>(name: &'a str, number: usize, flaw: RuleFlaw) -> RuledFailure<'a> {
+    let bad = BadRule {
+        number: number.saturating_add(1),
+        id: None,
+        flaw,
+    };
+    RuledFailure::Rule(name, bad)
+}
+
+/// What is wrong with a rule that has a name.
+fn bad_rule<'a>(
+    alloc: Global,
+    name: &'a str,
+    number: usize,
+    rule: &LineRule,
+    flaw: RuleFlaw,
+) -> RuledFailure<'a> {
+    match String::from_str(alloc, rule.id.as_str()) {
+        Ok(id) => {
+            let bad = BadRule {
+                number,
+                id: Some(id),
+                flaw,
+            };
+            RuledFailure::Rule(name, bad)
+        }
+        Err(_) => no_memory(),
+    }
+}
+
+/// What is wrong with a rule, if something is: it is none, or a keyword holds a line end.
+fn flaw_of(alloc: Global, rule: &LineRule) -> Result<Option<RuleFlaw>, AllocError> {
+    if has_line_end(rule.keywords.as_slice()) {
+        return Ok(Some(RuleFlaw::LineEnd));
+    }
+    match rule.fault(alloc)? {
+        None => Ok(None),
+        Some(RuleFault::EmptyKeyword) => Ok(Some(RuleFlaw::EmptyKeyword)),
+        Some(RuleFault::Regex(error)) => Ok(Some(RuleFlaw::Regex(error))),
+        Some(RuleFault::UnknownGroup) => Ok(Some(RuleFlaw::UnknownGroup)),
+    }
+}
+
+/// Whether a keyword holds a line end, so that it stands in no line.
+fn has_line_end(keywords: &[String]) -> bool {
+    let mut rest = keywords;
+    while !rest.is_empty() {
+        if split_at(rest[0].as_bytes(), b'\n').is_some() {
+            return true;
+        }
+        rest = &rest[1..];
+    }
+    false
+}
+
+/// These rules, by which lines can be covered. Each expression is compiled when a line first needs it.
+fn sound<'a>(alloc: Global, rules: Vec<LineRule>) -> Result<Rules, RuledFailure<'a>>
+    ensures rules { IfOk result (λ made. made ≡ rules.items) }
+    ensures sound { IfOk result AreSound }
+{
+    match Rules::new(alloc, rules) {
+        Ok(rules) => Ok(rules),
+        Err(error) => Err(unsound(error)),
+    }
+}
+
+/// Why rules are none. Each was looked at before.
+fn unsound<'a>(error: RulesError) -> RuledFailure<'a> {
+    match error {
+        RulesError::Keywords(error) => RuledFailure::Keywords(error),
+        RulesError::Rule(_number, _id, _fault) => no_memory(),
+        RulesError::OutOfMemory => no_memory(),
+    }
+}
+
+/// Why a line is not covered, as it is told.
+pub fn failure_in<'a>(alloc: Global, rules: &[LineRule], error: LineError) -> RuledFailure<'a> {
+    match error {
+        LineError::Stream(error) => {
+            RuledFailure::Plain(Failure::Other(failure::Failure::from(error)))
+        }
+        LineError::Mark(MarkError::TooBig(number)) => too_big(alloc, rules, number),
+        LineError::Mark(MarkError::OutOfMemory) => no_memory(),
+    }
+}
+
+/// The expression of the rule of this number is too big to be compiled.
+fn too_big<'a>(alloc: Global, rules: &[LineRule], number: usize) -> RuledFailure<'a> {
+    match rules.get(number) {
+        Some(rule) => {
+            let number = number.saturating_add(1);
+            bad_rule(alloc, "--rules", number, rule, RuleFlaw::TooBig)
+        }
+        None => no_memory(),
+    }
+}

@@ -1,0 +1,260 @@
+//! A call with rules: each line is redacted by what rules mark in it, and by the patterns that occur in it.
+
+ghost use Rattle.std.specs.Prelude.{◌≡◌, ◌⊎◌, ◌++◌, ◌∷◌, [], IfOk, IsOk, OnOk, map, replicate, true};
+ghost use Rattle.aho_core.specs.Replacement.{pieces_of};
+ghost use Rattle.aho_core.specs.declared.search.Anchored.TheVariants.{No};
+ghost use Rattle.programs.specs.Telling.{TellsBytes};
+ghost use Rattle.acredact.specs.LongLines.{long_told};
+ghost use Rattle.acredact.specs.Doubts.{last_of};
+ghost use Rattle.acredact.specs.Arguments.{all_given};
+ghost use Rattle.acredact.specs.Builds.{build_settings};
+ghost use Rattle.acredact.specs.Ruled.{AreTextsAsked, AskedRuled, LoadedRuled, SaysOfRules, UndoubtedRuled, UnruledOutcome, own_text, patterns_by_case};
+ghost use Rattle.acredact.specs.Tables.{HaveNoEmpty, secrets_of};
+
+use crate::arguments::{Item, Word, has};
+use crate::doubts::warn_of_lists;
+use crate::folder::Folder;
+use crate::line_rules::{failure_in, line_rules_of};
+use crate::line_size::most_of;
+use crate::load::{lists_of, rules};
+use crate::patterns::{Rule, patterns_of, replacements_of, split_at};
+use crate::ruled_failure::{RuledFailure, tell_long, tell_ruled};
+use crate::ruled_files::{cover_files, lined_of};
+use crate::run::{FAILED, names, text_of};
+use crate::streams::Streams;
+use aho_automaton::automaton::Automaton;
+use aho_corasick::noncontiguous::{Builder, NFA};
+use aho_core::error::BuildError;
+use aho_core::search::MatchKind;
+use aho_devices::device::Sink;
+use programs::errors::Errors;
+use secret_rules::{Rule as LineRule, Rules};
+use std::alloc::{AllocError, Global};
+use std::io::{Read, Write};
+
+/// Redacts each file by rules, line by line, and answers the exit status: 0 where all was redacted, and 2 where rules or patterns are
+/// wrong, memory runs out, or a file cannot be read or the output not be written.
+pub fn redact_by_rules<F: Folder, I: Read, W: Write, E: Sink>(
+    alloc: Global,
+    given: &[Item<'_>],
+    folder: &F,
+    streams: &mut Streams<'_, I, W, E>,
+) -> u8
+    ensures says { SaysOfRules W.Write E.Sink F.Folder folder.now (all_given given.now)
+        result streams.old streams.new }
+    ensures bound { (result ≡ 0) ⊎ (result ≡ 2) }
+    ensures flushed { result ≡ 0 → streams.new.output.device.flushed ≡ true }
+{
+    match load_ruled(alloc, given, folder, streams) {
+        Ok(true) => 0,
+        Ok(false) => FAILED,
+        Err(failure) => {
+            tell_ruled(&mut streams.errors, &failure);
+            FAILED
+        }
+    }
+}
+
+/// Loads all patterns, redacts all files by them and by rules, and answers whether all were read.
+fn load_ruled<'a, F: Folder, I: Read, W: Write, E: Sink>(
+    alloc: Global,
+    given: &[Item<'a>],
+    folder: &F,
+    streams: &mut Streams<'_, I, W, E>,
+) -> Result<bool, RuledFailure<'a>>
+    ensures outcome { AskedRuled W.Write E.Sink F.Folder folder.now (all_given given.now)
+        result streams.old streams.new }
+    ensures flushed { OnOk result (streams.new.output.device.flushed ≡ true) }
+{
+    let lists = lists_of(alloc, given, folder);
+    match rules(&lists, given, &mut streams.input) {
+        Ok(secrets) => load_rules(alloc, given, secrets.as_slice(), folder, streams),
+        Err(failure) => Err(RuledFailure::Plain(failure)),
+    }
+}
+
+/// Loads all rules, redacts all files by them and by these patterns, and answers whether all were read.
+fn load_rules<'a, F: Folder, I: Read, W: Write, E: Sink>(
+    alloc: Global,
+    given: &[Item<'a>],
+    secrets: &[Rule],
+    folder: &F,
+    streams: &mut Streams<'_, I, W, E>,
+) -> Result<bool, RuledFailure<'a>>
+    requires some { HaveNoEmpty (secrets_of secrets.now) }
+    ensures outcome { UnruledOutcome W.Write E.Sink F.Folder folder.now (all_given given.now) secrets.now
+        result streams.old streams.new }
+    ensures flushed { OnOk result (streams.new.output.device.flushed ≡ true) }
+{
+    let lists = lists_of(alloc, given, folder);
+    match line_rules_of(&lists, given, &mut streams.input) {
+        Ok(line_rules) => redact_doubted(alloc, given, secrets, &line_rules, folder, streams),
+        Err(failure) => Err(failure),
+    }
+}
+
+/// Tells of doubtful patterns of lists, redacts all files, and answers whether all were read.
+fn redact_doubted<'a, F: Folder, I: Read, W: Write, E: Sink>(
+    alloc: Global,
+    given: &[Item<'a>],
+    secrets: &[Rule],
+    line_rules: &Rules,
+    folder: &F,
+    streams: &mut Streams<'_, I, W, E>,
+) -> Result<bool, RuledFailure<'a>>
+    requires some { HaveNoEmpty (secrets_of secrets.now) }
+    ensures outcome { UndoubtedRuled W.Write E.Sink F.Folder folder.now given.now secrets.now line_rules.now
+        result streams.old streams.new }
+    ensures flushed { OnOk result (streams.new.output.device.flushed ≡ true) }
+{
+    match warn_of_lists(&mut streams.errors, given, secrets, false) {
+        Ok(()) => redact_ruled(alloc, given, secrets, line_rules, folder, streams),
+        Err(failure) => Err(RuledFailure::Plain(failure)),
+    }
+}
+
+/// Redacts all files, tells how many lines were too long, and answers whether all were read.
+fn redact_ruled<'a, F: Folder, I: Read, W: Write, E: Sink>(
+    alloc: Global,
+    given: &[Item<'_>],
+    secrets: &[Rule],
+    line_rules: &Rules,
+    folder: &F,
+    streams: &mut Streams<'_, I, W, E>,
+) -> Result<bool, RuledFailure<'a>>
+    requires some { HaveNoEmpty (secrets_of secrets.now) }
+    ensures outcome { LoadedRuled W.Write E.Sink F.Folder folder.now given.now secrets.now line_rules.now
+        result streams.old streams.new }
+    ensures flushed { OnOk result (streams.new.output.device.flushed ≡ true) }
+{
+    if let Some(number) = line_end_in(secrets) {
+        return Err(RuledFailure::LineEnd(number));
+    }
+    let patterns = patterns_of(alloc, secrets)?;
+    let texts = texts_of(alloc, given, secrets, line_rules.as_slice())?;
+    let names = names(alloc, given)?;
+    let nfa = build_lined(alloc, given, patterns.as_slice())?;
+    let most = most_of(given);
+    let texts = texts.as_slice();
+    let mut counts = counts_for(alloc, texts.len())?;
+    let words = has(given, Word::AsWord);
+    let mut lined = lined_of(alloc, &nfa, line_rules, texts, words, most)?;
+    let names = names.as_slice();
+    let done = cover_files(&mut lined, folder, names, counts.as_mut_slice(), streams);
+    match done {
+        Ok(all) => {
+            let count = last_of(counts.as_slice());
+            tell_count(&mut streams.errors, most, count);
+            Ok(all)
+        }
+        Err(error) => Err(failure_in(alloc, line_rules.as_slice(), error)),
+    }
+}
+
+/// The number, from 1 on, of the first pattern that holds a line end, if one does.
+fn line_end_in(secrets: &[Rule]) -> Option<usize> {
+    let mut number: usize = 1;
+    let mut rest = secrets;
+    while !rest.is_empty() {
+        if split_at(rest[0].pattern.as_slice(), b'\n').is_some() {
+            return Some(number);
+        }
+        number = number.saturating_add(1);
+        rest = &rest[1..];
+    }
+    None
+}
+
+/// The automaton of these patterns, by the case rule that is given.
+fn build_lined(alloc: Global, given: &[Item<'_>], patterns: &[&[u8]]) -> Result<NFA, BuildError>
+    ensures of { IfOk result (λ nfa. ⟦<NFA as Automaton>⟧.is_of nfa
+        (patterns_by_case (all_given given.now) (pieces_of patterns.now))) }
+    ensures starts { IfOk result (λ nfa. IsOk (⟦<NFA as Automaton>⟧.start nfa No)) }
+{
+    builder_lined(given).build(alloc, patterns.iter().copied())
+}
+
+/// How the automaton is built: all that occurs counts.
+fn builder_lined(given: &[Item<'_>]) -> Builder
+    ensures settings { result ≡ build_settings (patterns_by_case (all_given given.now) []) }
+{
+    let mut builder = NFA::builder();
+    builder
+        .match_kind(MatchKind::Standard)
+        .ascii_case_insensitive(has(given, Word::IgnoreCase));
+    builder
+}
+
+/// What is written for each pattern, then for each rule, and then for lines that are too long.
+fn texts_of<'r>(
+    alloc: Global,
+    given: &[Item<'r>],
+    secrets: &'r [Rule],
+    line_rules: &'r [LineRule],
+) -> Result<Vec<&'r [u8]>, AllocError>
+    ensures texts { IfOk result (AreTextsAsked given.now secrets.entry.now line_rules.entry.now) }
+{
+    let usual = text_of(given);
+    let mut texts = replacements_of(alloc, secrets, usual)?;
+    push_texts(&mut texts, line_rules, usual)?;
+    Ok(texts)
+}
+
+/// Adds the text of each rule, its own or the usual one, and that of long lines.
+fn push_texts<'r>(
+    texts: &mut Vec<&'r [u8]>,
+    line_rules: &'r [LineRule],
+    usual: &'r [u8],
+) -> Result<(), AllocError>
+    ensures pushed { OnOk result (pieces_of texts.new.items ≡ pieces_of texts.old.items
+        ++ (map (own_text usual.entry.now) line_rules.entry.now ++ (usual.entry.now ∷ []))) }
+{
+    let mut rest = line_rules;
+    while !rest.is_empty() {
+        texts.push(own_text(&rest[0], usual))?;
+        rest = &rest[1..];
+    }
+    texts.push(usual)?;
+    Ok(())
+}
+
+/// The text of a rule, its own or the usual one.
+fn own_text<'r>(rule: &'r LineRule, usual: &'r [u8]) -> &'r [u8]
+    ensures own { result.now ≡ own_text usual.entry.now rule.entry.now }
+{
+    match &rule.with {
+        Some(own) => own.as_bytes(),
+        None => usual,
+    }
+}
+
+/// So many counts.
+fn counts_for(alloc: Global, count: usize) -> Result<Vec<u64>, AllocError>
+    ensures zeros { IfOk result (λ counts. counts.items ≡ replicate count 0) }
+{
+    let mut counts = Vec::new(alloc);
+    while counts.len() < count {
+        counts.push(0)?;
+    }
+    Ok(counts)
+}
+
+/// The last of some counts, which has one for each text that is written.
+fn last_of(counts: &[u64]) -> u64
+    ensures last { result ≡ last_of counts.now }
+{
+    if counts.is_empty() {
+        return 0;
+    }
+    counts[counts.len() - 1]
+}
+
+/// Tells how many lines were too long, if some were.
+fn tell_count<E: Sink>(errors: &mut Errors<'_, E>, most: usize, count: u64)
+    ensures told { TellsBytes E.Sink errors.old errors.new (long_told most count) }
+{
+    if count == 0 {
+        return;
+    }
+    tell_long(errors, most, count);
+}

@@ -1,0 +1,256 @@
+//! The redaction of files line by line, one after another.
+
+ghost use Rattle.std.specs.Prelude.{◌≡◌, IfOk, IfSome, OnOk, false, true};
+ghost use Rattle.secret_rules.specs.OpenLines.{CanSearch};
+ghost use Rattle.secret_rules.specs.Ready.{CanCoverLines, most_of, rules_of, searched_automaton, words_of};
+ghost use Rattle.acredact.specs.Ruled.{AreSearchedBy, DoesFile, DoesFiles, IfLined, IsAnyLined, LinesBy, LinesDone, NamedDone, OpenedDone, StaysLined, unread_of};
+
+use crate::failure::{tell_output, tell_unread};
+use crate::files::{both, is_input};
+use crate::folder::Folder;
+use crate::streams::Streams;
+use aho_automaton::automaton::Automaton;
+use aho_core::error::StreamError;
+use aho_cover::pieces::{PatternPieces, Pieces};
+use aho_devices::adapters::{FromRead, FromWrite};
+use aho_devices::device::Sink;
+use programs::reason::Reason;
+use secret_rules::{LineCover, LineError, Rules, cover_lines};
+use std::alloc::{AllocError, Global};
+use std::io::{Read, Write};
+
+/// How many numbers patterns, rules and long lines have together at most.
+const MOST_NUMBERS: usize = 2_147_483_646;
+
+/// What redacts lines: by what they are covered, and what is written.
+#[derive(Drop)]
+pub struct Lined<'r, 'a, A, P> {
+    /// What covers them.
+    pub cover: LineCover<'r, 'a, A>,
+    /// What is written for each number: of a pattern, behind those of a rule, and behind these of lines that are too long.
+    pub pieces: P,
+}
+
+/// What redacts lines by these rules and the patterns of an automaton, where it has some, with these texts.
+///
+/// # Errors
+///
+/// Out of memory: that is also told where there are more numbers than one may have.
+pub fn lined_of<'r, 'a, 'p, 'q, A: Automaton>(
+    alloc: Global,
+    automaton: &'a A,
+    rules: &'r Rules,
+    texts: &'p [&'q [u8]],
+    words: bool,
+    most: usize,
+) -> Result<Lined<'r, 'a, A, PatternPieces<'p, 'q>>, AllocError>
+    requires ready { CanSearch A.Automaton automaton.now }
+    ensures lined { IfOk result (LinesBy A.Automaton ⟦<PatternPieces<'p, 'q> as Pieces>⟧
+        automaton.entry.now words rules.entry.now most texts.entry.now) }
+{
+    let cover = line_cover(alloc, automaton, rules, words, most)?;
+    let pieces = PatternPieces::new(texts);
+    Ok(Lined { cover, pieces })
+}
+
+/// What covers lines, by rules and by the patterns of an automaton, where it has some.
+fn line_cover<'r, 'a, A: Automaton>(
+    alloc: Global,
+    automaton: &'a A,
+    rules: &'r Rules,
+    words: bool,
+    most: usize,
+) -> Result<LineCover<'r, 'a, A>, AllocError>
+    requires ready { CanSearch A.Automaton automaton.now }
+    ensures ready { IfOk result (CanCoverLines A.Automaton) }
+    ensures searched { IfOk result (λ cover. AreSearchedBy A.Automaton automaton.entry.now
+        (searched_automaton cover)) }
+    ensures words { IfOk result (λ cover. words_of cover ≡ words) }
+    ensures rules { IfOk result (λ cover. rules_of cover ≡ rules.entry.now) }
+    ensures most { IfOk result (λ cover. most_of cover ≡ most) }
+{
+    let count = rules.as_slice().len();
+    let patterns = automaton.patterns_len();
+    if count >= MOST_NUMBERS {
+        return Err(AllocError);
+    }
+    if patterns >= MOST_NUMBERS - count {
+        return Err(AllocError);
+    }
+    LineCover::new(alloc, rules, some_of(automaton), words, most)
+}
+
+/// An automaton, if it has a pattern.
+fn some_of<A: Automaton>(automaton: &A) -> Option<&A>
+    ensures searched { AreSearchedBy A.Automaton automaton.entry.now result }
+    ensures same { IfSome result (λ a. a.now ≡ automaton.entry.now) }
+{
+    if automaton.patterns_len() == 0 {
+        return None;
+    }
+    Some(automaton)
+}
+
+/// Redacts all files, and flushes. It answers whether all were read to their ends: one that was not is told, and the others are still
+/// redacted.
+///
+/// # Errors
+///
+/// `Write` and `WriteZero` where the output fails or takes nothing, and `Mark` where the expression of a rule is too big or memory runs
+/// out.
+pub fn cover_files<A: Automaton, P: Pieces, F: Folder, I: Read, W: Write, E: Sink>(
+    lined: &mut Lined<'_, '_, A, P>,
+    folder: &F,
+    names: &[&str],
+    counts: &mut [u64],
+    streams: &mut Streams<'_, I, W, E>,
+) -> Result<bool, LineError>
+    requires ready { IsAnyLined A.Automaton P.Pieces lined.old }
+    ensures outcome { IfLined A.Automaton P.Pieces lined.old (DoesFiles W.Write E.Sink F.Folder
+        folder.now names.now result counts.old counts.new streams.old streams.new) }
+    ensures flushed { OnOk result (streams.new.output.device.flushed ≡ true) }
+{
+    let all = cover_each(lined, folder, names, counts, streams)?;
+    streams.output.flush()?;
+    Ok(all)
+}
+
+/// Redacts each file, and answers whether all were read to their ends.
+fn cover_each<A: Automaton, P: Pieces, F: Folder, I: Read, W: Write, E: Sink>(
+    lined: &mut Lined<'_, '_, A, P>,
+    folder: &F,
+    names: &[&str],
+    counts: &mut [u64],
+    streams: &mut Streams<'_, I, W, E>,
+) -> Result<bool, LineError>
+    requires ready { IsAnyLined A.Automaton P.Pieces lined.old }
+    ensures outcome { IfLined A.Automaton P.Pieces lined.old (DoesFiles W.Write E.Sink F.Folder
+        folder.now names.now result counts.old counts.new streams.old streams.new) }
+{
+    let mut all = true;
+    let mut rest = names;
+    while !rest.is_empty() {
+        let whole = cover_told(lined, folder, rest[0], counts, streams)?;
+        all = both(all, whole);
+        rest = &rest[1..];
+    }
+    Ok(all)
+}
+
+/// Redacts a file, and answers whether it was read to its end. One that was not is told, and so is one that the output goes to: it is
+/// not read.
+fn cover_told<A: Automaton, P: Pieces, F: Folder, I: Read, W: Write, E: Sink>(
+    lined: &mut Lined<'_, '_, A, P>,
+    folder: &F,
+    name: &str,
+    counts: &mut [u64],
+    streams: &mut Streams<'_, I, W, E>,
+) -> Result<bool, LineError>
+    requires ready { IsAnyLined A.Automaton P.Pieces lined.old }
+    ensures outcome { IfLined A.Automaton P.Pieces lined.old (DoesFile W.Write E.Sink F.Folder
+        folder.now name.now result counts.old counts.new streams.old streams.new) }
+    ensures still { StaysLined A.Automaton P.Pieces lined.old lined.new }
+{
+    if folder.is_output(name) {
+        tell_output(&mut streams.errors, name);
+        return Ok(false);
+    }
+    cover_apart(lined, folder, name, counts, streams)
+}
+
+/// Redacts a file that the output does not go to, and answers whether it was read to its end. One that was not is told.
+fn cover_apart<A: Automaton, P: Pieces, F: Folder, I: Read, W: Write, E: Sink>(
+    lined: &mut Lined<'_, '_, A, P>,
+    folder: &F,
+    name: &str,
+    counts: &mut [u64],
+    streams: &mut Streams<'_, I, W, E>,
+) -> Result<bool, LineError>
+    requires ready { IsAnyLined A.Automaton P.Pieces lined.old }
+    requires apart { F.meets folder.now name.now false }
+    ensures outcome { IfLined A.Automaton P.Pieces lined.old (DoesFile W.Write E.Sink F.Folder
+        folder.now name.now result counts.old counts.new streams.old streams.new) }
+    ensures still { StaysLined A.Automaton P.Pieces lined.old lined.new }
+{
+    match cover_file(
+        lined,
+        folder,
+        name,
+        counts,
+        &mut streams.input,
+        &mut streams.output,
+    )? {
+        None => Ok(true),
+        Some(reason) => {
+            tell_unread(&mut streams.errors, name, reason);
+            Ok(false)
+        }
+    }
+}
+
+/// Redacts a file, and answers why it cannot be read to its end, where it cannot.
+fn cover_file<A: Automaton, P: Pieces, F: Folder, I: Read, W: Write>(
+    lined: &mut Lined<'_, '_, A, P>,
+    folder: &F,
+    name: &str,
+    counts: &mut [u64],
+    input: &mut FromRead<I>,
+    output: &mut FromWrite<W>,
+) -> Result<Option<Reason>, LineError>
+    requires ready { IsAnyLined A.Automaton P.Pieces lined.old }
+    ensures outcome { IfLined A.Automaton P.Pieces lined.old (NamedDone W.Write F.Folder
+        folder.now name.now result counts.old counts.new input.old input.new output.old output.new) }
+    ensures still { StaysLined A.Automaton P.Pieces lined.old lined.new }
+{
+    if is_input(name) {
+        return cover_input(lined, counts, input, output);
+    }
+    match folder.open(name) {
+        Ok(file) => cover_opened(lined, counts, file, output),
+        Err(reason) => Ok(Some(reason)),
+    }
+}
+
+/// Redacts a reader to its end, and answers why it cannot be read to that, where it cannot.
+fn cover_opened<A: Automaton, P: Pieces, I: Read + Drop, W: Write>(
+    lined: &mut Lined<'_, '_, A, P>,
+    counts: &mut [u64],
+    reader: I,
+    output: &mut FromWrite<W>,
+) -> Result<Option<Reason>, LineError>
+    requires ready { IsAnyLined A.Automaton P.Pieces lined.old }
+    ensures outcome { IfLined A.Automaton P.Pieces lined.old (OpenedDone W.Write
+        result counts.old counts.new (I.remaining reader) output.old output.new) }
+    ensures still { StaysLined A.Automaton P.Pieces lined.old lined.new }
+{
+    let mut source = FromRead::new(reader);
+    cover_input(lined, counts, &mut source, output)
+}
+
+/// Redacts the input to its end, and answers why it cannot be read to that, where it cannot.
+fn cover_input<A: Automaton, P: Pieces, I: Read, W: Write>(
+    lined: &mut Lined<'_, '_, A, P>,
+    counts: &mut [u64],
+    input: &mut FromRead<I>,
+    output: &mut FromWrite<W>,
+) -> Result<Option<Reason>, LineError>
+    requires ready { IsAnyLined A.Automaton P.Pieces lined.old }
+    ensures outcome { IfLined A.Automaton P.Pieces lined.old (LinesDone W.Write
+        result counts.old counts.new input.old input.new output.old output.new) }
+    ensures still { StaysLined A.Automaton P.Pieces lined.old lined.new }
+{
+    input.restart();
+    unread_of(cover_lines(&mut lined.cover, input, output, &mut lined.pieces, counts))
+}
+
+/// Why a stream was not read to its end, where that is so; any other error ends the program.
+fn unread_of(done: Result<(), LineError>) -> Result<Option<Reason>, LineError>
+    ensures unread { result ≡ unread_of done }
+{
+    match done {
+        Ok(()) => Ok(None),
+        Err(LineError::Stream(StreamError::Read(_))) => Ok(Some(Reason::ReadFault)),
+        Err(LineError::Stream(StreamError::PositionLimit)) => Ok(Some(Reason::PositionLimit)),
+        Err(error) => Err(error),
+    }
+}
