@@ -99,20 +99,18 @@ returns-in-Ok-clause-outcome g c =
     ∙ ap (λ (l : List (List ℕ)). ruling_as (has AsWord given) rules (most_asked given) (fixed_rule l) (patterns_by_case given (pieces_of c.as_slice-2.result.now))) written
     ∙ ap (λ (l : List (List ℕ)). ruling_as (has AsWord given) rules (most_asked given) (fixed_rule (texts_asked given load)) (patterns_by_case given l)) words in
     let lined = c.in_ok-lined.ensures.lined (patterns_by_case given (pieces_of c.as_slice-2.result.now)) c.in_ok-nfa.ensures.of in
-    let done = subst (λ (r : Ruling). LinedFiles g.E.Sink (ruled_in g.F.Folder c.args.folder.now r) (name_bytes c.as_slice-names.result.now) (Ok c.in-Ok.all) c.as_mut_slice.result.now c.cover_files-done.new.counts
+    let done = subst (λ (r : Ruling). LinedFiles g.E.Sink (ruled_in g.F.Folder c.args.folder.now r) (name_bytes c.as_slice-names.result.now) (Ok c.in-Ok.all) c.as_mut_slice-tally.result.now c.cover_files-done.new.counts
     (bytes_left c.args.streams.now.input) (bytes_left c.cover_files-done.new.streams.input) (output_bytes g.W.Write c.args.streams.now.output) (output_bytes g.W.Write c.cover_files-done.new.streams.output)
     c.args.streams.now.errors c.cover_files-done.new.streams.errors) ruling (c.in-Ok.ensures.outcome _ lined) in
-    let files = subst (λ (l : List (List ℕ)). LinedFiles g.E.Sink (ruled_by call load) l (Ok c.in-Ok.all) c.as_mut_slice.result.now c.cover_files-done.new.counts
+    let files = subst (λ (l : List (List ℕ)). LinedFiles g.E.Sink (ruled_by call load) l (Ok c.in-Ok.all) c.as_mut_slice-tally.result.now c.cover_files-done.new.counts
     (bytes_left c.args.streams.now.input) (bytes_left c.cover_files-done.new.streams.input) (output_bytes g.W.Write c.args.streams.now.output) (output_bytes g.W.Write c.cover_files-done.new.streams.output)
     c.args.streams.now.errors c.cover_files-done.new.streams.errors) names done in
-    let zeros : c.as_mut_slice.result.now ≡ replicate c.len.result 0 = c.as_mut_slice.ensures.value ∙ c.in_ok-counts.ensures.zeros in
-    let many : c.len.result ≡ length c.as_slice-texts.result.now = c.len.ensures in
-    let sized = many ∙ sym (length-map c.as_slice-texts.result.now (λ piece. piece.now)) ∙ ap length written ∙ texts_many given load in
-    let kept : c.as_slice-in-Ok.result.now ≡ c.cover_files-done.new.counts = c.as_slice-in-Ok.ensures.value in
-    let count : c.last_of-count.result ≡ last_of c.cover_files-done.new.counts = c.last_of-count.ensures.last ∙ ap last_of kept in
-    files_done g.E.Sink call load c.in-Ok.all c.as_mut_slice.result.now c.cover_files-done.new.counts c.last_of-count.result _ _ _ _ _ _ _ files
+    let zeros : c.as_mut_slice-tally.result.now ≡ replicate (length c.as_slice-texts.result.now) 0 = c.as_mut_slice-tally.ensures.value ∙ c.in_ok-counts.ensures.zeros in
+    let sized = sym (length-map c.as_slice-texts.result.now (λ piece. piece.now)) ∙ ap length written ∙ texts_many given load in
+    let count : c.last_of-count.result ≡ last_of c.cover_files-done.new.counts = c.last_of-count.ensures.last in
+    files_done g.E.Sink call load c.in-Ok.all c.as_mut_slice-tally.result.now c.cover_files-done.new.counts c.last_of-count.result _ _ _ _ _ _ _ files
     (λ all. subst (HaveLongTold call (bytes_left c.args.streams.now.input) (bytes_left c.cover_files-done.new.streams.input)) (sym count)
-    (long_told_of call load c.as_mut_slice.result.now c.cover_files-done.new.counts c.len.result _ _ zeros sized all))
+    (long_told_of call load c.as_mut_slice-tally.result.now c.cover_files-done.new.counts (length c.as_slice-texts.result.now) _ _ zeros sized all))
     (subst (λ (m : ℕ). TellsBytes g.E.Sink c.cover_files-done.new.streams.errors c.tell_count.new.errors (long_told m c.last_of-count.result)) c.most_of-most.ensures.most c.tell_count.ensures.told)
 
 pub returns-clause-outcome : goal.returns-clause-outcome
@@ -132,10 +130,10 @@ returns-clause-outcome g c =
     ∙ ap (λ (l : List (List ℕ)). ruling_as (has AsWord given) rules (most_asked given) (fixed_rule l) (patterns_by_case given (pieces_of c.as_slice-2.result.now))) written
     ∙ ap (λ (l : List (List ℕ)). ruling_as (has AsWord given) rules (most_asked given) (fixed_rule (texts_asked given load)) (patterns_by_case given l)) words in
     let lined = c.in_ok-lined.ensures.lined (patterns_by_case given (pieces_of c.as_slice-2.result.now)) c.in_ok-nfa.ensures.of in
-    let done = subst (λ (r : Ruling). LinedFiles g.E.Sink (ruled_in g.F.Folder c.args.folder.now r) (name_bytes c.as_slice-names.result.now) (Err c.in-Err.error) c.as_mut_slice.result.now c.cover_files-done.new.counts
+    let done = subst (λ (r : Ruling). LinedFiles g.E.Sink (ruled_in g.F.Folder c.args.folder.now r) (name_bytes c.as_slice-names.result.now) (Err c.in-Err.error) c.as_mut_slice-tally.result.now c.cover_files-done.new.counts
     (bytes_left c.args.streams.now.input) (bytes_left c.cover_files-done.new.streams.input) (output_bytes g.W.Write c.args.streams.now.output) (output_bytes g.W.Write c.cover_files-done.new.streams.output)
     c.args.streams.now.errors c.cover_files-done.new.streams.errors) ruling (c.in-Err.ensures.outcome _ lined) in
-    let files = subst (λ (l : List (List ℕ)). LinedFiles g.E.Sink (ruled_by call load) l (Err c.in-Err.error) c.as_mut_slice.result.now c.cover_files-done.new.counts
+    let files = subst (λ (l : List (List ℕ)). LinedFiles g.E.Sink (ruled_by call load) l (Err c.in-Err.error) c.as_mut_slice-tally.result.now c.cover_files-done.new.counts
     (bytes_left c.args.streams.now.input) (bytes_left c.cover_files-done.new.streams.input) (output_bytes g.W.Write c.args.streams.now.output) (output_bytes g.W.Write c.cover_files-done.new.streams.output)
     c.args.streams.now.errors c.cover_files-done.new.streams.errors) names done in
     files_failed g.E.Sink call load c.in-Err.error c.failure_in.result _ _ _ _ _ _ _ _ files
