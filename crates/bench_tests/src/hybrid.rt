@@ -30,7 +30,7 @@ fn hybrid_of(
 }
 
 /// How many look-ups an unanchored search of this haystack makes.
-fn lookups_of<A: Automaton>(automaton: &A, haystack: &[u8]) -> Result<u128, MatchError>
+pub(crate) fn lookups_of<A: Automaton>(automaton: &A, haystack: &[u8]) -> Result<u128, MatchError>
     requires of { (p : Patterns) × A.is_of automaton.now p }
 {
     let mut walk = Counted::new(automaton);

@@ -21,6 +21,8 @@ mod hybrid;
 #[cfg(test)]
 mod iteration;
 #[cfg(test)]
+mod levels;
+#[cfg(test)]
 mod lists;
 #[cfg(test)]
 mod lookups;

@@ -6,6 +6,7 @@ ghost use Rattle.aho_core.specs.Patterns.{Patterns};
 
 use crate::asserts::{assert_in, assert_same_in};
 use crate::automata::{DEPTHS, nfa_of, nfa_with, relinked_of};
+use crate::levels::levels_of;
 use crate::overlaps::{found_by_calls, found_by_iterator};
 use crate::worked::{Found, ROWS, Row, Want};
 use aho_automaton::automaton::Automaton;
@@ -17,6 +18,9 @@ use bench::relinked::Relinked;
 use std::alloc::{AllocError, Global};
 use std::process::Abort;
 use std::test::Fail;
+
+/// How many states of a `Levels` have rows at most.
+const MOST_ROWS: [usize; 3] = [0, 3, usize::MAX];
 
 fn found_of(m: Match) -> Found {
     (m.pattern().as_usize(), m.start(), m.end())
@@ -202,6 +206,18 @@ fn relinked_of_row(rt: &impl Abort, alloc: Global, row: &Row, kind: MatchKind) -
     relinked_of(rt, alloc, &nfa)
 }
 
+/// An automaton of sorted patterns, with so many rows at most, meets a row.
+fn row_is_met_by_levels(
+    rt: &impl Abort,
+    alloc: Global,
+    row: &Row,
+    kind: MatchKind,
+    most_rows: usize,
+) -> Result<(), Fail> {
+    let levels = levels_of(rt, alloc, row.patterns, kind, row.ignore_case, most_rows);
+    row_is_met(rt, alloc, row, kind, &levels)
+}
+
 /// Every automaton of a row's patterns at this match kind meets it.
 fn row_is_met_by_all(
     rt: &impl Abort,
@@ -212,6 +228,9 @@ fn row_is_met_by_all(
     for depth in DEPTHS {
         row_is_met_at(rt, alloc, row, kind, (depth, true))?;
         row_is_met_at(rt, alloc, row, kind, (depth, false))?;
+    }
+    for most_rows in MOST_ROWS {
+        row_is_met_by_levels(rt, alloc, row, kind, most_rows)?;
     }
     let relinked = relinked_of_row(rt, alloc, row, kind);
     row_is_met(rt, alloc, row, kind, &relinked)

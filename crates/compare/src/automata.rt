@@ -16,6 +16,7 @@ use aho_corasick::noncontiguous::{Builder, Limits, NFA};
 use aho_core::error::BuildError;
 use aho_core::search::MatchKind;
 use aho_hybrid::hybrid::Hybrid;
+use aho_levels::levels::Levels;
 use aho_prefilter::prefilter::{PackedBuilder, Prefilter};
 use anyhow::Result;
 use bench::numbers::Numbers;
@@ -287,6 +288,32 @@ fn compare_prefiltered(
     compare_prefiltered_rows(alloc, nfa, prefilter, asked, numbers, count)
 }
 
+/// How many states of a `Levels` have rows at most.
+const ROWS: [usize; 5] = [0, 3, 5, 9, 1024];
+
+/// Compares the calls of the automaton whose states are numbered level by level, now and then with a prefilter.
+fn compare_levels(
+    alloc: Global,
+    nfa: &NFA,
+    words: &[&[u8]],
+    kind: MatchKind,
+    ignore_case: bool,
+    asked: &Asked<'_>,
+    numbers: &mut Numbers,
+    count: &mut Count,
+) -> Result<()>
+    requires of { ⟦<NFA as Automaton>⟧.is_of nfa.now
+        (words_by kind ignore_case words.now) }
+{
+    let rows = ROWS[numbers.below(5)];
+    let plain = Levels::with_rows(alloc, kind, ignore_case, words, None, rows)?;
+    compare_two(alloc, &plain, nfa, asked.text, true, numbers, count)?;
+    compare_calls(alloc, &plain, asked, true, numbers, count)?;
+    let prefilter = prefilter_of(alloc, numbers.once_in(2), words, kind, ignore_case)?;
+    let skipping = Levels::with_rows(alloc, kind, ignore_case, words, prefilter, rows)?;
+    compare_calls(alloc, &skipping, asked, true, numbers, count)
+}
+
 /// Compares the calls of each automaton of these words.
 pub(crate) fn compare_automata(
     alloc: Global,
@@ -306,5 +333,6 @@ pub(crate) fn compare_automata(
     compare_calls(alloc, &nfa, asked, true, numbers, count)?;
     compare_relinked(alloc, &nfa, asked, numbers, count)?;
     compare_rows(alloc, &nfa, asked, numbers, count)?;
+    compare_levels(alloc, &nfa, words, kind, ignore_case, asked, numbers, count)?;
     compare_prefiltered(alloc, &nfa, words, kind, ignore_case, asked, numbers, count)
 }
