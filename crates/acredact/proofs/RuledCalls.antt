@@ -16,7 +16,7 @@ use Rattle.acredact.specs.Failures.{IsFailureLine}
 use Rattle.acredact.specs.LineRules.{most_asked}
 use Rattle.acredact.specs.RuleLines.{IsRuledLine, too_long_line}
 use Rattle.acredact.specs.LongLines.{CountsLongAll, HaveLong, long_told, whole_number}
-use Rattle.acredact.specs.Ruled.{AreRuledLoaded, DoubtedRuled, IsRuledNotice, IsRuledTold, LinedFiles, RuledCall, RuledLoad, RuledOutcome, RuledStatus, TellsRuled, own_text, ruled_by, ruling_by, texts_asked}
+use Rattle.acredact.specs.Ruled.{AreRuledLoaded, DoubtedRuled, IsRuledNotice, IsRuledTold, LinedFiles, NotesByRules, RuledCall, RuledLoad, RuledOutcome, RuledStatus, TellsRuled, own_text, ruled_by, ruling_by, texts_asked}
 use Rattle.acredact.specs.Tables.{Secret, piece_by}
 use Rattle.acredact.specs.declared.failure.Failure.{Failure}
 use Rattle.acredact.specs.declared.ruled_failure.RuledFailure.{RuledFailure}
@@ -129,6 +129,14 @@ module _ {E : Type 0} (K : SinkGhosts E) (call : Call) where
         are_lines = All-cons (IsRuledTold call) (too_long_line (most_asked call.given) count) [] (inr (inr (inr (count, refl)))) (All-nil (IsRuledTold call));
         written = subst (TellsBytes K errors errors') (sym (append-nil (too_long_line (most_asked call.given) count))) line;
       }
+
+  -- what is told where all was redacted
+  pub notes_told : (left left' : Option (List ℕ)) (errors errors' : Errors E) → NotesByRules K call left left' errors errors' → Tells K (IsRuledTold call) errors errors'
+  notes_told left left' errors errors' of =
+      let notes = of.notes in
+      all_then K (IsRuledTold call) errors notes.meanwhile errors'
+      (tells_weaker K (IsRuledNotice call) (IsRuledTold call) errors notes.meanwhile notice_told (doubts_told of.load.secrets errors notes.meanwhile notes.doubted))
+      (long_lines (min notes.long.count (2 ^ 64 - 1)) notes.meanwhile errors' notes.long.told)
 
   -- the files were redacted, and it is told how many lines were too long
   pub files_done : (load : RuledLoad) (all : Bool) (counts counts' : List ℕ) (count : ℕ) (left left' held held' : Option (List ℕ)) (errors meanwhile errors' : Errors E)
