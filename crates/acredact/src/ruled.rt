@@ -141,11 +141,11 @@ fn redact_ruled<'a, F: Folder, I: Read, W: Write, E: Sink>(
     let words = has(given, Word::AsWord);
     let mut lined = lined_of(alloc, &nfa, line_rules, texts, words, most)?;
     let names = names.as_slice();
-    let done = cover_files(&mut lined, folder, names, counts.as_mut_slice(), streams);
+    let tally = counts.as_mut_slice();
+    let done = cover_files(&mut lined, folder, names, tally, streams);
     match done {
         Ok(all) => {
-            let counts = counts.as_slice();
-            let count = last_of(counts);
+            let count = last_of(tally);
             tell_count(&mut streams.errors, most, count);
             tell_runs(
                 alloc,
@@ -153,7 +153,7 @@ fn redact_ruled<'a, F: Folder, I: Read, W: Write, E: Sink>(
                 given,
                 secrets,
                 line_rules,
-                counts,
+                tally,
                 &mut streams.errors,
             )
         }
