@@ -1,6 +1,6 @@
 -- A line that is too long is one run of a number of its own.
-use Rattle.std.proofs.Common.{◌≡◌, inl, inr, ℕ, ◌+◌, ◌<◌, ◌≤◌, List, [], ◌∷◌, ◌++◌, true, false, length, refl, sym, ap, subst, ◌∙◌, arith, length-append}
-use Rattle.std.specs.Prelude.{Bool, Some, filter, nat_eq, nat_lt, if◌then◌else◌, slice_get}
+use Rattle.std.proofs.Common.{◌≡◌, inl, inr, ℕ, ◌+◌, ◌<◌, ◌≤◌, List, [], ◌∷◌, ◌++◌, Option, true, false, length, refl, sym, ap, subst, ◌∙◌, arith, length-append}
+use Rattle.std.specs.Prelude.{Bool, MatchBool, Some, filter, nat_eq, nat_lt, if◌then◌else◌, slice_get}
 use Rattle.std.proofs.lemmas.Bool.{eq-eqb, ltb-false, ltb-true, ne_eqb}
 use Rattle.std.proofs.lemmas.List.Elements.{filter-append}
 use Rattle.std.proofs.lemmas.Option.{slice_get_within}
@@ -13,9 +13,12 @@ use Rattle.aho_cover.specs.Words.{CountsIn}
 use Rattle.aho_laws.proofs.CoverRuns.{runs-unique}
 use Rattle.secret_rules.specs.Covering.{AreLineRuns, CoveredIn, Covering, seen_line, whole_line}
 use Rattle.secret_rules.specs.LineCovers.{all_of}
-use Rattle.secret_rules.specs.Lines.{Line}
+use Rattle.programs.specs.Names.{is_input}
+use Rattle.secret_rules.specs.Lines.{Line, stream_lines}
 use Rattle.secret_rules.proofs.Covered.{whole-runs}
-use Rattle.acredact.specs.LongLines.{long_among, whole_number}
+use Rattle.acredact.specs.LongLines.{HasLong, HaveLong, long_among, whole_number}
+use Rattle.acredact.specs.Reads.{OfName}
+use Rattle.acredact.specs.RunCounts.{HasRuns, HaveRuns}
 
 -- what counts has the number of a pattern
 counts_numbered : (words : Bool) (p : Patterns) (line : List ℕ) (m : Occurrence) → CountsIn words p line m → m.pattern < length p.words
@@ -64,7 +67,7 @@ long_more : (b : Bool) (line : Line) (lines : List Line) → length (if b then l
 long_more true line lines = omega arith
 long_more false line lines = omega arith
 
-pub long_named : (covering : Covering) (before : List (List ℕ)) (lines : List Line) (runs : List (List Occurrence)) → AreLineRuns covering before lines runs
+long_named : (covering : Covering) (before : List (List ℕ)) (lines : List Line) (runs : List (List Occurrence)) → AreLineRuns covering before lines runs
     → runs_named (whole_number covering) (all_of runs) ≡ long_among covering.most lines
 long_named covering before [] [] are = refl
 long_named covering before [] (own ∷ runs) are = absurd are
@@ -76,3 +79,34 @@ long_named covering before (line ∷ lines) (own ∷ runs) are =
     ∙ ap (λ n. n + runs_named (whole_number covering) (all_of runs)) (long_one covering before line.bytes own are.0)
     ∙ ap (λ n. (if nat_lt covering.most (length line.bytes) then 1 else 0) + n) rest
     ∙ sym (long_more (nat_lt covering.most (length line.bytes)) line (filter long lines))
+
+-- so it is of a text, of the file of a name, and of all files
+module _ (covering : Covering) where
+  long_text : (runs : List Occurrence) (left left' : Option (List ℕ)) → HasRuns covering runs left left' → HasLong covering.most (runs_named (whole_number covering) runs) left left'
+  long_text runs left left' has = record {
+    text = has.text;
+    reads = has.reads;
+    are = ap (runs_named (whole_number covering)) has.are ∙ long_named covering [] (stream_lines has.text) has.by_line has.found;
+  }
+
+  long_name : (holds : List ℕ → Option (List ℕ)) (name : List ℕ) (runs : List Occurrence) (left left' : Option (List ℕ)) → OfName holds name (HasRuns covering runs) left left'
+      → OfName holds name (HasLong covering.most (runs_named (whole_number covering) runs)) left left'
+  long_name holds name runs left left' of = by (is_input name) of
+    where
+      by : (b : Bool) → MatchBool b (HasRuns covering runs left left') ((left' ≡ left) × (rest : Option (List ℕ)) × HasRuns covering runs (holds name) rest)
+          → MatchBool b (HasLong covering.most (runs_named (whole_number covering) runs) left left')
+          ((left' ≡ left) × (rest : Option (List ℕ)) × HasLong covering.most (runs_named (whole_number covering) runs) (holds name) rest)
+      by true has = long_text runs left left' has
+      by false (same, rest, has) = (same, rest, long_text runs (holds name) rest has)
+
+  pub long_of_runs : (holds : List ℕ → Option (List ℕ)) (names : List (List ℕ)) (runs : List Occurrence) (left left' : Option (List ℕ)) → HaveRuns holds covering names runs left left'
+      → HaveLong holds covering.most names (runs_named (whole_number covering) runs) left left'
+  long_of_runs holds [] runs left left' (none, same) = (ap (runs_named (whole_number covering)) none, same)
+  long_of_runs holds (name ∷ names) runs left left' (first, rest, are, between, has, others) = (
+    runs_named (whole_number covering) first,
+    runs_named (whole_number covering) rest,
+    ap (runs_named (whole_number covering)) are ∙ named_append (whole_number covering) first rest,
+    between,
+    long_name holds name first left between has,
+    long_of_runs holds names rest between left' others,
+  )

@@ -1,5 +1,5 @@
 -- What is told where a new file does not take a place.
-use Rattle.std.proofs.Common.{◌≡◌, inl, inr, ℕ, zero, suc, List, refl, subst, true, false, arith, ◌≤◌}
+use Rattle.std.proofs.Common.{◌≡◌, inl, inr, ℕ, zero, suc, List, Option, refl, subst, true, false, arith, ◌≤◌}
 use Rattle.std.specs.Prelude.{Bool, Some}
 use Rattle.std.specs.declared.io.traits.Read.{Ghosts as Readers}
 use Rattle.std.specs.declared.io.traits.Write.{Ghosts as Writers}
@@ -10,15 +10,18 @@ use Rattle.programs.specs.Telling.{Tells, TellsBytes, TellsSome}
 use Rattle.programs.specs.declared.errors.Errors.{Errors}
 use Rattle.programs.specs.declared.reason.Reason.{Reason}
 use Rattle.acredact.specs.Sums.{sums_of}
-use Rattle.acredact.specs.Arguments.{AsksToCheck, AsksToRedact, Given, all_asked, checks_asked, counts_asked}
+use Rattle.acredact.specs.Arguments.{AsksForRules, AsksToCheck, AsksToRedact, Given, all_asked, checks_asked, counts_asked}
 use Rattle.acredact.specs.Calls.{Call, CountsCall, IsCountsLine, IsLineOf, WarnsCall}
 use Rattle.acredact.specs.Files.{unread_line}
-use Rattle.acredact.specs.Into.{IsOutputLine}
+use Rattle.acredact.specs.Into.{IsOutputLine, IsRuledOutputLine}
+use Rattle.acredact.specs.Ruled.{IsRuledTold, NotesByRules}
 use Rattle.acredact.specs.declared.streams.Streams.{Streams}
 use Rattle.acredact.proofs.Calls.{tells_counts, tells_last}
 use Rattle.acredact.proofs.Given.{same_given}
 use Rattle.acredact.proofs.PlacedCalls.{tells_weaker}
-use Rattle.acredact.proofs.Statuses.{asks_check, no_redaction}
+use Rattle.acredact.proofs.RuledCalls.{notes_told}
+use Rattle.acredact.proofs.RuledFiles.{some_weaker}
+use Rattle.acredact.proofs.Statuses.{asks_check, asks_rules, no_redaction, ruled_checks}
 use Rattle.acredact.proofs.Warned.{tells_both, warnings_tell}
 
 -- a status is 0, 1 or 2
@@ -43,6 +46,17 @@ no_check_of arguments given right asks (items, mine, checks) =
 pub not_one : (arguments : List (List ℕ)) (given : List Given) → all_asked arguments ≡ Some given → AsksToRedact given → {status : ℕ}
     → (status ≡ 1 → (items : List Given) × (all_asked arguments ≡ Some items) × AsksToCheck items) → status ≡ 1 → ⊥
 not_one arguments given right asks check one = no_check_of arguments given right asks (check one)
+
+-- nor is one by rules
+pub ruled_no_check : (arguments : List (List ℕ)) (given : List Given) → all_asked arguments ≡ Some given → AsksForRules given
+    → ((items : List Given) × (all_asked arguments ≡ Some items) × AsksToCheck items) → ⊥
+ruled_no_check arguments given right asks (items, mine, checks) =
+    let same : items ≡ given = same_given (all_asked arguments) given items right mine in
+    ruled_checks given (asks_rules given asks) (subst AsksToCheck same checks)
+
+pub ruled_not_one : (arguments : List (List ℕ)) (given : List Given) → all_asked arguments ≡ Some given → AsksForRules given → {status : ℕ}
+    → (status ≡ 1 → (items : List Given) × (all_asked arguments ≡ Some items) × AsksToCheck items) → status ≡ 1 → ⊥
+ruled_not_one arguments given right asks check one = ruled_no_check arguments given right asks (check one)
 
 module _ {E : Type 0} (K : SinkGhosts E) (call : Call) (fails : Type 0) (name : List ℕ) where
   -- what `run` tells of a failure
@@ -75,3 +89,14 @@ module _ {R W E : Type 0} {Reads : Readers R} (Writes : Writers W) (K : SinkGhos
           tells_both K (IsLineOf call fails) old.errors counted.meanwhile new.errors (warnings_tell K call fails load (bytes_left old.input) counted.between counted.loaded old.errors warned.0 counted.meanwhile warned.1 warned.2)
           (tells_weaker K (IsCountsLine call.given load.secrets) (IsLineOf call fails) counted.meanwhile new.errors (λ line is. inr (inr (inl (load, bytes_left old.input, counted.between, counted.loaded, is))))
           (tells_counts K call.given counted.meanwhile new.errors load.secrets (sums_of load.secrets counted.counted.counts) counted.volume some counted.counted.told))
+
+-- the same of a call with rules
+module _ {E : Type 0} (K : SinkGhosts E) (call : Call) (name : List ℕ) where
+  pub ruled_some_told : (old new : Errors E) → TellsSome K (IsRuledTold call) old new → TellsSome K (IsRuledOutputLine call name) old new
+  ruled_some_told old new some = some_weaker K (IsRuledTold call) (IsRuledOutputLine call name) old new (λ line is. inl is) some
+
+  pub ruled_put_told : (left left' : Option (List ℕ)) (old mid new : Errors E) (reason : Reason) → NotesByRules K call left left' old mid → TellsBytes K mid new (unread_line name reason)
+      → TellsSome K (IsRuledOutputLine call name) old new
+  ruled_put_told left left' old mid new reason notes last =
+      tells_last K (IsRuledOutputLine call name) old mid new (unread_line name reason)
+      (tells_weaker K (IsRuledTold call) (IsRuledOutputLine call name) old mid (λ line is. inl is) (notes_told K call left left' old mid notes)) (inr (inl (reason, refl))) last

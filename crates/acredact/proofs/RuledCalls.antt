@@ -1,41 +1,103 @@
 -- What comes of a call with rules, and its status.
-use Rattle.std.proofs.Common.{◌≡◌, inl, inr, ℕ, ◌-◌, List, [], ◌∷◌, Option, true, false, refl, sym, ap, subst, ◌+◌, ◌++◌, ◌∙◌, append-nil, length, length-append, map, arith}
-use Rattle.std.specs.Prelude.{Bool, Result, Ok, Err, min, replicate, slice_index, ◌^◌, ◌==◌, if◌then◌else◌}
+use Rattle.std.proofs.Common.{◌≡◌, ◌<◌, inl, inr, ℕ, ◌-◌, List, [], ◌∷◌, Option, true, false, refl, sym, ap, subst, ◌+◌, ◌++◌, ◌∙◌, append-nil, length, length-append, map, arith}
+use Rattle.std.specs.Prelude.{Bool, MatchBool, Result, Ok, Err, IfOk, OnOk, min, replicate, slice_index, ◌^◌, ◌==◌, if◌then◌else◌}
 use Rattle.std.proofs.KnownBytes.{Keeps-refl}
 use Rattle.std.proofs.lemmas.List.{get_or-replicate, length-map, length-replicate}
 use Rattle.std.proofs.lemmas.List.Elements.{All-cons, All-nil}
-use Rattle.aho_cover.specs.Counting.{grown_count}
+use Rattle.aho_core.specs.Occurrence.{Occurrence}
+use Rattle.aho_cover.specs.Counting.{CountsThese, runs_named}
 use Rattle.aho_devices.specs.declared.device.Sink.{Ghosts as SinkGhosts}
 use Rattle.programs.specs.Telling.{Tells, TellsBytes}
 use Rattle.programs.specs.declared.errors.Errors.{Errors}
 use Rattle.secret_rules.specs.declared.error.LineError.{LineError}
-use Rattle.acredact.specs.Arguments.{Given}
+use Rattle.secret_rules.specs.declared.rule.Rule.{Rule}
+use Rattle.acredact.specs.Arguments.{Given, has}
 use Rattle.acredact.specs.Calls.{Call, IsUnreadLine, names_asked, pieces_asked, reading_by, text_asked}
 use Rattle.acredact.specs.Doubts.{TellsDoubts, all_doubt_lines, last_of}
 use Rattle.acredact.specs.Failures.{IsFailureLine}
 use Rattle.acredact.specs.LineRules.{most_asked}
 use Rattle.acredact.specs.RuleLines.{IsRuledLine, too_long_line}
-use Rattle.acredact.specs.LongLines.{CountsLongAll, HaveLong, long_told, whole_number}
-use Rattle.acredact.specs.Ruled.{AreRuledLoaded, DoubtedRuled, IsRuledNotice, IsRuledTold, LinedFiles, RuledCall, RuledLoad, RuledOutcome, RuledStatus, TellsRuled, own_text, ruled_by, ruling_by, texts_asked}
+use Rattle.acredact.specs.LongLines.{long_told, whole_number}
+use Rattle.acredact.specs.RunCounts.{CountsAllRuns, IsRunsLine, TellsAnyTotals, TellsRunCounts, TellsRunTotals, run_counts_text}
+use Rattle.acredact.specs.Ruled.{AreRuledLoaded, CountsByRules, DoubtedRuled, IsRuledNotice, IsRuledTold, LinedFiles, NotesByRules, NumbersOf, RuledCall, RuledLoad, RuledOutcome, RuledStatus, TellsRuled, own_text, ruled_by, ruling_by, texts_asked}
 use Rattle.acredact.specs.Tables.{Secret, piece_by}
+use Rattle.acredact.specs.Totals.{AreTotals}
+use Rattle.acredact.specs.declared.arguments.Word.TheVariants.{Count}
 use Rattle.acredact.specs.declared.failure.Failure.{Failure}
 use Rattle.acredact.specs.declared.ruled_failure.RuledFailure.{RuledFailure}
 use Rattle.acredact.specs.declared.ruled_failure.RuledFailure.TheVariants.{Plain}
 use Rattle.acredact.proofs.Calls.{tells_last, tells_same}
+use Rattle.acredact.proofs.LongLines.{long_of_runs}
 use Rattle.acredact.proofs.PlacedCalls.{tells_weaker}
 use Rattle.acredact.proofs.RuledFiles.{all_then, none_begun, some_then, some_weaker, then_some}
 use Rattle.acredact.proofs.Statuses.{tells_one}
 use Rattle.acredact.proofs.Warned.{all_members}
-
--- so many lines of all files are too long, and the count of them is this
-abbrev pub HaveLongTold : Call → (left left' : Option (List ℕ)) → ℕ → Type 0
-HaveLongTold call left left' told = (count : ℕ) × HaveLong call.holds (most_asked call.given) (names_asked call.given) count left left' × (told ≡ min count (2 ^ 64 - 1))
 
 abbrev done_as : Bool → Result Bool RuledFailure
 done_as all = Ok all
 
 ok_is : (a b : Bool) → done_as a ≡ done_as b → a ≡ b
 ok_is a b same = let is = same in cc
+
+-- what a call answers is what its files answered
+answers_all : (all done : Bool) (result : Result Bool RuledFailure) → IfOk result (λ done. done ≡ all) → result ≡ Ok done → all ≡ done
+answers_all all done (Ok other) same is = sym same ∙ ok_is other done is
+answers_all all done (Err failure) same is = absurd (cc)
+
+on_all : {P : Type 0} (done : Bool) (result : Result Bool RuledFailure) → OnOk result P → result ≡ Ok done → P
+on_all done (Ok other) holds is = holds
+on_all done (Err failure) holds is = absurd (cc)
+
+-- counts that were zero are those of all runs
+totals_of : (last size : ℕ) (runs : List Occurrence) (zeros counts' : List ℕ) → zeros ≡ replicate size 0 → size ≡ last + 1 → CountsThese runs zeros counts' → AreTotals (last + 1) runs counts'
+totals_of last size runs zeros counts' are sized grown =
+    let many : length zeros ≡ size = ap length are ∙ length-replicate size 0 in
+    record {
+      one_each = grown.as_many ∙ many ∙ sized;
+      each = λ number within.
+          let there : number < size = subst (λ (n : ℕ). number < n) (sym sized) within in
+          let zero : slice_index zeros number ≡ 0 = ap (λ (l : List ℕ). slice_index l number) are ∙ get_or-replicate size number 0 0 there in
+          omega (arith, grown.grown number (subst (λ (n : ℕ). number < n) (sym many) there), zero);
+    }
+
+-- the last of them is that of lines that are too long
+last_total : (last : ℕ) (runs : List Occurrence) (counts' : List ℕ) → AreTotals (last + 1) runs counts' → last_of counts' ≡ min (runs_named last runs) (2 ^ 64 - 1)
+last_total last runs counts' totals =
+    let place : length counts' - 1 ≡ last = omega (arith, totals.one_each) in
+    ap (slice_index counts') place ∙ totals.each last (omega arith)
+
+whole_is : (given : List Given) (load : RuledLoad) → whole_number (ruling_by given load).covering ≡ length load.secrets + length load.rules
+whole_is given load = ap (λ (n : ℕ). n + length load.rules) (length-map load.secrets (λ secret. secret.pattern))
+
+-- the counts were told
+pub runs_told : {E : Type 0} (K : SinkGhosts E) (given : List Given) (secrets : List Secret) (rules : List Rule) (counts : List ℕ) (errors errors' : Errors E) → has Count given ≡ true
+    → TellsBytes K errors errors' (run_counts_text secrets rules counts) → Tells K (IsRunsLine given) errors errors'
+runs_told K given secrets rules counts errors errors' is told = record {
+  told = run_counts_text secrets rules counts ∷ [];
+  are_lines = All-cons (IsRunsLine given) (run_counts_text secrets rules counts) [] (is, secrets, rules, counts, refl) (All-nil (IsRunsLine given));
+  written = subst (TellsBytes K errors errors') (sym (append-nil (run_counts_text secrets rules counts))) told;
+}
+
+-- there is a text for each pattern, each rule, and lines that are too long
+pub texts_many : (given : List Given) (load : RuledLoad) → length (texts_asked given load) ≡ length load.secrets + length load.rules + 1
+texts_many given load =
+    let rules = map (own_text (text_asked given)) load.rules in
+    omega (
+      arith,
+      length-append (pieces_asked given load.secrets) (rules ++ text_asked given ∷ []),
+      length-append rules (text_asked given ∷ []),
+      length-map load.rules (own_text (text_asked given)),
+      length-map load.secrets (piece_by (text_asked given)),
+    )
+
+-- the counts are told where they are asked for
+abbrev pub TellsCountsAny : {E : Type 0} → SinkGhosts E → List Given → RuledLoad → (counts : List ℕ) → (errors errors' : Errors E) → Type 0
+TellsCountsAny K given load counts errors errors' = MatchBool (has Count given) (TellsRunCounts K load.secrets load.rules counts errors errors') (errors' ≡ errors)
+
+any_totals : {E : Type 0} (K : SinkGhosts E) (load : RuledLoad) (runs : List Occurrence) (counts : List ℕ) (errors errors' : Errors E) → AreTotals (length load.secrets + length load.rules + 1) runs counts → (b : Bool)
+    → MatchBool b (TellsRunCounts K load.secrets load.rules counts errors errors') (errors' ≡ errors) → MatchBool b (TellsRunTotals K load.secrets load.rules runs errors errors') (errors' ≡ errors)
+any_totals K load runs counts errors errors' totals true whole = record { counts = counts; totals = totals; told = whole }
+any_totals K load runs counts errors errors' totals false same = same
 
 module _ {E : Type 0} (K : SinkGhosts E) (call : Call) where
   -- the arguments were refused, or there was no memory to read them
@@ -115,7 +177,7 @@ module _ {E : Type 0} (K : SinkGhosts E) (call : Call) where
           told = all_then K (IsRuledTold call) errors meanwhile errors' before of.tells.told;
           partly = λ is. then_some K (IsRuledTold call) errors meanwhile errors' before (of.tells.partly is);
         };
-        notes = λ is. record { meanwhile = meanwhile; doubted = doubted; long = of.notes is };
+        notes = λ is. record { meanwhile = meanwhile; doubted = doubted; numbers = of.notes is };
       }
 
   -- how many lines were too long may be told
@@ -126,35 +188,86 @@ module _ {E : Type 0} (K : SinkGhosts E) (call : Call) where
       by true none = record { told = []; are_lines = All-nil (IsRuledTold call); written = none }
       by false line = record {
         told = too_long_line (most_asked call.given) count ∷ [];
-        are_lines = All-cons (IsRuledTold call) (too_long_line (most_asked call.given) count) [] (inr (inr (inr (count, refl)))) (All-nil (IsRuledTold call));
+        are_lines = All-cons (IsRuledTold call) (too_long_line (most_asked call.given) count) [] (inr (inr (inr (inl (count, refl))))) (All-nil (IsRuledTold call));
         written = subst (TellsBytes K errors errors') (sym (append-nil (too_long_line (most_asked call.given) count))) line;
       }
 
-  -- the files were redacted, and it is told how many lines were too long
-  pub files_done : (load : RuledLoad) (all : Bool) (counts counts' : List ℕ) (count : ℕ) (left left' held held' : Option (List ℕ)) (errors meanwhile errors' : Errors E)
-      → LinedFiles K (ruled_by call load) (names_asked call.given) (Ok all) counts counts' left left' held held' errors meanwhile
-      → (CountsLongAll call.holds (ruling_by call.given load).covering (names_asked call.given) left left' counts counts' → HaveLongTold call left left' count)
-      → TellsBytes K meanwhile errors' (long_told (most_asked call.given) count) → RuledOutcome K call load (Ok all) left left' held held' errors errors'
-  files_done load all counts counts' count left left' held held' errors meanwhile errors' files counted long =
-      let unread = λ (line : List ℕ) (is : IsUnreadLine (names_asked call.given) line). inl is in
-      let later = long_lines count meanwhile errors' long in
+  -- and then the counts
+  counts_lines : (errors errors' : Errors E) → Tells K (IsRunsLine call.given) errors errors' → Tells K (IsRuledTold call) errors errors'
+  counts_lines errors errors' told = tells_weaker K (IsRunsLine call.given) (IsRuledTold call) errors errors' (λ line is. inr (inr (inr (inr is)))) told
+
+  totals_lines : (secrets : List Secret) (rules : List Rule) (runs : List Occurrence) (errors errors' : Errors E) → TellsAnyTotals K call.given secrets rules runs errors errors' → Tells K (IsRuledTold call) errors errors'
+  totals_lines secrets rules runs errors errors' told = by (has Count call.given) refl told
+    where
+      by : (b : Bool) → has Count call.given ≡ b → MatchBool b (TellsRunTotals K secrets rules runs errors errors') (errors' ≡ errors) → Tells K (IsRuledTold call) errors errors'
+      by true is totals = counts_lines errors errors' (runs_told K call.given secrets rules totals.counts errors errors' is totals.told.told)
+      by false is same = tells_same K (IsRuledTold call) errors errors' same
+
+  -- what is told where all was redacted
+  pub notes_told : (left left' : Option (List ℕ)) (errors errors' : Errors E) → NotesByRules K call left left' errors errors' → Tells K (IsRuledTold call) errors errors'
+  notes_told left left' errors errors' of =
+      let notes = of.notes in
+      let numbers = notes.numbers in
+      let doubts = tells_weaker K (IsRuledNotice call) (IsRuledTold call) errors notes.meanwhile notice_told (doubts_told of.load.secrets errors notes.meanwhile notes.doubted) in
+      let long = long_lines (min numbers.long.count (2 ^ 64 - 1)) notes.meanwhile numbers.meanwhile numbers.long.told in
+      let counts = totals_lines of.load.secrets of.load.rules numbers.runs numbers.meanwhile errors' numbers.counted in
+      all_then K (IsRuledTold call) errors notes.meanwhile errors' doubts (all_then K (IsRuledTold call) notes.meanwhile numbers.meanwhile errors' long counts)
+
+  -- and the counts, where they are asked for
+  pub counts_by_rules : (left left' : Option (List ℕ)) (errors errors' : Errors E) → has Count call.given ≡ true → NotesByRules K call left left' errors errors' → CountsByRules K call left left' errors'
+  counts_by_rules left left' errors errors' is of =
+      let numbers = of.notes.numbers in
       record {
-        whole = λ is. files.whole (ap Ok (ok_is all true is));
+        load = of.load;
+        between = of.between;
+        loaded = of.loaded;
+        runs = numbers.runs;
+        have = numbers.have;
+        meanwhile = numbers.meanwhile;
+        counted = subst (λ (b : Bool). MatchBool b (TellsRunTotals K of.load.secrets of.load.rules numbers.runs numbers.meanwhile errors') (errors' ≡ numbers.meanwhile)) is numbers.counted;
+      }
+
+  -- what is told behind files that were all read to their ends: counts began at zero
+  numbers_of : (load : RuledLoad) (size : ℕ) (zeros counts' : List ℕ) (left left' : Option (List ℕ)) (errors second errors' : Errors E) → zeros ≡ replicate size 0 → size ≡ length load.secrets + length load.rules + 1
+      → CountsAllRuns call.holds (ruling_by call.given load).covering (names_asked call.given) left left' zeros counts'
+      → TellsBytes K errors second (long_told (most_asked call.given) (last_of counts')) → TellsCountsAny K call.given load counts' second errors'
+      → NumbersOf K call load left left' errors errors'
+  numbers_of load size zeros counts' left left' errors second errors' are sized (runs, have, grown) long told =
+      let totals = totals_of (length load.secrets + length load.rules) size runs zeros counts' are sized grown in
+      let covering = (ruling_by call.given load).covering in
+      record {
+        meanwhile = second;
+        long = record {
+          count = runs_named (whole_number covering) runs;
+          have = long_of_runs covering call.holds (names_asked call.given) runs left left' have;
+          told = subst (λ (n : ℕ). TellsBytes K errors second (long_told (most_asked call.given) n)) (last_total (length load.secrets + length load.rules) runs counts' totals ∙ ap (λ (n : ℕ). min (runs_named n runs) (2 ^ 64 - 1)) (sym (whole_is call.given load))) long;
+        };
+        runs = runs;
+        have = have;
+        counted = any_totals K load runs counts' second errors' totals (has Count call.given) told;
+      }
+
+  -- the files were redacted, it is told how many lines were too long, and then the counts
+  pub files_done : (load : RuledLoad) (all : Bool) (result : Result Bool RuledFailure) (size : ℕ) (zeros counts' : List ℕ) (left left' held held' : Option (List ℕ)) (errors first second errors' : Errors E)
+      → LinedFiles K (ruled_by call load) (names_asked call.given) (Ok all) zeros counts' left left' held held' errors first → zeros ≡ replicate size 0 → size ≡ length load.secrets + length load.rules + 1
+      → TellsBytes K first second (long_told (most_asked call.given) (last_of counts')) → IfOk result (λ done. done ≡ all) → OnOk result (TellsCountsAny K call.given load counts' second errors')
+      → Tells K (IsRunsLine call.given) second errors' → RuledOutcome K call load result left left' held held' errors errors'
+  files_done load all result size zeros counts' left left' held held' errors first second errors' files are sized long same told lines =
+      let unread = λ (line : List ℕ) (is : IsUnreadLine (names_asked call.given) line). inl is in
+      let later = all_then K (IsRuledTold call) first second errors' (long_lines (last_of counts') first second long) (counts_lines second errors' lines) in
+      record {
+        whole = λ is. files.whole (ap Ok (answers_all all true result same is));
         begun = files.begun;
         tells = record {
-          told = all_then K (IsRuledTold call) errors meanwhile errors' (tells_weaker K (IsUnreadLine (names_asked call.given)) (IsRuledTold call) errors meanwhile unread files.told) later;
-          partly = λ is. some_then K (IsRuledTold call) errors meanwhile errors'
-              (some_weaker K (IsUnreadLine (names_asked call.given)) (IsRuledTold call) errors meanwhile unread (files.partly (ap Ok (ok_is all false is)))) later;
+          told = all_then K (IsRuledTold call) errors first errors' (tells_weaker K (IsUnreadLine (names_asked call.given)) (IsRuledTold call) errors first unread files.told) later;
+          partly = λ is. some_then K (IsRuledTold call) errors first errors'
+              (some_weaker K (IsUnreadLine (names_asked call.given)) (IsRuledTold call) errors first unread (files.partly (ap Ok (answers_all all false result same is)))) later;
         };
         notes = λ is.
-            let whole = ok_is all true is in
-            let have = counted (files.long (ap Ok whole)) in
-            record {
-              count = have.0;
-              have = have.1;
-              told = subst (λ (e : Errors E). TellsBytes K e errors' (long_told (most_asked call.given) (min have.0 (2 ^ 64 - 1)))) (files.quiet (ap Ok whole))
-                  (subst (λ (n : ℕ). TellsBytes K meanwhile errors' (long_told (most_asked call.given) n)) have.2 long);
-            };
+            let whole = answers_all all true result same is in
+            numbers_of load size zeros counts' left left' errors second errors' are sized (files.counted (ap Ok whole))
+            (subst (λ (e : Errors E). TellsBytes K e second (long_told (most_asked call.given) (last_of counts'))) (files.quiet (ap Ok whole)) long)
+            (on_all true result told is);
       }
 
   -- or not all of them
@@ -197,29 +310,3 @@ module _ {E : Type 0} (K : SinkGhosts E) (call : Call) where
     tells = λ two. tells_last K (IsRuledTold call) errors meanwhile errors' line of.tells.told (inr (inl (failure, is))) told;
     notes = λ (none : 2 ≡ 0). absurd (omega (arith, none));
   }
-
--- the last of the counts, which were zero, is that of lines that are too long
-pub long_told_of : (call : Call) (load : RuledLoad) (zeros counts' : List ℕ) (count : ℕ) (left left' : Option (List ℕ)) → zeros ≡ replicate count 0 → count ≡ whole_number (ruling_by call.given load).covering + 1
-    → CountsLongAll call.holds (ruling_by call.given load).covering (names_asked call.given) left left' zeros counts' → HaveLongTold call left left' (last_of counts')
-long_told_of call load zeros counts' count left left' are sized (total, have, grows) =
-    let whole = whole_number (ruling_by call.given load).covering in
-    let many : length zeros ≡ count = ap length are ∙ length-replicate count 0 in
-    let place : length counts' - 1 ≡ whole = omega (arith, grows.as_many, many, sized) in
-    let zero : slice_index zeros whole ≡ 0 = ap (λ (l : List ℕ). slice_index l whole) are ∙ get_or-replicate count whole 0 0 (omega (arith, sized)) in
-    (total, have, ap (slice_index counts') place ∙ grows.grown (omega (arith, many, sized)) ∙ ap (λ (n : ℕ). grown_count n total) zero ∙ from_none total)
-  where
-    from_none : (total : ℕ) → grown_count 0 total ≡ min total (2 ^ 64 - 1)
-    from_none total = omega arith
-
--- there is a text for each pattern, each rule, and lines that are too long
-pub texts_many : (given : List Given) (load : RuledLoad) → length (texts_asked given load) ≡ whole_number (ruling_by given load).covering + 1
-texts_many given load =
-    let rules = map (own_text (text_asked given)) load.rules in
-    omega (
-      arith,
-      length-append (pieces_asked given load.secrets) (rules ++ text_asked given ∷ []),
-      length-append rules (text_asked given ∷ []),
-      length-map load.rules (own_text (text_asked given)),
-      length-map load.secrets (piece_by (text_asked given)),
-      length-map load.secrets (λ secret. secret.pattern),
-    )

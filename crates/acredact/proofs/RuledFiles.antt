@@ -1,11 +1,13 @@
 -- What comes of files that are redacted line by line, one after another.
-use Rattle.std.proofs.Common.{◌≡◌, inl, inr, ℕ, ◌+◌, List, [], ◌∷◌, ◌++◌, Option, true, false, refl, sym, ap, subst, ◌∙◌, arith}
-use Rattle.std.specs.Prelude.{Bool, ◌&&◌, None, Some, Result, Ok, Err, slice_index}
+use Rattle.std.proofs.Common.{◌≡◌, inl, inr, ℕ, List, [], ◌∷◌, ◌++◌, Option, true, false, refl, sym, ap, subst, ◌∙◌, append-nil, append_assoc}
+use Rattle.std.specs.Prelude.{Bool, ◌&&◌, None, Some, Result, Ok, Err}
 use Rattle.std.specs.Io.KnownBytes.{Keeps}
 use Rattle.std.specs.List.{All, concat}
 use Rattle.std.proofs.KnownBytes.{Keeps-refl, Keeps-trans}
 use Rattle.std.proofs.lemmas.List.Elements.{All-append, All-cons, All-head, All-tail, All-weaker}
-use Rattle.aho_cover.specs.Counting.{grown_count}
+use Rattle.aho_core.specs.Occurrence.{Occurrence}
+use Rattle.aho_cover.specs.Counting.{CountsThese}
+use Rattle.aho_cover.proofs.Counted.{counts_none, counts_then}
 use Rattle.aho_devices.specs.declared.device.Sink.{Ghosts as SinkGhosts}
 use Rattle.programs.specs.Names.{IsOneOf, is_input}
 use Rattle.programs.specs.Telling.{Tells, TellsBytes, TellsSome}
@@ -16,12 +18,12 @@ use Rattle.secret_rules.specs.declared.error.LineError.{LineError}
 use Rattle.acredact.specs.Calls.{IsUnreadLine}
 use Rattle.acredact.specs.Files.{unread_line}
 use Rattle.acredact.specs.Messages.{output_line}
-use Rattle.acredact.specs.LongLines.{CountsLongAll, CountsLongNamed, GrowsBy, HasLong, HaveLong, whole_number}
 use Rattle.acredact.specs.Ruled.{AreBegun, AreRuled, LinedFile, LinedFiles, LinesOutcome, NamedOutcome, RedactsLines, RuledWork, WritesLines, WritesRuled}
+use Rattle.acredact.specs.RunCounts.{CountsAllRuns, CountsFileRuns, HasRuns, HaveRuns}
 use Rattle.acredact.proofs.Calls.{tells_same}
 use Rattle.acredact.proofs.Done.{both_so, concat_both}
 use Rattle.acredact.proofs.OneFile.{of_folder, of_input}
-use Rattle.acredact.proofs.RuledText.{begun_nothing, known_lines, known_long, known_writes}
+use Rattle.acredact.proofs.RuledText.{begun_nothing, known_lines, known_runs, known_writes}
 use Rattle.acredact.proofs.Statuses.{tells_one}
 
 -- what comes of the file of a name
@@ -30,7 +32,7 @@ module _ (work : RuledWork) (name : List ℕ) (result : Result (Option Reason) L
   named_input is text = record {
     whole = λ done. of_input work.holds name (λ l l'. RedactsLines work.ruling l l' held held') left left' is (text.whole done);
     begun = of_input work.holds name (λ l l'. WritesLines work.ruling l l' held held') left left' is text.begun;
-    long = λ done. let long = text.long done in (long.0, of_input work.holds name (HasLong work.ruling.covering.most long.0) left left' is long.1, long.2);
+    counted = λ done. let counted = text.counted done in (counted.0, of_input work.holds name (HasRuns work.ruling.covering counted.0) left left' is counted.1, counted.2);
   }
 
   pub named_opened : is_input name ≡ false → left' ≡ left → (given rest : Option (List ℕ)) → Keeps (work.holds name) given → LinesOutcome work.ruling result counts counts' given rest held held'
@@ -40,10 +42,10 @@ module _ (work : RuledWork) (name : List ℕ) (result : Result (Option Reason) L
         (known_lines work.ruling (work.holds name) given rest held held' kept (text.whole done));
     begun = of_folder work.holds name (λ l l'. WritesLines work.ruling l l' held held') left left' is same rest
         (known_writes work.ruling (work.holds name) given rest held held' kept text.begun);
-    long = λ done. let long = text.long done in (
-      long.0,
-      of_folder work.holds name (HasLong work.ruling.covering.most long.0) left left' is same rest (known_long work.ruling.covering.most long.0 (work.holds name) given rest kept long.1),
-      long.2,
+    counted = λ done. let counted = text.counted done in (
+      counted.0,
+      of_folder work.holds name (HasRuns work.ruling.covering counted.0) left left' is same rest (known_runs work.ruling.covering counted.0 (work.holds name) given rest kept counted.1),
+      counted.2,
     );
   }
 
@@ -51,7 +53,7 @@ pub named_refused : (work : RuledWork) (name : List ℕ) (reason : Reason) (coun
 named_refused work name reason counts left held is = record {
   whole = λ (done : Ok (Some reason) ≡ Ok None). absurd (cc);
   begun = of_folder work.holds name (λ l l'. WritesLines work.ruling l l' held held) left left is refl (work.holds name) (inr (begun_nothing work.ruling (work.holds name) held));
-  long = λ (done : Ok (Some reason) ≡ Ok None). absurd (cc);
+  counted = λ (done : Ok (Some reason) ≡ Ok None). absurd (cc);
 }
 
 -- nothing was written of a file, or of any
@@ -135,7 +137,7 @@ module _ {E : Type 0} (K : SinkGhosts E) (work : RuledWork) (name : List ℕ) wh
   lined_unread reason counts counts' left left' held held' errors errors' file tells = record {
     whole = λ (is : Ok false ≡ Ok true). absurd (cc);
     begun = file.begun;
-    long = λ (is : Ok false ≡ Ok true). absurd (cc);
+    counted = λ (is : Ok false ≡ Ok true). absurd (cc);
     partly = λ is. tells_one K (IsUnreadLine (name ∷ [])) errors errors' (unread_line name reason) (name, inl refl, inl (reason, refl)) tells;
     untold = λ not. absurd (not refl);
   }
@@ -144,7 +146,7 @@ module _ {E : Type 0} (K : SinkGhosts E) (work : RuledWork) (name : List ℕ) wh
   lined_output counts left held errors errors' tells = record {
     whole = λ (is : Ok false ≡ Ok true). absurd (cc);
     begun = named_nothing work name left held;
-    long = λ (is : Ok false ≡ Ok true). absurd (cc);
+    counted = λ (is : Ok false ≡ Ok true). absurd (cc);
     partly = λ is. tells_one K (IsUnreadLine (name ∷ [])) errors errors' (output_line name) (name, inl refl, inr refl) tells;
     untold = λ not. absurd (not refl);
   }
@@ -154,7 +156,7 @@ module _ {E : Type 0} (K : SinkGhosts E) (work : RuledWork) (name : List ℕ) wh
   lined_whole counts counts' left left' held held' errors apart file = record {
     whole = λ is. (apart, file.whole refl);
     begun = file.begun;
-    long = λ is. file.long refl;
+    counted = λ is. file.counted refl;
     partly = λ (is : Ok true ≡ Ok false). absurd (cc);
     untold = λ not. refl;
   }
@@ -164,48 +166,32 @@ module _ {E : Type 0} (K : SinkGhosts E) (work : RuledWork) (name : List ℕ) wh
   lined_cut error counts counts' left left' held held' errors file = record {
     whole = λ (is : Err error ≡ Ok true). absurd (cc);
     begun = file.begun;
-    long = λ (is : Err error ≡ Ok true). absurd (cc);
+    counted = λ (is : Err error ≡ Ok true). absurd (cc);
     partly = λ (is : Err error ≡ Ok false). absurd (cc);
     untold = λ not. refl;
   }
 
--- counts grow one behind another
-grows_none : (number : ℕ) (counts : List ℕ) → GrowsBy number 0 counts counts
-grows_none number counts = record { as_many = refl; grown = λ within. grown_none (slice_index counts number) }
-  where
-    grown_none : (count : ℕ) → count ≡ grown_count count 0
-    grown_none count = omega arith
+-- the runs of the first files were counted, and those of the rest come behind them
+pub record RunsSoFar (work : RuledWork) (names rest : List (List ℕ)) (counts counts' : List ℕ) (left left' : Option (List ℕ)) : Type 0 where
+  pub runs : List Occurrence
+  pub have : (more : List Occurrence) (end : Option (List ℕ)) → HaveRuns work.holds work.ruling.covering rest more left' end → HaveRuns work.holds work.ruling.covering names (runs ++ more) left end
+  pub counted : CountsThese runs counts counts'
 
-grown_more : (count first more : ℕ) → grown_count (grown_count count first) more ≡ grown_count count (first + more)
-grown_more count first more = omega arith
+runs_none : (work : RuledWork) (names : List (List ℕ)) (counts : List ℕ) (left : Option (List ℕ)) → RunsSoFar work names names counts counts left left
+runs_none work names counts left = record { runs = []; have = λ more end have. have; counted = counts_none counts }
 
-grows_more : (number first more : ℕ) (counts meanwhile counts' : List ℕ) → GrowsBy number first counts meanwhile → GrowsBy number more meanwhile counts' → GrowsBy number (first + more) counts counts'
-grows_more number first more counts meanwhile counts' one other = record {
-  as_many = other.as_many ∙ one.as_many;
-  grown = λ within.
-      other.grown (omega (arith, within, one.as_many)) ∙ ap (λ n. grown_count n more) (one.grown within) ∙ grown_more (slice_index counts number) first more;
+runs_next : (work : RuledWork) (names rest : List (List ℕ)) (name : List ℕ) (counts half counts' : List ℕ) (left mid left' : Option (List ℕ)) → RunsSoFar work names (name ∷ rest) counts half left mid
+    → CountsFileRuns work.holds work.ruling.covering name mid left' half counts' → RunsSoFar work names rest counts counts' left left'
+runs_next work names rest name counts half counts' left mid left' so (first, has, grown) = record {
+  runs = so.runs ++ first;
+  have = λ more end rests. subst (λ (l : List Occurrence). HaveRuns work.holds work.ruling.covering names l left end) (sym (append_assoc so.runs first more))
+      (so.have (first ++ more) end (first, more, refl, left', has, rests));
+  counted = counts_then so.runs first counts half counts' so.counted grown;
 }
 
--- so many lines of the first files were counted, and those of the rest come behind them
-pub record LongSoFar (work : RuledWork) (names rest : List (List ℕ)) (counts counts' : List ℕ) (left left' : Option (List ℕ)) : Type 0 where
-  pub done : ℕ
-  pub have : (more : ℕ) (end : Option (List ℕ)) → HaveLong work.holds work.ruling.covering.most rest more left' end → HaveLong work.holds work.ruling.covering.most names (done + more) left end
-  pub grown : GrowsBy (whole_number work.ruling.covering) done counts counts'
-
-long_none : (work : RuledWork) (names : List (List ℕ)) (counts : List ℕ) (left : Option (List ℕ)) → LongSoFar work names names counts counts left left
-long_none work names counts left = record { done = 0; have = λ more end have. subst (λ (n : ℕ). HaveLong work.holds work.ruling.covering.most names n left end) (omega arith) have; grown = grows_none (whole_number work.ruling.covering) counts }
-
-long_next : (work : RuledWork) (names rest : List (List ℕ)) (name : List ℕ) (counts half counts' : List ℕ) (left mid left' : Option (List ℕ)) → LongSoFar work names (name ∷ rest) counts half left mid
-    → CountsLongNamed work.holds work.ruling.covering name mid left' half counts' → LongSoFar work names rest counts counts' left left'
-long_next work names rest name counts half counts' left mid left' so (count, has, grows) = record {
-  done = so.done + count;
-  have = λ more end have. subst (λ (n : ℕ). HaveLong work.holds work.ruling.covering.most names n left end) (omega arith) (so.have (count + more) end (count, more, refl, left', has, have));
-  grown = grows_more (whole_number work.ruling.covering) so.done count counts half counts' so.grown grows;
-}
-
-long_all : (work : RuledWork) (names : List (List ℕ)) (counts counts' : List ℕ) (left left' : Option (List ℕ)) → LongSoFar work names [] counts counts' left left' → CountsLongAll work.holds work.ruling.covering names left left' counts counts'
-long_all work names counts counts' left left' so =
-    (so.done, subst (λ (n : ℕ). HaveLong work.holds work.ruling.covering.most names n left left') (omega arith) (so.have 0 left' (refl, refl)), so.grown)
+runs_all : (work : RuledWork) (names : List (List ℕ)) (counts counts' : List ℕ) (left left' : Option (List ℕ)) → RunsSoFar work names [] counts counts' left left' → CountsAllRuns work.holds work.ruling.covering names left left' counts counts'
+runs_all work names counts counts' left left' so =
+    (so.runs, subst (λ (l : List Occurrence). HaveRuns work.holds work.ruling.covering names l left left') (append-nil so.runs) (so.have [] left' (refl, refl)), so.counted)
 
 abbrev done_as : Bool → Result Bool LineError
 done_as all = Ok all
@@ -218,7 +204,7 @@ module _ {E : Type 0} (K : SinkGhosts E) (work : RuledWork) (names : List (List 
   pub record LinedSoFar (rest : List (List ℕ)) (all : Bool) (counts counts' : List ℕ) (left left' held held' : Option (List ℕ)) (errors errors' : Errors E) : Type 0 where
     pub whole : all ≡ true → (end last : Option (List ℕ)) → AreRuled work rest left' end held' last → AreRuled work names left end held last
     pub begun : (end last : Option (List ℕ)) → AreBegun work rest left' end held' last → AreBegun work names left end held last
-    pub long : all ≡ true → LongSoFar work names rest counts counts' left left'
+    pub counted : all ≡ true → RunsSoFar work names rest counts counts' left left'
     pub told : Tells K (IsUnreadLine names) errors errors'
     pub partly : all ≡ false → TellsSome K (IsUnreadLine names) errors errors'
     pub quiet : all ≡ true → errors' ≡ errors
@@ -229,7 +215,7 @@ module _ {E : Type 0} (K : SinkGhosts E) (work : RuledWork) (names : List (List 
   lined_none counts left held errors = record {
     whole = λ all end last done. done;
     begun = λ end last done. done;
-    long = λ all. long_none work names counts left;
+    counted = λ all. runs_none work names counts left;
     told = tells_same K (IsUnreadLine names) errors errors refl;
     partly = λ (is : true ≡ false). absurd (cc);
     quiet = λ all. refl;
@@ -257,7 +243,7 @@ module _ {E : Type 0} (K : SinkGhosts E) (work : RuledWork) (names : List (List 
       record {
         whole = λ ends end last rests. let parts = both_so all whole both is ends in so.whole parts.0 end last (left', held', file.whole (ap Ok parts.1), rests);
         begun = λ end last rests. so.begun end last (left', held', file.begun, rests);
-        long = λ ends. let parts = both_so all whole both is ends in long_next work names rest name counts some counts' left mid left' (so.long parts.0) (file.long (ap Ok parts.1));
+        counted = λ ends. let parts = both_so all whole both is ends in runs_next work names rest name counts some counts' left mid left' (so.counted parts.0) (file.counted (ap Ok parts.1));
         told = all_then K (IsUnreadLine names) errors meanwhile errors' so.told later;
         partly = λ none. both_not {P = TellsSome K (IsUnreadLine names) errors errors'} all whole both is none
             (λ first. some_then K (IsUnreadLine names) errors meanwhile errors' (so.partly first) later)
@@ -273,7 +259,7 @@ module _ {E : Type 0} (K : SinkGhosts E) (work : RuledWork) (names : List (List 
   lined_all all counts counts' left left' held held' errors errors' so = record {
     whole = λ is. so.whole (ok_is all true is) left' held' (refl, Keeps-refl held');
     begun = so.begun left' held' (refl, Keeps-refl held');
-    long = λ is. long_all work names counts counts' left left' (so.long (ok_is all true is));
+    counted = λ is. runs_all work names counts counts' left left' (so.counted (ok_is all true is));
     told = so.told;
     partly = λ is. so.partly (ok_is all false is);
     quiet = λ is. so.quiet (ok_is all true is);
@@ -286,7 +272,7 @@ module _ {E : Type 0} (K : SinkGhosts E) (work : RuledWork) (names : List (List 
   lined_fails rest name all error counts some counts' left mid left' held half held' errors meanwhile errors' so file = record {
     whole = λ (is : Err error ≡ Ok true). absurd (cc);
     begun = so.begun left' held' (left', held', file.begun, none_begun work rest left' held');
-    long = λ (is : Err error ≡ Ok true). absurd (cc);
+    counted = λ (is : Err error ≡ Ok true). absurd (cc);
     told = subst (Tells K (IsUnreadLine names) errors) (sym (file.untold (λ (is : Err error ≡ Ok false). cc))) so.told;
     partly = λ (is : Err error ≡ Ok false). absurd (cc);
     quiet = λ (is : Err error ≡ Ok true). absurd (cc);
@@ -298,7 +284,7 @@ module _ {E : Type 0} (K : SinkGhosts E) (work : RuledWork) (names : List (List 
   flush_kept all counts counts' left left' held mid held' errors errors' kept files = record {
     whole = λ is. ruled_kept work names left left' held mid held' (files.whole is) kept;
     begun = begun_kept work names left left' held mid held' files.begun kept;
-    long = files.long;
+    counted = files.counted;
     told = files.told;
     partly = files.partly;
     quiet = files.quiet;
@@ -309,7 +295,7 @@ module _ {E : Type 0} (K : SinkGhosts E) (work : RuledWork) (names : List (List 
   flush_failed all error counts counts' left left' held mid held' errors errors' kept files = record {
     whole = λ (is : Err error ≡ Ok true). absurd (cc);
     begun = begun_kept work names left left' held mid held' files.begun kept;
-    long = λ (is : Err error ≡ Ok true). absurd (cc);
+    counted = λ (is : Err error ≡ Ok true). absurd (cc);
     told = files.told;
     partly = λ (is : Err error ≡ Ok false). absurd (cc);
     quiet = λ (is : Err error ≡ Ok true). absurd (cc);

@@ -1,6 +1,6 @@
 -- What comes of a text, by what a cover of its lines leaves.
 use Rattle.std.proofs.Common.{◌≡◌, ◌≢◌, inl, inr, ℕ, List, [], ◌∷◌, ◌++◌, Option, true, false, ◌≤◌, length, map, refl, sym, ap, subst, ◌∙◌, arith}
-use Rattle.std.specs.Prelude.{Bool, IfSome, IsOk, None, Some, Result, Ok, Err, slice_index}
+use Rattle.std.specs.Prelude.{Bool, IfSome, IsOk, None, Some, Result, Ok, Err}
 use Rattle.std.specs.Borrow.{Bor}
 use Rattle.std.specs.Io.{StartsWith}
 use Rattle.std.specs.Io.KnownBytes.{Consumes, IsAtEnd, Keeps}
@@ -12,7 +12,6 @@ use Rattle.aho_core.specs.declared.error.stream.StreamError.TheVariants.{Match, 
 use Rattle.aho_core.specs.declared.search.Anchored.TheVariants.{No}
 use Rattle.aho_core.specs.declared.search.MatchKind.TheVariants.{Standard}
 use Rattle.aho_automaton.specs.declared.automaton.Automaton.{Ghosts as Automata}
-use Rattle.aho_cover.specs.Counting.{grown_count}
 use Rattle.aho_cover.specs.Pieces.{PieceRule}
 use Rattle.aho_cover.specs.declared.pieces.Pieces.{Ghosts as PieceGhosts}
 use Rattle.aho_cover.proofs.Copied.{begins_longer}
@@ -20,8 +19,8 @@ use Rattle.aho_devices.specs.declared.device.Sink.{Ghosts as SinkGhosts}
 use Rattle.aho_devices.specs.declared.device.Source.{Ghosts as SourceGhosts}
 use Rattle.aho_stream.specs.Replacing.{MayBe}
 use Rattle.programs.specs.declared.reason.Reason.{Reason}
-use Rattle.secret_rules.specs.Covering.{AreLineRuns, covering_by, lines_cover}
-use Rattle.secret_rules.specs.LineCovers.{AreSearchedFor, BeginsLines, BeginsNextLine, CoversLines, LeavesLines}
+use Rattle.secret_rules.specs.Covering.{AreLineRuns, Covering, covering_by, lines_cover}
+use Rattle.secret_rules.specs.LineCovers.{AreSearchedFor, BeginsLines, BeginsNextLine, CoversLines, LeavesLines, all_of}
 use Rattle.secret_rules.specs.Lines.{Line, stream_lines}
 use Rattle.secret_rules.specs.OpenLines.{CanSearch}
 use Rattle.secret_rules.specs.Ready.{CanCoverLines, CoversTheSame, most_of, rules_of, searched_automaton, words_of}
@@ -30,10 +29,9 @@ use Rattle.secret_rules.specs.declared.error.LineError.{LineError}
 use Rattle.secret_rules.specs.declared.error.LineError.TheVariants.{Mark, Stream}
 use Rattle.secret_rules.specs.declared.rule.Rule.{Rule}
 use Rattle.secret_rules.proofs.LineRuns.{lines_cover-append}
-use Rattle.acredact.specs.LongLines.{CountsLong, HasLong, long_among, whole_number}
 use Rattle.acredact.specs.Ruled.{BeginsLinesText, IsLined, IsLinesRedaction, LinesOutcome, RedactsLines, Ruling, WritesLines, ruling_as, unread_of}
+use Rattle.acredact.specs.RunCounts.{CountsTextRuns, HasRuns}
 use Rattle.acredact.specs.declared.ruled_files.Lined.{Lined}
-use Rattle.acredact.proofs.LongLines.{long_named}
 use Rattle.acredact.proofs.OneFile.{ends_by, known_read}
 
 -- a beginning behind the same bytes
@@ -80,25 +78,22 @@ module _ {R W : Type 0} (S : SourceGhosts R) (K : SinkGhosts W) (Searched : Patt
     written = begun.writes;
   }
 
-  -- each line that is too long is counted
-  long_text : CoversLines S K Searched words rules most rule source source' sink sink' counts counts' → CountsLong (covering_by words rules most p) before (S.remaining source') counts counts'
-  long_text whole =
-      let covering = covering_by words rules most p in (
-        long_among most (stream_lines whole.given),
-        record {
-          text = whole.given;
-          reads = record {
-            read = subst (λ bytes. Consumes bytes (S.remaining source') whole.given) left whole.gives.bytes;
-            ended = ends_by (S.empty_reads source) (S.empty_reads source') true none ends whole.gives.end refl;
-          };
-          are = refl;
-        },
-        record {
-          as_many = whole.counted.as_many;
-          grown = λ within. whole.counted.grown (whole_number covering) within
-              ∙ ap (grown_count (slice_index counts (whole_number covering))) (long_named covering [] (stream_lines whole.given) whole.runs (whole.runs_are p sought));
-        },
-      )
+  -- each run is counted
+  runs_text : CoversLines S K Searched words rules most rule source source' sink sink' counts counts' → CountsTextRuns (covering_by words rules most p) before (S.remaining source') counts counts'
+  runs_text whole = (
+    all_of whole.runs,
+    record {
+      text = whole.given;
+      reads = record {
+        read = subst (λ bytes. Consumes bytes (S.remaining source') whole.given) left whole.gives.bytes;
+        ended = ends_by (S.empty_reads source) (S.empty_reads source') true none ends whole.gives.end refl;
+      };
+      by_line = whole.runs;
+      found = whole.runs_are p sought;
+      are = refl;
+    },
+    whole.counted,
+  )
 
   -- either by what is answered
   writes_text : (done : Result (Unit {0}) LineError) → LeavesLines S K Searched words rules most rule source source' sink sink' counts counts' done
@@ -122,7 +117,7 @@ module _ {R W : Type 0} (S : SourceGhosts R) (K : SinkGhosts W) (Searched : Patt
   lines_outcome done leaves = record {
     whole = by_text (RedactsLines (ruling_as words rules most rule p) before (S.remaining source') (K.taken sink) (K.taken sink')) covers_text done leaves;
     begun = writes_text done leaves;
-    long = by_text (CountsLong (covering_by words rules most p) before (S.remaining source') counts counts') long_text done leaves;
+    counted = by_text (CountsTextRuns (covering_by words rules most p) before (S.remaining source') counts counts') runs_text done leaves;
   }
 
 -- it covers lines as before
@@ -209,10 +204,12 @@ can_search G automaton p of are standard starts some = record {
   full = subst (λ (ns : List ℕ). 1 ≤ shortest ns) (sym are) some;
 }
 
--- so many lines of a text that is known
-pub known_long : (most count : ℕ) (told left left' : Option (List ℕ)) → Keeps told left → HasLong most count left left' → HasLong most count told left'
-known_long most count told left left' kept has = record {
+-- the runs of a text that is known
+pub known_runs : (covering : Covering) (runs : List Occurrence) (told left left' : Option (List ℕ)) → Keeps told left → HasRuns covering runs left left' → HasRuns covering runs told left'
+known_runs covering runs told left left' kept has = record {
   text = has.text;
   reads = record { read = known_read told left left' has.text kept has.reads.read; ended = has.reads.ended };
+  by_line = has.by_line;
+  found = has.found;
   are = has.are;
 }

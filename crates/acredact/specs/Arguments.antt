@@ -15,7 +15,7 @@ use Rattle.acredact.specs.declared.arguments.Expects.{Expects}
 use Rattle.acredact.specs.declared.arguments.Expects.TheVariants.{Any, Value, Name}
 use Rattle.acredact.specs.declared.arguments.Item.{Item}
 use Rattle.acredact.specs.declared.arguments.Mixture.{Mixture}
-use Rattle.acredact.specs.declared.arguments.Mixture.TheVariants.{StrictKind, PseudonymKind, PseudonymWith, PseudonymTable, FormsKind, WordsKind, WordsForms, RulesKind, RulesCheck, RulesInPlace, RulesPseudonym, RulesCounts, RulesStrict, MaxLineAlone, CountCheck, SummaryCheck, OutputCheck, InPlaceCheck, InPlaceOutput}
+use Rattle.acredact.specs.declared.arguments.Mixture.TheVariants.{StrictKind, PseudonymKind, PseudonymWith, PseudonymTable, FormsKind, WordsKind, WordsForms, RulesKind, RulesCheck, RulesInPlace, RulesPseudonym, RulesSummary, RulesStrict, MaxLineAlone, CountCheck, SummaryCheck, OutputCheck, InPlaceCheck, InPlaceOutput}
 
 -- an option with its value, or a file with its name
 pub record Given : Type 0 where
@@ -298,7 +298,7 @@ rules_mixture_of given =
     else if has Check given then Some RulesCheck
     else if has InPlace given then Some RulesInPlace
     else if has Pseudonym given then Some RulesPseudonym
-    else if counts_asked given then Some RulesCounts
+    else if has Summary given then Some RulesSummary
     else if has Strict given then Some RulesStrict
     else None
 

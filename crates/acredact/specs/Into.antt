@@ -13,6 +13,7 @@ use Rattle.acredact.specs.Arguments.{Given, RefusesUnclean, counts_asked}
 use Rattle.acredact.specs.Calls.{Call, CountsAsked, IsLineOf, LeavesNoneAsked, OutputFails, RedactsAsked, WarnsAsked, call_of}
 use Rattle.acredact.specs.Files.{unread_line}
 use Rattle.acredact.specs.Messages.{no_output_line}
+use Rattle.acredact.specs.Ruled.{IsRuledTold, NotesAsked, RuledAsked}
 use Rattle.acredact.specs.declared.folder.Folder.{Ghosts as Folders}
 use Rattle.acredact.specs.declared.outputs.Outputs.{Ghosts as Places}
 use Rattle.acredact.specs.declared.streams.Streams.{Streams}
@@ -52,6 +53,11 @@ abbrev pub IsOutputLine : Call → (fails : Type 0) → List ℕ → List ℕ �
 IsOutputLine call fails name line =
     IsLineOf call fails line ⊎ (((reason : Reason) × (line ≡ unread_line name reason)) ⊎ ((is_input name ≡ true) × (line ≡ no_output_line name)))
 
+-- the same of a call with rules
+abbrev pub IsRuledOutputLine : Call → List ℕ → List ℕ → Type 0
+IsRuledOutputLine call name line =
+    IsRuledTold call line ⊎ (((reason : Reason) × (line ≡ unread_line name reason)) ⊎ ((is_input name ≡ true) × (line ≡ no_output_line name)))
+
 module _ {R Z E F X O : Type 0} {Reads : Readers R} (Writes : Writers Z) (K : SinkGhosts E) (D : Folders F X) (U : Places O Z) (folder : F) (name : List ℕ) (outputs outputs' : O) (streams streams' : Streams R Z E Reads) (given : List Given) where
   -- a new file was made, which was empty, all was redacted into it, and then it took the place of the one of this name
   pub record WritesNew : Type 0 where
@@ -68,6 +74,18 @@ module _ {R Z E F X O : Type 0} {Reads : Readers R} (Writes : Writers Z) (K : Si
     pub flushed : streams'.output.device.flushed ≡ true
     pub puts : U.puts meanwhile outputs' name (output_bytes Writes streams'.output)
 
+  -- the same, where all was redacted by rules
+  pub record WritesNewByRules : Type 0 where
+    pub named : is_input name ≡ false
+    pub file : FromWrite Z
+    pub meanwhile : O
+    pub made : U.makes outputs meanwhile name (output_bytes Writes file)
+    pub empty : IfSome (output_bytes Writes file) (λ held. held ≡ [])
+    pub redacts : RuledAsked Writes D folder given (record streams { output = file }) streams'
+    pub notes : NotesAsked K D folder given (record streams { output = file }) streams'
+    pub flushed : streams'.output.device.flushed ≡ true
+    pub puts : U.puts meanwhile outputs' name (output_bytes Writes streams'.output)
+
   -- or one line or more says why none did: of what was written to the new file, if one was made
   abbrev pub TellsNew : Type 0
   TellsNew = TellsSome K (IsOutputLine (call_of D folder given) ⊥ name) streams.errors streams'.errors
@@ -78,6 +96,9 @@ module _ {R Z E F X O : Type 0} {Reads : Readers R} (Writes : Writers Z) (K : Si
   -- the first where the status is 0
   abbrev pub WritesAll : Type 0
   WritesAll = status ≡ 0 → WritesNew Writes K D U folder name outputs outputs' streams streams' given
+
+  abbrev pub WritesAllByRules : Type 0
+  WritesAllByRules = status ≡ 0 → WritesNewByRules Writes K D U folder name outputs outputs' streams streams' given
 
   -- and the other where it is not
   abbrev pub TellsNone : Type 0
@@ -100,3 +121,8 @@ WarnsAll K D folder status streams streams' given = counts_asked given ≡ false
 abbrev pub TellsUnput : {R Z E F X : Type 0} {Reads : Readers R} → SinkGhosts E → Folders F X → F → List ℕ → ℕ → (streams streams' : Streams R Z E Reads) → List Given → Type 0
 TellsUnput K D folder name status streams streams' given = (status ≡ 0 → ⊥)
     → TellsSome K (IsOutputLine (call_of D folder given) (OutputFails streams.output streams'.output) name) streams.errors streams'.errors
+
+-- the same of a call with rules, whether one was made or not
+abbrev pub RuledTellsUnput : {R W E F X : Type 0} {Reads : Readers R} → SinkGhosts E → Folders F X → F → List ℕ → ℕ → (streams streams' : Streams R W E Reads) → List Given → Type 0
+RuledTellsUnput K D folder name status streams streams' given = (status ≡ 0 → ⊥)
+    → TellsSome K (IsRuledOutputLine (call_of D folder given) name) streams.errors streams'.errors

@@ -57,4 +57,5 @@ pub mod InPlace
 pub mod LineRules
 pub mod RuleLines
 pub mod LongLines
+pub mod RunCounts
 pub mod Ruled

@@ -1,6 +1,5 @@
 -- How many lines are too long, and so covered whole.
-use Rattle.std.specs.Prelude.{◌≡◌, ℕ, ◌+◌, ◌-◌, ◌<◌, ◌^◌, ◌==◌, min, nat_lt, List, [], ◌∷◌, Option, filter, if◌then◌else◌, length, slice_index}
-use Rattle.aho_cover.specs.Counting.{grown_count}
+use Rattle.std.specs.Prelude.{◌≡◌, ℕ, ◌+◌, ◌-◌, ◌^◌, ◌==◌, min, nat_lt, List, [], ◌∷◌, Option, filter, if◌then◌else◌, length}
 use Rattle.aho_devices.specs.declared.device.Sink.{Ghosts as SinkGhosts}
 use Rattle.programs.specs.Telling.{TellsBytes}
 use Rattle.programs.specs.declared.errors.Errors.{Errors}
@@ -28,24 +27,6 @@ abbrev pub HaveLong : (holds : List ℕ → Option (List ℕ)) → (most : ℕ) 
 HaveLong holds most [] count left left' = (count ≡ 0) × (left' ≡ left)
 HaveLong holds most (name ∷ names) count left left' = (first : ℕ) × (rest : ℕ) × (count ≡ first + rest)
     × (between : Option (List ℕ)) × OfName holds name (HasLong most first) left between × HaveLong holds most names rest between left'
-
--- the count of a number has grown by so many, and there are as many counts as before
-pub record GrowsBy (number more : ℕ) (counts counts' : List ℕ) : Type 0 where
-  pub as_many : length counts' ≡ length counts
-  pub grown : number < length counts → slice_index counts' number ≡ grown_count (slice_index counts number) more
-
--- so many are counted of a text that was read to its end, or of all files
-abbrev pub CountsLong : Covering → (left left' : Option (List ℕ)) → (counts counts' : List ℕ) → Type 0
-CountsLong covering left left' counts counts' =
-    (count : ℕ) × HasLong covering.most count left left' × GrowsBy (whole_number covering) count counts counts'
-
-abbrev pub CountsLongNamed : (holds : List ℕ → Option (List ℕ)) → Covering → List ℕ → (left left' : Option (List ℕ)) → (counts counts' : List ℕ) → Type 0
-CountsLongNamed holds covering name left left' counts counts' =
-    (count : ℕ) × OfName holds name (HasLong covering.most count) left left' × GrowsBy (whole_number covering) count counts counts'
-
-abbrev pub CountsLongAll : (holds : List ℕ → Option (List ℕ)) → Covering → List (List ℕ) → (left left' : Option (List ℕ)) → (counts counts' : List ℕ) → Type 0
-CountsLongAll holds covering names left left' counts counts' =
-    (count : ℕ) × HaveLong holds covering.most names count left left' × GrowsBy (whole_number covering) count counts counts'
 
 -- what is told of so many: nothing where there is none
 abbrev pub long_told : (most count : ℕ) → List ℕ

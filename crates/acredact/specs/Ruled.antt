@@ -37,12 +37,13 @@ use Rattle.acredact.specs.Calls.{Call, IsUnreadLine, call_of, names_asked, piece
 use Rattle.acredact.specs.Doubts.{TellsDoubts, all_doubt_lines}
 use Rattle.acredact.specs.Files.{WritesText}
 use Rattle.acredact.specs.LineRules.{AreRulesRead, most_asked}
-use Rattle.acredact.specs.LongLines.{CountsLong, CountsLongAll, CountsLongNamed, TellsLong}
+use Rattle.acredact.specs.LongLines.{TellsLong}
 use Rattle.acredact.specs.Loading.{AreGiven, Reading}
 use Rattle.acredact.specs.Reads.{OfName}
 use Rattle.acredact.specs.RuleLines.{IsRuledLine, too_long_line}
+use Rattle.acredact.specs.RunCounts.{CountsTextRuns, CountsAllRuns, CountsFileRuns, HaveRuns, IsRunsLine, TellsAnyTotals, TellsRunTotals}
 use Rattle.acredact.specs.Tables.{Secret, patterns_in, secrets_of}
-use Rattle.acredact.specs.declared.arguments.Word.TheVariants.{AsWord, IgnoreCase}
+use Rattle.acredact.specs.declared.arguments.Word.TheVariants.{AsWord, Count, IgnoreCase}
 use Rattle.acredact.specs.declared.arguments.Item.{Item}
 use Rattle.acredact.specs.declared.folder.Folder.{Ghosts as Folders}
 use Rattle.acredact.specs.declared.patterns.Rule.{Rule as PatternRule}
@@ -99,7 +100,7 @@ unread_of (Err (Mark error)) = Err (Mark error)
 pub record LinesOutcome (ruling : Ruling) (result : Result (Option Reason) LineError) (counts counts' : List ℕ) (left left' held held' : Option (List ℕ)) : Type 0 where
   pub whole : result ≡ Ok None → RedactsLines ruling left left' held held'
   pub begun : WritesLines ruling left left' held held'
-  pub long : result ≡ Ok None → CountsLong ruling.covering left left' counts counts'
+  pub counted : result ≡ Ok None → CountsTextRuns ruling.covering left left' counts counts'
 
 -- what is redacted so: what the folder holds under a name, where it tells that, and whether the output may go to it
 pub record RuledWork : Type 1 where
@@ -120,7 +121,7 @@ WritesRuled work name left left' held held' = OfName work.holds name (λ l l'. W
 pub record NamedOutcome (work : RuledWork) (name : List ℕ) (result : Result (Option Reason) LineError) (counts counts' : List ℕ) (left left' held held' : Option (List ℕ)) : Type 0 where
   pub whole : result ≡ Ok None → OfName work.holds name (λ l l'. RedactsLines work.ruling l l' held held') left left'
   pub begun : WritesRuled work name left left' held held'
-  pub long : result ≡ Ok None → CountsLongNamed work.holds work.ruling.covering name left left' counts counts'
+  pub counted : result ≡ Ok None → CountsFileRuns work.holds work.ruling.covering name left left' counts counts'
 
 -- of each file the redaction was written, one after another
 abbrev pub AreRuled : RuledWork → List (List ℕ) → (left left' held held' : Option (List ℕ)) → Type 0
@@ -205,11 +206,12 @@ ruling_by given load =
 abbrev pub ruled_by : Call → RuledLoad → RuledWork
 ruled_by call load = record { holds = call.holds; meets = call.meets; ruling = ruling_by call.given load }
 
--- what may be told of a call: a doubtful pattern of a list, or how many lines were too long
+-- what may be told of a call: a doubtful pattern of a list, how many lines were too long, or the counts that are asked for
 abbrev pub IsRuledNotice : Call → List ℕ → Type 0
 IsRuledNotice call line =
     ((secrets : List Secret) × IsMember (all_doubt_lines call.given secrets) line)
-    ⊎ ((count : ℕ) × (line ≡ too_long_line (most_asked call.given) count))
+    ⊎ (((count : ℕ) × (line ≡ too_long_line (most_asked call.given) count))
+    ⊎ IsRunsLine call.given line)
 
 -- or a file that is not read to its end, or why it ends early
 abbrev pub IsRuledTold : Call → List ℕ → Type 0
@@ -243,11 +245,19 @@ module _ {E : Type 0} (K : SinkGhosts E) where
     pub told : Tells K (IsRuledTold call) errors errors'
     pub partly : result ≡ Ok false → TellsSome K (IsRuledTold call) errors errors'
 
-  -- where all was redacted it is told which patterns of lists are doubtful, and how many lines were too long
+  -- where all was redacted it is told how many lines were too long, and then, where that is asked for, how many runs have each number
+  pub record NumbersOf (call : Call) (load : RuledLoad) (left left' : Option (List ℕ)) (errors errors' : Errors E) : Type 0 where
+    pub meanwhile : Errors E
+    pub long : TellsLong K call.holds (most_asked call.given) (names_asked call.given) left left' errors meanwhile
+    pub runs : List Occurrence
+    pub have : HaveRuns call.holds (ruling_by call.given load).covering (names_asked call.given) runs left left'
+    pub counted : TellsAnyTotals K call.given load.secrets load.rules runs meanwhile errors'
+
+  -- and before that which patterns of lists are doubtful
   pub record NotesOf (call : Call) (load : RuledLoad) (left left' : Option (List ℕ)) (errors errors' : Errors E) : Type 0 where
     pub meanwhile : Errors E
     pub doubted : TellsDoubts K false call.given load.secrets errors meanwhile
-    pub long : TellsLong K call.holds (most_asked call.given) (names_asked call.given) left left' meanwhile errors'
+    pub numbers : NumbersOf call load left left' meanwhile errors'
 
   -- of the patterns and rules that were loaded
   pub record NotesByRules (call : Call) (left left' : Option (List ℕ)) (errors errors' : Errors E) : Type 0 where
@@ -256,11 +266,21 @@ module _ {E : Type 0} (K : SinkGhosts E) where
     pub loaded : AreRuledLoaded (reading_by call) call.given load left between
     pub notes : NotesOf call load between left' errors errors'
 
+  -- at the end it is told how many runs of all files have the number of each of them
+  pub record CountsByRules (call : Call) (left left' : Option (List ℕ)) (errors' : Errors E) : Type 0 where
+    pub load : RuledLoad
+    pub between : Option (List ℕ)
+    pub loaded : AreRuledLoaded (reading_by call) call.given load left between
+    pub runs : List Occurrence
+    pub have : HaveRuns call.holds (ruling_by call.given load).covering (names_asked call.given) runs between left'
+    pub meanwhile : Errors E
+    pub counted : TellsRunTotals K load.secrets load.rules runs meanwhile errors'
+
   -- what comes of a file: its redaction was written, or a beginning of it; and where it was not read to its end that is told
   pub record LinedFile (work : RuledWork) (name : List ℕ) (result : Result Bool LineError) (counts counts' : List ℕ) (left left' held held' : Option (List ℕ)) (errors errors' : Errors E) : Type 0 where
     pub whole : result ≡ Ok true → RedactsRuled work name left left' held held'
     pub begun : WritesRuled work name left left' held held'
-    pub long : result ≡ Ok true → CountsLongNamed work.holds work.ruling.covering name left left' counts counts'
+    pub counted : result ≡ Ok true → CountsFileRuns work.holds work.ruling.covering name left left' counts counts'
     pub partly : result ≡ Ok false → TellsSome K (IsUnreadLine (name ∷ [])) errors errors'
     pub untold : (result ≡ Ok false → ⊥) → errors' ≡ errors
 
@@ -268,7 +288,7 @@ module _ {E : Type 0} (K : SinkGhosts E) where
   pub record LinedFiles (work : RuledWork) (names : List (List ℕ)) (result : Result Bool LineError) (counts counts' : List ℕ) (left left' held held' : Option (List ℕ)) (errors errors' : Errors E) : Type 0 where
     pub whole : result ≡ Ok true → AreRuled work names left left' held held'
     pub begun : AreBegun work names left left' held held'
-    pub long : result ≡ Ok true → CountsLongAll work.holds work.ruling.covering names left left' counts counts'
+    pub counted : result ≡ Ok true → CountsAllRuns work.holds work.ruling.covering names left left' counts counts'
     pub told : Tells K (IsUnreadLine names) errors errors'
     pub partly : result ≡ Ok false → TellsSome K (IsUnreadLine names) errors errors'
     pub quiet : result ≡ Ok true → errors' ≡ errors
@@ -278,7 +298,7 @@ module _ {E : Type 0} (K : SinkGhosts E) where
     pub whole : result ≡ Ok true → AreRuled (ruled_by call load) (names_asked call.given) left left' held held'
     pub begun : AreBegun (ruled_by call load) (names_asked call.given) left left' held held'
     pub tells : TellsRuled call result errors errors'
-    pub notes : result ≡ Ok true → TellsLong K call.holds (most_asked call.given) (names_asked call.given) left left' errors errors'
+    pub notes : result ≡ Ok true → NumbersOf call load left left' errors errors'
 
   -- the same behind what is told of doubtful patterns
   pub record DoubtedRuled (call : Call) (load : RuledLoad) (result : Result Bool RuledFailure) (left left' held held' : Option (List ℕ)) (errors errors' : Errors E) : Type 0 where
@@ -365,6 +385,11 @@ module _ {R : Type 0} {Reads : Readers R} {W E : Type 0} (Writes : Writers W) wh
 -- what a call that asks for this tells: at status 0, and else
 abbrev pub NotesAsked : {R W E F X : Type 0} {Reads : Readers R} → SinkGhosts E → Folders F X → F → List Given → (streams streams' : Streams R W E Reads) → Type 0
 NotesAsked K D folder given streams streams' = NotesByRules K (call_of D folder given) (bytes_left streams.input) (bytes_left streams'.input) streams.errors streams'.errors
+
+-- and where counts are asked for
+abbrev pub RuledCountsAsked : {R W E F X : Type 0} {Reads : Readers R} → SinkGhosts E → Folders F X → F → List Given → (streams streams' : Streams R W E Reads) → Type 0
+RuledCountsAsked K D folder given streams streams' =
+    has Count given ≡ true → CountsByRules K (call_of D folder given) (bytes_left streams.input) (bytes_left streams'.input) streams'.errors
 
 abbrev pub RuledTells : {R W E F X : Type 0} {Reads : Readers R} → SinkGhosts E → Folders F X → F → List Given → (streams streams' : Streams R W E Reads) → Type 0
 RuledTells K D folder given streams streams' = TellsSome K (IsRuledTold (call_of D folder given)) streams.errors streams'.errors

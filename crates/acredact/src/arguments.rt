@@ -117,8 +117,8 @@ pub enum Mixture {
     RulesInPlace,
     /// `--rules` or `--after` with `--pseudonym`.
     RulesPseudonym,
-    /// `--rules` or `--after` with `--count` or `--summary`.
-    RulesCounts,
+    /// `--rules` or `--after` with `--summary`.
+    RulesSummary,
     /// `--rules` or `--after` with `--strict`, which promises nothing of what rules mark.
     RulesStrict,
     /// `--max-line` without rules: no line is kept.
@@ -318,8 +318,8 @@ fn rules_mixture_of(items: &[Item<'_>]) -> Option<Mixture>
     if has(items, Word::Pseudonym) {
         return Some(Mixture::RulesPseudonym);
     }
-    if counts(items) {
-        return Some(Mixture::RulesCounts);
+    if has(items, Word::Summary) {
+        return Some(Mixture::RulesSummary);
     }
     if has(items, Word::Strict) {
         return Some(Mixture::RulesStrict);

@@ -328,9 +328,7 @@ fn mixture_text(mixture: Mixture) -> &'static str
         Mixture::RulesPseudonym => {
             "--pseudonym does not go with --rules and --after: each says what is written"
         }
-        Mixture::RulesCounts => {
-            "--count and --summary do not go with --rules and --after: what rules mark is not counted"
-        }
+        Mixture::RulesSummary => { "--summary does not go with --rules and --after: give --count" }
         Mixture::RulesStrict => {
             "--strict does not go with --rules and --after: it promises nothing of what rules mark"
         }

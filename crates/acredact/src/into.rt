@@ -3,9 +3,10 @@
 ghost use Rattle.std.specs.Prelude.{◌≡◌, IfErr, IfOk, option_map, true};
 ghost use Rattle.programs.specs.Arguments.{texts};
 ghost use Rattle.programs.specs.Streams.{output_bytes};
-ghost use Rattle.acredact.specs.Arguments.{IfAsked, IfNoCheck, NamesOutput};
+ghost use Rattle.acredact.specs.Arguments.{IfAsked, IfNoCheck, IfRuled, NamesOutput};
 ghost use Rattle.acredact.specs.Calls.{IsWrongFailure, RedactsAsked};
-ghost use Rattle.acredact.specs.Into.{CountsAll, IsKept, IsSpared, LeavesNoneAll, TellsNone, TellsUnput, TellsUnread, WarnsAll, WritesAll};
+ghost use Rattle.acredact.specs.Into.{CountsAll, IsKept, IsSpared, LeavesNoneAll, RuledTellsUnput, TellsNone, TellsUnput, TellsUnread, WarnsAll, WritesAll, WritesAllByRules};
+ghost use Rattle.acredact.specs.Ruled.{NotesAsked, RuledAsked};
 
 use crate::arguments::{items, output_of};
 use crate::failure::{Failure, tell_no_output, tell_unread};
@@ -52,10 +53,14 @@ pub fn make_and_run<F: Folder, O: Outputs, I: Read, E: Sink>(
     // A new file was made, all was written to it, and then it took that place. What was told is what `run` tells.
     ensures writes { IfAsked arguments.now (WritesAll O.File.Write E.Sink F.Folder O.Outputs
         folder.now name.now result outputs.old outputs.new streams.old streams.new) }
+    ensures ruled_writes { IfRuled arguments.now (WritesAllByRules O.File.Write E.Sink F.Folder O.Outputs
+        folder.now name.now result outputs.old outputs.new streams.old streams.new) }
     // Or none was made, or it was removed: what has the name is as it was, and it is told why.
     ensures leaves { (result ≡ 0 → ⊥) → IsSpared O.Outputs name.now outputs.old outputs.new }
     ensures tells { IfAsked arguments.now (TellsNone O.File.Write E.Sink F.Folder O.Outputs
         folder.now name.now result outputs.old outputs.new streams.old streams.new) }
+    ensures ruled_tells { IfRuled arguments.now (RuledTellsUnput E.Sink F.Folder
+        folder.now name.now result streams.old streams.new) }
 {
     if is_input(name) {
         tell_no_output(&mut streams.errors, name);
@@ -91,6 +96,11 @@ pub fn run_into<F: Folder, O: Outputs, I: Read, E: Sink>(
     ensures quiet { IfAsked arguments.now (WarnsAll E.Sink F.Folder folder.now result streams.old streams.new) }
     ensures counts { IfAsked arguments.now (CountsAll O.File.Write E.Sink F.Folder
         folder.now result streams.old streams.new) }
+    // So it is where rules are given: it holds each line with what they mark replaced.
+    ensures ruled { IfRuled arguments.now (λ given. result ≡ 0
+        → RuledAsked O.File.Write F.Folder folder.now given streams.old streams.new) }
+    ensures ruled_quiet { IfRuled arguments.now (λ given. result ≡ 0
+        → NotesAsked E.Sink F.Folder folder.now given streams.old streams.new) }
     ensures flushed { IfNoCheck arguments.now (result ≡ 0
         → streams.new.output.device.flushed ≡ true) }
     ensures puts { result ≡ 0 → O.puts outputs.old outputs.new name.now
@@ -98,6 +108,8 @@ pub fn run_into<F: Folder, O: Outputs, I: Read, E: Sink>(
     // At any other it did not, and was removed, and it is told why.
     ensures kept { (result ≡ 0 → ⊥) → IsKept O.Outputs name.now outputs.old outputs.new }
     ensures tells { IfAsked arguments.now (TellsUnput E.Sink F.Folder
+        folder.now name.now result streams.old streams.new) }
+    ensures ruled_tells { IfRuled arguments.now (RuledTellsUnput E.Sink F.Folder
         folder.now name.now result streams.old streams.new) }
 {
     let done = run(alloc, arguments, folder, streams);

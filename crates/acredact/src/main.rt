@@ -43,6 +43,7 @@ mod ruled;
 mod ruled_failure;
 mod ruled_files;
 mod run;
+mod run_counts;
 mod seen;
 mod short;
 mod shown;

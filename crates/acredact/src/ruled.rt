@@ -21,6 +21,7 @@ use crate::patterns::{Rule, patterns_of, replacements_of, split_at};
 use crate::ruled_failure::{RuledFailure, tell_long, tell_ruled};
 use crate::ruled_files::{cover_files, lined_of};
 use crate::run::{FAILED, names, text_of};
+use crate::run_counts::tell_runs;
 use crate::streams::Streams;
 use aho_automaton::automaton::Automaton;
 use aho_corasick::noncontiguous::{Builder, NFA};
@@ -113,7 +114,7 @@ fn redact_doubted<'a, F: Folder, I: Read, W: Write, E: Sink>(
     }
 }
 
-/// Redacts all files, tells how many lines were too long, and answers whether all were read.
+/// Redacts all files, tells how many lines were too long and the counts that are asked for, and answers whether all were read.
 fn redact_ruled<'a, F: Folder, I: Read, W: Write, E: Sink>(
     alloc: Global,
     given: &[Item<'_>],
@@ -146,7 +147,15 @@ fn redact_ruled<'a, F: Folder, I: Read, W: Write, E: Sink>(
         Ok(all) => {
             let count = last_of(tally);
             tell_count(&mut streams.errors, most, count);
-            Ok(all)
+            tell_runs(
+                alloc,
+                all,
+                given,
+                secrets,
+                line_rules,
+                tally,
+                &mut streams.errors,
+            )
         }
         Err(error) => Err(failure_in(alloc, line_rules.as_slice(), error)),
     }

@@ -16,7 +16,7 @@ ghost use Rattle.acredact.specs.Failures.{IsFailureLine};
 ghost use Rattle.acredact.specs.Files.{CanDo, keyed_of};
 ghost use Rattle.acredact.specs.Loading.{key_lent, loaded_as};
 ghost use Rattle.acredact.specs.Pieces.{IfOfAll, TellsUnclean, pieces_by};
-ghost use Rattle.acredact.specs.Ruled.{NotesAsked, RuledAsked, RuledBegins, RuledTells, SaysOfRules};
+ghost use Rattle.acredact.specs.Ruled.{NotesAsked, RuledAsked, RuledBegins, RuledCountsAsked, RuledTells, SaysOfRules};
 ghost use Rattle.acredact.specs.Secrets.{IfOf};
 ghost use Rattle.acredact.specs.Statuses.{IsIdle, SaysOfRedaction};
 ghost use Rattle.acredact.specs.Sums.{sums_of};
@@ -147,12 +147,14 @@ pub fn run<F: Folder, I: Read, W: Write, E: Sink>(
     ensures ruled_begins { IfRuled arguments.now (λ given.
         RuledBegins W.Write F.Folder folder.now given streams.old streams.new) }
 
-    // Lines say why it is 2, and hold nothing of a line. Where it is 0 they tell which patterns of lists may be meant otherwise, and how
-    // many lines were too long.
+    // Lines say why it is 2, and hold nothing of a line. Where it is 0 they tell which patterns of lists may be meant otherwise, how many
+    // lines were too long, and the counts that are asked for: how many runs of all files have the number of each pattern and rule.
     ensures ruled_tells { IfRuled arguments.now (λ given. result ≡ 2
         → RuledTells E.Sink F.Folder folder.now given streams.old streams.new) }
     ensures ruled_quiet { IfRuled arguments.now (λ given. result ≡ 0
         → NotesAsked E.Sink F.Folder folder.now given streams.old streams.new) }
+    ensures ruled_counts { IfRuled arguments.now (λ given. result ≡ 0
+        → RuledCountsAsked E.Sink F.Folder folder.now given streams.old streams.new) }
 
     // All output was flushed where the status tells of no failure. A check has none, and it alone ends with status 1.
     ensures flushed { IfNoCheck arguments.now (result ≡ 0

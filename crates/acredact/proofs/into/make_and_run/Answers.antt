@@ -3,8 +3,8 @@ use Rattle.std.proofs.Common.{rules, ◌≡◌, [], inl, inr, sym, subst, refl, 
 use Rattle.std.specs.Prelude.{IfSome}
 use Rattle.programs.specs.Names.{is_input}
 use Rattle.acredact.specs.Calls.{call_of}
-use Rattle.acredact.specs.Into.{IsOutputLine}
-use Rattle.acredact.proofs.Put.{no_check_of}
+use Rattle.acredact.specs.Into.{IsOutputLine, IsRuledOutputLine}
+use Rattle.acredact.proofs.Put.{no_check_of, ruled_no_check}
 use Rattle.acredact.proofs.Statuses.{tells_one}
 use Rattle.acredact.proofs.into.make_and_run.Goals as goal
 
@@ -17,6 +17,10 @@ returns-then-is_input g c =
       tells = λ given right asks failed.
           let call = call_of g.F.Folder c.args.folder.now given in
           inl (tells_one g.E.Sink (IsOutputLine call ⊥ c.args.name.now) _ _ _ (inr (inr (named, refl))) c.tell_no_output.ensures.told);
+      ruled_writes = λ given right asks (zero : 2 ≡ 0). absurd (omega arith);
+      ruled_tells = λ given right asks failed.
+          let call = call_of g.F.Folder c.args.folder.now given in
+          tells_one g.E.Sink (IsRuledOutputLine call c.args.name.now) _ _ _ (inr (inr (named, refl))) c.tell_no_output.ensures.told;
     }
 
 pub returns-in-Ok : goal.returns-in-Ok
@@ -39,6 +43,18 @@ returns-in-Ok g c =
       };
       leaves = λ failed. inr (inr (record { held = _; meanwhile = c.make.new.self; made = c.in-Ok.ensures.made; kept = c.run_into.ensures.kept failed }));
       tells = λ given right asks failed. inr (c.new.result, c.make.new.self, made, c.run_into.ensures.tells given right asks failed);
+      ruled_writes = λ given right asks zero. record {
+        named = named;
+        file = c.new.result;
+        meanwhile = c.make.new.self;
+        made = made;
+        empty = subst (λ file. IfSome (g.O.File.Write.contents file) (λ held. held ≡ [])) (sym c.new.ensures.writer) c.in-Ok.ensures.empty;
+        redacts = c.run_into.ensures.ruled given right asks zero;
+        notes = c.run_into.ensures.ruled_quiet given right asks zero;
+        flushed = c.run_into.ensures.flushed (ruled_no_check _ given right asks) zero;
+        puts = c.run_into.ensures.puts zero;
+      };
+      ruled_tells = c.run_into.ensures.ruled_tells;
     }
 
 pub returns-in-Err : goal.returns-in-Err
@@ -48,4 +64,8 @@ returns-in-Err g c = record {
   tells = λ given right asks failed.
       let call = call_of g.F.Folder c.args.folder.now given in
       inl (tells_one g.E.Sink (IsOutputLine call ⊥ c.args.name.now) _ _ _ (inr (inl (c.in-Err.reason, refl))) c.tell_unread.ensures.told);
+  ruled_writes = λ given right asks (zero : 2 ≡ 0). absurd (omega arith);
+  ruled_tells = λ given right asks failed.
+      let call = call_of g.F.Folder c.args.folder.now given in
+      tells_one g.E.Sink (IsRuledOutputLine call c.args.name.now) _ _ _ (inr (inl (c.in-Err.reason, refl))) c.tell_unread.ensures.told;
 }

@@ -23,7 +23,7 @@ use Rattle.acredact.specs.declared.failure.Failure.TheVariants.{Other}
 use Rattle.acredact.specs.declared.ruled_failure.RuledFailure.{RuledFailure}
 use Rattle.acredact.specs.declared.ruled_failure.RuledFailure.TheVariants.{LineEnd, Plain}
 use Rattle.acredact.proofs.Ready.{some_shortest}
-use Rattle.acredact.proofs.RuledCalls.{HaveLongTold, files_done, files_failed, long_told_of, ruled_none, texts_many}
+use Rattle.acredact.proofs.RuledCalls.{files_done, files_failed, ruled_none, texts_many}
 use Rattle.acredact.proofs.RuledText.{can_search}
 use Rattle.acredact.proofs.ruled.redact_ruled.Goals as goal
 
@@ -108,10 +108,11 @@ returns-in-Ok-clause-outcome g c =
     let zeros : c.as_mut_slice-tally.result.now ≡ replicate (length c.as_slice-texts.result.now) 0 = c.as_mut_slice-tally.ensures.value ∙ c.in_ok-counts.ensures.zeros in
     let sized = sym (length-map c.as_slice-texts.result.now (λ piece. piece.now)) ∙ ap length written ∙ texts_many given load in
     let count : c.last_of-count.result ≡ last_of c.cover_files-done.new.counts = c.last_of-count.ensures.last in
-    files_done g.E.Sink call load c.in-Ok.all c.as_mut_slice-tally.result.now c.cover_files-done.new.counts c.last_of-count.result _ _ _ _ _ _ _ files
-    (λ all. subst (HaveLongTold call (bytes_left c.args.streams.now.input) (bytes_left c.cover_files-done.new.streams.input)) (sym count)
-    (long_told_of call load c.as_mut_slice-tally.result.now c.cover_files-done.new.counts (length c.as_slice-texts.result.now) _ _ zeros sized all))
-    (subst (λ (m : ℕ). TellsBytes g.E.Sink c.cover_files-done.new.streams.errors c.tell_count.new.errors (long_told m c.last_of-count.result)) c.most_of-most.ensures.most c.tell_count.ensures.told)
+    let long = subst (λ (m : ℕ). TellsBytes g.E.Sink c.cover_files-done.new.streams.errors c.tell_count.new.errors (long_told m c.last_of-count.result)) c.most_of-most.ensures.most c.tell_count.ensures.told in
+    files_done g.E.Sink call load c.in-Ok.all c.tell_runs.result (length c.as_slice-texts.result.now) c.as_mut_slice-tally.result.now c.cover_files-done.new.counts _ _ _ _
+    c.args.streams.now.errors c.cover_files-done.new.streams.errors c.tell_count.new.errors c.tell_runs.new.errors files zeros sized
+    (subst (λ (n : ℕ). TellsBytes g.E.Sink c.cover_files-done.new.streams.errors c.tell_count.new.errors (long_told (most_asked given) n)) count long)
+    c.tell_runs.ensures.all c.tell_runs.ensures.told c.tell_runs.ensures.lines
 
 pub returns-clause-outcome : goal.returns-clause-outcome
 returns-clause-outcome g c =

@@ -14,7 +14,7 @@ use Rattle.acredact.proofs.Checks.{check_refused, status_ended}
 use Rattle.acredact.proofs.Given.{forms_cover, forms_unworded, memory_alone, same_given}
 use Rattle.acredact.proofs.Hiding.{call_hides}
 use Rattle.acredact.proofs.Statuses.{bound_by, flushed_by, one_by, status_failed, tells_one}
-use Rattle.acredact.proofs.RuledCalls.{ruled_refused}
+use Rattle.acredact.proofs.RuledCalls.{counts_by_rules, ruled_refused}
 use Rattle.acredact.proofs.run.run.Goals as goal
 
 pub returns-in-Ok : goal.returns-in-Ok
@@ -59,6 +59,7 @@ returns-in-Ok g c =
       ruled_begins = λ given right asks. (ruled given right asks).begins;
       ruled_tells = λ given right asks. (ruled given right asks).tells;
       ruled_quiet = λ given right asks. (ruled given right asks).notes;
+      ruled_counts = λ given right asks zero counted. counts_by_rules g.E.Sink (call_of g.F.Folder c.args.folder.now given) _ _ _ _ counted ((ruled given right asks).notes zero);
       flushed = λ redacts zero. flushed_by items (λ asks. redacts (items, mine, asks)) (λ none. c.answer.ensures.flushed none zero);
       bound = bound_by items c.answer.result (λ asks. (c.answer.ensures.checked asks).says.bound) c.answer.ensures.bound;
       one = λ is. (items, mine, one_by items c.answer.result c.answer.ensures.bound is);
@@ -106,6 +107,7 @@ returns-in-Err g c =
       ruled_begins = λ given right asks. (ruled given).begins;
       ruled_tells = λ given right asks. (ruled given).tells;
       ruled_quiet = λ given right asks. (ruled given).notes;
+      ruled_counts = λ given right asks zero counted. counts_by_rules g.E.Sink (call_of g.F.Folder c.args.folder.now given) _ _ _ _ counted ((ruled given).notes zero);
       flushed = λ redacts (zero : c.report.result ≡ 0). let clash : 2 ≡ 0 = sym c.report.ensures.failed ∙ zero in absurd (cc);
       bound = omega (arith, c.report.ensures.failed);
       one = λ (is : c.report.result ≡ 1). let clash : 2 ≡ 1 = sym c.report.ensures.failed ∙ is in absurd (cc);

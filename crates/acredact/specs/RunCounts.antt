@@ -1,0 +1,89 @@
+-- How many runs have the number of each pattern and of each rule, file after file, and how that is told.
+use Rattle.std.specs.Prelude.{◌≡◌, ℕ, ◌+◌, MatchBool, true, false, List, [], ◌∷◌, ◌++◌, Option, codes, decimal, drop, length, string_bytes}
+use Rattle.aho_core.specs.Occurrence.{Occurrence}
+use Rattle.aho_cover.specs.Counting.{CountsThese}
+use Rattle.aho_devices.specs.declared.device.Sink.{Ghosts as SinkGhosts}
+use Rattle.programs.specs.Telling.{TellsBytes}
+use Rattle.programs.specs.declared.errors.Errors.{Errors}
+use Rattle.secret_rules.specs.Covering.{AreLineRuns, Covering}
+use Rattle.secret_rules.specs.LineCovers.{all_of}
+use Rattle.secret_rules.specs.Lines.{stream_lines}
+use Rattle.secret_rules.specs.declared.rule.Rule.{Rule}
+use Rattle.acredact.specs.Arguments.{Given, all_given, has}
+use Rattle.acredact.specs.Counts.{counts_text, secret_lines}
+use Rattle.acredact.specs.Messages.{shown}
+use Rattle.acredact.specs.Reads.{OfName, ReadsText}
+use Rattle.acredact.specs.Sums.{sums_of}
+use Rattle.acredact.specs.Tables.{Secret, secrets_of}
+use Rattle.acredact.specs.Totals.{AreTotals}
+use Rattle.acredact.specs.declared.arguments.Item.{Item}
+use Rattle.acredact.specs.declared.arguments.Word.TheVariants.{Count}
+use Rattle.acredact.specs.declared.patterns.Rule.{Rule as PatternRule}
+
+-- a text was read to its end, and these are the runs of all its lines
+pub record HasRuns (covering : Covering) (runs : List Occurrence) (left left' : Option (List ℕ)) : Type 0 where
+  pub text : List ℕ
+  pub reads : ReadsText text left left'
+  pub by_line : List (List Occurrence)
+  pub found : AreLineRuns covering [] (stream_lines text) by_line
+  pub are : runs ≡ all_of by_line
+
+-- and these are those of all files, one after another
+abbrev pub HaveRuns : (holds : List ℕ → Option (List ℕ)) → Covering → List (List ℕ) → List Occurrence → (left left' : Option (List ℕ)) → Type 0
+HaveRuns holds covering [] runs left left' = (runs ≡ []) × (left' ≡ left)
+HaveRuns holds covering (name ∷ names) runs left left' = (first : List Occurrence) × (rest : List Occurrence) × (runs ≡ first ++ rest)
+    × (between : Option (List ℕ)) × OfName holds name (HasRuns covering first) left between × HaveRuns holds covering names rest between left'
+
+-- counts have grown by those of a text, of the file of a name, and of all files
+abbrev pub CountsTextRuns : Covering → (left left' : Option (List ℕ)) → (counts counts' : List ℕ) → Type 0
+CountsTextRuns covering left left' counts counts' = (runs : List Occurrence) × HasRuns covering runs left left' × CountsThese runs counts counts'
+
+abbrev pub CountsFileRuns : (holds : List ℕ → Option (List ℕ)) → Covering → List ℕ → (left left' : Option (List ℕ)) → (counts counts' : List ℕ) → Type 0
+CountsFileRuns holds covering name left left' counts counts' =
+    (runs : List Occurrence) × OfName holds name (HasRuns covering runs) left left' × CountsThese runs counts counts'
+
+abbrev pub CountsAllRuns : (holds : List ℕ → Option (List ℕ)) → Covering → List (List ℕ) → (left left' : Option (List ℕ)) → (counts counts' : List ℕ) → Type 0
+CountsAllRuns holds covering names left left' counts counts' =
+    (runs : List Occurrence) × HaveRuns holds covering names runs left left' × CountsThese runs counts counts'
+
+-- the line that tells of a rule: a number and its name, and nothing of what it marks
+abbrev pub rule_count_line : ℕ → Rule → List ℕ
+rule_count_line count rule = decimal count ++ (codes "\t" ++ (shown (string_bytes rule.id) ++ codes "\n"))
+
+abbrev pub rule_counts_text : List Rule → (counts : List ℕ) → List ℕ
+rule_counts_text [] counts = []
+rule_counts_text (rule ∷ rules) [] = []
+rule_counts_text (rule ∷ rules) (count ∷ counts) = rule_count_line count rule ++ rule_counts_text rules counts
+
+-- what is told of patterns and of rules, whose counts stand behind those of patterns. A form counts for its pattern
+abbrev pub run_counts_text : List Secret → List Rule → (counts : List ℕ) → List ℕ
+run_counts_text secrets rules counts = counts_text 1 (secret_lines secrets) (sums_of secrets counts) ++ rule_counts_text rules (drop (length secrets) counts)
+
+abbrev pub runs_text : List PatternRule → List Rule → (counts : List ℕ) → List ℕ
+runs_text secrets rules counts = run_counts_text (secrets_of secrets) rules counts
+
+-- this may be told where counts are asked for
+abbrev pub IsRunsLine : List Given → List ℕ → Type 0
+IsRunsLine given line =
+    (has Count given ≡ true) × (secrets : List Secret) × (rules : List Rule) × (counts : List ℕ) × (line ≡ run_counts_text secrets rules counts)
+
+module _ {E : Type 0} (K : SinkGhosts E) (secrets : List Secret) (rules : List Rule) where
+  -- these counts are told whole
+  pub record TellsRunCounts (counts : List ℕ) (errors errors' : Errors E) : Type 0 where
+    pub told : TellsBytes K errors errors' (run_counts_text secrets rules counts)
+    pub whole : errors'.failed ≡ false
+
+  -- they are those of all runs: one for each pattern and for each rule, and one for lines that are too long
+  pub record TellsRunTotals (runs : List Occurrence) (errors errors' : Errors E) : Type 0 where
+    pub counts : List ℕ
+    pub totals : AreTotals (length secrets + length rules + 1) runs counts
+    pub told : TellsRunCounts counts errors errors'
+
+-- where they are asked for, and else nothing is
+abbrev pub TellsAnyRuns : {E : Type 0} → SinkGhosts E → List Item → List PatternRule → List Rule → (counts : List ℕ) → (errors errors' : Errors E) → Type 0
+TellsAnyRuns K items secrets rules counts errors errors' =
+    MatchBool (has Count (all_given items)) (TellsRunCounts K (secrets_of secrets) rules counts errors errors') (errors' ≡ errors)
+
+-- the same of all runs
+abbrev pub TellsAnyTotals : {E : Type 0} → SinkGhosts E → List Given → List Secret → List Rule → List Occurrence → (errors errors' : Errors E) → Type 0
+TellsAnyTotals K given secrets rules runs errors errors' = MatchBool (has Count given) (TellsRunTotals K secrets rules runs errors errors') (errors' ≡ errors)
