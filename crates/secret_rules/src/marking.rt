@@ -4,7 +4,7 @@ ghost use Rattle.std.specs.Prelude.{◌≡◌, ◌≢◌, ◌↔◌, ◌⊎◌, 
 ghost use Rattle.std.specs.List.Sorted.{IsNonDecreasingBy};
 ghost use Rattle.secret_rules.specs.Faults.{IsMarkFailure};
 ghost use Rattle.secret_rules.specs.MarkLists.{LeavesOpen};
-ghost use Rattle.secret_rules.specs.Markers.{AddsMarks, AreFlagsBehind, AreFlagsFor, AreMarksWith, applied_marks, flag_at, whole_mark};
+ghost use Rattle.secret_rules.specs.Markers.{AddsMarks, AreFlagsBehind, AreFlagsFor, AreMarksWith, NoneApplies, NoneIsSet, applied_marks, flag_at, whole_mark};
 ghost use Rattle.secret_rules.specs.Marks.{AreAllMarks, ForRuleAt, IsRuleAt, MarksRange, StaysOpen};
 ghost use Rattle.secret_rules.specs.Rules.{AppliesTo, until_of};
 ghost use Rattle.secret_rules.specs.Standing.{StandsInLine};
@@ -122,6 +122,17 @@ fn mark_secrets(
     Ok(())
 }
 
+/// Whether one of some flags is set.
+fn any_set(flags: &[bool]) -> bool
+    ensures { result ≡ false → NoneIsSet flags.now }
+{
+    let mut set = false;
+    for flag in flags {
+        set = either(set, *flag);
+    }
+    set
+}
+
 /// Sets all flags to false.
 fn clear(flags: &mut [bool])
     ensures { flags.new ≡ replicate (length flags.old) false }
@@ -147,6 +158,7 @@ impl<'r> Marker<'r> {
             alloc,
             readers,
             goes_on,
+            some_goes_on: false,
         })
     }
 
@@ -156,6 +168,7 @@ impl<'r> Marker<'r> {
         ensures fresh { HasMarked self.new [] }
     {
         clear(self.goes_on.as_mut_slice());
+        self.some_goes_on = false;
     }
 
     /// Gives the marks of the next line, its bytes without its end, in the order in which they start. What `marks` held is lost.
@@ -173,10 +186,24 @@ impl<'r> Marker<'r> {
         ensures rules { marker_rules self.new ≡ marker_rules self.old }
     {
         marks.clear();
+        if self.passes_over(line) {
+            return Ok(());
+        }
         let applying = self.readers.rules().applying(self.alloc, line)?;
         self.mark_all(applying.as_slice(), line, marks)?;
         put_in_order(marks);
         Ok(())
+    }
+
+    /// Whether nothing is to be done at a line: no match of an earlier line goes on, and no rule applies to it.
+    fn passes_over(&self, line: &[u8]) -> bool
+        ensures shut { IsTrue result → NoneIsSet self.now.goes_on.items }
+        ensures none { IsTrue result → NoneApplies (marker_rules self.now) line.now }
+    {
+        if self.some_goes_on {
+            return false;
+        }
+        !self.readers.rules().may_apply(line)
     }
 
     /// Adds the marks of all rules, of which these apply.
@@ -194,9 +221,11 @@ impl<'r> Marker<'r> {
         ensures refused { IfErr result (IsLineFailure (marker_rules self.old)) }
         ensures rules { marker_rules self.new ≡ marker_rules self.old }
     {
+        self.some_goes_on = true;
         for number in 0..self.goes_on.len() {
             self.mark_by(number, applying[number], line, marks)?;
         }
+        self.some_goes_on = any_set(self.goes_on.as_slice());
         Ok(())
     }
 
@@ -211,6 +240,7 @@ impl<'r> Marker<'r> {
         requires within { number < length self.old.goes_on.items }
         requires applies { (rule : Rule) → IsRuleAt (marker_rules self.old) number rule
             → IsTrue applies ↔ AppliesTo rule line.now }
+        requires some { IsTrue self.old.some_goes_on }
         ensures marks { (rule : Rule) → IsRuleAt (marker_rules self.old) number rule → OnOk result
             (AddsMarks marks.old.items marks.new.items number
             (MarksRange rule (IsTrue (flag_at self.old.goes_on.items number)) line.now)) }
@@ -222,6 +252,7 @@ impl<'r> Marker<'r> {
         ensures refused { IfErr result (IsMarkFailure number) }
         ensures rules { marker_rules self.new ≡ marker_rules self.old }
         ensures count { length self.new.goes_on.items ≡ length self.old.goes_on.items }
+        ensures some { IsTrue self.new.some_goes_on }
     {
         let goes_on = self.goes_on[number];
         let turn = Turn {

@@ -1,13 +1,14 @@
 //! Some rules, with the searcher of all their keywords.
 
-ghost use Rattle.std.specs.Prelude.{◌≡◌, ◌↔◌, ◌⊎◌, ◌<◌, All, IfErr, IfOk, IsTrue, MatchOption, OnOk, length, map};
+ghost use Rattle.std.specs.Prelude.{◌≡◌, ◌↔◌, ◌⊎◌, ◌<◌, All, IfErr, IfOk, IsTrue, MatchOption, OnOk, false, length, map, true};
+ghost use Rattle.aho_core.specs.Listing.{IsMember};
 ghost use Rattle.aho_core.specs.Overlapping.{all_occurrences};
 ghost use Rattle.aho_core.specs.declared.search.Anchored.TheVariants.{No};
 ghost use Rattle.aho_core.specs.declared.search.MatchKind.TheVariants.{Standard};
 ghost use Rattle.chromesquid.specs.Searcher.{Answers, ForItsPatterns, IsBuiltFrom, match_kind_of};
 ghost use Rattle.secret_rules.specs.Faults.{IsFirstFault, IsKeywordFailure, IsMarkFailure, IsRulesFailure};
 ghost use Rattle.secret_rules.specs.Keywords.{HasOwner, is_always};
-ghost use Rattle.secret_rules.specs.Markers.{AreFlagsFor, flag_at};
+ghost use Rattle.secret_rules.specs.Markers.{AreFlagsFor, NoneApplies, flag_at};
 ghost use Rattle.secret_rules.specs.Marks.{ForRuleAt};
 ghost use Rattle.secret_rules.specs.Rules.{AreSound, keyword_patterns, regex_of};
 
@@ -29,6 +30,8 @@ pub struct Rules {
     searcher: AhoCorasick,
     /// Of each keyword the number of its rule.
     owners: Vec<usize>,
+    /// Whether one of the rules has no keywords.
+    always: bool,
     /// The expression of each rule, once it was compiled.
     expressions: Vec<OnceCell<Expression>>,
 }
@@ -42,7 +45,7 @@ impl Model for Rules {
 
     ghost view = { λ r. r.rules.items };
 
-    ghost invariant = { λ r. IsSearchedBy r.rules.items r.searcher r.owners.items (length r.expressions.items) };
+    ghost invariant = { λ r. IsSearchedBy r.rules.items r.searcher r.owners.items (length r.expressions.items) r.always };
 }
 
 /// The first rule with which something is wrong, and what.
@@ -107,6 +110,18 @@ fn always_of(alloc: Global, rules: &[Rule]) -> Result<Vec<bool>, AllocError>
     Ok(flags)
 }
 
+/// Whether one of some rules has no keywords.
+fn any_always(rules: &[Rule]) -> bool
+    ensures { IsTrue result ↔ IsMember (map is_always rules.now) true }
+{
+    for rule in rules {
+        if rule.keywords.is_empty() {
+            return true;
+        }
+    }
+    false
+}
+
 /// The flags with that of each rule set of which a keyword was found.
 fn set_owners(found: &[Match], owners: &[usize], flags: &mut [bool])
     requires found { All (λ m. m.pattern < length owners.now) found.now }
@@ -137,10 +152,12 @@ impl Rules {
         let searcher = searcher_of(alloc, &words_of(alloc, &rules)?)?;
         let owners = owners_of(alloc, &rules)?;
         let expressions = room_for(alloc, rules.len())?;
+        let always = any_always(&rules);
         Ok(Rules {
             rules,
             searcher,
             owners,
+            always,
             expressions,
         })
     }
@@ -151,6 +168,16 @@ impl Rules {
         ensures sound { AreSound self.now }
     {
         &self.rules
+    }
+
+    /// Whether a rule may apply to a line: none does where no keyword occurs in it and each rule has some.
+    pub(crate) fn may_apply(&self, line: &[u8]) -> bool
+        ensures none { result ≡ false → NoneApplies self.now line.now }
+    {
+        if self.always {
+            return true;
+        }
+        self.searcher.is_match(line)
     }
 
     /// Of each rule whether it applies to a line.
