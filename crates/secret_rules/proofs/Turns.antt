@@ -98,6 +98,15 @@ module _ (rule : Rule) (line : List ℕ) (goes_on : Bool) (shut : goes_on ≡ fa
             | inr begun ↦ none begun.0
           ]
 
+  pub adds-nothing : (marks : List Mark) (number : ℕ) → AddsMarks marks marks number (MarksRange rule (IsTrue goes_on) line)
+  adds-nothing marks number = λ mark. (
+    (λ is. inl is),
+    (λ has. elim has [
+      | inl is ↦ is
+      | inr new ↦ absurd (marks-nothing (mark.start, mark.end) new.1)
+    ]),
+  )
+
   pub stays-shut : IsTrue goes_on ↔ StaysOpen rule (IsTrue goes_on) line
   stays-shut = (
     (λ goes. absurd (false≢true (sym shut ∙ goes))),

@@ -15,6 +15,9 @@ pub struct Marker<'r> {
     pub(crate) goes_on: Vec<bool>,
     /// Where this is not so, no match goes on.
     pub(crate) some_goes_on: bool,
+    /// Of each rule whether it applies to the line that is marked.
+    pub(crate) applying: Vec<bool>,
     ghost counted: { length goes_on.items ≡ length readers },
+    ghost sized: { length applying.items ≡ length readers },
     ghost shut: { some_goes_on ≡ false → NoneIsSet goes_on.items },
 }

@@ -72,6 +72,7 @@ fn mark_begun(
 }
 
 /// Whether one of two things is so.
+#[inline(always)]
 fn either(one: bool, other: bool) -> bool
     ensures { IsTrue result ↔ (IsTrue one ⊎ IsTrue other) }
 {
@@ -154,11 +155,13 @@ impl<'r> Marker<'r> {
     {
         let readers = Readers::new(alloc, rules)?;
         let goes_on = vec![in alloc; false; rules.as_slice().len()]?;
+        let applying = vec![in alloc; false; rules.as_slice().len()]?;
         Ok(Marker {
             alloc,
             readers,
             goes_on,
             some_goes_on: false,
+            applying,
         })
     }
 
@@ -189,8 +192,10 @@ impl<'r> Marker<'r> {
         if self.passes_over(line) {
             return Ok(());
         }
-        let applying = self.readers.rules().applying(self.alloc, line)?;
-        self.mark_all(applying.as_slice(), line, marks)?;
+        self.readers
+            .rules()
+            .tell_applying(self.alloc, line, self.applying.as_mut_slice())?;
+        self.mark_all(line, marks)?;
         put_in_order(marks);
         Ok(())
     }
@@ -206,14 +211,9 @@ impl<'r> Marker<'r> {
         !self.readers.rules().may_apply(line)
     }
 
-    /// Adds the marks of all rules, of which these apply.
-    fn mark_all(
-        &mut self,
-        applying: &[bool],
-        line: &[u8],
-        marks: &mut Vec<Mark>,
-    ) -> Result<(), MarkError>
-        requires applying { AreFlagsFor (marker_rules self.old) line.now applying.now }
+    /// Adds the marks of all rules.
+    fn mark_all(&mut self, line: &[u8], marks: &mut Vec<Mark>) -> Result<(), MarkError>
+        requires applying { AreFlagsFor (marker_rules self.old) line.now self.old.applying.items }
         requires none { marks.old.items ≡ [] }
         ensures marks { OnOk result (AreMarksWith (marker_rules self.old) self.old.goes_on.items line.now marks.new.items) }
         ensures goes_on { OnOk result
@@ -223,23 +223,23 @@ impl<'r> Marker<'r> {
     {
         self.some_goes_on = true;
         for number in 0..self.goes_on.len() {
-            self.mark_by(number, applying[number], line, marks)?;
+            self.mark_by(number, line, marks)?;
         }
         self.some_goes_on = any_set(self.goes_on.as_slice());
         Ok(())
     }
 
-    /// Adds the marks of a rule.
+    /// Adds the marks of a rule. Nothing is done where it does not apply and no match goes on.
+    #[inline(always)]
     fn mark_by(
         &mut self,
         number: usize,
-        applies: bool,
         line: &[u8],
         marks: &mut Vec<Mark>,
     ) -> Result<(), MarkError>
         requires within { number < length self.old.goes_on.items }
         requires applies { (rule : Rule) → IsRuleAt (marker_rules self.old) number rule
-            → IsTrue applies ↔ AppliesTo rule line.now }
+            → IsTrue (flag_at self.old.applying.items number) ↔ AppliesTo rule line.now }
         requires some { IsTrue self.old.some_goes_on }
         ensures marks { (rule : Rule) → IsRuleAt (marker_rules self.old) number rule → OnOk result
             (AddsMarks marks.old.items marks.new.items number
@@ -253,8 +253,13 @@ impl<'r> Marker<'r> {
         ensures rules { marker_rules self.new ≡ marker_rules self.old }
         ensures count { length self.new.goes_on.items ≡ length self.old.goes_on.items }
         ensures some { IsTrue self.new.some_goes_on }
+        ensures applying { self.new.applying ≡ self.old.applying }
     {
+        let applies = self.applying[number];
         let goes_on = self.goes_on[number];
+        if !either(applies, goes_on) {
+            return Ok(());
+        }
         let turn = Turn {
             number,
             applies,

@@ -30,7 +30,9 @@ pub struct Rules {
     searcher: AhoCorasick,
     /// Of each keyword the number of its rule.
     owners: Vec<usize>,
-    /// Whether one of the rules has no keywords.
+    /// Of each rule whether it has no keywords.
+    flags: Vec<bool>,
+    /// Whether one of them has none.
     always: bool,
     /// The expression of each rule, once it was compiled.
     expressions: Vec<OnceCell<Expression>>,
@@ -45,7 +47,7 @@ impl Model for Rules {
 
     ghost view = { λ r. r.rules.items };
 
-    ghost invariant = { λ r. IsSearchedBy r.rules.items r.searcher r.owners.items (length r.expressions.items) r.always };
+    ghost invariant = { λ r. IsSearchedBy r.rules.items r.searcher r.owners.items r.flags.items r.always (length r.expressions.items) };
 }
 
 /// The first rule with which something is wrong, and what.
@@ -152,11 +154,13 @@ impl Rules {
         let searcher = searcher_of(alloc, &words_of(alloc, &rules)?)?;
         let owners = owners_of(alloc, &rules)?;
         let expressions = room_for(alloc, rules.len())?;
+        let flags = always_of(alloc, &rules)?;
         let always = any_always(&rules);
         Ok(Rules {
             rules,
             searcher,
             owners,
+            flags,
             always,
             expressions,
         })
@@ -180,14 +184,20 @@ impl Rules {
         self.searcher.is_match(line)
     }
 
-    /// Of each rule whether it applies to a line.
-    pub(crate) fn applying(&self, alloc: Global, line: &[u8]) -> Result<Vec<bool>, AllocError>
-        ensures flags { IfOk result (λ flags. AreFlagsFor self.now line.now flags.items) }
+    /// Tells of each rule whether it applies to a line.
+    pub(crate) fn tell_applying(
+        &self,
+        alloc: Global,
+        line: &[u8],
+        flags: &mut [bool],
+    ) -> Result<(), AllocError>
+        requires count { length flags.old ≡ length self.now }
+        ensures flags { OnOk result (AreFlagsFor self.now line.now flags.new) }
     {
         let found = occurrences(&self.searcher, alloc, line)?;
-        let mut flags = always_of(alloc, &self.rules)?;
-        set_owners(&found, &self.owners, flags.as_mut_slice());
-        Ok(flags)
+        flags.copy_from_slice(&self.flags);
+        set_owners(&found, &self.owners, flags);
+        Ok(())
     }
 
     /// The expression of a rule. It is compiled if it was not yet.
