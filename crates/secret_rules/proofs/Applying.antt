@@ -1,5 +1,5 @@
 -- A rule applies where an occurrence of one of its keywords was found, by the numbers of the rules of all keywords.
-use Rattle.std.proofs.Common.{◌≡◌, ◌∙◌, ◌⊎◌, ◌↔◌, ℕ, ◌+◌, ◌<◌, ◌≤◌, List, [], ◌∷◌, Some, length, flat_map, get_or, ap, sym, refl, is_some, None, Option, false, subst, arith, inl, inr, slice_index, zero-add, All, Bool, true, IsTrue, map, string_bytes, vec_len, option_map}
+use Rattle.std.proofs.Common.{◌≡◌, ◌∙◌, ◌⊎◌, ◌↔◌, ℕ, ◌+◌, ◌<◌, List, [], ◌∷◌, Some, length, flat_map, get_or, ap, sym, refl, is_some, None, Option, false, subst, arith, inl, inr, slice_index, zero-add, All, Bool, true, IsTrue, map, string_bytes, vec_len, option_map}
 use Rattle.std.proofs.lemmas.Bool.{eqb-true, eq-eqb, false≢true}
 use Rattle.std.proofs.lemmas.List.{get_or_default, length-map, nil_from_length}
 use Rattle.std.proofs.lemmas.Option.{get_or_from_slice_get, slice_get-map, slice_get_within}

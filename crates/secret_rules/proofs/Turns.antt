@@ -1,5 +1,5 @@
 -- The turns of rules at a line, one after another.
-use Rattle.std.proofs.Common.{◌≡◌, ◌≢◌, ◌∙◌, ◌⊎◌, ◌↔◌, ℕ, zero, suc, ◌+◌, ◌<◌, ◌≤◌, Bool, false, true, List, [], ◌∷◌, ◌++◌, None, Option, Some, IfOk, IsSome, IsTrue, Result, Ok, Err, String, Global, get_or, length, refl, replicate, slice_set, subst, sym, inl, inr, arith}
+use Rattle.std.proofs.Common.{◌≡◌, ◌≢◌, ◌∙◌, ◌⊎◌, ◌↔◌, ℕ, zero, suc, ◌+◌, ◌<◌, ◌≤◌, Bool, false, true, List, [], ◌∷◌, ◌++◌, None, Option, Some, IfOk, IsSome, IsTrue, Result, Ok, Err, String, Global, get_or, length, refl, slice_set, subst, sym, inl, inr, arith}
 use Rattle.std.proofs.lemmas.Bool.{cases_eq, false≢true}
 use Rattle.std.proofs.lemmas.Option.{same_Some, slice_get-get_or, slice_get_within}
 use Rattle.aho_core.specs.Listing.{IsMember}
@@ -27,12 +27,6 @@ pub flag-set : (flags : List Bool) (number : ℕ) (flag : Bool) → number < len
 flag-set [] number flag within = absurd (omega (arith, within))
 flag-set (first ∷ flags) zero flag within = refl
 flag-set (first ∷ flags) (suc number) flag within = flag-set flags number flag (omega (arith, within))
-
--- in a list of flags of which none is set
-pub none-set : (n : ℕ) → NoneIsSet (replicate n false)
-none-set zero number = refl
-none-set (suc n) zero = refl
-none-set (suc n) (suc number) = none-set n number
 
 -- where one of two things is not so, neither is
 pub neither-set : (one other told : Bool) → IsTrue told ↔ (IsTrue one ⊎ IsTrue other) → told ≡ false → (one ≡ false) × (other ≡ false)
@@ -97,15 +91,6 @@ module _ (rule : Rule) (line : List ℕ) (goes_on : Bool) (shut : goes_on ≡ fa
             | inl all ↦ false≢true (sym shut ∙ all.1)
             | inr begun ↦ none begun.0
           ]
-
-  pub adds-nothing : (marks : List Mark) (number : ℕ) → AddsMarks marks marks number (MarksRange rule (IsTrue goes_on) line)
-  adds-nothing marks number = λ mark. (
-    (λ is. inl is),
-    (λ has. elim has [
-      | inl is ↦ is
-      | inr new ↦ absurd (marks-nothing (mark.start, mark.end) new.1)
-    ]),
-  )
 
   pub stays-shut : IsTrue goes_on ↔ StaysOpen rule (IsTrue goes_on) line
   stays-shut = (

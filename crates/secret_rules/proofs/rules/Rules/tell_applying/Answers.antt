@@ -1,4 +1,4 @@
-use Rattle.std.proofs.Common.{◌≡◌, ◌∙◌, ◌<◌, List, ap, arith, length, map, subst}
+use Rattle.std.proofs.Common.{◌≡◌, ◌∙◌, List, ap, arith, length, map, subst}
 use Rattle.std.proofs.lemmas.List.{length-map}
 use Rattle.secret_rules.specs.Keywords.{all_keywords, is_always}
 use Rattle.secret_rules.specs.Markers.{AreFlagsFor}
