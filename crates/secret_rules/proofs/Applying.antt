@@ -1,23 +1,28 @@
 -- A rule applies where an occurrence of one of its keywords was found, by the numbers of the rules of all keywords.
-use Rattle.std.proofs.Common.{◌≡◌, ◌∙◌, ◌⊎◌, ◌↔◌, ℕ, ◌+◌, ◌<◌, ◌≤◌, List, [], ◌∷◌, Some, length, flat_map, get_or, ap, sym, refl, subst, arith, inl, inr, slice_index, zero-add, All, Bool, true, false, IsTrue, map, string_bytes, vec_len, option_map}
-use Rattle.std.proofs.lemmas.Bool.{eqb-true, eq-eqb}
+use Rattle.std.proofs.Common.{◌≡◌, ◌∙◌, ◌⊎◌, ◌↔◌, ℕ, ◌+◌, ◌<◌, List, [], ◌∷◌, Some, length, flat_map, get_or, ap, sym, refl, is_some, None, Option, false, subst, arith, inl, inr, slice_index, zero-add, All, Bool, true, IsTrue, map, string_bytes, vec_len, option_map}
+use Rattle.std.proofs.lemmas.Bool.{eqb-true, eq-eqb, false≢true}
 use Rattle.std.proofs.lemmas.List.{get_or_default, length-map, nil_from_length}
 use Rattle.std.proofs.lemmas.Option.{get_or_from_slice_get, slice_get-map, slice_get_within}
 use Rattle.std.proofs.lemmas.Option.{same_Some}
 use Rattle.std.specs.List.{slice_get}
+use Rattle.aho_core.specs.Answer.{IsAnswer}
 use Rattle.aho_core.specs.Listing.{IsMember}
 use Rattle.aho_core.specs.Occurrence.{Occurrence}
-use Rattle.aho_core.specs.Occurs.{Occurs}
+use Rattle.aho_core.specs.Occurs.{Occurs, OccursIn}
 use Rattle.aho_core.specs.Overlapping.{all_occurrences}
+use Rattle.aho_core.specs.Patterns.{Patterns}
+use Rattle.aho_core.specs.Search.{plain_search}
 use Rattle.aho_core.specs.Bytes.{IsSameWord}
 use Rattle.std.specs.List.{slice_range}
 use Rattle.aho_core.specs.declared.search.Anchored.TheVariants.{No}
 use Rattle.aho_laws.proofs.Listings.{all_occurrences-has, all_occurrences-only}
+use Rattle.chromesquid.specs.Searcher.{TellsIfFound}
 use Rattle.secret_rules.specs.Keywords.{HasOwner, all_keywords, owners_from}
-use Rattle.secret_rules.specs.Rules.{KeywordOccurs, keyword_patterns, keywords_of}
+use Rattle.secret_rules.specs.Rules.{AppliesTo, KeywordOccurs, keyword_patterns, keywords_of}
 use Rattle.secret_rules.specs.declared.rule.Rule.{Rule}
 use Rattle.secret_rules.specs.Keywords.{is_always}
 use Rattle.secret_rules.specs.Markers.{AreFlagsFor, flag_at}
+use Rattle.secret_rules.proofs.Membership.{member-at}
 use Rattle.secret_rules.proofs.Owners.{length-owners, member-get_or, word-owned, word-placed}
 
 HasOwner-some : (owners : List ℕ) (ms : List Occurrence) (number : ℕ) → HasOwner owners ms number → (m : Occurrence) × IsMember ms m × (slice_index owners m.pattern ≡ number)
@@ -43,6 +48,26 @@ moved_to words others line m to within same h = record {
   admitted = λ e. h.admitted e;
 }
 
+-- where a search is told to find nothing, nothing occurs
+pub nothing-occurs : (p : Patterns) (line : List ℕ) (told : Bool) → TellsIfFound p (record (plain_search line) { earliest = true }) told → told ≡ false
+    → (m : Occurrence) → OccursIn p (plain_search line) m → ⊥
+nothing-occurs p line told tells not = by tells.answer tells.answers (sym tells.is ∙ not)
+  where
+    by : (answer : Option Occurrence) → IsAnswer p (record (plain_search line) { earliest = true }) answer → is_some answer ≡ false
+        → (m : Occurrence) → OccursIn p (plain_search line) m → ⊥
+    by None answers is = answers
+    by (Some found) answers is = absurd (false≢true (sym is))
+
+always-keywords : (rule : Rule) → is_always rule ≡ true → keywords_of rule ≡ []
+always-keywords rule is =
+    let none : vec_len rule.keywords ≡ 0 = eqb-true _ _ is in
+    ap (map string_bytes) (nil_from_length rule.keywords.items (omega (arith, rule.keywords.ok)))
+
+keywords-always : (rule : Rule) → keywords_of rule ≡ [] → is_always rule ≡ true
+keywords-always rule none =
+    let count : length rule.keywords.items ≡ 0 = sym (length-map rule.keywords.items string_bytes) ∙ ap length none in
+    eq-eqb _ _ (omega (arith, rule.keywords.ok))
+
 module _ (rules : List Rule) (line : List ℕ) (number : ℕ) (rule : Rule) (held : slice_get rules number ≡ Some rule) where
   pub found-occurs : HasOwner (owners_from 0 rules) (all_occurrences (all_keywords rules) line 0 (length line)) number
       → (keyword : List ℕ) × IsMember (keywords_of rule) keyword × KeywordOccurs line keyword
@@ -59,17 +84,32 @@ module _ (rules : List Rule) (line : List ℕ) (number : ℕ) (rule : Rule) (hel
         (record { pattern = 0; start = m.start; end = m.end }, moved_to (flat_map keywords_of rules) (word ∷ []) line m 0 (omega arith) refl occurs),
       )
 
-  pub occurs-found : (keyword : List ℕ) → IsMember (keywords_of rule) keyword → KeywordOccurs line keyword
-      → HasOwner (owners_from 0 rules) (all_occurrences (all_keywords rules) line 0 (length line)) number
-  occurs-found keyword is occurs =
+  -- an occurrence of a keyword of the rule is one among those of all keywords
+  occurs-among : (keyword : List ℕ) → IsMember (keywords_of rule) keyword → KeywordOccurs line keyword
+      → (m : Occurrence) × Occurs (all_keywords rules) No line 0 (length line) m × (slice_index (owners_from 0 rules) m.pattern ≡ number)
+  occurs-among keyword is occurs =
       let m = occurs.0 in
       let placed = word-placed 0 rules number rule keyword held is in
       let only : m.pattern ≡ 0 = omega (arith, occurs.1.numbered) in
       let same : get_or (flat_map keywords_of rules) placed.place [] ≡ get_or (keyword ∷ []) m.pattern [] = placed.is ∙ sym (ap (λ n. get_or (keyword ∷ []) n []) only) in
       let here = moved_to (keyword ∷ []) (flat_map keywords_of rules) line m placed.place placed.within same occurs.1 in
-      HasOwner-of (owners_from 0 rules) _ number (record { pattern = placed.place; start = m.start; end = m.end })
-      (all_occurrences-has (all_keywords rules) line 0 (length line) (record { pattern = placed.place; start = m.start; end = m.end }) here)
-      (placed.owner ∙ zero-add number)
+      (record { pattern = placed.place; start = m.start; end = m.end }, here, placed.owner ∙ zero-add number)
+
+  pub occurs-found : (keyword : List ℕ) → IsMember (keywords_of rule) keyword → KeywordOccurs line keyword
+      → HasOwner (owners_from 0 rules) (all_occurrences (all_keywords rules) line 0 (length line)) number
+  occurs-found keyword is occurs =
+      let among = occurs-among keyword is occurs in
+      HasOwner-of (owners_from 0 rules) _ number among.0 (all_occurrences-has (all_keywords rules) line 0 (length line) among.0 among.1) among.2
+
+  -- where each rule has keywords, and none of them occurs in the line, the rule does not apply to it
+  pub does_not_apply : (IsMember (map is_always rules) true → ⊥) → ((m : Occurrence) → OccursIn (all_keywords rules) (plain_search line) m → ⊥)
+      → AppliesTo rule line → ⊥
+  does_not_apply some none applies =
+      elim applies [
+        | inl empty ↦
+            some (member-at (map is_always rules) number true (slice_get-map is_always rules number ∙ ap (option_map is_always) held ∙ ap Some (keywords-always rule empty)))
+        | inr keyword ↦ let among = occurs-among keyword.0 keyword.1 keyword.2 in none among.0 among.1
+      ]
 
 module _ (rules : List Rule) (line : List ℕ) (found : List Occurrence) (all : found ≡ all_occurrences (all_keywords rules) line 0 (length line))
     (owners : List ℕ) (owned : owners ≡ owners_from 0 rules) where
@@ -89,16 +129,6 @@ module _ (rules : List Rule) (line : List ℕ) (found : List Occurrence) (all : 
       let is : get_or owners k d ≡ word.at = get_or_default owners k d 0 within ∙ ap (λ (xs : List ℕ). get_or xs k 0) owned ∙ word.owner ∙ zero-add word.at in
       let below : word.at < length rules = slice_get_within rules word.at word.rule word.numbered in
       omega arith
-
-  always-keywords : (rule : Rule) → is_always rule ≡ true → keywords_of rule ≡ []
-  always-keywords rule is =
-      let none : vec_len rule.keywords ≡ 0 = eqb-true _ _ is in
-      ap (map string_bytes) (nil_from_length rule.keywords.items (omega (arith, rule.keywords.ok)))
-
-  keywords-always : (rule : Rule) → keywords_of rule ≡ [] → is_always rule ≡ true
-  keywords-always rule none =
-      let count : length rule.keywords.items ≡ 0 = sym (length-map rule.keywords.items string_bytes) ∙ ap length none in
-      eq-eqb _ _ (omega (arith, rule.keywords.ok))
 
   pub AreFlagsFor-set : (old new : List Bool) → old ≡ map is_always rules → length new ≡ length rules
       → ((k : ℕ) → IsTrue (flag_at new k) ↔ (IsTrue (flag_at old k) ⊎ HasOwner owners found k)) → AreFlagsFor rules line new

@@ -1,13 +1,13 @@
 -- The turns of rules at a line, one after another.
-use Rattle.std.proofs.Common.{◌≡◌, ◌≢◌, ◌∙◌, ◌⊎◌, ◌↔◌, ℕ, zero, suc, ◌+◌, ◌<◌, ◌≤◌, Bool, false, List, [], ◌∷◌, ◌++◌, None, Option, Some, IfOk, IsSome, IsTrue, Result, Ok, Err, String, Global, get_or, length, refl, slice_set, subst, sym, inl, inr, arith}
-use Rattle.std.proofs.lemmas.Bool.{cases_eq}
+use Rattle.std.proofs.Common.{◌≡◌, ◌≢◌, ◌∙◌, ◌⊎◌, ◌↔◌, ℕ, zero, suc, ◌+◌, ◌<◌, ◌≤◌, Bool, false, true, List, [], ◌∷◌, ◌++◌, None, Option, Some, IfOk, IsSome, IsTrue, Result, Ok, Err, String, Global, get_or, length, refl, slice_set, subst, sym, inl, inr, arith}
+use Rattle.std.proofs.lemmas.Bool.{cases_eq, false≢true}
 use Rattle.std.proofs.lemmas.Option.{same_Some, slice_get-get_or, slice_get_within}
 use Rattle.aho_core.specs.Listing.{IsMember}
 use Rattle.secret_rules.specs.Faults.{IsMarkFailure}
-use Rattle.secret_rules.specs.Markers.{AddsMarks, AreFlagsBehind, AreMarksWith, IsMarkWith, flag_at}
+use Rattle.secret_rules.specs.Markers.{AddsMarks, AreFlagsBehind, AreMarksWith, IsMarkWith, NoneApplies, NoneIsSet, flag_at}
 use Rattle.secret_rules.specs.Marking.{IsLineFailure}
 use Rattle.secret_rules.specs.MarkLists.{HasOneOpen}
-use Rattle.secret_rules.specs.Marks.{AreAllMarks, GoesOnAfter, IsRuleAt, MarksOnward, MarksRange, StaysOpen}
+use Rattle.secret_rules.specs.Marks.{AreAllMarks, GoesOnAfter, IsRuleAt, MarksOnward, MarksRange, MarksSecret, StaysOpen}
 use Rattle.secret_rules.specs.Rules.{AppliesTo, regex_of, until_of}
 use Rattle.secret_rules.specs.Secrets.{match_ranges}
 use Rattle.secret_rules.specs.Standing.{StandsInLine}
@@ -27,6 +27,17 @@ pub flag-set : (flags : List Bool) (number : ℕ) (flag : Bool) → number < len
 flag-set [] number flag within = absurd (omega (arith, within))
 flag-set (first ∷ flags) zero flag within = refl
 flag-set (first ∷ flags) (suc number) flag within = flag-set flags number flag (omega (arith, within))
+
+-- where one of two things is not so, neither is
+pub neither-set : (one other told : Bool) → IsTrue told ↔ (IsTrue one ⊎ IsTrue other) → told ≡ false → (one ≡ false) × (other ≡ false)
+neither-set false false told is not = (refl, refl)
+neither-set false true told is not = absurd (false≢true (sym not ∙ is.1 (inr refl)))
+neither-set true other told is not = absurd (false≢true (sym not ∙ is.1 (inl refl)))
+
+-- one more flag that is not set
+pub none-more : (flag : Bool) (flags : List Bool) → flag ≡ false → NoneIsSet flags → NoneIsSet (flag ∷ flags)
+none-more flag flags is none zero = is
+none-more flag flags is none (suc number) = none number
 
 -- whether a match that begins goes on, where the rule applies
 pub begun-told : {E : Type 0} (result : Result Bool E) (Applies Leaves : Type 0) → Applies → IfOk result (λ begun. IsTrue begun ↔ Leaves)
@@ -66,6 +77,29 @@ MarksRange-same rule A B line range same marks = by rule.until refl
           ],
         ) in
         (marks.0, rw some kept)
+
+-- a rule that does not apply to the line, while no match of an earlier line goes on
+module _ (rule : Rule) (line : List ℕ) (goes_on : Bool) (shut : goes_on ≡ false) (none : AppliesTo rule line → ⊥) where
+  pub marks-nothing : (range : ℕ × ℕ) → MarksRange rule (IsTrue goes_on) line range → ⊥
+  marks-nothing range marks = by rule.until refl
+    where
+      by : (o : Option (String Global)) → rule.until ≡ o → ⊥
+      by None is = let secret : MarksSecret rule line range = rw is at marks.1 in none secret.0
+      by (Some text) is =
+          let onward : MarksOnward rule (IsTrue goes_on) line range = rw is at marks.1 in
+          elim onward.1 [
+            | inl all ↦ false≢true (sym shut ∙ all.1)
+            | inr begun ↦ none begun.0
+          ]
+
+  pub stays-shut : IsTrue goes_on ↔ StaysOpen rule (IsTrue goes_on) line
+  stays-shut = (
+    (λ goes. absurd (false≢true (sym shut ∙ goes))),
+    (λ stays. elim stays [
+      | inl on ↦ on.0
+      | inr begun ↦ absurd (none begun.0)
+    ]),
+  )
 
 -- the rules below a number have had their turn at a line
 pub record AreTurnsDone (rules : List Rule) (line : List ℕ) (old new : List Bool) (number : ℕ) (marks : List Mark) : Type 0 where
@@ -141,6 +175,17 @@ module _ (rules : List Rule) (line : List ℕ) (old : List Bool) where
   pub turns-behind : (new : List Bool) (number : ℕ) (marks : List Mark) → length rules ≤ number → AreTurnsDone rules line old new number marks
       → AreFlagsBehind rules old new line
   turns-behind new number marks all turns = λ k rule at some. turns.done k rule (omega (arith, all, numbered-within k rule at)) at some
+
+  -- at a line to which no rule applies, while no match of an earlier line goes on
+  module _ (shut : NoneIsSet old) (none : NoneApplies rules line) where
+    pub none-marked : AreMarksWith rules old line []
+    none-marked = λ mark. (
+      (λ is. absurd is),
+      (λ h. absurd (marks-nothing h.rule line (flag_at old mark.rule) (shut mark.rule) (none mark.rule h.rule h.numbered) (mark.start, mark.end) h.marks)),
+    )
+
+    pub none-behind : AreFlagsBehind rules old old line
+    none-behind = λ number rule at some. stays-shut rule line (flag_at old number) (shut number) (none number rule at)
 
   -- with flags that are right behind some lines
   module _ (lines : List (List ℕ)) (right : (number : ℕ) (rule : Rule) → IsRuleAt rules number rule → IsSome rule.until → IsTrue (flag_at old number) ↔ GoesOnAfter rule lines) where

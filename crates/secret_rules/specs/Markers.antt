@@ -11,6 +11,14 @@ use Rattle.secret_rules.specs.declared.rule.Rule.{Rule}
 abbrev pub flag_at : List Bool → ℕ → Bool
 flag_at flags number = slice_index_or flags number false
 
+-- no flag is set
+abbrev pub NoneIsSet : List Bool → Type 0
+NoneIsSet flags = (number : ℕ) → flag_at flags number ≡ false
+
+-- no rule applies to the line
+abbrev pub NoneApplies : List Rule → List ℕ → Type 0
+NoneApplies rules line = (number : ℕ) (rule : Rule) → IsRuleAt rules number rule → ¬ (AppliesTo rule line)
+
 -- there is a flag for each rule, which tells whether the rule applies to the line
 pub record AreFlagsFor (rules : List Rule) (line : List ℕ) (flags : List Bool) : Type 0 where
   pub count : length flags ≡ length rules

@@ -4,7 +4,7 @@ ghost use Rattle.std.specs.Prelude.{◌≡◌, ◌≢◌, ◌↔◌, ◌⊎◌, 
 ghost use Rattle.std.specs.List.Sorted.{IsNonDecreasingBy};
 ghost use Rattle.secret_rules.specs.Faults.{IsMarkFailure};
 ghost use Rattle.secret_rules.specs.MarkLists.{LeavesOpen};
-ghost use Rattle.secret_rules.specs.Markers.{AddsMarks, AreFlagsBehind, AreFlagsFor, AreMarksWith, applied_marks, flag_at, whole_mark};
+ghost use Rattle.secret_rules.specs.Markers.{AddsMarks, AreFlagsBehind, AreFlagsFor, AreMarksWith, NoneApplies, NoneIsSet, applied_marks, flag_at, whole_mark};
 ghost use Rattle.secret_rules.specs.Marks.{AreAllMarks, ForRuleAt, IsRuleAt, MarksRange, StaysOpen};
 ghost use Rattle.secret_rules.specs.Rules.{AppliesTo, until_of};
 ghost use Rattle.secret_rules.specs.Standing.{StandsInLine};
@@ -72,6 +72,7 @@ fn mark_begun(
 }
 
 /// Whether one of two things is so.
+#[inline(always)]
 fn either(one: bool, other: bool) -> bool
     ensures { IsTrue result ↔ (IsTrue one ⊎ IsTrue other) }
 {
@@ -122,6 +123,17 @@ fn mark_secrets(
     Ok(())
 }
 
+/// Whether one of some flags is set.
+fn any_set(flags: &[bool]) -> bool
+    ensures { result ≡ false → NoneIsSet flags.now }
+{
+    let mut set = false;
+    for flag in flags {
+        set = either(set, *flag);
+    }
+    set
+}
+
 /// Sets all flags to false.
 fn clear(flags: &mut [bool])
     ensures { flags.new ≡ replicate (length flags.old) false }
@@ -143,10 +155,13 @@ impl<'r> Marker<'r> {
     {
         let readers = Readers::new(alloc, rules)?;
         let goes_on = vec![in alloc; false; rules.as_slice().len()]?;
+        let applying = vec![in alloc; false; rules.as_slice().len()]?;
         Ok(Marker {
             alloc,
             readers,
             goes_on,
+            some_goes_on: false,
+            applying,
         })
     }
 
@@ -156,6 +171,7 @@ impl<'r> Marker<'r> {
         ensures fresh { HasMarked self.new [] }
     {
         clear(self.goes_on.as_mut_slice());
+        self.some_goes_on = false;
     }
 
     /// Gives the marks of the next line, its bytes without its end, in the order in which they start. What `marks` held is lost.
@@ -173,20 +189,31 @@ impl<'r> Marker<'r> {
         ensures rules { marker_rules self.new ≡ marker_rules self.old }
     {
         marks.clear();
-        let applying = self.readers.rules().applying(self.alloc, line)?;
-        self.mark_all(applying.as_slice(), line, marks)?;
+        if self.passes_over(line) {
+            return Ok(());
+        }
+        self.readers
+            .rules()
+            .tell_applying(self.alloc, line, self.applying.as_mut_slice())?;
+        self.mark_all(line, marks)?;
         put_in_order(marks);
         Ok(())
     }
 
-    /// Adds the marks of all rules, of which these apply.
-    fn mark_all(
-        &mut self,
-        applying: &[bool],
-        line: &[u8],
-        marks: &mut Vec<Mark>,
-    ) -> Result<(), MarkError>
-        requires applying { AreFlagsFor (marker_rules self.old) line.now applying.now }
+    /// Whether nothing is to be done at a line: no match of an earlier line goes on, and no rule applies to it.
+    fn passes_over(&self, line: &[u8]) -> bool
+        ensures shut { IsTrue result → NoneIsSet self.now.goes_on.items }
+        ensures none { IsTrue result → NoneApplies (marker_rules self.now) line.now }
+    {
+        if self.some_goes_on {
+            return false;
+        }
+        !self.readers.rules().may_apply(line)
+    }
+
+    /// Adds the marks of all rules.
+    fn mark_all(&mut self, line: &[u8], marks: &mut Vec<Mark>) -> Result<(), MarkError>
+        requires applying { AreFlagsFor (marker_rules self.old) line.now self.old.applying.items }
         requires none { marks.old.items ≡ [] }
         ensures marks { OnOk result (AreMarksWith (marker_rules self.old) self.old.goes_on.items line.now marks.new.items) }
         ensures goes_on { OnOk result
@@ -194,23 +221,26 @@ impl<'r> Marker<'r> {
         ensures refused { IfErr result (IsLineFailure (marker_rules self.old)) }
         ensures rules { marker_rules self.new ≡ marker_rules self.old }
     {
+        self.some_goes_on = true;
         for number in 0..self.goes_on.len() {
-            self.mark_by(number, applying[number], line, marks)?;
+            self.mark_by(number, line, marks)?;
         }
+        self.some_goes_on = any_set(self.goes_on.as_slice());
         Ok(())
     }
 
-    /// Adds the marks of a rule.
+    /// Adds the marks of a rule. Nothing is done where it does not apply and no match goes on.
+    #[inline(always)]
     fn mark_by(
         &mut self,
         number: usize,
-        applies: bool,
         line: &[u8],
         marks: &mut Vec<Mark>,
     ) -> Result<(), MarkError>
         requires within { number < length self.old.goes_on.items }
         requires applies { (rule : Rule) → IsRuleAt (marker_rules self.old) number rule
-            → IsTrue applies ↔ AppliesTo rule line.now }
+            → IsTrue (flag_at self.old.applying.items number) ↔ AppliesTo rule line.now }
+        requires some { IsTrue self.old.some_goes_on }
         ensures marks { (rule : Rule) → IsRuleAt (marker_rules self.old) number rule → OnOk result
             (AddsMarks marks.old.items marks.new.items number
             (MarksRange rule (IsTrue (flag_at self.old.goes_on.items number)) line.now)) }
@@ -222,8 +252,14 @@ impl<'r> Marker<'r> {
         ensures refused { IfErr result (IsMarkFailure number) }
         ensures rules { marker_rules self.new ≡ marker_rules self.old }
         ensures count { length self.new.goes_on.items ≡ length self.old.goes_on.items }
+        ensures some { IsTrue self.new.some_goes_on }
+        ensures applying { self.new.applying ≡ self.old.applying }
     {
+        let applies = self.applying[number];
         let goes_on = self.goes_on[number];
+        if !either(applies, goes_on) {
+            return Ok(());
+        }
         let turn = Turn {
             number,
             applies,

@@ -1,13 +1,14 @@
 //! Some rules, with the searcher of all their keywords.
 
-ghost use Rattle.std.specs.Prelude.{◌≡◌, ◌↔◌, ◌⊎◌, ◌<◌, All, IfErr, IfOk, IsTrue, MatchOption, OnOk, length, map};
+ghost use Rattle.std.specs.Prelude.{◌≡◌, ◌↔◌, ◌⊎◌, ◌<◌, All, IfErr, IfOk, IsTrue, MatchOption, OnOk, false, length, map, true};
+ghost use Rattle.aho_core.specs.Listing.{IsMember};
 ghost use Rattle.aho_core.specs.Overlapping.{all_occurrences};
 ghost use Rattle.aho_core.specs.declared.search.Anchored.TheVariants.{No};
 ghost use Rattle.aho_core.specs.declared.search.MatchKind.TheVariants.{Standard};
 ghost use Rattle.chromesquid.specs.Searcher.{Answers, ForItsPatterns, IsBuiltFrom, match_kind_of};
 ghost use Rattle.secret_rules.specs.Faults.{IsFirstFault, IsKeywordFailure, IsMarkFailure, IsRulesFailure};
 ghost use Rattle.secret_rules.specs.Keywords.{HasOwner, is_always};
-ghost use Rattle.secret_rules.specs.Markers.{AreFlagsFor, flag_at};
+ghost use Rattle.secret_rules.specs.Markers.{AreFlagsFor, NoneApplies, flag_at};
 ghost use Rattle.secret_rules.specs.Marks.{ForRuleAt};
 ghost use Rattle.secret_rules.specs.Rules.{AreSound, keyword_patterns, regex_of};
 
@@ -29,6 +30,10 @@ pub struct Rules {
     searcher: AhoCorasick,
     /// Of each keyword the number of its rule.
     owners: Vec<usize>,
+    /// Of each rule whether it has no keywords.
+    flags: Vec<bool>,
+    /// Whether one of them has none.
+    always: bool,
     /// The expression of each rule, once it was compiled.
     expressions: Vec<OnceCell<Expression>>,
 }
@@ -42,7 +47,7 @@ impl Model for Rules {
 
     ghost view = { λ r. r.rules.items };
 
-    ghost invariant = { λ r. IsSearchedBy r.rules.items r.searcher r.owners.items (length r.expressions.items) };
+    ghost invariant = { λ r. IsSearchedBy r.rules.items r.searcher r.owners.items r.flags.items r.always (length r.expressions.items) };
 }
 
 /// The first rule with which something is wrong, and what.
@@ -107,6 +112,18 @@ fn always_of(alloc: Global, rules: &[Rule]) -> Result<Vec<bool>, AllocError>
     Ok(flags)
 }
 
+/// Whether one of some rules has no keywords.
+fn any_always(rules: &[Rule]) -> bool
+    ensures { IsTrue result ↔ IsMember (map is_always rules.now) true }
+{
+    for rule in rules {
+        if rule.keywords.is_empty() {
+            return true;
+        }
+    }
+    false
+}
+
 /// The flags with that of each rule set of which a keyword was found.
 fn set_owners(found: &[Match], owners: &[usize], flags: &mut [bool])
     requires found { All (λ m. m.pattern < length owners.now) found.now }
@@ -137,10 +154,14 @@ impl Rules {
         let searcher = searcher_of(alloc, &words_of(alloc, &rules)?)?;
         let owners = owners_of(alloc, &rules)?;
         let expressions = room_for(alloc, rules.len())?;
+        let flags = always_of(alloc, &rules)?;
+        let always = any_always(&rules);
         Ok(Rules {
             rules,
             searcher,
             owners,
+            flags,
+            always,
             expressions,
         })
     }
@@ -153,14 +174,30 @@ impl Rules {
         &self.rules
     }
 
-    /// Of each rule whether it applies to a line.
-    pub(crate) fn applying(&self, alloc: Global, line: &[u8]) -> Result<Vec<bool>, AllocError>
-        ensures flags { IfOk result (λ flags. AreFlagsFor self.now line.now flags.items) }
+    /// Whether a rule may apply to a line: none does where no keyword occurs in it and each rule has some.
+    pub(crate) fn may_apply(&self, line: &[u8]) -> bool
+        ensures none { result ≡ false → NoneApplies self.now line.now }
+    {
+        if self.always {
+            return true;
+        }
+        self.searcher.is_match(line)
+    }
+
+    /// Tells of each rule whether it applies to a line.
+    pub(crate) fn tell_applying(
+        &self,
+        alloc: Global,
+        line: &[u8],
+        flags: &mut [bool],
+    ) -> Result<(), AllocError>
+        requires count { length flags.old ≡ length self.now }
+        ensures flags { OnOk result (AreFlagsFor self.now line.now flags.new) }
     {
         let found = occurrences(&self.searcher, alloc, line)?;
-        let mut flags = always_of(alloc, &self.rules)?;
-        set_owners(&found, &self.owners, flags.as_mut_slice());
-        Ok(flags)
+        flags.copy_from_slice(&self.flags);
+        set_owners(&found, &self.owners, flags);
+        Ok(())
     }
 
     /// The expression of a rule. It is compiled if it was not yet.

@@ -1,9 +1,26 @@
-use Rattle.std.proofs.Common.{List, subst}
+use Rattle.std.proofs.Common.{List, [], subst, sym}
 use Rattle.secret_rules.specs.Marking.{marker_rules}
-use Rattle.secret_rules.specs.Marks.{IsRuleAt}
+use Rattle.secret_rules.specs.Marks.{AreAllMarks, IsRuleAt}
+use Rattle.secret_rules.specs.declared.marks.Mark.{Mark}
 use Rattle.secret_rules.specs.declared.rule.Rule.{Rule}
-use Rattle.secret_rules.proofs.Turns.{all-marks, right-behind}
+use Rattle.secret_rules.proofs.Turns.{all-marks, none-behind, none-marked, right-behind}
 use Rattle.secret_rules.proofs.marker.Marker.mark.Goals as goal
+
+pub returns-then-passes_over-clause-marks : goal.returns-then-passes_over-clause-marks
+returns-then-passes_over-clause-marks c = λ lines has.
+    let rules = marker_rules c.args.self.now in
+    let flags = c.args.self.now.goes_on.items in
+    let is = c.if-passes_over.true in
+    subst (λ (marks : List Mark). AreAllMarks rules lines c.args.line.now marks) (sym c.clear.ensures.items)
+    (all-marks rules c.args.line.now flags lines has [] (none-marked rules c.args.line.now flags (c.passes_over.ensures.shut is) (c.passes_over.ensures.none is)))
+
+pub returns-then-passes_over-clause-marked : goal.returns-then-passes_over-clause-marked
+returns-then-passes_over-clause-marked c = λ lines has.
+    let rules = marker_rules c.args.self.now in
+    let flags = c.args.self.now.goes_on.items in
+    let is = c.if-passes_over.true in
+    right-behind rules c.args.line.now flags lines has flags
+    (none-behind rules c.args.line.now flags (c.passes_over.ensures.shut is) (c.passes_over.ensures.none is))
 
 pub returns-clause-marks : goal.returns-clause-marks
 returns-clause-marks c = λ lines has mark.

@@ -20,6 +20,8 @@ loop-number-preserved c =
     record {
       rules = told.rules ∙ so_far.rules;
       count = told.count ∙ so_far.count;
+      applying = told.applying ∙ so_far.applying;
+      some = told.some;
       done = turns-next rules c.args.line.now c.args.self.now.goes_on.items c.loop-number.self.goes_on.items c.mark_by.new.self.goes_on.items number
           c.loop-number.marks.items c.mark_by.new.marks.items rule some.1 so_far.done (told.marks rule held) (λ until. told.goes_on rule held until) told.others;
     }
