@@ -588,8 +588,85 @@ static int refused(void) {
     return status == CS_DONE ? 0 : 5;
 }
 
+/* Random calls, whose answers are written: two builds of the library have to write the same. */
+static uint64_t below(uint64_t end) {
+    static uint64_t dice = 88172645463325252;
+    dice ^= dice << 13;
+    dice ^= dice >> 7;
+    dice ^= dice << 17;
+    return dice % end;
+}
+
+static void put(const void *from, size_t len) {
+    HAS(fwrite(from, 1, len, stdout) == len);
+}
+
+/* Words of few or many letters, and a text of other ones in which some of the words stand. */
+static size_t random_words(cs_slice *words, uint8_t *letters, size_t most) {
+    size_t count = 1 + below(most), many = 2 + below(below(2) ? 6 : 250), least = 1 + below(8);
+    for (size_t word = 0; word < count; word++) {
+        words[word] = (cs_slice){ letters, least + below(12) };
+        for (size_t at = 0; at < words[word].len; at++) *letters++ = (uint8_t)('a' + below(many));
+    }
+    return count;
+}
+
+static size_t random_text(const cs_slice *words, size_t count, uint8_t *to, size_t len) {
+    size_t many = 2 + below(below(2) ? 6 : 250), each = 10 + below(2000), taken = 0;
+    while (taken < len) {
+        cs_slice word = words[below(count)];
+        for (size_t left = below(each); left > 0 && taken < len; left--) to[taken++] = (uint8_t)('z' - below(many));
+        for (size_t at = 0; at < word.len && taken < len; at++) to[taken++] = word.at[at];
+    }
+    return taken;
+}
+
+static void answers(cs_searcher *it, const cs_slice *words, size_t count, const uint8_t *from, size_t len) {
+    enum { MATCHES = 1 << 14, LARGE = 1 << 18 };
+    static cs_match matches[MATCHES];
+    static uint8_t room[LARGE];
+    uint32_t (*lists[])(cs_searcher *, const uint8_t *, size_t, cs_match *, size_t, size_t *) = { cs_find_all, cs_overlapping };
+    uint32_t (*replaces[])(cs_searcher *, const uint8_t *, size_t, const cs_slice *, size_t, uint8_t *, size_t, size_t *) = {
+        cs_replace_all,
+        cs_cover_all,
+    };
+    cs_stream stream = CS_STREAM_INIT;
+    for (int way = 0; way < 2; way++) {
+        size_t found = 0, put_there = 0;
+        uint32_t told[2] = { lists[way](it, from, len, matches, MATCHES, &found), replaces[way](it, from, len, words, count, room, LARGE, &put_there) };
+        put(told, sizeof told);
+        put(matches, sizeof *matches * (found < MATCHES ? found : MATCHES));
+        put(room, put_there < LARGE ? put_there : 0);
+    }
+    if (cs_stream_new(it, &stream) == CS_DONE) put(matches, sizeof *matches * pushed(&stream, from, len, matches));
+    cs_stream_free(&stream);
+}
+
+static int random_calls(int calls) {
+    static uint8_t letters[1 << 16], haystack[1 << 14];
+    static cs_slice words[3000];
+    while (calls-- > 0) {
+        cs_searcher it = CS_SEARCHER_INIT;
+        cs_options options = CS_OPTIONS_INIT;
+        size_t count = random_words(words, letters, below(4) ? 1 + below(100) : 3000);
+        options.match_kind = (uint32_t)below(3);
+        options.start_kind = below(4) ? CS_UNANCHORED : CS_BOTH;
+        options.ignore_case = below(4) == 0;
+        options.automaton = (uint32_t)below(3);
+        HAS(cs_build(words, count, &options, &it) == CS_DONE);
+        for (int texts = 0; texts < 4; texts++) {
+            size_t from = below(64), len = random_text(words, count, haystack, below(2) ? below(200) : sizeof haystack);
+            from = from < len ? from : 0;
+            answers(&it, words, count, haystack + from, len - from);
+        }
+        cs_free(&it);
+    }
+    return 0;
+}
+
 int main(int count, char **words) {
     if (count > 1 && !strcmp(words[1], "refused")) return refused();
+    if (count > 2 && !strcmp(words[1], "random")) return random_calls(atoi(words[2]));
     none();
     builds();
     errors();

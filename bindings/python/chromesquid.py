@@ -15,11 +15,13 @@ type str.
 A call on a short haystack takes a few microseconds by ctypes, and less than one where the extension module _chromesquid was built.
 
 This one file needs libchromesquid.so.0, which bin/clib makes, and a processor of x86-64-v2: in the folder that the environment names as
-CHROMESQUID_LIBRARY, or beside this file, or where bin/install or the system has libraries. `python3 -m chromesquid` tells whether it is there and answers."""
+CHROMESQUID_LIBRARY, or beside this file, or where bin/install or the system has libraries. On a processor with AVX2 the one below glibc-hwcaps of
+that folder is taken. `python3 -m chromesquid` tells which is there and answers."""
 
 from __future__ import annotations
 
 import codecs
+import contextlib
 import ctypes
 import io
 import itertools
@@ -210,18 +212,29 @@ _INSIDE = bytes(range(0x80, 0xC0))  # the bytes of a character's UTF-8 but the f
 _VERSION = 100
 
 
+def _has_avx2() -> bool:
+    """Whether the processor is of x86-64-v3, so that a library for such ones is tried. From glibc 2.33 on the loader looks at that too."""
+    flags: List[bytes] = []
+    with contextlib.suppress(OSError), open("/proc/cpuinfo", "rb") as file:
+        flags = next((line.split() for line in file if line.startswith(b"flags")), flags)
+    return {b"avx2", b"bmi1", b"bmi2", b"f16c", b"fma", b"abm", b"movbe"} <= {*flags}
+
+
 def _library() -> ctypes.CDLL:
     names, here = ("libchromesquid.so.0", "libchromesquid.so"), os.path.dirname(os.path.abspath(__file__))
     # Where bin/install puts this file, the folder of libraries is two above.
     named = os.environ.get("CHROMESQUID_LIBRARY")
     folders = [named] if named else [here, os.path.dirname(os.path.dirname(here))]
-    places = (os.path.join(folder, name) for folder in folders for name in names)
-    try:
-        return ctypes.CDLL(next(filter(os.path.exists, places), names[0]))
-    except OSError as error:
-        if "ISA level" not in str(error):
-            raise
-        raise ImportError("libchromesquid needs a processor of x86-64-v2, as those from 2009 on are (SSE4.2)") from error
+    wide = ["glibc-hwcaps/x86-64-v3/libchromesquid.so.0"] if _has_avx2() else []
+    places = (os.path.join(folder, name) for folder in folders for name in (*wide, *names))
+    for place in [*filter(os.path.exists, places)] or [names[0]]:  # which the loader looks for
+        try:
+            return ctypes.CDLL(place)
+        except OSError as error:
+            if "ISA level" not in str(error):
+                raise
+            refused = error
+    raise ImportError("libchromesquid needs a processor of x86-64-v2, as those from 2009 on are (SSE4.2)") from refused
 
 
 _loaded = _library()

@@ -3,9 +3,9 @@
     python3 make_wheel.py FOLDER
 
 The library is libchromesquid.so of the folder that the environment names as CHROMESQUID_LIBRARY, or else that beside this file, as in such an
-archive, or that of bin/program. With a C compiler and Python's header the wheel has the extension module for small calls too, for any CPython
-from 3.8 on; else, and for other Pythons, ctypes serves them. One library, one version of these files and one compiler make one wheel and one
-archive, byte for byte."""
+archive, or that of bin/program; the one for x86-64-v3 below that folder goes with it, and is taken where the processor has AVX2. With a C compiler
+and Python's header the wheel has the extension module for small calls too, for any CPython from 3.8 on; else, and for other Pythons, ctypes serves
+them. One library, one version of these files and one compiler make one wheel and one archive, byte for byte."""
 
 import base64
 import gzip
@@ -24,6 +24,7 @@ import zipfile
 HERE = os.path.dirname(os.path.abspath(__file__))
 TOP = os.path.join(HERE, "..", "..")
 LIBRARY = "libchromesquid.so"
+WIDE = "glibc-hwcaps/x86-64-v3/libchromesquid.so.0"  # the library for processors of x86-64-v3
 EXTENSION = "_chromesquid.abi3.so"
 LICENCES = ("LICENSE-MIT", "UNLICENSE", "THIRD-PARTY")
 SOURCES = ("README.md", "_chromesquid.c", "chromesquid.py", "make_wheel.py", "pyproject.toml", "test_chromesquid.py")
@@ -37,11 +38,12 @@ def _read(*path):
         return file.read()
 
 
-def _library():
+def _libraries():
+    """The library by its name, and the one for x86-64-v3 where that is there too."""
     named = os.environ.get("CHROMESQUID_LIBRARY")
     for folder in [named] if named else [HERE, os.path.join(TOP, "bin", "program")]:
         if os.path.exists(os.path.join(folder, LIBRARY)):
-            return _read(folder, LIBRARY)
+            return {it: _read(folder, it) for it in (LIBRARY, WIDE) if os.path.exists(os.path.join(folder, it))}
     raise SystemExit(f"make_wheel: there is no {LIBRARY}: bin/clib makes it, and CHROMESQUID_LIBRARY names its folder")
 
 
@@ -66,9 +68,9 @@ def _version():
     return f"{number // 10000}.{number // 100 % 100}.{number % 100}"
 
 
-def _tag(library):
-    """The wheel is for Linux on x86-64 with the newest version of glibc that the library asks for, and 2.17 at least."""
-    newest = max([17, *(int(minor) for minor in re.findall(rb"GLIBC_2\.(\d+)", library))])
+def _tag(libraries):
+    """The wheel is for Linux on x86-64 with the newest version of glibc that the libraries ask for, and 2.17 at least."""
+    newest = max([17, *(int(minor) for minor in re.findall(rb"GLIBC_2\.(\d+)", b"".join(libraries.values())))])
     return f"py3-none-manylinux_2_{newest}_x86_64"
 
 
@@ -91,14 +93,14 @@ def _metadata():
 
 
 def build_wheel(wheel_directory, config_settings=None, metadata_directory=None):
-    library = _library()
-    tag, named = _tag(library), f"chromesquid-{_version()}"
+    libraries = _libraries()
+    tag, named = _tag(libraries), f"chromesquid-{_version()}"
     info = f"{named}.dist-info"
     files = {
         "chromesquid/__init__.py": _read(HERE, "chromesquid.py"),
         "chromesquid/__main__.py": MAIN,
         "chromesquid/py.typed": b"",
-        f"chromesquid/{LIBRARY}": library,
+        **{f"chromesquid/{name}": held for name, held in libraries.items()},
         f"{info}/METADATA": _metadata(),
         f"{info}/WHEEL": f"Wheel-Version: 1.0\nGenerator: make_wheel\nRoot-Is-Purelib: false\nTag: {tag}\nBuild: {BUILD}\n".encode(),
         **{f"{info}/licenses/{name}": text for name, text in _licences().items()},
@@ -113,7 +115,7 @@ def build_wheel(wheel_directory, config_settings=None, metadata_directory=None):
     with zipfile.ZipFile(os.path.join(wheel_directory, wheel), "w", zipfile.ZIP_DEFLATED) as made:
         for name, held in files.items():
             entry = zipfile.ZipInfo(name, (1980, 1, 1, 0, 0, 0))
-            entry.external_attr, entry.compress_type = (0o755 if name.endswith((LIBRARY, EXTENSION)) else 0o644) << 16, zipfile.ZIP_DEFLATED
+            entry.external_attr, entry.compress_type = (0o755 if name.endswith((LIBRARY, WIDE, EXTENSION)) else 0o644) << 16, zipfile.ZIP_DEFLATED
             made.writestr(entry, held)
     return wheel
 
@@ -121,7 +123,7 @@ def build_wheel(wheel_directory, config_settings=None, metadata_directory=None):
 def build_sdist(sdist_directory, config_settings=None):
     """An archive of these sources, and of the library as it was proved and built."""
     named = f"chromesquid-{_version()}"
-    files = {"PKG-INFO": _metadata(), LIBRARY: _library(), **{name: _read(HERE, name) for name in SOURCES}, **_licences()}
+    files = {"PKG-INFO": _metadata(), **_libraries(), **{name: _read(HERE, name) for name in SOURCES}, **_licences()}
     packed = io.BytesIO()
     with tarfile.open(fileobj=packed, mode="w", format=tarfile.PAX_FORMAT) as made:
         for name, held in sorted(files.items()):
