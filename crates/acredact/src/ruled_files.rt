@@ -10,13 +10,13 @@ use crate::files::{both, is_input};
 use crate::folder::Folder;
 use crate::streams::Streams;
 use aho_automaton::automaton::Automaton;
-use aho_core::error::StreamError;
+use aho_core::error::{BuildError, StreamError};
 use aho_cover::pieces::{PatternPieces, Pieces};
 use aho_devices::adapters::{FromRead, FromWrite};
 use aho_devices::device::Sink;
 use programs::reason::Reason;
 use secret_rules::{LineCover, LineError, Rules, cover_lines};
-use std::alloc::{AllocError, Global};
+use std::alloc::Global;
 use std::io::{Read, Write};
 
 /// How many numbers patterns, rules and long lines have together at most.
@@ -35,7 +35,7 @@ pub struct Lined<'r, 'a, A, P> {
 ///
 /// # Errors
 ///
-/// Out of memory: that is also told where there are more numbers than one may have.
+/// Out of memory, or there are more numbers than one may have.
 pub fn lined_of<'r, 'a, 'p, 'q, A: Automaton>(
     alloc: Global,
     automaton: &'a A,
@@ -43,7 +43,7 @@ pub fn lined_of<'r, 'a, 'p, 'q, A: Automaton>(
     texts: &'p [&'q [u8]],
     words: bool,
     most: usize,
-) -> Result<Lined<'r, 'a, A, PatternPieces<'p, 'q>>, AllocError>
+) -> Result<Lined<'r, 'a, A, PatternPieces<'p, 'q>>, BuildError>
     requires ready { CanSearch A.Automaton automaton.now }
     ensures lined { IfOk result (LinesBy A.Automaton ⟦<PatternPieces<'p, 'q> as Pieces>⟧
         automaton.entry.now words rules.entry.now most texts.entry.now) }
@@ -60,7 +60,7 @@ fn line_cover<'r, 'a, A: Automaton>(
     rules: &'r Rules,
     words: bool,
     most: usize,
-) -> Result<LineCover<'r, 'a, A>, AllocError>
+) -> Result<LineCover<'r, 'a, A>, BuildError>
     requires ready { CanSearch A.Automaton automaton.now }
     ensures ready { IfOk result (CanCoverLines A.Automaton) }
     ensures searched { IfOk result (λ cover. AreSearchedBy A.Automaton automaton.entry.now
@@ -72,12 +72,23 @@ fn line_cover<'r, 'a, A: Automaton>(
     let count = rules.as_slice().len();
     let patterns = automaton.patterns_len();
     if count >= MOST_NUMBERS {
-        return Err(AllocError);
+        return Err(too_many(count));
     }
     if patterns >= MOST_NUMBERS - count {
-        return Err(AllocError);
+        return Err(too_many(patterns));
     }
-    LineCover::new(alloc, rules, some_of(automaton), words, most)
+    match LineCover::new(alloc, rules, some_of(automaton), words, most) {
+        Ok(cover) => Ok(cover),
+        Err(_) => Err(BuildError::OutOfMemory),
+    }
+}
+
+/// There are too many patterns or rules.
+fn too_many(requested: usize) -> BuildError {
+    BuildError::PatternIDOverflow {
+        max: MOST_NUMBERS as u64,
+        requested: requested as u64,
+    }
 }
 
 /// An automaton, if it has a pattern.

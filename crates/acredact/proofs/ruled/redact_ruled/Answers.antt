@@ -63,9 +63,9 @@ returns-in_err-counts-clause-outcome g c =
 
 pub returns-in_err-lined-clause-outcome : goal.returns-in_err-lined-clause-outcome
 returns-in_err-lined-clause-outcome g c =
-    let is : c.from_residual-in_err-lined.result ≡ Err (Plain (Other OutOfMemory)) = search rules in
+    let is : c.from_residual-in_err-lined.result ≡ Err (Plain (Other (Build c.in_err-lined.field-0.0))) = search rules in
     subst (λ (r : Result Bool RuledFailure). LoadedRuled g.W.Write g.E.Sink g.F.Folder c.args.folder.now c.args.given.now c.args.secrets.now c.args.line_rules.now r c.args.streams.now c.args.streams.now) (sym is)
-    (ruled_none g.E.Sink (call_of g.F.Folder c.args.folder.now (all_given c.args.given.now)) (ruled_load c.args.secrets.now c.args.line_rules.now) (Plain (Other OutOfMemory)) _ _ _)
+    (ruled_none g.E.Sink (call_of g.F.Folder c.args.folder.now (all_given c.args.given.now)) (ruled_load c.args.secrets.now c.args.line_rules.now) (Plain (Other (Build c.in_err-lined.field-0.0))) _ _ _)
 
 pub lined_of-requires : goal.lined_of-requires
 lined_of-requires g c =
