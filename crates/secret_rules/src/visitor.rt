@@ -2,6 +2,7 @@
 
 ghost use Rattle.std.specs.Prelude.{List, IfErr, OnOk};
 ghost use Rattle.aho_core.specs.Occurrence.{Occurrence};
+ghost use Rattle.aho_core.specs.declared.error.stream.StreamError.{StreamError};
 ghost use Rattle.secret_rules.specs.Lines.{Line, line_with};
 ghost use Rattle.secret_rules.specs.Visitors.{CanBeVisited, IsVisitRefusal};
 
