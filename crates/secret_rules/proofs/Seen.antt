@@ -1,5 +1,6 @@
 -- What a visitor is to take of a line, and what its visit leaves.
 use Rattle.std.proofs.Common.{◌≡◌, inl, inr, ℕ, ◌<◌, ◌≤◌, List, [], ◌∷◌, ◌++◌, length, refl, sym, ◌∙◌, ap, subst, arith}
+use Rattle.std.specs.Prelude.{Result, Ok, Err, OnOk}
 use Rattle.aho_core.specs.Cover.{AreRunsOf}
 use Rattle.aho_core.specs.Occurrence.{Occurrence, occurrence}
 use Rattle.aho_core.specs.declared.error.stream.StreamError.{StreamError}
@@ -8,7 +9,7 @@ use Rattle.secret_rules.specs.Covering.{CoveredIn, covering_by}
 use Rattle.secret_rules.specs.Lines.{Line, line_with}
 use Rattle.secret_rules.specs.Marking.{HasMarked}
 use Rattle.secret_rules.specs.OpenLines.{AreRunsBy, IsSetting, line_rules}
-use Rattle.secret_rules.specs.SeenLines.{MissesLine, SeesLine, StandsAt, TakesLine}
+use Rattle.secret_rules.specs.SeenLines.{MissesLine, SeesLine, SeesOpen, StandsAt, TakesLine}
 use Rattle.secret_rules.specs.Visitors.{CanBeVisited}
 use Rattle.secret_rules.specs.Visits.{IsUnvisited}
 use Rattle.secret_rules.specs.Writing.{LieFrom}
@@ -80,6 +81,18 @@ module _ {A : Type 0} (G : Automata A) (line line' : OpenLine A) (count : ℕ) (
     });
     first = ([], refl);
   }
+
+module _ {A E : Type 0} (G : Automata A) (line line' : OpenLine A) (count : ℕ) where
+  -- the same where a call ended well
+  pub long-found : (r : Result (Unit {0}) E) → line.setting.most < count → IsSetting G line.setting (line_rules line) → OnOk r (line'.runs.items ≡ occurrence 0 count line.setting.whole ∷ []) → line'.line.items ≡ []
+      → ((before : List (List ℕ)) → HasMarked line.marker before → OnOk r (HasMarked line'.marker (before ++ [] ∷ []))) → OnOk r (SeesOpen G line count line')
+  long-found (Ok done) long is runs items marked = λ before read stands. sees-long G line line' count before read stands long is runs items (marked before stands.marked)
+  long-found (Err e) long is runs items marked = tt
+
+  pub short-found : (r : Result (Unit {0}) E) → count ≤ line.setting.most → OnOk r ((before : List (List ℕ)) → HasMarked line.marker before → AreRunsBy G line.setting (line_rules line) before line.line.items line'.runs.items)
+      → line'.line.items ≡ line.line.items → ((before : List (List ℕ)) → HasMarked line.marker before → OnOk r (HasMarked line'.marker (before ++ line.line.items ∷ []))) → OnOk r (SeesOpen G line count line')
+  short-found (Ok done) within runs items marked = λ before read stands. sees-short G line line' count before read stands within (runs before stands.marked) items (marked before stands.marked)
+  short-found (Err e) within runs items marked = tt
 
 -- a line was not visited
 pub misses-unseen : {A V : Type 0} (G : Automata A) (setting : Setting A) (rules : List Rule) (L : VisitorGhosts V) (visitor : V) (before : List (List ℕ)) (line : Line) (error : LineError) → IsUnvisited error

@@ -44,14 +44,14 @@ module _ {V : Type 0} (L : VisitorGhosts V) (most : ℕ) where
         })
       ]
 
-module _ {A V : Type 0} (G : Automata A) (setting : Setting A) (rules : List Rule) (L : VisitorGhosts V) where
-  -- the runs of some lines and of more
-  runs-behind : (before before' : List (List ℕ)) (lines later : List Line) (runs more : List (List Occurrence)) → before' ≡ before ++ seen_lines setting.most lines → AreLineRunsBy G setting rules before lines runs
-      → AreLineRunsBy G setting rules before' later more → AreLineRunsBy G setting rules before (lines ++ later) (runs ++ more)
-  runs-behind before before' lines later runs more seen one two p searched =
-      runs-append (covering_by setting.words rules setting.most p) before lines later runs more (one p searched)
-      (subst (λ (b : List (List ℕ)). AreLineRuns (covering_by setting.words rules setting.most p) b later more) seen (two p searched))
+-- the runs of some lines and of more
+pub runs-behind : {A : Type 0} (G : Automata A) (setting : Setting A) (rules : List Rule) (before before' : List (List ℕ)) (lines later : List Line) (runs more : List (List Occurrence)) → before' ≡ before ++ seen_lines setting.most lines → AreLineRunsBy G setting rules before lines runs
+    → AreLineRunsBy G setting rules before' later more → AreLineRunsBy G setting rules before (lines ++ later) (runs ++ more)
+runs-behind G setting rules before before' lines later runs more seen one two p searched =
+    runs-append (covering_by setting.words rules setting.most p) before lines later runs more (one p searched)
+    (subst (λ (b : List (List ℕ)). AreLineRuns (covering_by setting.words rules setting.most p) b later more) seen (two p searched))
 
+module _ {A V : Type 0} (G : Automata A) (setting : Setting A) (rules : List Rule) (L : VisitorGhosts V) where
   -- a part without a line end, and nothing was visited
   pub takes-part : (visitor : V) (before : List (List ℕ)) (read part : List ℕ) → NoEnds part → TakesLines G setting rules L visitor visitor before read part before (read ++ part)
   takes-part visitor before read part none = record {
@@ -91,7 +91,7 @@ module _ {A V : Type 0} (G : Automata A) (setting : Setting A) (rules : List Rul
         ∙ ap (λ (b : List (List ℕ)). b ++ seen_lines setting.most two.lines) one.seen
         ∙ append_assoc before (seen_lines setting.most one.lines) (seen_lines setting.most two.lines)
         ∙ ap (λ (ls : List (List ℕ)). before ++ ls) (sym (map-append (λ (line : Line). seen_line setting.most line.bytes) one.lines two.lines));
-    runs_are = runs-behind before before' one.lines two.lines one.runs two.runs one.seen one.runs_are two.runs_are;
+    runs_are = runs-behind G setting rules before before' one.lines two.lines one.runs two.runs one.seen one.runs_are two.runs_are;
     visits = visits-then L setting.most a b c one.lines two.lines one.runs two.runs one.visits two.visits;
   }
 
@@ -100,7 +100,7 @@ module _ {A V : Type 0} (G : Automata A) (setting : Setting A) (rules : List Rul
   misses-then a b c before before' read read' bytes more error one two = record {
     lines = one.lines ++ two.lines;
     runs = one.runs ++ two.runs;
-    runs_are = runs-behind before before' one.lines two.lines one.runs two.runs one.seen one.runs_are two.runs_are;
+    runs_are = runs-behind G setting rules before before' one.lines two.lines one.runs two.runs one.seen one.runs_are two.runs_are;
     stops = stops-then L setting.most a b c one.lines two.lines one.runs two.runs error one.visits two.stops;
     first = λ rest.
         let later = two.first rest in (

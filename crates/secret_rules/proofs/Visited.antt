@@ -48,6 +48,15 @@ pub result-fails : (rules : List Rule) (result : Result (Unit {0}) LineError) �
 result-fails rules (Ok done) refused = tt
 result-fails rules (Err error) refused = unvisited-fails rules error refused
 
+-- what follows where a call fails, of its error
+pub if_error : {X E : Type 0} (r : Result X E) (P Q : E → Type 0) → ((error : E) → P error → Q error) → IfErr r P → IfErr r Q
+if_error (Ok x) P Q f h = tt
+if_error (Err e) P Q f h = f e h
+
+-- the same rules refuse the same
+pub same-refused : (rules rules' : List Rule) (result : Result (Unit {0}) LineError) → rules ≡ rules' → IfErr result (IsLineUnvisited rules) → IfErr result (IsLineUnvisited rules')
+same-refused rules rules' result same refused = subst (λ (rs : List Rule). IfErr result (IsLineUnvisited rs)) same refused
+
 -- no read failed where a visit did
 visit-reads : (error : StreamError) → IsVisitRefusal error → is_read_fault {A = Unit {0}} (Err error) ≡ false
 visit-reads (Match cause) refused = absurd refused
