@@ -1,7 +1,7 @@
 -- The bytes of a line as they are read for a visitor.
 use Rattle.std.proofs.Common.{◌≡◌, ℕ, ◌+◌, ◌<◌, ◌≤◌, List, [], ◌∷◌, ◌++◌, length, refl, sym, ◌∙◌, ap, subst, arith, length-append}
 use Rattle.secret_rules.specs.Marking.{HasMarked}
-use Rattle.secret_rules.specs.SeenLines.{HasKept, StandsAt}
+use Rattle.secret_rules.specs.SeenLines.{HasKept, HoldsBehind}
 use Rattle.secret_rules.specs.declared.marker.Marker.{Marker}
 use Rattle.secret_rules.specs.declared.open_line.OpenLine.{OpenLine}
 
@@ -21,10 +21,10 @@ module _ {A : Type 0} (line line' : OpenLine A) (count count' : ℕ) (read bytes
   }
 
 -- more bytes of the same line were read
-pub stands-grown : {A : Type 0} (line line' : OpenLine A) (count count' : ℕ) (before : List (List ℕ)) (read bytes : List ℕ) → StandsAt line count before read → line'.marker ≡ line.marker
-    → HasKept line' count' (read ++ bytes) → StandsAt line' count' before (read ++ bytes)
+pub stands-grown : {A : Type 0} (line line' : OpenLine A) (count count' : ℕ) (before : List (List ℕ)) (read bytes : List ℕ) → HoldsBehind line count before read → line'.marker ≡ line.marker
+    → HasKept line' count' (read ++ bytes) → HoldsBehind line' count' before (read ++ bytes)
 stands-grown line line' count count' before read bytes stands same has = record { marked = subst (λ (m : Marker). HasMarked m before) (sym same) stands.marked; has = has }
 
 -- none of the next line were
-pub stands-unread : {A : Type 0} (line : OpenLine A) (count : ℕ) (before : List (List ℕ)) → HasMarked line.marker before → line.line.items ≡ [] → count ≡ 0 → StandsAt line count before []
+pub stands-unread : {A : Type 0} (line : OpenLine A) (count : ℕ) (before : List (List ℕ)) → HasMarked line.marker before → line.line.items ≡ [] → count ≡ 0 → HoldsBehind line count before []
 stands-unread line count before marked empty none = record { marked = marked; has = record { counted = none; kept = λ few. empty } }

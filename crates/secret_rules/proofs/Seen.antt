@@ -9,7 +9,7 @@ use Rattle.secret_rules.specs.Covering.{CoveredIn, covering_by}
 use Rattle.secret_rules.specs.Lines.{Line, line_with}
 use Rattle.secret_rules.specs.Marking.{HasMarked}
 use Rattle.secret_rules.specs.OpenLines.{AreRunsBy, IsSetting, line_rules}
-use Rattle.secret_rules.specs.SeenLines.{MissesLine, SeesLine, SeesOpen, StandsAt, TakesLine}
+use Rattle.secret_rules.specs.SeenLines.{MissesLine, SeesLine, SeesOpen, HoldsBehind, TakesLine}
 use Rattle.secret_rules.specs.Visitors.{CanBeVisited}
 use Rattle.secret_rules.specs.Visits.{IsUnvisited}
 use Rattle.secret_rules.specs.Writing.{LieFrom}
@@ -22,7 +22,7 @@ use Rattle.secret_rules.specs.declared.visitor.LineVisitor.{Ghosts as VisitorGho
 use Rattle.secret_rules.proofs.Covered.{seen-long, seen-short, whole-runs}
 use Rattle.secret_rules.proofs.Ending.{marked-long, marked-short, whole-numbered}
 
-module _ {A : Type 0} (G : Automata A) (line line' : OpenLine A) (count : ℕ) (before : List (List ℕ)) (read : List ℕ) (stands : StandsAt line count before read) where
+module _ {A : Type 0} (G : Automata A) (line line' : OpenLine A) (count : ℕ) (before : List (List ℕ)) (read : List ℕ) (stands : HoldsBehind line count before read) where
   -- of a line that is too long it is one run and no bytes
   pub sees-long : line.setting.most < count → IsSetting G line.setting (line_rules line) → line'.runs.items ≡ occurrence 0 count line.setting.whole ∷ [] → line'.line.items ≡ []
       → HasMarked line'.marker (before ++ [] ∷ []) → SeesLine G line line' before read

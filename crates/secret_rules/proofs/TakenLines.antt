@@ -5,7 +5,7 @@ use Rattle.aho_core.specs.Occurrence.{Occurrence}
 use Rattle.aho_automaton.specs.declared.automaton.Automaton.{Ghosts as Automata}
 use Rattle.secret_rules.specs.Covering.{AreLineRuns, covering_by, seen_line}
 use Rattle.secret_rules.specs.Lines.{Line, ended_line, lines_from}
-use Rattle.secret_rules.specs.SeenLines.{AreLineRunsBy, ComesTo, MissesLine, MissesLines, StandsAt, TakesLine, TakesLines}
+use Rattle.secret_rules.specs.SeenLines.{AreLineRunsBy, ComesTo, MissesLine, MissesLines, HoldsBehind, TakesLine, TakesLines}
 use Rattle.secret_rules.specs.Visits.{IsUnvisited, StopsWithin, VisitsEach}
 use Rattle.secret_rules.specs.declared.error.LineError.{LineError}
 use Rattle.secret_rules.specs.declared.open_line.OpenLine.{OpenLine}
@@ -143,7 +143,7 @@ module _ {A V : Type 0} (G : Automata A) (setting : Setting A) (rules : List Rul
   pub record HasGiven (line line' : OpenLine A) (count count' : ℕ) (visitor visitor' : V) (bytes rest : List ℕ) : Type 0 where
     pub taken : List ℕ
     pub parts : bytes ≡ taken ++ rest
-    pub goes : (before : List (List ℕ)) (read : List ℕ) → StandsAt line count before read → ComesTo G setting rules L visitor visitor' line' count' before read taken
+    pub goes : (before : List (List ℕ)) (read : List ℕ) → HoldsBehind line count before read → ComesTo G setting rules L visitor visitor' line' count' before read taken
 
   -- none was yet
   pub given-none : (line : OpenLine A) (count : ℕ) (visitor : V) (bytes : List ℕ) → HasGiven line line count count visitor visitor bytes bytes
@@ -161,8 +161,8 @@ module _ {A V : Type 0} (G : Automata A) (setting : Setting A) (rules : List Rul
   module _ (line line' : OpenLine A) (count count' : ℕ) (visitor visitor' : V) (bytes rest : List ℕ) (given : HasGiven line line' count count' visitor visitor' bytes rest) where
     -- a further line came to its end
     pub given-line : (line'' : OpenLine A) (count'' : ℕ) (visitor'' : V) (part later : List ℕ) → NoEnds part → rest ≡ part ++ 10 ∷ later
-        → ((before : List (List ℕ)) (read : List ℕ) → StandsAt line' count' before read
-        → TakesLine G setting rules L visitor' visitor'' before (ended_line (read ++ part)) × StandsAt line'' count'' (before ++ seen_line setting.most (read ++ part) ∷ []) [])
+        → ((before : List (List ℕ)) (read : List ℕ) → HoldsBehind line' count' before read
+        → TakesLine G setting rules L visitor' visitor'' before (ended_line (read ++ part)) × HoldsBehind line'' count'' (before ++ seen_line setting.most (read ++ part) ∷ []) [])
         → HasGiven line line'' count count'' visitor visitor'' bytes later
     given-line line'' count'' visitor'' part later none split took = record {
       taken = given.taken ++ (part ++ 10 ∷ []);
@@ -180,8 +180,8 @@ module _ {A V : Type 0} (G : Automata A) (setting : Setting A) (rules : List Rul
     }
 
     -- what is left holds no line end
-    pub given-all : (line'' : OpenLine A) (count'' : ℕ) → NoEnds rest → ((before : List (List ℕ)) (read : List ℕ) → StandsAt line' count' before read → StandsAt line'' count'' before (read ++ rest))
-        → (before : List (List ℕ)) (read : List ℕ) → StandsAt line count before read → ComesTo G setting rules L visitor visitor' line'' count'' before read bytes
+    pub given-all : (line'' : OpenLine A) (count'' : ℕ) → NoEnds rest → ((before : List (List ℕ)) (read : List ℕ) → HoldsBehind line' count' before read → HoldsBehind line'' count'' before (read ++ rest))
+        → (before : List (List ℕ)) (read : List ℕ) → HoldsBehind line count before read → ComesTo G setting rules L visitor visitor' line'' count'' before read bytes
     given-all line'' count'' none stands_on before read stands =
         let so_far = given.goes before read stands in
         record {
@@ -193,7 +193,7 @@ module _ {A V : Type 0} (G : Automata A) (setting : Setting A) (rules : List Rul
         }
 
     -- no more was visited
-    pub given-stops : (error : LineError) → IsUnvisited error → (before : List (List ℕ)) (read : List ℕ) → StandsAt line count before read → MissesLines G setting rules L visitor visitor' before read bytes error
+    pub given-stops : (error : LineError) → IsUnvisited error → (before : List (List ℕ)) (read : List ℕ) → HoldsBehind line count before read → MissesLines G setting rules L visitor visitor' before read bytes error
     given-stops error unvisited before read stands =
         let so_far = given.goes before read stands in
         subst (λ (bs : List ℕ). MissesLines G setting rules L visitor visitor' before read bs error) (sym given.parts)
@@ -201,8 +201,8 @@ module _ {A V : Type 0} (G : Automata A) (setting : Setting A) (rules : List Rul
 
     -- the next line was not, or the visitor failed at it
     pub given-breaks : (visitor'' : V) (part later : List ℕ) (error : LineError) → NoEnds part → rest ≡ part ++ 10 ∷ later
-        → ((before : List (List ℕ)) (read : List ℕ) → StandsAt line' count' before read → MissesLine G setting rules L visitor' visitor'' before (ended_line (read ++ part)) error)
-        → (before : List (List ℕ)) (read : List ℕ) → StandsAt line count before read → MissesLines G setting rules L visitor visitor'' before read bytes error
+        → ((before : List (List ℕ)) (read : List ℕ) → HoldsBehind line' count' before read → MissesLine G setting rules L visitor' visitor'' before (ended_line (read ++ part)) error)
+        → (before : List (List ℕ)) (read : List ℕ) → HoldsBehind line count before read → MissesLines G setting rules L visitor visitor'' before read bytes error
     given-breaks visitor'' part later error none split missed before read stands =
         let so_far = given.goes before read stands in
         subst (λ (bs : List ℕ). MissesLines G setting rules L visitor visitor'' before read bs error) (sym (given.parts ∙ ap (λ (xs : List ℕ). given.taken ++ xs) split))

@@ -14,7 +14,7 @@ use Rattle.aho_stream.specs.Replacing.{SourceGave}
 use Rattle.secret_rules.specs.Covering.{AreLineRuns, covering_by}
 use Rattle.secret_rules.specs.LineCovers.{AreSearchedFor, IsReadFailure, of_devices}
 use Rattle.secret_rules.specs.Lines.{Line, last_line, stream_lines}
-use Rattle.secret_rules.specs.SeenLines.{AreLineRunsBy, ComesTo, IsLineUnvisited, MissesLine, MissesLines, StandsAt, TakesLine, TakesLines}
+use Rattle.secret_rules.specs.SeenLines.{AreLineRunsBy, ComesTo, IsLineUnvisited, MissesLine, MissesLines, HoldsBehind, TakesLine, TakesLines}
 use Rattle.secret_rules.specs.Visitors.{IsVisitRefusal}
 use Rattle.secret_rules.specs.Visits.{AreFirstLines, BeginsVisiting, IsUnvisited, IsVisitFailure, LeavesVisited, VisitsEach, VisitsLines, VisitsWholeLines}
 use Rattle.secret_rules.specs.declared.error.LineError.{LineError}
@@ -122,10 +122,10 @@ module _ {A R V : Type 0} (G : Automata A) (setting : Setting A) (rules : List R
     pub before : List (List ℕ)
     pub read : List ℕ
     pub takes : TakesLines G setting rules L begun visitor [] [] given before read
-    pub stands : StandsAt line count before read
+    pub stands : HoldsBehind line count before read
 
   -- nothing was given yet
-  pub going_on-first : (line : OpenLine A) → StandsAt line 0 [] [] → GoingOn line 0 first begun
+  pub going_on-first : (line : OpenLine A) → HoldsBehind line 0 [] [] → GoingOn line 0 first begun
   going_on-first line stands = record {
     given = [];
     gives = gave-nothing S first;

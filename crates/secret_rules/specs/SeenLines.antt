@@ -23,7 +23,7 @@ pub record HasKept {A : Type 0} (line : OpenLine A) (count : ℕ) (read : List �
   pub kept : count ≤ line.setting.most → line.line.items ≡ read
 
 -- and these lines were marked before, as rules see them
-pub record StandsAt {A : Type 0} (line : OpenLine A) (count : ℕ) (before : List (List ℕ)) (read : List ℕ) : Type 0 where
+pub record HoldsBehind {A : Type 0} (line : OpenLine A) (count : ℕ) (before : List (List ℕ)) (read : List ℕ) : Type 0 where
   pub marked : HasMarked line.marker before
   pub has : HasKept line count read
 
@@ -35,7 +35,7 @@ pub record SeesLine {A : Type 0} (G : Automata A) (line line' : OpenLine A) (bef
 
 -- wherever the line stands
 abbrev pub SeesOpen : {A : Type 0} → Automata A → OpenLine A → ℕ → OpenLine A → Type 0
-SeesOpen G line count line' = (before : List (List ℕ)) (read : List ℕ) → StandsAt line count before read → SeesLine G line line' before read
+SeesOpen G line count line' = (before : List (List ℕ)) (read : List ℕ) → HoldsBehind line count before read → SeesLine G line line' before read
 
 -- why a line is not visited: the visit failed, or one of the rules does not mark it
 abbrev pub IsLineUnvisited : List Rule → LineError → Type 0
@@ -87,29 +87,29 @@ module _ {A : Type 0} (G : Automata A) (setting : Setting A) (rules : List Rule)
       pub before' : List (List ℕ)
       pub read' : List ℕ
       pub takes : TakesLines before read bytes before' read'
-      pub stands : StandsAt line' count' before' read'
+      pub stands : HoldsBehind line' count' before' read'
 
 -- of a line with its setting and rules, wherever it stands: the visitor took it with this end
 abbrev pub TakesOpen : {A V : Type 0} → Automata A → VisitorGhosts V → OpenLine A → ℕ → V → V → List ℕ → Type 0
-TakesOpen G L line count visitor visitor' end = (before : List (List ℕ)) (read : List ℕ) → StandsAt line count before read
+TakesOpen G L line count visitor visitor' end = (before : List (List ℕ)) (read : List ℕ) → HoldsBehind line count before read
     → TakesLine G line.setting (line_rules line) L visitor visitor' before (line_with read end)
 
 -- it did not, or failed at it
 abbrev pub MissesOpen : {A V : Type 0} → Automata A → VisitorGhosts V → OpenLine A → ℕ → V → V → List ℕ → LineError → Type 0
-MissesOpen G L line count visitor visitor' end error = (before : List (List ℕ)) (read : List ℕ) → StandsAt line count before read
+MissesOpen G L line count visitor visitor' end error = (before : List (List ℕ)) (read : List ℕ) → HoldsBehind line count before read
     → MissesLine G line.setting (line_rules line) L visitor visitor' before (line_with read end) error
 
 -- the next line begins behind it
-abbrev pub BeginsBehind : {A : Type 0} → OpenLine A → ℕ → OpenLine A → ℕ → Type 0
-BeginsBehind line count line' count' = (before : List (List ℕ)) (read : List ℕ) → StandsAt line count before read
-    → StandsAt line' count' (before ++ seen_line line.setting.most read ∷ []) []
+abbrev pub HoldsNext : {A : Type 0} → OpenLine A → ℕ → OpenLine A → ℕ → Type 0
+HoldsNext line count line' count' = (before : List (List ℕ)) (read : List ℕ) → HoldsBehind line count before read
+    → HoldsBehind line' count' (before ++ seen_line line.setting.most read ∷ []) []
 
 -- the visitor took the lines that came to their ends with more bytes
 abbrev pub TakesOpenLines : {A V : Type 0} → Automata A → VisitorGhosts V → OpenLine A → ℕ → V → V → OpenLine A → ℕ → List ℕ → Type 0
-TakesOpenLines G L line count visitor visitor' line' count' bytes = (before : List (List ℕ)) (read : List ℕ) → StandsAt line count before read
+TakesOpenLines G L line count visitor visitor' line' count' bytes = (before : List (List ℕ)) (read : List ℕ) → HoldsBehind line count before read
     → ComesTo G line.setting (line_rules line) L visitor visitor' line' count' before read bytes
 
 -- or some of them
 abbrev pub MissesOpenLines : {A V : Type 0} → Automata A → VisitorGhosts V → OpenLine A → ℕ → V → V → List ℕ → LineError → Type 0
-MissesOpenLines G L line count visitor visitor' bytes error = (before : List (List ℕ)) (read : List ℕ) → StandsAt line count before read
+MissesOpenLines G L line count visitor visitor' bytes error = (before : List (List ℕ)) (read : List ℕ) → HoldsBehind line count before read
     → MissesLines G line.setting (line_rules line) L visitor visitor' before read bytes error

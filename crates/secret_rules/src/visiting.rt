@@ -6,7 +6,7 @@ ghost use Rattle.aho_devices.specs.Refusals.{is_read_fault};
 ghost use Rattle.secret_rules.specs.LineCovers.{AreSearchedFor, of_devices};
 ghost use Rattle.secret_rules.specs.OpenLines.{IsSetting, line_rules};
 ghost use Rattle.secret_rules.specs.Ready.{CanCoverLines, CoversTheSame, most_of, rules_of, searched_automaton, words_of};
-ghost use Rattle.secret_rules.specs.SeenLines.{StandsAt};
+ghost use Rattle.secret_rules.specs.SeenLines.{HoldsBehind};
 ghost use Rattle.secret_rules.specs.Visits.{IsVisitFailure, LeavesVisited};
 
 use crate::covering::read_once;
@@ -26,7 +26,7 @@ fn visit_from<A: Automaton, R: Source, V: LineVisitor>(
     visitor: &mut V,
 ) -> Result<(), LineError>
     requires setting { IsSetting A.Automaton line.old.setting (line_rules line.old) }
-    requires unbegun { StandsAt line.old 0 [] [] }
+    requires unbegun { HoldsBehind line.old 0 [] [] }
     ensures leaves { LeavesVisited R.Source V.LineVisitor (AreSearchedFor A.Automaton line.old.setting.automaton)
         line.old.setting.words (line_rules line.old) line.old.setting.most
         source.old source.new visitor.old visitor.new result }

@@ -5,7 +5,7 @@ ghost use Rattle.aho_core.specs.Occurrence.{occurrence};
 ghost use Rattle.aho_stream.specs.After.{greatest_position};
 ghost use Rattle.secret_rules.specs.Marking.{HasMarked, IsLineFailure};
 ghost use Rattle.secret_rules.specs.OpenLines.{IsSetting, line_rules};
-ghost use Rattle.secret_rules.specs.SeenLines.{BeginsBehind, HasKept, IsLineUnvisited, MissesOpen, MissesOpenLines, SeesOpen, StandsAt, TakesOpen, TakesOpenLines};
+ghost use Rattle.secret_rules.specs.SeenLines.{HoldsNext, HasKept, IsLineUnvisited, MissesOpen, MissesOpenLines, SeesOpen, HoldsBehind, TakesOpen, TakesOpenLines};
 ghost use Rattle.secret_rules.specs.Visitors.{CanBeVisited};
 
 use crate::error::{LineError, MarkError};
@@ -64,7 +64,7 @@ impl<'r, 'a, A: Automaton> OpenLine<'r, 'a, A> {
     /// Finds what a visitor is to take of the line, of which so many bytes were read.
     fn find_seen(&mut self, count: usize) -> Result<(), MarkError>
         requires setting { IsSetting A.Automaton self.old.setting (line_rules self.old) }
-        requires stands { (before : List (List ℕ)) × (read : List ℕ) × StandsAt self.old count before read }
+        requires stands { (before : List (List ℕ)) × (read : List ℕ) × HoldsBehind self.old count before read }
         ensures sees { OnOk result (SeesOpen A.Automaton self.old count self.new) }
         ensures lie { OnOk result (CanBeVisited self.new.line.items self.new.runs.items) }
         ensures refused { IfErr result (IsLineFailure (line_rules self.old)) }
@@ -85,12 +85,12 @@ impl<'r, 'a, A: Automaton> OpenLine<'r, 'a, A> {
         visitor: &mut V,
     ) -> Result<(), LineError>
         requires setting { IsSetting A.Automaton self.old.setting (line_rules self.old) }
-        requires stands { (before : List (List ℕ)) × (read : List ℕ) × StandsAt self.old count.old before read }
+        requires stands { (before : List (List ℕ)) × (read : List ℕ) × HoldsBehind self.old count.old before read }
         ensures takes { OnOk result
             (TakesOpen A.Automaton V.LineVisitor self.old count.old visitor.old visitor.new end.now) }
         ensures misses { IfErr result
             (MissesOpen A.Automaton V.LineVisitor self.old count.old visitor.old visitor.new end.now) }
-        ensures stands { OnOk result (BeginsBehind self.old count.old self.new count.new) }
+        ensures stands { OnOk result (HoldsNext self.old count.old self.new count.new) }
         ensures none { OnOk result (count.new ≡ 0) }
         ensures only { IfErr result (IsLineUnvisited (line_rules self.old)) }
         ensures setting { self.new.setting ≡ self.old.setting }
@@ -111,7 +111,7 @@ impl<'r, 'a, A: Automaton> OpenLine<'r, 'a, A> {
         visitor: &mut V,
     ) -> Result<(), LineError>
         requires setting { IsSetting A.Automaton self.old.setting (line_rules self.old) }
-        requires stands { (before : List (List ℕ)) × (read : List ℕ) × StandsAt self.old count.old before read }
+        requires stands { (before : List (List ℕ)) × (read : List ℕ) × HoldsBehind self.old count.old before read }
         requires fits { count.old + length bytes.now ≤ greatest_position }
         ensures takes { OnOk result
             (TakesOpenLines A.Automaton V.LineVisitor self.old count.old visitor.old visitor.new self.new count.new bytes.now) }

@@ -5,7 +5,7 @@ use Rattle.secret_rules.specs.Covering.{seen_line}
 use Rattle.secret_rules.specs.Lines.{ended_line}
 use Rattle.secret_rules.specs.Marking.{marker_rules}
 use Rattle.secret_rules.specs.OpenLines.{line_rules}
-use Rattle.secret_rules.specs.SeenLines.{MissesLine, StandsAt, TakesLine}
+use Rattle.secret_rules.specs.SeenLines.{MissesLine, HoldsBehind, TakesLine}
 use Rattle.secret_rules.specs.declared.open_line.Setting.{Setting}
 use Rattle.secret_rules.proofs.Keeping.{stands-grown}
 use Rattle.secret_rules.proofs.Same.{setting-same}
@@ -61,7 +61,7 @@ lines-preserved g c =
           (λ before read stands.
           let more = stands-grown c.lines.self c.keep.new.self c.lines.count c.keep.new.count before read part stands kept.marker (kept.kept read stands.has) in (
             moved _ _ _ _ (λ x y. TakesLine g.A.Automaton x y g.V.LineVisitor c.lines.visitor c.give.new.visitor before (ended_line (read ++ part))) same_setting same_rules (gave.takes before (read ++ part) more),
-            subst (λ (x : Setting _). StandsAt c.give.new.self c.give.new.count (before ++ seen_line x.most (read ++ part) ∷ []) []) same_setting (gave.stands before (read ++ part) more),
+            subst (λ (x : Setting _). HoldsBehind c.give.new.self c.give.new.count (before ++ seen_line x.most (read ++ part) ∷ []) []) same_setting (gave.stands before (read ++ part) more),
           ));
     }
 
