@@ -1,5 +1,5 @@
 -- Lines that come to their ends and are visited, some after others.
-use Rattle.std.proofs.Common.{◌≡◌, inl, inr, ℕ, ◌<◌, ◌≤◌, List, [], ◌∷◌, ◌++◌, length, refl, sym, ◌∙◌, ap, subst, arith, append_assoc}
+use Rattle.std.proofs.Common.{◌≡◌, inl, inr, ℕ, List, [], ◌∷◌, ◌++◌, refl, sym, ◌∙◌, ap, subst, arith, append_assoc}
 use Rattle.std.proofs.lemmas.List.{append-nil, map-append}
 use Rattle.aho_core.specs.Occurrence.{Occurrence}
 use Rattle.aho_automaton.specs.declared.automaton.Automaton.{Ghosts as Automata}

@@ -1,9 +1,8 @@
 -- How far the visits of a stream's lines have come, from one read to the next.
-use Rattle.std.proofs.Common.{◌≡◌, inl, inr, ℕ, Bool, true, false, List, [], ◌∷◌, ◌++◌, refl, sym, ◌∙◌, ap, subst, arith, append_assoc}
+use Rattle.std.proofs.Common.{◌≡◌, inr, ℕ, Bool, true, false, List, [], ◌∷◌, ◌++◌, refl, sym, ◌∙◌, ap, subst, arith, append_assoc}
 use Rattle.std.specs.Prelude.{Result, Ok, Err, IfErr, OnOk}
 use Rattle.std.specs.Io.KnownBytes.{Consumes}
 use Rattle.std.proofs.lemmas.List.{append-nil}
-use Rattle.aho_core.specs.Occurrence.{Occurrence}
 use Rattle.aho_core.specs.declared.error.stream.StreamError.{StreamError}
 use Rattle.aho_core.specs.declared.error.stream.StreamError.TheVariants.{Match, Read, Write, WriteZero, Memory, PositionLimit}
 use Rattle.aho_automaton.specs.declared.automaton.Automaton.{Ghosts as Automata}
@@ -14,7 +13,7 @@ use Rattle.aho_stream.specs.Replacing.{SourceGave}
 use Rattle.secret_rules.specs.Covering.{AreLineRuns, covering_by}
 use Rattle.secret_rules.specs.LineCovers.{AreSearchedFor, IsReadFailure, of_devices}
 use Rattle.secret_rules.specs.Lines.{Line, last_line, stream_lines}
-use Rattle.secret_rules.specs.SeenLines.{AreLineRunsBy, ComesTo, IsLineUnvisited, MissesLine, MissesLines, HoldsBehind, TakesLine, TakesLines}
+use Rattle.secret_rules.specs.SeenLines.{ComesTo, IsLineUnvisited, MissesLine, MissesLines, HoldsBehind, TakesLine, TakesLines}
 use Rattle.secret_rules.specs.Visitors.{IsVisitRefusal}
 use Rattle.secret_rules.specs.Visits.{AreFirstLines, BeginsVisiting, IsUnvisited, IsVisitFailure, LeavesVisited, VisitsEach, VisitsLines, VisitsWholeLines}
 use Rattle.secret_rules.specs.declared.error.LineError.{LineError}

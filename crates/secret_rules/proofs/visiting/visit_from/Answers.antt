@@ -1,4 +1,4 @@
-use Rattle.std.proofs.Common.{◌≡◌, ◌==◌, ◌∙◌, inl, ℕ, Bool, true, false, List, [], refl, sym, ap, subst, arith, ne_eqb, length}
+use Rattle.std.proofs.Common.{◌≡◌, ◌==◌, ◌∙◌, inl, ℕ, Bool, false, List, refl, sym, ap, subst, arith, ne_eqb, length}
 use Rattle.std.proofs.lemmas.Result.{err_from_is_err_and}
 use Rattle.std.specs.Prelude.{Err}
 use Rattle.std.specs.Io.KnownBytes.{Consumes}

@@ -1,5 +1,4 @@
 use Rattle.std.proofs.Common.{◌∙◌, [], refl, sym}
-use Rattle.secret_rules.specs.OpenLines.{line_rules}
 use Rattle.secret_rules.proofs.Keeping.{stands-unread}
 use Rattle.secret_rules.proofs.Same.{setting-same}
 use Rattle.secret_rules.proofs.TakenLines.{moved}
