@@ -1,6 +1,6 @@
 //! Having a visitor take the lines of a text, one after another.
 
-ghost use Rattle.std.specs.Prelude.{◌≡◌, ◌+◌, ◌<◌, ◌≤◌, ◌++◌, ◌∷◌, [], ℕ, List, IfErr, OnOk, length};
+ghost use Rattle.std.specs.Prelude.{◌≡◌, ◌+◌, ◌≤◌, ◌++◌, ◌∷◌, [], ℕ, List, IfErr, OnOk, length};
 ghost use Rattle.aho_core.specs.Occurrence.{occurrence};
 ghost use Rattle.aho_stream.specs.After.{greatest_position};
 ghost use Rattle.secret_rules.specs.Marking.{HasMarked, IsLineFailure};
