@@ -58,3 +58,4 @@ pub mod LineRules
 pub mod RuleLines
 pub mod LongLines
 pub mod Ruled
+pub mod RuledChecks

@@ -1,13 +1,15 @@
 //! Names in messages: a control character is written as `\x` and two hexadecimal digits, so that each message is one line.
 
-ghost use Rattle.std.specs.Prelude.{◌≡◌, ◌<◌, ℕ, Option, decimal, option_map, true};
+ghost use Rattle.std.specs.Prelude.{◌≡◌, ◌<◌, ℕ, OnOk, Option, decimal, option_map, true};
 ghost use Rattle.programs.specs.Messages.{line_before};
 ghost use Rattle.programs.specs.Telling.{TellsBytes};
+ghost use Rattle.acredact.specs.Counts.{PutsText};
 ghost use Rattle.acredact.specs.Messages.{digit_of, escaped_of, is_control, message_about, shown, told_line};
 
 use aho_devices::device::Sink;
 use itoa::write_digits;
 use programs::errors::Errors;
+use std::alloc::AllocError;
 
 /// The name that stands before each message.
 pub const PROGRAM: &[u8] = b"acredact";
@@ -69,6 +71,32 @@ fn write_byte<E: Sink>(errors: &mut Errors<'_, E>, byte: u8)
         return errors.write(&[b"\\x", &digits]);
     }
     errors.write(&[&[byte]]);
+}
+
+/// Puts a name at the end of a text.
+pub fn put_shown(text: &mut Vec<u8>, name: &[u8]) -> Result<(), AllocError>
+    ensures put { OnOk result (PutsText text.old text.new (shown name.now)) }
+{
+    let mut rest = name;
+    while !rest.is_empty() {
+        put_byte(text, rest[0])?;
+        rest = &rest[1..];
+    }
+    Ok(())
+}
+
+/// Puts a byte of a name.
+fn put_byte(text: &mut Vec<u8>, byte: u8) -> Result<(), AllocError>
+    ensures put { OnOk result (PutsText text.old text.new (escaped_of byte)) }
+{
+    if is_control(byte) {
+        text.extend_from_slice(b"\\x")?;
+        text.push(digit_of(byte / 16))?;
+        text.push(digit_of(byte % 16))?;
+        return Ok(());
+    }
+    text.push(byte)?;
+    Ok(())
 }
 
 /// Whether no byte of a name is a control character.
