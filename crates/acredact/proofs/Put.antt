@@ -10,7 +10,7 @@ use Rattle.programs.specs.Telling.{Tells, TellsBytes, TellsSome}
 use Rattle.programs.specs.declared.errors.Errors.{Errors}
 use Rattle.programs.specs.declared.reason.Reason.{Reason}
 use Rattle.acredact.specs.Sums.{sums_of}
-use Rattle.acredact.specs.Arguments.{AsksToCheck, AsksToRedact, Given, all_asked, checks_asked, counts_asked}
+use Rattle.acredact.specs.Arguments.{AsksAnyCheck, AsksToRedact, Given, all_asked, counts_asked}
 use Rattle.acredact.specs.Calls.{Call, CountsCall, IsCountsLine, IsLineOf, WarnsCall}
 use Rattle.acredact.specs.Files.{unread_line}
 use Rattle.acredact.specs.Into.{IsOutputLine}
@@ -18,7 +18,7 @@ use Rattle.acredact.specs.declared.streams.Streams.{Streams}
 use Rattle.acredact.proofs.Calls.{tells_counts, tells_last}
 use Rattle.acredact.proofs.Given.{same_given}
 use Rattle.acredact.proofs.PlacedCalls.{tells_weaker}
-use Rattle.acredact.proofs.Statuses.{asks_check, no_redaction}
+use Rattle.acredact.proofs.Statuses.{any_redaction}
 use Rattle.acredact.proofs.Warned.{tells_both, warnings_tell}
 
 -- a status is 0, 1 or 2
@@ -34,14 +34,14 @@ by_status (suc status) none some = some (λ (is : suc status ≡ 0). omega (arit
 
 -- a redaction is no check
 pub no_check_of : (arguments : List (List ℕ)) (given : List Given) → all_asked arguments ≡ Some given → AsksToRedact given
-    → ((items : List Given) × (all_asked arguments ≡ Some items) × AsksToCheck items) → ⊥
+    → ((items : List Given) × (all_asked arguments ≡ Some items) × AsksAnyCheck items) → ⊥
 no_check_of arguments given right asks (items, mine, checks) =
     let same : items ≡ given = same_given (all_asked arguments) given items right mine in
-    no_redaction given (subst (λ (l : List Given). checks_asked l ≡ true) same (asks_check items checks)) asks
+    any_redaction given (subst AsksAnyCheck same checks) asks
 
 -- and its status is not 1
 pub not_one : (arguments : List (List ℕ)) (given : List Given) → all_asked arguments ≡ Some given → AsksToRedact given → {status : ℕ}
-    → (status ≡ 1 → (items : List Given) × (all_asked arguments ≡ Some items) × AsksToCheck items) → status ≡ 1 → ⊥
+    → (status ≡ 1 → (items : List Given) × (all_asked arguments ≡ Some items) × AsksAnyCheck items) → status ≡ 1 → ⊥
 not_one arguments given right asks check one = no_check_of arguments given right asks (check one)
 
 module _ {E : Type 0} (K : SinkGhosts E) (call : Call) (fails : Type 0) (name : List ℕ) where

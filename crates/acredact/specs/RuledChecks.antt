@@ -87,13 +87,17 @@ label_behind most number (Some rule) = rule_label (string_bytes rule.id) number
 abbrev pub rule_or_long : Labels → ℕ → List ℕ
 rule_or_long labels number = label_behind labels.most number (slice_get labels.rules number)
 
--- and of any number: a form is told as its pattern
-abbrev pub label_at : Labels → ℕ → Option Secret → List ℕ
-label_at labels number None = rule_or_long labels (number - length labels.secrets)
-label_at labels number (Some secret) = given_label (counts_for number secret)
-
+-- and of any number
 abbrev pub label_of : Labels → ℕ → List ℕ
-label_of labels number = label_at labels number (slice_get labels.secrets number)
+label_of labels number = if nat_lt number (length labels.secrets) then given_label number else rule_or_long labels (number - length labels.secrets)
+
+-- a run is told by the number of its pattern, where it is of a form, and else by its own
+abbrev pub told_by : ℕ → Option Secret → ℕ
+told_by number None = number
+told_by number (Some secret) = counts_for number secret
+
+abbrev pub told_for : Labels → ℕ → ℕ
+told_for labels number = told_by number (slice_get labels.secrets number)
 
 -- the line that tells of a run: of which file, of which line of it, and what marks it or occurs there
 abbrev pub finding_line : Labels → (name : List ℕ) → (line number : ℕ) → List ℕ
@@ -106,15 +110,16 @@ is_new came number = nat_lt number (length came) && not (slice_index_or came num
 abbrev pub with_new : List Bool → ℕ → List Bool
 with_new came number = if is_new came number then slice_set came number true else came
 
--- what is told of a run of this number
+-- what is told by this number
 abbrev pub finding_or_none : Labels → (name : List ℕ) → (line : ℕ) → List Bool → ℕ → List ℕ
 finding_or_none labels name line came number = if is_new came number then finding_line labels name line number else []
 
--- a line for each number of some runs, where it first comes
+-- a line for each number by which some runs are told, where it first comes
 abbrev pub findings_from : Labels → (name : List ℕ) → (line : ℕ) → List Bool → List Occurrence → List ℕ
 findings_from labels name line came [] = []
 findings_from labels name line came (run ∷ runs) =
-    finding_or_none labels name line came run.pattern ++ findings_from labels name line (with_new came run.pattern) runs
+    finding_or_none labels name line came (told_for labels run.pattern)
+    ++ findings_from labels name line (with_new came (told_for labels run.pattern)) runs
 
 -- those of a line
 abbrev pub line_findings : Labels → (name : List ℕ) → (line : ℕ) → List Occurrence → List ℕ

@@ -2,7 +2,7 @@
 
 ghost use Rattle.std.specs.Prelude.{◌≡◌, OnOk};
 ghost use Rattle.acredact.specs.Counts.{PutsText};
-ghost use Rattle.acredact.specs.RuledChecks.{finding_line, given_label, label_of, labels_of, long_label, numbers_in, rule_label, rule_or_long};
+ghost use Rattle.acredact.specs.RuledChecks.{finding_line, given_label, label_of, labels_of, long_label, numbers_in, rule_label, rule_or_long, told_for};
 
 use crate::counts::put_number;
 use crate::patterns::Rule;
@@ -27,6 +27,16 @@ pub fn numbers_in(legend: &Legend<'_, '_>) -> usize
 {
     let count = legend.secrets.len().saturating_add(legend.rules.len());
     count.saturating_add(1)
+}
+
+/// The number by which a run is told: that of its pattern, where it is of a form, and else its own.
+pub fn told_for(legend: &Legend<'_, '_>, number: usize) -> usize
+    ensures told { result ≡ told_for (labels_of legend.now) number }
+{
+    match legend.secrets.get(number) {
+        Some(rule) => rule.form_of.unwrap_or(number),
+        None => number,
+    }
 }
 
 /// Puts the line that tells of a run: of which file, of which line of it, and what its number stands for.
@@ -57,13 +67,14 @@ fn put_label(
 ) -> Result<(), AllocError>
     ensures put { OnOk result (PutsText text.old text.new (label_of (labels_of legend.now) number)) }
 {
-    match legend.secrets.get(number) {
-        Some(rule) => put_given(text, rule.form_of.unwrap_or(number)),
-        None => put_rule(text, legend, number - legend.secrets.len()),
+    let patterns = legend.secrets.len();
+    if number < patterns {
+        return put_given(text, number);
     }
+    put_rule(text, legend, number - patterns)
 }
 
-/// Puts the number of a pattern that was given, from 1 on.
+/// Puts the number of a pattern, from 1 on.
 fn put_given(text: &mut Vec<u8>, number: usize) -> Result<(), AllocError>
     ensures put { OnOk result (PutsText text.old text.new (given_label number)) }
 {

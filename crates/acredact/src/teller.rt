@@ -7,7 +7,7 @@ ghost use Rattle.acredact.specs.Counts.{PutsText};
 ghost use Rattle.acredact.specs.RuledChecks.{IsTellingEnd, TellsFindings, findings_behind, findings_of, is_new, next_of, runs_findings, with_new};
 
 use crate::findings::Findings;
-use crate::legend::{numbers_in, put_finding};
+use crate::legend::{numbers_in, put_finding, told_for};
 use aho_core::error::StreamError;
 use aho_core::search::Match;
 use aho_devices::device::Sink;
@@ -89,7 +89,8 @@ fn put_runs(
 {
     let mut rest = runs;
     while !rest.is_empty() {
-        put_run(text, came, findings, rest[0].pattern().as_usize())?;
+        let number = told_for(&findings.legend, rest[0].pattern().as_usize());
+        put_run(text, came, findings, number)?;
         rest = &rest[1..];
     }
     Ok(())
