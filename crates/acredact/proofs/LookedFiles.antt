@@ -5,6 +5,7 @@ use Rattle.std.specs.Io.{StartsWith}
 use Rattle.std.specs.Io.KnownBytes.{Appends, Keeps}
 use Rattle.std.proofs.KnownBytes.{Appends-kept, Appends-nil, Appends-trans, Consumes-nil, Keeps-refl, Keeps-trans}
 use Rattle.aho_core.specs.Occurrence.{Occurrence}
+use Rattle.aho_core.specs.Patterns.{Patterns}
 use Rattle.aho_automaton.specs.declared.automaton.Automaton.{Ghosts as Automata}
 use Rattle.aho_devices.specs.declared.device.Sink.{Ghosts as SinkGhosts}
 use Rattle.programs.specs.Names.{IsOneOf, is_input}
@@ -17,6 +18,7 @@ use Rattle.secret_rules.specs.Lines.{stream_lines}
 use Rattle.secret_rules.specs.Ready.{CanCoverLines, CoversTheSame, most_of, rules_of, searched_automaton, words_of}
 use Rattle.secret_rules.specs.declared.error.LineError.{LineError}
 use Rattle.secret_rules.specs.declared.line_cover.LineCover.{LineCover}
+use Rattle.secret_rules.specs.declared.rule.Rule.{Rule}
 use Rattle.acredact.specs.Calls.{IsUnreadLine}
 use Rattle.acredact.specs.Files.{unread_line}
 use Rattle.acredact.specs.Messages.{output_line}
@@ -41,6 +43,17 @@ still_covered G old new covering can same is = record {
       ∙ ap (λ m. covering_by (words_of new) (rules_of new) m covering.patterns) (sym same.most);
 }
 
+-- what covers lines by such parts does so by these
+pub covered_by : {A : Type 0} (G : Automata A) (cover : LineCover A) (words : Bool) (rules : List Rule) (most : ℕ) (p : Patterns) → CanCoverLines G cover → AreSearchedFor G (searched_automaton cover) p
+    → words_of cover ≡ words → rules_of cover ≡ rules → most_of cover ≡ most → IsCoveredBy G cover (covering_by words rules most p)
+covered_by G cover words rules most p can searched is_words is_rules is_most = record {
+  can = can;
+  searched = searched;
+  is = ap (λ w. covering_by w rules most p) (sym is_words)
+      ∙ ap (λ r. covering_by (words_of cover) r most p) (sym is_rules)
+      ∙ ap (λ m. covering_by (words_of cover) (rules_of cover) m p) (sym is_most);
+}
+
 -- where nothing was read nothing was told
 begun_none : (covering : Covering) (labels : Labels) (name : List ℕ) (left held : Option (List ℕ)) → BeginsTelling covering labels name left left held held
 begun_none covering labels name left held = record {
@@ -58,19 +71,14 @@ begun_none covering labels name left held = record {
 }
 
 -- of a text that is known
-module _ (covering : Covering) (labels : Labels) (name : List ℕ) (told left left' held held' : Option (List ℕ)) (kept : Keeps told left) where
-  known_text : (found : Bool) → SeesText covering labels name found left left' held held' → SeesText covering labels name found told left' held held'
-  known_text found sees = record {
-    runs = sees.runs;
-    has = record {
-      text = sees.has.text;
-      reads = record { read = known_read told left left' sees.has.text kept sees.has.reads.read; ended = sees.has.reads.ended };
-      are = sees.has.are;
-    };
-    found_is = sees.found_is;
-    told = sees.told;
-  }
+known_runs : (covering : Covering) (runs : List (List Occurrence)) (told left left' : Option (List ℕ)) → Keeps told left → HasLineRuns covering runs left left' → HasLineRuns covering runs told left'
+known_runs covering runs told left left' kept has = record {
+  text = has.text;
+  reads = record { read = known_read told left left' has.text kept has.reads.read; ended = has.reads.ended };
+  are = has.are;
+}
 
+module _ (covering : Covering) (labels : Labels) (name : List ℕ) (told left left' held held' : Option (List ℕ)) (kept : Keeps told left) where
   known_begun : BeginsTelling covering labels name left left' held held' → BeginsTelling covering labels name told left' held held'
   known_begun begun = record {
     given = begun.given;
@@ -111,10 +119,9 @@ module _ (quest : LineQuest) (name : List ℕ) (left left' held held' : Option (
   opened_named : is_input name ≡ false → left' ≡ left → (given rest : Option (List ℕ)) → Keeps (quest.holds name) given → (found : Bool)
       → SeesText quest.covering quest.labels name found given rest held held' → SeesNamed quest name found left left' held held'
   opened_named is same given rest kept found sees =
-      let known = known_text quest.covering quest.labels name (quest.holds name) given rest held held' kept found sees in
       record {
         runs = sees.runs;
-        has = of_folder quest.holds name (HasLineRuns quest.covering sees.runs) left left' is same rest known.has;
+        has = of_folder quest.holds name (HasLineRuns quest.covering sees.runs) left left' is same rest (known_runs quest.covering sees.runs (quest.holds name) given rest kept sees.has);
         found_is = sees.found_is;
         told = sees.told;
       }

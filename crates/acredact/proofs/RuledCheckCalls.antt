@@ -2,20 +2,27 @@
 use Rattle.std.proofs.Common.{◌≡◌, inl, inr, ℕ, List, Option, true, false, refl, sym, ap, subst, ◌∙◌, arith}
 use Rattle.std.specs.Prelude.{Bool, ◌<◌, ◌≤◌, Result, Ok, Err}
 use Rattle.std.specs.Io.KnownBytes.{Keeps}
+use Rattle.std.specs.declared.io.traits.Write.{Ghosts as Writers}
 use Rattle.std.proofs.KnownBytes.{Keeps-refl}
+use Rattle.aho_devices.specs.declared.adapters.FromWrite.{FromWrite}
 use Rattle.aho_devices.specs.declared.device.Sink.{Ghosts as SinkGhosts}
+use Rattle.programs.specs.Streams.{output_bytes}
 use Rattle.programs.specs.Telling.{Tells, TellsBytes, TellsSome}
 use Rattle.programs.specs.declared.errors.Errors.{Errors}
+use Rattle.secret_rules.specs.Covering.{covering_by}
 use Rattle.secret_rules.specs.declared.error.LineError.{LineError}
+use Rattle.secret_rules.specs.declared.rule.Rule.{Rule}
 use Rattle.acredact.specs.Arguments.{has}
 use Rattle.acredact.specs.Calls.{Call, IsUnreadLine, names_asked, reading_by}
 use Rattle.acredact.specs.Doubts.{TellsDoubts}
 use Rattle.acredact.specs.Failures.{IsFailureLine}
 use Rattle.acredact.specs.RuleLines.{IsRuledLine}
-use Rattle.acredact.specs.Ruled.{AreRuledLoaded, IsRuledNotice, IsRuledTold, RuledLoad}
-use Rattle.acredact.specs.RuledChecks.{CheckedLines, DoubtedCheck, RuledCheck, RuledCheckStatus, SeenFiles, TellsRuledCheck, line_quest_by}
+use Rattle.acredact.specs.LineRules.{most_asked}
+use Rattle.acredact.specs.Ruled.{AreRuledLoaded, IsRuledNotice, IsRuledTold, RuledLoad, patterns_by_case}
+use Rattle.acredact.specs.RuledChecks.{CheckedLines, DoubtedCheck, LineQuest, RuledCheck, RuledCheckStatus, SeenFiles, TellsRuledCheck, line_quest_by}
 use Rattle.acredact.specs.Statuses.{check_status}
-use Rattle.acredact.specs.declared.arguments.Word.TheVariants.{Summary}
+use Rattle.acredact.specs.Tables.{patterns_in}
+use Rattle.acredact.specs.declared.arguments.Word.TheVariants.{AsWord, Summary}
 use Rattle.acredact.specs.declared.failure.Failure.{Failure}
 use Rattle.acredact.specs.declared.look.Verdict.{Verdict}
 use Rattle.acredact.specs.declared.ruled_failure.RuledFailure.{RuledFailure}
@@ -25,6 +32,32 @@ use Rattle.acredact.proofs.PlacedCalls.{tells_weaker}
 use Rattle.acredact.proofs.RuledCalls.{doubts_told, notice_told}
 use Rattle.acredact.proofs.RuledFiles.{all_then, some_weaker, then_some}
 use Rattle.acredact.proofs.Statuses.{tells_one}
+
+-- what is looked for by such parts is that of the call
+abbrev pub quest_as : Call → RuledLoad → Bool → List Rule → ℕ → List (List ℕ) → LineQuest
+quest_as call load words told most texts = record {
+  holds = call.holds;
+  covering = covering_by words load.rules most (patterns_by_case call.given texts);
+  labels = record { secrets = load.secrets; rules = told; most = most };
+}
+
+pub quest_same : (call : Call) (load : RuledLoad) (words : Bool) (told : List Rule) (most : ℕ) (texts : List (List ℕ)) → words ≡ has AsWord call.given → told ≡ load.rules → most ≡ most_asked call.given
+    → texts ≡ patterns_in load.secrets → quest_as call load words told most texts ≡ line_quest_by call load
+quest_same call load words told most texts is_words is_told is_most is_texts =
+    ap (λ (w : Bool). quest_as call load w told most texts) is_words
+    ∙ ap (λ (t : List Rule). quest_as call load (has AsWord call.given) t most texts) is_told
+    ∙ ap (λ (m : ℕ). quest_as call load (has AsWord call.given) load.rules m texts) is_most
+    ∙ ap (λ (l : List (List ℕ)). quest_as call load (has AsWord call.given) load.rules (most_asked call.given) l) is_texts
+
+-- the same output holds the same
+pub same_kept : {W : Type 0} (Writes : Writers W) (output output' : FromWrite W) → output' ≡ output → Keeps (output_bytes Writes output) (output_bytes Writes output')
+same_kept Writes output output' same = subst (λ (o : FromWrite _). Keeps (output_bytes Writes output) (output_bytes Writes o)) (sym same) (Keeps-refl (output_bytes Writes output))
+
+-- no status is greater than 2
+pub check_within : (found all : Bool) (status : ℕ) → status ≡ check_status (record { found = found; all = all }) → status ≤ 2
+check_within true true status is = omega (arith, is)
+check_within false true status is = omega (arith, is)
+check_within found false status is = omega (arith, is)
 
 module _ {E : Type 0} (K : SinkGhosts E) (call : Call) where
   -- the arguments were refused, or there was no memory to read them

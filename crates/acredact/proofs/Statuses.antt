@@ -108,8 +108,8 @@ unruled_check given none asks = let clash : true ≡ false = sym (asks_rules_che
 
 -- either is a check
 any_parts : (check help version : Bool) → check ≡ true → help ≡ false → version ≡ false → (check && not help && not version) ≡ true
-any_parts check help version is none no =
-    ap (λ (b : Bool). b && not help && not version) is ∙ ap (λ (b : Bool). true && not b && not version) none ∙ ap (λ (b : Bool). true && not false && not b) no
+any_parts check help version is no_help no_version =
+    ap (λ (b : Bool). b && not help && not version) is ∙ ap (λ (b : Bool). true && not b && not version) no_help ∙ ap (λ (b : Bool). true && not false && not b) no_version
 
 pub check_is_any : (given : List Given) → checks_asked given ≡ true → any_check_asked given ≡ true
 check_is_any given is =

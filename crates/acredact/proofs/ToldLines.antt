@@ -14,12 +14,12 @@ use Rattle.aho_devices.specs.declared.device.Source.{Ghosts as SourceGhosts}
 use Rattle.aho_stream.specs.Replacing.{MayBe}
 use Rattle.secret_rules.specs.Covering.{Covering, covering_by}
 use Rattle.secret_rules.specs.Lines.{Line, stream_lines}
-use Rattle.secret_rules.specs.Visits.{AreFirstLines, BeginsVisiting, StopsWithin, VisitsEach, VisitsLines, taken_line}
+use Rattle.secret_rules.specs.Visits.{AreFirstLines, BeginsVisiting, LeavesVisited, StopsWithin, VisitsEach, VisitsLines, taken_line}
 use Rattle.secret_rules.specs.declared.error.LineError.{LineError}
 use Rattle.secret_rules.specs.declared.error.LineError.TheVariants.{Mark, Stream}
 use Rattle.secret_rules.specs.declared.rule.Rule.{Rule}
 use Rattle.secret_rules.specs.declared.visitor.LineVisitor.{Ghosts as VisitorGhosts}
-use Rattle.acredact.specs.RuledChecks.{BeginsGiven, BeginsTelling, IfLooked, IsFresh, LookedText, SeesText, StopsTelling, TellsGiven, TellsLine, TellsLines, findings_behind, findings_of, is_some_line, is_some_run, labels_of, lines_findings, look_of_lines}
+use Rattle.acredact.specs.RuledChecks.{BeginsGiven, BeginsTelling, IfLooked, IsFresh, LookedText, SeesText, StopsTelling, TellsGiven, TellsLine, TellsLines, findings_behind, findings_of, found_of, is_some_line, is_some_run, labels_of, lines_findings, look_of_lines}
 use Rattle.acredact.specs.declared.findings.Findings.{Findings}
 use Rattle.acredact.proofs.OneFile.{ends_by}
 
@@ -141,7 +141,7 @@ module _ {V W : Type 0} (L : VisitorGhosts V) (K : SinkGhosts W) (most : ℕ) (o
           written = subst (Appends (K.taken (output_of visitor).now) (K.taken (output_of visitor').now)) (from_first whole.runs) each.told;
         }
 
-    pub lines_ended : VisitsLines S L Searched words rules most source source' visitor visitor'
+    lines_ended : VisitsLines S L Searched words rules most source source' visitor visitor'
         → TellsLines S K findings (Ok (found_in visitor').found) source source' (output_of visitor).now (output_of visitor').now (covering_by words rules most p)
     lines_ended whole =
         let each = each_told visitor visitor' (stream_lines whole.given) whole.runs whole.visits in
@@ -158,7 +158,7 @@ module _ {V W : Type 0} (L : VisitorGhosts V) (K : SinkGhosts W) (most : ℕ) (o
           begun = begun_whole whole;
         }
 
-    pub lines_stopped : (error : LineError) → BeginsVisiting S L Searched words rules most source source' visitor visitor' error
+    lines_stopped : (error : LineError) → BeginsVisiting S L Searched words rules most source source' visitor visitor' error
         → TellsLines S K findings (Err error) source source' (output_of visitor).now (output_of visitor').now (covering_by words rules most p)
     lines_stopped error begun =
         let stop = stops_told visitor visitor' begun.lines begun.runs error begun.stops in
@@ -177,6 +177,17 @@ module _ {V W : Type 0} (L : VisitorGhosts V) (K : SinkGhosts W) (most : ℕ) (o
             written = stop.written;
           };
         }
+
+    pub told_lines : (done : Result (Unit {0}) LineError) → LeavesVisited S L Searched words rules most source source' visitor visitor' done
+        → TellsLines S K findings (found_of done (found_in visitor').found) source source' (output_of visitor).now (output_of visitor').now (covering_by words rules most p)
+    told_lines (Ok tt) leaves = lines_ended leaves.visited
+    told_lines (Err error) leaves = lines_stopped error leaves.begun
+
+  -- to the same output
+  pub told_same : {R : Type 0} (S : SourceGhosts R) (Searched : Patterns → Type 0) (words : Bool) (rules : List Rule) (source source' : R) (visitor visitor' : V) (done : Result (Unit {0}) LineError)
+      → LeavesVisited S L Searched words rules most source source' visitor visitor' done → (output_of visitor').ghost_name ≡ (output_of visitor).ghost_name
+  told_same S Searched words rules source source' visitor visitor' (Ok tt) leaves = (each_told visitor visitor' (stream_lines leaves.visited.given) leaves.visited.runs leaves.visited.visits).same
+  told_same S Searched words rules source source' visitor visitor' (Err error) leaves = (stops_told visitor visitor' leaves.begun.lines leaves.begun.runs error leaves.begun.stops).same
 
 -- what comes of a text, by what is told of the lines of its source
 module _ {R W : Type 0} (S : SourceGhosts R) (K : SinkGhosts W) (findings : Findings) (covering : Covering) (source source' : R) (output output' : W) (before : Option (List ℕ))

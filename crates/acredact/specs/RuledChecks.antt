@@ -162,15 +162,6 @@ next_of findings came number = finding_or_none (labels_of findings.legend) findi
 abbrev pub findings_behind : Findings → List Occurrence → Findings
 findings_behind findings runs = record findings { line = counted_more findings.line; found = findings.found || is_some_run runs }
 
--- why it is not told: the output fails, or memory runs out
-abbrev pub IsTellingEnd : StreamError → Type 0
-IsTellingEnd (Match cause) = ⊥
-IsTellingEnd (Read fault) = ⊥
-IsTellingEnd (Write fault) = ⊤
-IsTellingEnd WriteZero = ⊤
-IsTellingEnd Memory = ⊤
-IsTellingEnd PositionLimit = ⊥
-
 module _ {W : Type 0} (K : SinkGhosts W) where
   -- the runs of a line were told to the same output
   pub record TellsLine (output output' : MutBor W) (findings findings' : Findings) (runs : List Occurrence) : Type 0 where
@@ -257,6 +248,11 @@ look_of_lines (Err (Stream WriteZero)) = Err (Stream WriteZero)
 look_of_lines (Err (Stream Memory)) = Err (Stream Memory)
 look_of_lines (Err (Stream PositionLimit)) = Ok (Unread TooLong)
 look_of_lines (Err (Mark error)) = Err (Mark error)
+
+-- whether something was found, where all lines were told
+abbrev pub found_of : Result (Unit {0}) LineError → Bool → Result Bool LineError
+found_of (Ok done) found = Ok found
+found_of (Err error) found = Err error
 
 -- what holds where a file was read to its end, by whether something was found
 abbrev pub IfLooked : Result Look LineError → (Bool → Type 0) → Type 0

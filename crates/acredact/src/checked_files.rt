@@ -2,7 +2,7 @@
 
 ghost use Rattle.std.specs.Prelude.{◌≡◌, OnOk, true};
 ghost use Rattle.secret_rules.specs.Ready.{CanCoverLines};
-ghost use Rattle.acredact.specs.RuledChecks.{IfCoveredBy, IsFresh, LookedFile, LookedInput, LookedOpened, SeesFile, SeesFiles, StaysCovered, TellsLines, look_of_lines, verdict_seen};
+ghost use Rattle.acredact.specs.RuledChecks.{IfCoveredBy, IsFresh, LookedFile, LookedInput, LookedOpened, SeesFile, SeesFiles, StaysCovered, TellsLines, found_of, look_of_lines, verdict_seen};
 
 use crate::failure::{tell_output, tell_unread};
 use crate::files::is_input;
@@ -235,9 +235,50 @@ fn tell_lines<A: Automaton, R: Source, W: Sink>(
     ensures still { StaysCovered A.Automaton cover.old cover.new }
     ensures ready { CanCoverLines A.Automaton cover.new }
 {
-    let mut teller = Teller { output, findings };
-    match visit_lines(cover, source, &mut teller) {
-        Ok(()) => Ok(teller.findings.found),
+    let told = tell_with(cover, source, Teller { output, findings });
+    let Told { output, done } = told;
+    let _output = output;
+    done
+}
+
+/// What comes of the lines of a source.
+#[derive(Drop)]
+struct Told<'o, W> {
+    /// Where they were told.
+    output: &'o mut W,
+    /// Whether something was found, if they were read to their end.
+    done: Result<bool, LineError>,
+}
+
+/// Has what tells of lines take those that a source gives.
+fn tell_with<'o, A: Automaton, R: Source, W: Sink>(
+    cover: &mut LineCover<'_, '_, A>,
+    source: &mut R,
+    teller: Teller<'o, '_, '_, '_, W>,
+) -> Told<'o, W>
+    requires ready { CanCoverLines A.Automaton cover.old }
+    requires fresh { IsFresh teller.findings }
+    ensures tells { IfCoveredBy A.Automaton cover.old (TellsLines R.Source W.Sink teller.entry.findings
+        result.done source.old source.new teller.entry.output.now result.output.now) }
+    ensures same { result.output.ghost_name ≡ teller.entry.output.ghost_name }
+    ensures still { StaysCovered A.Automaton cover.old cover.new }
+    ensures ready { CanCoverLines A.Automaton cover.new }
+{
+    let mut teller = teller;
+    let done = visit_lines(cover, source, &mut teller);
+    let Teller { output, findings } = teller;
+    Told {
+        output,
+        done: found_of(done, findings.found),
+    }
+}
+
+/// Whether something was found, where all lines were told.
+fn found_of(done: Result<(), LineError>, found: bool) -> Result<bool, LineError>
+    ensures found { result ≡ found_of done found }
+{
+    match done {
+        Ok(()) => Ok(found),
         Err(error) => Err(error),
     }
 }

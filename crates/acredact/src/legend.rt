@@ -108,5 +108,6 @@ fn put_long(text: &mut Vec<u8>, most: usize) -> Result<(), AllocError>
 {
     text.extend_from_slice(b"line of more than ")?;
     put_number(text, most as u64)?;
-    text.extend_from_slice(b" bytes")
+    text.extend_from_slice(b" bytes")?;
+    Ok(())
 }

@@ -143,17 +143,19 @@ fn check_lines<'a, F: Folder, I: Read, W: Write, E: Sink>(
     let nfa = build_lined(alloc, given, patterns.as_slice())?;
     let most = most_of(given);
     let words = has(given, Word::AsWord);
+    let tells = has(given, Word::Summary);
     let mut cover = line_cover(alloc, &nfa, line_rules, words, most)?;
     let rules = line_rules.as_slice();
+    let legend = Legend {
+        secrets,
+        rules,
+        most,
+    };
     let checked = Checked {
         alloc,
         folder,
-        legend: Legend {
-            secrets,
-            rules,
-            most,
-        },
-        tells: has(given, Word::Summary),
+        legend,
+        tells,
     };
     match check_to(&mut cover, &checked, names.as_slice(), streams) {
         Ok(verdict) => Ok(verdict),

@@ -1,10 +1,11 @@
 //! A visitor of lines that tells by which patterns and rules something is covered in them.
 
-ghost use Rattle.std.specs.Prelude.{◌≡◌, IfErr, IfOk, OnErr, OnOk, Ok};
+ghost use Rattle.std.specs.Prelude.{◌≡◌, IfErr, IfOk, OnErr, OnOk};
 ghost use Rattle.std.specs.Io.KnownBytes.{Appends};
 ghost use Rattle.aho_devices.specs.Counts.{AppendsBeginning};
+ghost use Rattle.secret_rules.specs.Visitors.{IsVisitRefusal};
 ghost use Rattle.acredact.specs.Counts.{PutsText};
-ghost use Rattle.acredact.specs.RuledChecks.{IsTellingEnd, TellsFindings, findings_behind, findings_of, is_new, next_of, runs_findings, with_new};
+ghost use Rattle.acredact.specs.RuledChecks.{findings_behind, findings_of, is_new, next_of, runs_findings, with_new};
 
 use crate::findings::Findings;
 use crate::legend::{numbers_in, put_finding, told_for};
@@ -59,7 +60,7 @@ fn tell_runs<W: Sink>(
         (findings_of findings.now runs.now)) }
     ensures begun { OnErr result (AppendsBeginning (W.taken output.old) (W.taken output.new)
         (findings_of findings.now runs.now)) }
-    ensures only { IfErr result IsTellingEnd }
+    ensures only { IfErr result IsVisitRefusal }
 {
     if runs.is_empty() {
         return Ok(());
