@@ -19,7 +19,7 @@ use Rattle.secret_rules.specs.declared.error.LineError.{LineError}
 use Rattle.secret_rules.specs.declared.error.LineError.TheVariants.{Mark, Stream}
 use Rattle.secret_rules.specs.declared.rule.Rule.{Rule}
 use Rattle.secret_rules.specs.declared.visitor.LineVisitor.{Ghosts as VisitorGhosts}
-use Rattle.acredact.specs.RuledChecks.{BeginsGiven, BeginsTelling, IfLooked, IsFresh, LookedText, SeesText, StopsTelling, TellsGiven, TellsLine, TellsLines, findings_behind, findings_of, found_of, is_some_line, is_some_run, labels_of, lines_findings, look_of_lines}
+use Rattle.acredact.specs.RuledChecks.{BeginsGiven, BeginsTelling, IfLooked, IsAtFirst, LookedText, SeesText, StopsTelling, TellsGiven, TellsLine, SaysLines, findings_behind, findings_of, found_of, is_some_line, is_some_run, labels_of, lines_findings, look_of_lines}
 use Rattle.acredact.specs.declared.findings.Findings.{Findings}
 use Rattle.acredact.proofs.OneFile.{ends_by}
 
@@ -118,7 +118,7 @@ module _ {V W : Type 0} (L : VisitorGhosts V) (K : SinkGhosts W) (most : ℕ) (o
       }
 
   module _ {R : Type 0} (S : SourceGhosts R) (Searched : Patterns → Type 0) (words : Bool) (rules : List Rule) (p : Patterns) (sought : Searched p) (source source' : R) (visitor visitor' : V)
-      (findings : Findings) (fresh : IsFresh findings) (is : found_in visitor ≡ findings) where
+      (findings : Findings) (fresh : IsAtFirst findings) (is : found_in visitor ≡ findings) where
     -- from the first line on
     from_first : (runs : List (List Occurrence)) → all_findings (found_in visitor) runs ≡ lines_findings (labels_of findings.legend) findings.name.now 1 runs
     from_first runs = ap (λ (f : Findings). all_findings f runs) is ∙ ap (λ (n : ℕ). lines_findings (labels_of findings.legend) findings.name.now n runs) fresh.0
@@ -142,7 +142,7 @@ module _ {V W : Type 0} (L : VisitorGhosts V) (K : SinkGhosts W) (most : ℕ) (o
         }
 
     lines_ended : VisitsLines S L Searched words rules most source source' visitor visitor'
-        → TellsLines S K findings (Ok (found_in visitor').found) source source' (output_of visitor).now (output_of visitor').now (covering_by words rules most p)
+        → SaysLines S K findings (Ok (found_in visitor').found) source source' (output_of visitor).now (output_of visitor').now (covering_by words rules most p)
     lines_ended whole =
         let each = each_told visitor visitor' (stream_lines whole.given) whole.runs whole.visits in
         record {
@@ -159,7 +159,7 @@ module _ {V W : Type 0} (L : VisitorGhosts V) (K : SinkGhosts W) (most : ℕ) (o
         }
 
     lines_stopped : (error : LineError) → BeginsVisiting S L Searched words rules most source source' visitor visitor' error
-        → TellsLines S K findings (Err error) source source' (output_of visitor).now (output_of visitor').now (covering_by words rules most p)
+        → SaysLines S K findings (Err error) source source' (output_of visitor).now (output_of visitor').now (covering_by words rules most p)
     lines_stopped error begun =
         let stop = stops_told visitor visitor' begun.lines begun.runs error begun.stops in
         record {
@@ -179,7 +179,7 @@ module _ {V W : Type 0} (L : VisitorGhosts V) (K : SinkGhosts W) (most : ℕ) (o
         }
 
     pub told_lines : (done : Result (Unit {0}) LineError) → LeavesVisited S L Searched words rules most source source' visitor visitor' done
-        → TellsLines S K findings (found_of done (found_in visitor').found) source source' (output_of visitor).now (output_of visitor').now (covering_by words rules most p)
+        → SaysLines S K findings (found_of done (found_in visitor').found) source source' (output_of visitor).now (output_of visitor').now (covering_by words rules most p)
     told_lines (Ok tt) leaves = lines_ended leaves.visited
     told_lines (Err error) leaves = lines_stopped error leaves.begun
 
@@ -223,7 +223,7 @@ module _ {R W : Type 0} (S : SourceGhosts R) (K : SinkGhosts W) (findings : Find
   if_ok P Q (Ok found) of is = of found is
   if_ok P Q (Err error) of is = tt
 
-  pub looked_text : (result : Result Bool LineError) → TellsLines S K findings result source source' output output' covering
+  pub looked_text : (result : Result Bool LineError) → SaysLines S K findings result source source' output output' covering
       → LookedText covering (labels_of findings.legend) findings.name.now (look_of_lines result) before (S.remaining source') (K.taken output) (K.taken output')
   looked_text result tells = record {
     whole = looks (λ found. SeesText covering (labels_of findings.legend) findings.name.now found before (S.remaining source') (K.taken output) (K.taken output')) result

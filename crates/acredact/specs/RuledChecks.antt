@@ -155,8 +155,8 @@ findings_of findings runs = line_findings (labels_of findings.legend) findings.n
 abbrev pub runs_findings : Findings → List Bool → List Occurrence → List ℕ
 runs_findings findings came runs = findings_from (labels_of findings.legend) findings.name.now findings.line came runs
 
-abbrev pub next_of : Findings → List Bool → ℕ → List ℕ
-next_of findings came number = finding_or_none (labels_of findings.legend) findings.name.now findings.line came number
+abbrev pub next_finding : Findings → List Bool → ℕ → List ℕ
+next_finding findings came number = finding_or_none (labels_of findings.legend) findings.name.now findings.line came number
 
 -- with one more line
 abbrev pub findings_behind : Findings → List Occurrence → Findings
@@ -386,16 +386,16 @@ pub record IsCoveredBy {A : Type 0} (G : Automata A) (cover : LineCover A) (cove
   pub is : covering ≡ covering_by (words_of cover) (rules_of cover) (most_of cover) covering.patterns
 
 -- what holds of all by which it does
-abbrev pub IfCoveredBy : {A : Type 0} → Automata A → LineCover A → (Covering → Type 0) → Type 0
-IfCoveredBy G cover Holds = (covering : Covering) → IsCoveredBy G cover covering → Holds covering
+abbrev pub IfCovers : {A : Type 0} → Automata A → LineCover A → (Covering → Type 0) → Type 0
+IfCovers G cover Holds = (covering : Covering) → IsCoveredBy G cover covering → Holds covering
 
 -- and afterwards as before
 abbrev pub StaysCovered : {A : Type 0} → Automata A → LineCover A → LineCover A → Type 0
-StaysCovered G cover cover' = IfCoveredBy G cover (IsCoveredBy G cover')
+StaysCovered G cover cover' = IfCovers G cover (IsCoveredBy G cover')
 
 -- where nothing was read of a file
-abbrev pub IsFresh : Findings → Type 0
-IsFresh findings = (findings.line ≡ 1) × (findings.found ≡ false)
+abbrev pub IsAtFirst : Findings → Type 0
+IsAtFirst findings = (findings.line ≡ 1) × (findings.found ≡ false)
 
 -- the stream has ended, and the runs of its lines were told
 pub record TellsGiven {R W : Type 0} (S : SourceGhosts R) (K : SinkGhosts W) (findings : Findings) (found : Bool) (source source' : R) (output output' : W) (covering : Covering) : Type 0 where
@@ -424,7 +424,7 @@ abbrev pub quest_in : {F X : Type 0} → Folders F X → Checked F → Covering 
 quest_in D checked covering = record { holds = D.holds checked.folder.now; covering = covering; labels = labels_of checked.legend }
 
 -- what comes of the lines of a source
-pub record TellsLines {R W : Type 0} (S : SourceGhosts R) (K : SinkGhosts W) (findings : Findings) (result : Result Bool LineError) (source source' : R) (output output' : W) (covering : Covering) : Type 0 where
+pub record SaysLines {R W : Type 0} (S : SourceGhosts R) (K : SinkGhosts W) (findings : Findings) (result : Result Bool LineError) (source source' : R) (output output' : W) (covering : Covering) : Type 0 where
   pub whole : IfOk result (λ found. TellsGiven S K findings found source source' output output' covering)
   pub begun : BeginsGiven S K findings source source' output output' covering
 
@@ -457,8 +457,8 @@ module _ {W : Type 0} (K : SinkGhosts W) where
 
 module _ {R : Type 0} {Reads : Readers R} {W E : Type 0} (Writes : Writers W) (K : SinkGhosts E) where
   -- what comes of files, of which something is told to the output where that is asked for
-  abbrev pub ChecksTo : {F X : Type 0} → Folders F X → Checked F → List (Bor (List ℕ)) → Result Verdict LineError → (streams streams' : Streams R W E Reads) → Covering → Type 0
-  ChecksTo D checked names result streams streams' covering = (held held' : Option (List ℕ))
+  abbrev pub SeesTo : {F X : Type 0} → Folders F X → Checked F → List (Bor (List ℕ)) → Result Verdict LineError → (streams streams' : Streams R W E Reads) → Covering → Type 0
+  SeesTo D checked names result streams streams' covering = (held held' : Option (List ℕ))
       × (checked.tells ≡ true → (held ≡ output_bytes Writes streams.output) × (held' ≡ output_bytes Writes streams'.output))
       × SeenFiles K (quest_in D checked covering) (name_bytes names) result (bytes_left streams.input) (bytes_left streams'.input) held held' streams.errors streams'.errors
 
@@ -493,16 +493,16 @@ SaysOfRulesCheck Writes K D folder given status streams streams' = AsksForRulesC
 
 module _ {R W E F X : Type 0} {Reads : Readers R} (D : Folders F X) (folder : F) (given : List Given) (streams streams' : Streams R W E Reads) where
   -- of a call that asks for this each file was read to its end, and no line has a run, or one has
-  abbrev pub RuledUnmatched : Writers W → Type 0
-  RuledUnmatched Writes = SeesByRules (call_of D folder given) false (bytes_left streams.input) (bytes_left streams'.input) (output_bytes Writes streams.output) (output_bytes Writes streams'.output)
+  abbrev pub RuledClean : Writers W → Type 0
+  RuledClean Writes = SeesByRules (call_of D folder given) false (bytes_left streams.input) (bytes_left streams'.input) (output_bytes Writes streams.output) (output_bytes Writes streams'.output)
 
-  abbrev pub RuledMatched : Writers W → Type 0
-  RuledMatched Writes = SeesByRules (call_of D folder given) true (bytes_left streams.input) (bytes_left streams'.input) (output_bytes Writes streams.output) (output_bytes Writes streams'.output)
+  abbrev pub RuledFound : Writers W → Type 0
+  RuledFound Writes = SeesByRules (call_of D folder given) true (bytes_left streams.input) (bytes_left streams'.input) (output_bytes Writes streams.output) (output_bytes Writes streams'.output)
 
   -- a beginning of what tells of each file was written
   abbrev pub RuledFindingsBegin : Writers W → Type 0
   RuledFindingsBegin Writes = BeginsRuledCheck (call_of D folder given) (bytes_left streams.input) (bytes_left streams'.input) (output_bytes Writes streams.output) (output_bytes Writes streams'.output)
 
   -- nothing was told but of patterns of lists
-  abbrev pub TellsListsByRules : SinkGhosts E → Type 0
-  TellsListsByRules K = TellsListsBeside K (call_of D folder given) (bytes_left streams.input) streams.errors streams'.errors
+  abbrev pub ListsByRules : SinkGhosts E → Type 0
+  ListsByRules K = TellsListsBeside K (call_of D folder given) (bytes_left streams.input) streams.errors streams'.errors

@@ -2,7 +2,7 @@
 
 ghost use Rattle.std.specs.Prelude.{◌≡◌, OnOk, true};
 ghost use Rattle.secret_rules.specs.Ready.{CanCoverLines};
-ghost use Rattle.acredact.specs.RuledChecks.{IfCoveredBy, IsFresh, LookedFile, LookedInput, LookedOpened, SeesFile, SeesFiles, StaysCovered, TellsLines, found_of, look_of_lines, verdict_seen};
+ghost use Rattle.acredact.specs.RuledChecks.{IfCovers, IsAtFirst, LookedFile, LookedInput, LookedOpened, SeesFile, SeesFiles, StaysCovered, SaysLines, found_of, look_of_lines, verdict_seen};
 
 use crate::failure::{tell_output, tell_unread};
 use crate::files::is_input;
@@ -50,7 +50,7 @@ pub fn check_files<A: Automaton, F: Folder, I: Read, W: Sink, E: Sink>(
     errors: &mut Errors<'_, E>,
 ) -> Result<Verdict, LineError>
     requires ready { CanCoverLines A.Automaton cover.old }
-    ensures sees { IfCoveredBy A.Automaton cover.old (SeesFiles W.Sink E.Sink F.Folder checked.now
+    ensures sees { IfCovers A.Automaton cover.old (SeesFiles W.Sink E.Sink F.Folder checked.now
         names.now result input.old input.new output.old output.new errors.old errors.new) }
     ensures flushed { OnOk result (W.flushed output.new ≡ true) }
 {
@@ -69,7 +69,7 @@ fn check_each<A: Automaton, F: Folder, I: Read, W: Sink, E: Sink>(
     errors: &mut Errors<'_, E>,
 ) -> Result<Verdict, LineError>
     requires ready { CanCoverLines A.Automaton cover.old }
-    ensures sees { IfCoveredBy A.Automaton cover.old (SeesFiles W.Sink E.Sink F.Folder checked.now
+    ensures sees { IfCovers A.Automaton cover.old (SeesFiles W.Sink E.Sink F.Folder checked.now
         names.now result input.old input.new output.old output.new errors.old errors.new) }
 {
     let mut verdict = Verdict {
@@ -117,7 +117,7 @@ fn check_told<A: Automaton, F: Folder, I: Read, W: Sink, E: Sink>(
     errors: &mut Errors<'_, E>,
 ) -> Result<Option<bool>, LineError>
     requires ready { CanCoverLines A.Automaton cover.old }
-    ensures sees { IfCoveredBy A.Automaton cover.old (SeesFile W.Sink E.Sink F.Folder checked.now
+    ensures sees { IfCovers A.Automaton cover.old (SeesFile W.Sink E.Sink F.Folder checked.now
         name.now result input.old input.new output.old output.new errors.old errors.new) }
     ensures still { StaysCovered A.Automaton cover.old cover.new }
     ensures ready { CanCoverLines A.Automaton cover.new }
@@ -140,7 +140,7 @@ fn check_apart<A: Automaton, F: Folder, I: Read, W: Sink, E: Sink>(
     errors: &mut Errors<'_, E>,
 ) -> Result<Option<bool>, LineError>
     requires ready { CanCoverLines A.Automaton cover.old }
-    ensures sees { IfCoveredBy A.Automaton cover.old (SeesFile W.Sink E.Sink F.Folder checked.now
+    ensures sees { IfCovers A.Automaton cover.old (SeesFile W.Sink E.Sink F.Folder checked.now
         name.now result input.old input.new output.old output.new errors.old errors.new) }
     ensures still { StaysCovered A.Automaton cover.old cover.new }
     ensures ready { CanCoverLines A.Automaton cover.new }
@@ -164,7 +164,7 @@ fn check_file<A: Automaton, F: Folder, I: Read, W: Sink>(
     output: &mut W,
 ) -> Result<Look, LineError>
     requires ready { CanCoverLines A.Automaton cover.old }
-    ensures looked { IfCoveredBy A.Automaton cover.old (LookedFile W.Sink F.Folder checked.now
+    ensures looked { IfCovers A.Automaton cover.old (LookedFile W.Sink F.Folder checked.now
         name.now result input.old input.new output.old output.new) }
     ensures still { StaysCovered A.Automaton cover.old cover.new }
     ensures ready { CanCoverLines A.Automaton cover.new }
@@ -193,8 +193,8 @@ fn check_opened<A: Automaton, I: Read + Drop, W: Sink>(
     output: &mut W,
 ) -> Result<Look, LineError>
     requires ready { CanCoverLines A.Automaton cover.old }
-    requires fresh { IsFresh findings }
-    ensures looked { IfCoveredBy A.Automaton cover.old (LookedOpened W.Sink findings.entry
+    requires fresh { IsAtFirst findings }
+    ensures looked { IfCovers A.Automaton cover.old (LookedOpened W.Sink findings.entry
         result (I.remaining reader) output.old output.new) }
     ensures still { StaysCovered A.Automaton cover.old cover.new }
     ensures ready { CanCoverLines A.Automaton cover.new }
@@ -211,8 +211,8 @@ fn check_input<A: Automaton, I: Read, W: Sink>(
     output: &mut W,
 ) -> Result<Look, LineError>
     requires ready { CanCoverLines A.Automaton cover.old }
-    requires fresh { IsFresh findings }
-    ensures looked { IfCoveredBy A.Automaton cover.old (LookedInput W.Sink findings.entry
+    requires fresh { IsAtFirst findings }
+    ensures looked { IfCovers A.Automaton cover.old (LookedInput W.Sink findings.entry
         result input.old input.new output.old output.new) }
     ensures still { StaysCovered A.Automaton cover.old cover.new }
     ensures ready { CanCoverLines A.Automaton cover.new }
@@ -226,16 +226,19 @@ fn tell_lines<A: Automaton, R: Source, W: Sink>(
     cover: &mut LineCover<'_, '_, A>,
     findings: Findings<'_, '_, '_>,
     source: &mut R,
-    output: &mut W,
+    sink: &mut W,
 ) -> Result<bool, LineError>
     requires ready { CanCoverLines A.Automaton cover.old }
-    requires fresh { IsFresh findings }
-    ensures tells { IfCoveredBy A.Automaton cover.old (TellsLines R.Source W.Sink findings.entry
-        result source.old source.new output.old output.new) }
+    requires fresh { IsAtFirst findings }
+    ensures tells { IfCovers A.Automaton cover.old (SaysLines R.Source W.Sink findings.entry
+        result source.old source.new sink.old sink.new) }
     ensures still { StaysCovered A.Automaton cover.old cover.new }
     ensures ready { CanCoverLines A.Automaton cover.new }
 {
-    let told = tell_with(cover, source, Teller { output, findings });
+    let told = tell_with(cover, source, Teller {
+        output: sink,
+        findings,
+    });
     let Told { output, done } = told;
     let _output = output;
     done
@@ -257,8 +260,8 @@ fn tell_with<'o, A: Automaton, R: Source, W: Sink>(
     teller: Teller<'o, '_, '_, '_, W>,
 ) -> Told<'o, W>
     requires ready { CanCoverLines A.Automaton cover.old }
-    requires fresh { IsFresh teller.findings }
-    ensures tells { IfCoveredBy A.Automaton cover.old (TellsLines R.Source W.Sink teller.entry.findings
+    requires fresh { IsAtFirst teller.findings }
+    ensures tells { IfCovers A.Automaton cover.old (SaysLines R.Source W.Sink teller.entry.findings
         result.done source.old source.new teller.entry.output.now result.output.now) }
     ensures same { result.output.ghost_name ≡ teller.entry.output.ghost_name }
     ensures still { StaysCovered A.Automaton cover.old cover.new }

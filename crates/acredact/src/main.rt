@@ -66,7 +66,7 @@ ghost use Rattle.acredact.specs.Arguments.{AreMistaken, IfAsked, IfChecking, IfN
 ghost use Rattle.acredact.specs.Calls.{BeginsAsked, IsRefusedLine, LeavesNoneAsked, RedactsAsked};
 ghost use Rattle.acredact.specs.Checks.{MatchedAsked, UnmatchedAsked};
 ghost use Rattle.acredact.specs.Ruled.{RuledAsked, RuledBegins};
-ghost use Rattle.acredact.specs.RuledChecks.{RuledMatched, RuledUnmatched};
+ghost use Rattle.acredact.specs.RuledChecks.{RuledFound, RuledClean};
 
 use aho_devices::adapters::{FromRead, FromWrite};
 use aho_devices::device::Sink;
@@ -201,9 +201,9 @@ fn exit_code<F: Folder, I: Read, W: Write, E: Sink>(
     ensures matched { IfOk given (λ apart. IfChecking apart.arguments.items (λ given.
         exit_status result ≡ 1 → MatchedAsked F.Folder folder.now given streams.old streams.new)) }
     ensures rules_unmatched { IfOk given (λ apart. IfRulesCheck apart.arguments.items (λ given.
-        exit_status result ≡ 0 → RuledUnmatched F.Folder folder.now given streams.old streams.new W.Write)) }
+        exit_status result ≡ 0 → RuledClean F.Folder folder.now given streams.old streams.new W.Write)) }
     ensures rules_matched { IfOk given (λ apart. IfRulesCheck apart.arguments.items (λ given.
-        exit_status result ≡ 1 → RuledMatched F.Folder folder.now given streams.old streams.new W.Write)) }
+        exit_status result ≡ 1 → RuledFound F.Folder folder.now given streams.old streams.new W.Write)) }
     ensures flushed { IfOk given (λ apart. IfNoCheck apart.arguments.items (exit_status result ≡ 0
         → streams.new.output.device.flushed ≡ true)) }
     ensures bound { exit_status result ≤ 2 }

@@ -3,7 +3,7 @@
 ghost use Rattle.std.specs.Prelude.{◌≡◌, ◌<◌, ◌≤◌, OnOk, false, true};
 ghost use Rattle.secret_rules.specs.Ready.{CanCoverLines};
 ghost use Rattle.acredact.specs.Arguments.{all_given, has};
-ghost use Rattle.acredact.specs.RuledChecks.{AskedCheck, ChecksTo, IfCoveredBy, LoadedCheck, SaysOfRulesCheck, UndoubtedCheck, UnruledCheck};
+ghost use Rattle.acredact.specs.RuledChecks.{AskedCheck, SeesTo, IfCovers, LoadedCheck, SaysOfRulesCheck, UndoubtedCheck, UnruledCheck};
 ghost use Rattle.acredact.specs.Tables.{HaveNoEmpty, secrets_of};
 ghost use Rattle.acredact.specs.declared.arguments.Word.TheVariants.{Summary};
 
@@ -171,7 +171,7 @@ fn check_to<A: Automaton, F: Folder, I: Read, W: Write, E: Sink>(
     streams: &mut Streams<'_, I, W, E>,
 ) -> Result<Verdict, LineError>
     requires ready { CanCoverLines A.Automaton cover.old }
-    ensures sees { IfCoveredBy A.Automaton cover.old (ChecksTo W.Write E.Sink F.Folder checked.now
+    ensures sees { IfCovers A.Automaton cover.old (SeesTo W.Write E.Sink F.Folder checked.now
         names.now result streams.old streams.new) }
     ensures unwritten { checked.now.tells ≡ false → streams.new.output ≡ streams.old.output }
     ensures flushed { checked.now.tells ≡ true

@@ -16,7 +16,7 @@ ghost use Rattle.acredact.specs.Failures.{IsFailureLine};
 ghost use Rattle.acredact.specs.Files.{CanDo, keyed_of};
 ghost use Rattle.acredact.specs.Loading.{key_lent, loaded_as};
 ghost use Rattle.acredact.specs.Pieces.{IfOfAll, TellsUnclean, pieces_by};
-ghost use Rattle.acredact.specs.RuledChecks.{RuledFindingsBegin, RuledMatched, RuledUnmatched, SaysOfRulesCheck, TellsListsByRules};
+ghost use Rattle.acredact.specs.RuledChecks.{RuledFindingsBegin, RuledFound, RuledClean, SaysOfRulesCheck, ListsByRules};
 ghost use Rattle.acredact.specs.Ruled.{NotesAsked, RuledAsked, RuledBegins, RuledTells, SaysOfRules};
 ghost use Rattle.acredact.specs.Secrets.{IfOf};
 ghost use Rattle.acredact.specs.Statuses.{IsIdle, SaysOfRedaction};
@@ -161,9 +161,9 @@ pub fn run<F: Folder, I: Read, W: Write, E: Sink>(
     // that is asked for, each number that a run of a line has is told once, as a line that holds nothing of the text, and nothing else is
     // written; whatever the status is, a beginning of that.
     ensures rules_unmatched { IfRulesCheck arguments.now (λ given. result ≡ 0
-        → RuledUnmatched F.Folder folder.now given streams.old streams.new W.Write) }
+        → RuledClean F.Folder folder.now given streams.old streams.new W.Write) }
     ensures rules_matched { IfRulesCheck arguments.now (λ given. result ≡ 1
-        → RuledMatched F.Folder folder.now given streams.old streams.new W.Write) }
+        → RuledFound F.Folder folder.now given streams.old streams.new W.Write) }
     ensures rules_findings { IfRulesCheck arguments.now (λ given.
         RuledFindingsBegin F.Folder folder.now given streams.old streams.new W.Write) }
 
@@ -173,7 +173,7 @@ pub fn run<F: Folder, I: Read, W: Write, E: Sink>(
     ensures rules_unchecked { IfRulesCheck arguments.now (λ given. result ≡ 2
         → RuledTells E.Sink F.Folder folder.now given streams.old streams.new) }
     ensures rules_check_quiet { IfRulesCheck arguments.now (λ given. result < 2
-        → TellsListsByRules F.Folder folder.now given streams.old streams.new E.Sink) }
+        → ListsByRules F.Folder folder.now given streams.old streams.new E.Sink) }
     ensures rules_flushed { IfRulesCheck arguments.now (λ given. has Summary given ≡ true → result < 2
         → streams.new.output.device.flushed ≡ true) }
 

@@ -5,7 +5,7 @@ ghost use Rattle.std.specs.Io.KnownBytes.{Appends};
 ghost use Rattle.aho_devices.specs.Counts.{AppendsBeginning};
 ghost use Rattle.secret_rules.specs.Visitors.{IsVisitRefusal};
 ghost use Rattle.acredact.specs.Counts.{PutsText};
-ghost use Rattle.acredact.specs.RuledChecks.{findings_behind, findings_of, is_new, next_of, runs_findings, with_new};
+ghost use Rattle.acredact.specs.RuledChecks.{findings_behind, findings_of, is_new, next_finding, runs_findings, with_new};
 
 use crate::findings::Findings;
 use crate::legend::{numbers_in, put_finding, told_for};
@@ -104,7 +104,7 @@ fn put_run(
     findings: &Findings<'_, '_, '_>,
     number: usize,
 ) -> Result<(), AllocError>
-    ensures put { OnOk result (PutsText text.old text.new (next_of findings.now came.old number)) }
+    ensures put { OnOk result (PutsText text.old text.new (next_finding findings.now came.old number)) }
     ensures came { OnOk result (came.new ≡ with_new came.old number) }
 {
     if !is_new(came, number) {

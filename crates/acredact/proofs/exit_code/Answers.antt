@@ -6,7 +6,7 @@ use Rattle.acredact.specs.Arguments.{AreMistaken, IfAsked, IfChecking, IfNoCheck
 use Rattle.acredact.specs.Calls.{LeavesNoneAsked, RedactsAsked}
 use Rattle.acredact.specs.Checks.{MatchedAsked, UnmatchedAsked}
 use Rattle.acredact.specs.Ruled.{RuledAsked}
-use Rattle.acredact.specs.RuledChecks.{RuledMatched, RuledUnmatched}
+use Rattle.acredact.specs.RuledChecks.{RuledFound, RuledClean}
 use Rattle.acredact.proofs.SetApart.{behind_one, behind_two, behind_zero}
 use Rattle.acredact.proofs.exit_code.Goals as goal
 
@@ -60,15 +60,15 @@ returns-in-Ok-clause-matched g c =
 pub returns-in-Ok-clause-rules_unmatched : goal.returns-in-Ok-clause-rules_unmatched
 returns-in-Ok-clause-rules_unmatched g c =
     subst (λ given. IfOk given (λ apart. IfRulesCheck apart.arguments.items (λ asked. exit_status c.from.result ≡ 0
-    → RuledUnmatched g.F.Folder c.args.folder.now asked c.args.streams.now c.run-status.new.streams g.W.Write))) (sym c.in-Ok.is)
+    → RuledClean g.F.Folder c.args.folder.now asked c.args.streams.now c.run-status.new.streams g.W.Write))) (sym c.in-Ok.is)
     (λ asked is checks zero. subst (λ l. IfRulesCheck l (λ asked. c.run-status.result ≡ 0
-    → RuledUnmatched g.F.Folder c.args.folder.now asked c.args.streams.now c.run-status.new.streams g.W.Write)) c.as_slice.ensures.value
+    → RuledClean g.F.Folder c.args.folder.now asked c.args.streams.now c.run-status.new.streams g.W.Write)) c.as_slice.ensures.value
     c.run-status.ensures.rules_unmatched asked is checks (behind_zero c.args.told c.run-status.result (sym c.status_behind.ensures.status ∙ (sym c.from.ensures ∙ zero))))
 
 pub returns-in-Ok-clause-rules_matched : goal.returns-in-Ok-clause-rules_matched
 returns-in-Ok-clause-rules_matched g c =
     subst (λ given. IfOk given (λ apart. IfRulesCheck apart.arguments.items (λ asked. exit_status c.from.result ≡ 1
-    → RuledMatched g.F.Folder c.args.folder.now asked c.args.streams.now c.run-status.new.streams g.W.Write))) (sym c.in-Ok.is)
+    → RuledFound g.F.Folder c.args.folder.now asked c.args.streams.now c.run-status.new.streams g.W.Write))) (sym c.in-Ok.is)
     (λ asked is checks one. subst (λ l. IfRulesCheck l (λ asked. c.run-status.result ≡ 1
-    → RuledMatched g.F.Folder c.args.folder.now asked c.args.streams.now c.run-status.new.streams g.W.Write)) c.as_slice.ensures.value
+    → RuledFound g.F.Folder c.args.folder.now asked c.args.streams.now c.run-status.new.streams g.W.Write)) c.as_slice.ensures.value
     c.run-status.ensures.rules_matched asked is checks (behind_one c.args.told c.run-status.result (sym c.status_behind.ensures.status ∙ (sym c.from.ensures ∙ one))))
