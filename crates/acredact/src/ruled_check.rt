@@ -178,15 +178,46 @@ fn check_to<A: Automaton, F: Folder, I: Read, W: Write, E: Sink>(
         → OnOk result (streams.new.output.device.flushed ≡ true) }
 {
     if checked.tells {
-        return check_files(
-            cover,
-            checked,
-            names,
-            &mut streams.input,
-            &mut streams.output,
-            &mut streams.errors,
-        );
+        return check_telling(cover, checked, names, streams);
     }
+    check_silent(cover, checked, names, streams)
+}
+
+/// Looks at all files, and tells to the output what is found.
+fn check_telling<A: Automaton, F: Folder, I: Read, W: Write, E: Sink>(
+    cover: &mut LineCover<'_, '_, A>,
+    checked: &Checked<'_, '_, '_, F>,
+    names: &[&str],
+    streams: &mut Streams<'_, I, W, E>,
+) -> Result<Verdict, LineError>
+    requires ready { CanCoverLines A.Automaton cover.old }
+    ensures sees { IfCovers A.Automaton cover.old (SeesTo W.Write E.Sink F.Folder checked.now
+        names.now result streams.old streams.new) }
+    ensures flushed { OnOk result (streams.new.output.device.flushed ≡ true) }
+{
+    check_files(
+        cover,
+        checked,
+        names,
+        &mut streams.input,
+        &mut streams.output,
+        &mut streams.errors,
+    )
+}
+
+/// Looks at all files, and writes nothing.
+fn check_silent<A: Automaton, F: Folder, I: Read, W: Write, E: Sink>(
+    cover: &mut LineCover<'_, '_, A>,
+    checked: &Checked<'_, '_, '_, F>,
+    names: &[&str],
+    streams: &mut Streams<'_, I, W, E>,
+) -> Result<Verdict, LineError>
+    requires ready { CanCoverLines A.Automaton cover.old }
+    requires silent { checked.now.tells ≡ false }
+    ensures sees { IfCovers A.Automaton cover.old (SeesTo W.Write E.Sink F.Folder checked.now
+        names.now result streams.old streams.new) }
+    ensures unwritten { streams.new.output ≡ streams.old.output }
+{
     let mut nowhere = Nowhere;
     check_files(
         cover,
