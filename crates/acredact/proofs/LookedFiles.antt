@@ -264,6 +264,7 @@ module _ {E : Type 0} (K : SinkGhosts E) (quest : LineQuest) (names : List (List
     where
       among : IsOneOf name names
       among = so.among name (inl refl)
+
       by : (seen : Option Bool) → SeenFile K quest name (Ok seen) mid left' half held' meanwhile errors' → SeenSoFar rest (verdict_seen verdict seen) left left' held held' errors errors'
       by (Some found) file =
           let same : errors' ≡ meanwhile = file.untold (λ (is : Ok (Some found) ≡ Ok None). cc) in

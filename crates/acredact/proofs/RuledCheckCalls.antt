@@ -136,6 +136,7 @@ module _ {E : Type 0} (K : SinkGhosts E) (call : Call) where
     where
       tells : TellsRuledCheck K call (Err failure) errors errors'
       tells = record { told = tells_weaker K (IsUnreadLine (names_asked call.given)) (IsRuledTold call) errors errors' unread files.told; partly = tt }
+
       by : (b : Bool) → has Summary call.given ≡ b → CheckedLines K call load (Err failure) left left' held held' errors errors'
       by true is =
           let same = told is in
@@ -151,6 +152,7 @@ module _ {E : Type 0} (K : SinkGhosts E) (call : Call) where
     where
       before : Tells K (IsRuledTold call) errors meanwhile
       before = tells_weaker K (IsRuledNotice call) (IsRuledTold call) errors meanwhile (notice_told K call) (doubts_told K call load.secrets errors meanwhile doubted)
+
       by : (result : Result Verdict RuledFailure) → CheckedLines K call load result left left' held held' meanwhile errors' → DoubtedCheck K call load result left left' held held' errors errors'
       by (Ok verdict) of = record {
         whole = of.whole;

@@ -137,6 +137,7 @@ by_checks {P} given checking redacting = by (any_check_asked given) refl
     of_kind : (b : Bool) → gives_rules given ≡ b → (has Help given ≡ false) × (has Version given ≡ false) × (has Check given ≡ true) → AsksAnyCheck given
     of_kind true is parts = inr (record { no_help = parts.0; no_version = parts.1; check = parts.2; rules = is })
     of_kind false is parts = inl (record { no_help = parts.0; no_version = parts.1; check = parts.2; no_rules = is })
+
     by : (b : Bool) → any_check_asked given ≡ b → P
     by true is = checking (of_kind (gives_rules given) refl (any_part (has Check given) (has Help given) (has Version given) is))
     by false is = redacting is

@@ -235,10 +235,14 @@ fn tell_lines<A: Automaton, R: Source, W: Sink>(
     ensures still { StaysCovered A.Automaton cover.old cover.new }
     ensures ready { CanCoverLines A.Automaton cover.new }
 {
-    let told = tell_with(cover, source, Teller {
-        output: sink,
-        findings,
-    });
+    let told = tell_with(
+        cover,
+        source,
+        Teller {
+            output: sink,
+            findings,
+        },
+    );
     let Told { output, done } = told;
     let _output = output;
     done

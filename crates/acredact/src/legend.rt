@@ -60,11 +60,7 @@ pub fn put_finding(
 }
 
 /// Puts what a number stands for.
-fn put_label(
-    text: &mut Vec<u8>,
-    legend: &Legend<'_, '_>,
-    number: usize,
-) -> Result<(), AllocError>
+fn put_label(text: &mut Vec<u8>, legend: &Legend<'_, '_>, number: usize) -> Result<(), AllocError>
     ensures put { OnOk result (PutsText text.old text.new (label_of (labels_of legend.now) number)) }
 {
     let patterns = legend.secrets.len();

@@ -111,13 +111,7 @@ fn put_run(
         return Ok(());
     }
     came[number] = true;
-    put_finding(
-        text,
-        &findings.legend,
-        findings.name,
-        findings.line,
-        number,
-    )
+    put_finding(text, &findings.legend, findings.name, findings.line, number)
 }
 
 /// Whether no run of this number came before.
