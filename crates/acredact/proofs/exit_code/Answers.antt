@@ -2,7 +2,7 @@
 use Rattle.std.proofs.Common.{◌≡◌, IfOk, true, sym, subst, ◌∙◌}
 use Rattle.std.specs.Process.{exit_status}
 use Rattle.acredact.specs.Apart.{status_behind}
-use Rattle.acredact.specs.Arguments.{AreMistaken, IfAsked, IfChecking, IfNoCheck, IfRuled, IfRulesCheck, RefusesUnclean}
+use Rattle.acredact.specs.Arguments.{AreMistaken, IfAsked, IfChecking, IfNoCheck, IfRuled, IfRulesCheck, IsCheck, RefusesUnclean}
 use Rattle.acredact.specs.Calls.{LeavesNoneAsked, RedactsAsked}
 use Rattle.acredact.specs.Checks.{MatchedAsked, UnmatchedAsked}
 use Rattle.acredact.specs.Ruled.{RuledAsked}
@@ -72,3 +72,8 @@ returns-in-Ok-clause-rules_matched g c =
     (λ asked is checks one. subst (λ l. IfRulesCheck l (λ asked. c.run-status.result ≡ 1
     → RuledFound g.F.Folder c.args.folder.now asked c.args.streams.now c.run-status.new.streams g.W.Write)) c.as_slice.ensures.value
     c.run-status.ensures.rules_matched asked is checks (behind_one c.args.told c.run-status.result (sym c.status_behind.ensures.status ∙ (sym c.from.ensures ∙ one))))
+
+pub returns-in-Ok-clause-one : goal.returns-in-Ok-clause-one
+returns-in-Ok-clause-one g c = λ one.
+    subst (λ given. IfOk given (λ apart. IsCheck apart.arguments.items)) (sym c.in-Ok.is)
+    (subst (λ l. IsCheck l) c.as_slice.ensures.value (c.run-status.ensures.one (behind_one c.args.told c.run-status.result (sym c.status_behind.ensures.status ∙ (sym c.from.ensures ∙ one)))))

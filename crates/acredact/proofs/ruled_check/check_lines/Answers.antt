@@ -67,12 +67,12 @@ returns-in-Ok-clause-outcome g c =
     let load = ruled_load c.args.secrets.now c.args.line_rules.now in
     let texts = pieces_of c.as_slice.result.now in
     let words : texts ≡ patterns_in load.secrets = ap pieces_of c.as_slice.ensures.value ∙ c.in_ok-patterns.ensures.patterns in
-    let names : name_bytes c.as_slice-names.result.now ≡ names_asked given = ap name_bytes c.as_slice-names.ensures.value ∙ c.in_ok-names.ensures.names in
+    let names : name_bytes c.as_slice-2.result.now ≡ names_asked given = ap name_bytes c.as_slice-2.ensures.value ∙ c.in_ok-names.ensures.names in
     let cover = c.in_ok-cover.ensures in
     let covered = covered_by NFAGhosts c.in_ok-cover.cover c.has-words.result c.args.line_rules.now c.most_of-most.result (patterns_by_case given texts) cover.ready (cover.searched _ c.in_ok-nfa.ensures.of) cover.words cover.rules cover.most in
     let sees = c.in-Ok.ensures.sees _ covered in
     let quest = quest_same call load c.has-words.result c.as_slice-rules.result.now c.most_of-most.result texts c.has-words.ensures.has c.as_slice-rules.ensures.same c.most_of-most.ensures.most words in
-    let done = subst (λ (q : LineQuest). SeenFiles g.E.Sink q (name_bytes c.as_slice-names.result.now) (Ok c.in-Ok.verdict) (bytes_left c.args.streams.now.input) (bytes_left c.check_to.new.streams.input) sees.0 sees.1
+    let done = subst (λ (q : LineQuest). SeenFiles g.E.Sink q (name_bytes c.as_slice-2.result.now) (Ok c.in-Ok.verdict) (bytes_left c.args.streams.now.input) (bytes_left c.check_to.new.streams.input) sees.0 sees.1
     c.args.streams.now.errors c.check_to.new.streams.errors) quest sees.2.1 in
     let files = subst (λ (l : List (List ℕ)). SeenFiles g.E.Sink (line_quest_by call load) l (Ok c.in-Ok.verdict) (bytes_left c.args.streams.now.input) (bytes_left c.check_to.new.streams.input) sees.0 sees.1
     c.args.streams.now.errors c.check_to.new.streams.errors) names done in
@@ -80,19 +80,19 @@ returns-in-Ok-clause-outcome g c =
     (λ summary. sees.2.0 (c.has-tells.ensures.has ∙ summary))
     (λ silent. same_kept g.W.Write _ _ (c.check_to.ensures.unwritten (c.has-tells.ensures.has ∙ silent)))
 
-pub returns-in-Err-clause-outcome : goal.returns-in-Err-clause-outcome
-returns-in-Err-clause-outcome g c =
+pub returns-clause-outcome : goal.returns-clause-outcome
+returns-clause-outcome g c =
     let given = all_given c.args.given.now in
     let call = call_of g.F.Folder c.args.folder.now given in
     let load = ruled_load c.args.secrets.now c.args.line_rules.now in
     let texts = pieces_of c.as_slice.result.now in
     let words : texts ≡ patterns_in load.secrets = ap pieces_of c.as_slice.ensures.value ∙ c.in_ok-patterns.ensures.patterns in
-    let names : name_bytes c.as_slice-names.result.now ≡ names_asked given = ap name_bytes c.as_slice-names.ensures.value ∙ c.in_ok-names.ensures.names in
+    let names : name_bytes c.as_slice-2.result.now ≡ names_asked given = ap name_bytes c.as_slice-2.ensures.value ∙ c.in_ok-names.ensures.names in
     let cover = c.in_ok-cover.ensures in
     let covered = covered_by NFAGhosts c.in_ok-cover.cover c.has-words.result c.args.line_rules.now c.most_of-most.result (patterns_by_case given texts) cover.ready (cover.searched _ c.in_ok-nfa.ensures.of) cover.words cover.rules cover.most in
     let sees = c.in-Err.ensures.sees _ covered in
     let quest = quest_same call load c.has-words.result c.as_slice-rules.result.now c.most_of-most.result texts c.has-words.ensures.has c.as_slice-rules.ensures.same c.most_of-most.ensures.most words in
-    let done = subst (λ (q : LineQuest). SeenFiles g.E.Sink q (name_bytes c.as_slice-names.result.now) (Err c.in-Err.error) (bytes_left c.args.streams.now.input) (bytes_left c.check_to.new.streams.input) sees.0 sees.1
+    let done = subst (λ (q : LineQuest). SeenFiles g.E.Sink q (name_bytes c.as_slice-2.result.now) (Err c.in-Err.error) (bytes_left c.args.streams.now.input) (bytes_left c.check_to.new.streams.input) sees.0 sees.1
     c.args.streams.now.errors c.check_to.new.streams.errors) quest sees.2.1 in
     let files = subst (λ (l : List (List ℕ)). SeenFiles g.E.Sink (line_quest_by call load) l (Err c.in-Err.error) (bytes_left c.args.streams.now.input) (bytes_left c.check_to.new.streams.input) sees.0 sees.1
     c.args.streams.now.errors c.check_to.new.streams.errors) names done in
