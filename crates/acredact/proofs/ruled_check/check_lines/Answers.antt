@@ -73,11 +73,11 @@ returns-in-Ok-clause-outcome g c =
     let sees = c.in-Ok.ensures.sees _ covered in
     let quest = quest_same call load c.has-words.result c.as_slice-rules.result.now c.most_of-most.result texts c.has-words.ensures.has c.as_slice-rules.ensures.same c.most_of-most.ensures.most words in
     let done = subst (λ (q : LineQuest). SeenFiles g.E.Sink q (name_bytes c.as_slice-2.result.now) (Ok c.in-Ok.verdict) (bytes_left c.args.streams.now.input) (bytes_left c.check_to.new.streams.input) sees.0 sees.1
-    c.args.streams.now.errors c.check_to.new.streams.errors) quest sees.2.1 in
+    c.args.streams.now.errors c.check_to.new.streams.errors) quest sees.3 in
     let files = subst (λ (l : List (List ℕ)). SeenFiles g.E.Sink (line_quest_by call load) l (Ok c.in-Ok.verdict) (bytes_left c.args.streams.now.input) (bytes_left c.check_to.new.streams.input) sees.0 sees.1
     c.args.streams.now.errors c.check_to.new.streams.errors) names done in
     files_looked g.E.Sink call load c.in-Ok.verdict _ _ _ _ sees.0 sees.1 _ _ files
-    (λ summary. sees.2.0 (c.has-tells.ensures.has ∙ summary))
+    (λ summary. sees.2 (c.has-tells.ensures.has ∙ summary))
     (λ silent. same_kept g.W.Write _ _ (c.check_to.ensures.unwritten (c.has-tells.ensures.has ∙ silent)))
 
 pub returns-clause-outcome : goal.returns-clause-outcome
@@ -93,9 +93,9 @@ returns-clause-outcome g c =
     let sees = c.in-Err.ensures.sees _ covered in
     let quest = quest_same call load c.has-words.result c.as_slice-rules.result.now c.most_of-most.result texts c.has-words.ensures.has c.as_slice-rules.ensures.same c.most_of-most.ensures.most words in
     let done = subst (λ (q : LineQuest). SeenFiles g.E.Sink q (name_bytes c.as_slice-2.result.now) (Err c.in-Err.error) (bytes_left c.args.streams.now.input) (bytes_left c.check_to.new.streams.input) sees.0 sees.1
-    c.args.streams.now.errors c.check_to.new.streams.errors) quest sees.2.1 in
+    c.args.streams.now.errors c.check_to.new.streams.errors) quest sees.3 in
     let files = subst (λ (l : List (List ℕ)). SeenFiles g.E.Sink (line_quest_by call load) l (Err c.in-Err.error) (bytes_left c.args.streams.now.input) (bytes_left c.check_to.new.streams.input) sees.0 sees.1
     c.args.streams.now.errors c.check_to.new.streams.errors) names done in
     files_unlooked g.E.Sink call load c.in-Err.error c.failure_in.result _ _ _ _ sees.0 sees.1 _ _ files
-    (λ summary. sees.2.0 (c.has-tells.ensures.has ∙ summary))
+    (λ summary. sees.2 (c.has-tells.ensures.has ∙ summary))
     (λ silent. same_kept g.W.Write _ _ (c.check_to.ensures.unwritten (c.has-tells.ensures.has ∙ silent)))
