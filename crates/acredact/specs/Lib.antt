@@ -58,4 +58,5 @@ pub mod LineRules
 pub mod RuleLines
 pub mod LongLines
 pub mod RunCounts
+pub mod RunPieces
 pub mod Ruled

@@ -115,8 +115,6 @@ pub enum Mixture {
     RulesCheck,
     /// `--rules` or `--after` with `--in-place`.
     RulesInPlace,
-    /// `--rules` or `--after` with `--pseudonym`.
-    RulesPseudonym,
     /// `--rules` or `--after` with `--summary`.
     RulesSummary,
     /// `--rules` or `--after` with `--strict`, which promises nothing of what rules mark.
@@ -314,9 +312,6 @@ fn rules_mixture_of(items: &[Item<'_>]) -> Option<Mixture>
     }
     if has(items, Word::InPlace) {
         return Some(Mixture::RulesInPlace);
-    }
-    if has(items, Word::Pseudonym) {
-        return Some(Mixture::RulesPseudonym);
     }
     if has(items, Word::Summary) {
         return Some(Mixture::RulesSummary);
