@@ -186,16 +186,16 @@ pub record AreRulesGiven (reading : Reading) (given : List Given) (secrets : Lis
   pub sound : AreSound rules
 
 -- where forms are asked for a key names each secret, in whatever form that stands
-abbrev pub named_by : List Given → Option (List ℕ) → List Secret → List Secret
-named_by given None secrets = secrets
-named_by given (Some key) secrets = if has Forms given then all_named (pseudonym_rule (has IgnoreCase given) key) secrets else secrets
+abbrev pub secrets_by : List Given → Option (List ℕ) → List Secret → List Secret
+secrets_by given None secrets = secrets
+secrets_by given (Some key) secrets = if has Forms given then all_named (pseudonym_rule (has IgnoreCase given) key) secrets else secrets
 
 pub record AreRuledLoaded (reading : Reading) (given : List Given) (load : RuledLoad) (left left' : Option (List ℕ)) : Type 0 where
   pub secrets : List Secret
   pub between : Option (List ℕ)
   pub rules_given : AreRulesGiven reading given secrets load.rules left between
   pub key_given : IsKeyGiven reading (last_value Pseudonym given) load.key between left'
-  pub named : load.secrets ≡ named_by given load.key secrets
+  pub named : load.secrets ≡ secrets_by given load.key secrets
 
 abbrev pub ruled_load : List PatternRule → List Rule → Option (Bor (List ℕ)) → RuledLoad
 ruled_load secrets rules key = record { secrets = secrets_of secrets; rules = rules; key = key_lent key }
