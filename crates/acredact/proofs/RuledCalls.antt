@@ -74,7 +74,7 @@ pub runs_told : {E : Type 0} (K : SinkGhosts E) (given : List Given) (secrets : 
     → TellsBytes K errors errors' (run_counts_text secrets rules counts) → Tells K (IsRunsLine given) errors errors'
 runs_told K given secrets rules counts errors errors' is told = record {
   told = run_counts_text secrets rules counts ∷ [];
-  are_lines = All-cons (IsRunsLine given) (run_counts_text secrets rules counts) [] (is, (secrets, rules, counts, refl)) (All-nil (IsRunsLine given));
+  are_lines = All-cons (IsRunsLine given) (run_counts_text secrets rules counts) [] (is, secrets, rules, counts, refl) (All-nil (IsRunsLine given));
   written = subst (TellsBytes K errors errors') (sym (append-nil (run_counts_text secrets rules counts))) told;
 }
 
@@ -93,6 +93,11 @@ texts_many given load =
 -- the counts are told where they are asked for
 abbrev pub TellsCountsAny : {E : Type 0} → SinkGhosts E → List Given → RuledLoad → (counts : List ℕ) → (errors errors' : Errors E) → Type 0
 TellsCountsAny K given load counts errors errors' = MatchBool (has Count given) (TellsRunCounts K load.secrets load.rules counts errors errors') (errors' ≡ errors)
+
+any_totals : {E : Type 0} (K : SinkGhosts E) (load : RuledLoad) (runs : List Occurrence) (counts : List ℕ) (errors errors' : Errors E) → AreTotals (length load.secrets + length load.rules + 1) runs counts → (b : Bool)
+    → MatchBool b (TellsRunCounts K load.secrets load.rules counts errors errors') (errors' ≡ errors) → MatchBool b (TellsRunTotals K load.secrets load.rules runs errors errors') (errors' ≡ errors)
+any_totals K load runs counts errors errors' totals true whole = record { counts = counts; totals = totals; told = whole }
+any_totals K load runs counts errors errors' totals false same = same
 
 module _ {E : Type 0} (K : SinkGhosts E) (call : Call) where
   -- the arguments were refused, or there was no memory to read them
@@ -239,12 +244,8 @@ module _ {E : Type 0} (K : SinkGhosts E) (call : Call) where
         };
         runs = runs;
         have = have;
-        counted = any_totals (has Count call.given) told;
+        counted = any_totals K load runs counts' second errors' totals (has Count call.given) told;
       }
-    where
-      any_totals : (b : Bool) → MatchBool b (TellsRunCounts K load.secrets load.rules counts' second errors') (errors' ≡ second) → MatchBool b (TellsRunTotals K load.secrets load.rules runs second errors') (errors' ≡ second)
-      any_totals true whole = record { counts = counts'; totals = totals; told = whole }
-      any_totals false same = same
 
   -- the files were redacted, it is told how many lines were too long, and then the counts
   pub files_done : (load : RuledLoad) (all : Bool) (result : Result Bool RuledFailure) (size : ℕ) (zeros counts' : List ℕ) (left left' held held' : Option (List ℕ)) (errors first second errors' : Errors E)

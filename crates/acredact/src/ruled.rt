@@ -212,11 +212,11 @@ fn redact_ruled<'a, F: Folder, I: Read, W: Write, E: Sink>(
     let pieces = pieces_by(given, texts, key, secrets.len());
     let mut lined = lined_of(alloc, &nfa, line_rules, pieces, words, most)?;
     let names = names.as_slice();
-    let done = cover_files(&mut lined, folder, names, counts.as_mut_slice(), streams);
+    let tally = counts.as_mut_slice();
+    let done = cover_files(&mut lined, folder, names, tally, streams);
     match done {
         Ok(all) => {
-            let counts = counts.as_slice();
-            let count = last_of(counts);
+            let count = last_of(tally);
             tell_count(&mut streams.errors, most, count);
             tell_runs(
                 alloc,
@@ -224,7 +224,7 @@ fn redact_ruled<'a, F: Folder, I: Read, W: Write, E: Sink>(
                 given,
                 secrets,
                 line_rules,
-                counts,
+                tally,
                 &mut streams.errors,
             )
         }

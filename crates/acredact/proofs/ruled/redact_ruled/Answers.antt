@@ -1,6 +1,6 @@
 -- The files are redacted by what was loaded.
 use Rattle.std.proofs.Common.{rules, ◌≡◌, ◌∙◌, List, ℕ, ap, length, sym, subst}
-use Rattle.std.specs.Prelude.{Bool, Err, Ok, OnOk, Result, replicate}
+use Rattle.std.specs.Prelude.{Bool, Err, Ok, Result, replicate}
 use Rattle.std.proofs.lemmas.List.{length-map}
 use Rattle.aho_core.specs.Replacement.{pieces_of}
 use Rattle.aho_corasick.specs.contracts.noncontiguous.NFAAutomaton.TheImpl.{ghosts as NFAGhosts}
@@ -24,7 +24,7 @@ use Rattle.acredact.specs.declared.failure.Failure.TheVariants.{Other}
 use Rattle.acredact.specs.declared.ruled_failure.RuledFailure.{RuledFailure}
 use Rattle.acredact.specs.declared.ruled_failure.RuledFailure.TheVariants.{LineEnd, Plain}
 use Rattle.acredact.proofs.Ready.{some_shortest}
-use Rattle.acredact.proofs.RuledCalls.{TellsCountsAny, files_done, files_failed, ruled_none, texts_many}
+use Rattle.acredact.proofs.RuledCalls.{files_done, files_failed, ruled_none, texts_many}
 use Rattle.acredact.proofs.RuledText.{can_search}
 use Rattle.acredact.proofs.ruled.redact_ruled.Goals as goal
 
@@ -104,23 +104,20 @@ returns-in-Ok-clause-outcome g c =
     ∙ ap (λ (r : PieceRule). ruling_as (has AsWord given) rules (most_asked given) r (patterns_by_case given (pieces_of c.as_slice-2.result.now))) piece
     ∙ ap (λ (l : List (List ℕ)). ruling_as (has AsWord given) rules (most_asked given) (rule_asked given (texts_asked given load) load.key (length load.secrets)) (patterns_by_case given l)) words in
     let lined = c.in_ok-lined.ensures.lined (patterns_by_case given (pieces_of c.as_slice-2.result.now)) c.in_ok-nfa.ensures.of in
-    let done = subst (λ (r : Ruling). LinedFiles g.E.Sink (ruled_in g.F.Folder c.args.folder.now r) (name_bytes c.as_slice-names.result.now) (Ok c.in-Ok.all) c.as_mut_slice.result.now c.cover_files-done.new.counts
+    let done = subst (λ (r : Ruling). LinedFiles g.E.Sink (ruled_in g.F.Folder c.args.folder.now r) (name_bytes c.as_slice-names.result.now) (Ok c.in-Ok.all) c.as_mut_slice-tally.result.now c.cover_files-done.new.counts
     (bytes_left c.args.streams.now.input) (bytes_left c.cover_files-done.new.streams.input) (output_bytes g.W.Write c.args.streams.now.output) (output_bytes g.W.Write c.cover_files-done.new.streams.output)
     c.args.streams.now.errors c.cover_files-done.new.streams.errors) ruling (c.in-Ok.ensures.outcome _ lined) in
-    let files = subst (λ (l : List (List ℕ)). LinedFiles g.E.Sink (ruled_by call load) l (Ok c.in-Ok.all) c.as_mut_slice.result.now c.cover_files-done.new.counts
+    let files = subst (λ (l : List (List ℕ)). LinedFiles g.E.Sink (ruled_by call load) l (Ok c.in-Ok.all) c.as_mut_slice-tally.result.now c.cover_files-done.new.counts
     (bytes_left c.args.streams.now.input) (bytes_left c.cover_files-done.new.streams.input) (output_bytes g.W.Write c.args.streams.now.output) (output_bytes g.W.Write c.cover_files-done.new.streams.output)
     c.args.streams.now.errors c.cover_files-done.new.streams.errors) names done in
-    let zeros : c.as_mut_slice.result.now ≡ replicate c.len.result 0 = c.as_mut_slice.ensures.value ∙ c.in_ok-counts.ensures.zeros in
-    let many : c.len.result ≡ length c.as_slice-texts.result.now = c.len.ensures in
-    let sized = many ∙ sym (length-map c.as_slice-texts.result.now (λ piece. piece.now)) ∙ ap length written ∙ texts_many given load in
-    let kept : c.as_slice-counts.result.now ≡ c.cover_files-done.new.counts = c.as_slice-counts.ensures.value in
-    let count : c.last_of-count.result ≡ last_of c.cover_files-done.new.counts = c.last_of-count.ensures.last ∙ ap last_of kept in
+    let zeros : c.as_mut_slice-tally.result.now ≡ replicate (length c.as_slice-texts.result.now) 0 = c.as_mut_slice-tally.ensures.value ∙ c.in_ok-counts.ensures.zeros in
+    let sized = sym (length-map c.as_slice-texts.result.now (λ piece. piece.now)) ∙ ap length written ∙ texts_many given load in
+    let count : c.last_of-count.result ≡ last_of c.cover_files-done.new.counts = c.last_of-count.ensures.last in
     let long = subst (λ (m : ℕ). TellsBytes g.E.Sink c.cover_files-done.new.streams.errors c.tell_count.new.errors (long_told m c.last_of-count.result)) c.most_of-most.ensures.most c.tell_count.ensures.told in
-    files_done g.E.Sink call load c.in-Ok.all c.tell_runs.result c.len.result c.as_mut_slice.result.now c.cover_files-done.new.counts _ _ _ _ c.args.streams.now.errors c.cover_files-done.new.streams.errors c.tell_count.new.errors c.tell_runs.new.errors files zeros sized
+    files_done g.E.Sink call load c.in-Ok.all c.tell_runs.result (length c.as_slice-texts.result.now) c.as_mut_slice-tally.result.now c.cover_files-done.new.counts _ _ _ _
+    c.args.streams.now.errors c.cover_files-done.new.streams.errors c.tell_count.new.errors c.tell_runs.new.errors files zeros sized
     (subst (λ (n : ℕ). TellsBytes g.E.Sink c.cover_files-done.new.streams.errors c.tell_count.new.errors (long_told (most_asked given) n)) count long)
-    c.tell_runs.ensures.all
-    (subst (λ (l : List ℕ). OnOk c.tell_runs.result (TellsCountsAny g.E.Sink given load l c.tell_count.new.errors c.tell_runs.new.errors)) kept c.tell_runs.ensures.told)
-    c.tell_runs.ensures.lines
+    c.tell_runs.ensures.all c.tell_runs.ensures.told c.tell_runs.ensures.lines
 
 pub returns-clause-outcome : goal.returns-clause-outcome
 returns-clause-outcome g c =
@@ -143,10 +140,10 @@ returns-clause-outcome g c =
     ∙ ap (λ (r : PieceRule). ruling_as (has AsWord given) rules (most_asked given) r (patterns_by_case given (pieces_of c.as_slice-2.result.now))) piece
     ∙ ap (λ (l : List (List ℕ)). ruling_as (has AsWord given) rules (most_asked given) (rule_asked given (texts_asked given load) load.key (length load.secrets)) (patterns_by_case given l)) words in
     let lined = c.in_ok-lined.ensures.lined (patterns_by_case given (pieces_of c.as_slice-2.result.now)) c.in_ok-nfa.ensures.of in
-    let done = subst (λ (r : Ruling). LinedFiles g.E.Sink (ruled_in g.F.Folder c.args.folder.now r) (name_bytes c.as_slice-names.result.now) (Err c.in-Err.error) c.as_mut_slice.result.now c.cover_files-done.new.counts
+    let done = subst (λ (r : Ruling). LinedFiles g.E.Sink (ruled_in g.F.Folder c.args.folder.now r) (name_bytes c.as_slice-names.result.now) (Err c.in-Err.error) c.as_mut_slice-tally.result.now c.cover_files-done.new.counts
     (bytes_left c.args.streams.now.input) (bytes_left c.cover_files-done.new.streams.input) (output_bytes g.W.Write c.args.streams.now.output) (output_bytes g.W.Write c.cover_files-done.new.streams.output)
     c.args.streams.now.errors c.cover_files-done.new.streams.errors) ruling (c.in-Err.ensures.outcome _ lined) in
-    let files = subst (λ (l : List (List ℕ)). LinedFiles g.E.Sink (ruled_by call load) l (Err c.in-Err.error) c.as_mut_slice.result.now c.cover_files-done.new.counts
+    let files = subst (λ (l : List (List ℕ)). LinedFiles g.E.Sink (ruled_by call load) l (Err c.in-Err.error) c.as_mut_slice-tally.result.now c.cover_files-done.new.counts
     (bytes_left c.args.streams.now.input) (bytes_left c.cover_files-done.new.streams.input) (output_bytes g.W.Write c.args.streams.now.output) (output_bytes g.W.Write c.cover_files-done.new.streams.output)
     c.args.streams.now.errors c.cover_files-done.new.streams.errors) names done in
     files_failed g.E.Sink call load c.in-Err.error c.failure_in.result _ _ _ _ _ _ _ _ files

@@ -1,6 +1,9 @@
 -- The counts are one text.
-use Rattle.std.proofs.Common.{rules, ◌≡◌, true}
+use Rattle.std.proofs.Common.{rules, ◌≡◌, List, subst, true}
+use Rattle.programs.specs.Telling.{TellsBytes}
+use Rattle.secret_rules.specs.declared.rule.Rule.{Rule as LineRule}
 use Rattle.acredact.specs.Arguments.{all_given, has}
+use Rattle.acredact.specs.RunCounts.{runs_text}
 use Rattle.acredact.specs.Tables.{secrets_of}
 use Rattle.acredact.specs.declared.arguments.Word.TheVariants.{Count}
 use Rattle.acredact.proofs.Calls.{tells_same}
@@ -13,9 +16,11 @@ returns-in_err-write_runs-clause-lines g c = tells_same g.E.Sink _ _ _ c.in_err-
 pub returns-then-has_failed-clause-lines : goal.returns-then-has_failed-clause-lines
 returns-then-has_failed-clause-lines g c =
     let is : has Count (all_given c.args.given.now) ≡ true = search rules in
-    runs_told g.E.Sink (all_given c.args.given.now) (secrets_of c.args.secrets.now) c.args.line_rules.now c.args.counts.now _ _ is c.in_ok-write_runs.ensures.told
+    runs_told g.E.Sink (all_given c.args.given.now) (secrets_of c.args.secrets.now) c.args.line_rules.now c.args.counts.now _ _ is
+    (subst (λ (l : List LineRule). TellsBytes g.E.Sink c.args.errors.now c.write_runs.new.errors (runs_text c.args.secrets.now l c.args.counts.now)) c.as_slice.ensures.same c.in_ok-write_runs.ensures.told)
 
 pub returns-clause-lines : goal.returns-clause-lines
 returns-clause-lines g c =
     let is : has Count (all_given c.args.given.now) ≡ true = search rules in
-    runs_told g.E.Sink (all_given c.args.given.now) (secrets_of c.args.secrets.now) c.args.line_rules.now c.args.counts.now _ _ is c.in_ok-write_runs.ensures.told
+    runs_told g.E.Sink (all_given c.args.given.now) (secrets_of c.args.secrets.now) c.args.line_rules.now c.args.counts.now _ _ is
+    (subst (λ (l : List LineRule). TellsBytes g.E.Sink c.args.errors.now c.write_runs.new.errors (runs_text c.args.secrets.now l c.args.counts.now)) c.as_slice.ensures.same c.in_ok-write_runs.ensures.told)
