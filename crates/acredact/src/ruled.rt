@@ -8,7 +8,7 @@ ghost use Rattle.acredact.specs.LongLines.{long_told};
 ghost use Rattle.acredact.specs.Doubts.{last_of};
 ghost use Rattle.acredact.specs.Arguments.{all_given};
 ghost use Rattle.acredact.specs.Builds.{build_settings};
-ghost use Rattle.acredact.specs.Ruled.{AreTextsAsked, AskedRuled, KeyedRuled, KeylessRuled, LoadedRuled, SaysOfRules, UndoubtedRuled, UnruledOutcome, own_text, patterns_by_case, rule_asked};
+ghost use Rattle.acredact.specs.Ruled.{AreTextsAsked, AskedRuled, KeyedRuled, KeylessRuled, LoadedRuled, SaysOfRules, UndoubtedRuled, UnruledOutcome, named_count, own_text, patterns_by_case, rule_asked};
 ghost use Rattle.acredact.specs.Loading.{key_lent};
 ghost use Rattle.acredact.specs.Tables.{HaveNoEmpty, secrets_of};
 
@@ -319,8 +319,18 @@ fn pieces_by<'p, 'q>(
     ensures rule { ⟦<RunPieces<'p, 'q> as Pieces>⟧.rule result ≡ rule_asked (all_given given.now)
         (pieces_of texts.entry.now) (key_lent key.entry) patterns }
 {
-    let from = if has(given, Word::Forms) { patterns } else { 0 };
-    RunPieces::new(texts, key_by(key, has(given, Word::IgnoreCase)), from)
+    let key = key_by(key, has(given, Word::IgnoreCase));
+    RunPieces::new(texts, key, named_count(given, patterns))
+}
+
+/// How many numbers are those of patterns that a key has named: so it does where forms are asked for.
+fn named_count(given: &[Item<'_>], patterns: usize) -> usize
+    ensures count { result ≡ named_count (all_given given.now) patterns }
+{
+    if has(given, Word::Forms) {
+        return patterns;
+    }
+    0
 }
 
 /// So many counts.
