@@ -223,6 +223,10 @@ abbrev pub rule_asked : List Given → (texts : List (List ℕ)) → (key : Opti
 rule_asked given texts key patterns =
     mixed_rule (fixed_rule texts) (option_map pseudonyms_by (option_map (keyed_as (has IgnoreCase given)) key)) (named_count given patterns)
 
+-- the same of texts and of a key that are lent
+abbrev pub lent_rule : List Item → List (Bor (List ℕ)) → Option (Bor (List ℕ)) → (patterns : ℕ) → PieceRule
+lent_rule items texts key patterns = rule_asked (all_given items) (pieces_of texts) (key_lent key) patterns
+
 abbrev pub ruling_by : List Given → RuledLoad → Ruling
 ruling_by given load =
     ruling_as (has AsWord given) load.rules (most_asked given) (rule_asked given (texts_asked given load) load.key (length load.secrets)) (patterns_by_case given (patterns_in load.secrets))
@@ -393,16 +397,16 @@ module _ {R : Type 0} {Reads : Readers R} {W E : Type 0} (Writes : Writers W) wh
         → RuledCall K (call_of D folder given) result left (bytes_left streams'.input) (output_bytes Writes streams.output) (output_bytes Writes streams'.output) streams.errors streams'.errors
 
     -- of rules too, where the key is to be, or was read
-    abbrev pub KeylessRuled : {F X : Type 0} → Folders F X → F → List Given → List PatternRule → List Rule → Result Bool RuledFailure → (streams streams' : Streams R W E Reads) → Type 0
-    KeylessRuled D folder given secrets rules result streams streams' = (left : Option (List ℕ))
-        → AreRulesGiven (reading_by (call_of D folder given)) given (secrets_of secrets) rules left (bytes_left streams.input)
-        → RuledCall K (call_of D folder given) result left (bytes_left streams'.input) (output_bytes Writes streams.output) (output_bytes Writes streams'.output) streams.errors streams'.errors
+    abbrev pub KeylessRuled : {F X : Type 0} → Folders F X → F → List Item → List PatternRule → List Rule → Result Bool RuledFailure → (streams streams' : Streams R W E Reads) → Type 0
+    KeylessRuled D folder items secrets rules result streams streams' = (left : Option (List ℕ))
+        → AreRulesGiven (reading_by (call_of D folder (all_given items))) (all_given items) (secrets_of secrets) rules left (bytes_left streams.input)
+        → RuledCall K (call_of D folder (all_given items)) result left (bytes_left streams'.input) (output_bytes Writes streams.output) (output_bytes Writes streams'.output) streams.errors streams'.errors
 
-    abbrev pub KeyedRuled : {F X : Type 0} → Folders F X → F → List Given → List PatternRule → List Rule → (key : List ℕ) → Result Bool RuledFailure → (streams streams' : Streams R W E Reads) → Type 0
-    KeyedRuled D folder given secrets rules key result streams streams' = (left between : Option (List ℕ))
-        → AreRulesGiven (reading_by (call_of D folder given)) given (secrets_of secrets) rules left between
-        → IsKeyGiven (reading_by (call_of D folder given)) (last_value Pseudonym given) (Some key) between (bytes_left streams.input)
-        → RuledCall K (call_of D folder given) result left (bytes_left streams'.input) (output_bytes Writes streams.output) (output_bytes Writes streams'.output) streams.errors streams'.errors
+    abbrev pub KeyedRuled : {F X : Type 0} → Folders F X → F → List Item → List PatternRule → List Rule → (key : List ℕ) → Result Bool RuledFailure → (streams streams' : Streams R W E Reads) → Type 0
+    KeyedRuled D folder items secrets rules key result streams streams' = (left between : Option (List ℕ))
+        → AreRulesGiven (reading_by (call_of D folder (all_given items))) (all_given items) (secrets_of secrets) rules left between
+        → IsKeyGiven (reading_by (call_of D folder (all_given items))) (last_value Pseudonym (all_given items)) (Some key) between (bytes_left streams.input)
+        → RuledCall K (call_of D folder (all_given items)) result left (bytes_left streams'.input) (output_bytes Writes streams.output) (output_bytes Writes streams'.output) streams.errors streams'.errors
 
     -- and of what these options ask for
     abbrev pub AskedRuled : {F X : Type 0} → Folders F X → F → List Given → Result Bool RuledFailure → (streams streams' : Streams R W E Reads) → Type 0

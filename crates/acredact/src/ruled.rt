@@ -8,8 +8,7 @@ ghost use Rattle.acredact.specs.LongLines.{long_told};
 ghost use Rattle.acredact.specs.Doubts.{last_of};
 ghost use Rattle.acredact.specs.Arguments.{all_given};
 ghost use Rattle.acredact.specs.Builds.{build_settings};
-ghost use Rattle.acredact.specs.Ruled.{AreTextsAsked, AskedRuled, KeyedRuled, KeylessRuled, LoadedRuled, SaysOfRules, UndoubtedRuled, UnruledOutcome, named_count, own_text, patterns_by_case, rule_asked};
-ghost use Rattle.acredact.specs.Loading.{key_lent};
+ghost use Rattle.acredact.specs.Ruled.{AreTextsAsked, AskedRuled, KeyedRuled, KeylessRuled, LoadedRuled, SaysOfRules, UndoubtedRuled, UnruledOutcome, lent_rule, named_count, own_text, patterns_by_case};
 ghost use Rattle.acredact.specs.Tables.{HaveNoEmpty, secrets_of};
 
 use crate::arguments::{Item, Word, has};
@@ -108,8 +107,8 @@ fn load_naming<'a, F: Folder, I: Read, W: Write, E: Sink>(
     streams: &mut Streams<'_, I, W, E>,
 ) -> Result<bool, RuledFailure<'a>>
     requires some { HaveNoEmpty (secrets_of secrets.now) }
-    ensures outcome { KeylessRuled W.Write E.Sink F.Folder folder.now (all_given given.now)
-        secrets.now line_rules.now result streams.old streams.new }
+    ensures outcome { KeylessRuled W.Write E.Sink F.Folder folder.now given.now secrets.now line_rules.now
+        result streams.old streams.new }
     ensures flushed { OnOk result (streams.new.output.device.flushed ≡ true) }
 {
     let lists = lists_of(alloc, given, folder);
@@ -128,38 +127,22 @@ fn redact_named<'a, F: Folder, I: Read, W: Write, E: Sink>(
     alloc: Global,
     given: &[Item<'a>],
     secrets: &[Rule],
-    line_rules: &Rules,
+    rules: &Rules,
     key: &[u8],
     folder: &F,
     streams: &mut Streams<'_, I, W, E>,
 ) -> Result<bool, RuledFailure<'a>>
     requires some { HaveNoEmpty (secrets_of secrets.now) }
-    ensures outcome { KeyedRuled W.Write E.Sink F.Folder folder.now (all_given given.now)
-        secrets.now line_rules.now key.now result streams.old streams.new }
+    ensures outcome { KeyedRuled W.Write E.Sink F.Folder folder.now given.now secrets.now rules.now key.now
+        result streams.old streams.new }
     ensures flushed { OnOk result (streams.new.output.device.flushed ≡ true) }
 {
     if !has(given, Word::Forms) {
-        return redact_doubted(
-            alloc,
-            given,
-            secrets,
-            line_rules,
-            Some(key),
-            folder,
-            streams,
-        );
+        return redact_doubted(alloc, given, secrets, rules, Some(key), folder, streams);
     }
     let named = named_rules(alloc, secrets, name_key(given, key))?;
     let secrets = named.as_slice();
-    redact_doubted(
-        alloc,
-        given,
-        secrets,
-        line_rules,
-        Some(key),
-        folder,
-        streams,
-    )
+    redact_doubted(alloc, given, secrets, rules, Some(key), folder, streams)
 }
 
 /// Tells of doubtful patterns of lists, redacts all files, and answers whether all were read.
@@ -188,21 +171,21 @@ fn redact_ruled<'a, F: Folder, I: Read, W: Write, E: Sink>(
     alloc: Global,
     given: &[Item<'_>],
     secrets: &[Rule],
-    line_rules: &Rules,
+    rules: &Rules,
     key: Option<&[u8]>,
     folder: &F,
     streams: &mut Streams<'_, I, W, E>,
 ) -> Result<bool, RuledFailure<'a>>
     requires some { HaveNoEmpty (secrets_of secrets.now) }
-    ensures outcome { LoadedRuled W.Write E.Sink F.Folder folder.now given.now secrets.now line_rules.now
-        key.entry result streams.old streams.new }
+    ensures outcome { LoadedRuled W.Write E.Sink F.Folder folder.now given.now secrets.now rules.now key.entry
+        result streams.old streams.new }
     ensures flushed { OnOk result (streams.new.output.device.flushed ≡ true) }
 {
     if let Some(number) = line_end_in(secrets) {
         return Err(RuledFailure::LineEnd(number));
     }
     let patterns = patterns_of(alloc, secrets)?;
-    let texts = texts_of(alloc, given, secrets, line_rules.as_slice())?;
+    let texts = texts_of(alloc, given, secrets, rules.as_slice())?;
     let names = names(alloc, given)?;
     let nfa = build_lined(alloc, given, patterns.as_slice())?;
     let most = most_of(given);
@@ -210,7 +193,7 @@ fn redact_ruled<'a, F: Folder, I: Read, W: Write, E: Sink>(
     let mut counts = counts_for(alloc, texts.len())?;
     let words = has(given, Word::AsWord);
     let pieces = pieces_by(given, texts, key, secrets.len());
-    let mut lined = lined_of(alloc, &nfa, line_rules, pieces, words, most)?;
+    let mut lined = lined_of(alloc, &nfa, rules, pieces, words, most)?;
     let names = names.as_slice();
     let tally = counts.as_mut_slice();
     let done = cover_files(&mut lined, folder, names, tally, streams);
@@ -223,12 +206,12 @@ fn redact_ruled<'a, F: Folder, I: Read, W: Write, E: Sink>(
                 all,
                 given,
                 secrets,
-                line_rules,
+                rules,
                 tally,
                 &mut streams.errors,
             )
         }
-        Err(error) => Err(failure_in(alloc, line_rules.as_slice(), error)),
+        Err(error) => Err(failure_in(alloc, rules.as_slice(), error)),
     }
 }
 
@@ -316,8 +299,8 @@ fn pieces_by<'p, 'q>(
     key: Option<&[u8]>,
     patterns: usize,
 ) -> RunPieces<'p, 'q>
-    ensures rule { ⟦<RunPieces<'p, 'q> as Pieces>⟧.rule result ≡ rule_asked (all_given given.now)
-        (pieces_of texts.entry.now) (key_lent key.entry) patterns }
+    ensures rule { ⟦<RunPieces<'p, 'q> as Pieces>⟧.rule result ≡ lent_rule given.now texts.entry.now
+        key.entry patterns }
 {
     let key = key_by(key, has(given, Word::IgnoreCase));
     RunPieces::new(texts, key, named_count(given, patterns))

@@ -19,14 +19,14 @@ use Rattle.acredact.proofs.ruled.redact_named.Goals as goal
 pub returns-then-not-has-clause-outcome : goal.returns-then-not-has-clause-outcome
 returns-then-not-has-clause-outcome g c = λ left between given key.
     let none : has Forms (all_given c.args.given.now) ≡ false = search rules in
-    call_loaded g.E.Sink (call_of g.F.Folder c.args.folder.now (all_given c.args.given.now)) (ruled_load c.args.secrets.now c.args.line_rules.now (Some c.args.key)) c.redact_doubted.result left _ _ _ _ _ _
+    call_loaded g.E.Sink (call_of g.F.Folder c.args.folder.now (all_given c.args.given.now)) (ruled_load c.args.secrets.now c.args.rules.now (Some c.args.key)) c.redact_doubted.result left _ _ _ _ _ _
     (record { secrets = secrets_of c.args.secrets.now; between = between; rules_given = given; key_given = key; named = ruled_plain (all_given c.args.given.now) (secrets_of c.args.secrets.now) c.args.key.now none })
     c.redact_doubted.ensures.outcome
 
 pub returns-clause-outcome : goal.returns-clause-outcome
 returns-clause-outcome g c = λ left between given key.
     let asked : has Forms (all_given c.args.given.now) ≡ true = search rules in
-    call_loaded g.E.Sink (call_of g.F.Folder c.args.folder.now (all_given c.args.given.now)) (ruled_load c.as_slice-secrets.result.now c.args.line_rules.now (Some c.args.key)) c.redact_doubted-2.result left _ _ _ _ _ _
+    call_loaded g.E.Sink (call_of g.F.Folder c.args.folder.now (all_given c.args.given.now)) (ruled_load c.as_slice-secrets.result.now c.args.rules.now (Some c.args.key)) c.redact_doubted-2.result left _ _ _ _ _ _
     (record {
       secrets = secrets_of c.args.secrets.now;
       between = between;

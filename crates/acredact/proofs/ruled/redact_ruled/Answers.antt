@@ -30,43 +30,43 @@ use Rattle.acredact.proofs.ruled.redact_ruled.Goals as goal
 
 pub returns-in-Some-clause-outcome : goal.returns-in-Some-clause-outcome
 returns-in-Some-clause-outcome g c =
-    ruled_none g.E.Sink (call_of g.F.Folder c.args.folder.now (all_given c.args.given.now)) (ruled_load c.args.secrets.now c.args.line_rules.now c.args.key) (LineEnd c.in-Some.number) _ _ _
+    ruled_none g.E.Sink (call_of g.F.Folder c.args.folder.now (all_given c.args.given.now)) (ruled_load c.args.secrets.now c.args.rules.now c.args.key) (LineEnd c.in-Some.number) _ _ _
 
 pub returns-in_err-patterns-clause-outcome : goal.returns-in_err-patterns-clause-outcome
 returns-in_err-patterns-clause-outcome g c =
     let is : c.from_residual.result ≡ Err (Plain (Other OutOfMemory)) = search rules in
-    subst (λ (r : Result Bool RuledFailure). LoadedRuled g.W.Write g.E.Sink g.F.Folder c.args.folder.now c.args.given.now c.args.secrets.now c.args.line_rules.now c.args.key r c.args.streams.now c.args.streams.now) (sym is)
-    (ruled_none g.E.Sink (call_of g.F.Folder c.args.folder.now (all_given c.args.given.now)) (ruled_load c.args.secrets.now c.args.line_rules.now c.args.key) (Plain (Other OutOfMemory)) _ _ _)
+    subst (λ (r : Result Bool RuledFailure). LoadedRuled g.W.Write g.E.Sink g.F.Folder c.args.folder.now c.args.given.now c.args.secrets.now c.args.rules.now c.args.key r c.args.streams.now c.args.streams.now) (sym is)
+    (ruled_none g.E.Sink (call_of g.F.Folder c.args.folder.now (all_given c.args.given.now)) (ruled_load c.args.secrets.now c.args.rules.now c.args.key) (Plain (Other OutOfMemory)) _ _ _)
 
 pub returns-in_err-texts-clause-outcome : goal.returns-in_err-texts-clause-outcome
 returns-in_err-texts-clause-outcome g c =
     let is : c.from_residual-in_err-texts.result ≡ Err (Plain (Other OutOfMemory)) = search rules in
-    subst (λ (r : Result Bool RuledFailure). LoadedRuled g.W.Write g.E.Sink g.F.Folder c.args.folder.now c.args.given.now c.args.secrets.now c.args.line_rules.now c.args.key r c.args.streams.now c.args.streams.now) (sym is)
-    (ruled_none g.E.Sink (call_of g.F.Folder c.args.folder.now (all_given c.args.given.now)) (ruled_load c.args.secrets.now c.args.line_rules.now c.args.key) (Plain (Other OutOfMemory)) _ _ _)
+    subst (λ (r : Result Bool RuledFailure). LoadedRuled g.W.Write g.E.Sink g.F.Folder c.args.folder.now c.args.given.now c.args.secrets.now c.args.rules.now c.args.key r c.args.streams.now c.args.streams.now) (sym is)
+    (ruled_none g.E.Sink (call_of g.F.Folder c.args.folder.now (all_given c.args.given.now)) (ruled_load c.args.secrets.now c.args.rules.now c.args.key) (Plain (Other OutOfMemory)) _ _ _)
 
 pub returns-in_err-names-clause-outcome : goal.returns-in_err-names-clause-outcome
 returns-in_err-names-clause-outcome g c =
     let is : c.from_residual-in_err-names.result ≡ Err (Plain (Other OutOfMemory)) = search rules in
-    subst (λ (r : Result Bool RuledFailure). LoadedRuled g.W.Write g.E.Sink g.F.Folder c.args.folder.now c.args.given.now c.args.secrets.now c.args.line_rules.now c.args.key r c.args.streams.now c.args.streams.now) (sym is)
-    (ruled_none g.E.Sink (call_of g.F.Folder c.args.folder.now (all_given c.args.given.now)) (ruled_load c.args.secrets.now c.args.line_rules.now c.args.key) (Plain (Other OutOfMemory)) _ _ _)
+    subst (λ (r : Result Bool RuledFailure). LoadedRuled g.W.Write g.E.Sink g.F.Folder c.args.folder.now c.args.given.now c.args.secrets.now c.args.rules.now c.args.key r c.args.streams.now c.args.streams.now) (sym is)
+    (ruled_none g.E.Sink (call_of g.F.Folder c.args.folder.now (all_given c.args.given.now)) (ruled_load c.args.secrets.now c.args.rules.now c.args.key) (Plain (Other OutOfMemory)) _ _ _)
 
 pub returns-in_err-nfa-clause-outcome : goal.returns-in_err-nfa-clause-outcome
 returns-in_err-nfa-clause-outcome g c =
     let is : c.from_residual-in_err-nfa.result ≡ Err (Plain (Other (Build c.in_err-nfa.field-0.0))) = search rules in
-    subst (λ (r : Result Bool RuledFailure). LoadedRuled g.W.Write g.E.Sink g.F.Folder c.args.folder.now c.args.given.now c.args.secrets.now c.args.line_rules.now c.args.key r c.args.streams.now c.args.streams.now) (sym is)
-    (ruled_none g.E.Sink (call_of g.F.Folder c.args.folder.now (all_given c.args.given.now)) (ruled_load c.args.secrets.now c.args.line_rules.now c.args.key) (Plain (Other (Build c.in_err-nfa.field-0.0))) _ _ _)
+    subst (λ (r : Result Bool RuledFailure). LoadedRuled g.W.Write g.E.Sink g.F.Folder c.args.folder.now c.args.given.now c.args.secrets.now c.args.rules.now c.args.key r c.args.streams.now c.args.streams.now) (sym is)
+    (ruled_none g.E.Sink (call_of g.F.Folder c.args.folder.now (all_given c.args.given.now)) (ruled_load c.args.secrets.now c.args.rules.now c.args.key) (Plain (Other (Build c.in_err-nfa.field-0.0))) _ _ _)
 
 pub returns-in_err-counts-clause-outcome : goal.returns-in_err-counts-clause-outcome
 returns-in_err-counts-clause-outcome g c =
     let is : c.from_residual-in_err-counts.result ≡ Err (Plain (Other OutOfMemory)) = search rules in
-    subst (λ (r : Result Bool RuledFailure). LoadedRuled g.W.Write g.E.Sink g.F.Folder c.args.folder.now c.args.given.now c.args.secrets.now c.args.line_rules.now c.args.key r c.args.streams.now c.args.streams.now) (sym is)
-    (ruled_none g.E.Sink (call_of g.F.Folder c.args.folder.now (all_given c.args.given.now)) (ruled_load c.args.secrets.now c.args.line_rules.now c.args.key) (Plain (Other OutOfMemory)) _ _ _)
+    subst (λ (r : Result Bool RuledFailure). LoadedRuled g.W.Write g.E.Sink g.F.Folder c.args.folder.now c.args.given.now c.args.secrets.now c.args.rules.now c.args.key r c.args.streams.now c.args.streams.now) (sym is)
+    (ruled_none g.E.Sink (call_of g.F.Folder c.args.folder.now (all_given c.args.given.now)) (ruled_load c.args.secrets.now c.args.rules.now c.args.key) (Plain (Other OutOfMemory)) _ _ _)
 
 pub returns-in_err-lined-clause-outcome : goal.returns-in_err-lined-clause-outcome
 returns-in_err-lined-clause-outcome g c =
     let is : c.from_residual-in_err-lined.result ≡ Err (Plain (Other OutOfMemory)) = search rules in
-    subst (λ (r : Result Bool RuledFailure). LoadedRuled g.W.Write g.E.Sink g.F.Folder c.args.folder.now c.args.given.now c.args.secrets.now c.args.line_rules.now c.args.key r c.args.streams.now c.args.streams.now) (sym is)
-    (ruled_none g.E.Sink (call_of g.F.Folder c.args.folder.now (all_given c.args.given.now)) (ruled_load c.args.secrets.now c.args.line_rules.now c.args.key) (Plain (Other OutOfMemory)) _ _ _)
+    subst (λ (r : Result Bool RuledFailure). LoadedRuled g.W.Write g.E.Sink g.F.Folder c.args.folder.now c.args.given.now c.args.secrets.now c.args.rules.now c.args.key r c.args.streams.now c.args.streams.now) (sym is)
+    (ruled_none g.E.Sink (call_of g.F.Folder c.args.folder.now (all_given c.args.given.now)) (ruled_load c.args.secrets.now c.args.rules.now c.args.key) (Plain (Other OutOfMemory)) _ _ _)
 
 pub lined_of-requires : goal.lined_of-requires
 lined_of-requires g c =
@@ -87,8 +87,8 @@ pub returns-in-Ok-clause-outcome : goal.returns-in-Ok-clause-outcome
 returns-in-Ok-clause-outcome g c =
     let given = all_given c.args.given.now in
     let call = call_of g.F.Folder c.args.folder.now given in
-    let load = ruled_load c.args.secrets.now c.args.line_rules.now c.args.key in
-    let rules = c.args.line_rules.now in
+    let load = ruled_load c.args.secrets.now c.args.rules.now c.args.key in
+    let rules = c.args.rules.now in
     let words : pieces_of c.as_slice-2.result.now ≡ patterns_in load.secrets = ap pieces_of c.as_slice-2.ensures.value ∙ c.in_ok-patterns.ensures.patterns in
     let texts : pieces_of c.in_ok-texts.texts.items ≡ texts_asked given load =
     c.in_ok-texts.ensures.texts ∙ ap (λ (l : List LineRule). texts_asked given (ruled_load c.args.secrets.now l c.args.key)) c.as_slice.ensures.same in
@@ -123,8 +123,8 @@ pub returns-clause-outcome : goal.returns-clause-outcome
 returns-clause-outcome g c =
     let given = all_given c.args.given.now in
     let call = call_of g.F.Folder c.args.folder.now given in
-    let load = ruled_load c.args.secrets.now c.args.line_rules.now c.args.key in
-    let rules = c.args.line_rules.now in
+    let load = ruled_load c.args.secrets.now c.args.rules.now c.args.key in
+    let rules = c.args.rules.now in
     let words : pieces_of c.as_slice-2.result.now ≡ patterns_in load.secrets = ap pieces_of c.as_slice-2.ensures.value ∙ c.in_ok-patterns.ensures.patterns in
     let texts : pieces_of c.in_ok-texts.texts.items ≡ texts_asked given load =
     c.in_ok-texts.ensures.texts ∙ ap (λ (l : List LineRule). texts_asked given (ruled_load c.args.secrets.now l c.args.key)) c.as_slice.ensures.same in
