@@ -1,7 +1,7 @@
 -- Right arguments have nothing wrong.
 use Rattle.std.proofs.Common.{◌≡◌, inl, inr, ℕ, List, [], ◌∷◌, Option, refl, sym, ap, ◌∙◌}
 use Rattle.std.specs.Prelude.{◌&&◌, not, Bool, true, false, Some, None, if◌then◌else◌, option_and_then}
-use Rattle.acredact.specs.Arguments.{Given, ItemsSoFar, all_asked, by_argument, covers_asked, fitting_by, given_by, given_from, has, mixture_of, words_asked}
+use Rattle.acredact.specs.Arguments.{Given, ItemsSoFar, all_asked, by_argument, covers_asked, fitting_by, given_by, given_from, gives_rules, has, mixture_of, words_asked}
 use Rattle.acredact.specs.Mistakes.{IsMistakeOfCall, line_of_argument, first_mistake_line, line_from, line_or}
 use Rattle.acredact.specs.declared.arguments.Expects.{Expects}
 use Rattle.acredact.specs.declared.arguments.Expects.TheVariants.{Any, Value, Name}
@@ -77,7 +77,7 @@ no_words true true false rest none asked = absurd (cc)
 pub forms_unworded : (arguments : List (List ℕ)) (given : List Given) → all_asked arguments ≡ Some given → has Forms given ≡ true → words_asked given ≡ false
 forms_unworded arguments given asked forms =
     let none = (read_fits (given_by arguments) given asked).1 in
-    no_words (covers_asked given) (has AsWord given) (has Forms given) _ (rest_of (has Output given && has Check given) OutputCheck _ (rest_of (has Summary given && has Check given) SummaryCheck _ (rest_of (has Count given && has Check given) CountCheck _ (rest_of (has Forms given && not (covers_asked given)) FormsKind _ (rest_of (has Pseudonym given && has Table given) PseudonymTable _ (rest_of (has Pseudonym given && has With given) PseudonymWith _ (rest_of (has Pseudonym given && not (covers_asked given)) PseudonymKind _ (rest_of (has Strict given && not (covers_asked given)) StrictKind _ none)))))))) forms
+    no_words (covers_asked given) (has AsWord given) (has Forms given) _ (rest_of (has Output given && has Check given) OutputCheck _ (rest_of (has Summary given && has Check given && not (gives_rules given)) SummaryCheck _ (rest_of (has Count given && has Check given) CountCheck _ (rest_of (has Forms given && not (covers_asked given)) FormsKind _ (rest_of (has Pseudonym given && has Table given) PseudonymTable _ (rest_of (has Pseudonym given && has With given) PseudonymWith _ (rest_of (has Pseudonym given && not (covers_asked given)) PseudonymKind _ (rest_of (has Strict given && not (covers_asked given)) StrictKind _ none)))))))) forms
 
 -- nothing is wrong with right arguments but that memory runs out
 pub memory_alone : (arguments : List (List ℕ)) (given : List Given) (mistake : Mistake) → all_asked arguments ≡ Some given → IsMistakeOfCall arguments mistake → mistake ≡ OutOfMemory

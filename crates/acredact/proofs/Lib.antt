@@ -64,3 +64,6 @@ mod LongLines
 mod RuledText
 mod RuledFiles
 mod RuledCalls
+mod ToldLines
+mod LookedFiles
+mod RuledCheckCalls

@@ -10,7 +10,7 @@ use Rattle.programs.specs.Telling.{Tells, TellsBytes, TellsSome}
 use Rattle.programs.specs.declared.errors.Errors.{Errors}
 use Rattle.programs.specs.declared.reason.Reason.{Reason}
 use Rattle.acredact.specs.Sums.{sums_of}
-use Rattle.acredact.specs.Arguments.{AsksForRules, AsksToCheck, AsksToRedact, Given, all_asked, checks_asked, counts_asked}
+use Rattle.acredact.specs.Arguments.{AsksAnyCheck, AsksForRules, AsksToRedact, Given, all_asked, counts_asked}
 use Rattle.acredact.specs.Calls.{Call, CountsCall, IsCountsLine, IsLineOf, WarnsCall}
 use Rattle.acredact.specs.Files.{unread_line}
 use Rattle.acredact.specs.Into.{IsOutputLine, IsRuledOutputLine}
@@ -21,7 +21,7 @@ use Rattle.acredact.proofs.Given.{same_given}
 use Rattle.acredact.proofs.PlacedCalls.{tells_weaker}
 use Rattle.acredact.proofs.RuledCalls.{notes_told}
 use Rattle.acredact.proofs.RuledFiles.{some_weaker}
-use Rattle.acredact.proofs.Statuses.{asks_check, asks_rules, no_redaction, ruled_checks}
+use Rattle.acredact.proofs.Statuses.{any_redaction, any_ruled}
 use Rattle.acredact.proofs.Warned.{tells_both, warnings_tell}
 
 -- a status is 0, 1 or 2
@@ -37,25 +37,25 @@ by_status (suc status) none some = some (λ (is : suc status ≡ 0). omega (arit
 
 -- a redaction is no check
 pub no_check_of : (arguments : List (List ℕ)) (given : List Given) → all_asked arguments ≡ Some given → AsksToRedact given
-    → ((items : List Given) × (all_asked arguments ≡ Some items) × AsksToCheck items) → ⊥
+    → ((items : List Given) × (all_asked arguments ≡ Some items) × AsksAnyCheck items) → ⊥
 no_check_of arguments given right asks (items, mine, checks) =
     let same : items ≡ given = same_given (all_asked arguments) given items right mine in
-    no_redaction given (subst (λ (l : List Given). checks_asked l ≡ true) same (asks_check items checks)) asks
+    any_redaction given (subst AsksAnyCheck same checks) asks
 
 -- and its status is not 1
 pub not_one : (arguments : List (List ℕ)) (given : List Given) → all_asked arguments ≡ Some given → AsksToRedact given → {status : ℕ}
-    → (status ≡ 1 → (items : List Given) × (all_asked arguments ≡ Some items) × AsksToCheck items) → status ≡ 1 → ⊥
+    → (status ≡ 1 → (items : List Given) × (all_asked arguments ≡ Some items) × AsksAnyCheck items) → status ≡ 1 → ⊥
 not_one arguments given right asks check one = no_check_of arguments given right asks (check one)
 
 -- nor is one by rules
 pub ruled_no_check : (arguments : List (List ℕ)) (given : List Given) → all_asked arguments ≡ Some given → AsksForRules given
-    → ((items : List Given) × (all_asked arguments ≡ Some items) × AsksToCheck items) → ⊥
+    → ((items : List Given) × (all_asked arguments ≡ Some items) × AsksAnyCheck items) → ⊥
 ruled_no_check arguments given right asks (items, mine, checks) =
     let same : items ≡ given = same_given (all_asked arguments) given items right mine in
-    ruled_checks given (asks_rules given asks) (subst AsksToCheck same checks)
+    any_ruled given (subst AsksAnyCheck same checks) asks
 
 pub ruled_not_one : (arguments : List (List ℕ)) (given : List Given) → all_asked arguments ≡ Some given → AsksForRules given → {status : ℕ}
-    → (status ≡ 1 → (items : List Given) × (all_asked arguments ≡ Some items) × AsksToCheck items) → status ≡ 1 → ⊥
+    → (status ≡ 1 → (items : List Given) × (all_asked arguments ≡ Some items) × AsksAnyCheck items) → status ≡ 1 → ⊥
 ruled_not_one arguments given right asks check one = ruled_no_check arguments given right asks (check one)
 
 module _ {E : Type 0} (K : SinkGhosts E) (call : Call) (fails : Type 0) (name : List ℕ) where

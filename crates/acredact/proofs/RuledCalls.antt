@@ -162,7 +162,7 @@ module _ {E : Type 0} (K : SinkGhosts E) (call : Call) where
     written = told;
   }
 
-  notice_told : (line : List ℕ) → IsRuledNotice call line → IsRuledTold call line
+  pub notice_told : (line : List ℕ) → IsRuledNotice call line → IsRuledTold call line
   notice_told line is = inr (inr is)
 
   -- behind what is told of them

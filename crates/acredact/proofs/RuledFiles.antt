@@ -126,7 +126,7 @@ module _ {E : Type 0} (K : SinkGhosts E) (Less More : List ℕ → Type 0) (old 
   }
 
 -- a line of one file is one of all
-line_among : (names : List (List ℕ)) (name : List ℕ) → IsOneOf name names → (line : List ℕ) → IsUnreadLine (name ∷ []) line → IsUnreadLine names line
+pub line_among : (names : List (List ℕ)) (name : List ℕ) → IsOneOf name names → (line : List ℕ) → IsUnreadLine (name ∷ []) line → IsUnreadLine names line
 line_among names name among line (other, inl is, told) = (other, subst (λ n. IsOneOf n names) (sym is) among, told)
 line_among names name among line (other, inr none, told) = absurd none
 

@@ -7,7 +7,7 @@ use Rattle.aho_devices.specs.declared.device.Sink.{Ghosts as SinkGhosts}
 use Rattle.programs.specs.Streams.{bytes_left}
 use Rattle.programs.specs.Telling.{TellsBytes, TellsSome}
 use Rattle.programs.specs.declared.errors.Errors.{Errors}
-use Rattle.acredact.specs.Arguments.{AsksForRules, AsksToCheck, AsksToRedact, Given, GivesNoPattern, checks_asked, gives_rules, has, rules_asked}
+use Rattle.acredact.specs.Arguments.{AsksAnyCheck, AsksForRules, AsksForRulesCheck, AsksToCheck, AsksToRedact, Given, GivesNoPattern, any_check_asked, checks_asked, gives_rules, has, rules_asked, rules_check_asked}
 use Rattle.acredact.specs.Calls.{Call, CallOutcome, IsLineOf, OutputFails}
 use Rattle.acredact.specs.Failures.{IsFailureLine}
 use Rattle.acredact.specs.Statuses.{CallStatus, IsIdle}
@@ -50,38 +50,105 @@ checks_of given is =
     record { no_help = parts.0; no_version = parts.1; check = parts.2; no_rules = parts.3 }
 
 -- whether rules are asked for
-rules_part : (rules help version : Bool) → (rules && not help && not version) ≡ true → rules ≡ true
-rules_part true help version is = refl
-rules_part false help version is = absurd (cc)
+rules_part : (rules help version check : Bool) → (rules && not help && not version && not check) ≡ true → rules ≡ true
+rules_part true help version check is = refl
+rules_part false help version check is = absurd (cc)
 
 pub asks_rules : (given : List Given) → AsksForRules given → rules_asked given ≡ true
 asks_rules given asks =
-    ap (λ (b : Bool). b && not (has Help given) && not (has Version given)) asks.rules
-    ∙ ap (λ (b : Bool). true && not b && not (has Version given)) asks.no_help
-    ∙ ap (λ (b : Bool). true && not false && not b) asks.no_version
+    ap (λ (b : Bool). b && not (has Help given) && not (has Version given) && not (has Check given)) asks.rules
+    ∙ ap (λ (b : Bool). true && not b && not (has Version given) && not (has Check given)) asks.no_help
+    ∙ ap (λ (b : Bool). true && not false && not b && not (has Check given)) asks.no_version
+    ∙ ap (λ (b : Bool). true && not false && not false && not b) asks.no_check
 
 -- a call with rules is no other, and one without them is no call with rules
 pub ruled_redacts : (given : List Given) → rules_asked given ≡ true → AsksToRedact given → ⊥
 ruled_redacts given is asks =
-    let clash : true ≡ false = sym (rules_part (gives_rules given) (has Help given) (has Version given) is) ∙ asks.no_rules in cc
+    let clash : true ≡ false = sym (rules_part (gives_rules given) (has Help given) (has Version given) (has Check given) is) ∙ asks.no_rules in cc
 
 pub ruled_checks : (given : List Given) → rules_asked given ≡ true → AsksToCheck given → ⊥
 ruled_checks given is asks =
-    let clash : true ≡ false = sym (rules_part (gives_rules given) (has Help given) (has Version given) is) ∙ asks.no_rules in cc
+    let clash : true ≡ false = sym (rules_part (gives_rules given) (has Help given) (has Version given) (has Check given) is) ∙ asks.no_rules in cc
 
 pub unruled : (given : List Given) → rules_asked given ≡ false → AsksForRules given → ⊥
 unruled given none asks = let clash : true ≡ false = sym (asks_rules given asks) ∙ none in cc
 
+-- whether a check by rules is asked for
+asks_rules_check : (given : List Given) → AsksForRulesCheck given → rules_check_asked given ≡ true
+asks_rules_check given asks =
+    ap (λ (b : Bool). b && gives_rules given && not (has Help given) && not (has Version given)) asks.check
+    ∙ ap (λ (b : Bool). true && b && not (has Help given) && not (has Version given)) asks.rules
+    ∙ ap (λ (b : Bool). true && true && not b && not (has Version given)) asks.no_help
+    ∙ ap (λ (b : Bool). true && true && not false && not b) asks.no_version
+
+rules_check_parts : (check rules help version : Bool) → (check && rules && not help && not version) ≡ true → (help ≡ false) × (version ≡ false) × (check ≡ true) × (rules ≡ true)
+rules_check_parts true true false false is = (refl, refl, refl, refl)
+rules_check_parts true true false true is = absurd (cc)
+rules_check_parts true true true version is = absurd (cc)
+rules_check_parts true false help version is = absurd (cc)
+rules_check_parts false rules help version is = absurd (cc)
+
+pub rules_check_of : (given : List Given) → rules_check_asked given ≡ true → AsksForRulesCheck given
+rules_check_of given is =
+    let parts = rules_check_parts (has Check given) (gives_rules given) (has Help given) (has Version given) is in
+    record { no_help = parts.0; no_version = parts.1; check = parts.2; rules = parts.3 }
+
+-- it is no other call, and a call that does not ask for it is none
+pub rules_check_redacts : (given : List Given) → rules_check_asked given ≡ true → AsksToRedact given → ⊥
+rules_check_redacts given is asks = let clash : true ≡ false = sym (rules_check_of given is).check ∙ asks.no_check in cc
+
+pub rules_check_checks : (given : List Given) → rules_check_asked given ≡ true → AsksToCheck given → ⊥
+rules_check_checks given is asks = let clash : true ≡ false = sym (rules_check_of given is).rules ∙ asks.no_rules in cc
+
+pub rules_check_rules : (given : List Given) → rules_check_asked given ≡ true → AsksForRules given → ⊥
+rules_check_rules given is asks = let clash : true ≡ false = sym (rules_check_of given is).check ∙ asks.no_check in cc
+
+pub unruled_check : (given : List Given) → rules_check_asked given ≡ false → AsksForRulesCheck given → ⊥
+unruled_check given none asks = let clash : true ≡ false = sym (asks_rules_check given asks) ∙ none in cc
+
+-- either is a check
+any_parts : (check help version : Bool) → check ≡ true → help ≡ false → version ≡ false → (check && not help && not version) ≡ true
+any_parts check help version is no_help no_version =
+    ap (λ (b : Bool). b && not help && not version) is ∙ ap (λ (b : Bool). true && not b && not version) no_help ∙ ap (λ (b : Bool). true && not false && not b) no_version
+
+pub check_is_any : (given : List Given) → checks_asked given ≡ true → any_check_asked given ≡ true
+check_is_any given is =
+    let asks = checks_of given is in any_parts (has Check given) (has Help given) (has Version given) asks.check asks.no_help asks.no_version
+
+pub rules_check_is_any : (given : List Given) → rules_check_asked given ≡ true → any_check_asked given ≡ true
+rules_check_is_any given is =
+    let asks = rules_check_of given is in any_parts (has Check given) (has Help given) (has Version given) asks.check asks.no_help asks.no_version
+
+any_part : (check help version : Bool) → (check && not help && not version) ≡ true → (help ≡ false) × (version ≡ false) × (check ≡ true)
+any_part true false false is = (refl, refl, refl)
+any_part true false true is = absurd (cc)
+any_part true true version is = absurd (cc)
+any_part false help version is = absurd (cc)
+
+-- a redaction is none
+pub any_redaction : (given : List Given) → AsksAnyCheck given → AsksToRedact given → ⊥
+any_redaction given (inl checks) asks = let clash : true ≡ false = sym checks.check ∙ asks.no_check in cc
+any_redaction given (inr checks) asks = let clash : true ≡ false = sym checks.check ∙ asks.no_check in cc
+
+-- nor is a redaction by rules
+pub any_ruled : (given : List Given) → AsksAnyCheck given → AsksForRules given → ⊥
+any_ruled given (inl checks) asks = let clash : true ≡ false = sym checks.check ∙ asks.no_check in cc
+any_ruled given (inr checks) asks = let clash : true ≡ false = sym checks.check ∙ asks.no_check in cc
+
 -- a call checks or does not
-by_checks : {P : Type 0} (given : List Given) → (AsksToCheck given → P) → (checks_asked given ≡ false → P) → P
-by_checks {P} given checking redacting = by (checks_asked given) refl
+by_checks : {P : Type 0} (given : List Given) → (AsksAnyCheck given → P) → (any_check_asked given ≡ false → P) → P
+by_checks {P} given checking redacting = by (any_check_asked given) refl
   where
-    by : (b : Bool) → checks_asked given ≡ b → P
-    by true is = checking (checks_of given is)
+    of_kind : (b : Bool) → gives_rules given ≡ b → (has Help given ≡ false) × (has Version given ≡ false) × (has Check given ≡ true) → AsksAnyCheck given
+    of_kind true is parts = inr (record { no_help = parts.0; no_version = parts.1; check = parts.2; rules = is })
+    of_kind false is parts = inl (record { no_help = parts.0; no_version = parts.1; check = parts.2; no_rules = is })
+
+    by : (b : Bool) → any_check_asked given ≡ b → P
+    by true is = checking (of_kind (gives_rules given) refl (any_part (has Check given) (has Help given) (has Version given) is))
     by false is = redacting is
 
 -- the greatest status is 2
-pub bound_by : (given : List Given) (status : ℕ) → (AsksToCheck given → status ≤ 2) → (checks_asked given ≡ false → (status ≡ 0) ⊎ (status ≡ 2)) → status ≤ 2
+pub bound_by : (given : List Given) (status : ℕ) → (AsksAnyCheck given → status ≤ 2) → (any_check_asked given ≡ false → (status ≡ 0) ⊎ (status ≡ 2)) → status ≤ 2
 bound_by given status checked redacted =
     by_checks {P = status ≤ 2} given checked
     (λ none. elim (redacted none) [
@@ -90,16 +157,16 @@ bound_by given status checked redacted =
     ])
 
 -- and a check alone has status 1
-pub one_by : (given : List Given) (status : ℕ) → (checks_asked given ≡ false → (status ≡ 0) ⊎ (status ≡ 2)) → status ≡ 1 → AsksToCheck given
+pub one_by : (given : List Given) (status : ℕ) → (any_check_asked given ≡ false → (status ≡ 0) ⊎ (status ≡ 2)) → status ≡ 1 → AsksAnyCheck given
 one_by given status redacted one =
-    by_checks {P = AsksToCheck given} given (λ asks. asks)
+    by_checks {P = AsksAnyCheck given} given (λ asks. asks)
     (λ none. elim (redacted none) [
       | inl zero ↦ absurd (omega (arith, zero, one))
       | inr two ↦ absurd (omega (arith, two, one))
     ])
 
 -- what is flushed is so but by a check
-pub flushed_by : {P : Type 0} (given : List Given) → (AsksToCheck given → ⊥) → (checks_asked given ≡ false → P) → P
+pub flushed_by : {P : Type 0} (given : List Given) → (AsksAnyCheck given → ⊥) → (any_check_asked given ≡ false → P) → P
 flushed_by {P} given not_check flushed = by_checks {P = P} given (λ asks. absurd (not_check asks)) flushed
 
 module _ {R : Type 0} {Reads : Readers R} {W E : Type 0} (Writes : Writers W) (K : SinkGhosts E) (call : Call) (old new : Streams R W E Reads) where

@@ -1,5 +1,5 @@
 -- What the arguments, those after the program's name, ask for.
-use Rattle.std.specs.Prelude.{◌≡◌, ℕ, ◌==◌, ◌++◌, ◌||◌, ◌&&◌, not, Bool, true, false, List, [], ◌∷◌, Option, Some, None, Result, IfOk, codes, is_some, map, option_and_then, unwrap_or, String, Vec, if◌then◌else◌}
+use Rattle.std.specs.Prelude.{◌≡◌, ◌⊎◌, ℕ, ◌==◌, ◌++◌, ◌||◌, ◌&&◌, not, Bool, true, false, List, [], ◌∷◌, Option, Some, None, Result, IfOk, codes, is_some, map, option_and_then, unwrap_or, String, Vec, if◌then◌else◌}
 use Rattle.std.specs.Str.{bytes_eq}
 use Rattle.aho_core.specs.declared.search.MatchKind.{MatchKind}
 use Rattle.aho_core.specs.declared.search.MatchKind.TheVariants.{Standard}
@@ -15,7 +15,7 @@ use Rattle.acredact.specs.declared.arguments.Expects.{Expects}
 use Rattle.acredact.specs.declared.arguments.Expects.TheVariants.{Any, Value, Name}
 use Rattle.acredact.specs.declared.arguments.Item.{Item}
 use Rattle.acredact.specs.declared.arguments.Mixture.{Mixture}
-use Rattle.acredact.specs.declared.arguments.Mixture.TheVariants.{StrictKind, PseudonymKind, PseudonymWith, PseudonymTable, FormsKind, WordsKind, WordsForms, RulesKind, RulesCheck, RulesInPlace, RulesPseudonym, RulesSummary, RulesStrict, MaxLineAlone, CountCheck, SummaryCheck, OutputCheck, InPlaceCheck, InPlaceOutput}
+use Rattle.acredact.specs.declared.arguments.Mixture.TheVariants.{StrictKind, PseudonymKind, PseudonymWith, PseudonymTable, FormsKind, WordsKind, WordsForms, RulesKind, RulesInPlace, RulesPseudonym, RulesSummary, RulesStrict, MaxLineAlone, CountCheck, SummaryCheck, OutputCheck, InPlaceCheck, InPlaceOutput}
 
 -- an option with its value, or a file with its name
 pub record Given : Type 0 where
@@ -295,10 +295,9 @@ abbrev pub rules_mixture_of : List Given → Option Mixture
 rules_mixture_of given =
     if not (gives_rules given) then max_line_mixture_of given
     else if not (covers_asked given) then Some RulesKind
-    else if has Check given then Some RulesCheck
     else if has InPlace given then Some RulesInPlace
     else if has Pseudonym given then Some RulesPseudonym
-    else if has Summary given then Some RulesSummary
+    else if has Summary given && not (has Check given) then Some RulesSummary
     else if has Strict given then Some RulesStrict
     else None
 
@@ -326,7 +325,7 @@ mixture_of given =
     else if has Pseudonym given && has Table given then Some PseudonymTable
     else if has Forms given && not (covers_asked given) then Some FormsKind
     else if has Count given && has Check given then Some CountCheck
-    else if has Summary given && has Check given then Some SummaryCheck
+    else if has Summary given && has Check given && not (gives_rules given) then Some SummaryCheck
     else if has Output given && has Check given then Some OutputCheck
     else words_mixture_of given
 
@@ -346,7 +345,7 @@ pub record AsksToRedact (given : List Given) : Type 0 where
   pub no_check : has Check given ≡ false
   pub no_rules : gives_rules given ≡ false
 
--- or a check, with which rules are refused
+-- or a check of patterns alone
 pub record AsksToCheck (given : List Given) : Type 0 where
   pub no_help : has Help given ≡ false
   pub no_version : has Version given ≡ false
@@ -360,10 +359,28 @@ checks_asked given = has Check given && not (has Help given) && not (has Version
 pub record AsksForRules (given : List Given) : Type 0 where
   pub no_help : has Help given ≡ false
   pub no_version : has Version given ≡ false
+  pub no_check : has Check given ≡ false
   pub rules : gives_rules given ≡ true
 
 abbrev pub rules_asked : List Given → Bool
-rules_asked given = gives_rules given && not (has Help given) && not (has Version given)
+rules_asked given = gives_rules given && not (has Help given) && not (has Version given) && not (has Check given)
+
+-- or a check by rules
+pub record AsksForRulesCheck (given : List Given) : Type 0 where
+  pub no_help : has Help given ≡ false
+  pub no_version : has Version given ≡ false
+  pub check : has Check given ≡ true
+  pub rules : gives_rules given ≡ true
+
+abbrev pub rules_check_asked : List Given → Bool
+rules_check_asked given = has Check given && gives_rules given && not (has Help given) && not (has Version given)
+
+-- a check of either kind
+abbrev pub any_check_asked : List Given → Bool
+any_check_asked given = has Check given && not (has Help given) && not (has Version given)
+
+abbrev pub AsksAnyCheck : List Given → Type 0
+AsksAnyCheck given = AsksToCheck given ⊎ AsksForRulesCheck given
 
 -- whether files are to be replaced in place
 abbrev pub in_place_asked : List Given → Bool
@@ -396,6 +413,10 @@ IfChecking arguments Holds = (given : List Given) → all_asked (texts arguments
 abbrev pub IfRuled : {Z : Type 0} → List (String Z) → (List Given → Type 0) → Type 0
 IfRuled arguments Holds = (given : List Given) → all_asked (texts arguments) ≡ Some given → AsksForRules given → Holds given
 
+-- or for a check by rules
+abbrev pub IfRulesCheck : {Z : Type 0} → List (String Z) → (List Given → Type 0) → Type 0
+IfRulesCheck arguments Holds = (given : List Given) → all_asked (texts arguments) ≡ Some given → AsksForRulesCheck given → Holds given
+
 -- the options that are given name this file for the output, or none
 abbrev pub NamesOutput : {Z : Type 0} → List (String Z) → Option (List ℕ) → Type 0
 NamesOutput arguments output = (given : List Given) × (all_asked (texts arguments) ≡ Some given) × (output ≡ output_asked given)
@@ -406,7 +427,7 @@ AsksInPlace arguments asked = (given : List Given) × (all_asked (texts argument
 
 -- these arguments ask for a check
 abbrev pub IsCheck : {Z : Type 0} → List (String Z) → Type 0
-IsCheck arguments = (given : List Given) × (all_asked (texts arguments) ≡ Some given) × AsksToCheck given
+IsCheck arguments = (given : List Given) × (all_asked (texts arguments) ≡ Some given) × AsksAnyCheck given
 
 -- what holds where they do not
 abbrev pub IfNoCheck : {Z : Type 0} → List (String Z) → Type 0 → Type 0

@@ -59,3 +59,4 @@ pub mod RuleLines
 pub mod LongLines
 pub mod RunCounts
 pub mod Ruled
+pub mod RuledChecks

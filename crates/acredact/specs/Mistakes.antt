@@ -15,7 +15,7 @@ use Rattle.acredact.specs.declared.arguments.Item.{Item}
 use Rattle.acredact.specs.declared.arguments.Mistake.{Mistake}
 use Rattle.acredact.specs.declared.arguments.Mistake.TheVariants.{UnknownLetter, NotFound, NoValue, TakesNone, UnknownKind, UnknownForm, BadName, BadSize, NoPattern, Mixed, OutOfMemory}
 use Rattle.acredact.specs.declared.arguments.Mixture.{Mixture}
-use Rattle.acredact.specs.declared.arguments.Mixture.TheVariants.{StrictKind, PseudonymKind, PseudonymWith, PseudonymTable, FormsKind, WordsKind, WordsForms, RulesKind, RulesCheck, RulesInPlace, RulesPseudonym, RulesSummary, RulesStrict, MaxLineAlone, CountCheck, SummaryCheck, OutputCheck, InPlaceCheck, InPlaceOutput}
+use Rattle.acredact.specs.declared.arguments.Mixture.TheVariants.{StrictKind, PseudonymKind, PseudonymWith, PseudonymTable, FormsKind, WordsKind, WordsForms, RulesKind, RulesInPlace, RulesPseudonym, RulesSummary, RulesStrict, MaxLineAlone, CountCheck, SummaryCheck, OutputCheck, InPlaceCheck, InPlaceOutput}
 use Rattle.acredact.specs.declared.arguments.Word.{Word}
 use Rattle.acredact.specs.declared.arguments.Word.TheVariants.{Env, Forms, MaxLine}
 
@@ -29,13 +29,12 @@ mixture_text FormsKind = codes "--forms needs --kind cover: by other kinds a par
 mixture_text WordsKind = codes "--word needs --kind cover: by other kinds a match that is no word can hide one"
 mixture_text WordsForms = codes "--word and --forms do not go together: a form can stand within a word"
 mixture_text RulesKind = codes "--rules and --after need --kind cover: what rules mark may overlap"
-mixture_text RulesCheck = codes "--check does not go with --rules and --after: a check is of patterns"
 mixture_text RulesInPlace = codes "--in-place does not go with --rules and --after: give --output"
 mixture_text RulesPseudonym = codes "--pseudonym does not go with --rules and --after: each says what is written"
 mixture_text RulesSummary = codes "--summary does not go with --rules and --after: give --count"
 mixture_text RulesStrict = codes "--strict does not go with --rules and --after: it promises nothing of what rules mark"
 mixture_text MaxLineAlone = codes "--max-line needs --rules or --after: without them no line is kept"
-mixture_text SummaryCheck = codes "--summary and --check do not go together: a check counts nothing"
+mixture_text SummaryCheck = codes "--summary and --check do not go together without rules: a check counts nothing"
 mixture_text OutputCheck = codes "--output and --check do not go together: a check writes nothing"
 mixture_text InPlaceCheck = codes "--in-place and --check do not go together: a check writes nothing"
 mixture_text InPlaceOutput = codes "--in-place and --output do not go together: each says which file is replaced"

@@ -2,7 +2,7 @@
 
 ghost use Rattle.std.specs.Prelude.{◌≡◌, ◌++◌, [], ◌∷◌, Some, None, IfErr, IfOk, OnOk, option_map, string_bytes};
 ghost use Rattle.programs.specs.Arguments.{kind_by, texts};
-ghost use Rattle.acredact.specs.Arguments.{ReadsAs, all_asked, all_given, by_any, by_argument, checks_asked, counts_asked, covers_asked, given, given_by, has, in_place_asked, in_place_mixture_of, is_cover, is_same, is_value_of, by_joined, kind_asked, last_value, by_letter, by_letters, mixture_of, by_name, option_name, output_asked, by_taken, takes_value, max_line_mixture_of, rules_mixture_of, gives_rules, rules_asked, words_asked, words_mixture_of, by_value};
+ghost use Rattle.acredact.specs.Arguments.{ReadsAs, all_asked, all_given, by_any, by_argument, checks_asked, counts_asked, covers_asked, given, given_by, has, in_place_asked, in_place_mixture_of, is_cover, is_same, is_value_of, by_joined, kind_asked, last_value, by_letter, by_letters, mixture_of, by_name, option_name, output_asked, by_taken, takes_value, max_line_mixture_of, rules_mixture_of, gives_rules, rules_asked, rules_check_asked, words_asked, words_mixture_of, by_value};
 ghost use Rattle.acredact.specs.Long.{word_by_name};
 ghost use Rattle.acredact.specs.Mistakes.{FailsAs, IsMistake, IsMistakeOfCall, TellsAs, line_of_any, line_of_argument, line_of_joined, line_of_letter, line_of_letters, line_of_name, mistake_line, value_line};
 
@@ -111,8 +111,6 @@ pub enum Mixture {
     WordsForms,
     /// `--rules` or `--after` with another kind than cover: what rules mark may overlap.
     RulesKind,
-    /// `--rules` or `--after` with `--check`.
-    RulesCheck,
     /// `--rules` or `--after` with `--in-place`.
     RulesInPlace,
     /// `--rules` or `--after` with `--pseudonym`.
@@ -125,7 +123,7 @@ pub enum Mixture {
     MaxLineAlone,
     /// `--count` with `--check`, which counts nothing.
     CountCheck,
-    /// `--summary` with `--check`.
+    /// `--summary` with `--check`, without rules.
     SummaryCheck,
     /// `--output` with `--check`, which writes nothing.
     OutputCheck,
@@ -264,7 +262,7 @@ fn mixture_of(items: &[Item<'_>]) -> Option<Mixture>
     if has(items, Word::Count) && has(items, Word::Check) {
         return Some(Mixture::CountCheck);
     }
-    if has(items, Word::Summary) && has(items, Word::Check) {
+    if has(items, Word::Summary) && has(items, Word::Check) && !gives_rules(items) {
         return Some(Mixture::SummaryCheck);
     }
     if has(items, Word::Output) && has(items, Word::Check) {
@@ -309,16 +307,13 @@ fn rules_mixture_of(items: &[Item<'_>]) -> Option<Mixture>
     if !covers(items) {
         return Some(Mixture::RulesKind);
     }
-    if has(items, Word::Check) {
-        return Some(Mixture::RulesCheck);
-    }
     if has(items, Word::InPlace) {
         return Some(Mixture::RulesInPlace);
     }
     if has(items, Word::Pseudonym) {
         return Some(Mixture::RulesPseudonym);
     }
-    if has(items, Word::Summary) {
+    if has(items, Word::Summary) && !has(items, Word::Check) {
         return Some(Mixture::RulesSummary);
     }
     if has(items, Word::Strict) {
@@ -618,11 +613,24 @@ pub fn gives_rules(items: &[Item<'_>]) -> bool
     has(items, Word::Rules) || has(items, Word::After)
 }
 
-/// Whether lines are to be redacted by rules, and no help and no version is asked for.
+/// Whether lines are to be redacted by rules, and no help, no version and no check is asked for.
 pub fn asks_rules(items: &[Item<'_>]) -> bool
     ensures asks { result ≡ rules_asked (all_given items.now) }
 {
-    gives_rules(items) && !has(items, Word::Help) && !has(items, Word::Version)
+    gives_rules(items)
+        && !has(items, Word::Help)
+        && !has(items, Word::Version)
+        && !has(items, Word::Check)
+}
+
+/// Whether a check by rules is asked for, and no help and no version.
+pub fn checks_by_rules(items: &[Item<'_>]) -> bool
+    ensures checks { result ≡ rules_check_asked (all_given items.now) }
+{
+    has(items, Word::Check)
+        && gives_rules(items)
+        && !has(items, Word::Help)
+        && !has(items, Word::Version)
 }
 
 /// Whether words alone count: of a cover.

@@ -50,7 +50,7 @@ pub fn check<F: Folder, I: Read, E: Sink>(
 }
 
 /// The exit status of what was seen.
-fn status_of(verdict: Verdict) -> u8
+pub fn status_of(verdict: Verdict) -> u8
     ensures status { result ≡ check_status verdict }
 {
     if !verdict.all {

@@ -319,9 +319,6 @@ fn mixture_text(mixture: Mixture) -> &'static str
         Mixture::RulesKind => {
             "--rules and --after need --kind cover: what rules mark may overlap"
         }
-        Mixture::RulesCheck => {
-            "--check does not go with --rules and --after: a check is of patterns"
-        }
         Mixture::RulesInPlace => {
             "--in-place does not go with --rules and --after: give --output"
         }
@@ -336,7 +333,7 @@ fn mixture_text(mixture: Mixture) -> &'static str
             "--max-line needs --rules or --after: without them no line is kept"
         }
         Mixture::SummaryCheck => {
-            "--summary and --check do not go together: a check counts nothing"
+            "--summary and --check do not go together without rules: a check counts nothing"
         }
         Mixture::OutputCheck => {
             "--output and --check do not go together: a check writes nothing"

@@ -55,7 +55,8 @@ Output:
   --summary             write there how many files and bytes were read, and
                         these counts, as a JSON object
   --check               write nothing: the status is 1 if something would be
-                        replaced, and 0 if nothing
+                        replaced, and 0 if nothing; by rules and with --summary,
+                        write FILE:LINE: and the rule, for each such line
 
 Others:
   --                    what follows is no option

@@ -14,12 +14,14 @@ mod back;
 mod bad_rule;
 mod beside;
 mod check;
+mod checked_files;
 mod clean;
 mod counts;
 mod doubts;
 mod environment;
 mod failure;
 mod files;
+mod findings;
 mod folder;
 mod forms;
 mod held;
@@ -27,6 +29,7 @@ mod help;
 mod in_place;
 mod into;
 mod left;
+mod legend;
 mod line_rules;
 mod line_size;
 mod load;
@@ -40,6 +43,7 @@ mod patterns;
 mod redact;
 mod rows;
 mod ruled;
+mod ruled_check;
 mod ruled_failure;
 mod ruled_files;
 mod run;
@@ -51,6 +55,7 @@ mod spelled;
 mod streams;
 mod summary;
 mod sums;
+mod teller;
 mod values;
 mod ways;
 
@@ -58,10 +63,11 @@ ghost use Rattle.std.specs.Prelude.{◌≡◌, ◌≤◌, IfErr, IfOk, false, tr
 ghost use Rattle.std.specs.Process.{exit_status};
 ghost use Rattle.programs.specs.Telling.{TellsSome};
 ghost use Rattle.acredact.specs.Apart.{tells_nothing};
-ghost use Rattle.acredact.specs.Arguments.{AreMistaken, IfAsked, IfChecking, IfNoCheck, IfRuled, IsCheck, RefusesUnclean};
+ghost use Rattle.acredact.specs.Arguments.{AreMistaken, IfAsked, IfChecking, IfNoCheck, IfRuled, IfRulesCheck, IsCheck, RefusesUnclean};
 ghost use Rattle.acredact.specs.Calls.{BeginsAsked, IsRefusedLine, LeavesNoneAsked, RedactsAsked};
 ghost use Rattle.acredact.specs.Checks.{MatchedAsked, UnmatchedAsked};
 ghost use Rattle.acredact.specs.Ruled.{RuledAsked, RuledBegins};
+ghost use Rattle.acredact.specs.RuledChecks.{RuledFound, RuledClean};
 
 use aho_devices::adapters::{FromRead, FromWrite};
 use aho_devices::device::Sink;
@@ -195,6 +201,10 @@ fn exit_code<F: Folder, I: Read, W: Write, E: Sink>(
         exit_status result ≡ 0 → UnmatchedAsked F.Folder folder.now given streams.old streams.new)) }
     ensures matched { IfOk given (λ apart. IfChecking apart.arguments.items (λ given.
         exit_status result ≡ 1 → MatchedAsked F.Folder folder.now given streams.old streams.new)) }
+    ensures rules_unmatched { IfOk given (λ apart. IfRulesCheck apart.arguments.items (λ given.
+        exit_status result ≡ 0 → RuledClean F.Folder folder.now given streams.old streams.new W.Write)) }
+    ensures rules_matched { IfOk given (λ apart. IfRulesCheck apart.arguments.items (λ given.
+        exit_status result ≡ 1 → RuledFound F.Folder folder.now given streams.old streams.new W.Write)) }
     ensures flushed { IfOk given (λ apart. IfNoCheck apart.arguments.items (exit_status result ≡ 0
         → streams.new.output.device.flushed ≡ true)) }
     ensures bound { exit_status result ≤ 2 }

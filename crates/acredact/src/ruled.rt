@@ -162,7 +162,7 @@ fn redact_ruled<'a, F: Folder, I: Read, W: Write, E: Sink>(
 }
 
 /// The number, from 1 on, of the first pattern that holds a line end, if one does.
-fn line_end_in(secrets: &[Rule]) -> Option<usize> {
+pub fn line_end_in(secrets: &[Rule]) -> Option<usize> {
     let mut number: usize = 1;
     let mut rest = secrets;
     while !rest.is_empty() {
@@ -176,7 +176,7 @@ fn line_end_in(secrets: &[Rule]) -> Option<usize> {
 }
 
 /// The automaton of these patterns, by the case rule that is given.
-fn build_lined(alloc: Global, given: &[Item<'_>], patterns: &[&[u8]]) -> Result<NFA, BuildError>
+pub fn build_lined(alloc: Global, given: &[Item<'_>], patterns: &[&[u8]]) -> Result<NFA, BuildError>
     ensures of { IfOk result (λ nfa. ⟦<NFA as Automaton>⟧.is_of nfa
         (patterns_by_case (all_given given.now) (pieces_of patterns.now))) }
     ensures starts { IfOk result (λ nfa. IsOk (⟦<NFA as Automaton>⟧.start nfa No)) }

@@ -54,7 +54,7 @@ pub fn lined_of<'r, 'a, 'p, 'q, A: Automaton>(
 }
 
 /// What covers lines, by rules and by the patterns of an automaton, where it has some.
-fn line_cover<'r, 'a, A: Automaton>(
+pub fn line_cover<'r, 'a, A: Automaton>(
     alloc: Global,
     automaton: &'a A,
     rules: &'r Rules,

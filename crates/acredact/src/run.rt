@@ -6,7 +6,7 @@ ghost use Rattle.programs.specs.Arguments.{texts};
 ghost use Rattle.programs.specs.Names.{name_bytes};
 ghost use Rattle.programs.specs.Streams.{WritesBytes, bytes_left};
 ghost use Rattle.programs.specs.Telling.{Tells, TellsBytes, TellsSome};
-ghost use Rattle.acredact.specs.Arguments.{AreMistaken, AsksToRedact, GivesNoPattern, IfAsked, IfChecking, IfNoCheck, IfRuled, IsCheck, RefusesUnclean, all_given, checks_asked, counts_asked, counts_given, has};
+ghost use Rattle.acredact.specs.Arguments.{AreMistaken, AsksToRedact, GivesNoPattern, IfAsked, IfChecking, IfNoCheck, IfRuled, IfRulesCheck, IsCheck, RefusesUnclean, all_given, any_check_asked, counts_asked, counts_given, has};
 ghost use Rattle.acredact.specs.Back.{AreBoth, FilesJob, IfBackIs, RowsCounts, RowsOutcome};
 ghost use Rattle.acredact.specs.Bounds.{JobNumbers};
 ghost use Rattle.acredact.specs.Calls.{AskedOutcome, BeginsAsked, CountsAsked, DoubtedOutcome, HidesAsked, IsCountsFailure, IsCountsLine, IsPrintFailure, IsRefusedLine, IsWrongLine, KeyedOutcome, KeylessOutcome, LeavesNoneAsked, LoadOutcome, NumbersAsked, NumbersToldAsked, OutputFails, ReadsAsked, RedactsAsked, TellsAsked, TellsAnyCounts, WarnedJob, WarnedOutcome, WarnsAsked, call_of, gives_pattern, gives_value, keyed_as, names_asked, text_asked, work_by};
@@ -16,6 +16,7 @@ ghost use Rattle.acredact.specs.Failures.{IsFailureLine};
 ghost use Rattle.acredact.specs.Files.{CanDo, keyed_of};
 ghost use Rattle.acredact.specs.Loading.{key_lent, loaded_as};
 ghost use Rattle.acredact.specs.Pieces.{IfOfAll, TellsUnclean, pieces_by};
+ghost use Rattle.acredact.specs.RuledChecks.{RuledFindingsBegin, RuledFound, RuledClean, SaysOfRulesCheck, ListsByRules};
 ghost use Rattle.acredact.specs.Ruled.{NotesAsked, RuledAsked, RuledBegins, RuledCountsAsked, RuledTells, SaysOfRules};
 ghost use Rattle.acredact.specs.Secrets.{IfOf};
 ghost use Rattle.acredact.specs.Statuses.{IsIdle, SaysOfRedaction};
@@ -26,10 +27,11 @@ ghost use Rattle.acredact.specs.Totals.{CountsWork, JobCounts};
 ghost use Rattle.acredact.specs.Volumes.{JobVolume};
 ghost use Rattle.acredact.specs.declared.clean.Unclean.{Unclean};
 ghost use Rattle.acredact.specs.declared.failure.Failure.TheVariants.{Unclean as UncleanPiece};
-ghost use Rattle.acredact.specs.declared.arguments.Word.TheVariants.{Forms, IgnoreCase, Strict};
+ghost use Rattle.acredact.specs.declared.arguments.Word.TheVariants.{Forms, IgnoreCase, Strict, Summary};
 
 use crate::arguments::{
-    Item, Mistake, Word, asks_rules, checks, counts, covers, has, is_same, items, last_value,
+    Item, Mistake, Word, asks_rules, checks, checks_by_rules, counts, covers, has, is_same, items,
+    last_value,
 };
 use crate::back::back_of;
 use crate::check::check;
@@ -45,6 +47,7 @@ use crate::named::named_rules;
 use crate::patterns::{Rule, patterns_of, replacements_of};
 use crate::rows::build;
 use crate::ruled::redact_by_rules;
+use crate::ruled_check::check_by_rules;
 use crate::streams::Streams;
 use crate::summary::{Volume, put_summary};
 use crate::sums::sums_of;
@@ -156,7 +159,27 @@ pub fn run<F: Folder, I: Read, W: Write, E: Sink>(
     ensures ruled_counts { IfRuled arguments.now (λ given. result ≡ 0
         → RuledCountsAsked E.Sink F.Folder folder.now given streams.old streams.new) }
 
-    // All output was flushed where the status tells of no failure. A check has none, and it alone ends with status 1.
+    // A check by rules: at status 0 each file was read to its end, and in no line is something covered; at status 1 it is in some line. Where
+    // that is asked for, each number that a run of a line has is told once, as a line that holds nothing of the text, and nothing else is
+    // written; whatever the status is, a beginning of that.
+    ensures rules_unmatched { IfRulesCheck arguments.now (λ given. result ≡ 0
+        → RuledClean F.Folder folder.now given streams.old streams.new W.Write) }
+    ensures rules_matched { IfRulesCheck arguments.now (λ given. result ≡ 1
+        → RuledFound F.Folder folder.now given streams.old streams.new W.Write) }
+    ensures rules_findings { IfRulesCheck arguments.now (λ given.
+        RuledFindingsBegin F.Folder folder.now given streams.old streams.new W.Write) }
+
+    // Where it is not asked for nothing is written. Lines say why the status is 2, and else nothing is told but of patterns of lists.
+    ensures rules_unwritten { IfRulesCheck arguments.now (λ given. has Summary given ≡ false
+        → streams.new.output ≡ streams.old.output) }
+    ensures rules_unchecked { IfRulesCheck arguments.now (λ given. result ≡ 2
+        → RuledTells E.Sink F.Folder folder.now given streams.old streams.new) }
+    ensures rules_check_quiet { IfRulesCheck arguments.now (λ given. result < 2
+        → ListsByRules F.Folder folder.now given streams.old streams.new E.Sink) }
+    ensures rules_flushed { IfRulesCheck arguments.now (λ given. has Summary given ≡ true → result < 2
+        → streams.new.output.device.flushed ≡ true) }
+
+    // All output of a redaction was flushed where the status tells of no failure. A check alone ends with status 1.
     ensures flushed { IfNoCheck arguments.now (result ≡ 0
         → streams.new.output.device.flushed ≡ true) }
     ensures bound { result ≤ 2 }
@@ -181,10 +204,15 @@ fn answer<F: Folder, I: Read, W: Write, E: Sink>(
         result streams.old streams.new }
     ensures ruled { SaysOfRules W.Write E.Sink F.Folder folder.now (all_given given.now)
         result streams.old streams.new }
-    ensures flushed { checks_asked (all_given given.now) ≡ false → result ≡ 0
+    ensures ruled_check { SaysOfRulesCheck W.Write E.Sink F.Folder folder.now (all_given given.now)
+        result streams.old streams.new }
+    ensures flushed { any_check_asked (all_given given.now) ≡ false → result ≡ 0
         → streams.new.output.device.flushed ≡ true }
-    ensures bound { checks_asked (all_given given.now) ≡ false → (result ≡ 0) ⊎ (result ≡ 2) }
+    ensures bound { any_check_asked (all_given given.now) ≡ false → (result ≡ 0) ⊎ (result ≡ 2) }
 {
+    if checks_by_rules(given) {
+        return check_by_rules(alloc, given, folder, streams);
+    }
     if asks_rules(given) {
         return redact_by_rules(alloc, given, folder, streams);
     }

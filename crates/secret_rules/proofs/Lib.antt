@@ -52,3 +52,11 @@ pub mod Ending
 pub mod Reading
 -- what is said of one setting is said of the same
 pub mod Same
+-- the bytes of a line as they are read for a visitor
+pub mod Keeping
+-- what a visitor is to take of a line
+pub mod Seen
+-- lines that come to their ends and are visited
+pub mod TakenLines
+-- how far the visits of a stream's lines have come
+pub mod Visited

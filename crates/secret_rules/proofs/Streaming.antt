@@ -111,11 +111,11 @@ no-bytes [] none = refl
 no-bytes (byte ∷ bytes) none = absurd (omega (arith, none))
 
 -- a source gave nothing yet
-gave-nothing : {R : Type 0} (S : SourceGhosts R) (source : R) → SourceGave S source source [] false
+pub gave-nothing : {R : Type 0} (S : SourceGhosts R) (source : R) → SourceGave S source source [] false
 gave-nothing S source = record { bytes = Consumes-nil (S.remaining source); end = refl }
 
 -- and it gave more
-gave-more : {R : Type 0} (S : SourceGhosts R) (first source source' : R) (given bytes : List ℕ) (ended : Bool) → SourceGave S first source given false → Consumes (S.remaining source) (S.remaining source') bytes
+pub gave-more : {R : Type 0} (S : SourceGhosts R) (first source source' : R) (given bytes : List ℕ) (ended : Bool) → SourceGave S first source given false → Consumes (S.remaining source) (S.remaining source') bytes
     → S.empty_reads source' ≡ counted ended (S.empty_reads source) → SourceGave S first source' (given ++ bytes) ended
 gave-more S first source source' given bytes ended gives read counts = record {
   bytes = Consumes-trans (S.remaining first) (S.remaining source) (S.remaining source') given bytes gives.bytes read;

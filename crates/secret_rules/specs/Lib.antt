@@ -38,8 +38,14 @@ pub mod Writing
 pub mod Covering
 -- what the cover of a stream leaves, line by line
 pub mod LineCovers
+-- what a visitor of lines takes
+pub mod Visitors
+-- what the visits of a stream's lines leave
+pub mod Visits
 -- the line that is being read, and how far a cover has come
 pub mod OpenLines
+-- the line that is being read for a visitor
+pub mod SeenLines
 -- what a cover of lines is of
 pub mod Ready
 -- the expression of what stands behind a keyword

@@ -96,6 +96,29 @@ impl<'r, 'a, A: Automaton> LineCover<'r, 'a, A> {
     }
 }
 
+/// Reads once, in the place of what is held.
+pub(crate) fn read_once<R: Source>(
+    buffer: &mut Buffer,
+    read: u64,
+    source: &mut R,
+) -> Result<u64, StreamError>
+    requires within { read ≤ greatest_position }
+    ensures given { Consumes (R.remaining source.old) (R.remaining source.new) buffer.new.bytes }
+    ensures told { IfOk result (λ count. length buffer.new.bytes ≡ count) }
+    ensures limited { IfOk result (λ count. read + count ≤ greatest_position) }
+    ensures nothing { OnErr result (buffer.new.bytes ≡ []) }
+    ensures ended { R.empty_reads source.new
+        ≡ counted (moves_nothing result) (R.empty_reads source.old) }
+    ensures read_failed { R.failures source.new
+        ≡ counted (is_read_fault result) (R.failures source.old) }
+    ensures only { IfErr result IsFillRefusal }
+{
+    buffer.facts();
+    buffer.clear();
+    let filled = buffer.fill_once(source, MAX_POSITION - read)?;
+    Ok(filled.read)
+}
+
 /// Reads once, in the place of what is held. The sink shows that all that was written by now was flushed.
 fn refill<R: Source, W: Sink>(
     buffer: &mut Buffer,
@@ -115,10 +138,7 @@ fn refill<R: Source, W: Sink>(
         ≡ counted (is_read_fault result) (R.failures source.old) }
     ensures only { IfErr result IsFillRefusal }
 {
-    buffer.facts();
-    buffer.clear();
-    let filled = buffer.fill_once(source, MAX_POSITION - read)?;
-    Ok(filled.read)
+    read_once(buffer, read, source)
 }
 
 /// Covers what a source gives, of a stream that has not begun.

@@ -19,6 +19,9 @@ mod reader;
 mod readers;
 mod rule;
 mod rules;
+mod visiting;
+mod visitor;
+mod visits;
 mod writing;
 
 pub use builtin::BUILTIN;
@@ -31,3 +34,5 @@ pub use parsing::{Key, ParseError, parse};
 pub use regex_syntax::{Error as RegexError, ErrorKind as RegexErrorKind, Span as RegexSpan};
 pub use rule::{Rule, RuleFault};
 pub use rules::Rules;
+pub use visiting::visit_lines;
+pub use visitor::LineVisitor;

@@ -163,7 +163,7 @@ impl<'r, 'a, A: Automaton> OpenLine<'r, 'a, A> {
     }
 
     /// Finds the runs of the line, which is not too long.
-    fn find_runs(&mut self) -> Result<(), MarkError>
+    pub(crate) fn find_runs(&mut self) -> Result<(), MarkError>
         requires setting { IsSetting A.Automaton self.old.setting (line_rules self.old) }
         requires marked { (before : List (List ℕ)) × HasMarked self.old.marker before }
         requires short { length self.old.line.items ≤ self.old.setting.most }

@@ -2,12 +2,25 @@
 use Rattle.std.proofs.Common.{rules, ◌≡◌, ℕ, refl, sym, subst, ◌∙◌, true, false}
 use Rattle.std.specs.Prelude.{Bool, Ok, OnOk, Result}
 use Rattle.programs.specs.Streams.{bytes_left}
-use Rattle.acredact.specs.Arguments.{all_given, checks_asked, rules_asked}
+use Rattle.acredact.specs.Arguments.{all_given, any_check_asked, checks_asked, rules_asked, rules_check_asked}
 use Rattle.acredact.specs.Calls.{CallOutcome, call_of}
 use Rattle.acredact.specs.Statuses.{CallStatus}
 use Rattle.acredact.specs.declared.failure.Failure.{Failure}
-use Rattle.acredact.proofs.Statuses.{no_checking, no_redaction, ruled_checks, ruled_redacts, status_done, status_failed, status_partly, unruled}
+use Rattle.acredact.proofs.Statuses.{check_is_any, no_checking, no_redaction, ruled_checks, ruled_redacts, rules_check_checks, rules_check_is_any, rules_check_redacts, rules_check_rules, status_done, status_failed, status_partly, unruled, unruled_check}
 use Rattle.acredact.proofs.run.answer.Goals as goal
+
+pub returns-then-checks_by_rules : goal.returns-then-checks_by_rules
+returns-then-checks_by_rules g c =
+    let is : rules_check_asked (all_given c.args.given.now) ≡ true = sym c.checks_by_rules.ensures.checks ∙ c.if-checks_by_rules.true in
+    let any : any_check_asked (all_given c.args.given.now) ≡ true = rules_check_is_any (all_given c.args.given.now) is in
+    record {
+      redacted = λ asks. absurd (rules_check_redacts (all_given c.args.given.now) is asks);
+      checked = λ asks. absurd (rules_check_checks (all_given c.args.given.now) is asks);
+      ruled = λ asks. absurd (rules_check_rules (all_given c.args.given.now) is asks);
+      ruled_check = c.check_by_rules.ensures.says;
+      flushed = λ none. let clash : true ≡ false = sym any ∙ none in absurd (cc);
+      bound = λ none. let clash : true ≡ false = sym any ∙ none in absurd (cc);
+    }
 
 pub returns-then-asks_rules : goal.returns-then-asks_rules
 returns-then-asks_rules g c =
@@ -16,6 +29,7 @@ returns-then-asks_rules g c =
       redacted = λ asks. absurd (ruled_redacts (all_given c.args.given.now) is asks);
       checked = λ asks. absurd (ruled_checks (all_given c.args.given.now) is asks);
       ruled = c.redact_by_rules.ensures.says;
+      ruled_check = λ asks. absurd (unruled_check (all_given c.args.given.now) (sym c.checks_by_rules.ensures.checks ∙ c.if-checks_by_rules.false) asks);
       flushed = λ none zero. c.redact_by_rules.ensures.flushed zero;
       bound = λ none. c.redact_by_rules.ensures.bound;
     }
@@ -27,8 +41,9 @@ returns-then-checks g c =
       redacted = λ asks. absurd (no_redaction (all_given c.args.given.now) is asks);
       checked = λ asks. record { patternless = c.check.ensures.patternless; unread = c.check.ensures.unread; says = c.check.ensures.says; unwritten = refl };
       ruled = λ asks. absurd (unruled (all_given c.args.given.now) (sym c.asks_rules.ensures.asks ∙ c.if-asks_rules.false) asks);
-      flushed = λ none. let clash : true ≡ false = sym is ∙ none in absurd (cc);
-      bound = λ none. let clash : true ≡ false = sym is ∙ none in absurd (cc);
+      ruled_check = λ asks. absurd (unruled_check (all_given c.args.given.now) (sym c.checks_by_rules.ensures.checks ∙ c.if-checks_by_rules.false) asks);
+      flushed = λ none. let clash : true ≡ false = sym (check_is_any (all_given c.args.given.now) is) ∙ none in absurd (cc);
+      bound = λ none. let clash : true ≡ false = sym (check_is_any (all_given c.args.given.now) is) ∙ none in absurd (cc);
     }
 
 pub returns-in-Ok-true-clause-redacted : goal.returns-in-Ok-true-clause-redacted
@@ -71,3 +86,12 @@ returns-in-Ok-false-clause-ruled g c = λ asks. absurd (unruled (all_given c.arg
 
 pub returns-in-Err-clause-ruled : goal.returns-in-Err-clause-ruled
 returns-in-Err-clause-ruled g c = λ asks. absurd (unruled (all_given c.args.given.now) (sym c.asks_rules.ensures.asks ∙ c.if-asks_rules.false) asks)
+
+pub returns-in-Ok-true-clause-ruled_check : goal.returns-in-Ok-true-clause-ruled_check
+returns-in-Ok-true-clause-ruled_check g c = λ asks. absurd (unruled_check (all_given c.args.given.now) (sym c.checks_by_rules.ensures.checks ∙ c.if-checks_by_rules.false) asks)
+
+pub returns-in-Ok-false-clause-ruled_check : goal.returns-in-Ok-false-clause-ruled_check
+returns-in-Ok-false-clause-ruled_check g c = λ asks. absurd (unruled_check (all_given c.args.given.now) (sym c.checks_by_rules.ensures.checks ∙ c.if-checks_by_rules.false) asks)
+
+pub returns-in-Err-clause-ruled_check : goal.returns-in-Err-clause-ruled_check
+returns-in-Err-clause-ruled_check g c = λ asks. absurd (unruled_check (all_given c.args.given.now) (sym c.checks_by_rules.ensures.checks ∙ c.if-checks_by_rules.false) asks)

@@ -1,11 +1,12 @@
 -- The arguments are right or wrong.
-use Rattle.std.proofs.Common.{◌≡◌, inl, ℕ, List, ap, refl, sym, subst, ◌∙◌, arith}
+use Rattle.std.proofs.Common.{◌≡◌, inl, inr, ℕ, List, ap, refl, sym, subst, ◌∙◌, arith, ◌<◌}
 use Rattle.std.specs.Prelude.{None, Some}
 use Rattle.programs.specs.Arguments.{texts}
 use Rattle.programs.specs.Streams.{bytes_left}
-use Rattle.acredact.specs.Arguments.{AsksForRules, AsksToCheck, AsksToRedact, Given, all_asked, all_given}
+use Rattle.acredact.specs.Arguments.{AsksForRules, AsksForRulesCheck, AsksToCheck, AsksToRedact, Given, all_asked, all_given}
 use Rattle.acredact.specs.Calls.{IsWrongLine, call_of}
 use Rattle.acredact.specs.Checks.{ChecksAlone, CheckStatus}
+use Rattle.acredact.specs.RuledChecks.{ChecksByRules, RuledCheckStatus}
 use Rattle.acredact.specs.Ruled.{Between, RuledStatus}
 use Rattle.acredact.specs.Statuses.{CallStatus}
 use Rattle.acredact.specs.declared.failure.Failure.TheVariants.{Arguments}
@@ -15,6 +16,7 @@ use Rattle.acredact.proofs.Given.{forms_cover, forms_unworded, memory_alone, sam
 use Rattle.acredact.proofs.Hiding.{call_hides}
 use Rattle.acredact.proofs.Statuses.{bound_by, flushed_by, one_by, status_failed, tells_one}
 use Rattle.acredact.proofs.RuledCalls.{counts_by_rules, ruled_refused}
+use Rattle.acredact.proofs.RuledCheckCalls.{check_by_rules_refused}
 use Rattle.acredact.proofs.run.run.Goals as goal
 
 pub returns-in-Ok : goal.returns-in-Ok
@@ -33,6 +35,10 @@ returns-in-Ok g c =
     let same : items ≡ given = same_given (all_asked (texts c.args.arguments.now)) given items right mine in
     subst (λ (l : List Given). Between g.W.Write (RuledStatus g.E.Sink (call_of g.F.Folder c.args.folder.now l) c.answer.result) c.args.streams.now c.answer.new.streams) same
     (c.answer.ensures.ruled (subst AsksForRules (sym same) asks)) in
+    let ruled_check = λ (given : List Given) (right : all_asked (texts c.args.arguments.now) ≡ Some given) (asks : AsksForRulesCheck given).
+    let same : items ≡ given = same_given (all_asked (texts c.args.arguments.now)) given items right mine in
+    subst (λ (l : List Given). ChecksByRules g.W.Write g.E.Sink (call_of g.F.Folder c.args.folder.now l) c.answer.result c.args.streams.now c.answer.new.streams) same
+    (c.answer.ensures.ruled_check (subst AsksForRulesCheck (sym same) asks)) in
     record {
       wrong = λ wrong. let clash : None ≡ Some items = sym wrong ∙ mine in absurd (cc);
       unread = λ wrong. let clash : None ≡ Some items = sym wrong ∙ mine in absurd (cc);
@@ -60,8 +66,18 @@ returns-in-Ok g c =
       ruled_tells = λ given right asks. (ruled given right asks).tells;
       ruled_quiet = λ given right asks. (ruled given right asks).notes;
       ruled_counts = λ given right asks zero counted. counts_by_rules g.E.Sink (call_of g.F.Folder c.args.folder.now given) _ _ _ _ counted ((ruled given right asks).notes zero);
+      rules_unmatched = λ given right asks. (ruled_check given right asks).says.unmatched;
+      rules_matched = λ given right asks. (ruled_check given right asks).says.matched;
+      rules_findings = λ given right asks. (ruled_check given right asks).says.begins;
+      rules_unwritten = λ given right asks. (ruled_check given right asks).unwritten;
+      rules_unchecked = λ given right asks. (ruled_check given right asks).says.tells;
+      rules_check_quiet = λ given right asks. (ruled_check given right asks).says.quiet;
+      rules_flushed = λ given right asks. (ruled_check given right asks).flushed;
       flushed = λ redacts zero. flushed_by items (λ asks. redacts (items, mine, asks)) (λ none. c.answer.ensures.flushed none zero);
-      bound = bound_by items c.answer.result (λ asks. (c.answer.ensures.checked asks).says.bound) c.answer.ensures.bound;
+      bound = bound_by items c.answer.result (λ asks. elim asks [
+        | inl checks ↦ (c.answer.ensures.checked checks).says.bound
+        | inr checks ↦ (c.answer.ensures.ruled_check checks).says.bound
+      ]) c.answer.ensures.bound;
       one = λ is. (items, mine, one_by items c.answer.result c.answer.ensures.bound is);
     }
 
@@ -81,6 +97,8 @@ returns-in-Err g c =
     told.1 told.2) in
     let ruled = λ (given : List Given). subst (λ (status : ℕ). Between g.W.Write (RuledStatus g.E.Sink (call_of g.F.Folder c.args.folder.now given) status) c.args.streams.now (record c.args.streams.now { errors = c.report.new.errors })) (sym c.report.ensures.failed)
     (ruled_refused g.E.Sink (call_of g.F.Folder c.args.folder.now given) _ _ (Arguments c.in-Err.mistake) c.args.streams.now.errors c.report.new.errors told.0 told.1 told.2) in
+    let ruled_check = λ (given : List Given). subst (λ (status : ℕ). Between g.W.Write (RuledCheckStatus g.E.Sink (call_of g.F.Folder c.args.folder.now given) status) c.args.streams.now (record c.args.streams.now { errors = c.report.new.errors })) (sym c.report.ensures.failed)
+    (check_by_rules_refused g.E.Sink (call_of g.F.Folder c.args.folder.now given) _ _ (Arguments c.in-Err.mistake) c.args.streams.now.errors c.report.new.errors told.0 told.1 told.2) in
     record {
       wrong = λ wrong. c.report.ensures.failed;
       unread = λ wrong. refl;
@@ -108,6 +126,13 @@ returns-in-Err g c =
       ruled_tells = λ given right asks. (ruled given).tells;
       ruled_quiet = λ given right asks. (ruled given).notes;
       ruled_counts = λ given right asks zero counted. counts_by_rules g.E.Sink (call_of g.F.Folder c.args.folder.now given) _ _ _ _ counted ((ruled given).notes zero);
+      rules_unmatched = λ given right asks. (ruled_check given).unmatched;
+      rules_matched = λ given right asks. (ruled_check given).matched;
+      rules_findings = λ given right asks. (ruled_check given).begins;
+      rules_unwritten = λ given right asks summary. refl;
+      rules_unchecked = λ given right asks. (ruled_check given).tells;
+      rules_check_quiet = λ given right asks. (ruled_check given).quiet;
+      rules_flushed = λ given right asks summary (less : c.report.result < 2). absurd (omega (arith, c.report.ensures.failed, less));
       flushed = λ redacts (zero : c.report.result ≡ 0). let clash : 2 ≡ 0 = sym c.report.ensures.failed ∙ zero in absurd (cc);
       bound = omega (arith, c.report.ensures.failed);
       one = λ (is : c.report.result ≡ 1). let clash : 2 ≡ 1 = sym c.report.ensures.failed ∙ is in absurd (cc);

@@ -4,7 +4,7 @@ use Rattle.aho_devices.specs.Buffer.{Buffered}
 use Rattle.aho_devices.specs.Counts.{counted}
 use Rattle.aho_cover.proofs.Written.{on_err}
 use Rattle.secret_rules.proofs.Streaming.{no-bytes}
-use Rattle.secret_rules.proofs.covering.refill.Goals as goal
+use Rattle.secret_rules.proofs.covering.read_once.Goals as goal
 
 pub fill_once-requires : goal.fill_once-requires
 fill_once-requires g c = record {

@@ -1,0 +1,244 @@
+-- What comes of a check by rules, from what is seen of its files up to its status.
+use Rattle.std.proofs.Common.{◌≡◌, inl, inr, ℕ, List, Option, true, false, refl, sym, ap, subst, ◌∙◌, arith}
+use Rattle.std.specs.Prelude.{Bool, ◌<◌, ◌≤◌, Result, Ok, Err}
+use Rattle.std.specs.Io.KnownBytes.{Keeps}
+use Rattle.std.specs.declared.io.traits.Write.{Ghosts as Writers}
+use Rattle.std.proofs.KnownBytes.{Keeps-refl}
+use Rattle.aho_devices.specs.declared.adapters.FromWrite.{FromWrite}
+use Rattle.aho_devices.specs.declared.device.Sink.{Ghosts as SinkGhosts}
+use Rattle.programs.specs.Streams.{output_bytes}
+use Rattle.programs.specs.Telling.{Tells, TellsBytes, TellsSome}
+use Rattle.programs.specs.declared.errors.Errors.{Errors}
+use Rattle.secret_rules.specs.Covering.{covering_by}
+use Rattle.secret_rules.specs.declared.error.LineError.{LineError}
+use Rattle.secret_rules.specs.declared.rule.Rule.{Rule}
+use Rattle.acredact.specs.Arguments.{has}
+use Rattle.acredact.specs.Calls.{Call, IsUnreadLine, names_asked, reading_by}
+use Rattle.acredact.specs.Doubts.{TellsDoubts}
+use Rattle.acredact.specs.Failures.{IsFailureLine}
+use Rattle.acredact.specs.RuleLines.{IsRuledLine}
+use Rattle.acredact.specs.LineRules.{most_asked}
+use Rattle.acredact.specs.Ruled.{AreRuledLoaded, IsRuledNotice, IsRuledTold, RuledLoad, patterns_by_case}
+use Rattle.acredact.specs.RuledChecks.{CheckedLines, DoubtedCheck, LineQuest, RuledCheck, RuledCheckStatus, SeenFiles, TellsRuledCheck, line_quest_by}
+use Rattle.acredact.specs.Statuses.{check_status}
+use Rattle.acredact.specs.Tables.{patterns_in}
+use Rattle.acredact.specs.declared.arguments.Word.TheVariants.{AsWord, Summary}
+use Rattle.acredact.specs.declared.failure.Failure.{Failure}
+use Rattle.acredact.specs.declared.look.Verdict.{Verdict}
+use Rattle.acredact.specs.declared.ruled_failure.RuledFailure.{RuledFailure}
+use Rattle.acredact.specs.declared.ruled_failure.RuledFailure.TheVariants.{Plain}
+use Rattle.acredact.proofs.Calls.{tells_last, tells_same}
+use Rattle.acredact.proofs.PlacedCalls.{tells_weaker}
+use Rattle.acredact.proofs.RuledCalls.{doubts_told, notice_told}
+use Rattle.acredact.proofs.RuledFiles.{all_then, some_weaker, then_some}
+use Rattle.acredact.proofs.Statuses.{tells_one}
+
+-- what is looked for by such parts is that of the call
+abbrev pub quest_as : Call → RuledLoad → Bool → List Rule → ℕ → List (List ℕ) → LineQuest
+quest_as call load words told most texts = record {
+  holds = call.holds;
+  covering = covering_by words load.rules most (patterns_by_case call.given texts);
+  labels = record { secrets = load.secrets; rules = told; most = most };
+}
+
+pub quest_same : (call : Call) (load : RuledLoad) (words : Bool) (told : List Rule) (most : ℕ) (texts : List (List ℕ)) → words ≡ has AsWord call.given → told ≡ load.rules → most ≡ most_asked call.given
+    → texts ≡ patterns_in load.secrets → quest_as call load words told most texts ≡ line_quest_by call load
+quest_same call load words told most texts is_words is_told is_most is_texts =
+    ap (λ (w : Bool). quest_as call load w told most texts) is_words
+    ∙ ap (λ (t : List Rule). quest_as call load (has AsWord call.given) t most texts) is_told
+    ∙ ap (λ (m : ℕ). quest_as call load (has AsWord call.given) load.rules m texts) is_most
+    ∙ ap (λ (l : List (List ℕ)). quest_as call load (has AsWord call.given) load.rules (most_asked call.given) l) is_texts
+
+-- the same output holds the same
+pub same_kept : {W : Type 0} (Writes : Writers W) (output output' : FromWrite W) → output' ≡ output → Keeps (output_bytes Writes output) (output_bytes Writes output')
+same_kept Writes output output' same = subst (λ (o : FromWrite _). Keeps (output_bytes Writes output) (output_bytes Writes o)) (sym same) (Keeps-refl (output_bytes Writes output))
+
+-- no status is greater than 2
+pub check_within : (found all : Bool) (status : ℕ) → status ≡ check_status (record { found = found; all = all }) → status ≤ 2
+check_within true true status is = omega (arith, is)
+check_within false true status is = omega (arith, is)
+check_within found false status is = omega (arith, is)
+
+module _ {E : Type 0} (K : SinkGhosts E) (call : Call) where
+  -- the arguments were refused, or there was no memory to read them
+  pub check_by_rules_refused : (left held : Option (List ℕ)) (failure : Failure) (errors errors' : Errors E) (line : List ℕ) → IsFailureLine failure line → TellsBytes K errors errors' line
+      → RuledCheckStatus K call 2 left left held held errors errors'
+  check_by_rules_refused left held failure errors errors' line is told = record {
+    unmatched = λ (none : 2 ≡ 0). absurd (omega (arith, none));
+    matched = λ (none : 2 ≡ 1). absurd (omega (arith, none));
+    begins = inl (Keeps-refl held);
+    tells = λ two. tells_one K (IsRuledTold call) errors errors' line (inr (inl (Plain failure, is))) told;
+    quiet = λ (less : 2 < 2). absurd (omega (arith, less));
+    bound = omega arith;
+  }
+
+  -- nothing is told of a check that ends early, but why it does
+  check_silent : (failure : RuledFailure) (errors : Errors E) → TellsRuledCheck K call (Err failure) errors errors
+  check_silent failure errors = record { told = tells_same K (IsRuledTold call) errors errors refl; partly = tt }
+
+  -- it ended before anything was loaded
+  pub check_early : (failure : RuledFailure) (left left' held : Option (List ℕ)) (errors : Errors E) → RuledCheck K call (Err failure) left left' held held errors errors
+  check_early failure left left' held errors = record { whole = tt; begun = inl (Keeps-refl held); tells = check_silent failure errors; quiet = tt }
+
+  -- before a file was read
+  pub check_none : (load : RuledLoad) (failure : RuledFailure) (left held : Option (List ℕ)) (errors : Errors E) → CheckedLines K call load (Err failure) left left held held errors errors
+  check_none load failure left held errors = record { whole = tt; begun = inl (Keeps-refl held); tells = check_silent failure errors; quiet = tt }
+
+  -- or before doubtful patterns were told
+  pub check_undoubted : (load : RuledLoad) (failure : RuledFailure) (left held : Option (List ℕ)) (errors : Errors E) → DoubtedCheck K call load (Err failure) left left held held errors errors
+  check_undoubted load failure left held errors = record { whole = tt; begun = inl (Keeps-refl held); tells = check_silent failure errors; quiet = tt }
+
+  unread : (line : List ℕ) → IsUnreadLine (names_asked call.given) line → IsRuledTold call line
+  unread line is = inl is
+
+  -- the files were looked at, and where that is asked for it was told what was found
+  pub files_looked : (load : RuledLoad) (verdict : Verdict) (left left' held held' seen seen' : Option (List ℕ)) (errors errors' : Errors E)
+      → SeenFiles K (line_quest_by call load) (names_asked call.given) (Ok verdict) left left' seen seen' errors errors'
+      → (has Summary call.given ≡ true → (seen ≡ held) × (seen' ≡ held')) → (has Summary call.given ≡ false → Keeps held held')
+      → CheckedLines K call load (Ok verdict) left left' held held' errors errors'
+  files_looked load verdict left left' held held' seen seen' errors errors' files told untold = by (has Summary call.given) refl
+    where
+      by : (b : Bool) → has Summary call.given ≡ b → CheckedLines K call load (Ok verdict) left left' held held' errors errors'
+      by true is =
+          let same = told is in
+          let mine = subst (λ (h : Option (List ℕ)). SeenFiles K (line_quest_by call load) (names_asked call.given) (Ok verdict) left left' held h errors errors') same.1
+          (subst (λ (h : Option (List ℕ)). SeenFiles K (line_quest_by call load) (names_asked call.given) (Ok verdict) left left' h seen' errors errors') same.0 files) in
+          record {
+            whole = λ all. let sees = mine.whole all in record { runs = sees.runs; have = sees.have; found_is = sees.found_is; told = λ summary. sees.told };
+            begun = inr mine.begun;
+            tells = record {
+              told = tells_weaker K (IsUnreadLine (names_asked call.given)) (IsRuledTold call) errors errors' unread mine.told;
+              partly = λ none. some_weaker K (IsUnreadLine (names_asked call.given)) (IsRuledTold call) errors errors' unread (mine.partly none);
+            };
+            quiet = mine.quiet;
+          }
+      by false is = record {
+        whole = λ all. let sees = files.whole all in record {
+          runs = sees.runs;
+          have = sees.have;
+          found_is = sees.found_is;
+          told = λ summary. let clash : true ≡ false = sym summary ∙ is in absurd (cc);
+        };
+        begun = inl (untold is);
+        tells = record {
+          told = tells_weaker K (IsUnreadLine (names_asked call.given)) (IsRuledTold call) errors errors' unread files.told;
+          partly = λ none. some_weaker K (IsUnreadLine (names_asked call.given)) (IsRuledTold call) errors errors' unread (files.partly none);
+        };
+        quiet = files.quiet;
+      }
+
+  -- or not all of them
+  pub files_unlooked : (load : RuledLoad) (error : LineError) (failure : RuledFailure) (left left' held held' seen seen' : Option (List ℕ)) (errors errors' : Errors E)
+      → SeenFiles K (line_quest_by call load) (names_asked call.given) (Err error) left left' seen seen' errors errors'
+      → (has Summary call.given ≡ true → (seen ≡ held) × (seen' ≡ held')) → (has Summary call.given ≡ false → Keeps held held')
+      → CheckedLines K call load (Err failure) left left' held held' errors errors'
+  files_unlooked load error failure left left' held held' seen seen' errors errors' files told untold = by (has Summary call.given) refl
+    where
+      tells : TellsRuledCheck K call (Err failure) errors errors'
+      tells = record { told = tells_weaker K (IsUnreadLine (names_asked call.given)) (IsRuledTold call) errors errors' unread files.told; partly = tt }
+
+      by : (b : Bool) → has Summary call.given ≡ b → CheckedLines K call load (Err failure) left left' held held' errors errors'
+      by true is =
+          let same = told is in
+          let mine = subst (λ (h : Option (List ℕ)). SeenFiles K (line_quest_by call load) (names_asked call.given) (Err error) left left' held h errors errors') same.1
+          (subst (λ (h : Option (List ℕ)). SeenFiles K (line_quest_by call load) (names_asked call.given) (Err error) left left' h seen' errors errors') same.0 files) in
+          record { whole = tt; begun = inr mine.begun; tells = tells; quiet = tt }
+      by false is = record { whole = tt; begun = inl (untold is); tells = tells; quiet = tt }
+
+  -- behind what is told of doubtful patterns
+  pub check_behind : (load : RuledLoad) (result : Result Verdict RuledFailure) (left left' held held' : Option (List ℕ)) (errors meanwhile errors' : Errors E) → TellsDoubts K false call.given load.secrets errors meanwhile
+      → CheckedLines K call load result left left' held held' meanwhile errors' → DoubtedCheck K call load result left left' held held' errors errors'
+  check_behind load result left left' held held' errors meanwhile errors' doubted of = by result of
+    where
+      before : Tells K (IsRuledTold call) errors meanwhile
+      before = tells_weaker K (IsRuledNotice call) (IsRuledTold call) errors meanwhile (notice_told K call) (doubts_told K call load.secrets errors meanwhile doubted)
+
+      by : (result : Result Verdict RuledFailure) → CheckedLines K call load result left left' held held' meanwhile errors' → DoubtedCheck K call load result left left' held held' errors errors'
+      by (Ok verdict) of = record {
+        whole = of.whole;
+        begun = of.begun;
+        tells = record {
+          told = all_then K (IsRuledTold call) errors meanwhile errors' before of.tells.told;
+          partly = λ none. then_some K (IsRuledTold call) errors meanwhile errors' before (of.tells.partly none);
+        };
+        quiet = λ all. subst (TellsDoubts K false call.given load.secrets errors) (sym (of.quiet all)) doubted;
+      }
+      by (Err failure) of = record {
+        whole = tt;
+        begun = of.begun;
+        tells = record { told = all_then K (IsRuledTold call) errors meanwhile errors' before of.tells.told; partly = tt };
+        quiet = tt;
+      }
+
+  -- what was loaded decides what comes of the call
+  pub check_loaded : (load : RuledLoad) (result : Result Verdict RuledFailure) (left between left' held held' : Option (List ℕ)) (errors errors' : Errors E)
+      → AreRuledLoaded (reading_by call) call.given load left between → DoubtedCheck K call load result between left' held held' errors errors' → RuledCheck K call result left left' held held' errors errors'
+  check_loaded load result left between left' held held' errors errors' loaded of = by result of
+    where
+      by : (result : Result Verdict RuledFailure) → DoubtedCheck K call load result between left' held held' errors errors' → RuledCheck K call result left left' held held' errors errors'
+      by (Ok verdict) of = record {
+        whole = λ all. let sees = of.whole all in record {
+          load = load;
+          between = between;
+          loaded = loaded;
+          runs = sees.runs;
+          have = sees.have;
+          found_is = sees.found_is;
+          told = sees.told;
+        };
+        begun = elim of.begun [
+          | inl none ↦ inl none
+          | inr begun ↦ inr (record { load = load; between = between; loaded = loaded; begun = begun })
+        ];
+        tells = of.tells;
+        quiet = λ all. record { load = load; between = between; loaded = loaded; doubts = of.quiet all };
+      }
+      by (Err failure) of = record {
+        whole = tt;
+        begun = elim of.begun [
+          | inl none ↦ inl none
+          | inr begun ↦ inr (record { load = load; between = between; loaded = loaded; begun = begun })
+        ];
+        tells = of.tells;
+        quiet = tt;
+      }
+
+  -- the status tells what was seen
+  pub check_done : (found all : Bool) (left left' held held' : Option (List ℕ)) (errors errors' : Errors E) → RuledCheck K call (Ok (record { found = found; all = all })) left left' held held' errors errors'
+      → RuledCheckStatus K call (check_status (record { found = found; all = all })) left left' held held' errors errors'
+  check_done true true left left' held held' errors errors' of = record {
+    unmatched = λ (is : 1 ≡ 0). absurd (omega (arith, is));
+    matched = λ is. of.whole refl;
+    begins = of.begun;
+    tells = λ (is : 1 ≡ 2). absurd (omega (arith, is));
+    quiet = λ less. of.quiet refl;
+    bound = omega arith;
+  }
+  check_done false true left left' held held' errors errors' of = record {
+    unmatched = λ is. of.whole refl;
+    matched = λ (is : 0 ≡ 1). absurd (omega (arith, is));
+    begins = of.begun;
+    tells = λ (is : 0 ≡ 2). absurd (omega (arith, is));
+    quiet = λ less. of.quiet refl;
+    bound = omega arith;
+  }
+  check_done found false left left' held held' errors errors' of = record {
+    unmatched = λ (is : 2 ≡ 0). absurd (omega (arith, is));
+    matched = λ (is : 2 ≡ 1). absurd (omega (arith, is));
+    begins = of.begun;
+    tells = λ is. of.tells.partly refl;
+    quiet = λ (less : 2 < 2). absurd (omega (arith, less));
+    bound = omega arith;
+  }
+
+  -- the call ended early, and that is told
+  pub check_failed : (failure : RuledFailure) (line : List ℕ) (left left' held held' : Option (List ℕ)) (errors meanwhile errors' : Errors E) → RuledCheck K call (Err failure) left left' held held' errors meanwhile
+      → IsRuledLine failure line → TellsBytes K meanwhile errors' line → RuledCheckStatus K call 2 left left' held held' errors errors'
+  check_failed failure line left left' held held' errors meanwhile errors' of is told = record {
+    unmatched = λ (none : 2 ≡ 0). absurd (omega (arith, none));
+    matched = λ (none : 2 ≡ 1). absurd (omega (arith, none));
+    begins = of.begun;
+    tells = λ two. tells_last K (IsRuledTold call) errors meanwhile errors' line of.tells.told (inr (inl (failure, is))) told;
+    quiet = λ (less : 2 < 2). absurd (omega (arith, less));
+    bound = omega arith;
+  }

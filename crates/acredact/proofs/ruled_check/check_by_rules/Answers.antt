@@ -1,0 +1,31 @@
+-- What the status says, by what is answered.
+use Rattle.std.proofs.Common.{ℕ, arith, sym, subst}
+use Rattle.std.specs.Prelude.{◌<◌}
+use Rattle.acredact.specs.Arguments.{all_given}
+use Rattle.acredact.specs.Calls.{call_of}
+use Rattle.acredact.specs.Ruled.{Between}
+use Rattle.acredact.specs.RuledChecks.{RuledCheckStatus}
+use Rattle.acredact.proofs.RuledCheckCalls.{check_done, check_failed, check_within}
+use Rattle.acredact.proofs.ruled_check.check_by_rules.Goals as goal
+
+pub returns-in-Ok-clause-says : goal.returns-in-Ok-clause-says
+returns-in-Ok-clause-says g c = λ asks.
+    let call = call_of g.F.Folder c.args.folder.now (all_given c.args.given.now) in
+    record {
+      says = subst (λ (status : ℕ). Between g.W.Write (RuledCheckStatus g.E.Sink call status) c.args.streams.now c.check_ruled.new.streams) (sym c.status_of.ensures.status)
+          (check_done g.E.Sink call c.in-Ok.verdict.found c.in-Ok.verdict.all _ _ _ _ _ _ c.in-Ok.ensures.outcome);
+      unwritten = c.check_ruled.ensures.unwritten;
+      flushed = λ summary less. c.in-Ok.ensures.flushed summary;
+    }
+
+pub returns-in-Ok-clause-bound : goal.returns-in-Ok-clause-bound
+returns-in-Ok-clause-bound g c = check_within c.in-Ok.verdict.found c.in-Ok.verdict.all c.status_of.result c.status_of.ensures.status
+
+pub returns-in-Err-clause-says : goal.returns-in-Err-clause-says
+returns-in-Err-clause-says g c = λ asks.
+    let told = c.tell_ruled.ensures.told in
+    record {
+      says = check_failed g.E.Sink (call_of g.F.Folder c.args.folder.now (all_given c.args.given.now)) c.in-Err.failure told.0 _ _ _ _ _ _ _ c.in-Err.ensures.outcome told.1 told.2;
+      unwritten = c.check_ruled.ensures.unwritten;
+      flushed = λ summary (less : 2 < 2). absurd (omega (arith, less));
+    }

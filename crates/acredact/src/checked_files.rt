@@ -1,0 +1,306 @@
+//! A look at the lines of files, one after another, for what rules mark and patterns hold.
+
+ghost use Rattle.std.specs.Prelude.{◌≡◌, OnOk, true};
+ghost use Rattle.secret_rules.specs.Ready.{CanCoverLines};
+ghost use Rattle.acredact.specs.RuledChecks.{IfCovers, IsAtFirst, LookedFile, LookedInput, LookedOpened, SeesFile, SeesFiles, StaysCovered, SaysLines, found_of, look_of_lines, verdict_seen};
+
+use crate::failure::{tell_output, tell_unread};
+use crate::files::is_input;
+use crate::findings::Findings;
+use crate::folder::Folder;
+use crate::legend::Legend;
+use crate::look::{Look, Verdict};
+use crate::teller::Teller;
+use aho_automaton::automaton::Automaton;
+use aho_core::error::StreamError;
+use aho_devices::adapters::FromRead;
+use aho_devices::device::{Sink, Source};
+use programs::errors::Errors;
+use programs::reason::Reason;
+use secret_rules::{LineCover, LineError, visit_lines};
+use std::alloc::Global;
+use std::io::Read;
+
+/// Which files are looked at, and what is told of them.
+#[derive(Clone, Copy)]
+pub struct Checked<'f, 's, 'r, F> {
+    /// What memory is taken from.
+    pub alloc: Global,
+    /// What opens files.
+    pub folder: &'f F,
+    /// What the numbers of runs stand for.
+    pub legend: Legend<'s, 'r>,
+    /// Whether it is told to standard output what was found, so that a file that is this cannot be read.
+    pub tells: bool,
+}
+
+/// Looks at all files, tells what is found, and flushes. It answers whether something was found, and whether all were read to their ends:
+/// one that was not is told.
+///
+/// # Errors
+///
+/// `Write` and `WriteZero` where the output fails or takes nothing, `Memory` where it runs out, and `Mark` where the expression of a rule is
+/// too big or memory runs out.
+pub fn check_files<A: Automaton, F: Folder, I: Read, W: Sink, E: Sink>(
+    cover: &mut LineCover<'_, '_, A>,
+    checked: &Checked<'_, '_, '_, F>,
+    names: &[&str],
+    input: &mut FromRead<I>,
+    output: &mut W,
+    errors: &mut Errors<'_, E>,
+) -> Result<Verdict, LineError>
+    requires ready { CanCoverLines A.Automaton cover.old }
+    ensures sees { IfCovers A.Automaton cover.old (SeesFiles W.Sink E.Sink F.Folder checked.now
+        names.now result input.old input.new output.old output.new errors.old errors.new) }
+    ensures flushed { OnOk result (W.flushed output.new ≡ true) }
+{
+    let verdict = check_each(cover, checked, names, input, output, errors)?;
+    output.flush()?;
+    Ok(verdict)
+}
+
+/// Looks at each file.
+fn check_each<A: Automaton, F: Folder, I: Read, W: Sink, E: Sink>(
+    cover: &mut LineCover<'_, '_, A>,
+    checked: &Checked<'_, '_, '_, F>,
+    names: &[&str],
+    input: &mut FromRead<I>,
+    output: &mut W,
+    errors: &mut Errors<'_, E>,
+) -> Result<Verdict, LineError>
+    requires ready { CanCoverLines A.Automaton cover.old }
+    ensures sees { IfCovers A.Automaton cover.old (SeesFiles W.Sink E.Sink F.Folder checked.now
+        names.now result input.old input.new output.old output.new errors.old errors.new) }
+{
+    let mut verdict = Verdict {
+        found: false,
+        all: true,
+    };
+    let mut rest = names;
+    while !rest.is_empty() {
+        let seen = check_told(cover, checked, rest[0], input, output, errors)?;
+        verdict = verdict_seen(verdict, seen);
+        rest = &rest[1..];
+    }
+    Ok(verdict)
+}
+
+/// What is seen of all files, with one more, of which is given whether something was found in it, if it was read to its end.
+fn verdict_seen(verdict: Verdict, seen: Option<bool>) -> Verdict
+    ensures seen { result ≡ verdict_seen verdict seen }
+{
+    match seen {
+        Some(found) => Verdict {
+            found: verdict.found || found,
+            all: verdict.all,
+        },
+        None => Verdict {
+            found: verdict.found,
+            all: false,
+        },
+    }
+}
+
+/// Whether the output goes to the file of this name, where something may be told there.
+fn is_told_to<F: Folder>(checked: &Checked<'_, '_, '_, F>, name: &str) -> bool {
+    checked.tells && checked.folder.is_output(name)
+}
+
+/// Looks at a file, and answers whether something was found, if it was read to its end. One that was not is told, and so is one that the
+/// output goes to: it is not read.
+fn check_told<A: Automaton, F: Folder, I: Read, W: Sink, E: Sink>(
+    cover: &mut LineCover<'_, '_, A>,
+    checked: &Checked<'_, '_, '_, F>,
+    name: &str,
+    input: &mut FromRead<I>,
+    output: &mut W,
+    errors: &mut Errors<'_, E>,
+) -> Result<Option<bool>, LineError>
+    requires ready { CanCoverLines A.Automaton cover.old }
+    ensures sees { IfCovers A.Automaton cover.old (SeesFile W.Sink E.Sink F.Folder checked.now
+        name.now result input.old input.new output.old output.new errors.old errors.new) }
+    ensures still { StaysCovered A.Automaton cover.old cover.new }
+    ensures ready { CanCoverLines A.Automaton cover.new }
+{
+    if is_told_to(checked, name) {
+        tell_output(errors, name);
+        return Ok(None);
+    }
+    check_apart(cover, checked, name, input, output, errors)
+}
+
+/// Looks at a file that the output does not go to, and answers whether something was found, if it was read to its end. One that was not is
+/// told.
+fn check_apart<A: Automaton, F: Folder, I: Read, W: Sink, E: Sink>(
+    cover: &mut LineCover<'_, '_, A>,
+    checked: &Checked<'_, '_, '_, F>,
+    name: &str,
+    input: &mut FromRead<I>,
+    output: &mut W,
+    errors: &mut Errors<'_, E>,
+) -> Result<Option<bool>, LineError>
+    requires ready { CanCoverLines A.Automaton cover.old }
+    ensures sees { IfCovers A.Automaton cover.old (SeesFile W.Sink E.Sink F.Folder checked.now
+        name.now result input.old input.new output.old output.new errors.old errors.new) }
+    ensures still { StaysCovered A.Automaton cover.old cover.new }
+    ensures ready { CanCoverLines A.Automaton cover.new }
+{
+    match check_file(cover, checked, name, input, output)? {
+        Look::Clean => Ok(Some(false)),
+        Look::Found => Ok(Some(true)),
+        Look::Unread(reason) => {
+            tell_unread(errors, name, reason);
+            Ok(None)
+        }
+    }
+}
+
+/// Looks at a file.
+fn check_file<A: Automaton, F: Folder, I: Read, W: Sink>(
+    cover: &mut LineCover<'_, '_, A>,
+    checked: &Checked<'_, '_, '_, F>,
+    name: &str,
+    input: &mut FromRead<I>,
+    output: &mut W,
+) -> Result<Look, LineError>
+    requires ready { CanCoverLines A.Automaton cover.old }
+    ensures looked { IfCovers A.Automaton cover.old (LookedFile W.Sink F.Folder checked.now
+        name.now result input.old input.new output.old output.new) }
+    ensures still { StaysCovered A.Automaton cover.old cover.new }
+    ensures ready { CanCoverLines A.Automaton cover.new }
+{
+    let findings = Findings {
+        alloc: checked.alloc,
+        name: name.as_bytes(),
+        legend: checked.legend,
+        line: 1,
+        found: false,
+    };
+    if is_input(name) {
+        return check_input(cover, findings, input, output);
+    }
+    match checked.folder.open(name) {
+        Ok(file) => check_opened(cover, findings, file, output),
+        Err(reason) => Ok(Look::Unread(reason)),
+    }
+}
+
+/// Looks at what a reader gives.
+fn check_opened<A: Automaton, I: Read + Drop, W: Sink>(
+    cover: &mut LineCover<'_, '_, A>,
+    findings: Findings<'_, '_, '_>,
+    reader: I,
+    output: &mut W,
+) -> Result<Look, LineError>
+    requires ready { CanCoverLines A.Automaton cover.old }
+    requires fresh { IsAtFirst findings }
+    ensures looked { IfCovers A.Automaton cover.old (LookedOpened W.Sink findings.entry
+        result (I.remaining reader) output.old output.new) }
+    ensures still { StaysCovered A.Automaton cover.old cover.new }
+    ensures ready { CanCoverLines A.Automaton cover.new }
+{
+    let mut source = FromRead::new(reader);
+    check_input(cover, findings, &mut source, output)
+}
+
+/// Looks at what the input gives.
+fn check_input<A: Automaton, I: Read, W: Sink>(
+    cover: &mut LineCover<'_, '_, A>,
+    findings: Findings<'_, '_, '_>,
+    input: &mut FromRead<I>,
+    output: &mut W,
+) -> Result<Look, LineError>
+    requires ready { CanCoverLines A.Automaton cover.old }
+    requires fresh { IsAtFirst findings }
+    ensures looked { IfCovers A.Automaton cover.old (LookedInput W.Sink findings.entry
+        result input.old input.new output.old output.new) }
+    ensures still { StaysCovered A.Automaton cover.old cover.new }
+    ensures ready { CanCoverLines A.Automaton cover.new }
+{
+    input.restart();
+    look_of_lines(tell_lines(cover, findings, input, output))
+}
+
+/// Tells what is found in the lines that a source gives, and answers whether something is.
+fn tell_lines<A: Automaton, R: Source, W: Sink>(
+    cover: &mut LineCover<'_, '_, A>,
+    findings: Findings<'_, '_, '_>,
+    source: &mut R,
+    sink: &mut W,
+) -> Result<bool, LineError>
+    requires ready { CanCoverLines A.Automaton cover.old }
+    requires fresh { IsAtFirst findings }
+    ensures tells { IfCovers A.Automaton cover.old (SaysLines R.Source W.Sink findings.entry
+        result source.old source.new sink.old sink.new) }
+    ensures still { StaysCovered A.Automaton cover.old cover.new }
+    ensures ready { CanCoverLines A.Automaton cover.new }
+{
+    let told = tell_with(
+        cover,
+        source,
+        Teller {
+            output: sink,
+            findings,
+        },
+    );
+    let Told { output, done } = told;
+    let _output = output;
+    done
+}
+
+/// What comes of the lines of a source.
+#[derive(Drop)]
+struct Told<'o, W> {
+    /// Where they were told.
+    output: &'o mut W,
+    /// Whether something was found, if they were read to their end.
+    done: Result<bool, LineError>,
+}
+
+/// Has what tells of lines take those that a source gives.
+fn tell_with<'o, A: Automaton, R: Source, W: Sink>(
+    cover: &mut LineCover<'_, '_, A>,
+    source: &mut R,
+    teller: Teller<'o, '_, '_, '_, W>,
+) -> Told<'o, W>
+    requires ready { CanCoverLines A.Automaton cover.old }
+    requires fresh { IsAtFirst teller.findings }
+    ensures tells { IfCovers A.Automaton cover.old (SaysLines R.Source W.Sink teller.entry.findings
+        result.done source.old source.new teller.entry.output.now result.output.now) }
+    ensures same { result.output.ghost_name ≡ teller.entry.output.ghost_name }
+    ensures still { StaysCovered A.Automaton cover.old cover.new }
+    ensures ready { CanCoverLines A.Automaton cover.new }
+{
+    let mut teller = teller;
+    let done = visit_lines(cover, source, &mut teller);
+    let Teller { output, findings } = teller;
+    Told {
+        output,
+        done: found_of(done, findings.found),
+    }
+}
+
+/// Whether something was found, where all lines were told.
+fn found_of(done: Result<(), LineError>, found: bool) -> Result<bool, LineError>
+    ensures found { result ≡ found_of done found }
+{
+    match done {
+        Ok(()) => Ok(found),
+        Err(error) => Err(error),
+    }
+}
+
+/// What a file is found to be, by what is answered of its lines; any other error ends the program.
+fn look_of_lines(done: Result<bool, LineError>) -> Result<Look, LineError>
+    ensures look { result ≡ look_of_lines done }
+{
+    match done {
+        Ok(true) => Ok(Look::Found),
+        Ok(false) => Ok(Look::Clean),
+        Err(LineError::Stream(StreamError::Read(_))) => Ok(Look::Unread(Reason::ReadFault)),
+        Err(LineError::Stream(StreamError::PositionLimit)) => {
+            Ok(Look::Unread(Reason::PositionLimit))
+        }
+        Err(error) => Err(error),
+    }
+}

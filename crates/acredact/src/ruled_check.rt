@@ -1,0 +1,230 @@
+//! A check by rules: whether something would be redacted in a line of a file, and, where that is asked for, by which rule in which line.
+
+ghost use Rattle.std.specs.Prelude.{◌≡◌, ◌<◌, ◌≤◌, OnOk, false, true};
+ghost use Rattle.secret_rules.specs.Ready.{CanCoverLines};
+ghost use Rattle.acredact.specs.Arguments.{all_given, has};
+ghost use Rattle.acredact.specs.RuledChecks.{AskedCheck, SeesTo, IfCovers, LoadedCheck, SaysOfRulesCheck, UndoubtedCheck, UnruledCheck};
+ghost use Rattle.acredact.specs.Tables.{HaveNoEmpty, secrets_of};
+ghost use Rattle.acredact.specs.declared.arguments.Word.TheVariants.{Summary};
+
+use crate::arguments::{Item, Word, has};
+use crate::check::status_of;
+use crate::checked_files::{Checked, check_files};
+use crate::doubts::warn_of_lists;
+use crate::folder::Folder;
+use crate::legend::Legend;
+use crate::line_rules::{failure_in, line_rules_of};
+use crate::line_size::most_of;
+use crate::load::{lists_of, rules};
+use crate::look::Verdict;
+use crate::patterns::{Rule, patterns_of};
+use crate::ruled::{build_lined, line_end_in};
+use crate::ruled_failure::{RuledFailure, tell_ruled};
+use crate::ruled_files::line_cover;
+use crate::run::{FAILED, names};
+use crate::streams::Streams;
+use aho_automaton::automaton::Automaton;
+use aho_devices::device::Sink;
+use aho_devices::write::Nowhere;
+use secret_rules::{LineCover, LineError, Rules};
+use std::alloc::Global;
+use std::io::{Read, Write};
+
+/// Looks at the lines of each file, and answers the exit status: 0 where nothing would be redacted in any, 1 where something would be, and
+/// 2 where rules or patterns are wrong, memory runs out, or a file cannot be read or the output not be written.
+pub fn check_by_rules<F: Folder, I: Read, W: Write, E: Sink>(
+    alloc: Global,
+    given: &[Item<'_>],
+    folder: &F,
+    streams: &mut Streams<'_, I, W, E>,
+) -> u8
+    ensures says { SaysOfRulesCheck W.Write E.Sink F.Folder folder.now (all_given given.now)
+        result streams.old streams.new }
+    ensures bound { result ≤ 2 }
+{
+    match check_ruled(alloc, given, folder, streams) {
+        Ok(verdict) => status_of(verdict),
+        Err(failure) => {
+            tell_ruled(&mut streams.errors, &failure);
+            FAILED
+        }
+    }
+}
+
+/// Loads all patterns, and looks at all files by them and by rules.
+fn check_ruled<'a, F: Folder, I: Read, W: Write, E: Sink>(
+    alloc: Global,
+    given: &[Item<'a>],
+    folder: &F,
+    streams: &mut Streams<'_, I, W, E>,
+) -> Result<Verdict, RuledFailure<'a>>
+    ensures outcome { AskedCheck W.Write E.Sink F.Folder folder.now (all_given given.now)
+        result streams.old streams.new }
+    ensures unwritten { has Summary (all_given given.now) ≡ false
+        → streams.new.output ≡ streams.old.output }
+    ensures flushed { has Summary (all_given given.now) ≡ true
+        → OnOk result (streams.new.output.device.flushed ≡ true) }
+{
+    let lists = lists_of(alloc, given, folder);
+    match rules(&lists, given, &mut streams.input) {
+        Ok(secrets) => check_secrets(alloc, given, secrets.as_slice(), folder, streams),
+        Err(failure) => Err(RuledFailure::Plain(failure)),
+    }
+}
+
+/// Loads all rules, and looks at all files by them and by these patterns.
+fn check_secrets<'a, F: Folder, I: Read, W: Write, E: Sink>(
+    alloc: Global,
+    given: &[Item<'a>],
+    secrets: &[Rule],
+    folder: &F,
+    streams: &mut Streams<'_, I, W, E>,
+) -> Result<Verdict, RuledFailure<'a>>
+    requires some { HaveNoEmpty (secrets_of secrets.now) }
+    ensures outcome { UnruledCheck W.Write E.Sink F.Folder folder.now (all_given given.now) secrets.now
+        result streams.old streams.new }
+    ensures unwritten { has Summary (all_given given.now) ≡ false
+        → streams.new.output ≡ streams.old.output }
+    ensures flushed { has Summary (all_given given.now) ≡ true
+        → OnOk result (streams.new.output.device.flushed ≡ true) }
+{
+    let lists = lists_of(alloc, given, folder);
+    match line_rules_of(&lists, given, &mut streams.input) {
+        Ok(line_rules) => check_doubted(alloc, given, secrets, &line_rules, folder, streams),
+        Err(failure) => Err(failure),
+    }
+}
+
+/// Tells of doubtful patterns of lists, and looks at all files.
+fn check_doubted<'a, F: Folder, I: Read, W: Write, E: Sink>(
+    alloc: Global,
+    given: &[Item<'a>],
+    secrets: &[Rule],
+    line_rules: &Rules,
+    folder: &F,
+    streams: &mut Streams<'_, I, W, E>,
+) -> Result<Verdict, RuledFailure<'a>>
+    requires some { HaveNoEmpty (secrets_of secrets.now) }
+    ensures outcome { UndoubtedCheck W.Write E.Sink F.Folder folder.now given.now secrets.now line_rules.now
+        result streams.old streams.new }
+    ensures unwritten { has Summary (all_given given.now) ≡ false
+        → streams.new.output ≡ streams.old.output }
+    ensures flushed { has Summary (all_given given.now) ≡ true
+        → OnOk result (streams.new.output.device.flushed ≡ true) }
+{
+    match warn_of_lists(&mut streams.errors, given, secrets, false) {
+        Ok(()) => check_lines(alloc, given, secrets, line_rules, folder, streams),
+        Err(failure) => Err(RuledFailure::Plain(failure)),
+    }
+}
+
+/// Looks at all files.
+fn check_lines<'a, F: Folder, I: Read, W: Write, E: Sink>(
+    alloc: Global,
+    given: &[Item<'_>],
+    secrets: &[Rule],
+    line_rules: &Rules,
+    folder: &F,
+    streams: &mut Streams<'_, I, W, E>,
+) -> Result<Verdict, RuledFailure<'a>>
+    requires some { HaveNoEmpty (secrets_of secrets.now) }
+    ensures outcome { LoadedCheck W.Write E.Sink F.Folder folder.now given.now secrets.now line_rules.now
+        result streams.old streams.new }
+    ensures unwritten { has Summary (all_given given.now) ≡ false
+        → streams.new.output ≡ streams.old.output }
+    ensures flushed { has Summary (all_given given.now) ≡ true
+        → OnOk result (streams.new.output.device.flushed ≡ true) }
+{
+    if let Some(number) = line_end_in(secrets) {
+        return Err(RuledFailure::LineEnd(number));
+    }
+    let patterns = patterns_of(alloc, secrets)?;
+    let names = names(alloc, given)?;
+    let nfa = build_lined(alloc, given, patterns.as_slice())?;
+    let most = most_of(given);
+    let words = has(given, Word::AsWord);
+    let tells = has(given, Word::Summary);
+    let mut cover = line_cover(alloc, &nfa, line_rules, words, most)?;
+    let rules = line_rules.as_slice();
+    let legend = Legend {
+        secrets,
+        rules,
+        most,
+    };
+    let checked = Checked {
+        alloc,
+        folder,
+        legend,
+        tells,
+    };
+    match check_to(&mut cover, &checked, names.as_slice(), streams) {
+        Ok(verdict) => Ok(verdict),
+        Err(error) => Err(failure_in(alloc, rules, error)),
+    }
+}
+
+/// Looks at all files, and tells to the output what is found, where that is asked for.
+fn check_to<A: Automaton, F: Folder, I: Read, W: Write, E: Sink>(
+    cover: &mut LineCover<'_, '_, A>,
+    checked: &Checked<'_, '_, '_, F>,
+    names: &[&str],
+    streams: &mut Streams<'_, I, W, E>,
+) -> Result<Verdict, LineError>
+    requires ready { CanCoverLines A.Automaton cover.old }
+    ensures sees { IfCovers A.Automaton cover.old (SeesTo W.Write E.Sink F.Folder checked.now
+        names.now result streams.old streams.new) }
+    ensures unwritten { checked.now.tells ≡ false → streams.new.output ≡ streams.old.output }
+    ensures flushed { checked.now.tells ≡ true
+        → OnOk result (streams.new.output.device.flushed ≡ true) }
+{
+    if checked.tells {
+        return check_telling(cover, checked, names, streams);
+    }
+    check_silent(cover, checked, names, streams)
+}
+
+/// Looks at all files, and tells to the output what is found.
+fn check_telling<A: Automaton, F: Folder, I: Read, W: Write, E: Sink>(
+    cover: &mut LineCover<'_, '_, A>,
+    checked: &Checked<'_, '_, '_, F>,
+    names: &[&str],
+    streams: &mut Streams<'_, I, W, E>,
+) -> Result<Verdict, LineError>
+    requires ready { CanCoverLines A.Automaton cover.old }
+    ensures sees { IfCovers A.Automaton cover.old (SeesTo W.Write E.Sink F.Folder checked.now
+        names.now result streams.old streams.new) }
+    ensures flushed { OnOk result (streams.new.output.device.flushed ≡ true) }
+{
+    check_files(
+        cover,
+        checked,
+        names,
+        &mut streams.input,
+        &mut streams.output,
+        &mut streams.errors,
+    )
+}
+
+/// Looks at all files, and writes nothing.
+fn check_silent<A: Automaton, F: Folder, I: Read, W: Write, E: Sink>(
+    cover: &mut LineCover<'_, '_, A>,
+    checked: &Checked<'_, '_, '_, F>,
+    names: &[&str],
+    streams: &mut Streams<'_, I, W, E>,
+) -> Result<Verdict, LineError>
+    requires ready { CanCoverLines A.Automaton cover.old }
+    requires silent { checked.now.tells ≡ false }
+    ensures sees { IfCovers A.Automaton cover.old (SeesTo W.Write E.Sink F.Folder checked.now
+        names.now result streams.old streams.new) }
+    ensures unwritten { streams.new.output ≡ streams.old.output }
+{
+    let mut nowhere = Nowhere;
+    check_files(
+        cover,
+        checked,
+        names,
+        &mut streams.input,
+        &mut nowhere,
+        &mut streams.errors,
+    )
+}
