@@ -7,6 +7,7 @@ use Rattle.pseudonyms.specs.Pseudonyms.{pseudonym_rule}
 use Rattle.acredact.specs.Arguments.{Given, has}
 use Rattle.acredact.specs.Loading.{Loaded, loaded_by}
 use Rattle.acredact.specs.Named.{all_named, named_secret}
+use Rattle.acredact.specs.Ruled.{secrets_by}
 use Rattle.acredact.specs.Tables.{HaveNoEmpty, Secret}
 use Rattle.acredact.specs.declared.arguments.Word.TheVariants.{Forms, IgnoreCase}
 use Rattle.acredact.proofs.Ready.{IsSomeSecret}
@@ -33,3 +34,15 @@ module _ (given : List Given) (secrets : List Secret) (key : List ℕ) where
       let by_key : named ≡ all_named (pseudonym_rule (has IgnoreCase given) key) secrets =
       is ∙ ap (λ (b : Bool). all_named (pseudonym_rule b bytes) secrets) case ∙ ap (λ (l : List ℕ). all_named (pseudonym_rule (has IgnoreCase given) l) secrets) same in
       ap (λ (l : List Secret). loaded_of l None) by_key ∙ sym (ap by_forms asked)
+
+  -- the same beside rules
+  abbrev by_rules : Bool → List Secret
+  by_rules forms = if forms then all_named (pseudonym_rule (has IgnoreCase given) key) secrets else secrets
+
+  pub ruled_plain : has Forms given ≡ false → secrets ≡ secrets_by given (Some key) secrets
+  ruled_plain none = sym (ap by_rules none)
+
+  pub ruled_named : (named : List Secret) (ignore_case : Bool) (bytes : List ℕ) → has Forms given ≡ true → ignore_case ≡ has IgnoreCase given → bytes ≡ key
+      → named ≡ all_named (pseudonym_rule ignore_case bytes) secrets → named ≡ secrets_by given (Some key) secrets
+  ruled_named named ignore_case bytes asked case same is =
+      is ∙ ap (λ (b : Bool). all_named (pseudonym_rule b bytes) secrets) case ∙ ap (λ (l : List ℕ). all_named (pseudonym_rule (has IgnoreCase given) l) secrets) same ∙ sym (ap by_rules asked)

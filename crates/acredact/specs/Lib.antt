@@ -58,5 +58,6 @@ pub mod LineRules
 pub mod RuleLines
 pub mod LongLines
 pub mod RunCounts
+pub mod RunPieces
 pub mod Ruled
 pub mod RuledChecks

@@ -1,5 +1,5 @@
 -- What a call with rules does: each line is redacted by what rules mark in it and patterns hold.
-use Rattle.std.specs.Prelude.{◌≡◌, ◌⊎◌, ℕ, Bool, true, false, List, [], ◌∷◌, ◌++◌, Option, None, Some, Result, Ok, Err, map, option_map, string_bytes, unwrap_or, Vec}
+use Rattle.std.specs.Prelude.{◌≡◌, ◌⊎◌, ℕ, Bool, true, false, List, [], ◌∷◌, ◌++◌, Option, None, Some, Result, Ok, Err, if◌then◌else◌, length, map, option_map, string_bytes, unwrap_or, Vec}
 use Rattle.std.specs.Borrow.{Bor}
 use Rattle.std.specs.Io.{StartsWith}
 use Rattle.std.specs.Io.KnownBytes.{Appends, Consumes, IsAtEnd, Keeps}
@@ -24,6 +24,7 @@ use Rattle.programs.specs.Telling.{Tells, TellsSome}
 use Rattle.programs.specs.declared.errors.Errors.{Errors}
 use Rattle.programs.specs.declared.reason.Reason.{Reason}
 use Rattle.programs.specs.declared.reason.Reason.TheVariants.{PositionLimit as TooLong, ReadFault}
+use Rattle.pseudonyms.specs.Pseudonyms.{pseudonym_rule}
 use Rattle.secret_rules.specs.Covering.{AreLineRuns, Covering, covering_by, lines_cover}
 use Rattle.secret_rules.specs.LineCovers.{AreSearchedFor}
 use Rattle.secret_rules.specs.Lines.{stream_lines}
@@ -32,18 +33,20 @@ use Rattle.secret_rules.specs.Rules.{AreSound}
 use Rattle.secret_rules.specs.declared.error.LineError.{LineError}
 use Rattle.secret_rules.specs.declared.error.LineError.TheVariants.{Mark, Stream}
 use Rattle.secret_rules.specs.declared.rule.Rule.{Rule}
-use Rattle.acredact.specs.Arguments.{AsksForRules, Given, all_given, has}
-use Rattle.acredact.specs.Calls.{Call, IsUnreadLine, call_of, names_asked, pieces_asked, reading_by, text_asked}
+use Rattle.acredact.specs.Arguments.{AsksForRules, Given, all_given, has, last_value}
+use Rattle.acredact.specs.Calls.{Call, IsUnreadLine, call_of, keyed_as, names_asked, pieces_asked, reading_by, text_asked}
 use Rattle.acredact.specs.Doubts.{TellsDoubts, all_doubt_lines}
 use Rattle.acredact.specs.Files.{WritesText}
 use Rattle.acredact.specs.LineRules.{AreRulesRead, most_asked}
 use Rattle.acredact.specs.LongLines.{TellsLong}
-use Rattle.acredact.specs.Loading.{AreGiven, Reading}
+use Rattle.acredact.specs.Loading.{AreGiven, IsKeyGiven, Reading, key_lent}
+use Rattle.acredact.specs.Named.{all_named}
 use Rattle.acredact.specs.Reads.{OfName}
 use Rattle.acredact.specs.RuleLines.{IsRuledLine, too_long_line}
 use Rattle.acredact.specs.RunCounts.{CountsTextRuns, CountsAllRuns, CountsFileRuns, HaveRuns, IsRunsLine, TellsAnyTotals, TellsRunTotals}
+use Rattle.acredact.specs.RunPieces.{mixed_rule, pseudonyms_by}
 use Rattle.acredact.specs.Tables.{Secret, patterns_in, secrets_of}
-use Rattle.acredact.specs.declared.arguments.Word.TheVariants.{AsWord, Count, IgnoreCase}
+use Rattle.acredact.specs.declared.arguments.Word.TheVariants.{AsWord, Count, Forms, IgnoreCase, Pseudonym}
 use Rattle.acredact.specs.declared.arguments.Item.{Item}
 use Rattle.acredact.specs.declared.folder.Folder.{Ghosts as Folders}
 use Rattle.acredact.specs.declared.patterns.Rule.{Rule as PatternRule}
@@ -153,10 +156,9 @@ AreSearchedBy G automaton searched = (p : Patterns) → G.is_of automaton p → 
 abbrev pub IfLined : {A P : Type 0} → Automata A → PieceGhosts P → Lined A P → (Ruling → Type 0) → Type 0
 IfLined G Q lined Holds = (ruling : Ruling) → IsLined G Q lined ruling → Holds ruling
 
--- it does so by the patterns of an automaton, where it has these texts
-abbrev pub LinesBy : {A P : Type 0} → Automata A → PieceGhosts P → A → Bool → List Rule → ℕ → List (Bor (List ℕ)) → Lined A P → Type 0
-LinesBy G Q automaton words rules most texts lined =
-    (p : Patterns) → G.is_of automaton p → IsLined G Q lined (ruling_as words rules most (fixed_rule (pieces_of texts)) p)
+-- it does so by the patterns of an automaton, with these pieces
+abbrev pub LinesBy : {A P : Type 0} → Automata A → PieceGhosts P → A → Bool → List Rule → ℕ → PieceRule → Lined A P → Type 0
+LinesBy G Q automaton words rules most rule lined = (p : Patterns) → G.is_of automaton p → IsLined G Q lined (ruling_as words rules most rule p)
 
 -- it does so by something
 abbrev pub IsAnyLined : {A P : Type 0} → Automata A → PieceGhosts P → Lined A P → Type 0
@@ -170,19 +172,33 @@ StaysLined G Q lined lined' = IfLined G Q lined (IsLined G Q lined')
 abbrev pub ruled_in : {F X : Type 0} → Folders F X → F → Ruling → RuledWork
 ruled_in D folder ruling = record { holds = D.holds folder; meets = D.meets folder; ruling = ruling }
 
--- what is loaded: the secrets that are patterns, and the rules
+-- what is loaded: the secrets that are patterns, the rules, and the key of pseudonyms
 pub record RuledLoad : Type 0 where
   pub secrets : List Secret
   pub rules : List Rule
+  pub key : Option (List ℕ)
+
+-- secrets and rules were read
+pub record AreRulesGiven (reading : Reading) (given : List Given) (secrets : List Secret) (rules : List Rule) (left left' : Option (List ℕ)) : Type 0 where
+  pub between : Option (List ℕ)
+  pub secrets_given : AreGiven reading given secrets left between
+  pub rules_given : AreRulesRead reading given rules between left'
+  pub sound : AreSound rules
+
+-- where forms are asked for a key names each secret, in whatever form that stands
+abbrev pub secrets_by : List Given → Option (List ℕ) → List Secret → List Secret
+secrets_by given None secrets = secrets
+secrets_by given (Some key) secrets = if has Forms given then all_named (pseudonym_rule (has IgnoreCase given) key) secrets else secrets
 
 pub record AreRuledLoaded (reading : Reading) (given : List Given) (load : RuledLoad) (left left' : Option (List ℕ)) : Type 0 where
+  pub secrets : List Secret
   pub between : Option (List ℕ)
-  pub secrets_given : AreGiven reading given load.secrets left between
-  pub rules_given : AreRulesRead reading given load.rules between left'
-  pub sound : AreSound load.rules
+  pub rules_given : AreRulesGiven reading given secrets load.rules left between
+  pub key_given : IsKeyGiven reading (last_value Pseudonym given) load.key between left'
+  pub named : load.secrets ≡ secrets_by given load.key secrets
 
-abbrev pub ruled_load : List PatternRule → List Rule → RuledLoad
-ruled_load secrets rules = record { secrets = secrets_of secrets; rules = rules }
+abbrev pub ruled_load : List PatternRule → List Rule → Option (Bor (List ℕ)) → RuledLoad
+ruled_load secrets rules key = record { secrets = secrets_of secrets; rules = rules; key = key_lent key }
 
 -- the patterns that are searched for: all that occurs counts
 abbrev pub patterns_by_case : List Given → List (List ℕ) → Patterns
@@ -197,11 +213,23 @@ abbrev pub texts_asked : List Given → RuledLoad → List (List ℕ)
 texts_asked given load = pieces_asked given load.secrets ++ (map (own_text (text_asked given)) load.rules ++ text_asked given ∷ [])
 
 abbrev pub AreTextsAsked : {Z : Type 0} → List Item → List PatternRule → List Rule → Vec (Bor (List ℕ)) Z → Type 0
-AreTextsAsked items secrets rules texts = pieces_of texts.items ≡ texts_asked (all_given items) (ruled_load secrets rules)
+AreTextsAsked items secrets rules texts = pieces_of texts.items ≡ texts_asked (all_given items) (ruled_load secrets rules None)
+
+-- where there is a key they are written for patterns that it has named, and else pseudonyms
+abbrev pub named_count : List Given → (patterns : ℕ) → ℕ
+named_count given patterns = if has Forms given then patterns else 0
+
+abbrev pub rule_asked : List Given → (texts : List (List ℕ)) → (key : Option (List ℕ)) → (patterns : ℕ) → PieceRule
+rule_asked given texts key patterns =
+    mixed_rule (fixed_rule texts) (option_map pseudonyms_by (option_map (keyed_as (has IgnoreCase given)) key)) (named_count given patterns)
+
+-- the same of texts and of a key that are lent
+abbrev pub lent_rule : List Item → List (Bor (List ℕ)) → Option (Bor (List ℕ)) → (patterns : ℕ) → PieceRule
+lent_rule items texts key patterns = rule_asked (all_given items) (pieces_of texts) (key_lent key) patterns
 
 abbrev pub ruling_by : List Given → RuledLoad → Ruling
 ruling_by given load =
-    ruling_as (has AsWord given) load.rules (most_asked given) (fixed_rule (texts_asked given load)) (patterns_by_case given (patterns_in load.secrets))
+    ruling_as (has AsWord given) load.rules (most_asked given) (rule_asked given (texts_asked given load) load.key (length load.secrets)) (patterns_by_case given (patterns_in load.secrets))
 
 abbrev pub ruled_by : Call → RuledLoad → RuledWork
 ruled_by call load = record { holds = call.holds; meets = call.meets; ruling = ruling_by call.given load }
@@ -353,20 +381,32 @@ module _ {R : Type 0} {Reads : Readers R} {W E : Type 0} (Writes : Writers W) wh
 
   module _ (K : SinkGhosts E) where
     -- what comes of patterns and rules that were loaded
-    abbrev pub LoadedRuled : {F X : Type 0} → Folders F X → F → List Item → List PatternRule → List Rule → Result Bool RuledFailure → (streams streams' : Streams R W E Reads) → Type 0
-    LoadedRuled D folder items secrets rules result streams streams' =
-        Between (RuledOutcome K (call_of D folder (all_given items)) (ruled_load secrets rules) result) streams streams'
+    abbrev pub LoadedRuled : {F X : Type 0} → Folders F X → F → List Item → List PatternRule → List Rule → Option (Bor (List ℕ)) → Result Bool RuledFailure → (streams streams' : Streams R W E Reads) → Type 0
+    LoadedRuled D folder items secrets rules key result streams streams' =
+        Between (RuledOutcome K (call_of D folder (all_given items)) (ruled_load secrets rules key) result) streams streams'
 
     -- where doubtful ones are to be told
-    abbrev pub UndoubtedRuled : {F X : Type 0} → Folders F X → F → List Item → List PatternRule → List Rule → Result Bool RuledFailure → (streams streams' : Streams R W E Reads) → Type 0
-    UndoubtedRuled D folder items secrets rules result streams streams' =
-        Between (DoubtedRuled K (call_of D folder (all_given items)) (ruled_load secrets rules) result) streams streams'
+    abbrev pub UndoubtedRuled : {F X : Type 0} → Folders F X → F → List Item → List PatternRule → List Rule → Option (Bor (List ℕ)) → Result Bool RuledFailure → (streams streams' : Streams R W E Reads) → Type 0
+    UndoubtedRuled D folder items secrets rules key result streams streams' =
+        Between (DoubtedRuled K (call_of D folder (all_given items)) (ruled_load secrets rules key) result) streams streams'
 
     -- of patterns that were loaded, where the rules are to be
     abbrev pub UnruledOutcome : {F X : Type 0} → Folders F X → F → List Given → List PatternRule → Result Bool RuledFailure → (streams streams' : Streams R W E Reads) → Type 0
     UnruledOutcome D folder given secrets result streams streams' = (left : Option (List ℕ))
         → AreGiven (reading_by (call_of D folder given)) given (secrets_of secrets) left (bytes_left streams.input)
         → RuledCall K (call_of D folder given) result left (bytes_left streams'.input) (output_bytes Writes streams.output) (output_bytes Writes streams'.output) streams.errors streams'.errors
+
+    -- of rules too, where the key is to be, or was read
+    abbrev pub KeylessRuled : {F X : Type 0} → Folders F X → F → List Item → List PatternRule → List Rule → Result Bool RuledFailure → (streams streams' : Streams R W E Reads) → Type 0
+    KeylessRuled D folder items secrets rules result streams streams' = (left : Option (List ℕ))
+        → AreRulesGiven (reading_by (call_of D folder (all_given items))) (all_given items) (secrets_of secrets) rules left (bytes_left streams.input)
+        → RuledCall K (call_of D folder (all_given items)) result left (bytes_left streams'.input) (output_bytes Writes streams.output) (output_bytes Writes streams'.output) streams.errors streams'.errors
+
+    abbrev pub KeyedRuled : {F X : Type 0} → Folders F X → F → List Item → List PatternRule → List Rule → (key : List ℕ) → Result Bool RuledFailure → (streams streams' : Streams R W E Reads) → Type 0
+    KeyedRuled D folder items secrets rules key result streams streams' = (left between : Option (List ℕ))
+        → AreRulesGiven (reading_by (call_of D folder (all_given items))) (all_given items) (secrets_of secrets) rules left between
+        → IsKeyGiven (reading_by (call_of D folder (all_given items))) (last_value Pseudonym (all_given items)) (Some key) between (bytes_left streams.input)
+        → RuledCall K (call_of D folder (all_given items)) result left (bytes_left streams'.input) (output_bytes Writes streams.output) (output_bytes Writes streams'.output) streams.errors streams'.errors
 
     -- and of what these options ask for
     abbrev pub AskedRuled : {F X : Type 0} → Folders F X → F → List Given → Result Bool RuledFailure → (streams streams' : Streams R W E Reads) → Type 0

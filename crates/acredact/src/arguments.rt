@@ -113,8 +113,6 @@ pub enum Mixture {
     RulesKind,
     /// `--rules` or `--after` with `--in-place`.
     RulesInPlace,
-    /// `--rules` or `--after` with `--pseudonym`.
-    RulesPseudonym,
     /// `--rules` or `--after` with `--summary`.
     RulesSummary,
     /// `--rules` or `--after` with `--strict`, which promises nothing of what rules mark.
@@ -309,9 +307,6 @@ fn rules_mixture_of(items: &[Item<'_>]) -> Option<Mixture>
     }
     if has(items, Word::InPlace) {
         return Some(Mixture::RulesInPlace);
-    }
-    if has(items, Word::Pseudonym) {
-        return Some(Mixture::RulesPseudonym);
     }
     if has(items, Word::Summary) && !has(items, Word::Check) {
         return Some(Mixture::RulesSummary);

@@ -48,6 +48,7 @@ mod ruled_failure;
 mod ruled_files;
 mod run;
 mod run_counts;
+mod run_pieces;
 mod seen;
 mod short;
 mod shown;

@@ -8,7 +8,7 @@ ghost use Rattle.acredact.specs.LongLines.{long_told};
 ghost use Rattle.acredact.specs.Doubts.{last_of};
 ghost use Rattle.acredact.specs.Arguments.{all_given};
 ghost use Rattle.acredact.specs.Builds.{build_settings};
-ghost use Rattle.acredact.specs.Ruled.{AreTextsAsked, AskedRuled, LoadedRuled, SaysOfRules, UndoubtedRuled, UnruledOutcome, own_text, patterns_by_case};
+ghost use Rattle.acredact.specs.Ruled.{AreTextsAsked, AskedRuled, KeyedRuled, KeylessRuled, LoadedRuled, SaysOfRules, UndoubtedRuled, UnruledOutcome, lent_rule, named_count, own_text, patterns_by_case};
 ghost use Rattle.acredact.specs.Tables.{HaveNoEmpty, secrets_of};
 
 use crate::arguments::{Item, Word, has};
@@ -16,17 +16,20 @@ use crate::doubts::warn_of_lists;
 use crate::folder::Folder;
 use crate::line_rules::{failure_in, line_rules_of};
 use crate::line_size::most_of;
-use crate::load::{lists_of, rules};
+use crate::load::{key_of, lists_of, rules};
+use crate::named::named_rules;
 use crate::patterns::{Rule, patterns_of, replacements_of, split_at};
 use crate::ruled_failure::{RuledFailure, tell_long, tell_ruled};
 use crate::ruled_files::{cover_files, lined_of};
-use crate::run::{FAILED, names, text_of};
+use crate::run::{FAILED, key_by, name_key, names, text_of};
 use crate::run_counts::tell_runs;
+use crate::run_pieces::RunPieces;
 use crate::streams::Streams;
 use aho_automaton::automaton::Automaton;
 use aho_corasick::noncontiguous::{Builder, NFA};
 use aho_core::error::BuildError;
 use aho_core::search::MatchKind;
+use aho_cover::pieces::Pieces;
 use aho_devices::device::Sink;
 use programs::errors::Errors;
 use secret_rules::{Rule as LineRule, Rules};
@@ -89,13 +92,13 @@ fn load_rules<'a, F: Folder, I: Read, W: Write, E: Sink>(
 {
     let lists = lists_of(alloc, given, folder);
     match line_rules_of(&lists, given, &mut streams.input) {
-        Ok(line_rules) => redact_doubted(alloc, given, secrets, &line_rules, folder, streams),
+        Ok(line_rules) => load_naming(alloc, given, secrets, &line_rules, folder, streams),
         Err(failure) => Err(failure),
     }
 }
 
-/// Tells of doubtful patterns of lists, redacts all files, and answers whether all were read.
-fn redact_doubted<'a, F: Folder, I: Read, W: Write, E: Sink>(
+/// Loads the key of pseudonyms, where they are asked for, redacts all files, and answers whether all were read.
+fn load_naming<'a, F: Folder, I: Read, W: Write, E: Sink>(
     alloc: Global,
     given: &[Item<'a>],
     secrets: &[Rule],
@@ -104,12 +107,61 @@ fn redact_doubted<'a, F: Folder, I: Read, W: Write, E: Sink>(
     streams: &mut Streams<'_, I, W, E>,
 ) -> Result<bool, RuledFailure<'a>>
     requires some { HaveNoEmpty (secrets_of secrets.now) }
-    ensures outcome { UndoubtedRuled W.Write E.Sink F.Folder folder.now given.now secrets.now line_rules.now
+    ensures outcome { KeylessRuled W.Write E.Sink F.Folder folder.now given.now secrets.now line_rules.now
         result streams.old streams.new }
     ensures flushed { OnOk result (streams.new.output.device.flushed ≡ true) }
 {
+    let lists = lists_of(alloc, given, folder);
+    match key_of(&lists, given, &mut streams.input) {
+        Ok(Some(key)) => {
+            let key = key.as_slice();
+            redact_named(alloc, given, secrets, line_rules, key, folder, streams)
+        }
+        Ok(None) => redact_doubted(alloc, given, secrets, line_rules, None, folder, streams),
+        Err(failure) => Err(RuledFailure::Plain(failure)),
+    }
+}
+
+/// Redacts all files by a key, and answers whether all were read. Where forms are asked for, each form has the pseudonym of its secret.
+fn redact_named<'a, F: Folder, I: Read, W: Write, E: Sink>(
+    alloc: Global,
+    given: &[Item<'a>],
+    secrets: &[Rule],
+    rules: &Rules,
+    key: &[u8],
+    folder: &F,
+    streams: &mut Streams<'_, I, W, E>,
+) -> Result<bool, RuledFailure<'a>>
+    requires some { HaveNoEmpty (secrets_of secrets.now) }
+    ensures outcome { KeyedRuled W.Write E.Sink F.Folder folder.now given.now secrets.now rules.now key.now
+        result streams.old streams.new }
+    ensures flushed { OnOk result (streams.new.output.device.flushed ≡ true) }
+{
+    if !has(given, Word::Forms) {
+        return redact_doubted(alloc, given, secrets, rules, Some(key), folder, streams);
+    }
+    let named = named_rules(alloc, secrets, name_key(given, key))?;
+    let secrets = named.as_slice();
+    redact_doubted(alloc, given, secrets, rules, Some(key), folder, streams)
+}
+
+/// Tells of doubtful patterns of lists, redacts all files, and answers whether all were read.
+fn redact_doubted<'a, F: Folder, I: Read, W: Write, E: Sink>(
+    alloc: Global,
+    given: &[Item<'a>],
+    secrets: &[Rule],
+    line_rules: &Rules,
+    key: Option<&[u8]>,
+    folder: &F,
+    streams: &mut Streams<'_, I, W, E>,
+) -> Result<bool, RuledFailure<'a>>
+    requires some { HaveNoEmpty (secrets_of secrets.now) }
+    ensures outcome { UndoubtedRuled W.Write E.Sink F.Folder folder.now given.now secrets.now line_rules.now
+        key.entry result streams.old streams.new }
+    ensures flushed { OnOk result (streams.new.output.device.flushed ≡ true) }
+{
     match warn_of_lists(&mut streams.errors, given, secrets, false) {
-        Ok(()) => redact_ruled(alloc, given, secrets, line_rules, folder, streams),
+        Ok(()) => redact_ruled(alloc, given, secrets, line_rules, key, folder, streams),
         Err(failure) => Err(RuledFailure::Plain(failure)),
     }
 }
@@ -119,12 +171,13 @@ fn redact_ruled<'a, F: Folder, I: Read, W: Write, E: Sink>(
     alloc: Global,
     given: &[Item<'_>],
     secrets: &[Rule],
-    line_rules: &Rules,
+    rules: &Rules,
+    key: Option<&[u8]>,
     folder: &F,
     streams: &mut Streams<'_, I, W, E>,
 ) -> Result<bool, RuledFailure<'a>>
     requires some { HaveNoEmpty (secrets_of secrets.now) }
-    ensures outcome { LoadedRuled W.Write E.Sink F.Folder folder.now given.now secrets.now line_rules.now
+    ensures outcome { LoadedRuled W.Write E.Sink F.Folder folder.now given.now secrets.now rules.now key.entry
         result streams.old streams.new }
     ensures flushed { OnOk result (streams.new.output.device.flushed ≡ true) }
 {
@@ -132,14 +185,15 @@ fn redact_ruled<'a, F: Folder, I: Read, W: Write, E: Sink>(
         return Err(RuledFailure::LineEnd(number));
     }
     let patterns = patterns_of(alloc, secrets)?;
-    let texts = texts_of(alloc, given, secrets, line_rules.as_slice())?;
+    let texts = texts_of(alloc, given, secrets, rules.as_slice())?;
     let names = names(alloc, given)?;
     let nfa = build_lined(alloc, given, patterns.as_slice())?;
     let most = most_of(given);
     let texts = texts.as_slice();
     let mut counts = counts_for(alloc, texts.len())?;
     let words = has(given, Word::AsWord);
-    let mut lined = lined_of(alloc, &nfa, line_rules, texts, words, most)?;
+    let pieces = pieces_by(given, texts, key, secrets.len());
+    let mut lined = lined_of(alloc, &nfa, rules, pieces, words, most)?;
     let names = names.as_slice();
     let tally = counts.as_mut_slice();
     let done = cover_files(&mut lined, folder, names, tally, streams);
@@ -152,12 +206,12 @@ fn redact_ruled<'a, F: Folder, I: Read, W: Write, E: Sink>(
                 all,
                 given,
                 secrets,
-                line_rules,
+                rules,
                 tally,
                 &mut streams.errors,
             )
         }
-        Err(error) => Err(failure_in(alloc, line_rules.as_slice(), error)),
+        Err(error) => Err(failure_in(alloc, rules.as_slice(), error)),
     }
 }
 
@@ -236,6 +290,30 @@ fn own_text<'r>(rule: &'r LineRule, usual: &'r [u8]) -> &'r [u8]
         Some(own) => own.as_bytes(),
         None => usual,
     }
+}
+
+/// What makes the piece of each run: its text; or, where there is a key, its pseudonym, but for patterns that it has named.
+fn pieces_by<'p, 'q>(
+    given: &[Item<'_>],
+    texts: &'p [&'q [u8]],
+    key: Option<&[u8]>,
+    patterns: usize,
+) -> RunPieces<'p, 'q>
+    ensures rule { ⟦<RunPieces<'p, 'q> as Pieces>⟧.rule result ≡ lent_rule given.now texts.entry.now
+        key.entry patterns }
+{
+    let key = key_by(key, has(given, Word::IgnoreCase));
+    RunPieces::new(texts, key, named_count(given, patterns))
+}
+
+/// How many numbers are those of patterns that a key has named: so it does where forms are asked for.
+fn named_count(given: &[Item<'_>], patterns: usize) -> usize
+    ensures count { result ≡ named_count (all_given given.now) patterns }
+{
+    if has(given, Word::Forms) {
+        return patterns;
+    }
+    0
 }
 
 /// So many counts.

@@ -11,7 +11,7 @@ use crate::folder::Folder;
 use crate::streams::Streams;
 use aho_automaton::automaton::Automaton;
 use aho_core::error::{BuildError, StreamError};
-use aho_cover::pieces::{PatternPieces, Pieces};
+use aho_cover::pieces::Pieces;
 use aho_devices::adapters::{FromRead, FromWrite};
 use aho_devices::device::Sink;
 use programs::reason::Reason;
@@ -31,25 +31,24 @@ pub struct Lined<'r, 'a, A, P> {
     pub pieces: P,
 }
 
-/// What redacts lines by these rules and the patterns of an automaton, where it has some, with these texts.
+/// What redacts lines by these rules and the patterns of an automaton, where it has some, with these pieces.
 ///
 /// # Errors
 ///
 /// Out of memory, or there are more numbers than one may have.
-pub fn lined_of<'r, 'a, 'p, 'q, A: Automaton>(
+pub fn lined_of<'r, 'a, A: Automaton, P: Pieces + Drop>(
     alloc: Global,
     automaton: &'a A,
     rules: &'r Rules,
-    texts: &'p [&'q [u8]],
+    pieces: P,
     words: bool,
     most: usize,
-) -> Result<Lined<'r, 'a, A, PatternPieces<'p, 'q>>, BuildError>
+) -> Result<Lined<'r, 'a, A, P>, BuildError>
     requires ready { CanSearch A.Automaton automaton.now }
-    ensures lined { IfOk result (LinesBy A.Automaton ⟦<PatternPieces<'p, 'q> as Pieces>⟧
-        automaton.entry.now words rules.entry.now most texts.entry.now) }
+    ensures lined { IfOk result (LinesBy A.Automaton P.Pieces
+        automaton.entry.now words rules.entry.now most (P.rule pieces)) }
 {
     let cover = line_cover(alloc, automaton, rules, words, most)?;
-    let pieces = PatternPieces::new(texts);
     Ok(Lined { cover, pieces })
 }
 

@@ -13,13 +13,13 @@ use Rattle.acredact.proofs.ruled.redact_doubted.Goals as goal
 pub returns-in-Ok-clause-outcome : goal.returns-in-Ok-clause-outcome
 returns-in-Ok-clause-outcome g c =
     let call = call_of g.F.Folder c.args.folder.now (all_given c.args.given.now) in
-    ruled_behind g.E.Sink call (ruled_load c.args.secrets.now c.args.line_rules.now) c.redact_ruled.result _ _ _ _ _ _ _
+    ruled_behind g.E.Sink call (ruled_load c.args.secrets.now c.args.line_rules.now c.args.key) c.redact_ruled.result _ _ _ _ _ _ _
     c.in-Ok.ensures.told c.redact_ruled.ensures.outcome
 
 pub returns-in-Err-clause-outcome : goal.returns-in-Err-clause-outcome
 returns-in-Err-clause-outcome g c =
     let call = call_of g.F.Folder c.args.folder.now (all_given c.args.given.now) in
-    let load = ruled_load c.args.secrets.now c.args.line_rules.now in
+    let load = ruled_load c.args.secrets.now c.args.line_rules.now c.args.key in
     subst (λ (e : Errors _). DoubtedRuled g.E.Sink call load (Err (Plain c.in-Err.failure)) (bytes_left c.args.streams.now.input) (bytes_left c.args.streams.now.input)
     (output_bytes g.W.Write c.args.streams.now.output) (output_bytes g.W.Write c.args.streams.now.output) c.args.streams.now.errors e) (sym c.in-Err.ensures.untold)
     (doubted_none g.E.Sink call load (Plain c.in-Err.failure) _ _ _)

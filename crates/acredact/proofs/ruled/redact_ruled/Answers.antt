@@ -5,7 +5,7 @@ use Rattle.std.proofs.lemmas.List.{length-map}
 use Rattle.aho_core.specs.Replacement.{pieces_of}
 use Rattle.aho_corasick.specs.contracts.noncontiguous.NFAAutomaton.TheImpl.{ghosts as NFAGhosts}
 use Rattle.aho_corasick.specs.contracts.noncontiguous.NFAAutomaton.TheImpl.Laws.{laws-law as nfa-laws}
-use Rattle.aho_cover.specs.Pieces.{fixed_rule}
+use Rattle.aho_cover.specs.Pieces.{PieceRule}
 use Rattle.programs.specs.Names.{name_bytes}
 use Rattle.programs.specs.Streams.{bytes_left, output_bytes}
 use Rattle.programs.specs.Telling.{TellsBytes}
@@ -16,8 +16,9 @@ use Rattle.acredact.specs.Calls.{call_of, names_asked}
 use Rattle.acredact.specs.Doubts.{last_of}
 use Rattle.acredact.specs.LineRules.{most_asked}
 use Rattle.acredact.specs.LongLines.{long_told}
-use Rattle.acredact.specs.Ruled.{LinedFiles, LoadedRuled, Ruling, patterns_by_case, ruled_by, ruled_in, ruled_load, ruling_as, ruling_by, texts_asked}
-use Rattle.acredact.specs.Tables.{patterns_in, secrets_of}
+use Rattle.acredact.specs.Ruled.{LinedFiles, LoadedRuled, Ruling, patterns_by_case, rule_asked, ruled_by, ruled_in, ruled_load, ruling_as, ruling_by, texts_asked}
+use Rattle.acredact.specs.contracts.run_pieces.RunPiecesPieces.TheImpl.{ghosts as RunPiecesGhosts}
+use Rattle.acredact.specs.Tables.{patterns_in, secret_of, secrets_of}
 use Rattle.acredact.specs.declared.arguments.Word.TheVariants.{AsWord}
 use Rattle.acredact.specs.declared.failure.Failure.TheVariants.{Other}
 use Rattle.acredact.specs.declared.ruled_failure.RuledFailure.{RuledFailure}
@@ -29,43 +30,43 @@ use Rattle.acredact.proofs.ruled.redact_ruled.Goals as goal
 
 pub returns-in-Some-clause-outcome : goal.returns-in-Some-clause-outcome
 returns-in-Some-clause-outcome g c =
-    ruled_none g.E.Sink (call_of g.F.Folder c.args.folder.now (all_given c.args.given.now)) (ruled_load c.args.secrets.now c.args.line_rules.now) (LineEnd c.in-Some.number) _ _ _
+    ruled_none g.E.Sink (call_of g.F.Folder c.args.folder.now (all_given c.args.given.now)) (ruled_load c.args.secrets.now c.args.rules.now c.args.key) (LineEnd c.in-Some.number) _ _ _
 
 pub returns-in_err-patterns-clause-outcome : goal.returns-in_err-patterns-clause-outcome
 returns-in_err-patterns-clause-outcome g c =
     let is : c.from_residual.result ≡ Err (Plain (Other OutOfMemory)) = search rules in
-    subst (λ (r : Result Bool RuledFailure). LoadedRuled g.W.Write g.E.Sink g.F.Folder c.args.folder.now c.args.given.now c.args.secrets.now c.args.line_rules.now r c.args.streams.now c.args.streams.now) (sym is)
-    (ruled_none g.E.Sink (call_of g.F.Folder c.args.folder.now (all_given c.args.given.now)) (ruled_load c.args.secrets.now c.args.line_rules.now) (Plain (Other OutOfMemory)) _ _ _)
+    subst (λ (r : Result Bool RuledFailure). LoadedRuled g.W.Write g.E.Sink g.F.Folder c.args.folder.now c.args.given.now c.args.secrets.now c.args.rules.now c.args.key r c.args.streams.now c.args.streams.now) (sym is)
+    (ruled_none g.E.Sink (call_of g.F.Folder c.args.folder.now (all_given c.args.given.now)) (ruled_load c.args.secrets.now c.args.rules.now c.args.key) (Plain (Other OutOfMemory)) _ _ _)
 
 pub returns-in_err-texts-clause-outcome : goal.returns-in_err-texts-clause-outcome
 returns-in_err-texts-clause-outcome g c =
     let is : c.from_residual-in_err-texts.result ≡ Err (Plain (Other OutOfMemory)) = search rules in
-    subst (λ (r : Result Bool RuledFailure). LoadedRuled g.W.Write g.E.Sink g.F.Folder c.args.folder.now c.args.given.now c.args.secrets.now c.args.line_rules.now r c.args.streams.now c.args.streams.now) (sym is)
-    (ruled_none g.E.Sink (call_of g.F.Folder c.args.folder.now (all_given c.args.given.now)) (ruled_load c.args.secrets.now c.args.line_rules.now) (Plain (Other OutOfMemory)) _ _ _)
+    subst (λ (r : Result Bool RuledFailure). LoadedRuled g.W.Write g.E.Sink g.F.Folder c.args.folder.now c.args.given.now c.args.secrets.now c.args.rules.now c.args.key r c.args.streams.now c.args.streams.now) (sym is)
+    (ruled_none g.E.Sink (call_of g.F.Folder c.args.folder.now (all_given c.args.given.now)) (ruled_load c.args.secrets.now c.args.rules.now c.args.key) (Plain (Other OutOfMemory)) _ _ _)
 
 pub returns-in_err-names-clause-outcome : goal.returns-in_err-names-clause-outcome
 returns-in_err-names-clause-outcome g c =
     let is : c.from_residual-in_err-names.result ≡ Err (Plain (Other OutOfMemory)) = search rules in
-    subst (λ (r : Result Bool RuledFailure). LoadedRuled g.W.Write g.E.Sink g.F.Folder c.args.folder.now c.args.given.now c.args.secrets.now c.args.line_rules.now r c.args.streams.now c.args.streams.now) (sym is)
-    (ruled_none g.E.Sink (call_of g.F.Folder c.args.folder.now (all_given c.args.given.now)) (ruled_load c.args.secrets.now c.args.line_rules.now) (Plain (Other OutOfMemory)) _ _ _)
+    subst (λ (r : Result Bool RuledFailure). LoadedRuled g.W.Write g.E.Sink g.F.Folder c.args.folder.now c.args.given.now c.args.secrets.now c.args.rules.now c.args.key r c.args.streams.now c.args.streams.now) (sym is)
+    (ruled_none g.E.Sink (call_of g.F.Folder c.args.folder.now (all_given c.args.given.now)) (ruled_load c.args.secrets.now c.args.rules.now c.args.key) (Plain (Other OutOfMemory)) _ _ _)
 
 pub returns-in_err-nfa-clause-outcome : goal.returns-in_err-nfa-clause-outcome
 returns-in_err-nfa-clause-outcome g c =
     let is : c.from_residual-in_err-nfa.result ≡ Err (Plain (Other (Build c.in_err-nfa.field-0.0))) = search rules in
-    subst (λ (r : Result Bool RuledFailure). LoadedRuled g.W.Write g.E.Sink g.F.Folder c.args.folder.now c.args.given.now c.args.secrets.now c.args.line_rules.now r c.args.streams.now c.args.streams.now) (sym is)
-    (ruled_none g.E.Sink (call_of g.F.Folder c.args.folder.now (all_given c.args.given.now)) (ruled_load c.args.secrets.now c.args.line_rules.now) (Plain (Other (Build c.in_err-nfa.field-0.0))) _ _ _)
+    subst (λ (r : Result Bool RuledFailure). LoadedRuled g.W.Write g.E.Sink g.F.Folder c.args.folder.now c.args.given.now c.args.secrets.now c.args.rules.now c.args.key r c.args.streams.now c.args.streams.now) (sym is)
+    (ruled_none g.E.Sink (call_of g.F.Folder c.args.folder.now (all_given c.args.given.now)) (ruled_load c.args.secrets.now c.args.rules.now c.args.key) (Plain (Other (Build c.in_err-nfa.field-0.0))) _ _ _)
 
 pub returns-in_err-counts-clause-outcome : goal.returns-in_err-counts-clause-outcome
 returns-in_err-counts-clause-outcome g c =
     let is : c.from_residual-in_err-counts.result ≡ Err (Plain (Other OutOfMemory)) = search rules in
-    subst (λ (r : Result Bool RuledFailure). LoadedRuled g.W.Write g.E.Sink g.F.Folder c.args.folder.now c.args.given.now c.args.secrets.now c.args.line_rules.now r c.args.streams.now c.args.streams.now) (sym is)
-    (ruled_none g.E.Sink (call_of g.F.Folder c.args.folder.now (all_given c.args.given.now)) (ruled_load c.args.secrets.now c.args.line_rules.now) (Plain (Other OutOfMemory)) _ _ _)
+    subst (λ (r : Result Bool RuledFailure). LoadedRuled g.W.Write g.E.Sink g.F.Folder c.args.folder.now c.args.given.now c.args.secrets.now c.args.rules.now c.args.key r c.args.streams.now c.args.streams.now) (sym is)
+    (ruled_none g.E.Sink (call_of g.F.Folder c.args.folder.now (all_given c.args.given.now)) (ruled_load c.args.secrets.now c.args.rules.now c.args.key) (Plain (Other OutOfMemory)) _ _ _)
 
 pub returns-in_err-lined-clause-outcome : goal.returns-in_err-lined-clause-outcome
 returns-in_err-lined-clause-outcome g c =
     let is : c.from_residual-in_err-lined.result ≡ Err (Plain (Other (Build c.in_err-lined.field-0.0))) = search rules in
-    subst (λ (r : Result Bool RuledFailure). LoadedRuled g.W.Write g.E.Sink g.F.Folder c.args.folder.now c.args.given.now c.args.secrets.now c.args.line_rules.now r c.args.streams.now c.args.streams.now) (sym is)
-    (ruled_none g.E.Sink (call_of g.F.Folder c.args.folder.now (all_given c.args.given.now)) (ruled_load c.args.secrets.now c.args.line_rules.now) (Plain (Other (Build c.in_err-lined.field-0.0))) _ _ _)
+    subst (λ (r : Result Bool RuledFailure). LoadedRuled g.W.Write g.E.Sink g.F.Folder c.args.folder.now c.args.given.now c.args.secrets.now c.args.rules.now c.args.key r c.args.streams.now c.args.streams.now) (sym is)
+    (ruled_none g.E.Sink (call_of g.F.Folder c.args.folder.now (all_given c.args.given.now)) (ruled_load c.args.secrets.now c.args.rules.now c.args.key) (Plain (Other (Build c.in_err-lined.field-0.0))) _ _ _)
 
 pub lined_of-requires : goal.lined_of-requires
 lined_of-requires g c =
@@ -86,18 +87,22 @@ pub returns-in-Ok-clause-outcome : goal.returns-in-Ok-clause-outcome
 returns-in-Ok-clause-outcome g c =
     let given = all_given c.args.given.now in
     let call = call_of g.F.Folder c.args.folder.now given in
-    let load = ruled_load c.args.secrets.now c.args.line_rules.now in
-    let rules = c.args.line_rules.now in
+    let load = ruled_load c.args.secrets.now c.args.rules.now c.args.key in
+    let rules = c.args.rules.now in
     let words : pieces_of c.as_slice-2.result.now ≡ patterns_in load.secrets = ap pieces_of c.as_slice-2.ensures.value ∙ c.in_ok-patterns.ensures.patterns in
     let texts : pieces_of c.in_ok-texts.texts.items ≡ texts_asked given load =
-    c.in_ok-texts.ensures.texts ∙ ap (λ (l : List LineRule). texts_asked given (ruled_load c.args.secrets.now l)) c.as_slice.ensures.same in
+    c.in_ok-texts.ensures.texts ∙ ap (λ (l : List LineRule). texts_asked given (ruled_load c.args.secrets.now l c.args.key)) c.as_slice.ensures.same in
     let written : pieces_of c.as_slice-texts.result.now ≡ texts_asked given load = ap pieces_of c.as_slice-texts.ensures.value ∙ texts in
     let names : name_bytes c.as_slice-names.result.now ≡ names_asked given = ap name_bytes c.as_slice-names.ensures.value ∙ c.in_ok-names.ensures.names in
-    let ruling : ruling_as c.has-words.result rules c.most_of-most.result (fixed_rule (pieces_of c.as_slice-texts.result.now)) (patterns_by_case given (pieces_of c.as_slice-2.result.now)) ≡ ruling_by given load =
-    ap (λ (w : Bool). ruling_as w rules c.most_of-most.result (fixed_rule (pieces_of c.as_slice-texts.result.now)) (patterns_by_case given (pieces_of c.as_slice-2.result.now))) c.has-words.ensures.has
-    ∙ ap (λ (m : ℕ). ruling_as (has AsWord given) rules m (fixed_rule (pieces_of c.as_slice-texts.result.now)) (patterns_by_case given (pieces_of c.as_slice-2.result.now))) c.most_of-most.ensures.most
-    ∙ ap (λ (l : List (List ℕ)). ruling_as (has AsWord given) rules (most_asked given) (fixed_rule l) (patterns_by_case given (pieces_of c.as_slice-2.result.now))) written
-    ∙ ap (λ (l : List (List ℕ)). ruling_as (has AsWord given) rules (most_asked given) (fixed_rule (texts_asked given load)) (patterns_by_case given l)) words in
+    let piece : RunPiecesGhosts.rule c.pieces_by-pieces.result ≡ rule_asked given (texts_asked given load) load.key (length load.secrets) =
+    c.pieces_by-pieces.ensures.rule
+    ∙ ap (λ (l : List (List ℕ)). rule_asked given l load.key (length c.args.secrets.now)) written
+    ∙ ap (λ (n : ℕ). rule_asked given (texts_asked given load) load.key n) (sym (length-map c.args.secrets.now secret_of)) in
+    let ruling : ruling_as c.has-words.result rules c.most_of-most.result (RunPiecesGhosts.rule c.pieces_by-pieces.result) (patterns_by_case given (pieces_of c.as_slice-2.result.now)) ≡ ruling_by given load =
+    ap (λ (w : Bool). ruling_as w rules c.most_of-most.result (RunPiecesGhosts.rule c.pieces_by-pieces.result) (patterns_by_case given (pieces_of c.as_slice-2.result.now))) c.has-words.ensures.has
+    ∙ ap (λ (m : ℕ). ruling_as (has AsWord given) rules m (RunPiecesGhosts.rule c.pieces_by-pieces.result) (patterns_by_case given (pieces_of c.as_slice-2.result.now))) c.most_of-most.ensures.most
+    ∙ ap (λ (r : PieceRule). ruling_as (has AsWord given) rules (most_asked given) r (patterns_by_case given (pieces_of c.as_slice-2.result.now))) piece
+    ∙ ap (λ (l : List (List ℕ)). ruling_as (has AsWord given) rules (most_asked given) (rule_asked given (texts_asked given load) load.key (length load.secrets)) (patterns_by_case given l)) words in
     let lined = c.in_ok-lined.ensures.lined (patterns_by_case given (pieces_of c.as_slice-2.result.now)) c.in_ok-nfa.ensures.of in
     let done = subst (λ (r : Ruling). LinedFiles g.E.Sink (ruled_in g.F.Folder c.args.folder.now r) (name_bytes c.as_slice-names.result.now) (Ok c.in-Ok.all) c.as_mut_slice-tally.result.now c.cover_files-done.new.counts
     (bytes_left c.args.streams.now.input) (bytes_left c.cover_files-done.new.streams.input) (output_bytes g.W.Write c.args.streams.now.output) (output_bytes g.W.Write c.cover_files-done.new.streams.output)
@@ -118,18 +123,22 @@ pub returns-clause-outcome : goal.returns-clause-outcome
 returns-clause-outcome g c =
     let given = all_given c.args.given.now in
     let call = call_of g.F.Folder c.args.folder.now given in
-    let load = ruled_load c.args.secrets.now c.args.line_rules.now in
-    let rules = c.args.line_rules.now in
+    let load = ruled_load c.args.secrets.now c.args.rules.now c.args.key in
+    let rules = c.args.rules.now in
     let words : pieces_of c.as_slice-2.result.now ≡ patterns_in load.secrets = ap pieces_of c.as_slice-2.ensures.value ∙ c.in_ok-patterns.ensures.patterns in
     let texts : pieces_of c.in_ok-texts.texts.items ≡ texts_asked given load =
-    c.in_ok-texts.ensures.texts ∙ ap (λ (l : List LineRule). texts_asked given (ruled_load c.args.secrets.now l)) c.as_slice.ensures.same in
+    c.in_ok-texts.ensures.texts ∙ ap (λ (l : List LineRule). texts_asked given (ruled_load c.args.secrets.now l c.args.key)) c.as_slice.ensures.same in
     let written : pieces_of c.as_slice-texts.result.now ≡ texts_asked given load = ap pieces_of c.as_slice-texts.ensures.value ∙ texts in
     let names : name_bytes c.as_slice-names.result.now ≡ names_asked given = ap name_bytes c.as_slice-names.ensures.value ∙ c.in_ok-names.ensures.names in
-    let ruling : ruling_as c.has-words.result rules c.most_of-most.result (fixed_rule (pieces_of c.as_slice-texts.result.now)) (patterns_by_case given (pieces_of c.as_slice-2.result.now)) ≡ ruling_by given load =
-    ap (λ (w : Bool). ruling_as w rules c.most_of-most.result (fixed_rule (pieces_of c.as_slice-texts.result.now)) (patterns_by_case given (pieces_of c.as_slice-2.result.now))) c.has-words.ensures.has
-    ∙ ap (λ (m : ℕ). ruling_as (has AsWord given) rules m (fixed_rule (pieces_of c.as_slice-texts.result.now)) (patterns_by_case given (pieces_of c.as_slice-2.result.now))) c.most_of-most.ensures.most
-    ∙ ap (λ (l : List (List ℕ)). ruling_as (has AsWord given) rules (most_asked given) (fixed_rule l) (patterns_by_case given (pieces_of c.as_slice-2.result.now))) written
-    ∙ ap (λ (l : List (List ℕ)). ruling_as (has AsWord given) rules (most_asked given) (fixed_rule (texts_asked given load)) (patterns_by_case given l)) words in
+    let piece : RunPiecesGhosts.rule c.pieces_by-pieces.result ≡ rule_asked given (texts_asked given load) load.key (length load.secrets) =
+    c.pieces_by-pieces.ensures.rule
+    ∙ ap (λ (l : List (List ℕ)). rule_asked given l load.key (length c.args.secrets.now)) written
+    ∙ ap (λ (n : ℕ). rule_asked given (texts_asked given load) load.key n) (sym (length-map c.args.secrets.now secret_of)) in
+    let ruling : ruling_as c.has-words.result rules c.most_of-most.result (RunPiecesGhosts.rule c.pieces_by-pieces.result) (patterns_by_case given (pieces_of c.as_slice-2.result.now)) ≡ ruling_by given load =
+    ap (λ (w : Bool). ruling_as w rules c.most_of-most.result (RunPiecesGhosts.rule c.pieces_by-pieces.result) (patterns_by_case given (pieces_of c.as_slice-2.result.now))) c.has-words.ensures.has
+    ∙ ap (λ (m : ℕ). ruling_as (has AsWord given) rules m (RunPiecesGhosts.rule c.pieces_by-pieces.result) (patterns_by_case given (pieces_of c.as_slice-2.result.now))) c.most_of-most.ensures.most
+    ∙ ap (λ (r : PieceRule). ruling_as (has AsWord given) rules (most_asked given) r (patterns_by_case given (pieces_of c.as_slice-2.result.now))) piece
+    ∙ ap (λ (l : List (List ℕ)). ruling_as (has AsWord given) rules (most_asked given) (rule_asked given (texts_asked given load) load.key (length load.secrets)) (patterns_by_case given l)) words in
     let lined = c.in_ok-lined.ensures.lined (patterns_by_case given (pieces_of c.as_slice-2.result.now)) c.in_ok-nfa.ensures.of in
     let done = subst (λ (r : Ruling). LinedFiles g.E.Sink (ruled_in g.F.Folder c.args.folder.now r) (name_bytes c.as_slice-names.result.now) (Err c.in-Err.error) c.as_mut_slice-tally.result.now c.cover_files-done.new.counts
     (bytes_left c.args.streams.now.input) (bytes_left c.cover_files-done.new.streams.input) (output_bytes g.W.Write c.args.streams.now.output) (output_bytes g.W.Write c.cover_files-done.new.streams.output)
