@@ -4,7 +4,7 @@ use Rattle.aho_core.specs.Iteration.{AreFinds}
 use Rattle.aho_core.specs.Occurrence.{Occurrence}
 use Rattle.aho_core.specs.Overlapping.{all_occurrences}
 use Rattle.aho_core.specs.Patterns.{Patterns}
-use Rattle.aho_core.specs.Search.{Search, plain_search}
+use Rattle.aho_core.specs.Search.{plain_search}
 use Rattle.chromesquid_c.specs.declared.options.CsMatch.{CsMatch}
 
 -- a match in C's form
@@ -16,10 +16,6 @@ abbrev pub written_over : {A : Type 0} → List A → List A → List A
 written_over [] items = []
 written_over (old ∷ room) [] = old ∷ room
 written_over (old ∷ room) (item ∷ items) = item ∷ written_over room items
-
--- the search of a haystack from a place on
-abbrev pub search_from_place : ℕ → List ℕ → Search
-search_from_place from haystack = record (plain_search haystack) { start = from }
 
 -- the room holds the first finds, and the count is of all
 pub record ListsFinds (p : Patterns) (haystack : List ℕ) (before after : List CsMatch) (told : ℕ) : Type 0 where

@@ -1,21 +1,19 @@
 //! All matches of a haystack.
 
-ghost use Rattle.std.specs.Prelude.{◌≡◌, ◌≢◌, ◌<◌, ◌≤◌, ◌+◌, IfSome, Some, length, map, min, slice_set};
+ghost use Rattle.std.specs.Prelude.{◌≡◌, ◌≢◌, ◌<◌, ◌≤◌, length, map, min, slice_set};
 ghost use Rattle.std.specs.Iterator.{IsFinite};
 ghost use Rattle.std.specs.Iterator.Runs.{WholeRun};
-ghost use Rattle.aho_core.specs.Answer.{IsAnswer};
-ghost use Rattle.aho_core.specs.Iteration.{IsNextFind};
 ghost use Rattle.chromesquid.specs.Rules.{Answers, ForItsPatterns, No, RefusesSearch, Standard, match_kind_of};
 ghost use Rattle.chromesquid.specs.Searcher.{allows};
 ghost use Rattle.chromesquid_c.specs.Evidence.{IsOfSome};
 ghost use Rattle.chromesquid_c.specs.Holding.{ForPatternsHeld, HoldsSame, IfAnswered, IfHeld, IfRefused, IsEmpty};
-ghost use Rattle.chromesquid_c.specs.Matches.{ListsFinds, ListsOccurrences, match_of, search_from_place, written_over};
+ghost use Rattle.chromesquid_c.specs.Matches.{ListsFinds, ListsOccurrences, match_of, written_over};
 
 use crate::handle::CsSearcher;
 use crate::options::CsMatch;
 use crate::search::form_of;
 use crate::status::{DONE, NO_SEARCHER, REFUSED};
-use chromesquid::{AhoCorasick, Input, Match, Span, StartKind};
+use chromesquid::{AhoCorasick, Match, StartKind};
 
 /// Puts a match at this place, if there is one.
 fn put(room: &mut [CsMatch], at: usize, found: &Match)
@@ -27,45 +25,19 @@ fn put(room: &mut [CsMatch], at: usize, found: &Match)
     }
 }
 
-/// The match of the haystack from a place on.
-fn find_from(searcher: &AhoCorasick, haystack: &[u8], from: usize) -> Option<Match>
-    requires some { IsOfSome searcher.now }
-    requires starts { Answers searcher.now No }
-    requires ordered { from ≤ length haystack.now + 1 }
-    ensures found { ForItsPatterns searcher.now (λ p.
-        IsAnswer p (search_from_place from haystack.now) result) }
-    ensures inside { IfSome result (λ m. (from ≤ m.start) × (m.end ≤ length haystack.now)) }
+/// Puts what comes one after another, as far as there is room, and answers how many came, or 2^64 - 1 where more did.
+fn list_all<I: Iterator<Item = Match> + Drop>(matches: I, room: &mut [CsMatch]) -> usize
+    requires ready { I.can_next matches }
+    requires finite { IsFinite (I.remaining matches) }
+    ensures lists { WholeRun I.next_gives matches (λ run. (result ≡ min (length run.items) usize.MAX)
+        × (room.new ≡ written_over room.old (map match_of run.items))) }
 {
-    let rest = Span {
-        start: from,
-        end: haystack.len(),
-    };
-    searcher.find(Input::new(haystack).span(rest))
-}
-
-/// The match that comes next, where the last one ended at `last`: none is an empty match there.
-fn find_next(
-    searcher: &AhoCorasick,
-    haystack: &[u8],
-    from: usize,
-    last: Option<usize>,
-) -> Option<Match>
-    requires some { IsOfSome searcher.now }
-    requires starts { Answers searcher.now No }
-    requires within { from ≤ length haystack.now }
-    ensures next { ForItsPatterns searcher.now (λ p.
-        IsNextFind p (search_from_place from haystack.now) last result) }
-    ensures within { IfSome result (λ m. m.end ≤ length haystack.now) }
-    ensures past { last ≡ Some from → IfSome result (λ m. from < m.end) }
-{
-    let found = find_from(searcher, haystack, from);
-    if let (Some(m), Some(last)) = (found, last)
-        && m.is_empty()
-        && m.end() == last
-    {
-        return find_from(searcher, haystack, from + 1);
+    let mut seen = 0usize;
+    for found in matches {
+        put(room, seen, &found);
+        seen = seen.saturating_add(1);
     }
-    found
+    seen
 }
 
 /// Puts the finds one after another, as far as there is room, and answers how many there are.
@@ -75,16 +47,7 @@ fn list_finds(searcher: &AhoCorasick, haystack: &[u8], room: &mut [CsMatch]) -> 
     ensures lists { ForItsPatterns searcher.now (λ p.
         ListsFinds p haystack.now room.old room.new result) }
 {
-    let mut seen = 0;
-    let mut from = 0;
-    let mut last = None;
-    while let Some(m) = find_next(searcher, haystack, from, last) {
-        put(room, seen, &m);
-        seen += 1;
-        from = m.end();
-        last = Some(from);
-    }
-    seen
+    list_all(searcher.find_iter(haystack), room)
 }
 
 /// Whether the searcher answers searches that are not anchored.
@@ -146,21 +109,6 @@ pub extern "C" fn cs_find_all(
     } else {
         NO_SEARCHER
     }
-}
-
-/// Puts what comes one after another, as far as there is room, and answers how many came, or 2^64 - 1 where more did.
-fn list_all<I: Iterator<Item = Match> + Drop>(matches: I, room: &mut [CsMatch]) -> usize
-    requires ready { I.can_next matches }
-    requires finite { IsFinite (I.remaining matches) }
-    ensures lists { WholeRun I.next_gives matches (λ run. (result ≡ min (length run.items) usize.MAX)
-        × (room.new ≡ written_over room.old (map match_of run.items))) }
-{
-    let mut seen = 0usize;
-    for found in matches {
-        put(room, seen, &found);
-        seen = seen.saturating_add(1);
-    }
-    seen
 }
 
 /// Puts all occurrences and their count, where the searcher lists them.
