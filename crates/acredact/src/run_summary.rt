@@ -35,7 +35,10 @@ pub fn put_run_summary(
 fn put_rules(text: &mut Vec<u8>, rules: &[LineRule], runs: &[u64]) -> Result<(), AllocError>
     ensures put { OnOk result (PutsText text.old text.new (rules_listed rules.now runs.now)) }
 {
-    if rules.is_empty() || runs.is_empty() {
+    if rules.is_empty() {
+        return Ok(());
+    }
+    if runs.is_empty() {
         return Ok(());
     }
     put_rule(text, &rules[0], runs[0])?;
