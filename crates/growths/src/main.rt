@@ -2,9 +2,9 @@
 //! was refused, and `refused` where one was and the call told it, left what it should and then, made again, answered right.
 //!
 //! `.ci/growths` runs it once for each growth of a call, under a library that refuses that one growth. The calls are `new`,
-//! `build`, `clone`, `text`, `bytes`, `text-with`, `bytes-with` (replacement in memory), `chunks`, `stream`, `stream-with` and `remapper`. The settings of
-//! a build are `first` or `longest` (Standard without either), `-i`, `sparse` (no dense rows) and `bare` (no prefilter), in any
-//! order.
+//! `build`, `clone`, `levels` and `levels-clone` (of the automaton of many patterns), `text`, `bytes`, `text-with`, `bytes-with`
+//! (replacement in memory), `chunks`, `stream`, `stream-with` and `remapper`. The settings of a build are `first` or `longest`
+//! (Standard without either), `-i`, `sparse` (no dense rows) and `bare` (no prefilter), in any order.
 //!
 //! Other calls grow nothing: `searches` (also iteration, steps, and what an automaton tells), `lends`, `advances`, `finds` and
 //! `replaces` (of streams that have begun), `states`, `buffers` and `renumbers`. They are made twice, and between the two a byte of the
@@ -17,6 +17,7 @@
 mod answers;
 mod builds;
 mod chains;
+mod levels;
 mod reading;
 mod replacing;
 mod searching;
@@ -90,6 +91,8 @@ fn call<R: Read>(
         "new" => builds::new(alloc, want),
         "build" => builds::build(alloc, &builder, want),
         "clone" => builds::clone(alloc, &builder, want),
+        "levels" => levels::build(alloc, settings, want),
+        "levels-clone" => levels::clone(alloc, settings, want),
         "text" => replacing::text(alloc, want),
         "bytes" => replacing::bytes(alloc, want),
         "text-with" => replacing::text_with(alloc, want),
