@@ -1,6 +1,6 @@
 -- What comes of a call with rules, and its status.
 use Rattle.std.proofs.Common.{◌≡◌, ◌<◌, inl, inr, ℕ, ◌-◌, List, [], ◌∷◌, Option, true, false, refl, sym, ap, subst, ◌+◌, ◌++◌, ◌∙◌, append-nil, length, length-append, map, arith}
-use Rattle.std.specs.Prelude.{Bool, MatchBool, Result, Ok, Err, IfOk, OnOk, min, replicate, slice_index, ◌^◌, ◌==◌, if◌then◌else◌}
+use Rattle.std.specs.Prelude.{Bool, MatchBool, Result, Ok, Err, IfOk, IsErr, IsErrAnd, OnOk, min, replicate, slice_index, ◌^◌, ◌==◌, if◌then◌else◌}
 use Rattle.std.proofs.KnownBytes.{Keeps-refl}
 use Rattle.std.proofs.lemmas.List.{get_or-replicate, length-map, length-replicate}
 use Rattle.std.proofs.lemmas.List.Elements.{All-cons, All-nil}
@@ -45,6 +45,11 @@ ok_is a b same = let is = same in cc
 answers_all : (all done : Bool) (result : Result Bool RuledFailure) → IfOk result (λ done. done ≡ all) → result ≡ Ok done → all ≡ done
 answers_all all done (Ok other) same is = sym same ∙ ok_is other done is
 answers_all all done (Err failure) same is = absurd (cc)
+
+-- why it ended early
+pub failed_as : (result : Result Bool RuledFailure) (failure : RuledFailure) → IsErr result → IsErrAnd result (λ other. other ≡ failure) → result ≡ Err failure
+failed_as (Ok all) failure is and = absurd (cc)
+failed_as (Err other) failure is and = ap Err and
 
 on_all : {P : Type 0} (done : Bool) (result : Result Bool RuledFailure) → OnOk result P → result ≡ Ok done → P
 on_all done (Ok other) holds is = holds

@@ -26,7 +26,7 @@ use Rattle.acredact.specs.declared.failure.Failure.TheVariants.{Other}
 use Rattle.acredact.specs.declared.ruled_failure.RuledFailure.{RuledFailure}
 use Rattle.acredact.specs.declared.ruled_failure.RuledFailure.TheVariants.{LineEnd, Plain}
 use Rattle.acredact.proofs.Ready.{some_shortest}
-use Rattle.acredact.proofs.RuledCalls.{files_done, files_failed, ruled_none, texts_many}
+use Rattle.acredact.proofs.RuledCalls.{failed_as, files_done, files_failed, ruled_none, texts_many}
 use Rattle.acredact.proofs.RuledText.{can_search}
 use Rattle.acredact.proofs.ruled.redact_ruled.Goals as goal
 
@@ -60,13 +60,13 @@ returns-in_err-nfa-clause-outcome g c =
 
 pub returns-in_err-counts-clause-outcome : goal.returns-in_err-counts-clause-outcome
 returns-in_err-counts-clause-outcome g c =
-    let is : c.from_residual-in_err-counts.result ≡ Err (Plain (Other OutOfMemory)) = search rules in
+    let is : c.from_residual-in_err-counts.result ≡ Err (Plain (Other OutOfMemory)) = failed_as c.from_residual-in_err-counts.result (Plain (Other OutOfMemory)) c.from_residual-in_err-counts.ensures.0 c.from_residual-in_err-counts.ensures.1 in
     subst (λ (r : Result Bool RuledFailure). LoadedRuled g.W.Write g.E.Sink g.F.Folder c.args.folder.now c.args.given.now c.args.secrets.now c.args.rules.now c.args.key r c.args.streams.now c.args.streams.now) (sym is)
     (ruled_none g.E.Sink (call_of g.F.Folder c.args.folder.now (all_given c.args.given.now)) (ruled_load c.args.secrets.now c.args.rules.now c.args.key) (Plain (Other OutOfMemory)) _ _ _)
 
 pub returns-in_err-lined-clause-outcome : goal.returns-in_err-lined-clause-outcome
 returns-in_err-lined-clause-outcome g c =
-    let is : c.from_residual-in_err-lined.result ≡ Err (Plain (Other (Build c.in_err-lined.field-0.0))) = search rules in
+    let is : c.from_residual-in_err-lined.result ≡ Err (Plain (Other (Build c.in_err-lined.field-0.0))) = failed_as c.from_residual-in_err-lined.result (Plain (Other (Build c.in_err-lined.field-0.0))) c.from_residual-in_err-lined.ensures.0 c.from_residual-in_err-lined.ensures.1 in
     subst (λ (r : Result Bool RuledFailure). LoadedRuled g.W.Write g.E.Sink g.F.Folder c.args.folder.now c.args.given.now c.args.secrets.now c.args.rules.now c.args.key r c.args.streams.now c.args.streams.now) (sym is)
     (ruled_none g.E.Sink (call_of g.F.Folder c.args.folder.now (all_given c.args.given.now)) (ruled_load c.args.secrets.now c.args.rules.now c.args.key) (Plain (Other (Build c.in_err-lined.field-0.0))) _ _ _)
 
