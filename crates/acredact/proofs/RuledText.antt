@@ -18,9 +18,8 @@ use Rattle.aho_cover.specs.declared.pieces.Pieces.{Ghosts as PieceGhosts}
 use Rattle.aho_cover.proofs.Copied.{begins_longer}
 use Rattle.aho_devices.specs.declared.device.Sink.{Ghosts as SinkGhosts}
 use Rattle.aho_devices.specs.declared.device.Source.{Ghosts as SourceGhosts}
-use Rattle.aho_stream.specs.Replacing.{MayBe, SourceGave}
-use Rattle.programs.specs.declared.reason.Reason.{Reason}
-use Rattle.secret_rules.specs.Covering.{AreLineRuns, Covering, covering_by, lines_cover}
+use Rattle.aho_stream.specs.Replacing.{SourceGave}
+use Rattle.secret_rules.specs.Covering.{Covering, covering_by, lines_cover}
 use Rattle.secret_rules.specs.LineCovers.{AreSearchedFor, BeginsLines, BeginsNextLine, CoversLines, CoversWholeLines, LeavesLines, all_of}
 use Rattle.secret_rules.specs.Lines.{Line, stream_lines}
 use Rattle.secret_rules.specs.OpenLines.{CanSearch}
@@ -30,7 +29,7 @@ use Rattle.secret_rules.specs.declared.error.LineError.{LineError}
 use Rattle.secret_rules.specs.declared.error.LineError.TheVariants.{Mark, Stream}
 use Rattle.secret_rules.specs.declared.rule.Rule.{Rule}
 use Rattle.secret_rules.proofs.LineRuns.{lines_cover-append}
-use Rattle.acredact.specs.Ruled.{BeginsLinesText, IsLined, IsLinesRedaction, LeavesLined, LinesOutcome, RedactsLines, Ruling, WritesLines, ruling_as, unread_of}
+use Rattle.acredact.specs.Ruled.{BeginsLinesText, IsLined, LeavesLined, LinesOutcome, RedactsLines, Ruling, WritesLines, ruling_as, unread_of}
 use Rattle.acredact.specs.RunCounts.{CountsTextRuns, HasRuns}
 use Rattle.acredact.specs.declared.ruled_files.Lined.{Lined}
 use Rattle.acredact.proofs.OneFile.{ends_by, known_read}

@@ -1,5 +1,5 @@
 -- What is known of the metered source is known of the source.
-use Rattle.std.proofs.Common.{◌∙◌, ℕ, Bool, List, arith, refl, sym}
+use Rattle.std.proofs.Common.{◌∙◌, arith, refl, sym}
 use Rattle.std.proofs.lemmas.Result.{on_ok_weaker}
 use Rattle.secret_rules.specs.LineCovers.{AreSearchedFor}
 use Rattle.secret_rules.specs.Ready.{most_of, rules_of, searched_automaton, words_of}
