@@ -67,13 +67,20 @@ pub outcome_there : {R W : Type 0} (S : SourceGhosts R) (K : SinkGhosts W) (r : 
     → StreamOutcome S K r result source there sink sink' → StreamOutcome S K r result source there' sink sink'
 outcome_there S K r result source there there' sink sink' same of = subst (λ s. StreamOutcome S K r result source s sink sink') same of
 
+-- what one source gave another did, of which no less is known
+pub gave_by : {Q R : Type 0} (P : SourceGhosts Q) (S : SourceGhosts R) (other other' : Q) (source source' : R)
+    → ((text : List ℕ) → Consumes (P.remaining other) (P.remaining other') text → Consumes (S.remaining source) (S.remaining source') text)
+    → P.empty_reads other ≡ S.empty_reads source → P.empty_reads other' ≡ S.empty_reads source' → (text : List ℕ) (ended : Bool) → SourceGave P other other' text ended → SourceGave S source source' text ended
+gave_by P S other other' source source' reads empty_reads empty_reads' text ended gave =
+    record { bytes = reads text gave.bytes; end = sym empty_reads' ∙ gave.end ∙ ap (counted ended) empty_reads }
+
 -- one source in the place of another, of which no less is known
 module _ {Q R W : Type 0} (P : SourceGhosts Q) (S : SourceGhosts R) (K : SinkGhosts W) (r : Redactor) (other other' : Q) (source source' : R) (sink sink' : W)
     (reads : (text : List ℕ) → Consumes (P.remaining other) (P.remaining other') text → Consumes (S.remaining source) (S.remaining source') text)
     (failures : P.failures other ≡ S.failures source) (failures' : P.failures other' ≡ S.failures source')
     (empty_reads : P.empty_reads other ≡ S.empty_reads source) (empty_reads' : P.empty_reads other' ≡ S.empty_reads source') where
   pub gave_as : (text : List ℕ) (ended : Bool) → SourceGave P other other' text ended → SourceGave S source source' text ended
-  gave_as text ended gave = record { bytes = reads text gave.bytes; end = sym empty_reads' ∙ gave.end ∙ ap (counted ended) empty_reads }
+  gave_as text ended gave = gave_by P S other other' source source' reads empty_reads empty_reads' text ended gave
 
   redacts_as : RedactsStream P K r other other' sink sink' → RedactsStream S K r source source' sink sink'
   redacts_as whole = record { text = whole.text; gives = gave_as whole.text true whole.gives; redaction = whole.redaction; redacts = whole.redacts; written = whole.written }

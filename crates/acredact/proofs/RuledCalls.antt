@@ -1,6 +1,6 @@
 -- What comes of a call with rules, and its status.
 use Rattle.std.proofs.Common.{◌≡◌, ◌<◌, inl, inr, ℕ, ◌-◌, List, [], ◌∷◌, Option, true, false, refl, sym, ap, subst, ◌+◌, ◌++◌, ◌∙◌, append-nil, length, length-append, map, arith}
-use Rattle.std.specs.Prelude.{Bool, MatchBool, Result, Ok, Err, IfOk, OnOk, min, replicate, slice_index, ◌^◌, ◌==◌, if◌then◌else◌}
+use Rattle.std.specs.Prelude.{Bool, MatchBool, Result, Ok, Err, IfOk, IsErr, IsErrAnd, OnOk, min, replicate, slice_index, ◌^◌, ◌==◌, if◌then◌else◌}
 use Rattle.std.proofs.KnownBytes.{Keeps-refl}
 use Rattle.std.proofs.lemmas.List.{get_or-replicate, length-map, length-replicate}
 use Rattle.std.proofs.lemmas.List.Elements.{All-cons, All-nil}
@@ -11,21 +11,23 @@ use Rattle.programs.specs.Telling.{Tells, TellsBytes}
 use Rattle.programs.specs.declared.errors.Errors.{Errors}
 use Rattle.secret_rules.specs.declared.error.LineError.{LineError}
 use Rattle.secret_rules.specs.declared.rule.Rule.{Rule}
-use Rattle.acredact.specs.Arguments.{Given, has}
+use Rattle.acredact.specs.Arguments.{Given, counts_asked}
 use Rattle.acredact.specs.Calls.{Call, IsUnreadLine, names_asked, pieces_asked, reading_by, text_asked}
 use Rattle.acredact.specs.Doubts.{TellsDoubts, all_doubt_lines, last_of}
 use Rattle.acredact.specs.Failures.{IsFailureLine}
 use Rattle.acredact.specs.LineRules.{most_asked}
 use Rattle.acredact.specs.RuleLines.{IsRuledLine, too_long_line}
 use Rattle.acredact.specs.LongLines.{long_told, whole_number}
-use Rattle.acredact.specs.RunCounts.{CountsAllRuns, IsRunsLine, TellsAnyTotals, TellsRunCounts, TellsRunTotals, run_counts_text}
+use Rattle.acredact.specs.RunCounts.{CountsAllRuns, IsRunsLine, TellsAnyTotals, TellsRunCounts, TellsRunTotals, run_totals_text}
 use Rattle.acredact.specs.Ruled.{AreRuledLoaded, CountsByRules, DoubtedRuled, IsRuledNotice, IsRuledTold, LinedFiles, NotesByRules, NumbersOf, RuledCall, RuledLoad, RuledOutcome, RuledStatus, TellsRuled, own_text, ruled_by, ruling_by, texts_asked}
+use Rattle.acredact.specs.Summaries.{no_volume}
 use Rattle.acredact.specs.Tables.{Secret, piece_by}
 use Rattle.acredact.specs.Totals.{AreTotals}
-use Rattle.acredact.specs.declared.arguments.Word.TheVariants.{Count}
+use Rattle.acredact.specs.Volumes.{ReadsVolume}
 use Rattle.acredact.specs.declared.failure.Failure.{Failure}
 use Rattle.acredact.specs.declared.ruled_failure.RuledFailure.{RuledFailure}
 use Rattle.acredact.specs.declared.ruled_failure.RuledFailure.TheVariants.{Plain}
+use Rattle.acredact.specs.declared.summary.Volume.{Volume}
 use Rattle.acredact.proofs.Calls.{tells_last, tells_same}
 use Rattle.acredact.proofs.LongLines.{long_of_runs}
 use Rattle.acredact.proofs.PlacedCalls.{tells_weaker}
@@ -43,6 +45,11 @@ ok_is a b same = let is = same in cc
 answers_all : (all done : Bool) (result : Result Bool RuledFailure) → IfOk result (λ done. done ≡ all) → result ≡ Ok done → all ≡ done
 answers_all all done (Ok other) same is = sym same ∙ ok_is other done is
 answers_all all done (Err failure) same is = absurd (cc)
+
+-- why it ended early
+pub failed_as : (result : Result Bool RuledFailure) (failure : RuledFailure) → IsErr result → IsErrAnd result (λ other. other ≡ failure) → result ≡ Err failure
+failed_as (Ok all) failure is and = absurd (cc)
+failed_as (Err other) failure is and = ap Err and
 
 on_all : {P : Type 0} (done : Bool) (result : Result Bool RuledFailure) → OnOk result P → result ≡ Ok done → P
 on_all done (Ok other) holds is = holds
@@ -70,12 +77,12 @@ whole_is : (given : List Given) (load : RuledLoad) → whole_number (ruling_by g
 whole_is given load = ap (λ (n : ℕ). n + length load.rules) (length-map load.secrets (λ secret. secret.pattern))
 
 -- the counts were told
-pub runs_told : {E : Type 0} (K : SinkGhosts E) (given : List Given) (secrets : List Secret) (rules : List Rule) (counts : List ℕ) (errors errors' : Errors E) → has Count given ≡ true
-    → TellsBytes K errors errors' (run_counts_text secrets rules counts) → Tells K (IsRunsLine given) errors errors'
-runs_told K given secrets rules counts errors errors' is told = record {
-  told = run_counts_text secrets rules counts ∷ [];
-  are_lines = All-cons (IsRunsLine given) (run_counts_text secrets rules counts) [] (is, secrets, rules, counts, refl) (All-nil (IsRunsLine given));
-  written = subst (TellsBytes K errors errors') (sym (append-nil (run_counts_text secrets rules counts))) told;
+pub runs_told : {E : Type 0} (K : SinkGhosts E) (given : List Given) (secrets : List Secret) (rules : List Rule) (counts : List ℕ) (volume : Volume) (errors errors' : Errors E) → counts_asked given ≡ true
+    → TellsBytes K errors errors' (run_totals_text given secrets rules counts volume) → Tells K (IsRunsLine given) errors errors'
+runs_told K given secrets rules counts volume errors errors' is told = record {
+  told = run_totals_text given secrets rules counts volume ∷ [];
+  are_lines = All-cons (IsRunsLine given) (run_totals_text given secrets rules counts volume) [] (is, secrets, rules, counts, volume, refl) (All-nil (IsRunsLine given));
+  written = subst (TellsBytes K errors errors') (sym (append-nil (run_totals_text given secrets rules counts volume))) told;
 }
 
 -- there is a text for each pattern, each rule, and lines that are too long
@@ -91,13 +98,13 @@ texts_many given load =
     )
 
 -- the counts are told where they are asked for
-abbrev pub TellsCountsAny : {E : Type 0} → SinkGhosts E → List Given → RuledLoad → (counts : List ℕ) → (errors errors' : Errors E) → Type 0
-TellsCountsAny K given load counts errors errors' = MatchBool (has Count given) (TellsRunCounts K load.secrets load.rules counts errors errors') (errors' ≡ errors)
+abbrev pub TellsCountsAny : {E : Type 0} → SinkGhosts E → List Given → RuledLoad → (counts : List ℕ) → Volume → (errors errors' : Errors E) → Type 0
+TellsCountsAny K given load counts volume errors errors' = MatchBool (counts_asked given) (TellsRunCounts K given load.secrets load.rules counts volume errors errors') (errors' ≡ errors)
 
-any_totals : {E : Type 0} (K : SinkGhosts E) (load : RuledLoad) (runs : List Occurrence) (counts : List ℕ) (errors errors' : Errors E) → AreTotals (length load.secrets + length load.rules + 1) runs counts → (b : Bool)
-    → MatchBool b (TellsRunCounts K load.secrets load.rules counts errors errors') (errors' ≡ errors) → MatchBool b (TellsRunTotals K load.secrets load.rules runs errors errors') (errors' ≡ errors)
-any_totals K load runs counts errors errors' totals true whole = record { counts = counts; totals = totals; told = whole }
-any_totals K load runs counts errors errors' totals false same = same
+any_totals : {E : Type 0} (K : SinkGhosts E) (given : List Given) (load : RuledLoad) (runs : List Occurrence) (counts : List ℕ) (volume : Volume) (errors errors' : Errors E) → AreTotals (length load.secrets + length load.rules + 1) runs counts → (b : Bool)
+    → MatchBool b (TellsRunCounts K given load.secrets load.rules counts volume errors errors') (errors' ≡ errors) → MatchBool b (TellsRunTotals K given load.secrets load.rules runs volume errors errors') (errors' ≡ errors)
+any_totals K given load runs counts volume errors errors' totals true whole = record { counts = counts; totals = totals; told = whole }
+any_totals K given load runs counts volume errors errors' totals false same = same
 
 module _ {E : Type 0} (K : SinkGhosts E) (call : Call) where
   -- the arguments were refused, or there was no memory to read them
@@ -196,11 +203,11 @@ module _ {E : Type 0} (K : SinkGhosts E) (call : Call) where
   counts_lines : (errors errors' : Errors E) → Tells K (IsRunsLine call.given) errors errors' → Tells K (IsRuledTold call) errors errors'
   counts_lines errors errors' told = tells_weaker K (IsRunsLine call.given) (IsRuledTold call) errors errors' (λ line is. inr (inr (inr (inr is)))) told
 
-  totals_lines : (secrets : List Secret) (rules : List Rule) (runs : List Occurrence) (errors errors' : Errors E) → TellsAnyTotals K call.given secrets rules runs errors errors' → Tells K (IsRuledTold call) errors errors'
-  totals_lines secrets rules runs errors errors' told = by (has Count call.given) refl told
+  totals_lines : (secrets : List Secret) (rules : List Rule) (runs : List Occurrence) (volume : Volume) (errors errors' : Errors E) → TellsAnyTotals K call.given secrets rules runs volume errors errors' → Tells K (IsRuledTold call) errors errors'
+  totals_lines secrets rules runs volume errors errors' told = by (counts_asked call.given) refl told
     where
-      by : (b : Bool) → has Count call.given ≡ b → MatchBool b (TellsRunTotals K secrets rules runs errors errors') (errors' ≡ errors) → Tells K (IsRuledTold call) errors errors'
-      by true is totals = counts_lines errors errors' (runs_told K call.given secrets rules totals.counts errors errors' is totals.told.told)
+      by : (b : Bool) → counts_asked call.given ≡ b → MatchBool b (TellsRunTotals K call.given secrets rules runs volume errors errors') (errors' ≡ errors) → Tells K (IsRuledTold call) errors errors'
+      by true is totals = counts_lines errors errors' (runs_told K call.given secrets rules totals.counts volume errors errors' is totals.told.told)
       by false is same = tells_same K (IsRuledTold call) errors errors' same
 
   -- what is told where all was redacted
@@ -210,11 +217,11 @@ module _ {E : Type 0} (K : SinkGhosts E) (call : Call) where
       let numbers = notes.numbers in
       let doubts = tells_weaker K (IsRuledNotice call) (IsRuledTold call) errors notes.meanwhile notice_told (doubts_told of.load.secrets errors notes.meanwhile notes.doubted) in
       let long = long_lines (min numbers.long.count (2 ^ 64 - 1)) notes.meanwhile numbers.meanwhile numbers.long.told in
-      let counts = totals_lines of.load.secrets of.load.rules numbers.runs numbers.meanwhile errors' numbers.counted in
+      let counts = totals_lines of.load.secrets of.load.rules numbers.runs numbers.volume numbers.meanwhile errors' numbers.counted in
       all_then K (IsRuledTold call) errors notes.meanwhile errors' doubts (all_then K (IsRuledTold call) notes.meanwhile numbers.meanwhile errors' long counts)
 
   -- and the counts, where they are asked for
-  pub counts_by_rules : (left left' : Option (List ℕ)) (errors errors' : Errors E) → has Count call.given ≡ true → NotesByRules K call left left' errors errors' → CountsByRules K call left left' errors'
+  pub counts_by_rules : (left left' : Option (List ℕ)) (errors errors' : Errors E) → counts_asked call.given ≡ true → NotesByRules K call left left' errors errors' → CountsByRules K call left left' errors'
   counts_by_rules left left' errors errors' is of =
       let numbers = of.notes.numbers in
       record {
@@ -223,16 +230,18 @@ module _ {E : Type 0} (K : SinkGhosts E) (call : Call) where
         loaded = of.loaded;
         runs = numbers.runs;
         have = numbers.have;
+        volume = numbers.volume;
+        read = numbers.read;
         meanwhile = numbers.meanwhile;
-        counted = subst (λ (b : Bool). MatchBool b (TellsRunTotals K of.load.secrets of.load.rules numbers.runs numbers.meanwhile errors') (errors' ≡ numbers.meanwhile)) is numbers.counted;
+        counted = subst (λ (b : Bool). MatchBool b (TellsRunTotals K call.given of.load.secrets of.load.rules numbers.runs numbers.volume numbers.meanwhile errors') (errors' ≡ numbers.meanwhile)) is numbers.counted;
       }
 
   -- what is told behind files that were all read to their ends: counts began at zero
-  numbers_of : (load : RuledLoad) (size : ℕ) (zeros counts' : List ℕ) (left left' : Option (List ℕ)) (errors second errors' : Errors E) → zeros ≡ replicate size 0 → size ≡ length load.secrets + length load.rules + 1
-      → CountsAllRuns call.holds (ruling_by call.given load).covering (names_asked call.given) left left' zeros counts'
-      → TellsBytes K errors second (long_told (most_asked call.given) (last_of counts')) → TellsCountsAny K call.given load counts' second errors'
+  numbers_of : (load : RuledLoad) (size : ℕ) (zeros counts' : List ℕ) (volume : Volume) (left left' : Option (List ℕ)) (errors second errors' : Errors E) → zeros ≡ replicate size 0 → size ≡ length load.secrets + length load.rules + 1
+      → CountsAllRuns call.holds (ruling_by call.given load).covering (names_asked call.given) left left' zeros counts' → ReadsVolume call.holds (names_asked call.given) no_volume volume left left'
+      → TellsBytes K errors second (long_told (most_asked call.given) (last_of counts')) → TellsCountsAny K call.given load counts' volume second errors'
       → NumbersOf K call load left left' errors errors'
-  numbers_of load size zeros counts' left left' errors second errors' are sized (runs, have, grown) long told =
+  numbers_of load size zeros counts' volume left left' errors second errors' are sized (runs, have, grown) read long told =
       let totals = totals_of (length load.secrets + length load.rules) size runs zeros counts' are sized grown in
       let covering = (ruling_by call.given load).covering in
       record {
@@ -244,15 +253,18 @@ module _ {E : Type 0} (K : SinkGhosts E) (call : Call) where
         };
         runs = runs;
         have = have;
-        counted = any_totals K load runs counts' second errors' totals (has Count call.given) told;
+        volume = volume;
+        read = read;
+        counted = any_totals K call.given load runs counts' volume second errors' totals (counts_asked call.given) told;
       }
 
   -- the files were redacted, it is told how many lines were too long, and then the counts
-  pub files_done : (load : RuledLoad) (all : Bool) (result : Result Bool RuledFailure) (size : ℕ) (zeros counts' : List ℕ) (left left' held held' : Option (List ℕ)) (errors first second errors' : Errors E)
+  pub files_done : (load : RuledLoad) (all : Bool) (result : Result Bool RuledFailure) (size : ℕ) (zeros counts' : List ℕ) (volume : Volume) (left left' held held' : Option (List ℕ)) (errors first second errors' : Errors E)
       → LinedFiles K (ruled_by call load) (names_asked call.given) (Ok all) zeros counts' left left' held held' errors first → zeros ≡ replicate size 0 → size ≡ length load.secrets + length load.rules + 1
-      → TellsBytes K first second (long_told (most_asked call.given) (last_of counts')) → IfOk result (λ done. done ≡ all) → OnOk result (TellsCountsAny K call.given load counts' second errors')
+      → (all ≡ true → ReadsVolume call.holds (names_asked call.given) no_volume volume left left')
+      → TellsBytes K first second (long_told (most_asked call.given) (last_of counts')) → IfOk result (λ done. done ≡ all) → OnOk result (TellsCountsAny K call.given load counts' volume second errors')
       → Tells K (IsRunsLine call.given) second errors' → RuledOutcome K call load result left left' held held' errors errors'
-  files_done load all result size zeros counts' left left' held held' errors first second errors' files are sized long same told lines =
+  files_done load all result size zeros counts' volume left left' held held' errors first second errors' files are sized read long same told lines =
       let unread = λ (line : List ℕ) (is : IsUnreadLine (names_asked call.given) line). inl is in
       let later = all_then K (IsRuledTold call) first second errors' (long_lines (last_of counts') first second long) (counts_lines second errors' lines) in
       record {
@@ -265,7 +277,7 @@ module _ {E : Type 0} (K : SinkGhosts E) (call : Call) where
         };
         notes = λ is.
             let whole = answers_all all true result same is in
-            numbers_of load size zeros counts' left left' errors second errors' are sized (files.counted (ap Ok whole))
+            numbers_of load size zeros counts' volume left left' errors second errors' are sized (files.counted (ap Ok whole)) (read whole)
             (subst (λ (e : Errors E). TellsBytes K e second (long_told (most_asked call.given) (last_of counts'))) (files.quiet (ap Ok whole)) long)
             (on_all true result told is);
       }

@@ -1,10 +1,11 @@
 -- What comes of a text, by what a cover of its lines leaves.
 use Rattle.std.proofs.Common.{◌≡◌, ◌≢◌, inl, inr, ℕ, List, [], ◌∷◌, ◌++◌, Option, true, false, ◌≤◌, length, map, refl, sym, ap, subst, ◌∙◌, arith}
-use Rattle.std.specs.Prelude.{Bool, IfSome, IsOk, None, Some, Result, Ok, Err}
+use Rattle.std.specs.Prelude.{Bool, IfSome, IsOk, None, OnErr, OnOk, Some, Result, Ok, Err}
 use Rattle.std.specs.Borrow.{Bor}
 use Rattle.std.specs.Io.{StartsWith}
 use Rattle.std.specs.Io.KnownBytes.{Consumes, IsAtEnd, Keeps}
 use Rattle.std.proofs.KnownBytes.{Appends-nil, Consumes-nil}
+use Rattle.std.proofs.lemmas.Result.{IfErr-weaker, on_ok_weaker}
 use Rattle.aho_core.specs.Laws.{shortest}
 use Rattle.aho_core.specs.Occurrence.{Occurrence}
 use Rattle.aho_core.specs.Patterns.{Patterns}
@@ -17,10 +18,10 @@ use Rattle.aho_cover.specs.declared.pieces.Pieces.{Ghosts as PieceGhosts}
 use Rattle.aho_cover.proofs.Copied.{begins_longer}
 use Rattle.aho_devices.specs.declared.device.Sink.{Ghosts as SinkGhosts}
 use Rattle.aho_devices.specs.declared.device.Source.{Ghosts as SourceGhosts}
-use Rattle.aho_stream.specs.Replacing.{MayBe}
+use Rattle.aho_stream.specs.Replacing.{MayBe, SourceGave}
 use Rattle.programs.specs.declared.reason.Reason.{Reason}
 use Rattle.secret_rules.specs.Covering.{AreLineRuns, Covering, covering_by, lines_cover}
-use Rattle.secret_rules.specs.LineCovers.{AreSearchedFor, BeginsLines, BeginsNextLine, CoversLines, LeavesLines, all_of}
+use Rattle.secret_rules.specs.LineCovers.{AreSearchedFor, BeginsLines, BeginsNextLine, CoversLines, CoversWholeLines, LeavesLines, all_of}
 use Rattle.secret_rules.specs.Lines.{Line, stream_lines}
 use Rattle.secret_rules.specs.OpenLines.{CanSearch}
 use Rattle.secret_rules.specs.Ready.{CanCoverLines, CoversTheSame, most_of, rules_of, searched_automaton, words_of}
@@ -29,7 +30,7 @@ use Rattle.secret_rules.specs.declared.error.LineError.{LineError}
 use Rattle.secret_rules.specs.declared.error.LineError.TheVariants.{Mark, Stream}
 use Rattle.secret_rules.specs.declared.rule.Rule.{Rule}
 use Rattle.secret_rules.proofs.LineRuns.{lines_cover-append}
-use Rattle.acredact.specs.Ruled.{BeginsLinesText, IsLined, IsLinesRedaction, LinesOutcome, RedactsLines, Ruling, WritesLines, ruling_as, unread_of}
+use Rattle.acredact.specs.Ruled.{BeginsLinesText, IsLined, IsLinesRedaction, LeavesLined, LinesOutcome, RedactsLines, Ruling, WritesLines, ruling_as, unread_of}
 use Rattle.acredact.specs.RunCounts.{CountsTextRuns, HasRuns}
 use Rattle.acredact.specs.declared.ruled_files.Lined.{Lined}
 use Rattle.acredact.proofs.OneFile.{ends_by, known_read}
@@ -49,6 +50,17 @@ begins_cover rule lines runs part all all_runs same is =
     subst (λ bytes. StartsWith bytes (lines_cover rule lines runs ++ part)) (sym whole)
     (begins_behind (lines_cover rule lines runs) (line_cover rule is.next is.own ++ lines_cover rule is.later is.more) part
     (begins_longer (line_cover rule is.next is.own) (lines_cover rule is.later is.more) part is.begins))
+
+-- no reason is answered only where a stream has ended
+pub read_whole : {P : Type 0} (done : Result (Unit {0}) LineError) → unread_of done ≡ Ok None → OnOk done P → P
+read_whole (Ok x) is holds = holds
+read_whole (Err (Stream (Match cause))) is holds = absurd (cc)
+read_whole (Err (Stream (Read fault))) is holds = absurd (cc)
+read_whole (Err (Stream (Write fault))) is holds = absurd (cc)
+read_whole (Err (Stream WriteZero)) is holds = absurd (cc)
+read_whole (Err (Stream Memory)) is holds = absurd (cc)
+read_whole (Err (Stream PositionLimit)) is holds = absurd (cc)
+read_whole (Err (Mark error)) is holds = absurd (cc)
 
 module _ {R W : Type 0} (S : SourceGhosts R) (K : SinkGhosts W) (Searched : Patterns → Type 0) (words : Bool) (rules : List Rule) (most : ℕ) (rule : PieceRule) (p : Patterns) (sought : Searched p)
     (source source' : R) (sink sink' : W) (counts counts' : List ℕ) (before : Option (List ℕ))
@@ -101,24 +113,66 @@ module _ {R W : Type 0} (S : SourceGhosts R) (K : SinkGhosts W) (Searched : Patt
   writes_text (Ok tt) leaves = inl (covers_text leaves.covered)
   writes_text (Err error) leaves = inr (begins_text leaves.begun)
 
-  by_text : (P : Type 0) → (CoversLines S K Searched words rules most rule source source' sink sink' counts counts' → P) → (done : Result (Unit {0}) LineError)
-      → LeavesLines S K Searched words rules most rule source source' sink sink' counts counts' done → unread_of done ≡ Ok None → P
-  by_text P of (Ok tt) leaves is = of leaves.covered
-  by_text P of (Err (Stream (Match cause))) leaves is = absurd (cc)
-  by_text P of (Err (Stream (Read fault))) leaves is = absurd (cc)
-  by_text P of (Err (Stream (Write fault))) leaves is = absurd (cc)
-  by_text P of (Err (Stream WriteZero)) leaves is = absurd (cc)
-  by_text P of (Err (Stream Memory)) leaves is = absurd (cc)
-  by_text P of (Err (Stream PositionLimit)) leaves is = absurd (cc)
-  by_text P of (Err (Mark error)) leaves is = absurd (cc)
-
   pub lines_outcome : (done : Result (Unit {0}) LineError) → LeavesLines S K Searched words rules most rule source source' sink sink' counts counts' done
       → LinesOutcome (ruling_as words rules most rule p) (unread_of done) counts counts' before (S.remaining source') (K.taken sink) (K.taken sink')
   lines_outcome done leaves = record {
-    whole = by_text (RedactsLines (ruling_as words rules most rule p) before (S.remaining source') (K.taken sink) (K.taken sink')) covers_text done leaves;
+    whole = λ is. covers_text (read_whole done is leaves.covered);
     begun = writes_text done leaves;
-    counted = by_text (CountsTextRuns (covering_by words rules most p) before (S.remaining source') counts counts') runs_text done leaves;
+    counted = λ is. runs_text (read_whole done is leaves.covered);
   }
+
+-- one source in the place of another, of which no less is known
+module _ {Q R W : Type 0} (P : SourceGhosts Q) (S : SourceGhosts R) (K : SinkGhosts W) (Searched : Patterns → Type 0) (words : Bool) (rules : List Rule) (most : ℕ) (rule : PieceRule)
+    (other other' : Q) (source source' : R) (sink sink' : W) (counts counts' : List ℕ)
+    (gave : (text : List ℕ) (ended : Bool) → SourceGave P other other' text ended → SourceGave S source source' text ended) where
+  pub covers_as : CoversLines P K Searched words rules most rule other other' sink sink' counts counts' → CoversLines S K Searched words rules most rule source source' sink sink' counts counts'
+  covers_as whole = record { given = whole.given; gives = gave whole.given true whole.gives; runs = whole.runs; runs_are = whole.runs_are; writes = whole.writes; counted = whole.counted }
+
+  pub leaves_as : (result : Result (Unit {0}) LineError) → LeavesLines P K Searched words rules most rule other other' sink sink' counts counts' result
+      → LeavesLines S K Searched words rules most rule source source' sink sink' counts counts' result
+  leaves_as result of = record {
+    covered = on_ok_weaker result covers_as of.covered;
+    begun = on_err result of.begun;
+    whole = IfErr-weaker result _ _ (λ error up fails. by (up fails)) of.whole;
+  }
+    where
+      begins_as : BeginsLines P K Searched words rules most rule other other' sink sink' counts counts' → BeginsLines S K Searched words rules most rule source source' sink sink' counts counts'
+      begins_as begun = record {
+        given = begun.given;
+        ended = begun.ended;
+        gives = gave begun.given begun.ended begun.gives;
+        lines = begun.lines;
+        runs = begun.runs;
+        part = begun.part;
+        as_many = begun.as_many;
+        runs_are = begun.runs_are;
+        writes = begun.writes;
+        counted = begun.counted;
+        goes_on = begun.goes_on;
+      }
+
+      on_err : (result : Result (Unit {0}) LineError) → OnErr result (BeginsLines P K Searched words rules most rule other other' sink sink' counts counts')
+          → OnErr result (BeginsLines S K Searched words rules most rule source source' sink sink' counts counts')
+      on_err (Ok x) begun = tt
+      on_err (Err error) begun = begins_as begun
+
+      by : CoversWholeLines P K Searched words rules most rule other other' sink sink' counts counts' → CoversWholeLines S K Searched words rules most rule source source' sink sink' counts counts'
+      by whole = record {
+        given = whole.given;
+        gives = gave whole.given false whole.gives;
+        lines = whole.lines;
+        last = whole.last;
+        runs = whole.runs;
+        lines_are = whole.lines_are;
+        runs_are = whole.runs_are;
+        writes = whole.writes;
+        counted = whole.counted;
+      }
+
+-- a source is as it was left
+pub leaves_there : {A P R W : Type 0} (G : Automata A) (Q : PieceGhosts P) (S : SourceGhosts R) (K : SinkGhosts W) (lined : Lined A P) (result : Result (Unit {0}) LineError) (counts counts' : List ℕ) (source there there' : R) (sink sink' : W)
+    → there ≡ there' → LeavesLined G Q S K lined result counts counts' source there sink sink' → LeavesLined G Q S K lined result counts counts' source there' sink sink'
+leaves_there G Q S K lined result counts counts' source there there' sink sink' same leaves = subst (λ s. LeavesLined G Q S K lined result counts counts' source s sink sink') same leaves
 
 -- it covers lines as before
 pub still_lined : {A P : Type 0} (G : Automata A) (Q : PieceGhosts P) (old new : Lined A P) (ruling : Ruling) → CanCoverLines G new.cover → CoversTheSame old.cover new.cover

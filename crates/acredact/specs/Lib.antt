@@ -57,6 +57,7 @@ pub mod InPlace
 pub mod LineRules
 pub mod RuleLines
 pub mod LongLines
+pub mod RunSummaries
 pub mod RunCounts
 pub mod RunPieces
 pub mod Ruled

@@ -18,9 +18,13 @@ is_control byte = nat_lt byte 32 || byte == 127
 abbrev pub digit_of : ℕ → ℕ
 digit_of digit = if nat_lt digit 10 then 48 + digit else 65 + (digit - 10)
 
+-- the two of a byte
+abbrev pub digits_in : ℕ → List ℕ
+digits_in byte = digit_of (byte / 16) ∷ digit_of (byte % 16) ∷ []
+
 -- a byte as it stands in a message: a control character as '\x' and two digits
 abbrev pub escaped_of : ℕ → List ℕ
-escaped_of byte = if is_control byte then codes "\\x" ++ (digit_of (byte / 16) ∷ digit_of (byte % 16) ∷ []) else byte ∷ []
+escaped_of byte = if is_control byte then codes "\\x" ++ digits_in byte else byte ∷ []
 
 -- and a name, so that a message is one line
 abbrev pub shown : List ℕ → List ℕ

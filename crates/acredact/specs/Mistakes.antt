@@ -15,7 +15,7 @@ use Rattle.acredact.specs.declared.arguments.Item.{Item}
 use Rattle.acredact.specs.declared.arguments.Mistake.{Mistake}
 use Rattle.acredact.specs.declared.arguments.Mistake.TheVariants.{UnknownLetter, NotFound, NoValue, TakesNone, UnknownKind, UnknownForm, BadName, BadSize, NoPattern, Mixed, OutOfMemory}
 use Rattle.acredact.specs.declared.arguments.Mixture.{Mixture}
-use Rattle.acredact.specs.declared.arguments.Mixture.TheVariants.{StrictKind, PseudonymKind, PseudonymWith, PseudonymTable, FormsKind, WordsKind, WordsForms, RulesKind, RulesInPlace, RulesSummary, RulesStrict, MaxLineAlone, CountCheck, SummaryCheck, OutputCheck, InPlaceCheck, InPlaceOutput}
+use Rattle.acredact.specs.declared.arguments.Mixture.TheVariants.{StrictKind, PseudonymKind, PseudonymWith, PseudonymTable, FormsKind, WordsKind, WordsForms, RulesKind, RulesInPlace, RulesStrict, MaxLineAlone, CountCheck, SummaryCheck, OutputCheck, InPlaceCheck, InPlaceOutput}
 use Rattle.acredact.specs.declared.arguments.Word.{Word}
 use Rattle.acredact.specs.declared.arguments.Word.TheVariants.{Env, Forms, MaxLine}
 
@@ -30,7 +30,6 @@ mixture_text WordsKind = codes "--word needs --kind cover: by other kinds a matc
 mixture_text WordsForms = codes "--word and --forms do not go together: a form can stand within a word"
 mixture_text RulesKind = codes "--rules and --after need --kind cover: what rules mark may overlap"
 mixture_text RulesInPlace = codes "--in-place does not go with --rules and --after: give --output"
-mixture_text RulesSummary = codes "--summary does not go with --rules and --after: give --count"
 mixture_text RulesStrict = codes "--strict does not go with --rules and --after: it promises nothing of what rules mark"
 mixture_text MaxLineAlone = codes "--max-line needs --rules or --after: without them no line is kept"
 mixture_text SummaryCheck = codes "--summary and --check do not go together without rules: a check counts nothing"

@@ -17,6 +17,7 @@ use Rattle.aho_cover.specs.declared.pieces.Pieces.{Ghosts as PieceGhosts}
 use Rattle.aho_devices.specs.declared.adapters.FromRead.{FromRead}
 use Rattle.aho_devices.specs.declared.adapters.FromWrite.{FromWrite}
 use Rattle.aho_devices.specs.declared.device.Sink.{Ghosts as SinkGhosts}
+use Rattle.aho_devices.specs.declared.device.Source.{Ghosts as SourceGhosts}
 use Rattle.aho_stream.specs.Replacing.{MayBe}
 use Rattle.programs.specs.Names.{name_bytes}
 use Rattle.programs.specs.Streams.{bytes_left, output_bytes}
@@ -26,14 +27,14 @@ use Rattle.programs.specs.declared.reason.Reason.{Reason}
 use Rattle.programs.specs.declared.reason.Reason.TheVariants.{PositionLimit as TooLong, ReadFault}
 use Rattle.pseudonyms.specs.Pseudonyms.{pseudonym_rule}
 use Rattle.secret_rules.specs.Covering.{AreLineRuns, Covering, covering_by, lines_cover}
-use Rattle.secret_rules.specs.LineCovers.{AreSearchedFor}
+use Rattle.secret_rules.specs.LineCovers.{AreSearchedFor, LeavesLines}
 use Rattle.secret_rules.specs.Lines.{stream_lines}
 use Rattle.secret_rules.specs.Ready.{CanCoverLines, most_of, rules_of, searched_automaton, words_of}
 use Rattle.secret_rules.specs.Rules.{AreSound}
 use Rattle.secret_rules.specs.declared.error.LineError.{LineError}
 use Rattle.secret_rules.specs.declared.error.LineError.TheVariants.{Mark, Stream}
 use Rattle.secret_rules.specs.declared.rule.Rule.{Rule}
-use Rattle.acredact.specs.Arguments.{AsksForRules, Given, all_given, has, last_value}
+use Rattle.acredact.specs.Arguments.{AsksForRules, Given, all_given, counts_asked, has, last_value}
 use Rattle.acredact.specs.Calls.{Call, IsUnreadLine, call_of, keyed_as, names_asked, pieces_asked, reading_by, text_asked}
 use Rattle.acredact.specs.Doubts.{TellsDoubts, all_doubt_lines}
 use Rattle.acredact.specs.Files.{WritesText}
@@ -45,14 +46,17 @@ use Rattle.acredact.specs.Reads.{OfName}
 use Rattle.acredact.specs.RuleLines.{IsRuledLine, too_long_line}
 use Rattle.acredact.specs.RunCounts.{CountsTextRuns, CountsAllRuns, CountsFileRuns, HaveRuns, IsRunsLine, TellsAnyTotals, TellsRunTotals}
 use Rattle.acredact.specs.RunPieces.{mixed_rule, pseudonyms_by}
+use Rattle.acredact.specs.Summaries.{no_volume}
 use Rattle.acredact.specs.Tables.{Secret, patterns_in, secrets_of}
-use Rattle.acredact.specs.declared.arguments.Word.TheVariants.{AsWord, Count, Forms, IgnoreCase, Pseudonym}
+use Rattle.acredact.specs.Volumes.{ReadsVolume}
+use Rattle.acredact.specs.declared.arguments.Word.TheVariants.{AsWord, Forms, IgnoreCase, Pseudonym}
 use Rattle.acredact.specs.declared.arguments.Item.{Item}
 use Rattle.acredact.specs.declared.folder.Folder.{Ghosts as Folders}
 use Rattle.acredact.specs.declared.patterns.Rule.{Rule as PatternRule}
 use Rattle.acredact.specs.declared.ruled_failure.RuledFailure.{RuledFailure}
 use Rattle.acredact.specs.declared.ruled_files.Lined.{Lined}
 use Rattle.acredact.specs.declared.streams.Streams.{Streams}
+use Rattle.acredact.specs.declared.summary.Volume.{Volume}
 
 -- by what lines are covered, and what is written for each number
 pub record Ruling : Type 0 where
@@ -168,6 +172,12 @@ IsAnyLined G Q lined = (ruling : Ruling) × IsLined G Q lined ruling
 abbrev pub StaysLined : {A P : Type 0} → Automata A → PieceGhosts P → Lined A P → Lined A P → Type 0
 StaysLined G Q lined lined' = IfLined G Q lined (IsLined G Q lined')
 
+-- what it leaves of a stream that it has covered
+abbrev pub LeavesLined : {A P R W : Type 0} → Automata A → PieceGhosts P → SourceGhosts R → SinkGhosts W → Lined A P → Result (Unit {0}) LineError → (counts counts' : List ℕ) → (source source' : R) → (sink sink' : W) → Type 0
+LeavesLined G Q S K lined result counts counts' source source' sink sink' =
+    LeavesLines S K (AreSearchedFor G (searched_automaton lined.cover)) (words_of lined.cover) (rules_of lined.cover) (most_of lined.cover) (Q.rule lined.pieces)
+    source source' sink sink' counts counts' result
+
 -- what it does in a folder
 abbrev pub ruled_in : {F X : Type 0} → Folders F X → F → Ruling → RuledWork
 ruled_in D folder ruling = record { holds = D.holds folder; meets = D.meets folder; ruling = ruling }
@@ -234,7 +244,7 @@ ruling_by given load =
 abbrev pub ruled_by : Call → RuledLoad → RuledWork
 ruled_by call load = record { holds = call.holds; meets = call.meets; ruling = ruling_by call.given load }
 
--- what may be told of a call: a doubtful pattern of a list, how many lines were too long, or the counts that are asked for
+-- what may be told of a call: a doubtful pattern of a list, how many lines were too long, or the counts and the summary that are asked for
 abbrev pub IsRuledNotice : Call → List ℕ → Type 0
 IsRuledNotice call line =
     ((secrets : List Secret) × IsMember (all_doubt_lines call.given secrets) line)
@@ -273,13 +283,16 @@ module _ {E : Type 0} (K : SinkGhosts E) where
     pub told : Tells K (IsRuledTold call) errors errors'
     pub partly : result ≡ Ok false → TellsSome K (IsRuledTold call) errors errors'
 
-  -- where all was redacted it is told how many lines were too long, and then, where that is asked for, how many runs have each number
+  -- where all was redacted it is told how many lines were too long, and then, where that is asked for, how many runs have each number and
+  -- how much was read
   pub record NumbersOf (call : Call) (load : RuledLoad) (left left' : Option (List ℕ)) (errors errors' : Errors E) : Type 0 where
     pub meanwhile : Errors E
     pub long : TellsLong K call.holds (most_asked call.given) (names_asked call.given) left left' errors meanwhile
     pub runs : List Occurrence
     pub have : HaveRuns call.holds (ruling_by call.given load).covering (names_asked call.given) runs left left'
-    pub counted : TellsAnyTotals K call.given load.secrets load.rules runs meanwhile errors'
+    pub volume : Volume
+    pub read : ReadsVolume call.holds (names_asked call.given) no_volume volume left left'
+    pub counted : TellsAnyTotals K call.given load.secrets load.rules runs volume meanwhile errors'
 
   -- and before that which patterns of lists are doubtful
   pub record NotesOf (call : Call) (load : RuledLoad) (left left' : Option (List ℕ)) (errors errors' : Errors E) : Type 0 where
@@ -294,15 +307,17 @@ module _ {E : Type 0} (K : SinkGhosts E) where
     pub loaded : AreRuledLoaded (reading_by call) call.given load left between
     pub notes : NotesOf call load between left' errors errors'
 
-  -- at the end it is told how many runs of all files have the number of each of them
+  -- at the end it is told how many runs of all files have the number of each of them, and how much was read: each of both that is asked for
   pub record CountsByRules (call : Call) (left left' : Option (List ℕ)) (errors' : Errors E) : Type 0 where
     pub load : RuledLoad
     pub between : Option (List ℕ)
     pub loaded : AreRuledLoaded (reading_by call) call.given load left between
     pub runs : List Occurrence
     pub have : HaveRuns call.holds (ruling_by call.given load).covering (names_asked call.given) runs between left'
+    pub volume : Volume
+    pub read : ReadsVolume call.holds (names_asked call.given) no_volume volume between left'
     pub meanwhile : Errors E
-    pub counted : TellsRunTotals K load.secrets load.rules runs meanwhile errors'
+    pub counted : TellsRunTotals K call.given load.secrets load.rules runs volume meanwhile errors'
 
   -- what comes of a file: its redaction was written, or a beginning of it; and where it was not read to its end that is told
   pub record LinedFile (work : RuledWork) (name : List ℕ) (result : Result Bool LineError) (counts counts' : List ℕ) (left left' held held' : Option (List ℕ)) (errors errors' : Errors E) : Type 0 where
@@ -426,10 +441,10 @@ module _ {R : Type 0} {Reads : Readers R} {W E : Type 0} (Writes : Writers W) wh
 abbrev pub NotesAsked : {R W E F X : Type 0} {Reads : Readers R} → SinkGhosts E → Folders F X → F → List Given → (streams streams' : Streams R W E Reads) → Type 0
 NotesAsked K D folder given streams streams' = NotesByRules K (call_of D folder given) (bytes_left streams.input) (bytes_left streams'.input) streams.errors streams'.errors
 
--- and where counts are asked for
+-- and where counts or a summary are asked for
 abbrev pub RuledCountsAsked : {R W E F X : Type 0} {Reads : Readers R} → SinkGhosts E → Folders F X → F → List Given → (streams streams' : Streams R W E Reads) → Type 0
 RuledCountsAsked K D folder given streams streams' =
-    has Count given ≡ true → CountsByRules K (call_of D folder given) (bytes_left streams.input) (bytes_left streams'.input) streams'.errors
+    counts_asked given ≡ true → CountsByRules K (call_of D folder given) (bytes_left streams.input) (bytes_left streams'.input) streams'.errors
 
 abbrev pub RuledTells : {R W E F X : Type 0} {Reads : Readers R} → SinkGhosts E → Folders F X → F → List Given → (streams streams' : Streams R W E Reads) → Type 0
 RuledTells K D folder given streams streams' = TellsSome K (IsRuledTold (call_of D folder given)) streams.errors streams'.errors

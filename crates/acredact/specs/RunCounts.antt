@@ -1,5 +1,5 @@
--- How many runs have the number of each pattern and of each rule, file after file, and how that is told.
-use Rattle.std.specs.Prelude.{◌≡◌, ℕ, ◌+◌, MatchBool, true, false, List, [], ◌∷◌, ◌++◌, Option, codes, decimal, drop, length, string_bytes}
+-- How many runs have the number of each pattern and of each rule, file after file, and how that and a summary are told.
+use Rattle.std.specs.Prelude.{◌≡◌, ℕ, ◌+◌, MatchBool, true, false, List, [], ◌∷◌, ◌++◌, Option, codes, decimal, drop, if◌then◌else◌, length, string_bytes}
 use Rattle.aho_core.specs.Occurrence.{Occurrence}
 use Rattle.aho_cover.specs.Counting.{CountsThese}
 use Rattle.aho_devices.specs.declared.device.Sink.{Ghosts as SinkGhosts}
@@ -9,16 +9,18 @@ use Rattle.secret_rules.specs.Covering.{AreLineRuns, Covering}
 use Rattle.secret_rules.specs.LineCovers.{all_of}
 use Rattle.secret_rules.specs.Lines.{stream_lines}
 use Rattle.secret_rules.specs.declared.rule.Rule.{Rule}
-use Rattle.acredact.specs.Arguments.{Given, all_given, has}
+use Rattle.acredact.specs.Arguments.{Given, all_given, counts_asked, counts_given, has}
 use Rattle.acredact.specs.Counts.{counts_text, secret_lines}
 use Rattle.acredact.specs.Messages.{shown}
 use Rattle.acredact.specs.Reads.{OfName, ReadsText}
+use Rattle.acredact.specs.RunSummaries.{run_summary_text}
 use Rattle.acredact.specs.Sums.{sums_of}
 use Rattle.acredact.specs.Tables.{Secret, secrets_of}
 use Rattle.acredact.specs.Totals.{AreTotals}
 use Rattle.acredact.specs.declared.arguments.Item.{Item}
-use Rattle.acredact.specs.declared.arguments.Word.TheVariants.{Count}
+use Rattle.acredact.specs.declared.arguments.Word.TheVariants.{Count, Summary}
 use Rattle.acredact.specs.declared.patterns.Rule.{Rule as PatternRule}
+use Rattle.acredact.specs.declared.summary.Volume.{Volume}
 
 -- a text was read to its end, and these are the runs of all its lines
 pub record HasRuns (covering : Covering) (runs : List Occurrence) (left left' : Option (List ℕ)) : Type 0 where
@@ -55,35 +57,45 @@ rule_counts_text [] counts = []
 rule_counts_text (rule ∷ rules) [] = []
 rule_counts_text (rule ∷ rules) (count ∷ counts) = rule_count_line count rule ++ rule_counts_text rules counts
 
--- what is told of patterns and of rules, whose counts stand behind those of patterns. A form counts for its pattern
-abbrev pub run_counts_text : List Secret → List Rule → (counts : List ℕ) → List ℕ
-run_counts_text secrets rules counts = counts_text 1 (secret_lines secrets) (sums_of secrets counts) ++ rule_counts_text rules (drop (length secrets) counts)
+-- the lines of the counts, if they are asked for: those of patterns, and then those of rules
+abbrev pub runs_told_by : List Given → (lines sums : List ℕ) → List Rule → (counts : List ℕ) → List ℕ
+runs_told_by given lines sums rules counts = if has Count given then counts_text 1 lines sums ++ rule_counts_text rules counts else []
 
-abbrev pub runs_text : List PatternRule → List Rule → (counts : List ℕ) → List ℕ
-runs_text secrets rules counts = run_counts_text (secrets_of secrets) rules counts
+-- the summary, if it is
+abbrev pub objects_told_by : List Given → Volume → (sums : List ℕ) → List Rule → (counts : List ℕ) → List ℕ
+objects_told_by given volume sums rules counts = if has Summary given then run_summary_text volume sums rules counts else []
 
--- this may be told where counts are asked for
+-- what is told of both. A form counts for its pattern, and the counts of rules stand behind those of patterns
+abbrev pub run_totals_text : List Given → List Secret → List Rule → (counts : List ℕ) → Volume → List ℕ
+run_totals_text given secrets rules counts volume =
+    runs_told_by given (secret_lines secrets) (sums_of secrets counts) rules (drop (length secrets) counts)
+    ++ objects_told_by given volume (sums_of secrets counts) rules (drop (length secrets) counts)
+
+abbrev pub runs_text : List Given → List PatternRule → List Rule → (counts : List ℕ) → Volume → List ℕ
+runs_text given secrets rules counts volume = run_totals_text given (secrets_of secrets) rules counts volume
+
+-- this may be told where they are asked for
 abbrev pub IsRunsLine : List Given → List ℕ → Type 0
 IsRunsLine given line =
-    (has Count given ≡ true) × (secrets : List Secret) × (rules : List Rule) × (counts : List ℕ) × (line ≡ run_counts_text secrets rules counts)
+    (counts_asked given ≡ true) × (secrets : List Secret) × (rules : List Rule) × (counts : List ℕ) × (volume : Volume) × (line ≡ run_totals_text given secrets rules counts volume)
 
-module _ {E : Type 0} (K : SinkGhosts E) (secrets : List Secret) (rules : List Rule) where
-  -- these counts are told whole
-  pub record TellsRunCounts (counts : List ℕ) (errors errors' : Errors E) : Type 0 where
-    pub told : TellsBytes K errors errors' (run_counts_text secrets rules counts)
+module _ {E : Type 0} (K : SinkGhosts E) (given : List Given) (secrets : List Secret) (rules : List Rule) where
+  -- these counts are told whole, and that so much was read
+  pub record TellsRunCounts (counts : List ℕ) (volume : Volume) (errors errors' : Errors E) : Type 0 where
+    pub told : TellsBytes K errors errors' (run_totals_text given secrets rules counts volume)
     pub whole : errors'.failed ≡ false
 
   -- they are those of all runs: one for each pattern and for each rule, and one for lines that are too long
-  pub record TellsRunTotals (runs : List Occurrence) (errors errors' : Errors E) : Type 0 where
+  pub record TellsRunTotals (runs : List Occurrence) (volume : Volume) (errors errors' : Errors E) : Type 0 where
     pub counts : List ℕ
     pub totals : AreTotals (length secrets + length rules + 1) runs counts
-    pub told : TellsRunCounts counts errors errors'
+    pub told : TellsRunCounts counts volume errors errors'
 
 -- where they are asked for, and else nothing is
-abbrev pub TellsAnyRuns : {E : Type 0} → SinkGhosts E → List Item → List PatternRule → List Rule → (counts : List ℕ) → (errors errors' : Errors E) → Type 0
-TellsAnyRuns K items secrets rules counts errors errors' =
-    MatchBool (has Count (all_given items)) (TellsRunCounts K (secrets_of secrets) rules counts errors errors') (errors' ≡ errors)
+abbrev pub TellsAnyRuns : {E : Type 0} → SinkGhosts E → List Item → List PatternRule → List Rule → (counts : List ℕ) → Volume → (errors errors' : Errors E) → Type 0
+TellsAnyRuns K items secrets rules counts volume errors errors' =
+    MatchBool (counts_given items) (TellsRunCounts K (all_given items) (secrets_of secrets) rules counts volume errors errors') (errors' ≡ errors)
 
 -- the same of all runs
-abbrev pub TellsAnyTotals : {E : Type 0} → SinkGhosts E → List Given → List Secret → List Rule → List Occurrence → (errors errors' : Errors E) → Type 0
-TellsAnyTotals K given secrets rules runs errors errors' = MatchBool (has Count given) (TellsRunTotals K secrets rules runs errors errors') (errors' ≡ errors)
+abbrev pub TellsAnyTotals : {E : Type 0} → SinkGhosts E → List Given → List Secret → List Rule → List Occurrence → Volume → (errors errors' : Errors E) → Type 0
+TellsAnyTotals K given secrets rules runs volume errors errors' = MatchBool (counts_asked given) (TellsRunTotals K given secrets rules runs volume errors errors') (errors' ≡ errors)

@@ -16,9 +16,13 @@ listed [] = []
 listed (number ∷ numbers) = decimal number ++ more_listed numbers
 
 -- how many files and bytes were read, and for each pattern how often its text was written; nothing of its bytes
+abbrev pub amounts_text : Volume → (counts : List ℕ) → List ℕ
+amounts_text volume counts =
+    codes "{\"files\":" ++ (decimal volume.files ++ (codes ",\"bytes\":" ++ (decimal volume.bytes ++ (codes ",\"replacements\":[" ++ (listed counts ++ codes "]")))))
+
+-- these alone
 abbrev pub summary_text : Volume → (counts : List ℕ) → List ℕ
-summary_text volume counts =
-    codes "{\"files\":" ++ (decimal volume.files ++ (codes ",\"bytes\":" ++ (decimal volume.bytes ++ (codes ",\"replacements\":[" ++ (listed counts ++ codes "]}\n")))))
+summary_text volume counts = amounts_text volume counts ++ codes "}\n"
 
 -- the lines of the counts, if they are asked for
 abbrev pub counts_told_by : List Given → (lines counts : List ℕ) → List ℕ

@@ -1,5 +1,6 @@
 -- How much of files was read: how many of them, and how many bytes.
 use Rattle.std.specs.Prelude.{◌≡◌, ℕ, ◌+◌, ◌-◌, ◌^◌, min, true, List, [], ◌∷◌, Bool, Option, Result, Ok, if◌then◌else◌, is_some, length}
+use Rattle.std.specs.Borrow.{Bor}
 use Rattle.std.specs.declared.io.traits.Read.{Ghosts as Readers}
 use Rattle.aho_cover.specs.Counting.{grown_count}
 use Rattle.aho_devices.specs.declared.adapters.FromRead.{FromRead}
@@ -53,16 +54,23 @@ module _ {R : Type 0} {Reads : Readers R} where
   abbrev pub AddsFile : (List ℕ → Option (List ℕ)) → List ℕ → (volume volume' : Volume) → (input input' : FromRead R Reads) → Type 0
   AddsFile holds name volume volume' input input' = AddsName holds name volume.bytes volume'.bytes (bytes_left input) (bytes_left input')
 
-module _ {F X : Type 0} (D : Folders F X) (job : Job F) {R W E Z : Type 0} {Reads : Readers R} where
+module _ {F X : Type 0} (D : Folders F X) {R W E Z : Type 0} {Reads : Readers R} where
   -- a file that was read to its end was counted
-  abbrev pub FileVolume : List ℕ → Result Bool Z → (volume volume' : Volume) → (streams streams' : Streams R W E Reads) → Type 0
-  FileVolume name result volume volume' streams streams' = result ≡ Ok true
-      → AddsName (D.holds job.folder.now) name volume.bytes volume'.bytes (bytes_left streams.input) (bytes_left streams'.input)
+  abbrev pub OneVolume : F → List ℕ → Result Bool Z → (volume volume' : Volume) → (streams streams' : Streams R W E Reads) → Type 0
+  OneVolume folder name result volume volume' streams streams' = result ≡ Ok true
+      → AddsName (D.holds folder) name volume.bytes volume'.bytes (bytes_left streams.input) (bytes_left streams'.input)
 
-  -- and so were all files of a job
-  abbrev pub JobVolume : Result Bool Z → (volume volume' : Volume) → (streams streams' : Streams R W E Reads) → Type 0
-  JobVolume result volume volume' streams streams' = result ≡ Ok true
-      → ReadsVolume (D.holds job.folder.now) (name_bytes job.names.now) volume volume' (bytes_left streams.input) (bytes_left streams'.input)
+  -- and so were all files
+  abbrev pub AllVolume : F → List (Bor (List ℕ)) → Result Bool Z → (volume volume' : Volume) → (streams streams' : Streams R W E Reads) → Type 0
+  AllVolume folder names result volume volume' streams streams' = result ≡ Ok true
+      → ReadsVolume (D.holds folder) (name_bytes names) volume volume' (bytes_left streams.input) (bytes_left streams'.input)
+
+  -- the same of a job
+  abbrev pub FileVolume : Job F → List ℕ → Result Bool Z → (volume volume' : Volume) → (streams streams' : Streams R W E Reads) → Type 0
+  FileVolume job name result volume volume' streams streams' = OneVolume job.folder.now name result volume volume' streams streams'
+
+  abbrev pub JobVolume : Job F → Result Bool Z → (volume volume' : Volume) → (streams streams' : Streams R W E Reads) → Type 0
+  JobVolume job result volume volume' streams streams' = AllVolume job.folder.now job.names.now result volume volume' streams streams'
 
 -- one file more, if it was read to its end
 abbrev pub files_with : Bool → ℕ → ℕ

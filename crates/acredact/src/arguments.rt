@@ -113,8 +113,6 @@ pub enum Mixture {
     RulesKind,
     /// `--rules` or `--after` with `--in-place`.
     RulesInPlace,
-    /// `--rules` or `--after` with `--summary`.
-    RulesSummary,
     /// `--rules` or `--after` with `--strict`, which promises nothing of what rules mark.
     RulesStrict,
     /// `--max-line` without rules: no line is kept.
@@ -307,9 +305,6 @@ fn rules_mixture_of(items: &[Item<'_>]) -> Option<Mixture>
     }
     if has(items, Word::InPlace) {
         return Some(Mixture::RulesInPlace);
-    }
-    if has(items, Word::Summary) && !has(items, Word::Check) {
-        return Some(Mixture::RulesSummary);
     }
     if has(items, Word::Strict) {
         return Some(Mixture::RulesStrict);

@@ -322,7 +322,6 @@ fn mixture_text(mixture: Mixture) -> &'static str
         Mixture::RulesInPlace => {
             "--in-place does not go with --rules and --after: give --output"
         }
-        Mixture::RulesSummary => { "--summary does not go with --rules and --after: give --count" }
         Mixture::RulesStrict => {
             "--strict does not go with --rules and --after: it promises nothing of what rules mark"
         }

@@ -19,7 +19,7 @@ ghost use Rattle.acredact.specs.Ways.{IfBy, Redacts};
 use crate::back::Backing;
 use crate::failure::{tell_output, tell_unread};
 use crate::folder::Folder;
-use crate::meter::{Known, Lent, Metered};
+use crate::meter::{Known, Lent, Metered, Taken};
 use crate::streams::Streams;
 use crate::summary::Volume;
 use crate::ways::{Covering, Key, Naming, Replacing, Way};
@@ -432,17 +432,6 @@ fn redact_input<X: Way, I: Read, W: Write>(
     reading_of(redact_metered(way, counts, volume, input, output))
 }
 
-/// What was read of a source.
-#[derive(Drop)]
-struct Taken<'s, S> {
-    /// The source.
-    lent: Lent<'s, S>,
-    /// How many bytes were counted.
-    bytes: u64,
-    /// Whether it was read to its end.
-    done: Result<(), StreamError>,
-}
-
 /// Redacts a source, and counts its bytes, of which all that it gives are known to be these.
 fn redact_with<'s, K: Known, X: Way, S: Source, W: Sink>(
     way: &mut X,
@@ -450,7 +439,7 @@ fn redact_with<'s, K: Known, X: Way, S: Source, W: Sink>(
     lent: Lent<'s, S>,
     bytes: u64,
     sink: &mut W,
-) -> Taken<'s, S>
+) -> Taken<'s, S, StreamError>
     requires ready { (r : Redactor) × Redacts X.Way way.old r }
     requires whole { K.whole ≡ S.remaining lent.source.now }
     requires start { K.start ≡ bytes }
@@ -511,7 +500,7 @@ fn redact_metered<X: Way, I: Read, W: Write>(
 }
 
 /// One file more, if it was read to its end.
-fn add_file(volume: &mut Volume, whole: bool)
+pub fn add_file(volume: &mut Volume, whole: bool)
     ensures files { volume.new.files ≡ files_with whole volume.old.files }
     ensures bytes { volume.new.bytes ≡ volume.old.bytes }
 {

@@ -49,6 +49,7 @@ mod ruled_files;
 mod run;
 mod run_counts;
 mod run_pieces;
+mod run_summary;
 mod seen;
 mod short;
 mod shown;

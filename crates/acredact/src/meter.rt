@@ -51,6 +51,17 @@ impl<S: Source> Lent<'_, S> {
     }
 }
 
+/// What was read of a source, and what came of it.
+#[derive(Drop)]
+pub struct Taken<'s, S, Z> {
+    /// The source.
+    pub lent: Lent<'s, S>,
+    /// How many bytes were counted.
+    pub bytes: u64,
+    /// Whether it was read to its end.
+    pub done: Result<(), Z>,
+}
+
 /// A source whose bytes are counted. A count stops at the greatest number.
 #[derive(Drop)]
 pub struct Metered<'s, S: Source, K: Known> {

@@ -25,6 +25,7 @@ use crate::run::{FAILED, key_by, name_key, names, text_of};
 use crate::run_counts::tell_runs;
 use crate::run_pieces::RunPieces;
 use crate::streams::Streams;
+use crate::summary::Volume;
 use aho_automaton::automaton::Automaton;
 use aho_corasick::noncontiguous::{Builder, NFA};
 use aho_core::error::BuildError;
@@ -166,7 +167,8 @@ fn redact_doubted<'a, F: Folder, I: Read, W: Write, E: Sink>(
     }
 }
 
-/// Redacts all files, tells how many lines were too long and the counts that are asked for, and answers whether all were read.
+/// Redacts all files, tells how many lines were too long and the counts and the summary that are asked for, and answers whether all were
+/// read.
 fn redact_ruled<'a, F: Folder, I: Read, W: Write, E: Sink>(
     alloc: Global,
     given: &[Item<'_>],
@@ -196,7 +198,8 @@ fn redact_ruled<'a, F: Folder, I: Read, W: Write, E: Sink>(
     let mut lined = lined_of(alloc, &nfa, rules, pieces, words, most)?;
     let names = names.as_slice();
     let tally = counts.as_mut_slice();
-    let done = cover_files(&mut lined, folder, names, tally, streams);
+    let mut volume = Volume { files: 0, bytes: 0 };
+    let done = cover_files(&mut lined, folder, names, tally, &mut volume, streams);
     match done {
         Ok(all) => {
             let count = last_of(tally);
@@ -208,6 +211,7 @@ fn redact_ruled<'a, F: Folder, I: Read, W: Write, E: Sink>(
                 secrets,
                 rules,
                 tally,
+                volume,
                 &mut streams.errors,
             )
         }
@@ -328,7 +332,7 @@ fn counts_for(alloc: Global, count: usize) -> Result<Vec<u64>, AllocError>
 }
 
 /// The last of some counts, which has one for each text that is written.
-fn last_of(counts: &[u64]) -> u64
+pub fn last_of(counts: &[u64]) -> u64
     ensures last { result ≡ last_of counts.now }
 {
     if counts.is_empty() {

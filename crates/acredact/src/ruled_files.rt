@@ -1,23 +1,27 @@
 //! The redaction of files line by line, one after another.
 
-ghost use Rattle.std.specs.Prelude.{◌≡◌, IfOk, IfSome, OnOk, false, true};
+ghost use Rattle.std.specs.Prelude.{◌≡◌, IfOk, IfSome, None, Ok, OnOk, false, true};
 ghost use Rattle.secret_rules.specs.OpenLines.{CanSearch};
 ghost use Rattle.secret_rules.specs.Ready.{CanCoverLines, most_of, rules_of, searched_automaton, words_of};
-ghost use Rattle.acredact.specs.Ruled.{AreSearchedBy, DoesFile, DoesFiles, IfLined, IsAnyLined, LinesBy, LinesDone, NamedDone, OpenedDone, StaysLined, unread_of};
+ghost use Rattle.acredact.specs.Ruled.{AreSearchedBy, DoesFile, DoesFiles, IfLined, IsAnyLined, LeavesLined, LinesBy, LinesDone, NamedDone, OpenedDone, StaysLined, unread_of};
+ghost use Rattle.acredact.specs.Volumes.{AddsFile, AddsOpened, AddsStream, AddsText, AllVolume, OneVolume};
 
 use crate::failure::{tell_output, tell_unread};
-use crate::files::{both, is_input};
+use crate::files::{add_file, both, is_input};
 use crate::folder::Folder;
+use crate::meter::{Known, Lent, Metered, Taken};
 use crate::streams::Streams;
+use crate::summary::Volume;
 use aho_automaton::automaton::Automaton;
 use aho_core::error::{BuildError, StreamError};
 use aho_cover::pieces::Pieces;
 use aho_devices::adapters::{FromRead, FromWrite};
-use aho_devices::device::Sink;
+use aho_devices::device::{Sink, Source};
 use programs::reason::Reason;
 use secret_rules::{LineCover, LineError, Rules, cover_lines};
 use std::alloc::Global;
 use std::io::{Read, Write};
+use std::marker::{Brand, PhantomData};
 
 /// How many numbers patterns, rules and long lines have together at most.
 const MOST_NUMBERS: usize = 2_147_483_646;
@@ -113,14 +117,16 @@ pub fn cover_files<A: Automaton, P: Pieces, F: Folder, I: Read, W: Write, E: Sin
     folder: &F,
     names: &[&str],
     counts: &mut [u64],
+    volume: &mut Volume,
     streams: &mut Streams<'_, I, W, E>,
 ) -> Result<bool, LineError>
     requires ready { IsAnyLined A.Automaton P.Pieces lined.old }
     ensures outcome { IfLined A.Automaton P.Pieces lined.old (DoesFiles W.Write E.Sink F.Folder
         folder.now names.now result counts.old counts.new streams.old streams.new) }
+    ensures read { AllVolume F.Folder folder.now names.now result volume.old volume.new streams.old streams.new }
     ensures flushed { OnOk result (streams.new.output.device.flushed ≡ true) }
 {
-    let all = cover_each(lined, folder, names, counts, streams)?;
+    let all = cover_each(lined, folder, names, counts, volume, streams)?;
     streams.output.flush()?;
     Ok(all)
 }
@@ -131,16 +137,19 @@ fn cover_each<A: Automaton, P: Pieces, F: Folder, I: Read, W: Write, E: Sink>(
     folder: &F,
     names: &[&str],
     counts: &mut [u64],
+    volume: &mut Volume,
     streams: &mut Streams<'_, I, W, E>,
 ) -> Result<bool, LineError>
     requires ready { IsAnyLined A.Automaton P.Pieces lined.old }
     ensures outcome { IfLined A.Automaton P.Pieces lined.old (DoesFiles W.Write E.Sink F.Folder
         folder.now names.now result counts.old counts.new streams.old streams.new) }
+    ensures read { AllVolume F.Folder folder.now names.now result volume.old volume.new streams.old streams.new }
 {
     let mut all = true;
     let mut rest = names;
     while !rest.is_empty() {
-        let whole = cover_told(lined, folder, rest[0], counts, streams)?;
+        let whole = cover_told(lined, folder, rest[0], counts, volume, streams)?;
+        add_file(volume, whole);
         all = both(all, whole);
         rest = &rest[1..];
     }
@@ -154,18 +163,21 @@ fn cover_told<A: Automaton, P: Pieces, F: Folder, I: Read, W: Write, E: Sink>(
     folder: &F,
     name: &str,
     counts: &mut [u64],
+    volume: &mut Volume,
     streams: &mut Streams<'_, I, W, E>,
 ) -> Result<bool, LineError>
     requires ready { IsAnyLined A.Automaton P.Pieces lined.old }
     ensures outcome { IfLined A.Automaton P.Pieces lined.old (DoesFile W.Write E.Sink F.Folder
         folder.now name.now result counts.old counts.new streams.old streams.new) }
+    ensures read { OneVolume F.Folder folder.now name.now result volume.old volume.new streams.old streams.new }
+    ensures files { volume.new.files ≡ volume.old.files }
     ensures still { StaysLined A.Automaton P.Pieces lined.old lined.new }
 {
     if folder.is_output(name) {
         tell_output(&mut streams.errors, name);
         return Ok(false);
     }
-    cover_apart(lined, folder, name, counts, streams)
+    cover_apart(lined, folder, name, counts, volume, streams)
 }
 
 /// Redacts a file that the output does not go to, and answers whether it was read to its end. One that was not is told.
@@ -174,12 +186,15 @@ fn cover_apart<A: Automaton, P: Pieces, F: Folder, I: Read, W: Write, E: Sink>(
     folder: &F,
     name: &str,
     counts: &mut [u64],
+    volume: &mut Volume,
     streams: &mut Streams<'_, I, W, E>,
 ) -> Result<bool, LineError>
     requires ready { IsAnyLined A.Automaton P.Pieces lined.old }
     requires apart { F.meets folder.now name.now false }
     ensures outcome { IfLined A.Automaton P.Pieces lined.old (DoesFile W.Write E.Sink F.Folder
         folder.now name.now result counts.old counts.new streams.old streams.new) }
+    ensures read { OneVolume F.Folder folder.now name.now result volume.old volume.new streams.old streams.new }
+    ensures files { volume.new.files ≡ volume.old.files }
     ensures still { StaysLined A.Automaton P.Pieces lined.old lined.new }
 {
     match cover_file(
@@ -187,6 +202,7 @@ fn cover_apart<A: Automaton, P: Pieces, F: Folder, I: Read, W: Write, E: Sink>(
         folder,
         name,
         counts,
+        volume,
         &mut streams.input,
         &mut streams.output,
     )? {
@@ -204,19 +220,23 @@ fn cover_file<A: Automaton, P: Pieces, F: Folder, I: Read, W: Write>(
     folder: &F,
     name: &str,
     counts: &mut [u64],
+    volume: &mut Volume,
     input: &mut FromRead<I>,
     output: &mut FromWrite<W>,
 ) -> Result<Option<Reason>, LineError>
     requires ready { IsAnyLined A.Automaton P.Pieces lined.old }
     ensures outcome { IfLined A.Automaton P.Pieces lined.old (NamedDone W.Write F.Folder
         folder.now name.now result counts.old counts.new input.old input.new output.old output.new) }
+    ensures read { result ≡ Ok None → AddsFile (F.holds folder.now) name.now
+        volume.old volume.new input.old input.new }
+    ensures files { volume.new.files ≡ volume.old.files }
     ensures still { StaysLined A.Automaton P.Pieces lined.old lined.new }
 {
     if is_input(name) {
-        return cover_input(lined, counts, input, output);
+        return cover_input(lined, counts, volume, input, output);
     }
     match folder.open(name) {
-        Ok(file) => cover_opened(lined, counts, file, output),
+        Ok(file) => cover_opened(lined, counts, volume, file, output),
         Err(reason) => Ok(Some(reason)),
     }
 }
@@ -225,32 +245,103 @@ fn cover_file<A: Automaton, P: Pieces, F: Folder, I: Read, W: Write>(
 fn cover_opened<A: Automaton, P: Pieces, I: Read + Drop, W: Write>(
     lined: &mut Lined<'_, '_, A, P>,
     counts: &mut [u64],
+    volume: &mut Volume,
     reader: I,
     output: &mut FromWrite<W>,
 ) -> Result<Option<Reason>, LineError>
     requires ready { IsAnyLined A.Automaton P.Pieces lined.old }
     ensures outcome { IfLined A.Automaton P.Pieces lined.old (OpenedDone W.Write
         result counts.old counts.new (I.remaining reader) output.old output.new) }
+    ensures read { result ≡ Ok None → AddsOpened volume.old.bytes volume.new.bytes (I.remaining reader) }
+    ensures files { volume.new.files ≡ volume.old.files }
     ensures still { StaysLined A.Automaton P.Pieces lined.old lined.new }
 {
     let mut source = FromRead::new(reader);
-    cover_input(lined, counts, &mut source, output)
+    cover_input(lined, counts, volume, &mut source, output)
 }
 
 /// Redacts the input to its end, and answers why it cannot be read to that, where it cannot.
 fn cover_input<A: Automaton, P: Pieces, I: Read, W: Write>(
     lined: &mut Lined<'_, '_, A, P>,
     counts: &mut [u64],
+    volume: &mut Volume,
     input: &mut FromRead<I>,
     output: &mut FromWrite<W>,
 ) -> Result<Option<Reason>, LineError>
     requires ready { IsAnyLined A.Automaton P.Pieces lined.old }
     ensures outcome { IfLined A.Automaton P.Pieces lined.old (LinesDone W.Write
         result counts.old counts.new input.old input.new output.old output.new) }
+    ensures read { result ≡ Ok None → AddsText volume.old volume.new input.old input.new }
+    ensures files { volume.new.files ≡ volume.old.files }
     ensures still { StaysLined A.Automaton P.Pieces lined.old lined.new }
 {
     input.restart();
-    unread_of(cover_lines(&mut lined.cover, input, output, &mut lined.pieces, counts))
+    unread_of(cover_metered(lined, counts, volume, input, output))
+}
+
+/// Redacts what the input gives, and counts its bytes.
+fn cover_metered<A: Automaton, P: Pieces, I: Read, W: Write>(
+    lined: &mut Lined<'_, '_, A, P>,
+    counts: &mut [u64],
+    volume: &mut Volume,
+    input: &mut FromRead<I>,
+    output: &mut FromWrite<W>,
+) -> Result<(), LineError>
+    requires ready { IsAnyLined A.Automaton P.Pieces lined.old }
+    ensures leaves { LeavesLined A.Automaton P.Pieces ⟦<FromRead<I> as Source>⟧ ⟦<FromWrite<W> as Sink>⟧ lined.old
+        result counts.old counts.new input.old input.new output.old output.new }
+    ensures read { OnOk result (AddsStream ⟦<FromRead<I> as Source>⟧ input.old input.new
+        volume.old.bytes volume.new.bytes) }
+    ensures files { volume.new.files ≡ volume.old.files }
+    ensures still { StaysLined A.Automaton P.Pieces lined.old lined.new }
+{
+    let taken = cover_with::<Brand, A, P, FromRead<I>, FromWrite<W>>(
+        lined,
+        counts,
+        Lent { source: input },
+        volume.bytes,
+        output,
+    );
+    volume.bytes = taken.bytes;
+    let Taken { lent, done, .. } = taken;
+    let _source = lent.source;
+    done
+}
+
+/// Redacts a source, and counts its bytes, of which all that it gives are known to be these.
+fn cover_with<'s, K: Known, A: Automaton, P: Pieces, S: Source, W: Sink>(
+    lined: &mut Lined<'_, '_, A, P>,
+    counts: &mut [u64],
+    lent: Lent<'s, S>,
+    bytes: u64,
+    sink: &mut W,
+) -> Taken<'s, S, LineError>
+    requires ready { IsAnyLined A.Automaton P.Pieces lined.old }
+    requires whole { K.whole ≡ S.remaining lent.source.now }
+    requires start { K.start ≡ bytes }
+    requires name { K.name ≡ lent.source.ghost_name }
+    ensures leaves { LeavesLined A.Automaton P.Pieces S.Source W.Sink lined.old
+        result.done counts.old counts.new lent.entry.source.now result.lent.source.now sink.old sink.new }
+    ensures read { OnOk result.done (AddsStream S.Source
+        lent.entry.source.now result.lent.source.now bytes result.bytes) }
+    ensures still { StaysLined A.Automaton P.Pieces lined.old lined.new }
+    ensures same { result.lent.source.ghost_name ≡ lent.entry.source.ghost_name }
+{
+    let mut meter = Metered::<S, K> {
+        lent,
+        bytes,
+        settled: true,
+        of: PhantomData,
+    };
+    let done = cover_lines(
+        &mut lined.cover,
+        &mut meter,
+        sink,
+        &mut lined.pieces,
+        counts,
+    );
+    let Metered { lent, bytes, .. } = meter;
+    Taken { lent, bytes, done }
 }
 
 /// Why a stream was not read to its end, where that is so; any other error ends the program.

@@ -151,7 +151,8 @@ pub fn run<F: Folder, I: Read, W: Write, E: Sink>(
         RuledBegins W.Write F.Folder folder.now given streams.old streams.new) }
 
     // Lines say why it is 2, and hold nothing of a line. Where it is 0 they tell which patterns of lists may be meant otherwise, how many
-    // lines were too long, and the counts that are asked for: how many runs of all files have the number of each pattern and rule.
+    // lines were too long, and what is asked for: how many runs of all files have the number of each pattern and rule, and how much was
+    // read.
     ensures ruled_tells { IfRuled arguments.now (λ given. result ≡ 2
         → RuledTells E.Sink F.Folder folder.now given streams.old streams.new) }
     ensures ruled_quiet { IfRuled arguments.now (λ given. result ≡ 0

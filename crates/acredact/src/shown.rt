@@ -4,7 +4,7 @@ ghost use Rattle.std.specs.Prelude.{◌≡◌, ◌<◌, ℕ, OnOk, Option, decim
 ghost use Rattle.programs.specs.Messages.{line_before};
 ghost use Rattle.programs.specs.Telling.{TellsBytes};
 ghost use Rattle.acredact.specs.Counts.{PutsText};
-ghost use Rattle.acredact.specs.Messages.{digit_of, escaped_of, is_control, message_about, shown, told_line};
+ghost use Rattle.acredact.specs.Messages.{digit_of, digits_in, escaped_of, is_control, message_about, shown, told_line};
 
 use aho_devices::device::Sink;
 use itoa::write_digits;
@@ -91,11 +91,18 @@ fn put_byte(text: &mut Vec<u8>, byte: u8) -> Result<(), AllocError>
 {
     if is_control(byte) {
         text.extend_from_slice(b"\\x")?;
-        text.push(digit_of(byte / 16))?;
-        text.push(digit_of(byte % 16))?;
-        return Ok(());
+        return put_digits(text, byte);
     }
     text.push(byte)?;
+    Ok(())
+}
+
+/// Puts a byte by its two hexadecimal digits.
+pub fn put_digits(text: &mut Vec<u8>, byte: u8) -> Result<(), AllocError>
+    ensures put { OnOk result (PutsText text.old text.new (digits_in byte)) }
+{
+    text.push(digit_of(byte / 16))?;
+    text.push(digit_of(byte % 16))?;
     Ok(())
 }
 

@@ -2,7 +2,7 @@
 
 ghost use Rattle.std.specs.Prelude.{OnOk};
 ghost use Rattle.acredact.specs.Counts.{PutsText};
-ghost use Rattle.acredact.specs.Summaries.{listed, more_listed, summary_text};
+ghost use Rattle.acredact.specs.Summaries.{amounts_text, listed, more_listed, summary_text};
 
 use crate::counts::put_number;
 use std::alloc::AllocError;
@@ -20,13 +20,22 @@ pub struct Volume {
 pub fn put_summary(text: &mut Vec<u8>, volume: Volume, counts: &[u64]) -> Result<(), AllocError>
     ensures put { OnOk result (PutsText text.old text.new (summary_text volume counts.now)) }
 {
+    put_amounts(text, volume, counts)?;
+    text.extend_from_slice(b"}\n")
+}
+
+/// The members of a summary that a call has with rules too.
+pub fn put_amounts(text: &mut Vec<u8>, volume: Volume, counts: &[u64]) -> Result<(), AllocError>
+    ensures put { OnOk result (PutsText text.old text.new (amounts_text volume counts.now)) }
+{
     text.extend_from_slice(b"{\"files\":")?;
     put_number(text, volume.files)?;
     text.extend_from_slice(b",\"bytes\":")?;
     put_number(text, volume.bytes)?;
     text.extend_from_slice(b",\"replacements\":[")?;
     put_list(text, counts)?;
-    text.extend_from_slice(b"]}\n")
+    text.push(b']')?;
+    Ok(())
 }
 
 /// Numbers with commas between them.

@@ -1,5 +1,5 @@
 -- The files are redacted by what was loaded.
-use Rattle.std.proofs.Common.{rules, ◌≡◌, ◌∙◌, List, ℕ, ap, length, sym, subst}
+use Rattle.std.proofs.Common.{rules, ◌≡◌, ◌∙◌, List, ℕ, ap, length, sym, subst, true}
 use Rattle.std.specs.Prelude.{Bool, Err, Ok, Result, replicate}
 use Rattle.std.proofs.lemmas.List.{length-map}
 use Rattle.aho_core.specs.Replacement.{pieces_of}
@@ -18,13 +18,15 @@ use Rattle.acredact.specs.LineRules.{most_asked}
 use Rattle.acredact.specs.LongLines.{long_told}
 use Rattle.acredact.specs.Ruled.{LinedFiles, LoadedRuled, Ruling, patterns_by_case, rule_asked, ruled_by, ruled_in, ruled_load, ruling_as, ruling_by, texts_asked}
 use Rattle.acredact.specs.contracts.run_pieces.RunPiecesPieces.TheImpl.{ghosts as RunPiecesGhosts}
+use Rattle.acredact.specs.Summaries.{no_volume}
+use Rattle.acredact.specs.Volumes.{ReadsVolume}
 use Rattle.acredact.specs.Tables.{patterns_in, secret_of, secrets_of}
 use Rattle.acredact.specs.declared.arguments.Word.TheVariants.{AsWord}
 use Rattle.acredact.specs.declared.failure.Failure.TheVariants.{Other}
 use Rattle.acredact.specs.declared.ruled_failure.RuledFailure.{RuledFailure}
 use Rattle.acredact.specs.declared.ruled_failure.RuledFailure.TheVariants.{LineEnd, Plain}
 use Rattle.acredact.proofs.Ready.{some_shortest}
-use Rattle.acredact.proofs.RuledCalls.{files_done, files_failed, ruled_none, texts_many}
+use Rattle.acredact.proofs.RuledCalls.{failed_as, files_done, files_failed, ruled_none, texts_many}
 use Rattle.acredact.proofs.RuledText.{can_search}
 use Rattle.acredact.proofs.ruled.redact_ruled.Goals as goal
 
@@ -58,13 +60,13 @@ returns-in_err-nfa-clause-outcome g c =
 
 pub returns-in_err-counts-clause-outcome : goal.returns-in_err-counts-clause-outcome
 returns-in_err-counts-clause-outcome g c =
-    let is : c.from_residual-in_err-counts.result ≡ Err (Plain (Other OutOfMemory)) = search rules in
+    let is : c.from_residual-in_err-counts.result ≡ Err (Plain (Other OutOfMemory)) = failed_as c.from_residual-in_err-counts.result (Plain (Other OutOfMemory)) c.from_residual-in_err-counts.ensures.0 c.from_residual-in_err-counts.ensures.1 in
     subst (λ (r : Result Bool RuledFailure). LoadedRuled g.W.Write g.E.Sink g.F.Folder c.args.folder.now c.args.given.now c.args.secrets.now c.args.rules.now c.args.key r c.args.streams.now c.args.streams.now) (sym is)
     (ruled_none g.E.Sink (call_of g.F.Folder c.args.folder.now (all_given c.args.given.now)) (ruled_load c.args.secrets.now c.args.rules.now c.args.key) (Plain (Other OutOfMemory)) _ _ _)
 
 pub returns-in_err-lined-clause-outcome : goal.returns-in_err-lined-clause-outcome
 returns-in_err-lined-clause-outcome g c =
-    let is : c.from_residual-in_err-lined.result ≡ Err (Plain (Other (Build c.in_err-lined.field-0.0))) = search rules in
+    let is : c.from_residual-in_err-lined.result ≡ Err (Plain (Other (Build c.in_err-lined.field-0.0))) = failed_as c.from_residual-in_err-lined.result (Plain (Other (Build c.in_err-lined.field-0.0))) c.from_residual-in_err-lined.ensures.0 c.from_residual-in_err-lined.ensures.1 in
     subst (λ (r : Result Bool RuledFailure). LoadedRuled g.W.Write g.E.Sink g.F.Folder c.args.folder.now c.args.given.now c.args.secrets.now c.args.rules.now c.args.key r c.args.streams.now c.args.streams.now) (sym is)
     (ruled_none g.E.Sink (call_of g.F.Folder c.args.folder.now (all_given c.args.given.now)) (ruled_load c.args.secrets.now c.args.rules.now c.args.key) (Plain (Other (Build c.in_err-lined.field-0.0))) _ _ _)
 
@@ -114,8 +116,10 @@ returns-in-Ok-clause-outcome g c =
     let sized = sym (length-map c.as_slice-texts.result.now (λ piece. piece.now)) ∙ ap length written ∙ texts_many given load in
     let count : c.last_of-count.result ≡ last_of c.cover_files-done.new.counts = c.last_of-count.ensures.last in
     let long = subst (λ (m : ℕ). TellsBytes g.E.Sink c.cover_files-done.new.streams.errors c.tell_count.new.errors (long_told m c.last_of-count.result)) c.most_of-most.ensures.most c.tell_count.ensures.told in
-    files_done g.E.Sink call load c.in-Ok.all c.tell_runs.result (length c.as_slice-texts.result.now) c.as_mut_slice-tally.result.now c.cover_files-done.new.counts _ _ _ _
-    c.args.streams.now.errors c.cover_files-done.new.streams.errors c.tell_count.new.errors c.tell_runs.new.errors files zeros sized
+    let read = λ (all : c.in-Ok.all ≡ true). subst (λ (l : List (List ℕ)). ReadsVolume call.holds l no_volume c.cover_files-done.new.volume (bytes_left c.args.streams.now.input) (bytes_left c.cover_files-done.new.streams.input)) names
+    (c.in-Ok.ensures.read (ap Ok all)) in
+    files_done g.E.Sink call load c.in-Ok.all c.tell_runs.result (length c.as_slice-texts.result.now) c.as_mut_slice-tally.result.now c.cover_files-done.new.counts c.cover_files-done.new.volume _ _ _ _
+    c.args.streams.now.errors c.cover_files-done.new.streams.errors c.tell_count.new.errors c.tell_runs.new.errors files zeros sized read
     (subst (λ (n : ℕ). TellsBytes g.E.Sink c.cover_files-done.new.streams.errors c.tell_count.new.errors (long_told (most_asked given) n)) count long)
     c.tell_runs.ensures.all c.tell_runs.ensures.told c.tell_runs.ensures.lines
 

@@ -1,6 +1,7 @@
 -- The file is that of the input, or of the folder.
 use Rattle.std.proofs.Common.{◌∙◌, sym, refl}
 use Rattle.acredact.specs.Ruled.{ruled_in}
+use Rattle.acredact.proofs.Metering.{input_bytes, opened_bytes}
 use Rattle.acredact.proofs.RuledFiles.{named_input, named_opened, named_refused}
 use Rattle.acredact.proofs.ruled_files.cover_file.Goals as goal
 
@@ -16,3 +17,12 @@ returns-in-Ok-clause-outcome g c = λ ruling lined.
 pub returns-in-Err-clause-outcome : goal.returns-in-Err-clause-outcome
 returns-in-Err-clause-outcome g c = λ ruling lined.
     named_refused (ruled_in g.F.Folder c.args.folder.now ruling) c.args.name.now _ _ _ _ (sym c.is_input.ensures.is ∙ c.if-is_input.false)
+
+pub returns-then-is_input-clause-read : goal.returns-then-is_input-clause-read
+returns-then-is_input-clause-read g c = λ whole.
+    input_bytes (g.F.Folder.holds c.args.folder.now) c.args.name.now _ _ _ _ (sym c.is_input.ensures.is ∙ c.if-is_input.true) (c.cover_input.ensures.read whole)
+
+pub returns-in-Ok-clause-read : goal.returns-in-Ok-clause-read
+returns-in-Ok-clause-read g c = λ whole.
+    let opened = c.cover_opened.ensures.read whole in
+    opened_bytes (g.F.Folder.holds c.args.folder.now) c.args.name.now _ _ _ _ (sym c.is_input.ensures.is ∙ c.if-is_input.false) refl _ opened.0 c.in-Ok.ensures.told opened.1

@@ -2,10 +2,9 @@
 use Rattle.std.proofs.Common.{rules, ◌≡◌, List, subst, true}
 use Rattle.programs.specs.Telling.{TellsBytes}
 use Rattle.secret_rules.specs.declared.rule.Rule.{Rule as LineRule}
-use Rattle.acredact.specs.Arguments.{all_given, has}
+use Rattle.acredact.specs.Arguments.{all_given, counts_asked}
 use Rattle.acredact.specs.RunCounts.{runs_text}
 use Rattle.acredact.specs.Tables.{secrets_of}
-use Rattle.acredact.specs.declared.arguments.Word.TheVariants.{Count}
 use Rattle.acredact.proofs.Calls.{tells_same}
 use Rattle.acredact.proofs.RuledCalls.{runs_told}
 use Rattle.acredact.proofs.run_counts.tell_runs.Goals as goal
@@ -15,12 +14,12 @@ returns-in_err-write_runs-clause-lines g c = tells_same g.E.Sink _ _ _ c.in_err-
 
 pub returns-then-has_failed-clause-lines : goal.returns-then-has_failed-clause-lines
 returns-then-has_failed-clause-lines g c =
-    let is : has Count (all_given c.args.given.now) ≡ true = search rules in
-    runs_told g.E.Sink (all_given c.args.given.now) (secrets_of c.args.secrets.now) c.args.line_rules.now c.args.counts.now _ _ is
-    (subst (λ (l : List LineRule). TellsBytes g.E.Sink c.args.errors.now c.write_runs.new.errors (runs_text c.args.secrets.now l c.args.counts.now)) c.as_slice.ensures.same c.in_ok-write_runs.ensures.told)
+    let is : counts_asked (all_given c.args.given.now) ≡ true = search rules in
+    runs_told g.E.Sink (all_given c.args.given.now) (secrets_of c.args.secrets.now) c.args.line_rules.now c.args.tally.now c.args.volume _ _ is
+    (subst (λ (l : List LineRule). TellsBytes g.E.Sink c.args.errors.now c.write_runs.new.errors (runs_text (all_given c.args.given.now) c.args.secrets.now l c.args.tally.now c.args.volume)) c.as_slice-rules.ensures.same c.in_ok-write_runs.ensures.told)
 
 pub returns-clause-lines : goal.returns-clause-lines
 returns-clause-lines g c =
-    let is : has Count (all_given c.args.given.now) ≡ true = search rules in
-    runs_told g.E.Sink (all_given c.args.given.now) (secrets_of c.args.secrets.now) c.args.line_rules.now c.args.counts.now _ _ is
-    (subst (λ (l : List LineRule). TellsBytes g.E.Sink c.args.errors.now c.write_runs.new.errors (runs_text c.args.secrets.now l c.args.counts.now)) c.as_slice.ensures.same c.in_ok-write_runs.ensures.told)
+    let is : counts_asked (all_given c.args.given.now) ≡ true = search rules in
+    runs_told g.E.Sink (all_given c.args.given.now) (secrets_of c.args.secrets.now) c.args.line_rules.now c.args.tally.now c.args.volume _ _ is
+    (subst (λ (l : List LineRule). TellsBytes g.E.Sink c.args.errors.now c.write_runs.new.errors (runs_text (all_given c.args.given.now) c.args.secrets.now l c.args.tally.now c.args.volume)) c.as_slice-rules.ensures.same c.in_ok-write_runs.ensures.told)

@@ -1,0 +1,103 @@
+//! How much was read and replaced by rules, as one object of JSON.
+
+ghost use Rattle.std.specs.Prelude.{OnOk};
+ghost use Rattle.acredact.specs.Counts.{PutsText};
+ghost use Rattle.acredact.specs.RunSummaries.{byte_in_json, bytes_in_json, more_rules_listed, rule_object, rules_listed, run_summary_text};
+
+use crate::counts::put_number;
+use crate::ruled::last_of;
+use crate::shown::put_digits;
+use crate::summary::{Volume, put_amounts};
+use secret_rules::Rule as LineRule;
+use std::alloc::AllocError;
+
+/// The text of a summary: how much was read, for each pattern how often its text was written, for each rule its name and how many runs
+/// have its number, and how many lines were too long. The last of these numbers stands behind those of rules.
+pub fn put_run_summary(
+    text: &mut Vec<u8>,
+    volume: Volume,
+    counts: &[u64],
+    rules: &[LineRule],
+    runs: &[u64],
+) -> Result<(), AllocError>
+    ensures put { OnOk result (PutsText text.old text.new
+        (run_summary_text volume counts.now rules.now runs.now)) }
+{
+    put_amounts(text, volume, counts)?;
+    text.extend_from_slice(b",\"rules\":[")?;
+    put_rules(text, rules, runs)?;
+    text.extend_from_slice(b"],\"long\":")?;
+    put_number(text, last_of(runs))?;
+    text.extend_from_slice(b"}\n")
+}
+
+/// An object for each rule, with commas between them.
+fn put_rules(text: &mut Vec<u8>, rules: &[LineRule], runs: &[u64]) -> Result<(), AllocError>
+    ensures put { OnOk result (PutsText text.old text.new (rules_listed rules.now runs.now)) }
+{
+    if rules.is_empty() {
+        return Ok(());
+    }
+    if runs.is_empty() {
+        return Ok(());
+    }
+    put_rule(text, &rules[0], runs[0])?;
+    put_more_rules(text, &rules[1..], &runs[1..])
+}
+
+/// An object for each rule, with a comma in front of each.
+fn put_more_rules(text: &mut Vec<u8>, rules: &[LineRule], runs: &[u64]) -> Result<(), AllocError>
+    ensures put { OnOk result (PutsText text.old text.new (more_rules_listed rules.now runs.now)) }
+{
+    let mut rest = rules;
+    let mut left = runs;
+    while !rest.is_empty() {
+        if left.is_empty() {
+            return Ok(());
+        }
+        text.push(b',')?;
+        put_rule(text, &rest[0], left[0])?;
+        rest = &rest[1..];
+        left = &left[1..];
+    }
+    Ok(())
+}
+
+/// The object of a rule: its name, and how many runs have its number.
+fn put_rule(text: &mut Vec<u8>, rule: &LineRule, count: u64) -> Result<(), AllocError>
+    ensures put { OnOk result (PutsText text.old text.new (rule_object rule.now count)) }
+{
+    text.extend_from_slice(b"{\"id\":\"")?;
+    put_bytes(text, rule.id.as_bytes())?;
+    text.extend_from_slice(b"\",\"runs\":")?;
+    put_number(text, count)?;
+    text.push(b'}')?;
+    Ok(())
+}
+
+/// Puts bytes as they stand within a string of JSON.
+fn put_bytes(text: &mut Vec<u8>, bytes: &[u8]) -> Result<(), AllocError>
+    ensures put { OnOk result (PutsText text.old text.new (bytes_in_json bytes.now)) }
+{
+    let mut rest = bytes;
+    while !rest.is_empty() {
+        put_byte(text, rest[0])?;
+        rest = &rest[1..];
+    }
+    Ok(())
+}
+
+/// Puts a byte as it stands there: a quote and a backslash behind a backslash, and one below 32 by its number.
+fn put_byte(text: &mut Vec<u8>, byte: u8) -> Result<(), AllocError>
+    ensures put { OnOk result (PutsText text.old text.new (byte_in_json byte)) }
+{
+    if byte < 32 {
+        text.extend_from_slice(b"\\u00")?;
+        return put_digits(text, byte);
+    }
+    if byte == b'"' || byte == b'\\' {
+        text.push(b'\\')?;
+    }
+    text.push(byte)?;
+    Ok(())
+}
