@@ -18,8 +18,8 @@ use Rattle.acredact.specs.Doubts.{TellsDoubts}
 use Rattle.acredact.specs.Failures.{IsFailureLine}
 use Rattle.acredact.specs.RuleLines.{IsRuledLine}
 use Rattle.acredact.specs.LineRules.{most_asked}
-use Rattle.acredact.specs.Ruled.{AreRuledLoaded, IsRuledNotice, IsRuledTold, RuledLoad, patterns_by_case}
-use Rattle.acredact.specs.RuledChecks.{CheckedLines, DoubtedCheck, LineQuest, RuledCheck, RuledCheckStatus, SeenFiles, TellsRuledCheck, line_quest_by}
+use Rattle.acredact.specs.Ruled.{AreRulesGiven, IsRuledNotice, IsRuledTold, patterns_by_case}
+use Rattle.acredact.specs.RuledChecks.{CheckLoad, CheckedLines, DoubtedCheck, LineQuest, RuledCheck, RuledCheckStatus, SeenFiles, TellsRuledCheck, line_quest_by}
 use Rattle.acredact.specs.Statuses.{check_status}
 use Rattle.acredact.specs.Tables.{patterns_in}
 use Rattle.acredact.specs.declared.arguments.Word.TheVariants.{AsWord, Summary}
@@ -34,14 +34,14 @@ use Rattle.acredact.proofs.RuledFiles.{all_then, some_weaker, then_some}
 use Rattle.acredact.proofs.Statuses.{tells_one}
 
 -- what is looked for by such parts is that of the call
-abbrev pub quest_as : Call → RuledLoad → Bool → List Rule → ℕ → List (List ℕ) → LineQuest
+abbrev pub quest_as : Call → CheckLoad → Bool → List Rule → ℕ → List (List ℕ) → LineQuest
 quest_as call load words told most texts = record {
   holds = call.holds;
   covering = covering_by words load.rules most (patterns_by_case call.given texts);
   labels = record { secrets = load.secrets; rules = told; most = most };
 }
 
-pub quest_same : (call : Call) (load : RuledLoad) (words : Bool) (told : List Rule) (most : ℕ) (texts : List (List ℕ)) → words ≡ has AsWord call.given → told ≡ load.rules → most ≡ most_asked call.given
+pub quest_same : (call : Call) (load : CheckLoad) (words : Bool) (told : List Rule) (most : ℕ) (texts : List (List ℕ)) → words ≡ has AsWord call.given → told ≡ load.rules → most ≡ most_asked call.given
     → texts ≡ patterns_in load.secrets → quest_as call load words told most texts ≡ line_quest_by call load
 quest_same call load words told most texts is_words is_told is_most is_texts =
     ap (λ (w : Bool). quest_as call load w told most texts) is_words
@@ -81,18 +81,18 @@ module _ {E : Type 0} (K : SinkGhosts E) (call : Call) where
   check_early failure left left' held errors = record { whole = tt; begun = inl (Keeps-refl held); tells = check_silent failure errors; quiet = tt }
 
   -- before a file was read
-  pub check_none : (load : RuledLoad) (failure : RuledFailure) (left held : Option (List ℕ)) (errors : Errors E) → CheckedLines K call load (Err failure) left left held held errors errors
+  pub check_none : (load : CheckLoad) (failure : RuledFailure) (left held : Option (List ℕ)) (errors : Errors E) → CheckedLines K call load (Err failure) left left held held errors errors
   check_none load failure left held errors = record { whole = tt; begun = inl (Keeps-refl held); tells = check_silent failure errors; quiet = tt }
 
   -- or before doubtful patterns were told
-  pub check_undoubted : (load : RuledLoad) (failure : RuledFailure) (left held : Option (List ℕ)) (errors : Errors E) → DoubtedCheck K call load (Err failure) left left held held errors errors
+  pub check_undoubted : (load : CheckLoad) (failure : RuledFailure) (left held : Option (List ℕ)) (errors : Errors E) → DoubtedCheck K call load (Err failure) left left held held errors errors
   check_undoubted load failure left held errors = record { whole = tt; begun = inl (Keeps-refl held); tells = check_silent failure errors; quiet = tt }
 
   unread : (line : List ℕ) → IsUnreadLine (names_asked call.given) line → IsRuledTold call line
   unread line is = inl is
 
   -- the files were looked at, and where that is asked for it was told what was found
-  pub files_looked : (load : RuledLoad) (verdict : Verdict) (left left' held held' seen seen' : Option (List ℕ)) (errors errors' : Errors E)
+  pub files_looked : (load : CheckLoad) (verdict : Verdict) (left left' held held' seen seen' : Option (List ℕ)) (errors errors' : Errors E)
       → SeenFiles K (line_quest_by call load) (names_asked call.given) (Ok verdict) left left' seen seen' errors errors'
       → (has Summary call.given ≡ true → (seen ≡ held) × (seen' ≡ held')) → (has Summary call.given ≡ false → Keeps held held')
       → CheckedLines K call load (Ok verdict) left left' held held' errors errors'
@@ -128,7 +128,7 @@ module _ {E : Type 0} (K : SinkGhosts E) (call : Call) where
       }
 
   -- or not all of them
-  pub files_unlooked : (load : RuledLoad) (error : LineError) (failure : RuledFailure) (left left' held held' seen seen' : Option (List ℕ)) (errors errors' : Errors E)
+  pub files_unlooked : (load : CheckLoad) (error : LineError) (failure : RuledFailure) (left left' held held' seen seen' : Option (List ℕ)) (errors errors' : Errors E)
       → SeenFiles K (line_quest_by call load) (names_asked call.given) (Err error) left left' seen seen' errors errors'
       → (has Summary call.given ≡ true → (seen ≡ held) × (seen' ≡ held')) → (has Summary call.given ≡ false → Keeps held held')
       → CheckedLines K call load (Err failure) left left' held held' errors errors'
@@ -146,7 +146,7 @@ module _ {E : Type 0} (K : SinkGhosts E) (call : Call) where
       by false is = record { whole = tt; begun = inl (untold is); tells = tells; quiet = tt }
 
   -- behind what is told of doubtful patterns
-  pub check_behind : (load : RuledLoad) (result : Result Verdict RuledFailure) (left left' held held' : Option (List ℕ)) (errors meanwhile errors' : Errors E) → TellsDoubts K false call.given load.secrets errors meanwhile
+  pub check_behind : (load : CheckLoad) (result : Result Verdict RuledFailure) (left left' held held' : Option (List ℕ)) (errors meanwhile errors' : Errors E) → TellsDoubts K false call.given load.secrets errors meanwhile
       → CheckedLines K call load result left left' held held' meanwhile errors' → DoubtedCheck K call load result left left' held held' errors errors'
   check_behind load result left left' held held' errors meanwhile errors' doubted of = by result of
     where
@@ -171,8 +171,8 @@ module _ {E : Type 0} (K : SinkGhosts E) (call : Call) where
       }
 
   -- what was loaded decides what comes of the call
-  pub check_loaded : (load : RuledLoad) (result : Result Verdict RuledFailure) (left between left' held held' : Option (List ℕ)) (errors errors' : Errors E)
-      → AreRuledLoaded (reading_by call) call.given load left between → DoubtedCheck K call load result between left' held held' errors errors' → RuledCheck K call result left left' held held' errors errors'
+  pub check_loaded : (load : CheckLoad) (result : Result Verdict RuledFailure) (left between left' held held' : Option (List ℕ)) (errors errors' : Errors E)
+      → AreRulesGiven (reading_by call) call.given load.secrets load.rules left between → DoubtedCheck K call load result between left' held held' errors errors' → RuledCheck K call result left left' held held' errors errors'
   check_loaded load result left between left' held held' errors errors' loaded of = by result of
     where
       by : (result : Result Verdict RuledFailure) → DoubtedCheck K call load result between left' held held' errors errors' → RuledCheck K call result left left' held held' errors errors'

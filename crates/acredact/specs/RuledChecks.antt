@@ -39,7 +39,7 @@ use Rattle.acredact.specs.Loading.{AreGiven}
 use Rattle.acredact.specs.Messages.{shown}
 use Rattle.acredact.specs.Reads.{OfName, ReadsText}
 use Rattle.acredact.specs.RuleLines.{named_or}
-use Rattle.acredact.specs.Ruled.{AreRuledLoaded, Between, IsRuledTold, RuledLoad, ruled_load, ruling_by}
+use Rattle.acredact.specs.Ruled.{AreRulesGiven, Between, IsRuledTold, ruling_by}
 use Rattle.acredact.specs.Sums.{counts_for}
 use Rattle.acredact.specs.Tables.{Secret, secrets_of}
 use Rattle.acredact.specs.declared.arguments.Word.TheVariants.{Summary}
@@ -296,44 +296,56 @@ module _ {E : Type 0} (K : SinkGhosts E) where
     pub partly : IfOk result (λ verdict. verdict.all ≡ false → TellsSome K (IsUnreadLine names) errors errors')
     pub quiet : IfOk result (λ verdict. verdict.all ≡ true → errors' ≡ errors)
 
+-- what is loaded: the secrets that are patterns, and the rules
+pub record CheckLoad : Type 0 where
+  pub secrets : List Secret
+  pub rules : List Rule
+
+abbrev pub check_load : List PatternRule → List Rule → CheckLoad
+check_load secrets rules = record { secrets = secrets_of secrets; rules = rules }
+
+-- by which lines are covered
+abbrev pub covering_asked : List Given → CheckLoad → Covering
+covering_asked given load = (ruling_by given (record { secrets = load.secrets; rules = load.rules; key = None })).covering
+
 -- of a call
-abbrev pub labels_by : List Given → RuledLoad → Labels
+abbrev pub labels_by : List Given → CheckLoad → Labels
 labels_by given load = record { secrets = load.secrets; rules = load.rules; most = most_asked given }
 
-abbrev pub line_quest_by : Call → RuledLoad → LineQuest
-line_quest_by call load = record { holds = call.holds; covering = (ruling_by call.given load).covering; labels = labels_by call.given load }
+abbrev pub line_quest_by : Call → CheckLoad → LineQuest
+line_quest_by call load = record { holds = call.holds; covering = covering_asked call.given load; labels = labels_by call.given load }
 
 module _ (call : Call) (found : Bool) (left left' held held' : Option (List ℕ)) where
   -- each file was read to its end, and this says whether there is a run in a line of one; where that is asked for all of them were told
-  pub record SeesLoaded (load : RuledLoad) : Type 0 where
+  pub record SeesLoaded (load : CheckLoad) : Type 0 where
     pub runs : List (List (List Occurrence))
-    pub have : HaveLineRuns call.holds (ruling_by call.given load).covering (names_asked call.given) runs left left'
+    pub have : HaveLineRuns call.holds (covering_asked call.given load) (names_asked call.given) runs left left'
     pub found_is : found ≡ is_some_file runs
     pub told : has Summary call.given ≡ true → Appends held held' (files_findings (labels_by call.given load) (names_asked call.given) runs)
 
   -- of patterns and rules that were loaded
   pub record SeesByRules : Type 0 where
-    pub load : RuledLoad
+    pub load : CheckLoad
     pub between : Option (List ℕ)
-    pub loaded : AreRuledLoaded (reading_by call) call.given load left between
+    pub loaded : AreRulesGiven (reading_by call) call.given load.secrets load.rules left between
     pub runs : List (List (List Occurrence))
-    pub have : HaveLineRuns call.holds (ruling_by call.given load).covering (names_asked call.given) runs between left'
+    pub have : HaveLineRuns call.holds (covering_asked call.given load) (names_asked call.given) runs between left'
     pub found_is : found ≡ is_some_file runs
     pub told : has Summary call.given ≡ true → Appends held held' (files_findings (labels_by call.given load) (names_asked call.given) runs)
 
 module _ (call : Call) (left left' held held' : Option (List ℕ)) where
   -- they were loaded, and a beginning of what tells of each file was written
   pub record BeginsRuledTelling : Type 0 where
-    pub load : RuledLoad
+    pub load : CheckLoad
     pub between : Option (List ℕ)
-    pub loaded : AreRuledLoaded (reading_by call) call.given load left between
+    pub loaded : AreRulesGiven (reading_by call) call.given load.secrets load.rules left between
     pub begun : BeginAllTelling (line_quest_by call load) (names_asked call.given) between left' held held'
 
   -- or nothing was
   abbrev pub BeginsRuledCheck : Type 0
   BeginsRuledCheck = Keeps held held' ⊎ BeginsRuledTelling
 
-  abbrev pub BeginsLoadedCheck : RuledLoad → Type 0
+  abbrev pub BeginsLoadedCheck : CheckLoad → Type 0
   BeginsLoadedCheck load = Keeps held held' ⊎ BeginAllTelling (line_quest_by call load) (names_asked call.given) left left' held held'
 
 module _ {E : Type 0} (K : SinkGhosts E) where
@@ -343,14 +355,14 @@ module _ {E : Type 0} (K : SinkGhosts E) where
     pub partly : IfOk result (λ verdict. verdict.all ≡ false → TellsSome K (IsRuledTold call) errors errors')
 
   -- what comes of the files of a call whose patterns and rules were loaded
-  pub record CheckedLines (call : Call) (load : RuledLoad) (result : Result Verdict RuledFailure) (left left' held held' : Option (List ℕ)) (errors errors' : Errors E) : Type 0 where
+  pub record CheckedLines (call : Call) (load : CheckLoad) (result : Result Verdict RuledFailure) (left left' held held' : Option (List ℕ)) (errors errors' : Errors E) : Type 0 where
     pub whole : IfOk result (λ verdict. verdict.all ≡ true → SeesLoaded call verdict.found left left' held held' load)
     pub begun : BeginsLoadedCheck call left left' held held' load
     pub tells : TellsRuledCheck call result errors errors'
     pub quiet : IfOk result (λ verdict. verdict.all ≡ true → errors' ≡ errors)
 
   -- the same behind what is told of doubtful patterns
-  pub record DoubtedCheck (call : Call) (load : RuledLoad) (result : Result Verdict RuledFailure) (left left' held held' : Option (List ℕ)) (errors errors' : Errors E) : Type 0 where
+  pub record DoubtedCheck (call : Call) (load : CheckLoad) (result : Result Verdict RuledFailure) (left left' held held' : Option (List ℕ)) (errors errors' : Errors E) : Type 0 where
     pub whole : IfOk result (λ verdict. verdict.all ≡ true → SeesLoaded call verdict.found left left' held held' load)
     pub begun : BeginsLoadedCheck call left left' held held' load
     pub tells : TellsRuledCheck call result errors errors'
@@ -358,9 +370,9 @@ module _ {E : Type 0} (K : SinkGhosts E) where
 
   -- nothing was told but of the patterns of the lists that were loaded
   pub record TellsListsBeside (call : Call) (left : Option (List ℕ)) (errors errors' : Errors E) : Type 0 where
-    pub load : RuledLoad
+    pub load : CheckLoad
     pub between : Option (List ℕ)
-    pub loaded : AreRuledLoaded (reading_by call) call.given load left between
+    pub loaded : AreRulesGiven (reading_by call) call.given load.secrets load.rules left between
     pub doubts : TellsDoubts K false call.given load.secrets errors errors'
 
   -- and of the whole call
@@ -465,12 +477,12 @@ module _ {R : Type 0} {Reads : Readers R} {W E : Type 0} (Writes : Writers W) (K
   -- what comes of patterns and rules that were loaded
   abbrev pub LoadedCheck : {F X : Type 0} → Folders F X → F → List Item → List PatternRule → List Rule → Result Verdict RuledFailure → (streams streams' : Streams R W E Reads) → Type 0
   LoadedCheck D folder items secrets rules result streams streams' =
-      Between Writes (CheckedLines K (call_of D folder (all_given items)) (ruled_load secrets rules) result) streams streams'
+      Between Writes (CheckedLines K (call_of D folder (all_given items)) (check_load secrets rules) result) streams streams'
 
   -- where doubtful ones are to be told
   abbrev pub UndoubtedCheck : {F X : Type 0} → Folders F X → F → List Item → List PatternRule → List Rule → Result Verdict RuledFailure → (streams streams' : Streams R W E Reads) → Type 0
   UndoubtedCheck D folder items secrets rules result streams streams' =
-      Between Writes (DoubtedCheck K (call_of D folder (all_given items)) (ruled_load secrets rules) result) streams streams'
+      Between Writes (DoubtedCheck K (call_of D folder (all_given items)) (check_load secrets rules) result) streams streams'
 
   -- of patterns that were loaded, where the rules are to be
   abbrev pub UnruledCheck : {F X : Type 0} → Folders F X → F → List Given → List PatternRule → Result Verdict RuledFailure → (streams streams' : Streams R W E Reads) → Type 0

@@ -9,8 +9,8 @@ use Rattle.programs.specs.Streams.{bytes_left}
 use Rattle.programs.specs.declared.failure.Failure.TheVariants.{Build, OutOfMemory}
 use Rattle.acredact.specs.Arguments.{all_given}
 use Rattle.acredact.specs.Calls.{call_of, names_asked}
-use Rattle.acredact.specs.Ruled.{patterns_by_case, ruled_load}
-use Rattle.acredact.specs.RuledChecks.{LineQuest, LoadedCheck, SeenFiles, line_quest_by}
+use Rattle.acredact.specs.Ruled.{patterns_by_case}
+use Rattle.acredact.specs.RuledChecks.{LineQuest, LoadedCheck, SeenFiles, check_load, line_quest_by}
 use Rattle.acredact.specs.Tables.{patterns_in, secrets_of}
 use Rattle.acredact.specs.declared.failure.Failure.TheVariants.{Other}
 use Rattle.acredact.specs.declared.look.Verdict.{Verdict}
@@ -24,31 +24,31 @@ use Rattle.acredact.proofs.ruled_check.check_lines.Goals as goal
 
 pub returns-in-Some-clause-outcome : goal.returns-in-Some-clause-outcome
 returns-in-Some-clause-outcome g c =
-    check_none g.E.Sink (call_of g.F.Folder c.args.folder.now (all_given c.args.given.now)) (ruled_load c.args.secrets.now c.args.line_rules.now) (LineEnd c.in-Some.number) _ _ _
+    check_none g.E.Sink (call_of g.F.Folder c.args.folder.now (all_given c.args.given.now)) (check_load c.args.secrets.now c.args.line_rules.now) (LineEnd c.in-Some.number) _ _ _
 
 pub returns-in_err-patterns-clause-outcome : goal.returns-in_err-patterns-clause-outcome
 returns-in_err-patterns-clause-outcome g c =
     let is : c.from_residual.result ≡ Err (Plain (Other OutOfMemory)) = search rules in
     subst (λ (r : Result Verdict RuledFailure). LoadedCheck g.W.Write g.E.Sink g.F.Folder c.args.folder.now c.args.given.now c.args.secrets.now c.args.line_rules.now r c.args.streams.now c.args.streams.now) (sym is)
-    (check_none g.E.Sink (call_of g.F.Folder c.args.folder.now (all_given c.args.given.now)) (ruled_load c.args.secrets.now c.args.line_rules.now) (Plain (Other OutOfMemory)) _ _ _)
+    (check_none g.E.Sink (call_of g.F.Folder c.args.folder.now (all_given c.args.given.now)) (check_load c.args.secrets.now c.args.line_rules.now) (Plain (Other OutOfMemory)) _ _ _)
 
 pub returns-in_err-names-clause-outcome : goal.returns-in_err-names-clause-outcome
 returns-in_err-names-clause-outcome g c =
     let is : c.from_residual-in_err-names.result ≡ Err (Plain (Other OutOfMemory)) = search rules in
     subst (λ (r : Result Verdict RuledFailure). LoadedCheck g.W.Write g.E.Sink g.F.Folder c.args.folder.now c.args.given.now c.args.secrets.now c.args.line_rules.now r c.args.streams.now c.args.streams.now) (sym is)
-    (check_none g.E.Sink (call_of g.F.Folder c.args.folder.now (all_given c.args.given.now)) (ruled_load c.args.secrets.now c.args.line_rules.now) (Plain (Other OutOfMemory)) _ _ _)
+    (check_none g.E.Sink (call_of g.F.Folder c.args.folder.now (all_given c.args.given.now)) (check_load c.args.secrets.now c.args.line_rules.now) (Plain (Other OutOfMemory)) _ _ _)
 
 pub returns-in_err-nfa-clause-outcome : goal.returns-in_err-nfa-clause-outcome
 returns-in_err-nfa-clause-outcome g c =
     let is : c.from_residual-in_err-nfa.result ≡ Err (Plain (Other (Build c.in_err-nfa.field-0.0))) = search rules in
     subst (λ (r : Result Verdict RuledFailure). LoadedCheck g.W.Write g.E.Sink g.F.Folder c.args.folder.now c.args.given.now c.args.secrets.now c.args.line_rules.now r c.args.streams.now c.args.streams.now) (sym is)
-    (check_none g.E.Sink (call_of g.F.Folder c.args.folder.now (all_given c.args.given.now)) (ruled_load c.args.secrets.now c.args.line_rules.now) (Plain (Other (Build c.in_err-nfa.field-0.0))) _ _ _)
+    (check_none g.E.Sink (call_of g.F.Folder c.args.folder.now (all_given c.args.given.now)) (check_load c.args.secrets.now c.args.line_rules.now) (Plain (Other (Build c.in_err-nfa.field-0.0))) _ _ _)
 
 pub returns-in_err-cover-clause-outcome : goal.returns-in_err-cover-clause-outcome
 returns-in_err-cover-clause-outcome g c =
-    let is : c.from_residual-in_err-cover.result ≡ Err (Plain (Other OutOfMemory)) = search rules in
+    let is : c.from_residual-in_err-cover.result ≡ Err (Plain (Other (Build c.in_err-cover.field-0.0))) = search rules in
     subst (λ (r : Result Verdict RuledFailure). LoadedCheck g.W.Write g.E.Sink g.F.Folder c.args.folder.now c.args.given.now c.args.secrets.now c.args.line_rules.now r c.args.streams.now c.args.streams.now) (sym is)
-    (check_none g.E.Sink (call_of g.F.Folder c.args.folder.now (all_given c.args.given.now)) (ruled_load c.args.secrets.now c.args.line_rules.now) (Plain (Other OutOfMemory)) _ _ _)
+    (check_none g.E.Sink (call_of g.F.Folder c.args.folder.now (all_given c.args.given.now)) (check_load c.args.secrets.now c.args.line_rules.now) (Plain (Other (Build c.in_err-cover.field-0.0))) _ _ _)
 
 pub line_cover-requires : goal.line_cover-requires
 line_cover-requires g c =
@@ -64,7 +64,7 @@ pub returns-in-Ok-clause-outcome : goal.returns-in-Ok-clause-outcome
 returns-in-Ok-clause-outcome g c =
     let given = all_given c.args.given.now in
     let call = call_of g.F.Folder c.args.folder.now given in
-    let load = ruled_load c.args.secrets.now c.args.line_rules.now in
+    let load = check_load c.args.secrets.now c.args.line_rules.now in
     let texts = pieces_of c.as_slice.result.now in
     let words : texts ≡ patterns_in load.secrets = ap pieces_of c.as_slice.ensures.value ∙ c.in_ok-patterns.ensures.patterns in
     let names : name_bytes c.as_slice-2.result.now ≡ names_asked given = ap name_bytes c.as_slice-2.ensures.value ∙ c.in_ok-names.ensures.names in
@@ -84,7 +84,7 @@ pub returns-clause-outcome : goal.returns-clause-outcome
 returns-clause-outcome g c =
     let given = all_given c.args.given.now in
     let call = call_of g.F.Folder c.args.folder.now given in
-    let load = ruled_load c.args.secrets.now c.args.line_rules.now in
+    let load = check_load c.args.secrets.now c.args.line_rules.now in
     let texts = pieces_of c.as_slice.result.now in
     let words : texts ≡ patterns_in load.secrets = ap pieces_of c.as_slice.ensures.value ∙ c.in_ok-patterns.ensures.patterns in
     let names : name_bytes c.as_slice-2.result.now ≡ names_asked given = ap name_bytes c.as_slice-2.ensures.value ∙ c.in_ok-names.ensures.names in
