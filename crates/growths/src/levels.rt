@@ -94,9 +94,7 @@ fn finds(levels: &Levels) -> Result<(), Wrong>
         MatchKind::LeftmostLongest => (4, 1, 9),
     };
     match levels.try_find(&Input::new(b"zabcdefghz")) {
-        Ok(Some(m))
-            if m.pattern().as_usize() == number && m.start() == start && m.end() == end =>
-        {
+        Ok(Some(m)) if m.pattern().as_usize() == number && m.start() == start && m.end() == end => {
             Ok(())
         }
         _ => Err("a search answers wrong"),
