@@ -1,0 +1,1 @@
+-- Which options do not go with rules.

@@ -1,0 +1,302 @@
+//! Searching the files of a call by rules, one after another.
+
+use crate::failure::Stop;
+use crate::files::{Files, Outcome, Seen, goes_on, job_for, put_total, writes_into};
+use crate::keys::{INPUT, is_input, open_named};
+use crate::marked::{Marked, Pass, Task, needs_one};
+use crate::noting::Noting;
+use crate::open::Open;
+use crate::select::Job;
+use crate::tell::{PROGRAM, tell_memory};
+use crate::unread::{tell_closed, tell_same, tell_stop, tell_total, tell_unread, tell_unreadable};
+use chromesquid::{Automaton, FromRead, Sink, Source, StreamError};
+use programs::errors::Errors;
+use programs::reason::Reason;
+use rule_files::{RuleFlaw, bad_rule, tell_rule};
+use secret_rules::{LineCover, LineError, MarkError, Rule, visit_lines};
+use std::alloc::Global;
+use std::cell::Cell;
+use std::io::Read;
+
+/// What stands for a file in messages about a rule that cannot be used.
+const RULES: &[u8] = b"--rules";
+
+/// What marks the lines of files.
+#[derive(Drop)]
+pub struct Marking<'r, 'a, A> {
+    /// What marks them.
+    pub cover: LineCover<'r, 'a, A>,
+    /// The rules.
+    pub rules: &'r [Rule],
+    /// Whether standard input was read.
+    pub input_read: bool,
+    /// How many lines are too long.
+    pub long: u64,
+}
+
+/// Searches all files, and answers the status. A file that cannot be read does not stop the others.
+pub fn mark_files<A: Automaton, F: Open, R: Read, W: Sink, E: Sink>(
+    marking: &mut Marking<'_, '_, A>,
+    job: &Job<'_>,
+    files: &Files<'_, F>,
+    input: &mut R,
+    output: &mut W,
+    errors: &mut Errors<'_, E>,
+) -> u8 {
+    if files.names.is_empty() {
+        let names = [INPUT];
+        return mark_names(marking, job, files.files, &names, input, output, errors);
+    }
+    mark_names(
+        marking,
+        job,
+        files.files,
+        files.names,
+        input,
+        output,
+        errors,
+    )
+}
+
+/// Searches the files of these names, one after another, and answers the status.
+pub fn mark_names<A: Automaton, F: Open, R: Read, W: Sink, E: Sink>(
+    marking: &mut Marking<'_, '_, A>,
+    job: &Job<'_>,
+    files: &F,
+    names: &[&[u8]],
+    input: &mut R,
+    output: &mut W,
+    errors: &mut Errors<'_, E>,
+) -> u8 {
+    let mut seen = Seen::new();
+    let mut rest = names;
+    while goes_on(rest, seen) {
+        let outcome = mark_name(marking, job, files, rest[0], input, output, errors);
+        seen = seen.after(job.shown, outcome);
+        rest = &rest[1..];
+    }
+    seen.status(job.shown)
+}
+
+/// Searches the file of a name.
+fn mark_name<A: Automaton, F: Open, R: Read, W: Sink, E: Sink>(
+    marking: &mut Marking<'_, '_, A>,
+    job: &Job<'_>,
+    files: &F,
+    name: &[u8],
+    input: &mut R,
+    output: &mut W,
+    errors: &mut Errors<'_, E>,
+) -> Outcome {
+    if is_input(name) {
+        let named = job_for(job, job.label, false);
+        return mark_input(marking, &named, files, input, output, errors);
+    }
+    let named = job_for(job, name, false);
+    mark_named(marking, &named, files, name, output, errors)
+}
+
+/// Opens the file of a name and searches it.
+fn mark_named<A: Automaton, F: Open, W: Sink, E: Sink>(
+    marking: &mut Marking<'_, '_, A>,
+    job: &Job<'_>,
+    files: &F,
+    name: &[u8],
+    output: &mut W,
+    errors: &mut Errors<'_, E>,
+) -> Outcome {
+    if writes_into(job, files, name) {
+        let _ = output.flush();
+        tell_same(job, errors);
+        return Outcome::Unread;
+    }
+    match open_named(files, name) {
+        Ok(file) => mark_reader(marking, job, file, output, errors),
+        Err(error) => {
+            let _ = output.flush();
+            tell_closed(job, Reason::of(&error), errors);
+            Outcome::Unread
+        }
+    }
+}
+
+/// Searches standard input, unless the output goes to it. Where it was read before, it has nothing more.
+fn mark_input<A: Automaton, F: Open, R: Read, W: Sink, E: Sink>(
+    marking: &mut Marking<'_, '_, A>,
+    job: &Job<'_>,
+    files: &F,
+    input: &mut R,
+    output: &mut W,
+    errors: &mut Errors<'_, E>,
+) -> Outcome {
+    if writes_into(job, files, b"/dev/stdin") {
+        let _ = output.flush();
+        tell_same(job, errors);
+        return Outcome::Unread;
+    }
+    if let Some(why) = files.unusable_input() {
+        let _ = output.flush();
+        tell_unreadable(job, why, errors);
+        return Outcome::Unread;
+    }
+    if marking.input_read {
+        return end_file(job, 0, output, errors);
+    }
+    marking.input_read = true;
+    mark_reader(marking, job, input, output, errors)
+}
+
+/// Searches what a reader gives, and writes what is asked of it.
+fn mark_reader<A: Automaton, R: Read + Drop, W: Sink, E: Sink>(
+    marking: &mut Marking<'_, '_, A>,
+    job: &Job<'_>,
+    reader: R,
+    output: &mut W,
+    errors: &mut Errors<'_, E>,
+) -> Outcome {
+    let reason = Cell::new(None);
+    let mut source = FromRead::new(Noting::new(reader, &reason));
+    let task = Task {
+        alloc: job.alloc,
+        shown: job.shown,
+        style: job.style,
+        rules: marking.rules,
+    };
+    let walked = mark_lines(&mut marking.cover, &mut source, start(output, task, job));
+    marking.long = marking.long.saturating_add(walked.pass.long);
+    let Walked { output, pass, done } = walked;
+    match stop_of(done, reason.get(), job, pass) {
+        None => end_file(job, pass.selected, output, errors),
+        Some(End::Rule(number)) => {
+            let _ = output.flush();
+            tell_too_big(job.alloc, marking.rules, number, errors);
+            Outcome::Stopped
+        }
+        Some(End::Stop(stop)) => break_off(job, pass.selected, &stop, output, errors),
+    }
+}
+
+/// What writes of the lines of a file, of which none was read.
+fn start<'o, 's, 'r, W>(
+    output: &'o mut W,
+    task: Task<'s, 'r>,
+    job: &Job<'_>,
+) -> Marked<'o, 's, 'r, W> {
+    let pass = Pass {
+        place: job.first,
+        selected: 0,
+        long: 0,
+    };
+    Marked { output, task, pass }
+}
+
+/// What comes of the lines of a source.
+#[derive(Drop)]
+struct Walked<'o, W> {
+    /// Where something of them was written.
+    output: &'o mut W,
+    /// How far they were searched.
+    pass: Pass,
+    /// Whether they were read to their end.
+    done: Result<(), LineError>,
+}
+
+/// Has what writes of lines take those that a source gives.
+fn mark_lines<'o, A: Automaton, S: Source, W: Sink>(
+    cover: &mut LineCover<'_, '_, A>,
+    source: &mut S,
+    marked: Marked<'o, '_, '_, W>,
+) -> Walked<'o, W> {
+    let mut marked = marked;
+    let done = visit_lines(cover, source, &mut marked);
+    let Marked { output, pass, .. } = marked;
+    Walked { output, pass, done }
+}
+
+/// Why the lines of a file were not all searched.
+#[derive(Drop)]
+enum End {
+    /// As a search by patterns may stop.
+    Stop(Stop),
+    /// The expression of the rule of this number is too big.
+    Rule(usize),
+}
+
+/// Why the lines of a file were not all searched, if there is a reason but that one of them tells all.
+fn stop_of(
+    done: Result<(), LineError>,
+    reason: Option<Reason>,
+    job: &Job<'_>,
+    pass: Pass,
+) -> Option<End> {
+    if needs_one(job.shown) && pass.selected > 0 {
+        return None;
+    }
+    match done {
+        Ok(()) => None,
+        Err(LineError::Stream(error)) => Some(End::Stop(stop_in(error, reason))),
+        Err(LineError::Mark(MarkError::TooBig(number))) => Some(End::Rule(number)),
+        Err(LineError::Mark(MarkError::OutOfMemory)) => Some(End::Stop(Stop::OutOfMemory)),
+    }
+}
+
+/// The same for an error of a stream, by why a read failed.
+fn stop_in(error: StreamError, reason: Option<Reason>) -> Stop {
+    match error {
+        StreamError::Read(_) => Stop::Read(reason.unwrap_or(Reason::ReadFault)),
+        StreamError::PositionLimit => Stop::Read(Reason::PositionLimit),
+        StreamError::Memory => Stop::OutOfMemory,
+        _ => Stop::Write,
+    }
+}
+
+/// Tells that the expression of the rule of a number is too big to be compiled.
+fn tell_too_big<E: Sink>(
+    alloc: Global,
+    rules: &[Rule],
+    number: usize,
+    errors: &mut Errors<'_, E>,
+) {
+    let Some(rule) = rules.get(number) else {
+        return tell_memory(errors);
+    };
+    match bad_rule(alloc, number.saturating_add(1), rule, RuleFlaw::TooBig) {
+        Ok(bad) => tell_rule(errors, PROGRAM, RULES, &bad),
+        Err(_) => tell_memory(errors),
+    }
+}
+
+/// Writes what is asked of a file that was searched.
+fn end_file<W: Sink, E: Sink>(
+    job: &Job<'_>,
+    selected: u64,
+    output: &mut W,
+    errors: &mut Errors<'_, E>,
+) -> Outcome {
+    let mut page = Vec::new(job.alloc);
+    match put_total(job, selected, &mut page, output) {
+        Ok(()) => Outcome::Searched(selected > 0),
+        Err(stop) => {
+            tell_total(&stop, errors);
+            Outcome::Stopped
+        }
+    }
+}
+
+/// Tells why a search stopped. Of a file that cannot be read to its end is written what is asked of it so far.
+fn break_off<W: Sink, E: Sink>(
+    job: &Job<'_>,
+    selected: u64,
+    stop: &Stop,
+    output: &mut W,
+    errors: &mut Errors<'_, E>,
+) -> Outcome {
+    let _ = output.flush();
+    if tell_stop(job, stop, errors) {
+        return Outcome::Stopped;
+    }
+    match end_file(job, selected, output, errors) {
+        Outcome::Searched(_) => Outcome::Unread,
+        outcome => outcome,
+    }
+}

@@ -1,0 +1,171 @@
+//! A call by rules: the lines are selected in which they mark something.
+
+use crate::arguments::Given;
+use crate::below::{are_several, asks_to_look, reach, slices_of, status_below, tell_each};
+use crate::colors::Screen;
+use crate::excluded::{expanded, read_globs};
+use crate::files::Files;
+use crate::folders::Folders;
+use crate::marked_files::{Marking, mark_files, mark_names};
+use crate::open::Open;
+use crate::options::Flags;
+use crate::print::{DIGITS, put_digits};
+use crate::rule_lists::read_rules;
+use crate::run::{job_of, with_rules};
+use crate::tell::{PROGRAM, tell_memory};
+use chromesquid::noncontiguous::NFA;
+use chromesquid::{Automaton, Sink};
+use programs::errors::Errors;
+use secret_rules::{LineCover, Rules};
+use std::alloc::{AllocError, Global};
+use std::io::Read;
+
+/// How many bytes a line may have, where nothing else is said.
+const USUAL_MOST: u64 = 1024 * 1024;
+
+/// How many rules there may be at most.
+const MOST_RULES: usize = 2_147_483_646;
+
+/// Does what right arguments with rules ask for.
+pub fn mark_said<F: Open + Folders, R: Read, W: Sink, E: Sink>(
+    alloc: Global,
+    given: Given<'_>,
+    screen: &Screen<'_>,
+    files: &F,
+    input: &mut R,
+    output: &mut W,
+    errors: &mut Errors<'_, E>,
+) -> u8 {
+    let rules = given.rules.as_slice();
+    let Some(texts) = read_globs(alloc, rules, files, input, errors) else {
+        return 2;
+    };
+    let Ok(all) = expanded(alloc, rules, texts.as_slice()) else {
+        tell_memory(errors);
+        return 2;
+    };
+    let ruled = with_rules(given, all);
+    mark_asked(alloc, &ruled, screen, files, input, output, errors)
+}
+
+/// Reads the rules, and searches by them.
+fn mark_asked<F: Open + Folders, R: Read, W: Sink, E: Sink>(
+    alloc: Global,
+    given: &Given<'_>,
+    screen: &Screen<'_>,
+    files: &F,
+    input: &mut R,
+    output: &mut W,
+    errors: &mut Errors<'_, E>,
+) -> u8 {
+    let names = given.rule_files.as_slice();
+    let Some(rules) = read_rules(alloc, names, files, input, errors) else {
+        return 2;
+    };
+    let most = most_of(&given.flags);
+    let Ok(cover) = cover_of(alloc, &rules, most) else {
+        tell_memory(errors);
+        return 2;
+    };
+    let mut marking = Marking {
+        cover,
+        rules: rules.as_slice(),
+        input_read: false,
+        long: 0,
+    };
+    let operands = Files {
+        alloc,
+        names: given.operands.as_slice(),
+        files,
+    };
+    let status = mark_operands(
+        &mut marking,
+        given,
+        screen,
+        &operands,
+        input,
+        output,
+        errors,
+    );
+    tell_long(most, marking.long, errors);
+    status
+}
+
+/// How many bytes a line may have.
+fn most_of(flags: &Flags) -> usize {
+    flags.longest.unwrap_or(USUAL_MOST) as usize
+}
+
+/// What marks lines of so many bytes by these rules.
+fn cover_of<'r, 'a>(
+    alloc: Global,
+    rules: &'r Rules,
+    most: usize,
+) -> Result<LineCover<'r, 'a, NFA>, AllocError> {
+    if rules.as_slice().len() > MOST_RULES {
+        return Err(AllocError);
+    }
+    LineCover::new(alloc, rules, None, false, most)
+}
+
+/// Searches the files that these operands name, with those below folders where that is asked for.
+fn mark_operands<A: Automaton, F: Open + Folders, R: Read, W: Sink, E: Sink>(
+    marking: &mut Marking<'_, '_, A>,
+    given: &Given<'_>,
+    screen: &Screen<'_>,
+    operands: &Files<'_, F>,
+    input: &mut R,
+    output: &mut W,
+    errors: &mut Errors<'_, E>,
+) -> u8 {
+    if asks_to_look(given) {
+        return mark_below(marking, given, screen, operands, input, output, errors);
+    }
+    let job = job_of(operands.alloc, given, screen, operands.names.len() > 1);
+    mark_files(marking, &job, operands, input, output, errors)
+}
+
+/// Searches those that globs do not leave out, and the files below folders where that is asked for.
+fn mark_below<A: Automaton, F: Open + Folders, R: Read, W: Sink, E: Sink>(
+    marking: &mut Marking<'_, '_, A>,
+    given: &Given<'_>,
+    screen: &Screen<'_>,
+    operands: &Files<'_, F>,
+    input: &mut R,
+    output: &mut W,
+    errors: &mut Errors<'_, E>,
+) -> u8 {
+    let Ok(found) = reach(operands.alloc, operands.files, given, operands.names) else {
+        tell_memory(errors);
+        return 2;
+    };
+    let Ok(names) = slices_of(operands.alloc, found.names.as_slice()) else {
+        tell_memory(errors);
+        return 2;
+    };
+    let several = are_several(&given.flags, operands.names, names.as_slice());
+    let job = job_of(operands.alloc, given, screen, several);
+    tell_each(given.flags.no_messages, found.unread.as_slice(), errors);
+    let files = operands.files;
+    let status = mark_names(marking, &job, files, names.as_slice(), input, output, errors);
+    status_below(&given.flags, found.unread.as_slice(), status)
+}
+
+/// Tells how many lines have more bytes than this, if one has.
+fn tell_long<E: Sink>(most: usize, count: u64, errors: &mut Errors<'_, E>) {
+    if count == 0 {
+        return;
+    }
+    let mut room = [0; DIGITS];
+    let mut other_room = [0; DIGITS];
+    let start = put_digits(most as u64, &mut room);
+    let other_start = put_digits(count, &mut other_room);
+    errors.write(&[
+        PROGRAM,
+        b": lines of more than ",
+        &room[start..],
+        b" bytes, each selected and not written: ",
+        &other_room[other_start..],
+        b"\n",
+    ]);
+}
