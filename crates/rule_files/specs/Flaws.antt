@@ -5,7 +5,7 @@ use Rattle.secret_rules.specs.Tables.{key_name}
 use Rattle.secret_rules.specs.declared.parsing.Key.{Key}
 use Rattle.secret_rules.specs.declared.parsing.Key.TheVariants.{Id, Regex as RegexKey, Keywords as KeywordsKey, SecretGroup, Until, With}
 use Rattle.secret_rules.specs.declared.rule.Rule.{Rule as LineRule}
-use Rattle.rule_files.specs.Messages.{shown, told_line}
+use Rattle.rule_files.specs.Messages.{as_shown, shown_line}
 use Rattle.rule_files.specs.declared.fault.TextFault.{TextFault}
 use Rattle.rule_files.specs.declared.fault.TextFault.TheVariants.{ByteOrderMark, Utf16, NotText, Toml, NoRule, Rule, OutOfMemory}
 use Rattle.rule_files.specs.declared.flaw.BadRule.{BadRule}
@@ -13,40 +13,40 @@ use Rattle.rule_files.specs.declared.flaw.RuleFlaw.{RuleFlaw}
 use Rattle.rule_files.specs.declared.flaw.RuleFlaw.TheVariants.{Missing, WrongType, EmptyKeyword, LineEnd, Regex, UnknownGroup, TooBig}
 
 -- a rule is told by its name, or by its number in its file where it has none
-abbrev pub named_or : Option (List ℕ) → ℕ → List ℕ
-named_or None number = decimal number
-named_or (Some []) number = decimal number
-named_or (Some (byte ∷ name)) number = shown (byte ∷ name)
+abbrev pub name_or_number : Option (List ℕ) → ℕ → List ℕ
+name_or_number None number = decimal number
+name_or_number (Some []) number = decimal number
+name_or_number (Some (byte ∷ name)) number = as_shown (byte ∷ name)
 
-abbrev pub rule_name : BadRule → List ℕ
-rule_name bad = named_or (option_map string_bytes bad.id) bad.number
+abbrev pub name_of_bad : BadRule → List ℕ
+name_of_bad bad = name_or_number (option_map string_bytes bad.id) bad.number
 
 -- what belongs at a key
-abbrev pub kind_text : Key → List ℕ
-kind_text Id = codes ": a string belongs there"
-kind_text RegexKey = codes ": a string belongs there"
-kind_text KeywordsKey = codes ": an array of strings belongs there"
-kind_text SecretGroup = codes ": a whole number from 0 on belongs there"
-kind_text Until = codes ": a string belongs there"
-kind_text With = codes ": a string belongs there"
+abbrev pub wanted_text : Key → List ℕ
+wanted_text Id = codes ": a string belongs there"
+wanted_text RegexKey = codes ": a string belongs there"
+wanted_text KeywordsKey = codes ": an array of strings belongs there"
+wanted_text SecretGroup = codes ": a whole number from 0 on belongs there"
+wanted_text Until = codes ": a string belongs there"
+wanted_text With = codes ": a string belongs there"
 
 -- why a rule is none. Of an expression it is the place in it, and what the reader of expressions says
-abbrev pub IsFlawText : RuleFlaw → List ℕ → Type 0
-IsFlawText (Missing key) why = why ≡ codes "no " ++ key_name key
-IsFlawText (WrongType key) why = why ≡ key_name key ++ kind_text key
-IsFlawText EmptyKeyword why = why ≡ codes "empty keyword"
-IsFlawText LineEnd why = why ≡ codes "a keyword holds a line end, so it stands in no line"
-IsFlawText (Regex error) why = (cause : List ℕ) × (why ≡ codes "regex, at byte " ++ (decimal (min (error.span.start + 1) (2 ^ 64 - 1)) ++ (codes ": " ++ cause)))
-IsFlawText UnknownGroup why = why ≡ codes "secretGroup: the regex has no such group"
-IsFlawText TooBig why = why ≡ codes "regex: too big to be compiled"
+abbrev pub IsWhyFlawed : RuleFlaw → List ℕ → Type 0
+IsWhyFlawed (Missing key) why = why ≡ codes "no " ++ key_name key
+IsWhyFlawed (WrongType key) why = why ≡ key_name key ++ wanted_text key
+IsWhyFlawed EmptyKeyword why = why ≡ codes "empty keyword"
+IsWhyFlawed LineEnd why = why ≡ codes "a keyword holds a line end, so it stands in no line"
+IsWhyFlawed (Regex error) why = (cause : List ℕ) × (why ≡ codes "regex, at byte " ++ (decimal (min (error.span.start + 1) (2 ^ 64 - 1)) ++ (codes ": " ++ cause)))
+IsWhyFlawed UnknownGroup why = why ≡ codes "secretGroup: the regex has no such group"
+IsWhyFlawed TooBig why = why ≡ codes "regex: too big to be compiled"
 
 -- the line that tells it: of which file and which rule
-abbrev pub bad_rule_line : (program file : List ℕ) → BadRule → (why : List ℕ) → List ℕ
-bad_rule_line program file bad why =
-    program ++ (codes ": " ++ (shown file ++ (codes ": rule " ++ (rule_name bad ++ (codes ": " ++ (why ++ codes "\n"))))))
+abbrev pub flawed_line : (program file : List ℕ) → BadRule → (why : List ℕ) → List ℕ
+flawed_line program file bad why =
+    program ++ (codes ": " ++ (as_shown file ++ (codes ": rule " ++ (name_of_bad bad ++ (codes ": " ++ (why ++ codes "\n"))))))
 
-abbrev pub IsBadRuleLine : (program file : List ℕ) → BadRule → List ℕ → Type 0
-IsBadRuleLine program file bad line = (why : List ℕ) × IsFlawText bad.flaw why × (line ≡ bad_rule_line program file bad why)
+abbrev pub IsFlawedLine : (program file : List ℕ) → BadRule → List ℕ → Type 0
+IsFlawedLine program file bad line = (why : List ℕ) × IsWhyFlawed bad.flaw why × (line ≡ flawed_line program file bad why)
 
 -- this is wrong with the rule of a number
 pub record IsBadRuleOf (number : ℕ) (rule : LineRule) (flaw : RuleFlaw) (bad : BadRule) : Type 0 where
@@ -55,15 +55,15 @@ pub record IsBadRuleOf (number : ℕ) (rule : LineRule) (flaw : RuleFlaw) (bad :
   pub flawed : bad.flaw ≡ flaw
 
 -- a text is no TOML: its line, and what the reader of TOML says
-abbrev pub IsTomlLine : (program file : List ℕ) → ℕ → List ℕ → Type 0
-IsTomlLine program file number line = (cause : List ℕ) × (line ≡ told_line program file (Some number) cause)
+abbrev pub IsNoTomlLine : (program file : List ℕ) → ℕ → List ℕ → Type 0
+IsNoTomlLine program file number line = (cause : List ℕ) × (line ≡ shown_line program file (Some number) cause)
 
 -- the line that tells why the text of a file gives no rules
 abbrev pub IsFaultLine : (program file : List ℕ) → TextFault → List ℕ → Type 0
-IsFaultLine program file ByteOrderMark line = line ≡ told_line program file (Some 1) (codes "byte order mark: leave it out")
-IsFaultLine program file Utf16 line = line ≡ told_line program file (Some 1) (codes "UTF-16: give UTF-8, or what the files hold")
-IsFaultLine program file (NotText number) line = line ≡ told_line program file (Some number) (codes "not UTF-8")
-IsFaultLine program file (Toml number error) line = IsTomlLine program file number line
-IsFaultLine program file NoRule line = line ≡ told_line program file None (codes "no [[rules]]")
-IsFaultLine program file (Rule bad) line = IsBadRuleLine program file bad line
+IsFaultLine program file ByteOrderMark line = line ≡ shown_line program file (Some 1) (codes "byte order mark: leave it out")
+IsFaultLine program file Utf16 line = line ≡ shown_line program file (Some 1) (codes "UTF-16: give UTF-8, or what the files hold")
+IsFaultLine program file (NotText number) line = line ≡ shown_line program file (Some number) (codes "not UTF-8")
+IsFaultLine program file (Toml number error) line = IsNoTomlLine program file number line
+IsFaultLine program file NoRule line = line ≡ shown_line program file None (codes "no [[rules]]")
+IsFaultLine program file (Rule bad) line = IsFlawedLine program file bad line
 IsFaultLine program file OutOfMemory line = line ≡ message_of program None None (codes "out of memory")

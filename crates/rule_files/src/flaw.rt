@@ -3,7 +3,7 @@
 
 ghost use Rattle.std.specs.Prelude.{◌≡◌, ℕ, List};
 ghost use Rattle.programs.specs.Telling.{TellsBytes};
-ghost use Rattle.rule_files.specs.Flaws.{IsBadRuleLine, IsFlawText, kind_text, rule_name};
+ghost use Rattle.rule_files.specs.Flaws.{IsFlawedLine, IsWhyFlawed, wanted_text, name_of_bad};
 
 use crate::shown::{MAX_DIGITS, digits_of, write_shown};
 use aho_devices::device::Sink;
@@ -42,7 +42,7 @@ pub struct BadRule {
 
 /// Tells as a line what is wrong with a rule of the file of a name.
 pub fn tell_rule<E: Sink>(errors: &mut Errors<'_, E>, program: &[u8], name: &[u8], bad: &BadRule)
-    ensures told { (line : List ℕ) × IsBadRuleLine program.now name.now bad.now line
+    ensures told { (line : List ℕ) × IsFlawedLine program.now name.now bad.now line
         × TellsBytes E.Sink errors.old errors.new line }
 {
     errors.write(&[program, b": "]);
@@ -56,7 +56,7 @@ pub fn tell_rule<E: Sink>(errors: &mut Errors<'_, E>, program: &[u8], name: &[u8
 
 /// Writes what a rule is called: its name, or its number.
 fn write_rule<E: Sink>(errors: &mut Errors<'_, E>, bad: &BadRule)
-    ensures told { TellsBytes E.Sink errors.old errors.new (rule_name bad.now) }
+    ensures told { TellsBytes E.Sink errors.old errors.new (name_of_bad bad.now) }
 {
     match &bad.id {
         Some(id) if !id.is_empty() => write_shown(errors, id.as_bytes()),
@@ -69,7 +69,7 @@ fn write_rule<E: Sink>(errors: &mut Errors<'_, E>, bad: &BadRule)
 
 /// Writes what is wrong.
 fn write_flaw<E: Sink>(errors: &mut Errors<'_, E>, flaw: RuleFlaw)
-    ensures told { (why : List ℕ) × IsFlawText flaw why × TellsBytes E.Sink errors.old errors.new why }
+    ensures told { (why : List ℕ) × IsWhyFlawed flaw why × TellsBytes E.Sink errors.old errors.new why }
 {
     match flaw {
         RuleFlaw::Missing(key) => errors.write(&[b"no ", key.as_str().as_bytes()]),
@@ -91,7 +91,7 @@ fn write_flaw<E: Sink>(errors: &mut Errors<'_, E>, flaw: RuleFlaw)
 
 /// What belongs at a key.
 fn kind_of(key: Key) -> &'static [u8]
-    ensures kind { result.now ≡ kind_text key }
+    ensures kind { result.now ≡ wanted_text key }
 {
     match key {
         Key::Keywords => b": an array of strings belongs there",

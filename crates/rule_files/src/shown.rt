@@ -1,9 +1,9 @@
 //! Names in messages: a control character is written as `\x` and two hexadecimal digits, so that each message is one line.
 
-ghost use Rattle.std.specs.Prelude.{◌≡◌, ◌<◌, decimal};
+ghost use Rattle.std.specs.Prelude.{◌≡◌, ◌<◌, decimal, true};
 ghost use Rattle.programs.specs.Messages.{line_before};
 ghost use Rattle.programs.specs.Telling.{TellsBytes};
-ghost use Rattle.rule_files.specs.Messages.{digit_of, escaped_of, is_control, shown, told_line};
+ghost use Rattle.rule_files.specs.Messages.{as_shown, is_unshown, shown_byte, shown_line, upper_hex};
 
 use aho_devices::device::Sink;
 use itoa::write_digits;
@@ -29,8 +29,11 @@ pub(crate) fn tell_shown<E: Sink>(
     cause: &[u8],
 )
     ensures told { TellsBytes E.Sink errors.old errors.new
-        (told_line program.now name.now line cause.now) }
+        (shown_line program.now name.now line cause.now) }
 {
+    if is_plain(name) {
+        return errors.tell(program, Some(name), line, cause);
+    }
     errors.write(&[program, b": "]);
     write_shown(errors, name);
     errors.write(&[b": "]);
@@ -51,7 +54,7 @@ fn write_line<E: Sink>(errors: &mut Errors<'_, E>, line: Option<u64>)
 
 /// Writes a name.
 pub fn write_shown<E: Sink>(errors: &mut Errors<'_, E>, name: &[u8])
-    ensures told { TellsBytes E.Sink errors.old errors.new (shown name.now) }
+    ensures told { TellsBytes E.Sink errors.old errors.new (as_shown name.now) }
 {
     let mut rest = name;
     while !rest.is_empty() {
@@ -62,7 +65,7 @@ pub fn write_shown<E: Sink>(errors: &mut Errors<'_, E>, name: &[u8])
 
 /// Writes a byte of a name.
 fn write_byte<E: Sink>(errors: &mut Errors<'_, E>, byte: u8)
-    ensures told { TellsBytes E.Sink errors.old errors.new (escaped_of byte) }
+    ensures told { TellsBytes E.Sink errors.old errors.new (shown_byte byte) }
 {
     if is_control(byte) {
         let digits = [digit_of(byte / 16), digit_of(byte % 16)];
@@ -71,9 +74,23 @@ fn write_byte<E: Sink>(errors: &mut Errors<'_, E>, byte: u8)
     errors.write(&[&[byte]]);
 }
 
+/// Whether no byte of a name is a control character.
+fn is_plain(name: &[u8]) -> bool
+    ensures plain { result ≡ true → as_shown name.now ≡ name.now }
+{
+    let mut rest = name;
+    while !rest.is_empty() {
+        if is_control(rest[0]) {
+            return false;
+        }
+        rest = &rest[1..];
+    }
+    true
+}
+
 /// Whether a byte is a control character of ASCII.
 fn is_control(byte: u8) -> bool
-    ensures control { result ≡ is_control byte }
+    ensures control { result ≡ is_unshown byte }
 {
     byte < 32 || byte == 127
 }
@@ -81,7 +98,7 @@ fn is_control(byte: u8) -> bool
 /// A hexadecimal digit.
 fn digit_of(digit: u8) -> u8
     requires small { digit < 16 }
-    ensures digit { result ≡ digit_of digit }
+    ensures digit { result ≡ upper_hex digit }
 {
     if digit < 10 {
         return b'0' + digit;
