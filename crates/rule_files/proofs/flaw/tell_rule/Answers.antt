@@ -1,5 +1,5 @@
 -- The line by its parts.
-use Rattle.std.proofs.Common.{List, ℕ, refl, subst, codes}
+use Rattle.std.proofs.Common.{refl, subst, codes}
 use Rattle.programs.specs.Telling.{TellsBytes}
 use Rattle.programs.proofs.Tellings.{tells-later}
 use Rattle.rule_files.specs.Messages.{as_shown}
@@ -10,7 +10,6 @@ use Rattle.rule_files.proofs.flaw.tell_rule.Goals as goal
 pub returns : goal.returns
 returns g c =
     let (why, is, flawed) = c.write_flaw.ensures.told in
-    let named = subst (λ (name : List ℕ). TellsBytes g.E.Sink c.write.new.self c.write_shown.new.errors (as_shown name)) c.as_bytes.ensures.value c.write_shown.ensures.told in
     let K = g.E.Sink in
     record {
       told = (
@@ -18,6 +17,6 @@ returns g c =
         (why, is, refl),
         subst (TellsBytes K c.args.errors.now c.write-4.new.self)
             (seven_parts c.args.program.now (codes ": ") (as_shown c.args.name.now) (codes ": rule ") (name_of_bad c.args.bad.now) (codes ": ") why (codes "\n"))
-            (tells-later K (tells-later K (tells-later K (tells-later K (tells-later K (tells-later K c.write.ensures.told named) c.write-2.ensures.told) c.write_rule.ensures.told) c.write-3.ensures.told) flawed) c.write-4.ensures.told),
+            (tells-later K (tells-later K (tells-later K (tells-later K (tells-later K (tells-later K c.write.ensures.told c.write_shown.ensures.told) c.write-2.ensures.told) c.write_rule.ensures.told) c.write-3.ensures.told) flawed) c.write-4.ensures.told),
       );
     }
