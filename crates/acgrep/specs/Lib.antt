@@ -3,6 +3,7 @@ pub mod Alone
 pub mod Arguments
 pub mod Base64
 pub mod Begun
+pub mod Beside
 pub mod Binary
 pub mod Colors
 pub mod Contexts
@@ -17,6 +18,7 @@ pub mod Lines
 pub mod Listed
 pub mod Loading
 pub mod Long
+pub mod Marked
 pub mod Matches
 pub mod Mistakes
 pub mod Objects

@@ -1,9 +1,9 @@
 //! Which options do not go with rules.
 
-ghost use Rattle.std.specs.Prelude.{◌≡◌, codes};
-ghost use Rattle.aho_core.specs.declared.search.MatchKind.TheVariants.{LeftmostLongest};
+ghost use Rattle.std.specs.Prelude.{◌≡◌, option_map};
 ghost use Rattle.programs.specs.Telling.{TellsBytes};
-ghost use Rattle.acgrep.specs.Beside.{alone_line, beside_line, lines_beside, name_said, output_beside, patterns_beside, unfit_said};
+ghost use Rattle.acgrep.specs.Arguments.{said};
+ghost use Rattle.acgrep.specs.Beside.{last_beside, line_beside, name_beside_rules, output_beside, pattern_beside, source_beside, unfit_line, unfit_said, is_color};
 
 use crate::arguments::{Given, Source};
 use crate::options::{Color, Flags};
@@ -27,7 +27,9 @@ pub enum Unfit {
 }
 
 /// What does not go together, if something does not. An option that says what is done without it too goes with all.
-pub fn unfit_of(given: &Given<'_>) -> Option<Unfit> {
+pub fn unfit_of(given: &Given<'_>) -> Option<Unfit>
+    ensures unfit { option_map unfit_line result ≡ unfit_said (said given.now) }
+{
     if !given.flags.by_rules {
         return if given.flags.longest.is_some() {
             Some(Unfit::Alone)
@@ -42,7 +44,9 @@ pub fn unfit_of(given: &Given<'_>) -> Option<Unfit> {
 }
 
 /// The name of the first option, in the order of the help, that does not go with rules, if there is one.
-fn name_of(given: &Given<'_>) -> Option<&'static [u8]> {
+fn name_of(given: &Given<'_>) -> Option<&'static [u8]>
+    ensures name { option_map (λ name. name.now) result ≡ name_beside_rules (said given.now) }
+{
     if let Some(name) = source_of(given) {
         return Some(name);
     }
@@ -56,7 +60,9 @@ fn name_of(given: &Given<'_>) -> Option<&'static [u8]> {
 }
 
 /// The option that gives patterns, if one does.
-fn source_of(given: &Given<'_>) -> Option<&'static [u8]> {
+fn source_of(given: &Given<'_>) -> Option<&'static [u8]>
+    ensures name { option_map (λ name. name.now) result ≡ source_beside (said given.now).sources }
+{
     match given.sources.first() {
         Some(Source::Text(_)) => Some(b"-e"),
         Some(Source::File(_)) => Some(b"-f"),
@@ -65,7 +71,9 @@ fn source_of(given: &Given<'_>) -> Option<&'static [u8]> {
 }
 
 /// One that says how patterns are searched for.
-fn pattern_option(flags: &Flags) -> Option<&'static [u8]> {
+fn pattern_option(flags: &Flags) -> Option<&'static [u8]>
+    ensures name { option_map (λ name. name.now) result ≡ pattern_beside flags.now }
+{
     if flags.ignore_case {
         return Some(b"-i");
     }
@@ -85,7 +93,9 @@ fn pattern_option(flags: &Flags) -> Option<&'static [u8]> {
 }
 
 /// One that says what is written of lines, files or matches.
-fn output_option(given: &Given<'_>) -> Option<&'static [u8]> {
+fn output_option(given: &Given<'_>) -> Option<&'static [u8]>
+    ensures name { option_map (λ name. name.now) result ≡ output_beside (said given.now) }
+{
     let flags = &given.flags;
     if flags.most.is_some() {
         return Some(b"-m");
@@ -115,7 +125,9 @@ fn output_option(given: &Given<'_>) -> Option<&'static [u8]> {
 }
 
 /// One that says how lines are written and which, or where they end.
-fn line_option(given: &Given<'_>) -> Option<&'static [u8]> {
+fn line_option(given: &Given<'_>) -> Option<&'static [u8]>
+    ensures name { option_map (λ name. name.now) result ≡ line_beside (said given.now) }
+{
     let flags = &given.flags;
     if flags.null {
         return Some(b"-Z");
@@ -139,7 +151,9 @@ fn line_option(given: &Given<'_>) -> Option<&'static [u8]> {
 }
 
 /// One of the others.
-fn last_option(given: &Given<'_>) -> Option<&'static [u8]> {
+fn last_option(given: &Given<'_>) -> Option<&'static [u8]>
+    ensures name { option_map (λ name. name.now) result ≡ last_beside (said given.now) }
+{
     let flags = &given.flags;
     if flags.joined {
         return Some(b"--no-group-separator");
@@ -147,7 +161,7 @@ fn last_option(given: &Given<'_>) -> Option<&'static [u8]> {
     if given.separator != SEPARATOR {
         return Some(b"--group-separator");
     }
-    if flags.color != Color::Never {
+    if is_color(flags.color) {
         return Some(b"--color");
     }
     if flags.text {
@@ -159,8 +173,20 @@ fn last_option(given: &Given<'_>) -> Option<&'static [u8]> {
     None
 }
 
+/// Whether something is coloured.
+fn is_color(color: Color) -> bool
+    ensures color { result ≡ is_color color }
+{
+    match color {
+        Color::Auto | Color::Always => true,
+        Color::Never => false,
+    }
+}
+
 /// Tells what does not go together.
-pub fn tell_unfit<E: Sink>(errors: &mut Errors<'_, E>, unfit: Unfit) {
+pub fn tell_unfit<E: Sink>(errors: &mut Errors<'_, E>, unfit: Unfit)
+    ensures told { TellsBytes E.Sink errors.old errors.new (unfit_line unfit) }
+{
     match unfit {
         Unfit::Beside(name) => {
             errors.write(&[PROGRAM, b": option '", name, b"' does not go with --rules\n"]);

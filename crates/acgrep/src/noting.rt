@@ -1,5 +1,7 @@
 //! A reader that notes why it cannot be read.
 
+ghost use Rattle.std.specs.Prelude.{◌≡◌};
+
 use programs::reason::Reason;
 use std::cell::Cell;
 use std::io;
