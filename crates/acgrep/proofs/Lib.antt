@@ -22,6 +22,7 @@ pub mod HeldLines
 pub mod Kept
 pub mod LineLists
 pub mod LongNames
+pub mod MarkedLines
 pub mod Mistaken
 pub mod NamesSearched
 pub mod NoneAround

@@ -19,6 +19,7 @@ pub mod Listed
 pub mod Loading
 pub mod Long
 pub mod Marked
+pub mod MarkedFiles
 pub mod Matches
 pub mod Mistakes
 pub mod Objects

@@ -67,10 +67,19 @@ first_end (run ∷ runs) = run.end
 abbrev pub line_len : List ℕ → List Occurrence → ℕ
 line_len line runs = if length line == 0 then first_end runs else length line
 
+-- what is asked of a file: what is written of a selected line, what stands before it, and the rules
+pub record Asked : Type 0 where
+  pub shown : Shown
+  pub style : Style
+  pub rules : List Rule
+
+abbrev pub asked_of : Task → Asked
+asked_of task = record { shown = task.shown; style = task.style; rules = task.rules.now }
+
 -- nothing is written of a line that is not selected, and of one that is too long
-abbrev pub marked_line : Task → Place → List ℕ → List Occurrence → List ℕ
-marked_line task place line runs =
-    if (length runs == 0) || (length line == 0) then [] else marked_by task.shown task.style task.rules.now place line runs
+abbrev pub marked_line : Asked → Place → List ℕ → List Occurrence → List ℕ
+marked_line asked place line runs =
+    if (length runs == 0) || (length line == 0) then [] else marked_by asked.shown asked.style asked.rules place line runs
 
 -- one more, if that is so; a count stays at the greatest number
 abbrev pub more_if : Bool → ℕ → ℕ
@@ -89,16 +98,16 @@ abbrev pub pass_after : Pass → List (List ℕ) → List (List Occurrence) → 
 pass_after pass (line ∷ lines) (runs ∷ more) = pass_after (pass_behind pass line runs) lines more
 pass_after pass lines runs = pass
 
-abbrev pub marked_lines : Task → Pass → List (List ℕ) → List (List Occurrence) → List ℕ
-marked_lines task pass (line ∷ lines) (runs ∷ more) = marked_line task pass.place line runs ++ marked_lines task (pass_behind pass line runs) lines more
-marked_lines task pass lines runs = []
+abbrev pub marked_lines : Asked → Pass → List (List ℕ) → List (List Occurrence) → List ℕ
+marked_lines asked pass (line ∷ lines) (runs ∷ more) = marked_line asked pass.place line runs ++ marked_lines asked (pass_behind pass line runs) lines more
+marked_lines asked pass lines runs = []
 
 module _ {W : Type 0} (K : SinkGhosts W) where
   -- what is asked of a line was written to the same output, and it does not tell all
   pub record WritesMarked (output output' : MutBor W) (task task' : Task) (pass pass' : Pass) (line : List ℕ) (runs : List Occurrence) : Type 0 where
     pub same : output'.ghost_name ≡ output.ghost_name
     pub same_task : task' ≡ task
-    pub written : Appends (K.taken output.now) (K.taken output'.now) (marked_line task pass.place line runs)
+    pub written : Appends (K.taken output.now) (K.taken output'.now) (marked_line (asked_of task) pass.place line runs)
     pub behind : pass' ≡ pass_behind pass line runs
     pub goes_on : (needs_one task.shown && is_marked runs) ≡ false
 
@@ -106,5 +115,5 @@ module _ {W : Type 0} (K : SinkGhosts W) where
   pub record StopsMarked (output output' : MutBor W) (task task' : Task) (pass pass' : Pass) (line : List ℕ) (runs : List Occurrence) : Type 0 where
     pub same : output'.ghost_name ≡ output.ghost_name
     pub same_task : task' ≡ task
-    pub begun : AppendsBeginning (K.taken output.now) (K.taken output'.now) (marked_line task pass.place line runs)
+    pub begun : AppendsBeginning (K.taken output.now) (K.taken output'.now) (marked_line (asked_of task) pass.place line runs)
     pub why : (pass' ≡ pass) ⊎ ((pass' ≡ pass_behind pass line runs) × ((needs_one task.shown && is_marked runs) ≡ true))

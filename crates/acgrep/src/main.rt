@@ -32,6 +32,7 @@ mod lines;
 mod long;
 mod marked;
 mod marked_files;
+mod marked_lines;
 mod marking;
 mod matches;
 mod noting;

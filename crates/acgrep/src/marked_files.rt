@@ -3,17 +3,18 @@
 use crate::failure::Stop;
 use crate::files::{Files, Outcome, Seen, goes_on, job_for, put_total, writes_into};
 use crate::keys::{INPUT, is_input, open_named};
-use crate::marked::{Marked, Pass, Task, needs_one};
+use crate::marked::Task;
+use crate::marked_lines::{End, end_of, mark_source};
 use crate::noting::Noting;
 use crate::open::Open;
 use crate::select::Job;
 use crate::tell::{PROGRAM, tell_memory};
 use crate::unread::{tell_closed, tell_same, tell_stop, tell_total, tell_unread, tell_unreadable};
-use chromesquid::{Automaton, FromRead, Sink, Source, StreamError};
+use chromesquid::{Automaton, FromRead, Sink};
 use programs::errors::Errors;
 use programs::reason::Reason;
 use rule_files::{RuleFlaw, bad_rule, tell_rule};
-use secret_rules::{LineCover, LineError, MarkError, Rule, visit_lines};
+use secret_rules::{LineCover, Rule};
 use std::alloc::Global;
 use std::cell::Cell;
 use std::io::Read;
@@ -162,91 +163,23 @@ fn mark_reader<A: Automaton, R: Read + Drop, W: Sink, E: Sink>(
         style: job.style,
         rules: marking.rules,
     };
-    let walked = mark_lines(&mut marking.cover, &mut source, start(output, task, job));
-    marking.long = marking.long.saturating_add(walked.pass.long);
-    let Walked { output, pass, done } = walked;
-    match stop_of(done, reason.get(), job, pass) {
-        None => end_file(job, pass.selected, output, errors),
+    let came = mark_source(
+        &mut marking.cover,
+        task,
+        job.first,
+        &mut source,
+        output,
+    );
+    marking.long = marking.long.saturating_add(came.pass.long);
+    let selected = came.pass.selected;
+    match end_of(came, reason.get(), job.shown) {
+        None => end_file(job, selected, output, errors),
         Some(End::Rule(number)) => {
             let _ = output.flush();
             tell_too_big(job.alloc, marking.rules, number, errors);
             Outcome::Stopped
         }
-        Some(End::Stop(stop)) => break_off(job, pass.selected, &stop, output, errors),
-    }
-}
-
-/// What writes of the lines of a file, of which none was read.
-fn start<'o, 's, 'r, W>(
-    output: &'o mut W,
-    task: Task<'s, 'r>,
-    job: &Job<'_>,
-) -> Marked<'o, 's, 'r, W> {
-    let pass = Pass {
-        place: job.first,
-        selected: 0,
-        long: 0,
-    };
-    Marked { output, task, pass }
-}
-
-/// What comes of the lines of a source.
-#[derive(Drop)]
-struct Walked<'o, W> {
-    /// Where something of them was written.
-    output: &'o mut W,
-    /// How far they were searched.
-    pass: Pass,
-    /// Whether they were read to their end.
-    done: Result<(), LineError>,
-}
-
-/// Has what writes of lines take those that a source gives.
-fn mark_lines<'o, A: Automaton, S: Source, W: Sink>(
-    cover: &mut LineCover<'_, '_, A>,
-    source: &mut S,
-    marked: Marked<'o, '_, '_, W>,
-) -> Walked<'o, W> {
-    let mut marked = marked;
-    let done = visit_lines(cover, source, &mut marked);
-    let Marked { output, pass, .. } = marked;
-    Walked { output, pass, done }
-}
-
-/// Why the lines of a file were not all searched.
-#[derive(Drop)]
-enum End {
-    /// As a search by patterns may stop.
-    Stop(Stop),
-    /// The expression of the rule of this number is too big.
-    Rule(usize),
-}
-
-/// Why the lines of a file were not all searched, if there is a reason but that one of them tells all.
-fn stop_of(
-    done: Result<(), LineError>,
-    reason: Option<Reason>,
-    job: &Job<'_>,
-    pass: Pass,
-) -> Option<End> {
-    if needs_one(job.shown) && pass.selected > 0 {
-        return None;
-    }
-    match done {
-        Ok(()) => None,
-        Err(LineError::Stream(error)) => Some(End::Stop(stop_in(error, reason))),
-        Err(LineError::Mark(MarkError::TooBig(number))) => Some(End::Rule(number)),
-        Err(LineError::Mark(MarkError::OutOfMemory)) => Some(End::Stop(Stop::OutOfMemory)),
-    }
-}
-
-/// The same for an error of a stream, by why a read failed.
-fn stop_in(error: StreamError, reason: Option<Reason>) -> Stop {
-    match error {
-        StreamError::Read(_) => Stop::Read(reason.unwrap_or(Reason::ReadFault)),
-        StreamError::PositionLimit => Stop::Read(Reason::PositionLimit),
-        StreamError::Memory => Stop::OutOfMemory,
-        _ => Stop::Write,
+        Some(End::Stop(stop)) => break_off(job, selected, &stop, output, errors),
     }
 }
 
