@@ -10,6 +10,7 @@ pub mod ColorParts
 pub mod Digits
 pub mod FileTellings
 pub mod FilesBegun
+pub mod FilesMarked
 pub mod Fillings
 pub mod FirstLines
 pub mod FolderTexts
@@ -24,6 +25,7 @@ pub mod LineLists
 pub mod LongNames
 pub mod MarkedLines
 pub mod Mistaken
+pub mod NamesMarked
 pub mod NamesSearched
 pub mod NoneAround
 pub mod NoneInLines

@@ -1,5 +1,10 @@
 //! Searching the files of a call by rules, one after another.
 
+ghost use Rattle.std.specs.Prelude.{◌≡◌, ◌<◌, ◌≤◌, ◌||◌, false};
+ghost use Rattle.programs.specs.Names.{is_input, name_bytes, or_input};
+ghost use Rattle.acgrep.specs.Files.{BeginsTotal, EndsFile, IfBroken, IfSearched};
+ghost use Rattle.acgrep.specs.MarkedFiles.{AreMarkedOr, AreMarksBegun, ComesInput, ComesMarked, ComesName, IfMarks, IsMarking, MarksNames, SameMarking};
+
 use crate::failure::Stop;
 use crate::files::{Files, Outcome, Seen, goes_on, job_for, put_total, writes_into};
 use crate::keys::{INPUT, is_input, open_named};
@@ -43,7 +48,17 @@ pub fn mark_files<A: Automaton, F: Open, R: Read, W: Sink, E: Sink>(
     input: &mut R,
     output: &mut W,
     errors: &mut Errors<'_, E>,
-) -> u8 {
+) -> u8
+    requires ready { IsMarking A.Automaton marking.old }
+    requires unread { marking.old.input_read ≡ false }
+    ensures bound { result ≤ 2 }
+    ensures searched { IfMarks A.Automaton marking.old.cover (λ covering. result < 2
+        → AreMarkedOr job.now covering (F.holds files.now.files.now) (R.remaining input.old)
+        (or_input (name_bytes files.now.names.now)) (W.taken output.old) (W.taken output.new) result) }
+    ensures begun { IfMarks A.Automaton marking.old.cover (λ covering.
+        AreMarksBegun job.now covering (F.holds files.now.files.now) (R.remaining input.old) false
+        (or_input (name_bytes files.now.names.now)) (W.taken output.old) (W.taken output.new)) }
+{
     if files.names.is_empty() {
         let names = [INPUT];
         return mark_names(marking, job, files.files, &names, input, output, errors);
@@ -68,7 +83,37 @@ pub fn mark_names<A: Automaton, F: Open, R: Read, W: Sink, E: Sink>(
     input: &mut R,
     output: &mut W,
     errors: &mut Errors<'_, E>,
-) -> u8 {
+) -> u8
+    requires ready { IsMarking A.Automaton marking.old }
+    requires unread { marking.old.input_read ≡ false }
+    ensures bound { result ≤ 2 }
+    ensures searched { IfMarks A.Automaton marking.old.cover (λ covering. result < 2
+        → AreMarkedOr job.now covering (F.holds files.now) (R.remaining input.old)
+        (name_bytes names.now) (W.taken output.old) (W.taken output.new) result) }
+    ensures begun { IfMarks A.Automaton marking.old.cover (λ covering.
+        AreMarksBegun job.now covering (F.holds files.now) (R.remaining input.old) false
+        (name_bytes names.now) (W.taken output.old) (W.taken output.new)) }
+{
+    let seen = mark_each(marking, job, files, names, input, output, errors);
+    seen.status(job.shown)
+}
+
+/// Searches the files of these names, one after another, and answers what was seen.
+fn mark_each<A: Automaton, F: Open, R: Read, W: Sink, E: Sink>(
+    marking: &mut Marking<'_, '_, A>,
+    job: &Job<'_>,
+    files: &F,
+    names: &[&[u8]],
+    input: &mut R,
+    output: &mut W,
+    errors: &mut Errors<'_, E>,
+) -> Seen
+    requires ready { IsMarking A.Automaton marking.old }
+    requires unread { marking.old.input_read ≡ false }
+    ensures seen { IfMarks A.Automaton marking.old.cover (λ covering.
+        MarksNames job.now covering (F.holds files.now) (R.remaining input.old)
+        (name_bytes names.now) (W.taken output.old) (W.taken output.new) result) }
+{
     let mut seen = Seen::new();
     let mut rest = names;
     while goes_on(rest, seen) {
@@ -76,7 +121,7 @@ pub fn mark_names<A: Automaton, F: Open, R: Read, W: Sink, E: Sink>(
         seen = seen.after(job.shown, outcome);
         rest = &rest[1..];
     }
-    seen.status(job.shown)
+    seen
 }
 
 /// Searches the file of a name.
@@ -88,10 +133,21 @@ fn mark_name<A: Automaton, F: Open, R: Read, W: Sink, E: Sink>(
     input: &mut R,
     output: &mut W,
     errors: &mut Errors<'_, E>,
-) -> Outcome {
+) -> Outcome
+    requires ready { IsMarking A.Automaton marking.old }
+    ensures comes { IfMarks A.Automaton marking.old.cover (λ covering.
+        ComesName job.now covering (F.holds files.now) (R.remaining input.old) marking.old.input_read name.now
+        (W.taken output.old) (W.taken output.new) result) }
+    ensures read { marking.new.input_read ≡ (marking.old.input_read || is_input name.now) }
+    ensures leaves { is_input name.now ≡ false → input.new ≡ input.old }
+    ensures same { SameMarking marking.old marking.new }
+    ensures ready { IsMarking A.Automaton marking.new }
+{
     if is_input(name) {
+        let again = marking.input_read;
+        marking.input_read = true;
         let named = job_for(job, job.label, false);
-        return mark_input(marking, &named, files, input, output, errors);
+        return mark_input(marking, &named, files, again, input, output, errors);
     }
     let named = job_for(job, name, false);
     mark_named(marking, &named, files, name, output, errors)
@@ -105,7 +161,14 @@ fn mark_named<A: Automaton, F: Open, W: Sink, E: Sink>(
     name: &[u8],
     output: &mut W,
     errors: &mut Errors<'_, E>,
-) -> Outcome {
+) -> Outcome
+    requires ready { IsMarking A.Automaton marking.old }
+    ensures comes { IfMarks A.Automaton marking.old.cover (λ covering.
+        ComesMarked job.now covering (F.holds files.now name.now) (W.taken output.old) (W.taken output.new) result) }
+    ensures read { marking.new.input_read ≡ marking.old.input_read }
+    ensures same { SameMarking marking.old marking.new }
+    ensures ready { IsMarking A.Automaton marking.new }
+{
     if writes_into(job, files, name) {
         let _ = output.flush();
         tell_same(job, errors);
@@ -126,10 +189,18 @@ fn mark_input<A: Automaton, F: Open, R: Read, W: Sink, E: Sink>(
     marking: &mut Marking<'_, '_, A>,
     job: &Job<'_>,
     files: &F,
+    again: bool,
     input: &mut R,
     output: &mut W,
     errors: &mut Errors<'_, E>,
-) -> Outcome {
+) -> Outcome
+    requires ready { IsMarking A.Automaton marking.old }
+    ensures comes { IfMarks A.Automaton marking.old.cover (λ covering.
+        ComesInput job.now covering again (R.remaining input.old) (W.taken output.old) (W.taken output.new) result) }
+    ensures read { marking.new.input_read ≡ marking.old.input_read }
+    ensures same { SameMarking marking.old marking.new }
+    ensures ready { IsMarking A.Automaton marking.new }
+{
     if writes_into(job, files, b"/dev/stdin") {
         let _ = output.flush();
         tell_same(job, errors);
@@ -140,10 +211,9 @@ fn mark_input<A: Automaton, F: Open, R: Read, W: Sink, E: Sink>(
         tell_unreadable(job, why, errors);
         return Outcome::Unread;
     }
-    if marking.input_read {
-        return end_file(job, 0, output, errors);
+    if again {
+        return end_marked(job, 0, output, errors);
     }
-    marking.input_read = true;
     mark_reader(marking, job, input, output, errors)
 }
 
@@ -154,7 +224,14 @@ fn mark_reader<A: Automaton, R: Read + Drop, W: Sink, E: Sink>(
     reader: R,
     output: &mut W,
     errors: &mut Errors<'_, E>,
-) -> Outcome {
+) -> Outcome
+    requires ready { IsMarking A.Automaton marking.old }
+    ensures comes { IfMarks A.Automaton marking.old.cover (λ covering.
+        ComesMarked job.now covering (R.remaining reader) (W.taken output.old) (W.taken output.new) result) }
+    ensures read { marking.new.input_read ≡ marking.old.input_read }
+    ensures same { SameMarking marking.old marking.new }
+    ensures ready { IsMarking A.Automaton marking.new }
+{
     let reason = Cell::new(None);
     let mut source = FromRead::new(Noting::new(reader, &reason));
     let task = Task {
@@ -173,13 +250,13 @@ fn mark_reader<A: Automaton, R: Read + Drop, W: Sink, E: Sink>(
     marking.long = marking.long.saturating_add(came.pass.long);
     let selected = came.pass.selected;
     match end_of(came, reason.get(), job.shown) {
-        None => end_file(job, selected, output, errors),
+        None => end_marked(job, selected, output, errors),
         Some(End::Rule(number)) => {
             let _ = output.flush();
             tell_too_big(job.alloc, marking.rules, number, errors);
             Outcome::Stopped
         }
-        Some(End::Stop(stop)) => break_off(job, selected, &stop, output, errors),
+        Some(End::Stop(stop)) => break_marked(job, selected, &stop, output, errors),
     }
 }
 
@@ -199,13 +276,16 @@ fn tell_too_big<E: Sink>(
     }
 }
 
-/// Writes what is asked of a file that was searched.
-fn end_file<W: Sink, E: Sink>(
+/// Writes what is asked of a file that was searched, of which so many lines are selected.
+fn end_marked<W: Sink, E: Sink>(
     job: &Job<'_>,
     selected: u64,
     output: &mut W,
     errors: &mut Errors<'_, E>,
-) -> Outcome {
+) -> Outcome
+    ensures ended { IfSearched result (EndsFile job.now selected (W.taken output.old) (W.taken output.new)) }
+    ensures begun { IfBroken result (BeginsTotal job.now selected (W.taken output.old) (W.taken output.new)) }
+{
     let mut page = Vec::new(job.alloc);
     match put_total(job, selected, &mut page, output) {
         Ok(()) => Outcome::Searched(selected > 0),
@@ -217,19 +297,26 @@ fn end_file<W: Sink, E: Sink>(
 }
 
 /// Tells why a search stopped. Of a file that cannot be read to its end is written what is asked of it so far.
-fn break_off<W: Sink, E: Sink>(
+fn break_marked<W: Sink, E: Sink>(
     job: &Job<'_>,
     selected: u64,
     stop: &Stop,
     output: &mut W,
     errors: &mut Errors<'_, E>,
-) -> Outcome {
+) -> Outcome
+    ensures unsearched { IfSearched result (λ any. ⊥) }
+    ensures begun { BeginsTotal job.now selected (W.taken output.old) (W.taken output.new) }
+{
     let _ = output.flush();
     if tell_stop(job, stop, errors) {
         return Outcome::Stopped;
     }
-    match end_file(job, selected, output, errors) {
-        Outcome::Searched(_) => Outcome::Unread,
-        outcome => outcome,
+    let mut page = Vec::new(job.alloc);
+    match put_total(job, selected, &mut page, output) {
+        Ok(()) => Outcome::Unread,
+        Err(stop) => {
+            tell_total(&stop, errors);
+            Outcome::Stopped
+        }
     }
 }
