@@ -28,6 +28,7 @@ pub mod Printed
 pub mod Reached
 pub mod Rules
 pub mod Runs
+pub mod RunsByRules
 pub mod Searched
 pub mod Searchers
 pub mod Selected

@@ -6,7 +6,7 @@ use crate::arguments::Source;
 use crate::keys::{read_text, tell_source};
 use crate::open::Open;
 use crate::tell::{PROGRAM, tell_memory};
-use chromesquid::Sink;
+use chromesquid::{BuildError, Sink};
 use programs::errors::Errors;
 use rule_files::{TextFault, rules_in, tell_fault};
 use secret_rules::{BUILTIN, Rule, Rules, RulesError};
@@ -101,7 +101,12 @@ fn append_rules(rules: &mut Vec<Rule>, more: Vec<Rule>) -> Result<(), AllocError
 /// Tells why all rules together are refused: each of them was looked at before.
 fn tell_refused<E: Sink>(error: &RulesError, errors: &mut Errors<'_, E>) {
     match error {
-        RulesError::Keywords(error) => errors.tell_build(PROGRAM, Some(ALL), None, error),
+        RulesError::Keywords(error) => tell_all(error, errors),
         RulesError::Rule(_, _, _) | RulesError::OutOfMemory => tell_memory(errors),
     }
+}
+
+/// Tells why no searcher is built for all rules.
+pub fn tell_all<E: Sink>(error: &BuildError, errors: &mut Errors<'_, E>) {
+    errors.tell_build(PROGRAM, Some(ALL), None, error);
 }

@@ -1,5 +1,16 @@
 //! A call by rules: the lines are selected in which they mark something.
 
+ghost use Rattle.std.specs.Prelude.{◌≡◌, ◌<◌, ◌≤◌, IfOk, false, true};
+ghost use Rattle.programs.specs.Names.{name_bytes};
+ghost use Rattle.programs.specs.Telling.{TellsBytes};
+ghost use Rattle.secret_rules.specs.Covering.{covering_by};
+ghost use Rattle.secret_rules.specs.Ready.{CanCoverLines, rules_of};
+ghost use Rattle.acgrep.specs.Arguments.{said};
+ghost use Rattle.acgrep.specs.Folders.{known_by};
+ghost use Rattle.acgrep.specs.MarkedFiles.{IfMarks, IsMarking, MarksBy};
+ghost use Rattle.acgrep.specs.Runs.{asks_to_look};
+ghost use Rattle.acgrep.specs.RunsByRules.{BeginsByRules, MarksAsked, MarksReached, MarksRuled, MayBeginAsked, MayBeginMarks, MayReachMarked, ReachesMarked, long_told, most_said, no_patterns};
+
 use crate::arguments::Given;
 use crate::below::{are_several, asks_to_look, reach, slices_of, status_below, tell_each};
 use crate::colors::Screen;
@@ -10,14 +21,14 @@ use crate::marked_files::{Marking, mark_files, mark_names};
 use crate::open::Open;
 use crate::options::Flags;
 use crate::print::{DIGITS, put_digits};
-use crate::rule_lists::read_rules;
+use crate::rule_lists::{read_rules, tell_all};
 use crate::run::{job_of, with_rules};
 use crate::tell::{PROGRAM, tell_memory};
 use chromesquid::noncontiguous::NFA;
-use chromesquid::{Automaton, Sink};
+use chromesquid::{Automaton, BuildError, Sink};
 use programs::errors::Errors;
 use secret_rules::{LineCover, Rules};
-use std::alloc::{AllocError, Global};
+use std::alloc::Global;
 use std::io::Read;
 
 /// How many bytes a line may have, where nothing else is said.
@@ -35,7 +46,13 @@ pub fn mark_said<F: Open + Folders, R: Read, W: Sink, E: Sink>(
     input: &mut R,
     output: &mut W,
     errors: &mut Errors<'_, E>,
-) -> u8 {
+) -> u8
+    ensures bound { result ≤ 2 }
+    ensures searches { result < 2 → MarksRuled (known_by F.Open F.Folders files.now) screen.now (said given.entry)
+        (R.remaining input.old) (W.taken output.old) (W.taken output.new) result }
+    ensures begins { BeginsByRules (known_by F.Open F.Folders files.now) screen.now (said given.entry)
+        (R.remaining input.old) (W.taken output.old) (W.taken output.new) }
+{
     let rules = given.rules.as_slice();
     let Some(texts) = read_globs(alloc, rules, files, input, errors) else {
         return 2;
@@ -57,15 +74,44 @@ fn mark_asked<F: Open + Folders, R: Read, W: Sink, E: Sink>(
     input: &mut R,
     output: &mut W,
     errors: &mut Errors<'_, E>,
-) -> u8 {
+) -> u8
+    ensures bound { result ≤ 2 }
+    ensures searches { result < 2 → MarksAsked (known_by F.Open F.Folders files.now) screen.now (said given.now)
+        (R.remaining input.old) (W.taken output.old) (W.taken output.new) result }
+    ensures begins { MayBeginAsked (known_by F.Open F.Folders files.now) screen.now (said given.now)
+        (R.remaining input.old) (W.taken output.old) (W.taken output.new) }
+{
     let names = given.rule_files.as_slice();
     let Some(rules) = read_rules(alloc, names, files, input, errors) else {
         return 2;
     };
+    search_by(alloc, given, &rules, screen, files, input, output, errors)
+}
+
+/// Searches by these rules, and tells how many lines are too long.
+fn search_by<F: Open + Folders, R: Read, W: Sink, E: Sink>(
+    alloc: Global,
+    given: &Given<'_>,
+    rules: &Rules,
+    screen: &Screen<'_>,
+    files: &F,
+    input: &mut R,
+    output: &mut W,
+    errors: &mut Errors<'_, E>,
+) -> u8
+    ensures bound { result ≤ 2 }
+    ensures searches { result < 2 → MarksReached (known_by F.Open F.Folders files.now) screen.now (said given.now) rules.now
+        (R.remaining input.old) (W.taken output.old) (W.taken output.new) result }
+    ensures begins { MayBeginMarks (known_by F.Open F.Folders files.now) screen.now (said given.now) rules.now
+        (R.remaining input.old) (W.taken output.old) (W.taken output.new) }
+{
     let most = most_of(&given.flags);
-    let Ok(cover) = cover_of(alloc, &rules, most) else {
-        tell_memory(errors);
-        return 2;
+    let cover = match cover_of(alloc, rules, most) {
+        Ok(cover) => cover,
+        Err(error) => {
+            tell_all(&error, errors);
+            return 2;
+        }
     };
     let mut marking = Marking {
         cover,
@@ -92,7 +138,9 @@ fn mark_asked<F: Open + Folders, R: Read, W: Sink, E: Sink>(
 }
 
 /// How many bytes a line may have.
-fn most_of(flags: &Flags) -> usize {
+fn most_of(flags: &Flags) -> usize
+    ensures most { result ≡ most_said flags.now }
+{
     flags.longest.unwrap_or(USUAL_MOST) as usize
 }
 
@@ -101,11 +149,23 @@ fn cover_of<'r, 'a>(
     alloc: Global,
     rules: &'r Rules,
     most: usize,
-) -> Result<LineCover<'r, 'a, NFA>, AllocError> {
-    if rules.as_slice().len() > MOST_RULES {
-        return Err(AllocError);
+) -> Result<LineCover<'r, 'a, NFA>, BuildError>
+    ensures ready { IfOk result (CanCoverLines ⟦<NFA as Automaton>⟧) }
+    ensures rules { IfOk result (λ cover. rules_of cover ≡ rules.entry.now) }
+    ensures marks { IfOk result (λ cover. MarksBy ⟦<NFA as Automaton>⟧ cover
+        (covering_by false rules.entry.now most no_patterns)) }
+{
+    let count = rules.as_slice().len();
+    if count > MOST_RULES {
+        return Err(BuildError::PatternIDOverflow {
+            max: MOST_RULES as u64,
+            requested: count as u64,
+        });
     }
-    LineCover::new(alloc, rules, None, false, most)
+    match LineCover::new(alloc, rules, None, false, most) {
+        Ok(cover) => Ok(cover),
+        Err(_) => Err(BuildError::OutOfMemory),
+    }
 }
 
 /// Searches the files that these operands name, with those below folders where that is asked for.
@@ -117,7 +177,17 @@ fn mark_operands<A: Automaton, F: Open + Folders, R: Read, W: Sink, E: Sink>(
     input: &mut R,
     output: &mut W,
     errors: &mut Errors<'_, E>,
-) -> u8 {
+) -> u8
+    requires ready { IsMarking A.Automaton marking.old }
+    requires unread { marking.old.input_read ≡ false }
+    ensures bound { result ≤ 2 }
+    ensures searched { IfMarks A.Automaton marking.old.cover (λ covering. result < 2
+        → ReachesMarked (known_by F.Open F.Folders operands.now.files.now) screen.now (said given.now) covering
+        (name_bytes operands.now.names.now) (R.remaining input.old) (W.taken output.old) (W.taken output.new) result) }
+    ensures begun { IfMarks A.Automaton marking.old.cover (λ covering.
+        MayReachMarked (known_by F.Open F.Folders operands.now.files.now) screen.now (said given.now) covering
+        (name_bytes operands.now.names.now) (R.remaining input.old) (W.taken output.old) (W.taken output.new)) }
+{
     if asks_to_look(given) {
         return mark_below(marking, given, screen, operands, input, output, errors);
     }
@@ -134,7 +204,18 @@ fn mark_below<A: Automaton, F: Open + Folders, R: Read, W: Sink, E: Sink>(
     input: &mut R,
     output: &mut W,
     errors: &mut Errors<'_, E>,
-) -> u8 {
+) -> u8
+    requires ready { IsMarking A.Automaton marking.old }
+    requires unread { marking.old.input_read ≡ false }
+    requires looks { asks_to_look (said given.now) ≡ true }
+    ensures bound { result ≤ 2 }
+    ensures searched { IfMarks A.Automaton marking.old.cover (λ covering. result < 2
+        → ReachesMarked (known_by F.Open F.Folders operands.now.files.now) screen.now (said given.now) covering
+        (name_bytes operands.now.names.now) (R.remaining input.old) (W.taken output.old) (W.taken output.new) result) }
+    ensures begun { IfMarks A.Automaton marking.old.cover (λ covering.
+        MayReachMarked (known_by F.Open F.Folders operands.now.files.now) screen.now (said given.now) covering
+        (name_bytes operands.now.names.now) (R.remaining input.old) (W.taken output.old) (W.taken output.new)) }
+{
     let Ok(found) = reach(operands.alloc, operands.files, given, operands.names) else {
         tell_memory(errors);
         return 2;
@@ -152,7 +233,9 @@ fn mark_below<A: Automaton, F: Open + Folders, R: Read, W: Sink, E: Sink>(
 }
 
 /// Tells how many lines have more bytes than this, if one has.
-fn tell_long<E: Sink>(most: usize, count: u64, errors: &mut Errors<'_, E>) {
+fn tell_long<E: Sink>(most: usize, count: u64, errors: &mut Errors<'_, E>)
+    ensures told { TellsBytes E.Sink errors.old errors.new (long_told most count) }
+{
     if count == 0 {
         return;
     }
