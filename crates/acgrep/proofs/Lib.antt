@@ -36,6 +36,7 @@ pub mod PlainWords
 pub mod Reaching
 pub mod RuleTexts
 pub mod RuledCalls
+pub mod RulesGiven
 pub mod Statuses
 pub mod Stepped
 pub mod Streams

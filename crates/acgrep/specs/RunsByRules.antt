@@ -40,6 +40,12 @@ AreAllRules holds [] left left' rules = (left' ≡ left) × (rules ≡ [])
 AreAllRules holds (name ∷ names) left left' rules = (between : Option (List ℕ)) × (first : List Rule) × (rest : List Rule)
     × (rules ≡ first ++ rest) × AreNamedRules holds name left between first × AreAllRules holds names between left' rest
 
+-- rules are added to others
+pub record AddsRules (Gives : List Rule → Type 0) (old new : List Rule) : Type 0 where
+  pub more : List Rule
+  pub grown : new ≡ old ++ more
+  pub of : Gives more
+
 -- how many bytes a line may have
 abbrev pub most_said : Flags → ℕ
 most_said flags = unwrap_or flags.longest 1048576

@@ -1,6 +1,10 @@
 //! Reading the rules by which lines are marked.
 
-ghost use Rattle.std.specs.Prelude.{◌≡◌, ◌++◌, IfOk, IfSome, IsNone, IsSome, OnOk};
+ghost use Rattle.std.specs.Prelude.{◌≡◌, ◌++◌, IfSome, OnOk, true};
+ghost use Rattle.programs.specs.Names.{name_bytes};
+ghost use Rattle.secret_rules.specs.Rules.{AreSound};
+ghost use Rattle.secret_rules.specs.Tables.{TellsRules};
+ghost use Rattle.acgrep.specs.RunsByRules.{AddsRules, AreAllRules, AreNamedRules, is_own};
 
 use crate::arguments::Source;
 use crate::keys::{read_text, tell_source};
@@ -26,7 +30,11 @@ pub fn read_rules<F: Open, R: Read, E: Sink>(
     files: &F,
     input: &mut R,
     errors: &mut Errors<'_, E>,
-) -> Option<Rules> {
+) -> Option<Rules>
+    ensures rules { IfSome result (AreAllRules (F.holds files.now) (name_bytes names.now)
+        (R.remaining input.old) (R.remaining input.new)) }
+    ensures sound { IfSome result AreSound }
+{
     let mut rules = Vec::new(alloc);
     let mut rest = names;
     while !rest.is_empty() {
@@ -52,8 +60,11 @@ fn add_rules<F: Open, R: Read, E: Sink>(
     files: &F,
     input: &mut R,
     errors: &mut Errors<'_, E>,
-) -> bool {
-    if name == OWN {
+) -> bool
+    ensures added { result ≡ true → AddsRules (AreNamedRules (F.holds files.now) name.now
+        (R.remaining input.old) (R.remaining input.new)) rules.old.items rules.new.items }
+{
+    if is_own(name) {
         return add_text(alloc, rules, name, BUILTIN.as_bytes(), errors);
     }
     let mut text = Vec::new(alloc);
@@ -66,6 +77,13 @@ fn add_rules<F: Open, R: Read, E: Sink>(
     }
 }
 
+/// Whether the name stands for the rules of the program.
+fn is_own(name: &[u8]) -> bool
+    ensures own { result ≡ is_own name.now }
+{
+    name == OWN
+}
+
 /// Adds the rules of the text of a file, and answers whether there are some. Where there are none that is told.
 fn add_text<E: Sink>(
     alloc: Global,
@@ -73,7 +91,9 @@ fn add_text<E: Sink>(
     name: &[u8],
     text: &[u8],
     errors: &mut Errors<'_, E>,
-) -> bool {
+) -> bool
+    ensures added { result ≡ true → AddsRules (TellsRules text.now) rules.old.items rules.new.items }
+{
     match more_rules(alloc, rules, text) {
         Ok(()) => true,
         Err(fault) => {
@@ -84,7 +104,9 @@ fn add_text<E: Sink>(
 }
 
 /// Adds the rules of a text.
-fn more_rules(alloc: Global, rules: &mut Vec<Rule>, text: &[u8]) -> Result<(), TextFault> {
+fn more_rules(alloc: Global, rules: &mut Vec<Rule>, text: &[u8]) -> Result<(), TextFault>
+    ensures added { OnOk result (AddsRules (TellsRules text.now) rules.old.items rules.new.items) }
+{
     let more = rules_in(alloc, text, false)?;
     Ok(append_rules(rules, more)?)
 }

@@ -9,7 +9,7 @@ ghost use Rattle.acgrep.specs.Arguments.{said};
 ghost use Rattle.acgrep.specs.Folders.{known_by};
 ghost use Rattle.acgrep.specs.MarkedFiles.{IfMarks, IsMarking, MarksBy};
 ghost use Rattle.acgrep.specs.Runs.{asks_to_look};
-ghost use Rattle.acgrep.specs.RunsByRules.{BeginsByRules, MarksAsked, MarksReached, MarksRuled, MayBeginAsked, MayBeginMarks, MayReachMarked, ReachesMarked, long_told, most_said, no_patterns};
+ghost use Rattle.acgrep.specs.RunsByRules.{BeginsByRules, MarksAsked, MarksReached, MarksRuled, MayBeginAsked, MayBeginMarks, MayReachMarked, ReachesMarked, long_line, long_told, most_said, no_patterns};
 
 use crate::arguments::Given;
 use crate::below::{are_several, asks_to_look, reach, slices_of, status_below, tell_each};
@@ -20,13 +20,13 @@ use crate::folders::Folders;
 use crate::marked_files::{Marking, mark_files, mark_names};
 use crate::open::Open;
 use crate::options::Flags;
-use crate::print::{DIGITS, put_digits};
 use crate::rule_lists::{read_rules, tell_all};
 use crate::run::{job_of, with_rules};
 use crate::tell::{PROGRAM, tell_memory};
 use chromesquid::noncontiguous::NFA;
 use chromesquid::{Automaton, BuildError, Sink};
 use programs::errors::Errors;
+use rule_files::{MAX_DIGITS, digits_of};
 use secret_rules::{LineCover, Rules};
 use std::alloc::Global;
 use std::io::Read;
@@ -239,16 +239,23 @@ fn tell_long<E: Sink>(most: usize, count: u64, errors: &mut Errors<'_, E>)
     if count == 0 {
         return;
     }
-    let mut room = [0; DIGITS];
-    let mut other_room = [0; DIGITS];
-    let start = put_digits(most as u64, &mut room);
-    let other_start = put_digits(count, &mut other_room);
+    tell_some_long(most, count, errors);
+}
+
+/// Tells that so many lines have more bytes than this.
+fn tell_some_long<E: Sink>(most: usize, count: u64, errors: &mut Errors<'_, E>)
+    ensures told { TellsBytes E.Sink errors.old errors.new (long_line most count) }
+{
+    let mut room = [0; MAX_DIGITS];
+    let mut other_room = [0; MAX_DIGITS];
+    let digits = digits_of(most as u64, &mut room);
+    let other_digits = digits_of(count, &mut other_room);
     errors.write(&[
         PROGRAM,
         b": lines of more than ",
-        &room[start..],
+        digits,
         b" bytes, each selected and not written: ",
-        &other_room[other_start..],
+        other_digits,
         b"\n",
     ]);
 }
