@@ -7,6 +7,8 @@ complete -c acgrep -s v -l invert-match -d 'select the lines in which no pattern
 complete -c acgrep -s w -l word-regexp -d 'select the lines of which a pattern is a word'
 complete -c acgrep -s x -l line-regexp -d 'select the lines that are a pattern as a whole'
 complete -c acgrep -l kind -x -a 'first longest standard' -d 'which of several matches -o, --json and --color take'
+complete -c acgrep -l rules -rF -d 'select the lines in which the rules of FILE mark something, TOML as gitleaks has it'
+complete -c acgrep -l max-line -x -d 'select a line of more than SIZE bytes too'
 complete -c acgrep -s m -l max-count -x -d 'select at most N lines of each file'
 complete -c acgrep -s c -l count -d 'write how many lines are selected'
 complete -c acgrep -s l -l files-with-matches -d 'write the names of the files with a selected line'

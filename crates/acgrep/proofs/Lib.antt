@@ -10,6 +10,7 @@ pub mod ColorParts
 pub mod Digits
 pub mod FileTellings
 pub mod FilesBegun
+pub mod FilesMarked
 pub mod Fillings
 pub mod FirstLines
 pub mod FolderTexts
@@ -22,7 +23,9 @@ pub mod HeldLines
 pub mod Kept
 pub mod LineLists
 pub mod LongNames
+pub mod MarkedLines
 pub mod Mistaken
+pub mod NamesMarked
 pub mod NamesSearched
 pub mod NoneAround
 pub mod NoneInLines
@@ -33,6 +36,7 @@ pub mod PlainWords
 pub mod Reaching
 pub mod RuleTexts
 pub mod RuledCalls
+pub mod RulesGiven
 pub mod Statuses
 pub mod Stepped
 pub mod Streams

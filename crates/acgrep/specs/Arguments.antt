@@ -17,7 +17,7 @@ use Rattle.acgrep.specs.declared.format.Piece.{Piece}
 use Rattle.acgrep.specs.declared.long.Long.{Long}
 use Rattle.acgrep.specs.declared.long.Long.TheVariants.{Plain, Takes, When}
 use Rattle.acgrep.specs.declared.long.Valued.{Valued}
-use Rattle.acgrep.specs.declared.long.Valued.TheVariants.{Regexp, PatternFile, Kind, Offset, FirstLine, MaxCount, After, Before, Around, Separator, Label, Format, Included, Excluded, ExcludedFrom, ExcludedFolder, Folders, Devices, BinaryFiles}
+use Rattle.acgrep.specs.declared.long.Valued.TheVariants.{Regexp, PatternFile, Kind, Offset, FirstLine, MaxCount, After, Before, Around, Separator, Label, Format, Included, Excluded, ExcludedFrom, ExcludedFolder, Folders, Devices, BinaryFiles, RuleFile, LineLimit}
 use Rattle.acgrep.specs.declared.options.Color.{Color}
 use Rattle.acgrep.specs.declared.options.Context.{Context}
 use Rattle.acgrep.specs.declared.options.Switch.{Switch}
@@ -42,7 +42,7 @@ pub record Origin : Type 0 where
   pub bytes : List ℕ
 
 -- each option, the patterns in order, and what is no option; what stands between lines that do not follow one another, how standard
--- input is called, the format of matches, and the rules of which files are searched
+-- input is called, the format of matches, the rules of which files are searched, and the files of rules that mark lines
 pub record Said : Type 0 where
   pub flags : Flags
   pub sources : List Origin
@@ -51,6 +51,7 @@ pub record Said : Type 0 where
   pub label : List ℕ
   pub format : List Piece
   pub rules : List RuleSaid
+  pub rule_files : List (List ℕ)
 
 abbrev pub origin_of : Source → Origin
 origin_of (Text text) = record { is_file = false; bytes = text.now }
@@ -66,6 +67,7 @@ said given = record {
   label = given.label.now;
   format = given.format.items;
   rules = rules_said given.rules.items;
+  rule_files = map (λ name. name.now) given.rule_files.items;
 }
 
 -- the option of a letter that takes no argument
@@ -193,6 +195,8 @@ numbered_in ExcludedFolder number flags = flags
 numbered_in Folders number flags = flags
 numbered_in Devices number flags = flags
 numbered_in BinaryFiles number flags = flags
+numbered_in RuleFile number flags = flags
+numbered_in LineLimit number flags = record flags { longest = Some number }
 
 abbrev pub with_number : Valued → ℕ → Said → Said
 with_number valued number s = record s { flags = numbered_in valued number s.flags }
@@ -214,6 +218,10 @@ with_format argument s = option_map (λ pieces. with_pieces s pieces) (format_pi
 -- a rule more of which files are searched, or a file of such rules
 abbrev pub with_rule : Sense → List ℕ → Said → Said
 with_rule sense glob s = record s { rules = s.rules ++ (record { sense = sense; glob = glob } ∷ []) }
+
+-- a file more of rules that mark lines
+abbrev pub with_rule_file : List ℕ → Said → Said
+with_rule_file name s = record s { flags = record s.flags { by_rules = true }; rule_files = s.rule_files ++ (name ∷ []) }
 
 -- what is done with folders that are operands, with devices, and with lines from the first on that holds a zero byte
 abbrev pub with_folders : List ℕ → Said → Option Said
@@ -246,6 +254,8 @@ value_by ExcludedFolder argument s = Some (said_so (with_rule ExcludeFolder (wit
 value_by Folders argument s = option_map said_so (with_folders argument s)
 value_by Devices argument s = option_map said_so (with_devices argument s)
 value_by BinaryFiles argument s = option_map said_so (with_binary argument s)
+value_by RuleFile argument s = Some (said_so (with_rule_file argument s))
+value_by LineLimit argument s = number_value LineLimit argument s
 
 -- the option of a letter that takes an argument, but for those that give patterns
 abbrev pub valued_letter : ℕ → Option Valued
@@ -387,12 +397,14 @@ no_flags = record {
   most = None;
   text = false;
   text_alone = false;
+  by_rules = false;
+  longest = None;
   help = false;
   version = false;
 }
 
 abbrev pub nothing_said : Said
-nothing_said = record { flags = no_flags; sources = []; operands = []; separator = codes "--"; label = codes "(standard input)"; format = []; rules = [] }
+nothing_said = record { flags = no_flags; sources = []; operands = []; separator = codes "--"; label = codes "(standard input)"; format = []; rules = []; rule_files = [] }
 
 -- what all arguments say: nothing where they are wrong
 abbrev pub said_by : List (List ℕ) → Option Said

@@ -3,6 +3,7 @@ pub mod Alone
 pub mod Arguments
 pub mod Base64
 pub mod Begun
+pub mod Beside
 pub mod Binary
 pub mod Colors
 pub mod Contexts
@@ -17,6 +18,8 @@ pub mod Lines
 pub mod Listed
 pub mod Loading
 pub mod Long
+pub mod Marked
+pub mod MarkedFiles
 pub mod Matches
 pub mod Mistakes
 pub mod Objects
@@ -25,6 +28,7 @@ pub mod Printed
 pub mod Reached
 pub mod Rules
 pub mod Runs
+pub mod RunsByRules
 pub mod Searched
 pub mod Searchers
 pub mod Selected

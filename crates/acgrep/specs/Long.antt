@@ -6,7 +6,7 @@ use Rattle.call_options.specs.declared.found.Found.{Found}
 use Rattle.call_options.specs.declared.found.Found.TheVariants.{Unknown, Begun, Several, Whole}
 use Rattle.acgrep.specs.declared.long.Long.{Long}
 use Rattle.acgrep.specs.declared.long.Long.TheVariants.{Plain, Takes, When}
-use Rattle.acgrep.specs.declared.long.Valued.TheVariants.{Regexp, PatternFile, Kind, Offset, FirstLine, MaxCount, After, Before, Around, Separator, Label, Format, Included, Excluded, ExcludedFrom, ExcludedFolder, Folders, Devices, BinaryFiles}
+use Rattle.acgrep.specs.declared.long.Valued.TheVariants.{Regexp, PatternFile, Kind, Offset, FirstLine, MaxCount, After, Before, Around, Separator, Label, Format, Included, Excluded, ExcludedFrom, ExcludedFolder, Folders, Devices, BinaryFiles, RuleFile, LineLimit}
 use Rattle.acgrep.specs.declared.options.Switch.TheVariants.{IgnoreCase, MatchCase, Invert, WholeWords, WholeLines, Counts, Tallies, Numbers, OnlyMatching, Offsets, OnlyNames, OnlyLacking, NullNames, NullData, Recursive, Follow, Quiet, NoSeparator, InitialTab, Json, NoName, WithName, NoMatchOk, NoMessages, Help, Version, Text, Same}
 
 -- the options that grep has too: those that say what is searched for
@@ -83,6 +83,8 @@ own_options = named (codes "kind") (Takes Kind)
     ∷ named (codes "offset") (Takes Offset)
     ∷ named (codes "first-line") (Takes FirstLine)
     ∷ named (codes "no-match-ok") (Plain NoMatchOk)
+    ∷ named (codes "rules") (Takes RuleFile)
+    ∷ named (codes "max-line") (Takes LineLimit)
     ∷ []
 
 -- what a name means among those that grep has too

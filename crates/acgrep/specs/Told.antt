@@ -26,7 +26,7 @@ use Rattle.acgrep.specs.declared.arguments.Wrong.TheVariants.{NoPattern, Unknown
 use Rattle.acgrep.specs.declared.files.Outcome.{Outcome}
 use Rattle.acgrep.specs.declared.files.Outcome.TheVariants.{Searched, Unread, Stopped}
 use Rattle.acgrep.specs.declared.long.Valued.{Valued}
-use Rattle.acgrep.specs.declared.long.Valued.TheVariants.{Regexp, PatternFile, Kind, Offset, FirstLine, MaxCount, After, Before, Around, Separator, Label, Format, Included, Excluded, ExcludedFrom, ExcludedFolder, Folders, Devices, BinaryFiles}
+use Rattle.acgrep.specs.declared.long.Valued.TheVariants.{Regexp, PatternFile, Kind, Offset, FirstLine, MaxCount, After, Before, Around, Separator, Label, Format, Included, Excluded, ExcludedFrom, ExcludedFolder, Folders, Devices, BinaryFiles, RuleFile, LineLimit}
 use Rattle.acgrep.specs.declared.options.Shown.{Shown}
 use Rattle.acgrep.specs.declared.options.Shown.TheVariants.{Nothing}
 
@@ -123,6 +123,8 @@ valued_name ExcludedFolder = codes "--exclude-dir"
 valued_name Folders = codes "-d"
 valued_name Devices = codes "-D"
 valued_name BinaryFiles = codes "--binary-files"
+valued_name RuleFile = codes "--rules"
+valued_name LineLimit = codes "--max-line"
 
 -- what is told of something that was given, between what stands before and behind it
 abbrev pub named_parts : (before name behind : List ℕ) → List (List ℕ)

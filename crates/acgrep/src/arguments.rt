@@ -5,7 +5,7 @@
 
 ghost use Rattle.std.specs.Prelude.{◌≡◌, ◌≤◌, ◌<◌, Some, IfOk, IfErr, OnOk, length};
 ghost use Rattle.programs.specs.Arguments.{kind_by};
-ghost use Rattle.acgrep.specs.Arguments.{AreDigits, FailsBy, ReadsBy, SaysMore, argument_by, behind_by, color_by, fresh_by, joined_by, letters_by, named_by, nothing_said, number_by, said, said_by, source_option, so_far, taken_by, turned_by, value_by, valued_letter, with_binary, with_devices, with_folders, with_format, with_operand, with_rule, with_separator, with_source};
+ghost use Rattle.acgrep.specs.Arguments.{AreDigits, FailsBy, ReadsBy, SaysMore, argument_by, behind_by, color_by, fresh_by, joined_by, letters_by, named_by, nothing_said, number_by, said, said_by, source_option, so_far, taken_by, turned_by, value_by, valued_letter, with_binary, with_devices, with_folders, with_format, with_operand, with_rule, with_rule_file, with_separator, with_source};
 ghost use Rattle.acgrep.specs.Listed.{listed_bytes};
 ghost use Rattle.acgrep.specs.Long.{option_by};
 ghost use Rattle.acgrep.specs.Rules.{without_slashes};
@@ -86,6 +86,8 @@ pub struct Given<'a> {
     pub format: Vec<Piece>,
     /// Each `--include`, `--exclude`, `--exclude-from` and `--exclude-dir`, in order.
     pub rules: Vec<Rule<'a>>,
+    /// Each `--rules`, in order: the files of rules that mark lines.
+    pub rule_files: Vec<&'a [u8]>,
 }
 
 impl<'a> Given<'a> {
@@ -101,6 +103,7 @@ impl<'a> Given<'a> {
             label: b"(standard input)",
             format: Vec::new(alloc),
             rules: Vec::new(alloc),
+            rule_files: Vec::new(alloc),
         }
     }
 }
@@ -272,6 +275,7 @@ fn read_value<'a>(
         Valued::Folders => set_folders(given, argument)?,
         Valued::Devices => set_devices(given, argument)?,
         Valued::BinaryFiles => set_binary(given, argument)?,
+        Valued::RuleFile => add_rule_file(given, argument)?,
         _ => {
             let number = read_number(valued, argument)?;
             given.flags = given.flags.numbered(valued, number);
@@ -554,6 +558,15 @@ fn add_folder_rule<'a>(given: &mut Given<'a>, glob: &'a [u8]) -> Result<(), Allo
     ensures added { SaysMore (with_rule ExcludeFolder (without_slashes glob.now)) given.old given.new result }
 {
     add_rule(given, Sense::ExcludeFolder, without_slashes(glob))
+}
+
+/// Adds a file of rules that mark lines.
+fn add_rule_file<'a>(given: &mut Given<'a>, argument: &'a [u8]) -> Result<(), AllocError>
+    ensures added { SaysMore (with_rule_file argument.now) given.old given.new result }
+{
+    given.rule_files.push(argument)?;
+    given.flags.by_rules = true;
+    Ok(())
 }
 
 /// Adds what is no option.

@@ -61,7 +61,7 @@ pub fn search_operands<F: Open + Folders, R: Read, W: Sink, E: Sink>(
 
 /// Whether operands are looked at before they are searched: those that are folders are entered, there are rules, or some kind of operand
 /// is passed over.
-fn asks_to_look(given: &Given<'_>) -> bool
+pub fn asks_to_look(given: &Given<'_>) -> bool
     ensures asks { result ≡ asks_to_look (said given.now) }
 {
     given.flags.recursive || !given.rules.is_empty() || given.flags.ways().passes()
@@ -111,7 +111,7 @@ fn search_below<F: Open + Folders, R: Read, W: Sink, E: Sink>(
 }
 
 /// The files that these operands name, with those below folders where that is asked for, and without those that rules leave out.
-fn reach<F: Folders>(
+pub fn reach<F: Folders>(
     alloc: Global,
     files: &F,
     given: &Given<'_>,
@@ -132,7 +132,7 @@ fn reach<F: Folders>(
 }
 
 /// The status of a search, by whether all could be read: an error goes before all but a selected line under `-q`.
-fn status_below(flags: &Flags, unread: &[Unread], status: u8) -> u8
+pub fn status_below(flags: &Flags, unread: &[Unread], status: u8) -> u8
     ensures status { result ≡ status_reached flags.now (missed_of unread.now) status }
 {
     if unread.is_empty() || flags.quiet && status == 0 {
@@ -170,7 +170,7 @@ fn search_found<F: Open, R: Read, W: Sink, E: Sink>(
 }
 
 /// Tells what cannot be looked at, and which folders cannot be read, if that is asked for.
-fn tell_each<E: Sink>(hushed: bool, unread: &[Unread], errors: &mut Errors<'_, E>)
+pub fn tell_each<E: Sink>(hushed: bool, unread: &[Unread], errors: &mut Errors<'_, E>)
     ensures told { TellsMissed E.Sink hushed (missed_of unread.now) errors.old errors.new }
 {
     if hushed {
@@ -184,7 +184,7 @@ fn tell_each<E: Sink>(hushed: bool, unread: &[Unread], errors: &mut Errors<'_, E
 }
 
 /// Whether names stand before lines where nothing is said of that.
-fn are_several(flags: &Flags, operands: &[&[u8]], files: &[&[u8]]) -> bool
+pub fn are_several(flags: &Flags, operands: &[&[u8]], files: &[&[u8]]) -> bool
     ensures several { result ≡ are_several flags.now (name_bytes operands.now) (name_bytes files.now) }
 {
     if flags.recursive {
@@ -202,7 +202,7 @@ fn is_alone(operands: &[&[u8]], files: &[&[u8]]) -> bool
 }
 
 /// The bytes of these names.
-fn slices_of(alloc: Global, names: &[Vec<u8>]) -> Result<Vec<&[u8]>, AllocError>
+pub fn slices_of(alloc: Global, names: &[Vec<u8>]) -> Result<Vec<&[u8]>, AllocError>
     ensures slices { IfOk result (λ slices. name_bytes slices.items ≡ listed_bytes names.now) }
 {
     let mut slices = Vec::new(alloc);

@@ -43,7 +43,7 @@ pub struct Files<'a, F> {
 
 /// What came of a file.
 #[derive(Clone, Copy)]
-enum Outcome {
+pub enum Outcome {
     /// It was searched, and a line of it was selected or not.
     Searched(bool),
     /// It cannot be read, which was told.
@@ -54,18 +54,18 @@ enum Outcome {
 
 /// What was seen so far.
 #[derive(Clone, Copy)]
-struct Seen {
+pub struct Seen {
     /// A line was selected.
-    selected: bool,
+    pub selected: bool,
     /// An error was told.
-    failed: bool,
+    pub failed: bool,
     /// Nothing more is to be searched.
-    ended: bool,
+    pub ended: bool,
 }
 
 impl Seen {
     /// Nothing.
-    fn new() -> Seen
+    pub fn new() -> Seen
         ensures { result ≡ nothing_seen }
     {
         Seen {
@@ -76,7 +76,7 @@ impl Seen {
     }
 
     /// This, and then what came of a file.
-    fn after(self, shown: Shown, outcome: Outcome) -> Seen
+    pub fn after(self, shown: Shown, outcome: Outcome) -> Seen
         ensures { result ≡ seen_after shown self outcome }
     {
         match outcome {
@@ -99,7 +99,7 @@ impl Seen {
     }
 
     /// The status of a call: an error goes before all but a selected line under `-q`.
-    fn status(self, shown: Shown) -> u8
+    pub fn status(self, shown: Shown) -> u8
         ensures { result ≡ status_by shown self }
     {
         if is_enough(shown, self.selected) {
@@ -263,7 +263,7 @@ fn search_each<F: Open, R: Read, W: Sink, E: Sink>(
 }
 
 /// Whether a further file is to be searched.
-fn goes_on(rest: &[&[u8]], seen: Seen) -> bool
+pub fn goes_on(rest: &[&[u8]], seen: Seen) -> bool
     ensures some { IsTrue result → 0 < length rest.now }
     ensures going { IsTrue result → seen.ended ≡ false }
     ensures stops { result ≡ false → (rest.now ≡ []) ⊎ (seen.ended ≡ true) }
@@ -382,7 +382,7 @@ fn search_input<F: Open, R: Read, W: Sink, E: Sink>(
 }
 
 /// Whether several lines of the file of this name may be written to it.
-fn writes_into<F: Open>(job: &Job<'_>, files: &F, name: &[u8]) -> bool {
+pub fn writes_into<F: Open>(job: &Job<'_>, files: &F, name: &[u8]) -> bool {
     match job.most {
         Some(most) if most < 2 => false,
         _ => !job.late && writes_lines(job.shown) && is_output(files, name),
@@ -490,7 +490,7 @@ fn break_off<W: Sink, E: Sink>(
 }
 
 /// Writes what is asked of a file as a whole, of which this many lines were selected. It is put together first.
-fn put_total<W: Sink>(
+pub fn put_total<W: Sink>(
     job: &Job<'_>,
     selected: u64,
     page: &mut Vec<u8>,
@@ -519,7 +519,7 @@ fn put_asked<W: Write>(job: &Job<'_>, selected: u64, output: &mut W) -> io::Resu
 }
 
 /// What is written of the file of this name.
-fn job_for<'a>(job: &Job<'a>, name: &'a [u8], follows: bool) -> Job<'a>
+pub fn job_for<'a>(job: &Job<'a>, name: &'a [u8], follows: bool) -> Job<'a>
     ensures named { IsNamed job.now name.now follows result }
 {
     let mut style = job.style;

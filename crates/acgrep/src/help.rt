@@ -25,6 +25,14 @@ Patterns:
   --kind KIND           which of several matches -o, --json and --color
                         take: longest (the default), first or standard
 
+Rules, in the place of patterns:
+  --rules FILE          select the lines in which the rules of FILE mark
+                        something, TOML as gitleaks has it; by 'builtin' those
+                        of the program. Each other FILE is searched
+  --max-line SIZE       select a line of more than SIZE bytes too, not of more
+                        than 1048576, write nothing of it, and tell how many
+                        there are
+
 Output:
   -m, --max-count N     select at most N lines of each file
   -c, --count           write how many lines are selected

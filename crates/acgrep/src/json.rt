@@ -52,7 +52,7 @@ fn put_json<W: Write>(output: &mut W, fields: &Fields<'_>) -> io::Result<()>
 }
 
 /// Writes the bytes of a match: as a string where they are UTF-8, and else in base64.
-fn put_bytes<W: Write>(output: &mut W, bytes: &[u8]) -> io::Result<()>
+pub fn put_bytes<W: Write>(output: &mut W, bytes: &[u8]) -> io::Result<()>
     ensures written { Puts W.Write output.old output.new result
         (bytes_named bytes.now) }
 {
@@ -107,7 +107,7 @@ fn put_piece<W: Write>(output: &mut W, piece: Piece, fields: &Fields<'_>) -> io:
 }
 
 /// Writes what stands before a number, and the number.
-fn put_field<W: Write>(output: &mut W, before: &[u8], number: u64) -> io::Result<()>
+pub fn put_field<W: Write>(output: &mut W, before: &[u8], number: u64) -> io::Result<()>
     ensures written { Puts W.Write output.old output.new result
         (before.now ++ decimal number) }
 {
@@ -116,7 +116,7 @@ fn put_field<W: Write>(output: &mut W, before: &[u8], number: u64) -> io::Result
 }
 
 /// Writes bytes as they stand in a JSON string.
-fn put_escaped<W: Write>(output: &mut W, bytes: &[u8]) -> io::Result<()>
+pub fn put_escaped<W: Write>(output: &mut W, bytes: &[u8]) -> io::Result<()>
     ensures written { Puts W.Write output.old output.new result
         (json_escaped bytes.now) }
 {

@@ -52,6 +52,10 @@ pub enum Valued {
     Devices,
     /// `--binary-files`
     BinaryFiles,
+    /// `--rules`
+    RuleFile,
+    /// `--max-line`
+    LineLimit,
 }
 
 /// An option by its long name.
@@ -117,6 +121,8 @@ fn own_of(name: &[u8]) -> Found<Long>
         .or(name, b"offset", Long::Takes(Valued::Offset))
         .or(name, b"first-line", Long::Takes(Valued::FirstLine))
         .or(name, b"no-match-ok", Long::Plain(Switch::NoMatchOk))
+        .or(name, b"rules", Long::Takes(Valued::RuleFile))
+        .or(name, b"max-line", Long::Takes(Valued::LineLimit))
 }
 
 /// What it means with the options that say what is searched for.

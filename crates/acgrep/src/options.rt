@@ -237,6 +237,10 @@ pub struct Flags {
     pub text: bool,
     /// `-I`, and no `-a` or `--binary-files` behind it: only the lines before the first that holds a zero byte are searched.
     pub text_alone: bool,
+    /// `--rules`: lines are selected that rules mark.
+    pub by_rules: bool,
+    /// The last `--max-line`: how many bytes a line may have that rules look at.
+    pub longest: Option<u64>,
     /// `--help`.
     pub help: bool,
     /// `--version`.
@@ -286,6 +290,8 @@ impl Flags {
             most: None,
             text: false,
             text_alone: false,
+            by_rules: false,
+            longest: None,
             help: false,
             version: false,
         }
@@ -379,6 +385,7 @@ impl Flags {
             Valued::After => flags.after = Some(number),
             Valued::Before => flags.before = Some(number),
             Valued::Around => flags.context = Some(number),
+            Valued::LineLimit => flags.longest = Some(number),
             Valued::Regexp
             | Valued::PatternFile
             | Valued::Kind
@@ -391,7 +398,8 @@ impl Flags {
             | Valued::ExcludedFolder
             | Valued::Folders
             | Valued::Devices
-            | Valued::BinaryFiles => {}
+            | Valued::BinaryFiles
+            | Valued::RuleFile => {}
         }
         flags
     }

@@ -15,6 +15,7 @@ ghost use Rattle.acgrep.specs.Runs.{AsksToSearch, BeginsNoMatch, BeginsSaid, Beg
 ghost use Rattle.acgrep.specs.Rules.{rules_said};
 
 use crate::arguments::{Given, Refusal, Source, Wrong, parse};
+use crate::beside::{tell_unfit, unfit_of};
 use crate::colors::{Screen, read_colors};
 use crate::counted::{end_counts, search_or_count};
 use crate::excluded::{expanded, read_globs};
@@ -27,6 +28,7 @@ use crate::open::Open;
 use crate::options::{Color, Fit, Flags, Shown};
 use crate::patterns::{first_holding, lines_of};
 use crate::print::{Form, Place, Style};
+use crate::ruled::mark_said;
 use crate::rules::Rule;
 use crate::searcher::searcher_of;
 use crate::select::Job;
@@ -175,8 +177,16 @@ fn answer<F: Open + Folders, R: Read, W: Sink, E: Sink>(
     if given.flags.help {
         return write_text(HELP, output, errors);
     }
+    if let Some(unfit) = unfit_of(&given) {
+        tell_unfit(errors, unfit);
+        return 2;
+    }
     let no_match_ok = given.flags.no_match_ok;
-    let status = search_ruled(alloc, given, screen, files, input, output, errors);
+    let status = if given.flags.by_rules {
+        mark_said(alloc, given, screen, files, input, output, errors)
+    } else {
+        search_ruled(alloc, given, screen, files, input, output, errors)
+    };
     status_told(no_match_ok, status)
 }
 
@@ -219,7 +229,7 @@ fn search_ruled<F: Open + Folders, R: Read, W: Sink, E: Sink>(
 }
 
 /// What is said, by these rules.
-fn with_rules<'a>(given: Given<'a>, rules: Vec<Rule<'a>>) -> Given<'a>
+pub fn with_rules<'a>(given: Given<'a>, rules: Vec<Rule<'a>>) -> Given<'a>
     ensures ruled { said result ≡ ruled (said given.entry) (rules_said rules.entry.items) }
 {
     let mut ruled = given;

@@ -32,7 +32,7 @@ const NO_TEXT: &[u8] = b"its name is not UTF-8, so it cannot be opened";
 const UNUSABLE: &[u8] = b"Bad file descriptor";
 
 /// The program's name.
-const PROGRAM: &[u8] = b"acgrep";
+pub const PROGRAM: &[u8] = b"acgrep";
 
 /// Tells that memory ran out.
 pub fn tell_memory<E: Sink>(errors: &mut Errors<'_, E>)
@@ -242,6 +242,8 @@ fn valued_name<'a>(valued: Valued) -> &'a [u8]
         Valued::Folders => b"-d",
         Valued::Devices => b"-D",
         Valued::BinaryFiles => b"--binary-files",
+        Valued::RuleFile => b"--rules",
+        Valued::LineLimit => b"--max-line",
     }
 }
 

@@ -13,7 +13,7 @@ use programs::errors::Errors;
 use programs::reason::Reason;
 
 /// Tells why a file cannot be read, if that is asked for.
-fn tell_unread<E: Sink>(job: &Job<'_>, reason: Reason, errors: &mut Errors<'_, E>)
+pub fn tell_unread<E: Sink>(job: &Job<'_>, reason: Reason, errors: &mut Errors<'_, E>)
     ensures told { TellsOfOutcome E.Sink job.now.hushed job.now.style.name.now (stopped_if false)
         errors.old errors.new }
 {

@@ -1,0 +1,108 @@
+"""A slow model of rules for secrets, over Python's expressions, and random rules: for the scripts that compare what programs do by them."""
+import json, os, re
+
+# Expressions that mean the same to Python and to the program.
+EXPRESSIONS = ["a+", "b(a*)c", "(a)|(b)", "x*", r"\bab\b", "a(b)?(c)?", "(?i)AB", "ab*$", "^a", "c.", "[ab]{2}", "(b)a*", r"[\w-]{3,}", r"\s(\S+)", "a|ab|abc", "(a*)(b*)", r"\x61.{2}"]
+
+
+def some_rules(dice, letters, ids=()):
+    """Rules as a file of TOML has them: their names, of these or of their own, expressions and keys."""
+    rules = []
+    for number in range(dice.randint(0, 3)):
+        regex = dice.choice(EXPRESSIONS)
+        expression = re.compile(regex.encode())
+        text = lambda most: bytes(dice.choices(letters, k=dice.randint(1, most)))  # noqa: E731
+        rules.append({
+            "id": dice.choice(ids or [f"r{number}"]), "regex": regex, "expression": expression,
+            "keywords": [text(2) for _ in range(dice.choice([0, 0, 1, 2]))],
+            "group": dice.randint(0, expression.groups) if dice.random() < 0.5 else 0,
+            "until": text(2) if dice.random() < 0.3 else None,
+            "with": dice.choice([b"", b"<>", b"a"]) if dice.random() < 0.3 else None,
+        })  # fmt: skip
+    return rules
+
+
+def in_toml(rules):
+    """The text of a file of these rules, with keys that are not heeded."""
+    lines = ['title = "x"']
+    for rule in rules:
+        lines += ["[[rules]]", f"id = {json.dumps(rule['id'])}", f"regex = '''{rule['regex']}'''", "entropy = 9.5", "path = '''none'''"]
+        lines += ["keywords = [" + ", ".join(f"'{it.decode()}'" for it in rule["keywords"]) + "]"] * bool(rule["keywords"])
+        lines += [f"secretGroup = {rule['group']}"] * bool(rule["group"])
+        lines += [f"{key} = '{rule[key].decode()}'" for key in ("until", "with") if rule[key] is not None]
+        lines += ["[[rules.allowlists]]", "stopwords = ['a']"]
+    return "\n".join(lines) + "\n"
+
+
+def matches_of(expression, line):
+    """All matches, each as far to the left as can be; an empty one right behind another is none."""
+    found, at, last = [], 0, -1
+    while at <= len(line):
+        match = expression.search(line, at)
+        if not match:
+            break
+        if match.span() == (last, last):
+            at += 1
+            continue
+        found.append(match)
+        last = match.end()
+        at = last + (match.start() == last)
+    return found
+
+
+def secret_in(rule, match):
+    """The range of the secret in a match."""
+    groups = [rule["group"]] * bool(rule["group"]) + [*range(1, rule["expression"].groups + 1)]
+    return next((match.span(it) for it in groups if -1 < match.start(it) < match.end(it)), match.span())
+
+
+def marks_in(rules, goes_on, line):
+    """What each rule marks in a line, with its number; of those that mark up to a text it is noted which go on."""
+    for number, rule in enumerate(rules):
+        applies = not rule["keywords"] or any(it.lower() in line.lower() for it in rule["keywords"])
+        matches = matches_of(rule["expression"], line) if applies else []
+        if rule["until"] is None:
+            yield from ((*secret_in(rule, it), number) for it in matches)
+            continue
+        if goes_on[number]:
+            yield 0, len(line), number
+        behind = [it.end() for it in matches] + [0] * goes_on[number]
+        goes_on[number] = any(line.find(rule["until"], it) < 0 for it in behind)
+        yield from ((it.start(), len(line), number) for it in matches)
+
+
+def runs_of(found):
+    """The runs of what is covered: those that overlap or touch are one, with the number of the longest that begins where it does."""
+    runs = []
+    for begin, end, number in sorted(found, key=lambda m: (m[0], -m[1], m[2])):
+        if runs and begin <= runs[-1][1]:
+            runs[-1][1] = max(runs[-1][1], end)
+        else:
+            runs.append([begin, end, number])
+    return runs
+
+
+def lines_in(rules, most, text, count=0, others=lambda line: ()):
+    """Each line of a text with the runs in it: of what else is found there, by so many numbers, and behind these of what rules mark."""
+    goes_on = [False] * len(rules)
+    for line in text.split(b"\n"):
+        if len(line) > most:
+            [*marks_in(rules, goes_on, b"")]
+            yield line, [[0, len(line), count + len(rules)]]
+            continue
+        marks = [(begin, end, count + number) for begin, end, number in marks_in(rules, goes_on, line) if begin < end]
+        yield line, runs_of([*others(line), *marks])
+
+
+def in_parts(dice, text):
+    """A pipe that gives a text: at once, or where the system does so part by part, each to a read of its own."""
+    cut = dice.random() < 0.6
+    reads, writes = os.pipe2(os.O_DIRECT if cut else 0)
+    at = 0
+    for left in range(14, 0, -1):
+        count = len(text) - at if left == 1 or not cut else dice.randint(1, 8)
+        if at < len(text):
+            os.write(writes, text[at : at + count])
+        at += count
+    os.close(writes)
+    return reads

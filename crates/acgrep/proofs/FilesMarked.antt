@@ -1,0 +1,318 @@
+-- What is written of files whose lines rules mark.
+use Rattle.std.proofs.Common.{◌≡◌, ◌⊎◌, inl, inr, ℕ, zero, suc, ◌<◌, Bool, true, false, List, [], ◌∷◌, ◌++◌, Option, Some, None, length, take, refl, sym, ap, subst, ◌∙◌, append-nil, arith}
+use Rattle.std.specs.Prelude.{◌≢◌, ◌==◌, ◌&&◌, ◌||◌, nat_lt, IfSome, Ok, Err, Result, if◌then◌else◌}
+use Rattle.std.specs.Io.{StartsWith}
+use Rattle.std.specs.Io.KnownBytes.{Appends, Consumes, IsAtEnd, Keeps}
+use Rattle.std.proofs.KnownBytes.{Appends-trans, Consumes-whole, Keeps-refl}
+use Rattle.std.proofs.lemmas.Bool.{cases_Bool}
+use Rattle.aho_core.specs.Occurrence.{Occurrence}
+use Rattle.aho_devices.specs.Counts.{counted}
+use Rattle.aho_automaton.specs.declared.automaton.Automaton.{Ghosts as Automata}
+use Rattle.aho_devices.specs.declared.device.Sink.{Ghosts as SinkGhosts}
+use Rattle.aho_devices.specs.declared.device.Source.{Ghosts as SourceGhosts}
+use Rattle.aho_stream.specs.After.{MayFollow}
+use Rattle.secret_rules.specs.Covering.{AreLineRuns, Covering, covering_by}
+use Rattle.secret_rules.specs.LineCovers.{AreSearchedFor}
+use Rattle.secret_rules.specs.Lines.{Line, stream_lines}
+use Rattle.secret_rules.specs.Ready.{CanCoverLines, CoversTheSame, most_of, rules_of, searched_automaton, words_of}
+use Rattle.secret_rules.specs.declared.error.LineError.{LineError}
+use Rattle.secret_rules.specs.declared.line_cover.LineCover.{LineCover}
+use Rattle.secret_rules.specs.declared.rule.Rule.{Rule}
+use Rattle.programs.specs.Names.{is_input}
+use Rattle.programs.specs.Answers.{status_of}
+use Rattle.acgrep.specs.Files.{BeginsTotal, EndsFile, IfBroken, IfSearched, IsNamed, is_enough, known_of, nothing_seen, seen_after, shown_name, status_by, total_if}
+use Rattle.acgrep.specs.Marked.{Asked, marked_by, marked_line, marked_lines, pass_after, pass_behind}
+use Rattle.acgrep.specs.MarkedFiles.{AreFilesMarked, AreFirstGiven, AreMarkedOr, AreMarksBegun, BeginsGiven, BeginsInput, BeginsMarks, BeginsMarksName, ComesInput, ComesMarked, ComesName, HasFirst, HasMarked, HasToldAll, IsMarking, MarksBy, MarksFile, MarksInput, MarksName, MarksNames, MarksText, OneIsMarked, SameMarking, TellsAll, WalksGiven, WalksLines, asked_by, file_marked, file_selected, pass_from, seen_lines}
+use Rattle.acgrep.specs.Written.{needs_one}
+use Rattle.acgrep.specs.declared.files.Outcome.{Outcome}
+use Rattle.acgrep.specs.declared.files.Outcome.TheVariants.{Searched, Unread, Stopped}
+use Rattle.acgrep.specs.declared.files.Seen.{Seen}
+use Rattle.acgrep.specs.declared.marked.Pass.{Pass}
+use Rattle.acgrep.specs.declared.options.Shown.{Shown}
+use Rattle.acgrep.specs.declared.options.Shown.TheVariants.{Lines, Matches, Objects, Count, Names, Lacking, Nothing}
+use Rattle.acgrep.specs.declared.print.Place.{Place}
+use Rattle.acgrep.specs.declared.print.Style.{Style}
+use Rattle.acgrep.specs.declared.select.Job.{Job}
+use Rattle.acgrep.proofs.FileTellings.{if_searched}
+use Rattle.acgrep.proofs.FilesBegun.{if_broken, total_none}
+use Rattle.acgrep.proofs.MarkedLines.{starts_all}
+use Rattle.acgrep.proofs.NamesSearched.{enough_only}
+use Rattle.acgrep.proofs.Streams.{keeps_nil}
+
+-- a stream that has seen no end before is at its end where it sees one
+pub ends_seen : {P : Type 0} (before after : ℕ) (ended : Bool) → before ≡ 0 → (after ≢ 0 → P) → after ≡ counted ended before → ended ≡ true → P
+ends_seen before after ended none ends count is =
+    ends (λ zero. let one : after ≡ 1 = count ∙ ap (λ (b : Bool). counted b before) is ∙ ap (counted true) none in omega (arith, one, zero))
+
+-- what is left may follow
+follows : (ended : Bool) (rest : List ℕ) → (ended ≡ true → rest ≡ []) → MayFollow ended rest
+follows true rest at_end = at_end refl
+follows false rest at_end = tt
+
+-- first lines of a file, by what its reader gave
+pub first_of : (covering : Covering) (known left : Option (List ℕ)) (given : List ℕ) (ended : Bool) (lines : List Line) (runs : List (List Occurrence)) → AreFirstGiven covering given ended lines runs
+    → Consumes known left given → (ended ≡ true → IsAtEnd left) → HasFirst covering known lines runs
+first_of covering None left given ended lines runs first read at_end = record {
+  text = given;
+  of = tt;
+  first = first.first given ([], sym (append-nil given), follows ended [] (λ is. refl));
+  are = first.are;
+}
+first_of covering (Some all) None given ended lines runs first read at_end = absurd read
+first_of covering (Some all) (Some rest) given ended lines runs first read at_end = record {
+  text = all;
+  of = refl;
+  first = first.first all (rest, read, follows ended rest at_end);
+  are = first.are;
+}
+
+-- where a selected line tells all nothing is written of lines
+either_none : (empty : Bool) (bytes : List ℕ) → bytes ≡ [] → (if empty then [] else bytes) ≡ []
+either_none true bytes none = refl
+either_none false bytes none = none
+
+shown_none : (shown : Shown) (style : Style) (rules : List Rule) (place : Place) (line : List ℕ) (runs : List Occurrence) → needs_one shown ≡ true → marked_by shown style rules place line runs ≡ []
+shown_none Lines style rules place line runs is = absurd (cc)
+shown_none Matches style rules place line runs is = absurd (cc)
+shown_none Objects style rules place line runs is = absurd (cc)
+shown_none Count style rules place line runs is = absurd (cc)
+shown_none Names style rules place line runs is = refl
+shown_none Lacking style rules place line runs is = refl
+shown_none Nothing style rules place line runs is = refl
+
+line_none : (asked : Asked) → needs_one asked.shown ≡ true → (place : Place) (line : List ℕ) (runs : List Occurrence) → marked_line asked place line runs ≡ []
+line_none asked needs place line runs =
+    either_none ((length runs == 0) || (length line == 0)) (marked_by asked.shown asked.style asked.rules place line runs) (shown_none asked.shown asked.style asked.rules place line runs needs)
+
+lines_none : (asked : Asked) → needs_one asked.shown ≡ true → (pass : Pass) (lines : List (List ℕ)) (runs : List (List Occurrence)) → marked_lines asked pass lines runs ≡ []
+lines_none asked needs pass [] runs = refl
+lines_none asked needs pass (line ∷ lines) [] = refl
+lines_none asked needs pass (line ∷ lines) (own ∷ runs) =
+    ap (λ l. l ++ marked_lines asked (pass_behind pass line own) lines runs) (line_none asked needs pass.place line own) ∙ lines_none asked needs (pass_behind pass line own) lines runs
+
+starts_nothing : (all part : List ℕ) → all ≡ [] → StartsWith all part → part ≡ []
+starts_nothing all [] none starts = refl
+starts_nothing all (byte ∷ part) none starts =
+    let clash : [] ≡ byte ∷ part = subst (λ (l : List ℕ). take (length (byte ∷ part)) l ≡ byte ∷ part) none starts in absurd (cc)
+
+starts_front : (begun missing : List ℕ) → StartsWith (begun ++ missing) begun
+starts_front [] missing = refl
+starts_front (byte ∷ begun) missing = ap (λ l. byte ∷ l) (starts_front begun missing)
+
+module _ {R W : Type 0} (S : SourceGhosts R) (K : SinkGhosts W) (job : Job) (covering : Covering) (source source' : R) (output output' : W) (known : Option (List ℕ)) (pass' : Pass) (held' : Option (List ℕ))
+    (left : S.remaining source ≡ known) (none : S.empty_reads source ≡ 0) (ends : S.empty_reads source' ≢ 0 → IsAtEnd (S.remaining source')) where
+  reads_given : (given : List ℕ) → Consumes (S.remaining source) (S.remaining source') given → Consumes known (S.remaining source') given
+  reads_given given read = subst (λ bytes. Consumes bytes (S.remaining source') given) left read
+
+  -- a file that was read to its end
+  pub file_whole : (asked : Asked) → asked ≡ asked_by job covering.rules → WalksGiven S K asked (pass_from job.first) pass' source source' output output' covering → (any : Bool)
+      → EndsFile job pass'.selected (K.taken output') held' any → MarksText job covering known (K.taken output) held' any
+  file_whole asked same whole any ends_file =
+      let lines = stream_lines whole.text in
+      let selected = ap (λ (p : Pass). p.selected) whole.comes in
+      record {
+        text = whole.text;
+        of = Consumes-whole known (S.remaining source') whole.text (λ bytes. whole.text ≡ bytes) (reads_given whole.text whole.gives.bytes) (ends_seen (S.empty_reads source) (S.empty_reads source') true none ends whole.gives.end refl) refl;
+        runs = whole.runs;
+        are = whole.are;
+        any_is = ends_file.is_any ∙ ap (nat_lt 0) selected;
+        written = Appends-trans (K.taken output) (K.taken output') held' (file_marked job covering lines whole.runs) (total_if job.shown job.style (file_selected job covering lines whole.runs))
+            (subst (λ (a : Asked). Appends (K.taken output) (K.taken output') (marked_lines a (pass_from job.first) (seen_lines covering.most lines) whole.runs)) same whole.written)
+            (subst (λ (n : ℕ). Appends (K.taken output') held' (total_if job.shown job.style n)) selected ends_file.written);
+      }
+
+  -- one of which a selected line told all
+  pub file_told : (asked : Asked) → asked ≡ asked_by job covering.rules → BeginsGiven S K asked (pass_from job.first) pass' source source' output output' covering → HasToldAll job.shown pass' → (any : Bool)
+      → EndsFile job pass'.selected (K.taken output') held' any → TellsAll job covering known (K.taken output) held' any
+  file_told asked same begun all any ends_file =
+      let selected = ap (λ (p : Pass). p.selected) begun.comes in
+      let needs : needs_one asked.shown ≡ true = ap (λ (a : Asked). needs_one a.shown) same ∙ all.0 in
+      let nothing : begun.part ≡ [] = starts_nothing (marked_lines asked (pass_from job.first) (seen_lines covering.most begun.lines) begun.runs) begun.part (lines_none asked needs (pass_from job.first) (seen_lines covering.most begun.lines) begun.runs) begun.begins in
+      record {
+        needs = all.0;
+        is_any = ends_file.is_any ∙ all.1;
+        lines = begun.passed;
+        runs = begun.own;
+        has = first_of covering known (S.remaining source') begun.given begun.ended begun.passed begun.own begun.passed_are (reads_given begun.given begun.gives.bytes)
+            (ends_seen (S.empty_reads source) (S.empty_reads source') begun.ended none ends begun.gives.end);
+        selected = sym (ap (nat_lt 0) selected) ∙ all.1;
+        written = Appends-trans (K.taken output) (K.taken output') held' [] (total_if job.shown job.style (file_selected job covering begun.passed begun.own))
+            (subst (Appends (K.taken output) (K.taken output')) nothing begun.written)
+            (subst (λ (n : ℕ). Appends (K.taken output') held' (total_if job.shown job.style n)) selected ends_file.written);
+      }
+
+  -- and one that was not read to its end, or not all was written
+  pub file_part : (asked : Asked) → asked ≡ asked_by job covering.rules → BeginsGiven S K asked (pass_from job.first) pass' source source' output output' covering → (count : ℕ)
+      → BeginsTotal job count (K.taken output') held' → BeginsMarks job covering known (K.taken output) held'
+  file_part asked same begun count total = record {
+    lines = begun.lines;
+    runs = begun.runs;
+    has = first_of covering known (S.remaining source') begun.given begun.ended begun.lines begun.runs begun.are (reads_given begun.given begun.gives.bytes)
+        (ends_seen (S.empty_reads source) (S.empty_reads source') begun.ended none ends begun.gives.end);
+    part = begun.part;
+    begins = subst (λ (a : Asked). StartsWith (marked_lines a (pass_from job.first) (seen_lines covering.most begun.lines) begun.runs) begun.part) same begun.begins;
+    count = count;
+    tail = total.begun;
+    ends = subst (λ (l : List ℕ). StartsWith l total.begun) (sym total.cut) (starts_front total.begun total.missing);
+    written = Appends-trans (K.taken output) (K.taken output') held' begun.part total.begun begun.written total.written;
+  }
+
+  -- a file was searched that was read to its end, or of which a selected line told all
+  pub file_searched : (asked : Asked) → asked ≡ asked_by job covering.rules → (done : Result (Unit {0}) LineError) → WalksLines S K asked (pass_from job.first) pass' done source source' output output' covering
+      → (done ≡ Ok tt) ⊎ HasToldAll job.shown pass' → (any : Bool) → EndsFile job pass'.selected (K.taken output') held' any → MarksFile job covering known (K.taken output) held' any
+  file_searched asked same (Ok tt) walks (inl is) any ends_file = inl (file_whole asked same walks.whole any ends_file)
+  file_searched asked same (Err error) walks (inl is) any ends_file = absurd (cc)
+  file_searched asked same done walks (inr told) any ends_file = inr (file_told asked same walks.begun told any ends_file)
+
+-- the rules of a cover are those of a covering by it
+pub covering_rules : {A : Type 0} (G : Automata A) (cover : LineCover A) (covering : Covering) (rules : List Rule) → MarksBy G cover covering → rules_of cover ≡ rules → covering.rules ≡ rules
+covering_rules G cover covering rules by same = ap (λ (c : Covering). c.rules) by.is ∙ same
+
+-- a cover marks by the same afterwards
+pub still_marks : {A : Type 0} (G : Automata A) (old new : LineCover A) (covering : Covering) → CanCoverLines G new → CoversTheSame old new → MarksBy G old covering → MarksBy G new covering
+still_marks G old new covering can same is = record {
+  can = can;
+  searched = subst (λ o. AreSearchedFor G o covering.patterns) (sym same.automaton) is.searched;
+  is = is.is
+      ∙ ap (λ w. covering_by w (rules_of old) (most_of old) covering.patterns) (sym same.words)
+      ∙ ap (λ r. covering_by (words_of new) r (most_of old) covering.patterns) (sym same.rules)
+      ∙ ap (λ m. covering_by (words_of new) (rules_of new) m covering.patterns) (sym same.most);
+}
+
+-- what is so whether a file was searched or not
+pub broken_of : {P : Type 0} (outcome : Outcome) → P → IfBroken outcome P
+broken_of (Searched any) is = tt
+broken_of Unread is = is
+broken_of Stopped is = is
+
+-- nothing is written of a file that is not read
+pub marks_none : (job : Job) (covering : Covering) (known held held' : Option (List ℕ)) → Keeps held held' → BeginsMarks job covering known held held'
+marks_none job covering known held held' kept = record {
+  lines = [];
+  runs = [];
+  has = nothing_of known;
+  part = [];
+  begins = refl;
+  count = 0;
+  tail = [];
+  ends = refl;
+  written = keeps_nil held held' kept;
+}
+  where
+    nothing_of : (known : Option (List ℕ)) → HasFirst covering known [] []
+    nothing_of None = record { text = []; of = tt; first = (stream_lines [], refl); are = tt }
+    nothing_of (Some all) = record { text = all; of = refl; first = (stream_lines all, refl); are = tt }
+
+-- whatever more is known of its bytes
+has_known : (covering : Covering) (known left : Option (List ℕ)) (lines : List Line) (runs : List (List Occurrence)) → Keeps known left → HasFirst covering left lines runs → HasFirst covering known lines runs
+has_known covering None left lines runs kept has = record { text = has.text; of = tt; first = has.first; are = has.are }
+has_known covering (Some all) None lines runs kept has = absurd kept
+has_known covering (Some all) (Some rest) lines runs kept has = record { text = has.text; of = has.of ∙ kept; first = has.first; are = has.are }
+
+text_known : (known left : Option (List ℕ)) (text : List ℕ) → Keeps known left → IfSome left (λ bytes. text ≡ bytes) → IfSome known (λ bytes. text ≡ bytes)
+text_known None left text kept of = tt
+text_known (Some all) None text kept of = absurd kept
+text_known (Some all) (Some rest) text kept of = of ∙ kept
+
+file_known : (job : Job) (covering : Covering) (known left held held' : Option (List ℕ)) → Keeps known left → (any : Bool) → MarksFile job covering left held held' any → MarksFile job covering known held held' any
+file_known job covering known left held held' kept any (inl whole) = inl (record {
+  text = whole.text;
+  of = text_known known left whole.text kept whole.of;
+  runs = whole.runs;
+  are = whole.are;
+  any_is = whole.any_is;
+  written = whole.written;
+})
+file_known job covering known left held held' kept any (inr told) = inr (record {
+  needs = told.needs;
+  is_any = told.is_any;
+  lines = told.lines;
+  runs = told.runs;
+  has = has_known covering known left told.lines told.runs kept told.has;
+  selected = told.selected;
+  written = told.written;
+})
+
+part_known : (job : Job) (covering : Covering) (known left held held' : Option (List ℕ)) → Keeps known left → BeginsMarks job covering left held held' → BeginsMarks job covering known held held'
+part_known job covering known left held held' kept begun = record {
+  lines = begun.lines;
+  runs = begun.runs;
+  has = has_known covering known left begun.lines begun.runs kept begun.has;
+  part = begun.part;
+  begins = begun.begins;
+  count = begun.count;
+  tail = begun.tail;
+  ends = begun.ends;
+  written = begun.written;
+}
+
+pub comes_known : (job : Job) (covering : Covering) (known left held held' : Option (List ℕ)) (outcome : Outcome) → Keeps known left → ComesMarked job covering left held held' outcome → ComesMarked job covering known held held' outcome
+comes_known job covering known left held held' outcome kept comes = record {
+  searched = if_searched outcome _ _ (file_known job covering known left held held' kept) comes.searched;
+  begun = if_broken outcome (part_known job covering known left held held' kept) comes.begun;
+}
+
+pub comes_none : (job : Job) (covering : Covering) (known held held' : Option (List ℕ)) → Keeps held held' → ComesMarked job covering known held held' Unread
+comes_none job covering known held held' kept = record { searched = tt; begun = marks_none job covering known held held' kept }
+
+-- the same of standard input
+pub input_none : (job : Job) (covering : Covering) (again : Bool) (known held held' : Option (List ℕ)) → Keeps held held' → ComesInput job covering again known held held' Unread
+input_none job covering true known held held' kept = record { searched = tt; begun = total_none job 0 held held' kept }
+input_none job covering false known held held' kept = record { searched = tt; begun = marks_none job covering known held held' kept }
+
+pub input_again : (job : Job) (covering : Covering) (again : Bool) (known held held' : Option (List ℕ)) (outcome : Outcome) → again ≡ true → IfSearched outcome (EndsFile job 0 held held') → IfBroken outcome (BeginsTotal job 0 held held')
+    → ComesInput job covering again known held held' outcome
+input_again job covering true known held held' outcome is ended begun = record { searched = ended; begun = begun }
+input_again job covering false known held held' outcome is ended begun = absurd (cc)
+
+pub input_first : (job : Job) (covering : Covering) (again : Bool) (known held held' : Option (List ℕ)) (outcome : Outcome) → again ≡ false → ComesMarked job covering known held held' outcome
+    → ComesInput job covering again known held held' outcome
+input_first job covering true known held held' outcome is comes = absurd (cc)
+input_first job covering false known held held' outcome is comes = record { searched = comes.searched; begun = comes.begun }
+
+and_true : (a : Bool) → (a && true) ≡ a
+and_true true = refl
+and_true false = refl
+
+and_false : (a : Bool) → (a && false) ≡ false
+and_false true = refl
+and_false false = refl
+
+-- what comes of the file of a name: of standard input, or of another
+pub name_input : (job named : Job) (covering : Covering) (holds : List ℕ → Option (List ℕ)) (left : Option (List ℕ)) (read : Bool) (name : List ℕ) (held held' : Option (List ℕ)) (outcome : Outcome) → is_input name ≡ true
+    → IsNamed job job.label.now false named → ComesInput named covering read left held held' outcome → ComesName job covering holds left read name held held' outcome
+name_input job named covering holds left read name held held' outcome is is_named comes =
+    let again : (read && is_input name) ≡ read = ap (λ (b : Bool). read && b) is ∙ and_true read in
+    let called : shown_name job.label.now name ≡ job.label.now = rw is refl in
+    let known : known_of holds name left ≡ left = rw is refl in
+    record {
+      searched = if_searched outcome _ _ (λ any file. record {
+          named = named;
+          is_named = subst (λ (n : List ℕ). IsNamed job n false named) (sym called) is_named;
+          file = subst (λ (b : Bool). MarksInput named covering b (known_of holds name left) held held' any) (sym again) (subst (λ (k : Option (List ℕ)). MarksInput named covering read k held held' any) (sym known) file);
+        }) comes.searched;
+      begun = if_broken outcome (λ file. record {
+          named = named;
+          is_named = subst (λ (n : List ℕ). IsNamed job n false named) (sym called) is_named;
+          file = subst (λ (b : Bool). BeginsInput named covering b (known_of holds name left) held held') (sym again) (subst (λ (k : Option (List ℕ)). BeginsInput named covering read k held held') (sym known) file);
+        }) comes.begun;
+    }
+
+pub name_file : (job named : Job) (covering : Covering) (holds : List ℕ → Option (List ℕ)) (left : Option (List ℕ)) (read : Bool) (name : List ℕ) (held held' : Option (List ℕ)) (outcome : Outcome) → is_input name ≡ false
+    → IsNamed job name false named → ComesMarked named covering (holds name) held held' outcome → ComesName job covering holds left read name held held' outcome
+name_file job named covering holds left read name held held' outcome is is_named comes =
+    let again : (read && is_input name) ≡ false = ap (λ (b : Bool). read && b) is ∙ and_false read in
+    let called : shown_name job.label.now name ≡ name = rw is refl in
+    let known : known_of holds name left ≡ holds name = rw is refl in
+    record {
+      searched = if_searched outcome _ _ (λ any file. record {
+          named = named;
+          is_named = subst (λ (n : List ℕ). IsNamed job n false named) (sym called) is_named;
+          file = subst (λ (b : Bool). MarksInput named covering b (known_of holds name left) held held' any) (sym again) (subst (λ (k : Option (List ℕ)). MarksFile named covering k held held' any) (sym known) file);
+        }) comes.searched;
+      begun = if_broken outcome (λ file. record {
+          named = named;
+          is_named = subst (λ (n : List ℕ). IsNamed job n false named) (sym called) is_named;
+          file = subst (λ (b : Bool). BeginsInput named covering b (known_of holds name left) held held') (sym again) (subst (λ (k : Option (List ℕ)). BeginsMarks named covering k held held') (sym known) file);
+        }) comes.begun;
+    }

@@ -1,0 +1,16 @@
+-- The bytes of the file are those of its reader.
+use Rattle.acgrep.proofs.FilesMarked.{comes_known, comes_none}
+use Rattle.acgrep.proofs.marked_files.mark_named.Goals as goal
+
+pub returns-then-writes_into-clause-comes : goal.returns-then-writes_into-clause-comes
+returns-then-writes_into-clause-comes g c = λ covering by.
+    comes_none c.args.job.now covering (g.F.Open.holds c.args.files.now c.args.name.now) (g.W.Sink.taken c.args.output.now) (g.W.Sink.taken c.flush.new.self) c.flush.ensures.kept
+
+pub returns-in-Ok-clause-comes : goal.returns-in-Ok-clause-comes
+returns-in-Ok-clause-comes g c = λ covering by.
+    comes_known c.args.job.now covering (g.F.Open.holds c.args.files.now c.args.name.now) (g.F.File.Read.remaining c.in-Ok.file) (g.W.Sink.taken c.args.output.now) (g.W.Sink.taken c.mark_reader.new.output) c.mark_reader.result
+    c.in-Ok.ensures.told (c.mark_reader.ensures.comes covering by)
+
+pub returns-in-Err-clause-comes : goal.returns-in-Err-clause-comes
+returns-in-Err-clause-comes g c = λ covering by.
+    comes_none c.args.job.now covering (g.F.Open.holds c.args.files.now c.args.name.now) (g.W.Sink.taken c.args.output.now) (g.W.Sink.taken c.flush-in-Err.new.self) c.flush-in-Err.ensures.kept

@@ -1,0 +1,47 @@
+-- What comes of the lines, and then what is asked of the file as a whole.
+use Rattle.std.proofs.Common.{◌≢◌, ◌∙◌, ap, refl, sym}
+use Rattle.programs.proofs.Ends.{at_end}
+use Rattle.acgrep.specs.MarkedFiles.{asked_by}
+use Rattle.acgrep.proofs.FileTellings.{if_searched}
+use Rattle.acgrep.proofs.FilesBegun.{if_broken, total_none}
+use Rattle.acgrep.proofs.FilesMarked.{broken_of, covering_rules, file_part, file_searched}
+use Rattle.acgrep.proofs.marked_files.mark_reader.Goals as goal
+
+pub returns-in-None-clause-comes : goal.returns-in-None-clause-comes
+returns-in-None-clause-comes g c = λ covering by.
+    let came = c.mark_source-came.result in
+    let walks = c.mark_source-came.ensures.walks covering by in
+    let asked = ap (asked_by c.args.job.now) (sym (covering_rules g.A.Automaton c.args.marking.now.cover covering c.args.marking.now.rules.now by c.requires.ready.rules)) in
+    let left = c.new-source.ensures.remaining ∙ ap g.R.Read.remaining c.new.ensures.reader in
+    let ends = λ (some : c.mark_source-came.new.source.empty_reads ≢ 0). at_end _ (λ bytes known. c.mark_source-came.new.source.ended bytes some known) in
+    record {
+      searched = if_searched c.end_marked.result _ _ (λ any is. file_searched _ g.W.Sink c.args.job.now covering _ _ _ _ _ came.pass _ left c.new-source.ensures.empty_reads ends _ asked came.done walks (c.in-None.ensures.none refl) any is)
+          c.end_marked.ensures.ended;
+      begun = if_broken c.end_marked.result (λ total. file_part _ g.W.Sink c.args.job.now covering _ _ _ _ _ came.pass _ left c.new-source.ensures.empty_reads ends _ asked walks.begun came.pass.selected total)
+          c.end_marked.ensures.begun;
+    }
+
+pub returns-in-Some-Rule-clause-comes : goal.returns-in-Some-Rule-clause-comes
+returns-in-Some-Rule-clause-comes g c = λ covering by.
+    let came = c.mark_source-came.result in
+    let walks = c.mark_source-came.ensures.walks covering by in
+    let asked = ap (asked_by c.args.job.now) (sym (covering_rules g.A.Automaton c.args.marking.now.cover covering c.args.marking.now.rules.now by c.requires.ready.rules)) in
+    let left = c.new-source.ensures.remaining ∙ ap g.R.Read.remaining c.new.ensures.reader in
+    let ends = λ (some : c.mark_source-came.new.source.empty_reads ≢ 0). at_end _ (λ bytes known. c.mark_source-came.new.source.ended bytes some known) in
+    record {
+      searched = tt;
+      begun = file_part _ g.W.Sink c.args.job.now covering _ _ _ _ _ came.pass _ left c.new-source.ensures.empty_reads ends _ asked walks.begun came.pass.selected
+          (total_none c.args.job.now came.pass.selected (g.W.Sink.taken c.mark_source-came.new.sink) (g.W.Sink.taken c.flush.new.self) c.flush.ensures.kept);
+    }
+
+pub returns-clause-comes : goal.returns-clause-comes
+returns-clause-comes g c = λ covering by.
+    let came = c.mark_source-came.result in
+    let walks = c.mark_source-came.ensures.walks covering by in
+    let asked = ap (asked_by c.args.job.now) (sym (covering_rules g.A.Automaton c.args.marking.now.cover covering c.args.marking.now.rules.now by c.requires.ready.rules)) in
+    let left = c.new-source.ensures.remaining ∙ ap g.R.Read.remaining c.new.ensures.reader in
+    let ends = λ (some : c.mark_source-came.new.source.empty_reads ≢ 0). at_end _ (λ bytes known. c.mark_source-came.new.source.ended bytes some known) in
+    record {
+      searched = if_searched c.break_marked.result _ _ (λ any none. absurd none) c.break_marked.ensures.unsearched;
+      begun = broken_of c.break_marked.result (file_part _ g.W.Sink c.args.job.now covering _ _ _ _ _ came.pass _ left c.new-source.ensures.empty_reads ends _ asked walks.begun came.pass.selected c.break_marked.ensures.begun);
+    }

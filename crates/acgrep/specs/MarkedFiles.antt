@@ -1,0 +1,224 @@
+-- What is written of files whose lines rules mark, one after another.
+use Rattle.programs.specs.Answers.{status_of}
+use Rattle.programs.specs.Names.{is_input}
+use Rattle.std.specs.Prelude.{◌≡◌, ◌⊎◌, ℕ, ◌&&◌, ◌||◌, nat_lt, Bool, MatchBool, true, false, List, [], ◌∷◌, ◌++◌, Option, IfSome, OnOk, Result, map}
+use Rattle.std.specs.Io.KnownBytes.{Appends, Keeps}
+use Rattle.std.specs.Io.{StartsWith}
+use Rattle.aho_core.specs.Occurrence.{Occurrence}
+use Rattle.aho_devices.specs.declared.device.Sink.{Ghosts as SinkGhosts}
+use Rattle.aho_devices.specs.declared.device.Source.{Ghosts as SourceGhosts}
+use Rattle.aho_stream.specs.Replacing.{MayBe, SourceGave}
+use Rattle.aho_automaton.specs.declared.automaton.Automaton.{Ghosts as Automata}
+use Rattle.secret_rules.specs.Covering.{AreLineRuns, Covering, covering_by, seen_line}
+use Rattle.secret_rules.specs.LineCovers.{AreSearchedFor}
+use Rattle.secret_rules.specs.Lines.{Line, stream_lines}
+use Rattle.secret_rules.specs.Ready.{CanCoverLines, CoversTheSame, most_of, rules_of, searched_automaton, words_of}
+use Rattle.secret_rules.specs.Visits.{AreFirstLines}
+use Rattle.secret_rules.specs.declared.error.LineError.{LineError}
+use Rattle.secret_rules.specs.declared.line_cover.LineCover.{LineCover}
+use Rattle.secret_rules.specs.declared.rule.Rule.{Rule}
+use Rattle.acgrep.specs.Files.{BeginsTotal, EndsFile, IfBroken, IfSearched, IsNamed, is_enough, known_of, shown_name, total_if}
+use Rattle.acgrep.specs.Marked.{Asked, is_marked, marked_lines, pass_after}
+use Rattle.acgrep.specs.Written.{needs_one}
+use Rattle.acgrep.specs.declared.files.Outcome.{Outcome}
+use Rattle.acgrep.specs.declared.files.Seen.{Seen}
+use Rattle.acgrep.specs.declared.marked.Pass.{Pass}
+use Rattle.acgrep.specs.declared.marked_files.Marking.{Marking}
+use Rattle.acgrep.specs.declared.options.Shown.{Shown}
+use Rattle.acgrep.specs.declared.options.Shown.TheVariants.{Nothing}
+use Rattle.acgrep.specs.declared.print.Place.{Place}
+use Rattle.acgrep.specs.declared.select.Job.{Job}
+
+-- what is asked of the lines of a file, by these rules
+abbrev pub asked_by : Job → List Rule → Asked
+asked_by job rules = record { shown = job.shown; style = job.style; rules = rules }
+
+-- before its first line, which stands there
+abbrev pub pass_from : Place → Pass
+pass_from place = record { place = place; selected = 0; long = 0 }
+
+-- a selected line told all
+abbrev pub HasToldAll : Shown → Pass → Type 0
+HasToldAll shown pass = (needs_one shown ≡ true) × (nat_lt 0 pass.selected ≡ true)
+
+-- lines as they are taken: those that are too long come without their bytes
+abbrev pub seen_lines : ℕ → List Line → List (List ℕ)
+seen_lines most lines = map (λ (line : Line). seen_line most line.bytes) lines
+
+-- what is written of the first lines of a file, which have these runs, and how many of them are selected
+abbrev pub file_marked : Job → Covering → List Line → List (List Occurrence) → List ℕ
+file_marked job covering lines runs = marked_lines (asked_by job covering.rules) (pass_from job.first) (seen_lines covering.most lines) runs
+
+abbrev pub file_selected : Job → Covering → List Line → List (List Occurrence) → ℕ
+file_selected job covering lines runs = (pass_after (pass_from job.first) (seen_lines covering.most lines) runs).selected
+
+-- a file whose bytes are these, where they are known, was read to its end: what is asked of its lines was written, and then what is asked
+-- of it as a whole
+pub record MarksText (job : Job) (covering : Covering) (known held held' : Option (List ℕ)) (any : Bool) : Type 0 where
+  pub text : List ℕ
+  pub of : IfSome known (λ bytes. text ≡ bytes)
+  pub runs : List (List Occurrence)
+  pub are : AreLineRuns covering [] (stream_lines text) runs
+  pub any_is : any ≡ nat_lt 0 (file_selected job covering (stream_lines text) runs)
+  pub written : Appends held held' (file_marked job covering (stream_lines text) runs ++ total_if job.shown job.style (file_selected job covering (stream_lines text) runs))
+
+-- some first lines of it have these runs
+pub record HasFirst (covering : Covering) (known : Option (List ℕ)) (lines : List Line) (runs : List (List Occurrence)) : Type 0 where
+  pub text : List ℕ
+  pub of : IfSome known (λ bytes. text ≡ bytes)
+  pub first : AreFirstLines lines (stream_lines text)
+  pub are : AreLineRuns covering [] lines runs
+
+-- a selected line of it told all
+pub record TellsAll (job : Job) (covering : Covering) (known held held' : Option (List ℕ)) (any : Bool) : Type 0 where
+  pub needs : needs_one job.shown ≡ true
+  pub is_any : any ≡ true
+  pub lines : List Line
+  pub runs : List (List Occurrence)
+  pub has : HasFirst covering known lines runs
+  pub selected : nat_lt 0 (file_selected job covering lines runs) ≡ true
+  pub written : Appends held held' (total_if job.shown job.style (file_selected job covering lines runs))
+
+abbrev pub MarksFile : Job → Covering → (known held held' : Option (List ℕ)) → Bool → Type 0
+MarksFile job covering known held held' any = MarksText job covering known held held' any ⊎ TellsAll job covering known held held' any
+
+-- a beginning of what is asked of some first lines was written, and then one of what is asked of the file as a whole
+pub record BeginsMarks (job : Job) (covering : Covering) (known held held' : Option (List ℕ)) : Type 0 where
+  pub lines : List Line
+  pub runs : List (List Occurrence)
+  pub has : HasFirst covering known lines runs
+  pub part : List ℕ
+  pub begins : StartsWith (file_marked job covering lines runs) part
+  pub count : ℕ
+  pub tail : List ℕ
+  pub ends : StartsWith (total_if job.shown job.style count) tail
+  pub written : Appends held held' (part ++ tail)
+
+-- what covers lines does so by this
+pub record MarksBy {A : Type 0} (G : Automata A) (cover : LineCover A) (covering : Covering) : Type 0 where
+  pub can : CanCoverLines G cover
+  pub searched : AreSearchedFor G (searched_automaton cover) covering.patterns
+  pub is : covering ≡ covering_by (words_of cover) (rules_of cover) (most_of cover) covering.patterns
+
+-- a line of a file is selected
+pub record HasMarked (job : Job) (covering : Covering) (known : Option (List ℕ)) : Type 0 where
+  pub lines : List Line
+  pub runs : List (List Occurrence)
+  pub has : HasFirst covering known lines runs
+  pub selected : nat_lt 0 (file_selected job covering lines runs) ≡ true
+
+-- what comes of a file of these bytes
+pub record ComesMarked (job : Job) (covering : Covering) (known held held' : Option (List ℕ)) (outcome : Outcome) : Type 0 where
+  pub searched : IfSearched outcome (MarksFile job covering known held held')
+  pub begun : IfBroken outcome (BeginsMarks job covering known held held')
+
+-- standard input has nothing more where it was read before
+abbrev pub MarksInput : Job → Covering → (again : Bool) → (known held held' : Option (List ℕ)) → Bool → Type 0
+MarksInput job covering again known held held' any = MatchBool again (EndsFile job 0 held held' any) (MarksFile job covering known held held' any)
+
+abbrev pub BeginsInput : Job → Covering → (again : Bool) → (known held held' : Option (List ℕ)) → Type 0
+BeginsInput job covering again known held held' = MatchBool again (BeginsTotal job 0 held held') (BeginsMarks job covering known held held')
+
+pub record ComesInput (job : Job) (covering : Covering) (again : Bool) (known held held' : Option (List ℕ)) (outcome : Outcome) : Type 0 where
+  pub searched : IfSearched outcome (MarksInput job covering again known held held')
+  pub begun : IfBroken outcome (BeginsInput job covering again known held held')
+
+-- what is written of the file of a name; `left` is what the input has left at first, and `read` says whether it was read before
+pub record MarksName (job : Job) (covering : Covering) (holds : List ℕ → Option (List ℕ)) (left : Option (List ℕ)) (read : Bool) (name : List ℕ) (held held' : Option (List ℕ)) (any : Bool) : Type 0 where
+  pub named : Job
+  pub is_named : IsNamed job (shown_name job.label.now name) false named
+  pub file : MarksInput named covering (read && is_input name) (known_of holds name left) held held' any
+
+pub record BeginsMarksName (job : Job) (covering : Covering) (holds : List ℕ → Option (List ℕ)) (left : Option (List ℕ)) (read : Bool) (name : List ℕ) (held held' : Option (List ℕ)) : Type 0 where
+  pub named : Job
+  pub is_named : IsNamed job (shown_name job.label.now name) false named
+  pub file : BeginsInput named covering (read && is_input name) (known_of holds name left) held held'
+
+pub record ComesName (job : Job) (covering : Covering) (holds : List ℕ → Option (List ℕ)) (left : Option (List ℕ)) (read : Bool) (name : List ℕ) (held held' : Option (List ℕ)) (outcome : Outcome) : Type 0 where
+  pub searched : IfSearched outcome (MarksName job covering holds left read name held held')
+  pub begun : IfBroken outcome (BeginsMarksName job covering holds left read name held held')
+
+-- the files of these names were searched, one after another; `any` says whether a line is selected
+abbrev pub AreFilesMarked : Job → Covering → (List ℕ → Option (List ℕ)) → (left : Option (List ℕ)) → (read : Bool) → List (List ℕ) → (held held' : Option (List ℕ)) → Bool → Type 0
+AreFilesMarked job covering holds left read [] held held' any = Keeps held held' × (any ≡ false)
+AreFilesMarked job covering holds left read (name ∷ names) held held' any =
+    (meanwhile : Option (List ℕ)) × (first : Bool) × MarksName job covering holds left read name held meanwhile first
+    × MatchBool (is_enough job.shown first)
+    (Keeps meanwhile held' × (any ≡ true))
+    ((others : Bool) × AreFilesMarked job covering holds left (read || is_input name) names meanwhile held' others × (any ≡ (first || others)))
+
+-- one of these files has a selected line, whether those before it could be read or not
+abbrev pub OneIsMarked : Job → Covering → (List ℕ → Option (List ℕ)) → (left : Option (List ℕ)) → List (List ℕ) → Type 0
+OneIsMarked job covering holds left [] = ⊥
+OneIsMarked job covering holds left (name ∷ names) =
+    ((named : Job) × IsNamed job (shown_name job.label.now name) false named × HasMarked named covering (known_of holds name left))
+    ⊎ OneIsMarked job covering holds left names
+
+-- the files of these names were searched, and the status tells it; under `-q` that is all, even where others cannot be read
+abbrev pub AreMarkedOr : Job → Covering → (List ℕ → Option (List ℕ)) → (left : Option (List ℕ)) → List (List ℕ) → (held held' : Option (List ℕ)) → ℕ → Type 0
+AreMarkedOr job covering holds left names held held' status =
+    ((any : Bool) × AreFilesMarked job covering holds left false names held held' any × (status ≡ status_of any))
+    ⊎ ((job.shown ≡ Nothing) × (status ≡ 0) × OneIsMarked job covering holds left names)
+
+-- of some first ones of the files of these names all that is asked is written, or a beginning of it; and nothing else
+abbrev pub AreMarksBegun : Job → Covering → (List ℕ → Option (List ℕ)) → (left : Option (List ℕ)) → (read : Bool) → List (List ℕ) → (held held' : Option (List ℕ)) → Type 0
+AreMarksBegun job covering holds left read [] held held' = Keeps held held'
+AreMarksBegun job covering holds left read (name ∷ names) held held' =
+    Keeps held held'
+    ⊎ ((meanwhile : Option (List ℕ)) × (((any : Bool) × MarksName job covering holds left read name held meanwhile any) ⊎ BeginsMarksName job covering holds left read name held meanwhile)
+    × AreMarksBegun job covering holds left (read || is_input name) names meanwhile held')
+
+-- what was seen is so
+pub record MarksNames (job : Job) (covering : Covering) (holds : List ℕ → Option (List ℕ)) (left : Option (List ℕ)) (names : List (List ℕ)) (held held' : Option (List ℕ)) (seen : Seen) : Type 0 where
+  pub searched : seen.failed ≡ false → AreFilesMarked job covering holds left false names held held' seen.selected
+  pub found : job.shown ≡ Nothing → seen.selected ≡ true → OneIsMarked job covering holds left names
+  pub begun : AreMarksBegun job covering holds left false names held held'
+
+-- a marking can begin a file: its rules are those by which it covers lines
+pub record IsMarking {A : Type 0} (G : Automata A) (marking : Marking A) : Type 0 where
+  pub can : CanCoverLines G marking.cover
+  pub rules : rules_of marking.cover ≡ marking.rules.now
+
+-- and goes on by the same
+pub record SameMarking {A : Type 0} (one other : Marking A) : Type 0 where
+  pub cover : CoversTheSame one.cover other.cover
+  pub rules : other.rules ≡ one.rules
+
+-- the stream has ended, and what is asked of each of its lines was written, from how far a file was searched on
+pub record WalksGiven {R W : Type 0} (S : SourceGhosts R) (K : SinkGhosts W) (asked : Asked) (pass pass' : Pass) (source source' : R) (output output' : W) (covering : Covering) : Type 0 where
+  pub text : List ℕ
+  pub gives : SourceGave S source source' text true
+  pub runs : List (List Occurrence)
+  pub are : AreLineRuns covering [] (stream_lines text) runs
+  pub comes : pass' ≡ pass_after pass (seen_lines covering.most (stream_lines text)) runs
+  pub written : Appends (K.taken output) (K.taken output') (marked_lines asked pass (seen_lines covering.most (stream_lines text)) runs)
+
+-- some first lines of what a source gave, whatever follows
+pub record AreFirstGiven (covering : Covering) (given : List ℕ) (ended : Bool) (lines : List Line) (runs : List (List Occurrence)) : Type 0 where
+  pub are : AreLineRuns covering [] lines runs
+  pub first : (bytes : List ℕ) → MayBe given ended bytes → AreFirstLines lines (stream_lines bytes)
+
+-- the search came behind some first lines, and a beginning of what is asked of some first lines was written
+pub record BeginsGiven {R W : Type 0} (S : SourceGhosts R) (K : SinkGhosts W) (asked : Asked) (pass pass' : Pass) (source source' : R) (output output' : W) (covering : Covering) : Type 0 where
+  pub given : List ℕ
+  pub ended : Bool
+  pub gives : SourceGave S source source' given ended
+  pub lines : List Line
+  pub runs : List (List Occurrence)
+  pub are : AreFirstGiven covering given ended lines runs
+  pub part : List ℕ
+  pub begins : StartsWith (marked_lines asked pass (seen_lines covering.most lines) runs) part
+  pub written : Appends (K.taken output) (K.taken output') part
+  pub passed : List Line
+  pub own : List (List Occurrence)
+  pub passed_are : AreFirstGiven covering given ended passed own
+  pub comes : pass' ≡ pass_after pass (seen_lines covering.most passed) own
+
+-- what comes of the lines of a source
+pub record WalksLines {R W : Type 0} (S : SourceGhosts R) (K : SinkGhosts W) (asked : Asked) (pass pass' : Pass) (result : Result (Unit {0}) LineError) (source source' : R) (output output' : W) (covering : Covering) : Type 0 where
+  pub whole : OnOk result (WalksGiven S K asked pass pass' source source' output output' covering)
+  pub begun : BeginsGiven S K asked pass pass' source source' output output' covering
+
+-- what holds of all by which a cover marks lines
+abbrev pub IfMarks : {A : Type 0} → Automata A → LineCover A → (Covering → Type 0) → Type 0
+IfMarks G cover Holds = (covering : Covering) → MarksBy G cover covering → Holds covering

@@ -1,0 +1,135 @@
+-- What a call does by rules, by what its arguments say.
+use Rattle.std.specs.Prelude.{◌≡◌, ◌⊎◌, ℕ, ◌==◌, Bool, MatchBool, false, List, [], ◌∷◌, ◌++◌, Option, codes, decimal, if◌then◌else◌, unwrap_or}
+use Rattle.std.specs.Io.KnownBytes.{Keeps}
+use Rattle.std.specs.Str.{bytes_eq}
+use Rattle.aho_core.specs.Patterns.{Patterns}
+use Rattle.aho_core.specs.declared.search.MatchKind.TheVariants.{Standard}
+use Rattle.secret_rules.specs.Covering.{Covering, covering_by}
+use Rattle.secret_rules.specs.Rules.{AreSound}
+use Rattle.secret_rules.specs.Tables.{TellsRules}
+use Rattle.secret_rules.specs.declared.rule.Rule.{Rule}
+use Rattle.acgrep.specs.Arguments.{Said}
+use Rattle.acgrep.specs.Folders.{Known}
+use Rattle.acgrep.specs.MarkedFiles.{AreMarkedOr, AreMarksBegun}
+use Rattle.acgrep.specs.Rules.{RuleSaid}
+use Rattle.acgrep.specs.Runs.{AreReached, AreRules, IsJob, IsTextOf, are_several, ruled, status_reached, status_told}
+use Rattle.acgrep.specs.declared.colors.Screen.{Screen}
+use Rattle.acgrep.specs.declared.options.Flags.{Flags}
+use Rattle.acgrep.specs.declared.select.Job.{Job}
+
+-- the name that stands for the rules of the program
+abbrev pub is_own : List ℕ → Bool
+is_own name = bytes_eq name (codes "builtin")
+
+-- the text of the file of a name tells these rules
+pub record AreFileRules (holds : List ℕ → Option (List ℕ)) (name : List ℕ) (left left' : Option (List ℕ)) (rules : List Rule) : Type 0 where
+  pub text : List ℕ
+  pub is : IsTextOf holds name left left' text
+  pub told : TellsRules text rules
+
+-- or a text of the program does
+abbrev pub AreOwnRules : (left left' : Option (List ℕ)) → List Rule → Type 0
+AreOwnRules left left' rules = (left' ≡ left) × ((text : List ℕ) × TellsRules text rules)
+
+abbrev pub AreNamedRules : (List ℕ → Option (List ℕ)) → List ℕ → (left left' : Option (List ℕ)) → List Rule → Type 0
+AreNamedRules holds name left left' rules = MatchBool (is_own name) (AreOwnRules left left' rules) (AreFileRules holds name left left' rules)
+
+-- those of these names, one after another
+abbrev pub AreAllRules : (List ℕ → Option (List ℕ)) → List (List ℕ) → (left left' : Option (List ℕ)) → List Rule → Type 0
+AreAllRules holds [] left left' rules = (left' ≡ left) × (rules ≡ [])
+AreAllRules holds (name ∷ names) left left' rules = (between : Option (List ℕ)) × (first : List Rule) × (rest : List Rule)
+    × (rules ≡ first ++ rest) × AreNamedRules holds name left between first × AreAllRules holds names between left' rest
+
+-- rules are added to others
+pub record AddsRules (Gives : List Rule → Type 0) (old new : List Rule) : Type 0 where
+  pub more : List Rule
+  pub grown : new ≡ old ++ more
+  pub of : Gives more
+
+-- how many bytes a line may have
+abbrev pub most_said : Flags → ℕ
+most_said flags = unwrap_or flags.longest 1048576
+
+-- what is covered of lines: what these rules mark, and no pattern
+abbrev pub no_patterns : Patterns
+no_patterns = record { words = []; kind = Standard; ignore_case = false }
+
+abbrev pub marking_by : Flags → List Rule → Covering
+marking_by flags rules = covering_by false rules (most_said flags) no_patterns
+
+-- the files that operands name were searched by what marks lines, as the call says
+pub record ReachesMarked (known : Known) (screen : Screen) (given : Said) (covering : Covering) (names : List (List ℕ)) (left held held' : Option (List ℕ)) (status : ℕ) : Type 0 where
+  pub files : List (List ℕ)
+  pub unread : List (List ℕ)
+  pub reached : AreReached known.tree given names files unread
+  pub job : Job
+  pub is_job : IsJob given screen (are_several given.flags names files) job
+  pub found : ℕ
+  pub searched : AreMarkedOr job covering known.holds left files held held' found
+  pub told : status ≡ status_reached given.flags unread found
+
+-- of some first ones of them all that is asked was written, or a beginning of it
+pub record BeginsReachedMarks (known : Known) (screen : Screen) (given : Said) (covering : Covering) (names : List (List ℕ)) (left held held' : Option (List ℕ)) : Type 0 where
+  pub files : List (List ℕ)
+  pub unread : List (List ℕ)
+  pub reached : AreReached known.tree given names files unread
+  pub job : Job
+  pub is_job : IsJob given screen (are_several given.flags names files) job
+  pub begun : AreMarksBegun job covering known.holds left false files held held'
+
+-- or nothing was
+abbrev pub MayReachMarked : Known → Screen → Said → Covering → List (List ℕ) → (left held held' : Option (List ℕ)) → Type 0
+MayReachMarked known screen given covering names left held held' = Keeps held held' ⊎ BeginsReachedMarks known screen given covering names left held held'
+
+-- by these rules
+abbrev pub MarksReached : Known → Screen → Said → List Rule → (left held held' : Option (List ℕ)) → ℕ → Type 0
+MarksReached known screen given rules left held held' status = ReachesMarked known screen given (marking_by given.flags rules) given.operands left held held' status
+
+abbrev pub MayBeginMarks : Known → Screen → Said → List Rule → (left held held' : Option (List ℕ)) → Type 0
+MayBeginMarks known screen given rules left held held' = MayReachMarked known screen given (marking_by given.flags rules) given.operands left held held'
+
+-- the rules were read, and then that was done
+pub record MarksAsked (known : Known) (screen : Screen) (given : Said) (left held held' : Option (List ℕ)) (status : ℕ) : Type 0 where
+  pub rules : List Rule
+  pub between : Option (List ℕ)
+  pub read : AreAllRules known.holds given.rule_files left between rules
+  pub sound : AreSound rules
+  pub searched : MarksReached known screen given rules between held held' status
+
+pub record BeginsAskedMarks (known : Known) (screen : Screen) (given : Said) (left held held' : Option (List ℕ)) : Type 0 where
+  pub rules : List Rule
+  pub between : Option (List ℕ)
+  pub read : AreAllRules known.holds given.rule_files left between rules
+  pub begun : MayBeginMarks known screen given rules between held held'
+
+abbrev pub MayBeginAsked : Known → Screen → Said → (left held held' : Option (List ℕ)) → Type 0
+MayBeginAsked known screen given left held held' = Keeps held held' ⊎ BeginsAskedMarks known screen given left held held'
+
+-- the globs in files were read before
+pub record MarksRuled (known : Known) (screen : Screen) (given : Said) (left held held' : Option (List ℕ)) (status : ℕ) : Type 0 where
+  pub globs : List RuleSaid
+  pub between : Option (List ℕ)
+  pub read : AreRules known.holds given.rules left between globs
+  pub searched : MarksAsked known screen (ruled given globs) between held held' status
+
+pub record BeginsRuledMarks (known : Known) (screen : Screen) (given : Said) (left held held' : Option (List ℕ)) : Type 0 where
+  pub globs : List RuleSaid
+  pub between : Option (List ℕ)
+  pub read : AreRules known.holds given.rules left between globs
+  pub begun : MayBeginAsked known screen (ruled given globs) between held held'
+
+abbrev pub BeginsByRules : Known → Screen → Said → (left held held' : Option (List ℕ)) → Type 0
+BeginsByRules known screen given left held held' = Keeps held held' ⊎ BeginsRuledMarks known screen given left held held'
+
+-- what was said was done by rules; `left` is what the input has left, and `held` what the output holds
+abbrev pub SearchesByRules : Known → Screen → Said → (left held held' : Option (List ℕ)) → ℕ → Type 0
+SearchesByRules known screen given left held held' status =
+    (found : ℕ) × MarksRuled known screen given left held held' found × (status ≡ status_told given.flags.no_match_ok found)
+
+-- what is told of so many lines that are too long: nothing where there is none
+abbrev pub long_line : (most count : ℕ) → List ℕ
+long_line most count =
+    codes "acgrep" ++ (codes ": lines of more than " ++ (decimal most ++ (codes " bytes, each selected and not written: " ++ (decimal count ++ codes "\n"))))
+
+abbrev pub long_told : (most count : ℕ) → List ℕ
+long_told most count = if count == 0 then [] else long_line most count

@@ -1,0 +1,322 @@
+//! Searching the files of a call by rules, one after another.
+
+ghost use Rattle.std.specs.Prelude.{◌≡◌, ◌<◌, ◌≤◌, ◌||◌, false};
+ghost use Rattle.programs.specs.Names.{is_input, name_bytes, or_input};
+ghost use Rattle.acgrep.specs.Files.{BeginsTotal, EndsFile, IfBroken, IfSearched};
+ghost use Rattle.acgrep.specs.MarkedFiles.{AreMarkedOr, AreMarksBegun, ComesInput, ComesMarked, ComesName, IfMarks, IsMarking, MarksNames, SameMarking};
+
+use crate::failure::Stop;
+use crate::files::{Files, Outcome, Seen, goes_on, job_for, put_total, writes_into};
+use crate::keys::{INPUT, is_input, open_named};
+use crate::marked::Task;
+use crate::marked_lines::{End, end_of, mark_source};
+use crate::noting::Noting;
+use crate::open::Open;
+use crate::select::Job;
+use crate::tell::{PROGRAM, tell_memory};
+use crate::unread::{tell_closed, tell_same, tell_stop, tell_total, tell_unread, tell_unreadable};
+use chromesquid::{Automaton, FromRead, Sink};
+use programs::errors::Errors;
+use programs::reason::Reason;
+use rule_files::{RuleFlaw, bad_rule, tell_rule};
+use secret_rules::{LineCover, Rule};
+use std::alloc::Global;
+use std::cell::Cell;
+use std::io::Read;
+
+/// What stands for a file in messages about a rule that cannot be used.
+const RULES: &[u8] = b"--rules";
+
+/// What marks the lines of files.
+#[derive(Drop)]
+pub struct Marking<'r, 'a, A> {
+    /// What marks them.
+    pub cover: LineCover<'r, 'a, A>,
+    /// The rules.
+    pub rules: &'r [Rule],
+    /// Whether standard input was read.
+    pub input_read: bool,
+    /// How many lines are too long.
+    pub long: u64,
+}
+
+/// Searches all files, and answers the status. A file that cannot be read does not stop the others.
+pub fn mark_files<A: Automaton, F: Open, R: Read, W: Sink, E: Sink>(
+    marking: &mut Marking<'_, '_, A>,
+    job: &Job<'_>,
+    files: &Files<'_, F>,
+    input: &mut R,
+    output: &mut W,
+    errors: &mut Errors<'_, E>,
+) -> u8
+    requires ready { IsMarking A.Automaton marking.old }
+    requires unread { marking.old.input_read ≡ false }
+    ensures bound { result ≤ 2 }
+    ensures searched { IfMarks A.Automaton marking.old.cover (λ covering. result < 2
+        → AreMarkedOr job.now covering (F.holds files.now.files.now) (R.remaining input.old)
+        (or_input (name_bytes files.now.names.now)) (W.taken output.old) (W.taken output.new) result) }
+    ensures begun { IfMarks A.Automaton marking.old.cover (λ covering.
+        AreMarksBegun job.now covering (F.holds files.now.files.now) (R.remaining input.old) false
+        (or_input (name_bytes files.now.names.now)) (W.taken output.old) (W.taken output.new)) }
+{
+    if files.names.is_empty() {
+        let names = [INPUT];
+        return mark_names(marking, job, files.files, &names, input, output, errors);
+    }
+    mark_names(
+        marking,
+        job,
+        files.files,
+        files.names,
+        input,
+        output,
+        errors,
+    )
+}
+
+/// Searches the files of these names, one after another, and answers the status.
+pub fn mark_names<A: Automaton, F: Open, R: Read, W: Sink, E: Sink>(
+    marking: &mut Marking<'_, '_, A>,
+    job: &Job<'_>,
+    files: &F,
+    names: &[&[u8]],
+    input: &mut R,
+    output: &mut W,
+    errors: &mut Errors<'_, E>,
+) -> u8
+    requires ready { IsMarking A.Automaton marking.old }
+    requires unread { marking.old.input_read ≡ false }
+    ensures bound { result ≤ 2 }
+    ensures searched { IfMarks A.Automaton marking.old.cover (λ covering. result < 2
+        → AreMarkedOr job.now covering (F.holds files.now) (R.remaining input.old)
+        (name_bytes names.now) (W.taken output.old) (W.taken output.new) result) }
+    ensures begun { IfMarks A.Automaton marking.old.cover (λ covering.
+        AreMarksBegun job.now covering (F.holds files.now) (R.remaining input.old) false
+        (name_bytes names.now) (W.taken output.old) (W.taken output.new)) }
+{
+    let seen = mark_each(marking, job, files, names, input, output, errors);
+    seen.status(job.shown)
+}
+
+/// Searches the files of these names, one after another, and answers what was seen.
+fn mark_each<A: Automaton, F: Open, R: Read, W: Sink, E: Sink>(
+    marking: &mut Marking<'_, '_, A>,
+    job: &Job<'_>,
+    files: &F,
+    names: &[&[u8]],
+    input: &mut R,
+    output: &mut W,
+    errors: &mut Errors<'_, E>,
+) -> Seen
+    requires ready { IsMarking A.Automaton marking.old }
+    requires unread { marking.old.input_read ≡ false }
+    ensures seen { IfMarks A.Automaton marking.old.cover (λ covering.
+        MarksNames job.now covering (F.holds files.now) (R.remaining input.old)
+        (name_bytes names.now) (W.taken output.old) (W.taken output.new) result) }
+{
+    let mut seen = Seen::new();
+    let mut rest = names;
+    while goes_on(rest, seen) {
+        let outcome = mark_name(marking, job, files, rest[0], input, output, errors);
+        seen = seen.after(job.shown, outcome);
+        rest = &rest[1..];
+    }
+    seen
+}
+
+/// Searches the file of a name.
+fn mark_name<A: Automaton, F: Open, R: Read, W: Sink, E: Sink>(
+    marking: &mut Marking<'_, '_, A>,
+    job: &Job<'_>,
+    files: &F,
+    name: &[u8],
+    input: &mut R,
+    output: &mut W,
+    errors: &mut Errors<'_, E>,
+) -> Outcome
+    requires ready { IsMarking A.Automaton marking.old }
+    ensures comes { IfMarks A.Automaton marking.old.cover (λ covering.
+        ComesName job.now covering (F.holds files.now) (R.remaining input.old) marking.old.input_read name.now
+        (W.taken output.old) (W.taken output.new) result) }
+    ensures read { marking.new.input_read ≡ (marking.old.input_read || is_input name.now) }
+    ensures leaves { is_input name.now ≡ false → input.new ≡ input.old }
+    ensures same { SameMarking marking.old marking.new }
+    ensures ready { IsMarking A.Automaton marking.new }
+{
+    if is_input(name) {
+        let again = marking.input_read;
+        marking.input_read = true;
+        let named = job_for(job, job.label, false);
+        return mark_input(marking, &named, files, again, input, output, errors);
+    }
+    let named = job_for(job, name, false);
+    mark_named(marking, &named, files, name, output, errors)
+}
+
+/// Opens the file of a name and searches it.
+fn mark_named<A: Automaton, F: Open, W: Sink, E: Sink>(
+    marking: &mut Marking<'_, '_, A>,
+    job: &Job<'_>,
+    files: &F,
+    name: &[u8],
+    output: &mut W,
+    errors: &mut Errors<'_, E>,
+) -> Outcome
+    requires ready { IsMarking A.Automaton marking.old }
+    ensures comes { IfMarks A.Automaton marking.old.cover (λ covering.
+        ComesMarked job.now covering (F.holds files.now name.now) (W.taken output.old) (W.taken output.new) result) }
+    ensures read { marking.new.input_read ≡ marking.old.input_read }
+    ensures same { SameMarking marking.old marking.new }
+    ensures ready { IsMarking A.Automaton marking.new }
+{
+    if writes_into(job, files, name) {
+        let _ = output.flush();
+        tell_same(job, errors);
+        return Outcome::Unread;
+    }
+    match open_named(files, name) {
+        Ok(file) => mark_reader(marking, job, file, output, errors),
+        Err(error) => {
+            let _ = output.flush();
+            tell_closed(job, Reason::of(&error), errors);
+            Outcome::Unread
+        }
+    }
+}
+
+/// Searches standard input, unless the output goes to it. Where it was read before, it has nothing more.
+fn mark_input<A: Automaton, F: Open, R: Read, W: Sink, E: Sink>(
+    marking: &mut Marking<'_, '_, A>,
+    job: &Job<'_>,
+    files: &F,
+    again: bool,
+    input: &mut R,
+    output: &mut W,
+    errors: &mut Errors<'_, E>,
+) -> Outcome
+    requires ready { IsMarking A.Automaton marking.old }
+    ensures comes { IfMarks A.Automaton marking.old.cover (λ covering.
+        ComesInput job.now covering again (R.remaining input.old) (W.taken output.old) (W.taken output.new) result) }
+    ensures read { marking.new.input_read ≡ marking.old.input_read }
+    ensures same { SameMarking marking.old marking.new }
+    ensures ready { IsMarking A.Automaton marking.new }
+{
+    if writes_into(job, files, b"/dev/stdin") {
+        let _ = output.flush();
+        tell_same(job, errors);
+        return Outcome::Unread;
+    }
+    if let Some(why) = files.unusable_input() {
+        let _ = output.flush();
+        tell_unreadable(job, why, errors);
+        return Outcome::Unread;
+    }
+    if again {
+        return end_marked(job, 0, output, errors);
+    }
+    mark_reader(marking, job, input, output, errors)
+}
+
+/// Searches what a reader gives, and writes what is asked of it.
+fn mark_reader<A: Automaton, R: Read + Drop, W: Sink, E: Sink>(
+    marking: &mut Marking<'_, '_, A>,
+    job: &Job<'_>,
+    reader: R,
+    output: &mut W,
+    errors: &mut Errors<'_, E>,
+) -> Outcome
+    requires ready { IsMarking A.Automaton marking.old }
+    ensures comes { IfMarks A.Automaton marking.old.cover (λ covering.
+        ComesMarked job.now covering (R.remaining reader) (W.taken output.old) (W.taken output.new) result) }
+    ensures read { marking.new.input_read ≡ marking.old.input_read }
+    ensures same { SameMarking marking.old marking.new }
+    ensures ready { IsMarking A.Automaton marking.new }
+{
+    let reason = Cell::new(None);
+    let mut source = FromRead::new(Noting::new(reader, &reason));
+    let task = Task {
+        alloc: job.alloc,
+        shown: job.shown,
+        style: job.style,
+        rules: marking.rules,
+    };
+    let came = mark_source(
+        &mut marking.cover,
+        task,
+        job.first,
+        &mut source,
+        output,
+    );
+    marking.long = marking.long.saturating_add(came.pass.long);
+    let selected = came.pass.selected;
+    match end_of(came, reason.get(), job.shown) {
+        None => end_marked(job, selected, output, errors),
+        Some(End::Rule(number)) => {
+            let _ = output.flush();
+            tell_too_big(job.alloc, marking.rules, number, errors);
+            Outcome::Stopped
+        }
+        Some(End::Stop(stop)) => break_marked(job, selected, &stop, output, errors),
+    }
+}
+
+/// Tells that the expression of the rule of a number is too big to be compiled.
+fn tell_too_big<E: Sink>(
+    alloc: Global,
+    rules: &[Rule],
+    number: usize,
+    errors: &mut Errors<'_, E>,
+) {
+    let Some(rule) = rules.get(number) else {
+        return tell_memory(errors);
+    };
+    match bad_rule(alloc, number.saturating_add(1), rule, RuleFlaw::TooBig) {
+        Ok(bad) => tell_rule(errors, PROGRAM, RULES, &bad),
+        Err(_) => tell_memory(errors),
+    }
+}
+
+/// Writes what is asked of a file that was searched, of which so many lines are selected.
+fn end_marked<W: Sink, E: Sink>(
+    job: &Job<'_>,
+    selected: u64,
+    output: &mut W,
+    errors: &mut Errors<'_, E>,
+) -> Outcome
+    ensures ended { IfSearched result (EndsFile job.now selected (W.taken output.old) (W.taken output.new)) }
+    ensures begun { IfBroken result (BeginsTotal job.now selected (W.taken output.old) (W.taken output.new)) }
+{
+    let mut page = Vec::new(job.alloc);
+    match put_total(job, selected, &mut page, output) {
+        Ok(()) => Outcome::Searched(selected > 0),
+        Err(stop) => {
+            tell_total(&stop, errors);
+            Outcome::Stopped
+        }
+    }
+}
+
+/// Tells why a search stopped. Of a file that cannot be read to its end is written what is asked of it so far.
+fn break_marked<W: Sink, E: Sink>(
+    job: &Job<'_>,
+    selected: u64,
+    stop: &Stop,
+    output: &mut W,
+    errors: &mut Errors<'_, E>,
+) -> Outcome
+    ensures unsearched { IfSearched result (λ any. ⊥) }
+    ensures begun { BeginsTotal job.now selected (W.taken output.old) (W.taken output.new) }
+{
+    let _ = output.flush();
+    if tell_stop(job, stop, errors) {
+        return Outcome::Stopped;
+    }
+    let mut page = Vec::new(job.alloc);
+    match put_total(job, selected, &mut page, output) {
+        Ok(()) => Outcome::Unread,
+        Err(stop) => {
+            tell_total(&stop, errors);
+            Outcome::Stopped
+        }
+    }
+}

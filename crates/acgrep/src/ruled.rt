@@ -1,0 +1,261 @@
+//! A call by rules: the lines are selected in which they mark something.
+
+ghost use Rattle.std.specs.Prelude.{◌≡◌, ◌<◌, ◌≤◌, IfOk, false, true};
+ghost use Rattle.programs.specs.Names.{name_bytes};
+ghost use Rattle.programs.specs.Telling.{TellsBytes};
+ghost use Rattle.secret_rules.specs.Covering.{covering_by};
+ghost use Rattle.secret_rules.specs.Ready.{CanCoverLines, rules_of};
+ghost use Rattle.acgrep.specs.Arguments.{said};
+ghost use Rattle.acgrep.specs.Folders.{known_by};
+ghost use Rattle.acgrep.specs.MarkedFiles.{IfMarks, IsMarking, MarksBy};
+ghost use Rattle.acgrep.specs.Runs.{asks_to_look};
+ghost use Rattle.acgrep.specs.RunsByRules.{BeginsByRules, MarksAsked, MarksReached, MarksRuled, MayBeginAsked, MayBeginMarks, MayReachMarked, ReachesMarked, long_line, long_told, most_said, no_patterns};
+
+use crate::arguments::Given;
+use crate::below::{are_several, asks_to_look, reach, slices_of, status_below, tell_each};
+use crate::colors::Screen;
+use crate::excluded::{expanded, read_globs};
+use crate::files::Files;
+use crate::folders::Folders;
+use crate::marked_files::{Marking, mark_files, mark_names};
+use crate::open::Open;
+use crate::options::Flags;
+use crate::rule_lists::{read_rules, tell_all};
+use crate::run::{job_of, with_rules};
+use crate::tell::{PROGRAM, tell_memory};
+use chromesquid::noncontiguous::NFA;
+use chromesquid::{Automaton, BuildError, Sink};
+use programs::errors::Errors;
+use rule_files::{MAX_DIGITS, digits_of};
+use secret_rules::{LineCover, Rules};
+use std::alloc::Global;
+use std::io::Read;
+
+/// How many bytes a line may have, where nothing else is said.
+const USUAL_MOST: u64 = 1024 * 1024;
+
+/// How many rules there may be at most.
+const MOST_RULES: usize = 2_147_483_646;
+
+/// Does what right arguments with rules ask for.
+pub fn mark_said<F: Open + Folders, R: Read, W: Sink, E: Sink>(
+    alloc: Global,
+    given: Given<'_>,
+    screen: &Screen<'_>,
+    files: &F,
+    input: &mut R,
+    output: &mut W,
+    errors: &mut Errors<'_, E>,
+) -> u8
+    ensures bound { result ≤ 2 }
+    ensures searches { result < 2 → MarksRuled (known_by F.Open F.Folders files.now) screen.now (said given.entry)
+        (R.remaining input.old) (W.taken output.old) (W.taken output.new) result }
+    ensures begins { BeginsByRules (known_by F.Open F.Folders files.now) screen.now (said given.entry)
+        (R.remaining input.old) (W.taken output.old) (W.taken output.new) }
+{
+    let rules = given.rules.as_slice();
+    let Some(texts) = read_globs(alloc, rules, files, input, errors) else {
+        return 2;
+    };
+    let Ok(all) = expanded(alloc, rules, texts.as_slice()) else {
+        tell_memory(errors);
+        return 2;
+    };
+    let ruled = with_rules(given, all);
+    mark_asked(alloc, &ruled, screen, files, input, output, errors)
+}
+
+/// Reads the rules, and searches by them.
+fn mark_asked<F: Open + Folders, R: Read, W: Sink, E: Sink>(
+    alloc: Global,
+    given: &Given<'_>,
+    screen: &Screen<'_>,
+    files: &F,
+    input: &mut R,
+    output: &mut W,
+    errors: &mut Errors<'_, E>,
+) -> u8
+    ensures bound { result ≤ 2 }
+    ensures searches { result < 2 → MarksAsked (known_by F.Open F.Folders files.now) screen.now (said given.now)
+        (R.remaining input.old) (W.taken output.old) (W.taken output.new) result }
+    ensures begins { MayBeginAsked (known_by F.Open F.Folders files.now) screen.now (said given.now)
+        (R.remaining input.old) (W.taken output.old) (W.taken output.new) }
+{
+    let names = given.rule_files.as_slice();
+    let Some(rules) = read_rules(alloc, names, files, input, errors) else {
+        return 2;
+    };
+    search_by(alloc, given, &rules, screen, files, input, output, errors)
+}
+
+/// Searches by these rules, and tells how many lines are too long.
+fn search_by<F: Open + Folders, R: Read, W: Sink, E: Sink>(
+    alloc: Global,
+    given: &Given<'_>,
+    rules: &Rules,
+    screen: &Screen<'_>,
+    files: &F,
+    input: &mut R,
+    output: &mut W,
+    errors: &mut Errors<'_, E>,
+) -> u8
+    ensures bound { result ≤ 2 }
+    ensures searches { result < 2 → MarksReached (known_by F.Open F.Folders files.now) screen.now (said given.now) rules.now
+        (R.remaining input.old) (W.taken output.old) (W.taken output.new) result }
+    ensures begins { MayBeginMarks (known_by F.Open F.Folders files.now) screen.now (said given.now) rules.now
+        (R.remaining input.old) (W.taken output.old) (W.taken output.new) }
+{
+    let most = most_of(&given.flags);
+    let cover = match cover_of(alloc, rules, most) {
+        Ok(cover) => cover,
+        Err(error) => {
+            tell_all(&error, errors);
+            return 2;
+        }
+    };
+    let mut marking = Marking {
+        cover,
+        rules: rules.as_slice(),
+        input_read: false,
+        long: 0,
+    };
+    let operands = Files {
+        alloc,
+        names: given.operands.as_slice(),
+        files,
+    };
+    let status = mark_operands(
+        &mut marking,
+        given,
+        screen,
+        &operands,
+        input,
+        output,
+        errors,
+    );
+    tell_long(most, marking.long, errors);
+    status
+}
+
+/// How many bytes a line may have.
+fn most_of(flags: &Flags) -> usize
+    ensures most { result ≡ most_said flags.now }
+{
+    flags.longest.unwrap_or(USUAL_MOST) as usize
+}
+
+/// What marks lines of so many bytes by these rules.
+fn cover_of<'r, 'a>(
+    alloc: Global,
+    rules: &'r Rules,
+    most: usize,
+) -> Result<LineCover<'r, 'a, NFA>, BuildError>
+    ensures ready { IfOk result (CanCoverLines ⟦<NFA as Automaton>⟧) }
+    ensures rules { IfOk result (λ cover. rules_of cover ≡ rules.entry.now) }
+    ensures marks { IfOk result (λ cover. MarksBy ⟦<NFA as Automaton>⟧ cover
+        (covering_by false rules.entry.now most no_patterns)) }
+{
+    let count = rules.as_slice().len();
+    if count > MOST_RULES {
+        return Err(BuildError::PatternIDOverflow {
+            max: MOST_RULES as u64,
+            requested: count as u64,
+        });
+    }
+    match LineCover::new(alloc, rules, None, false, most) {
+        Ok(cover) => Ok(cover),
+        Err(_) => Err(BuildError::OutOfMemory),
+    }
+}
+
+/// Searches the files that these operands name, with those below folders where that is asked for.
+fn mark_operands<A: Automaton, F: Open + Folders, R: Read, W: Sink, E: Sink>(
+    marking: &mut Marking<'_, '_, A>,
+    given: &Given<'_>,
+    screen: &Screen<'_>,
+    operands: &Files<'_, F>,
+    input: &mut R,
+    output: &mut W,
+    errors: &mut Errors<'_, E>,
+) -> u8
+    requires ready { IsMarking A.Automaton marking.old }
+    requires unread { marking.old.input_read ≡ false }
+    ensures bound { result ≤ 2 }
+    ensures searched { IfMarks A.Automaton marking.old.cover (λ covering. result < 2
+        → ReachesMarked (known_by F.Open F.Folders operands.now.files.now) screen.now (said given.now) covering
+        (name_bytes operands.now.names.now) (R.remaining input.old) (W.taken output.old) (W.taken output.new) result) }
+    ensures begun { IfMarks A.Automaton marking.old.cover (λ covering.
+        MayReachMarked (known_by F.Open F.Folders operands.now.files.now) screen.now (said given.now) covering
+        (name_bytes operands.now.names.now) (R.remaining input.old) (W.taken output.old) (W.taken output.new)) }
+{
+    if asks_to_look(given) {
+        return mark_below(marking, given, screen, operands, input, output, errors);
+    }
+    let job = job_of(operands.alloc, given, screen, operands.names.len() > 1);
+    mark_files(marking, &job, operands, input, output, errors)
+}
+
+/// Searches those that globs do not leave out, and the files below folders where that is asked for.
+fn mark_below<A: Automaton, F: Open + Folders, R: Read, W: Sink, E: Sink>(
+    marking: &mut Marking<'_, '_, A>,
+    given: &Given<'_>,
+    screen: &Screen<'_>,
+    operands: &Files<'_, F>,
+    input: &mut R,
+    output: &mut W,
+    errors: &mut Errors<'_, E>,
+) -> u8
+    requires ready { IsMarking A.Automaton marking.old }
+    requires unread { marking.old.input_read ≡ false }
+    requires looks { asks_to_look (said given.now) ≡ true }
+    ensures bound { result ≤ 2 }
+    ensures searched { IfMarks A.Automaton marking.old.cover (λ covering. result < 2
+        → ReachesMarked (known_by F.Open F.Folders operands.now.files.now) screen.now (said given.now) covering
+        (name_bytes operands.now.names.now) (R.remaining input.old) (W.taken output.old) (W.taken output.new) result) }
+    ensures begun { IfMarks A.Automaton marking.old.cover (λ covering.
+        MayReachMarked (known_by F.Open F.Folders operands.now.files.now) screen.now (said given.now) covering
+        (name_bytes operands.now.names.now) (R.remaining input.old) (W.taken output.old) (W.taken output.new)) }
+{
+    let Ok(found) = reach(operands.alloc, operands.files, given, operands.names) else {
+        tell_memory(errors);
+        return 2;
+    };
+    let Ok(names) = slices_of(operands.alloc, found.names.as_slice()) else {
+        tell_memory(errors);
+        return 2;
+    };
+    let several = are_several(&given.flags, operands.names, names.as_slice());
+    let job = job_of(operands.alloc, given, screen, several);
+    tell_each(given.flags.no_messages, found.unread.as_slice(), errors);
+    let files = operands.files;
+    let status = mark_names(marking, &job, files, names.as_slice(), input, output, errors);
+    status_below(&given.flags, found.unread.as_slice(), status)
+}
+
+/// Tells how many lines have more bytes than this, if one has.
+fn tell_long<E: Sink>(most: usize, count: u64, errors: &mut Errors<'_, E>)
+    ensures told { TellsBytes E.Sink errors.old errors.new (long_told most count) }
+{
+    if count == 0 {
+        return;
+    }
+    tell_some_long(most, count, errors);
+}
+
+/// Tells that so many lines have more bytes than this.
+fn tell_some_long<E: Sink>(most: usize, count: u64, errors: &mut Errors<'_, E>)
+    ensures told { TellsBytes E.Sink errors.old errors.new (long_line most count) }
+{
+    let mut room = [0; MAX_DIGITS];
+    let mut other_room = [0; MAX_DIGITS];
+    let digits = digits_of(most as u64, &mut room);
+    let other_digits = digits_of(count, &mut other_room);
+    errors.write(&[
+        PROGRAM,
+        b": lines of more than ",
+        digits,
+        b" bytes, each selected and not written: ",
+        other_digits,
+        b"\n",
+    ]);
+}

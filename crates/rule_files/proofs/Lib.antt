@@ -1,0 +1,2 @@
+-- names in messages
+mod ShownNames
