@@ -21,7 +21,7 @@ use Rattle.secret_rules.specs.declared.rule.Rule.{Rule}
 use Rattle.programs.specs.Names.{is_input}
 use Rattle.programs.specs.Answers.{status_of}
 use Rattle.acgrep.specs.Files.{BeginsTotal, EndsFile, IfBroken, IfSearched, IsNamed, is_enough, known_of, nothing_seen, seen_after, shown_name, status_by, total_if}
-use Rattle.acgrep.specs.Marked.{Asked, marked_by, marked_line, marked_lines, pass_after, pass_behind}
+use Rattle.acgrep.specs.Marked.{Asked, marked_shown, marked_line, marked_lines, pass_after, pass_behind}
 use Rattle.acgrep.specs.MarkedFiles.{AreFilesMarked, AreFirstGiven, AreMarkedOr, AreMarksBegun, BeginsGiven, BeginsInput, BeginsMarks, BeginsMarksName, ComesInput, ComesMarked, ComesName, HasFirst, HasMarked, HasToldAll, IsMarking, MarksBy, MarksFile, MarksInput, MarksName, MarksNames, MarksText, OneIsMarked, SameMarking, TellsAll, WalksGiven, WalksLines, asked_by, file_marked, file_selected, pass_from, seen_lines}
 use Rattle.acgrep.specs.Written.{needs_one}
 use Rattle.acgrep.specs.declared.files.Outcome.{Outcome}
@@ -71,7 +71,7 @@ either_none : (empty : Bool) (bytes : List ℕ) → bytes ≡ [] → (if empty t
 either_none true bytes none = refl
 either_none false bytes none = none
 
-shown_none : (shown : Shown) (style : Style) (rules : List Rule) (place : Place) (line : List ℕ) (runs : List Occurrence) → needs_one shown ≡ true → marked_by shown style rules place line runs ≡ []
+shown_none : (shown : Shown) (style : Style) (rules : List Rule) (place : Place) (line : List ℕ) (runs : List Occurrence) → needs_one shown ≡ true → marked_shown shown style rules place line runs ≡ []
 shown_none Lines style rules place line runs is = absurd (cc)
 shown_none Matches style rules place line runs is = absurd (cc)
 shown_none Objects style rules place line runs is = absurd (cc)
@@ -82,7 +82,7 @@ shown_none Nothing style rules place line runs is = refl
 
 line_none : (asked : Asked) → needs_one asked.shown ≡ true → (place : Place) (line : List ℕ) (runs : List Occurrence) → marked_line asked place line runs ≡ []
 line_none asked needs place line runs =
-    either_none ((length runs == 0) || (length line == 0)) (marked_by asked.shown asked.style asked.rules place line runs) (shown_none asked.shown asked.style asked.rules place line runs needs)
+    either_none ((length runs == 0) || (length line == 0)) (marked_shown asked.shown asked.style asked.rules place line runs) (shown_none asked.shown asked.style asked.rules place line runs needs)
 
 lines_none : (asked : Asked) → needs_one asked.shown ≡ true → (pass : Pass) (lines : List (List ℕ)) (runs : List (List Occurrence)) → marked_lines asked pass lines runs ≡ []
 lines_none asked needs pass [] runs = refl

@@ -24,6 +24,7 @@ pub mod Kept
 pub mod LineLists
 pub mod LongNames
 pub mod MarkedLines
+pub mod MarksKept
 pub mod Mistaken
 pub mod NamesMarked
 pub mod NamesSearched
@@ -44,6 +45,7 @@ pub mod StreamsBegun
 pub mod Tallied
 pub mod Tellings
 pub mod TextAlone
+pub mod Unfitting
 pub mod Unselected
 pub mod Walked
 pub mod Walking

@@ -43,14 +43,14 @@ abbrev pub ruled_objects : Style → List Rule → Place → List ℕ → List O
 ruled_objects style rules place line runs = flat_map (λ run. ruled_object style rules place line run) runs
 
 -- what is written of a line with these runs: the line, or its runs so or so
-abbrev pub marked_by : Shown → Style → List Rule → Place → List ℕ → List Occurrence → List ℕ
-marked_by Lines style rules place line runs = line_by style place line
-marked_by Matches style rules place line runs = matches_by style place line runs
-marked_by Objects style rules place line runs = ruled_objects style rules place line runs
-marked_by Count style rules place line runs = []
-marked_by Names style rules place line runs = []
-marked_by Lacking style rules place line runs = []
-marked_by Nothing style rules place line runs = []
+abbrev pub marked_shown : Shown → Style → List Rule → Place → List ℕ → List Occurrence → List ℕ
+marked_shown Lines style rules place line runs = line_by style place line
+marked_shown Matches style rules place line runs = matches_by style place line runs
+marked_shown Objects style rules place line runs = ruled_objects style rules place line runs
+marked_shown Count style rules place line runs = []
+marked_shown Names style rules place line runs = []
+marked_shown Lacking style rules place line runs = []
+marked_shown Nothing style rules place line runs = []
 
 -- whether a line is selected: rules mark something in it, or it is too long, and then it comes without its bytes and as one run
 abbrev pub is_marked : List Occurrence → Bool
@@ -79,7 +79,7 @@ asked_of task = record { shown = task.shown; style = task.style; rules = task.ru
 -- nothing is written of a line that is not selected, and of one that is too long
 abbrev pub marked_line : Asked → Place → List ℕ → List Occurrence → List ℕ
 marked_line asked place line runs =
-    if (length runs == 0) || (length line == 0) then [] else marked_by asked.shown asked.style asked.rules place line runs
+    if (length runs == 0) || (length line == 0) then [] else marked_shown asked.shown asked.style asked.rules place line runs
 
 -- one more, if that is so; a count stays at the greatest number
 abbrev pub more_if : Bool → ℕ → ℕ

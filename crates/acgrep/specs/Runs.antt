@@ -6,6 +6,7 @@ use Rattle.aho_core.specs.Patterns.{Patterns}
 use Rattle.aho_devices.specs.Counts.{AppendsBeginning}
 use Rattle.aho_core.specs.declared.search.MatchKind.{MatchKind}
 use Rattle.aho_core.specs.declared.search.MatchKind.TheVariants.{LeftmostLongest}
+use Rattle.acgrep.specs.Beside.{unfit_said}
 use Rattle.acgrep.specs.Binary.{is_guarded, takes_text, writes_lines}
 use Rattle.acgrep.specs.Arguments.{Origin, Said, asks_counts, context_by, ending_by, fit_by, origin_of, said_by, shown_by, ways_by}
 use Rattle.programs.specs.Names.{is_input, or_input}
@@ -40,9 +41,25 @@ abbrev pub IfSaid : {Z : Type 0} → List (Vec ℕ Z) → (Said → Type 0) → 
 IfSaid arguments Holds = (given : Said) → said_by (listed_bytes arguments) ≡ Some given → Holds given
 
 -- a search is asked for, and neither `--help` nor `--version`
-pub record AsksToSearch (flags : Flags) : Type 0 where
-  pub no_help : flags.help ≡ false
-  pub no_version : flags.version ≡ false
+pub record Asks (given : Said) : Type 0 where
+  pub no_help : given.flags.help ≡ false
+  pub no_version : given.flags.version ≡ false
+
+-- one by patterns, or one by rules, by options that go together
+pub record AsksToSearch (given : Said) : Type 0 where
+  pub asks : Asks given
+  pub fits : unfit_said given ≡ None
+  pub by_patterns : given.flags.by_rules ≡ false
+
+pub record AsksByRules (given : Said) : Type 0 where
+  pub asks : Asks given
+  pub fits : unfit_said given ≡ None
+  pub by_rules : given.flags.by_rules ≡ true
+
+-- a call that does nothing by rules, and whose options go together where they are right
+abbrev pub IsByPatterns : Option Said → Type 0
+IsByPatterns None = Unit {0}
+IsByPatterns (Some given) = (given.flags.by_rules ≡ false) × (unfit_said given ≡ None)
 
 -- neither an option nor an operand gives a pattern
 pub record GivesNone (given : Said) : Type 0 where

@@ -127,9 +127,9 @@ SearchesByRules known screen given left held held' status =
     (found : ℕ) × MarksRuled known screen given left held held' found × (status ≡ status_told given.flags.no_match_ok found)
 
 -- what is told of so many lines that are too long: nothing where there is none
-abbrev pub long_line : (most count : ℕ) → List ℕ
-long_line most count =
+abbrev pub unwritten_line : (most count : ℕ) → List ℕ
+unwritten_line most count =
     codes "acgrep" ++ (codes ": lines of more than " ++ (decimal most ++ (codes " bytes, each selected and not written: " ++ (decimal count ++ codes "\n"))))
 
-abbrev pub long_told : (most count : ℕ) → List ℕ
-long_told most count = if count == 0 then [] else long_line most count
+abbrev pub long_message : (most count : ℕ) → List ℕ
+long_message most count = if count == 0 then [] else unwritten_line most count

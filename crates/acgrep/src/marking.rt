@@ -1,7 +1,7 @@
 //! What is written of a line that rules mark.
 
 ghost use Rattle.std.specs.Prelude.{◌≡◌};
-ghost use Rattle.acgrep.specs.Marked.{marked_by, rule_id, ruled_json, ruled_object, ruled_objects};
+ghost use Rattle.acgrep.specs.Marked.{marked_shown, rule_id, ruled_json, ruled_object, ruled_objects};
 ghost use Rattle.acgrep.specs.Objects.{fields_told};
 ghost use Rattle.acgrep.specs.Printed.{Puts, matches_by};
 
@@ -25,7 +25,7 @@ pub fn put_marked<W: Write>(
     runs: &[Match],
 ) -> io::Result<()>
     ensures written { Puts W.Write output.old output.new result
-        (marked_by shown style.now rules.now place line.now runs.now) }
+        (marked_shown shown style.now rules.now place line.now runs.now) }
 {
     match shown {
         Shown::Lines => put_line(output, style, place, line),

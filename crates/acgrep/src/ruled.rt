@@ -9,7 +9,7 @@ ghost use Rattle.acgrep.specs.Arguments.{said};
 ghost use Rattle.acgrep.specs.Folders.{known_by};
 ghost use Rattle.acgrep.specs.MarkedFiles.{IfMarks, IsMarking, MarksBy};
 ghost use Rattle.acgrep.specs.Runs.{asks_to_look};
-ghost use Rattle.acgrep.specs.RunsByRules.{BeginsByRules, MarksAsked, MarksReached, MarksRuled, MayBeginAsked, MayBeginMarks, MayReachMarked, ReachesMarked, long_line, long_told, most_said, no_patterns};
+ghost use Rattle.acgrep.specs.RunsByRules.{BeginsByRules, MarksAsked, MarksReached, MarksRuled, MayBeginAsked, MayBeginMarks, MayReachMarked, ReachesMarked, unwritten_line, long_message, most_said, no_patterns};
 
 use crate::arguments::Given;
 use crate::below::{are_several, asks_to_look, reach, slices_of, status_below, tell_each};
@@ -234,7 +234,7 @@ fn mark_below<A: Automaton, F: Open + Folders, R: Read, W: Sink, E: Sink>(
 
 /// Tells how many lines have more bytes than this, if one has.
 fn tell_long<E: Sink>(most: usize, count: u64, errors: &mut Errors<'_, E>)
-    ensures told { TellsBytes E.Sink errors.old errors.new (long_told most count) }
+    ensures told { TellsBytes E.Sink errors.old errors.new (long_message most count) }
 {
     if count == 0 {
         return;
@@ -244,7 +244,7 @@ fn tell_long<E: Sink>(most: usize, count: u64, errors: &mut Errors<'_, E>)
 
 /// Tells that so many lines have more bytes than this.
 fn tell_some_long<E: Sink>(most: usize, count: u64, errors: &mut Errors<'_, E>)
-    ensures told { TellsBytes E.Sink errors.old errors.new (long_line most count) }
+    ensures told { TellsBytes E.Sink errors.old errors.new (unwritten_line most count) }
 {
     let mut room = [0; MAX_DIGITS];
     let mut other_room = [0; MAX_DIGITS];

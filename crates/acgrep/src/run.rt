@@ -1,18 +1,20 @@
 //! A call over its arguments, files and streams.
 
-ghost use Rattle.std.specs.Prelude.{◌≡◌, ◌≤◌, ◌<◌, ◌⊎◌, [], IsTrue, None, false, true, unwrap_or};
+ghost use Rattle.std.specs.Prelude.{◌≡◌, ◌≤◌, ◌<◌, ◌⊎◌, [], IfSome, IsTrue, None, Some, false, true, unwrap_or};
 ghost use Rattle.std.specs.Io.KnownBytes.{Appends, Keeps};
 ghost use Rattle.aho_devices.specs.Counts.{AppendsBeginning};
 ghost use Rattle.aho_core.specs.Replacement.{pieces_of};
 ghost use Rattle.acgrep.specs.Listed.{listed_bytes};
 ghost use Rattle.acgrep.specs.Arguments.{said, said_by};
+ghost use Rattle.acgrep.specs.Beside.{unfit_said};
 ghost use Rattle.programs.specs.Names.{name_bytes};
-ghost use Rattle.programs.specs.Telling.{Tells, TellsSome};
+ghost use Rattle.programs.specs.Telling.{Tells, TellsBytes, TellsSome};
 ghost use Rattle.acgrep.specs.Told.{MaySaid, MayTell, TellsCause, TellsOfCall, TellsOfSaid, TellsOfSearch, TellsOfText, TellsRefusal, is_hushed};
 ghost use Rattle.acgrep.specs.Mistakes.{TellsLacking, TellsMistake, TellsNoPattern, TellsRefused};
 ghost use Rattle.acgrep.specs.Folders.{known_by, tree_of};
-ghost use Rattle.acgrep.specs.Runs.{AsksToSearch, BeginsNoMatch, BeginsSaid, BeginsSearch, BeginsFor, GivesNone, IfSaid, IsJob, Searches, SearchesFor, SearchesRuled, SearchesSaid, WritesNoMatch, are_empty, asks_none, form_asked, form_said, inverts, is_colored, kind_sought, knows_none, lists_finds, origins_of, ruled, selects_none, status_told, takes_any, words_sought};
+ghost use Rattle.acgrep.specs.Runs.{Asks, AsksByRules, AsksToSearch, BeginsNoMatch, BeginsSaid, BeginsSearch, BeginsFor, GivesNone, IfSaid, IsByPatterns, IsJob, Searches, SearchesFor, SearchesRuled, SearchesSaid, WritesNoMatch, are_empty, asks_none, form_asked, form_said, inverts, is_colored, kind_sought, knows_none, lists_finds, origins_of, ruled, selects_none, status_told, takes_any, words_sought};
 ghost use Rattle.acgrep.specs.Rules.{rules_said};
+ghost use Rattle.acgrep.specs.RunsByRules.{BeginsByRules, SearchesByRules};
 
 use crate::arguments::{Given, Refusal, Source, Wrong, parse};
 use crate::beside::{tell_unfit, unfit_of};
@@ -62,32 +64,47 @@ pub fn run<F: Open + Folders, R: Read, W: Sink, E: Sink>(
     ensures unwritten { said_by (listed_bytes arguments.now) ≡ None
         → Keeps (W.taken output.old) (W.taken output.new) }
 
+    // Options that do not go together are told.
+    ensures unfit { IfSaid arguments.now (λ said. Asks said → IfSome (unfit_said said) (λ line. result ≡ 2)) }
+    ensures unfitting { IfSaid arguments.now (λ said. Asks said → IfSome (unfit_said said)
+        (TellsBytes E.Sink errors.old errors.new)) }
+
     // A search needs a pattern, and where there is none that is told.
-    ensures patternless { IfSaid arguments.now (λ said. AsksToSearch said.flags → GivesNone said
+    ensures patternless { IfSaid arguments.now (λ said. AsksToSearch said → GivesNone said
         → result ≡ 2) }
-    ensures lacking { IfSaid arguments.now (λ said. AsksToSearch said.flags → GivesNone said
+    ensures lacking { IfSaid arguments.now (λ said. AsksToSearch said → GivesNone said
         → TellsLacking E.Sink errors.old errors.new) }
 
     // Where the status tells of no error, the globs in files and then the patterns were read, and these searched for in the files that
     // the globs do not leave out, one after another.
-    ensures searches { IfSaid arguments.now (λ said. AsksToSearch said.flags → result < 2
+    ensures searches { IfSaid arguments.now (λ said. AsksToSearch said → result < 2
         → Searches (known_by F.Open F.Folders files.now) screen.now said
         (R.remaining input.old) (R.remaining input.new)
         (W.taken output.old) (W.taken output.new) result) }
 
     // Whatever the status, what is written is a beginning of what is asked: the files are told one after another, and one that
     // cannot be read, or to whose end the output cannot be written, by some first lines and a beginning of what follows.
-    ensures begins { IfSaid arguments.now (λ said. AsksToSearch said.flags
+    ensures begins { IfSaid arguments.now (λ said. AsksToSearch said
         → BeginsSearch (known_by F.Open F.Folders files.now) screen.now said
+        (R.remaining input.old) (W.taken output.old) (W.taken output.new)) }
+
+    // By rules the files are searched so for the lines in which they mark something.
+    ensures marks { IfSaid arguments.now (λ said. AsksByRules said → result < 2
+        → SearchesByRules (known_by F.Open F.Folders files.now) screen.now said
+        (R.remaining input.old) (W.taken output.old) (W.taken output.new) result) }
+    ensures begins_marks { IfSaid arguments.now (λ said. AsksByRules said
+        → BeginsByRules (known_by F.Open F.Folders files.now) screen.now said
         (R.remaining input.old) (W.taken output.old) (W.taken output.new)) }
 
     // Where the status tells of no error nothing is told, but under `-q` of files that cannot be read. Where it tells of one, a line
     // says why: whole, unless writing it failed. Under `-s` no line names a file that is searched, and there may be none.
-    ensures tells { Tells E.Sink (MaySaid (known_by F.Open F.Folders files.now) (R.remaining input.old)
+    ensures tells { IsByPatterns (said_by (listed_bytes arguments.now))
+        → Tells E.Sink (MaySaid (known_by F.Open F.Folders files.now) (R.remaining input.old)
         (said_by (listed_bytes arguments.now))) errors.old errors.new }
-    ensures silent { IfSaid arguments.now (λ said. said.flags.quiet ≡ false
+    ensures silent { IfSaid arguments.now (λ said. IsByPatterns (Some said) → said.flags.quiet ≡ false
         → result < 2 → errors.new ≡ errors.old) }
-    ensures says_why { is_hushed (said_by (listed_bytes arguments.now)) ≡ false → result ≡ 2
+    ensures says_why { IsByPatterns (said_by (listed_bytes arguments.now))
+        → is_hushed (said_by (listed_bytes arguments.now)) ≡ false → result ≡ 2
         → TellsSome E.Sink (MaySaid (known_by F.Open F.Folders files.now) (R.remaining input.old)
         (said_by (listed_bytes arguments.now))) errors.old errors.new }
 
@@ -158,17 +175,27 @@ fn answer<F: Open + Folders, R: Read, W: Sink, E: Sink>(
     errors: &mut Errors<'_, E>,
 ) -> u8
     ensures bound { result ≤ 2 }
-    ensures patternless { AsksToSearch given.entry.flags → GivesNone (said given.entry) → result ≡ 2 }
-    ensures lacking { AsksToSearch given.entry.flags → GivesNone (said given.entry)
+    ensures patternless { AsksToSearch (said given.entry) → GivesNone (said given.entry) → result ≡ 2 }
+    ensures lacking { AsksToSearch (said given.entry) → GivesNone (said given.entry)
         → TellsNoPattern E.Sink errors.old errors.new }
-    ensures searches { AsksToSearch given.entry.flags → result < 2
+    ensures searches { AsksToSearch (said given.entry) → result < 2
         → Searches (known_by F.Open F.Folders files.now) screen.now (said given.entry)
         (R.remaining input.old) (R.remaining input.new)
         (W.taken output.old) (W.taken output.new) result }
-    ensures begins { AsksToSearch given.entry.flags
+    ensures begins { AsksToSearch (said given.entry)
         → BeginsSearch (known_by F.Open F.Folders files.now) screen.now (said given.entry)
         (R.remaining input.old) (W.taken output.old) (W.taken output.new) }
-    ensures told { TellsOfCall E.Sink (known_by F.Open F.Folders files.now) (R.remaining input.old)
+    ensures unfit { Asks (said given.entry) → IfSome (unfit_said (said given.entry)) (λ line. result ≡ 2) }
+    ensures unfitting { Asks (said given.entry) → IfSome (unfit_said (said given.entry))
+        (TellsBytes E.Sink errors.old errors.new) }
+    ensures marks { AsksByRules (said given.entry) → result < 2
+        → SearchesByRules (known_by F.Open F.Folders files.now) screen.now (said given.entry)
+        (R.remaining input.old) (W.taken output.old) (W.taken output.new) result }
+    ensures begins_marks { AsksByRules (said given.entry)
+        → BeginsByRules (known_by F.Open F.Folders files.now) screen.now (said given.entry)
+        (R.remaining input.old) (W.taken output.old) (W.taken output.new) }
+    ensures told { IsByPatterns (Some (said given.entry))
+        → TellsOfCall E.Sink (known_by F.Open F.Folders files.now) (R.remaining input.old)
         (said given.entry) result errors.old errors.new }
 {
     if given.flags.version {
@@ -182,11 +209,11 @@ fn answer<F: Open + Folders, R: Read, W: Sink, E: Sink>(
         return 2;
     }
     let no_match_ok = given.flags.no_match_ok;
-    let status = if given.flags.by_rules {
-        mark_said(alloc, given, screen, files, input, output, errors)
-    } else {
-        search_ruled(alloc, given, screen, files, input, output, errors)
-    };
+    if given.flags.by_rules {
+        let marked = mark_said(alloc, given, screen, files, input, output, errors);
+        return status_told(no_match_ok, marked);
+    }
+    let status = search_ruled(alloc, given, screen, files, input, output, errors);
     status_told(no_match_ok, status)
 }
 

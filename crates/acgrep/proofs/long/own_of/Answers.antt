@@ -11,4 +11,6 @@ returns c =
     let e4 = then_option asked _ _ _ _ _ e3 c.or-4.ensures.found in
     let e5 = then_option asked _ _ _ _ _ e4 c.or-5.ensures.found in
     let e6 = then_option asked _ _ _ _ _ e5 c.or-6.ensures.found in
-    record { found = then_option asked _ _ _ _ _ e6 c.or-7.ensures.found }
+    let e7 = then_option asked _ _ _ _ _ e6 c.or-7.ensures.found in
+    let e8 = then_option asked _ _ _ _ _ e7 c.or-8.ensures.found in
+    record { found = then_option asked _ _ _ _ _ e8 c.or-9.ensures.found }

@@ -1,5 +1,9 @@
 -- A text is written, or a search is made, and its status told.
-use Rattle.std.proofs.Common.{◌<◌, ◌∙◌, ℕ, Some, inl, subst, sym}
+use Rattle.std.proofs.Common.{◌<◌, ◌∙◌, ℕ, Some, inl, refl, subst, sym}
+use Rattle.std.proofs.KnownBytes.{Keeps-refl}
+use Rattle.programs.specs.Telling.{TellsBytes}
+use Rattle.acgrep.specs.Beside.{unfit_said}
+use Rattle.acgrep.proofs.Unfitting.{some_all, some_unfit, unfit_fits}
 use Rattle.std.proofs.lemmas.Bool.{true≢false}
 use Rattle.acgrep.specs.Arguments.{said, shown_by}
 use Rattle.acgrep.specs.Folders.{known_by}
@@ -9,7 +13,7 @@ use Rattle.acgrep.proofs.Told.{status-weaker}
 use Rattle.acgrep.proofs.run.answer.Goals as goal
 
 pub returns-then-given-clause-told : goal.returns-then-given-clause-told
-returns-then-given-clause-told g c =
+returns-then-given-clause-told g c = λ by.
     let given = said c.args.given in
     let known = known_by g.F.Open g.F.Folders c.args.files.now in
     let left = g.R.Read.remaining c.args.input.now in
@@ -17,7 +21,7 @@ returns-then-given-clause-told g c =
     (λ line is. inl is) (c.write_text.ensures.told given.flags.no_messages (shown_by given.flags) (names_said (Some given)))
 
 pub returns-then-given-2-clause-told : goal.returns-then-given-2-clause-told
-returns-then-given-2-clause-told g c =
+returns-then-given-2-clause-told g c = λ by.
     let given = said c.args.given in
     let known = known_by g.F.Open g.F.Folders c.args.files.now in
     let left = g.R.Read.remaining c.args.input.now in
@@ -25,25 +29,69 @@ returns-then-given-2-clause-told g c =
     (λ line is. inl is) (c.write_text-then-given-2.ensures.told given.flags.no_messages (shown_by given.flags) (names_said (Some given)))
 
 pub returns-then-given-clause-searches : goal.returns-then-given-clause-searches
-returns-then-given-clause-searches g c = λ asks low. absurd (true≢false (sym c.if-given.true ∙ asks.no_version))
+returns-then-given-clause-searches g c = λ asks low. absurd (true≢false (sym c.if-given.true ∙ asks.asks.no_version))
 
 pub returns-then-given-2-clause-searches : goal.returns-then-given-2-clause-searches
-returns-then-given-2-clause-searches g c = λ asks low. absurd (true≢false (sym c.if-given-2.true ∙ asks.no_help))
+returns-then-given-2-clause-searches g c = λ asks low. absurd (true≢false (sym c.if-given-2.true ∙ asks.asks.no_help))
 
 pub returns-clause-searches : goal.returns-clause-searches
 returns-clause-searches g c = λ asks low.
     let found = c.search_ruled-status.result in
     let ok = c.args.given.flags.no_match_ok in (
       found,
-      c.search_ruled-status.ensures.searches (told-low ok found (subst (λ (n : ℕ). n < 2) c.status_told.ensures.told low)),
-      c.status_told.ensures.told,
+      c.search_ruled-status.ensures.searches (told-low ok found (subst (λ (n : ℕ). n < 2) c.status_told-2.ensures.told low)),
+      c.status_told-2.ensures.told,
     )
 
 pub returns-clause-told : goal.returns-clause-told
-returns-clause-told g c =
+returns-clause-told g c = λ by.
     let given = said c.args.given in
     let known = known_by g.F.Open g.F.Folders c.args.files.now in
     let left = g.R.Read.remaining c.args.input.now in
-    subst (λ (n : ℕ). TellsOfCall g.E.Sink known left given n c.args.errors.now c.search_ruled-status.new.errors) (sym c.status_told.ensures.told)
+    subst (λ (n : ℕ). TellsOfCall g.E.Sink known left given n c.args.errors.now c.search_ruled-status.new.errors) (sym c.status_told-2.ensures.told)
     (told-status g.E.Sink (MaySaid known left (Some given)) given.flags.no_messages (shown_by given.flags) given.flags.no_match_ok c.search_ruled-status.result
     c.args.errors.now c.search_ruled-status.new.errors c.search_ruled-status.ensures.told)
+
+-- options that do not go together are told
+pub returns-in-Some-clause-unfit : goal.returns-in-Some-clause-unfit
+returns-in-Some-clause-unfit g c = λ asks. some_all (unfit_said (said c.args.given)) _ refl
+
+pub returns-in-Some-clause-unfitting : goal.returns-in-Some-clause-unfitting
+returns-in-Some-clause-unfitting g c = λ asks. some_unfit c.in-Some.unfit (unfit_said (said c.args.given)) (TellsBytes g.E.Sink c.args.errors.now c.tell_unfit.new.errors) c.in-Some.ensures.unfit c.tell_unfit.ensures.told
+
+pub returns-in-Some-clause-searches : goal.returns-in-Some-clause-searches
+returns-in-Some-clause-searches g c = λ asks low. unfit_fits c.in-Some.unfit (unfit_said (said c.args.given)) c.in-Some.ensures.unfit asks.fits
+
+pub returns-in-Some-clause-marks : goal.returns-in-Some-clause-marks
+returns-in-Some-clause-marks g c = λ asks low. unfit_fits c.in-Some.unfit (unfit_said (said c.args.given)) c.in-Some.ensures.unfit asks.fits
+
+pub returns-in-Some-clause-begins : goal.returns-in-Some-clause-begins
+returns-in-Some-clause-begins g c = λ asks. inl (Keeps-refl (g.W.Sink.taken c.args.output.now))
+
+pub returns-in-Some-clause-begins_marks : goal.returns-in-Some-clause-begins_marks
+returns-in-Some-clause-begins_marks g c = λ asks. inl (Keeps-refl (g.W.Sink.taken c.args.output.now))
+
+pub returns-in-Some-clause-lacking : goal.returns-in-Some-clause-lacking
+returns-in-Some-clause-lacking g c = λ asks none. unfit_fits c.in-Some.unfit (unfit_said (said c.args.given)) c.in-Some.ensures.unfit asks.fits
+
+pub returns-in-Some-clause-told : goal.returns-in-Some-clause-told
+returns-in-Some-clause-told g c = λ by. unfit_fits c.in-Some.unfit (unfit_said (said c.args.given)) c.in-Some.ensures.unfit by.1
+
+-- by rules files are searched so
+pub returns-then-given-3-clause-marks : goal.returns-then-given-3-clause-marks
+returns-then-given-3-clause-marks g c = λ asks low.
+    let found = c.mark_said-marked.result in
+    let ok = c.args.given.flags.no_match_ok in (
+      found,
+      c.mark_said-marked.ensures.searches (told-low ok found (subst (λ (n : ℕ). n < 2) c.status_told.ensures.told low)),
+      c.status_told.ensures.told,
+    )
+
+pub returns-then-given-3-clause-begins_marks : goal.returns-then-given-3-clause-begins_marks
+returns-then-given-3-clause-begins_marks g c = λ asks. c.mark_said-marked.ensures.begins
+
+pub returns-then-given-3-clause-searches : goal.returns-then-given-3-clause-searches
+returns-then-given-3-clause-searches g c = λ asks low. absurd (true≢false (sym c.if-given-3.true ∙ asks.by_patterns))
+
+pub returns-then-given-3-clause-told : goal.returns-then-given-3-clause-told
+returns-then-given-3-clause-told g c = λ by. absurd (true≢false (sym c.if-given-3.true ∙ by.0))

@@ -8,8 +8,8 @@ use Rattle.acgrep.specs.declared.options.Flags.{Flags}
 use Rattle.acgrep.specs.declared.rules.Rule.{Rule}
 use Rattle.acgrep.proofs.arguments.Given.new.Goals as goal
 
-abbrev made : Flags → List Source → List (Bor (List ℕ)) → List Piece → List Rule → Said
-made flags sources operands format rules = record {
+abbrev made : Flags → List Source → List (Bor (List ℕ)) → List Piece → List Rule → List (Bor (List ℕ)) → Said
+made flags sources operands format rules rule_files = record {
   flags = flags;
   sources = map origin_of sources;
   operands = map (λ operand. operand.now) operands;
@@ -17,17 +17,18 @@ made flags sources operands format rules = record {
   label = codes "(standard input)";
   format = format;
   rules = rules_said rules;
+  rule_files = map (λ name. name.now) rule_files;
 }
 
-none_made : (flags : Flags) (sources : List Source) (operands : List (Bor (List ℕ))) (format : List Piece) (rules : List Rule) → flags ≡ no_flags → sources ≡ [] → operands ≡ [] → format ≡ []
-    → rules ≡ [] → made flags sources operands format rules ≡ nothing_said
-none_made flags sources operands format rules no_option no_source no_operand no_piece no_rule =
-    ap (λ (f : Flags). made f sources operands format rules) no_option ∙ ap (λ (l : List Source). made no_flags l operands format rules) no_source
-    ∙ ap (λ (l : List (Bor (List ℕ))). made no_flags [] l format rules) no_operand ∙ ap (λ (l : List Piece). made no_flags [] [] l rules) no_piece
-    ∙ ap (λ (l : List Rule). made no_flags [] [] [] l) no_rule
+none_made : (flags : Flags) (sources : List Source) (operands : List (Bor (List ℕ))) (format : List Piece) (rules : List Rule) (rule_files : List (Bor (List ℕ))) → flags ≡ no_flags → sources ≡ [] → operands ≡ [] → format ≡ []
+    → rules ≡ [] → rule_files ≡ [] → made flags sources operands format rules rule_files ≡ nothing_said
+none_made flags sources operands format rules rule_files no_option no_source no_operand no_piece no_rule no_file =
+    ap (λ (f : Flags). made f sources operands format rules rule_files) no_option ∙ ap (λ (l : List Source). made no_flags l operands format rules rule_files) no_source
+    ∙ ap (λ (l : List (Bor (List ℕ))). made no_flags [] l format rules rule_files) no_operand ∙ ap (λ (l : List Piece). made no_flags [] [] l rules rule_files) no_piece
+    ∙ ap (λ (l : List Rule). made no_flags [] [] [] l rule_files) no_rule ∙ ap (λ (l : List (Bor (List ℕ))). made no_flags [] [] [] [] l) no_file
 
 pub returns : goal.returns
 returns c = record {
-  none = none_made c.new.result c.new-2.result.items c.new-3.result.items c.new-4.result.items c.new-5.result.items c.new.ensures.none c.new-2.ensures.items c.new-3.ensures.items
-      c.new-4.ensures.items c.new-5.ensures.items;
+  none = none_made c.new.result c.new-2.result.items c.new-3.result.items c.new-4.result.items c.new-5.result.items c.new-6.result.items c.new.ensures.none c.new-2.ensures.items c.new-3.ensures.items
+      c.new-4.ensures.items c.new-5.ensures.items c.new-6.ensures.items;
 }
