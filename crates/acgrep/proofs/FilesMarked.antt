@@ -1,32 +1,29 @@
 -- What is written of files whose lines rules mark.
-use Rattle.std.proofs.Common.{◌≡◌, ◌⊎◌, inl, inr, ℕ, zero, suc, ◌<◌, Bool, true, false, List, [], ◌∷◌, ◌++◌, Option, Some, None, length, take, refl, sym, ap, subst, ◌∙◌, append-nil, arith}
+use Rattle.std.proofs.Common.{◌≡◌, ◌⊎◌, inl, inr, ℕ, Bool, true, false, List, [], ◌∷◌, ◌++◌, Option, Some, None, length, take, refl, sym, ap, subst, ◌∙◌, append-nil, arith}
 use Rattle.std.specs.Prelude.{◌≢◌, ◌==◌, ◌&&◌, ◌||◌, nat_lt, IfSome, Ok, Err, Result, if◌then◌else◌}
 use Rattle.std.specs.Io.{StartsWith}
 use Rattle.std.specs.Io.KnownBytes.{Appends, Consumes, IsAtEnd, Keeps}
-use Rattle.std.proofs.KnownBytes.{Appends-trans, Consumes-whole, Keeps-refl}
-use Rattle.std.proofs.lemmas.Bool.{cases_Bool}
+use Rattle.std.proofs.KnownBytes.{Appends-trans, Consumes-whole}
 use Rattle.aho_core.specs.Occurrence.{Occurrence}
 use Rattle.aho_devices.specs.Counts.{counted}
 use Rattle.aho_automaton.specs.declared.automaton.Automaton.{Ghosts as Automata}
 use Rattle.aho_devices.specs.declared.device.Sink.{Ghosts as SinkGhosts}
 use Rattle.aho_devices.specs.declared.device.Source.{Ghosts as SourceGhosts}
 use Rattle.aho_stream.specs.After.{MayFollow}
-use Rattle.secret_rules.specs.Covering.{AreLineRuns, Covering, covering_by}
+use Rattle.secret_rules.specs.Covering.{Covering, covering_by}
 use Rattle.secret_rules.specs.LineCovers.{AreSearchedFor}
 use Rattle.secret_rules.specs.Lines.{Line, stream_lines}
-use Rattle.secret_rules.specs.Ready.{CanCoverLines, CoversTheSame, most_of, rules_of, searched_automaton, words_of}
+use Rattle.secret_rules.specs.Ready.{CanCoverLines, CoversTheSame, most_of, rules_of, words_of}
 use Rattle.secret_rules.specs.declared.error.LineError.{LineError}
 use Rattle.secret_rules.specs.declared.line_cover.LineCover.{LineCover}
 use Rattle.secret_rules.specs.declared.rule.Rule.{Rule}
 use Rattle.programs.specs.Names.{is_input}
-use Rattle.programs.specs.Answers.{status_of}
-use Rattle.acgrep.specs.Files.{BeginsTotal, EndsFile, IfBroken, IfSearched, IsNamed, is_enough, known_of, nothing_seen, seen_after, shown_name, status_by, total_if}
-use Rattle.acgrep.specs.Marked.{Asked, marked_shown, marked_line, marked_lines, pass_after, pass_behind}
-use Rattle.acgrep.specs.MarkedFiles.{AreFilesMarked, AreFirstGiven, AreMarkedOr, AreMarksBegun, BeginsGiven, BeginsInput, BeginsMarks, BeginsMarksName, ComesInput, ComesMarked, ComesName, HasFirst, HasMarked, HasToldAll, IsMarking, MarksBy, MarksFile, MarksInput, MarksName, MarksNames, MarksText, OneIsMarked, SameMarking, TellsAll, WalksGiven, WalksLines, asked_by, file_marked, file_selected, pass_from, seen_lines}
+use Rattle.acgrep.specs.Files.{BeginsTotal, EndsFile, IfBroken, IfSearched, IsNamed, known_of, shown_name, total_if}
+use Rattle.acgrep.specs.Marked.{Asked, marked_shown, marked_line, marked_lines, pass_behind}
+use Rattle.acgrep.specs.MarkedFiles.{AreFirstGiven, BeginsGiven, BeginsInput, BeginsMarks, ComesInput, ComesMarked, ComesName, HasFirst, HasToldAll, MarksBy, MarksFile, MarksInput, MarksText, TellsAll, WalksGiven, WalksLines, asked_by, file_marked, file_selected, pass_from, seen_lines}
 use Rattle.acgrep.specs.Written.{needs_one}
 use Rattle.acgrep.specs.declared.files.Outcome.{Outcome}
 use Rattle.acgrep.specs.declared.files.Outcome.TheVariants.{Searched, Unread, Stopped}
-use Rattle.acgrep.specs.declared.files.Seen.{Seen}
 use Rattle.acgrep.specs.declared.marked.Pass.{Pass}
 use Rattle.acgrep.specs.declared.options.Shown.{Shown}
 use Rattle.acgrep.specs.declared.options.Shown.TheVariants.{Lines, Matches, Objects, Count, Names, Lacking, Nothing}
@@ -35,8 +32,6 @@ use Rattle.acgrep.specs.declared.print.Style.{Style}
 use Rattle.acgrep.specs.declared.select.Job.{Job}
 use Rattle.acgrep.proofs.FileTellings.{if_searched}
 use Rattle.acgrep.proofs.FilesBegun.{if_broken, total_none}
-use Rattle.acgrep.proofs.MarkedLines.{starts_all}
-use Rattle.acgrep.proofs.NamesSearched.{enough_only}
 use Rattle.acgrep.proofs.Streams.{keeps_nil}
 
 -- a stream that has seen no end before is at its end where it sees one
@@ -287,15 +282,15 @@ name_input job named covering holds left read name held held' outcome is is_name
     let known : known_of holds name left ≡ left = rw is refl in
     record {
       searched = if_searched outcome _ _ (λ any file. record {
-          named = named;
-          is_named = subst (λ (n : List ℕ). IsNamed job n false named) (sym called) is_named;
-          file = subst (λ (b : Bool). MarksInput named covering b (known_of holds name left) held held' any) (sym again) (subst (λ (k : Option (List ℕ)). MarksInput named covering read k held held' any) (sym known) file);
-        }) comes.searched;
+        named = named;
+        is_named = subst (λ (n : List ℕ). IsNamed job n false named) (sym called) is_named;
+        file = subst (λ (b : Bool). MarksInput named covering b (known_of holds name left) held held' any) (sym again) (subst (λ (k : Option (List ℕ)). MarksInput named covering read k held held' any) (sym known) file);
+      }) comes.searched;
       begun = if_broken outcome (λ file. record {
-          named = named;
-          is_named = subst (λ (n : List ℕ). IsNamed job n false named) (sym called) is_named;
-          file = subst (λ (b : Bool). BeginsInput named covering b (known_of holds name left) held held') (sym again) (subst (λ (k : Option (List ℕ)). BeginsInput named covering read k held held') (sym known) file);
-        }) comes.begun;
+        named = named;
+        is_named = subst (λ (n : List ℕ). IsNamed job n false named) (sym called) is_named;
+        file = subst (λ (b : Bool). BeginsInput named covering b (known_of holds name left) held held') (sym again) (subst (λ (k : Option (List ℕ)). BeginsInput named covering read k held held') (sym known) file);
+      }) comes.begun;
     }
 
 pub name_file : (job named : Job) (covering : Covering) (holds : List ℕ → Option (List ℕ)) (left : Option (List ℕ)) (read : Bool) (name : List ℕ) (held held' : Option (List ℕ)) (outcome : Outcome) → is_input name ≡ false
@@ -306,13 +301,13 @@ name_file job named covering holds left read name held held' outcome is is_named
     let known : known_of holds name left ≡ holds name = rw is refl in
     record {
       searched = if_searched outcome _ _ (λ any file. record {
-          named = named;
-          is_named = subst (λ (n : List ℕ). IsNamed job n false named) (sym called) is_named;
-          file = subst (λ (b : Bool). MarksInput named covering b (known_of holds name left) held held' any) (sym again) (subst (λ (k : Option (List ℕ)). MarksFile named covering k held held' any) (sym known) file);
-        }) comes.searched;
+        named = named;
+        is_named = subst (λ (n : List ℕ). IsNamed job n false named) (sym called) is_named;
+        file = subst (λ (b : Bool). MarksInput named covering b (known_of holds name left) held held' any) (sym again) (subst (λ (k : Option (List ℕ)). MarksFile named covering k held held' any) (sym known) file);
+      }) comes.searched;
       begun = if_broken outcome (λ file. record {
-          named = named;
-          is_named = subst (λ (n : List ℕ). IsNamed job n false named) (sym called) is_named;
-          file = subst (λ (b : Bool). BeginsInput named covering b (known_of holds name left) held held') (sym again) (subst (λ (k : Option (List ℕ)). BeginsMarks named covering k held held') (sym known) file);
-        }) comes.begun;
+        named = named;
+        is_named = subst (λ (n : List ℕ). IsNamed job n false named) (sym called) is_named;
+        file = subst (λ (b : Bool). BeginsInput named covering b (known_of holds name left) held held') (sym again) (subst (λ (k : Option (List ℕ)). BeginsMarks named covering k held held') (sym known) file);
+      }) comes.begun;
     }

@@ -1,6 +1,6 @@
 -- What is written of lines, one after another, by what a visitor of them leaves.
-use Rattle.std.proofs.Common.{◌≡◌, inl, inr, ℕ, zero, suc, List, [], ◌∷◌, ◌++◌, Option, true, false, length, take, refl, sym, ap, subst, ◌∙◌, append_assoc, append-nil, arith}
-use Rattle.std.specs.Prelude.{Bool, Result, Ok, Err, map}
+use Rattle.std.proofs.Common.{◌≡◌, inl, inr, ℕ, zero, suc, List, [], ◌∷◌, ◌++◌, true, false, length, take, refl, sym, ap, subst, ◌∙◌, append_assoc, append-nil, arith}
+use Rattle.std.specs.Prelude.{Bool, Result, Ok, Err}
 use Rattle.std.specs.Borrow.{MutBor}
 use Rattle.std.specs.Io.{StartsWith}
 use Rattle.std.specs.Io.KnownBytes.{Appends}
@@ -11,16 +11,14 @@ use Rattle.aho_core.specs.declared.error.stream.StreamError.{StreamError}
 use Rattle.aho_core.specs.declared.search.MatchKind.TheVariants.{Standard}
 use Rattle.aho_devices.specs.declared.device.Sink.{Ghosts as SinkGhosts}
 use Rattle.aho_devices.specs.declared.device.Source.{Ghosts as SourceGhosts}
-use Rattle.aho_stream.specs.Replacing.{MayBe}
 use Rattle.secret_rules.specs.Covering.{AreLineRuns, Covering, covering_by, seen_line}
 use Rattle.secret_rules.specs.Lines.{Line, stream_lines}
-use Rattle.secret_rules.specs.Visits.{AreFirstLines, BeginsVisiting, LeavesVisited, StopsInLast, StopsWithin, VisitsEach, VisitsLines, taken_line}
+use Rattle.secret_rules.specs.Visits.{AreFirstLines, BeginsVisiting, LeavesVisited, StopsWithin, VisitsEach, VisitsLines, taken_line}
 use Rattle.secret_rules.specs.declared.error.LineError.{LineError}
-use Rattle.secret_rules.specs.declared.error.LineError.TheVariants.{Stream}
 use Rattle.secret_rules.specs.declared.rule.Rule.{Rule}
 use Rattle.secret_rules.specs.declared.visitor.LineVisitor.{Ghosts as VisitorGhosts}
 use Rattle.acgrep.specs.Marked.{Asked, StopsMarked, WritesMarked, asked_of, marked_line, marked_lines, pass_after, pass_behind}
-use Rattle.acgrep.specs.MarkedFiles.{AreFirstGiven, BeginsGiven, WalksGiven, WalksLines, seen_lines}
+use Rattle.acgrep.specs.MarkedFiles.{AreFirstGiven, WalksLines, seen_lines}
 use Rattle.acgrep.specs.declared.marked.Pass.{Pass}
 use Rattle.acgrep.specs.declared.marked.Task.{Task}
 
@@ -176,29 +174,29 @@ module _ {V W : Type 0} (L : VisitorGhosts V) (K : SinkGhosts W) (most : ℕ) (o
         let count = stop_last.begun.0 in
         elim stop_last.why [
           | inl kept ↦ record {
-              same = stop_last.same ∙ each_first.same;
-              part = front ++ take count rest;
-              begins = subst (λ l. StartsWith l (front ++ take count rest)) (sym all_is) (starts_behind front rest (take count rest) (starts_taken rest count));
-              written = Appends-trans (K.taken (output_of visitor).now) (K.taken (output_of between).now) (K.taken (output_of visitor').now) front (take count rest) each_first.written stop_last.begun.2;
-              passed = first;
-              own = more;
-              are = λ are. runs_front covering [] first line more own are each_first.as_many;
-              first = λ all is. first_front first line all is;
-              comes = kept ∙ each_first.comes;
-            }
+            same = stop_last.same ∙ each_first.same;
+            part = front ++ take count rest;
+            begins = subst (λ l. StartsWith l (front ++ take count rest)) (sym all_is) (starts_behind front rest (take count rest) (starts_taken rest count));
+            written = Appends-trans (K.taken (output_of visitor).now) (K.taken (output_of between).now) (K.taken (output_of visitor').now) front (take count rest) each_first.written stop_last.begun.2;
+            passed = first;
+            own = more;
+            are = λ are. runs_front covering [] first line more own are each_first.as_many;
+            first = λ all is. first_front first line all is;
+            comes = kept ∙ each_first.comes;
+          }
           | inr moved ↦ record {
-              same = stop_last.same ∙ each_first.same;
-              part = front ++ take count rest;
-              begins = subst (λ l. StartsWith l (front ++ take count rest)) (sym all_is) (starts_behind front rest (take count rest) (starts_taken rest count));
-              written = Appends-trans (K.taken (output_of visitor).now) (K.taken (output_of between).now) (K.taken (output_of visitor').now) front (take count rest) each_first.written stop_last.begun.2;
-              passed = first ++ line ∷ [];
-              own = more ++ own ∷ [];
-              are = λ are. are;
-              first = λ all is. is;
-              comes = moved.0 ∙ ap (λ (p : Pass). pass_behind p seen_last own) each_first.comes
-                  ∙ sym (after_append (pass_in visitor) (seen_lines most first) seen_last more own as_many)
-                  ∙ ap (λ (l : List (List ℕ)). pass_after (pass_in visitor) l (more ++ own ∷ [])) (sym (lines_append most first line));
-            }
+            same = stop_last.same ∙ each_first.same;
+            part = front ++ take count rest;
+            begins = subst (λ l. StartsWith l (front ++ take count rest)) (sym all_is) (starts_behind front rest (take count rest) (starts_taken rest count));
+            written = Appends-trans (K.taken (output_of visitor).now) (K.taken (output_of between).now) (K.taken (output_of visitor').now) front (take count rest) each_first.written stop_last.begun.2;
+            passed = first ++ line ∷ [];
+            own = more ++ own ∷ [];
+            are = λ are. are;
+            first = λ all is. is;
+            comes = moved.0 ∙ ap (λ (p : Pass). pass_behind p seen_last own) each_first.comes
+                ∙ sym (after_append (pass_in visitor) (seen_lines most first) seen_last more own as_many)
+                ∙ ap (λ (l : List (List ℕ)). pass_after (pass_in visitor) l (more ++ own ∷ [])) (sym (lines_append most first line));
+          }
         ]
 
   stops_within : (covering : Covering) (visitor visitor' : V) (lines : List Line) (runs : List (List Occurrence)) (error : LineError) → StopsWithin L most visitor visitor' lines runs error → StopsEach covering visitor visitor' lines runs

@@ -1,16 +1,15 @@
 -- A call by rules, where the output keeps what it holds.
-use Rattle.std.proofs.Common.{◌⊎◌, inl, inr, ℕ, Bool, true, false, List, [], ◌∷◌, Option}
+use Rattle.std.proofs.Common.{inl, inr, ℕ, Bool, true, false, List, [], ◌∷◌, Option}
 use Rattle.std.specs.Prelude.{◌||◌, MatchBool}
 use Rattle.std.specs.Io.KnownBytes.{Keeps}
 use Rattle.std.proofs.KnownBytes.{Keeps-trans}
 use Rattle.secret_rules.specs.Covering.{Covering}
-use Rattle.secret_rules.specs.declared.rule.Rule.{Rule}
 use Rattle.programs.specs.Names.{is_input}
 use Rattle.acgrep.specs.Arguments.{Said}
 use Rattle.acgrep.specs.Files.{is_enough}
 use Rattle.acgrep.specs.Folders.{Known}
 use Rattle.acgrep.specs.MarkedFiles.{AreFilesMarked, AreMarkedOr, AreMarksBegun}
-use Rattle.acgrep.specs.RunsByRules.{BeginsByRules, MarksAsked, MarksReached, MarksRuled, MayBeginAsked, MayBeginMarks, MayReachMarked, ReachesMarked, SearchesByRules}
+use Rattle.acgrep.specs.RunsByRules.{BeginsByRules, MarksAsked, MayBeginAsked, MayReachMarked, ReachesMarked, SearchesByRules}
 use Rattle.acgrep.specs.declared.colors.Screen.{Screen}
 use Rattle.acgrep.specs.declared.select.Job.{Job}
 

@@ -1,9 +1,10 @@
 -- What a refusal tells is the first mistake, or that memory ran out.
 use Rattle.std.proofs.Common.{◌≡◌, inl, inr, sym, ◌∙◌, List, ℕ, Option, None, Some}
 use Rattle.aho_devices.specs.declared.device.Sink.{Ghosts as SinkGhosts}
+use Rattle.programs.specs.Telling.{TellsBytes}
 use Rattle.programs.specs.declared.errors.Errors.{Errors}
 use Rattle.acgrep.specs.Arguments.{AreRefused, Said}
-use Rattle.acgrep.specs.Mistakes.{IsFirstMistake, TellsLacking, TellsMistake, TellsRefused}
+use Rattle.acgrep.specs.Mistakes.{IsFirstMistake, TellsLacking, TellsMistake, TellsRefused, memory_line}
 use Rattle.acgrep.specs.Told.{wrong_parts}
 use Rattle.acgrep.specs.declared.arguments.Refusal.{Refusal}
 use Rattle.acgrep.specs.declared.arguments.Refusal.TheVariants.{Wrong, OutOfMemory}
@@ -21,3 +22,12 @@ refused-lacking K told given (Wrong wrong) old new is refused exact = absurd (no
     none-some : (s : Said) → None ≡ Some s → ⊥
     none-some s e = cc
 refused-lacking K told given OutOfMemory old new is refused exact = inl exact
+
+-- so it is this that is told
+pub refused-memory : {E : Type 0} (K : SinkGhosts E) (told : Option Said) (given : Said) (refusal : Refusal) (old new : Errors E) → told ≡ Some given → AreRefused told refusal
+    → TellsRefused K refusal old new → TellsBytes K old new memory_line
+refused-memory K told given (Wrong wrong) old new is refused exact = absurd (none-some given (sym refused ∙ is))
+  where
+    none-some : (s : Said) → None ≡ Some s → ⊥
+    none-some s e = cc
+refused-memory K told given OutOfMemory old new is refused exact = exact

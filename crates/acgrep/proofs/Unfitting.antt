@@ -17,3 +17,15 @@ some_unfit unfit said P is told = subst (λ (o : Option (List ℕ)). IfSome o P)
 
 pub unfit_fits : {X : Type 0} (unfit : Unfit) (said : Option (List ℕ)) → Some (unfit_line unfit) ≡ said → said ≡ None → X
 unfit_fits unfit said is none = let clash : Some (unfit_line unfit) ≡ None = subst (λ (o : Option (List ℕ)). Some (unfit_line unfit) ≡ o) none is in absurd (cc)
+
+pub some_more : {X : Type 0} (known : Option X) (P Q : X → Type 0) → ((x : X) → P x → Q x) → IfSome known P → IfSome known Q
+some_more None P Q more is = tt
+some_more (Some x) P Q more is = more x is
+
+pub each_all : {X : Type 0} (known : Option X) (P : X → Type 0) → ((x : X) → P x) → IfSome known P
+each_all None P all = tt
+each_all (Some x) P all = all x
+
+pub some_both : {X : Type 0} (known : Option X) (P R Q : X → Type 0) → ((x : X) → P x → R x → Q x) → IfSome known P → IfSome known R → IfSome known Q
+some_both None P R Q more is other = tt
+some_both (Some x) P R Q more is other = more x is other

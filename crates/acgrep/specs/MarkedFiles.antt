@@ -18,7 +18,7 @@ use Rattle.secret_rules.specs.declared.error.LineError.{LineError}
 use Rattle.secret_rules.specs.declared.line_cover.LineCover.{LineCover}
 use Rattle.secret_rules.specs.declared.rule.Rule.{Rule}
 use Rattle.acgrep.specs.Files.{BeginsTotal, EndsFile, IfBroken, IfSearched, IsNamed, is_enough, known_of, shown_name, total_if}
-use Rattle.acgrep.specs.Marked.{Asked, is_marked, marked_lines, pass_after}
+use Rattle.acgrep.specs.Marked.{Asked, marked_lines, pass_after}
 use Rattle.acgrep.specs.Written.{needs_one}
 use Rattle.acgrep.specs.declared.files.Outcome.{Outcome}
 use Rattle.acgrep.specs.declared.files.Seen.{Seen}

@@ -171,6 +171,10 @@ module _ {E : Type 0} (K : SinkGhosts E) where
   abbrev pub TellsNoPattern : Errors E → Errors E → Type 0
   TellsNoPattern old new = TellsWrong K NoPattern old new
 
+  -- a line is told, or that memory ran out
+  abbrev pub TellsUnfit : List ℕ → Errors E → Errors E → Type 0
+  TellsUnfit line old new = TellsBytes K old new memory_line ⊎ TellsBytes K old new line
+
   -- or that memory ran out
   abbrev pub TellsLacking : Errors E → Errors E → Type 0
   TellsLacking old new = TellsBytes K old new memory_line ⊎ TellsNoPattern old new

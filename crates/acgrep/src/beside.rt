@@ -189,7 +189,12 @@ pub fn tell_unfit<E: Sink>(errors: &mut Errors<'_, E>, unfit: Unfit)
 {
     match unfit {
         Unfit::Beside(name) => {
-            errors.write(&[PROGRAM, b": option '", name, b"' does not go with --rules\n"]);
+            errors.write(&[
+                PROGRAM,
+                b": option '",
+                name,
+                b"' does not go with --rules\n",
+            ]);
         }
         Unfit::Alone => errors.write(&[
             PROGRAM,

@@ -106,7 +106,11 @@ fn line_len(line: &[u8], runs: &[Match]) -> usize
 fn more_if(asked: bool, count: u64) -> u64
     ensures more { result ≡ more_if asked count }
 {
-    if asked { count.saturating_add(1) } else { count }
+    if asked {
+        count.saturating_add(1)
+    } else {
+        count
+    }
 }
 
 /// How far a file was searched behind one more line.

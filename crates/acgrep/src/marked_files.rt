@@ -240,13 +240,7 @@ fn mark_reader<A: Automaton, R: Read + Drop, W: Sink, E: Sink>(
         style: job.style,
         rules: marking.rules,
     };
-    let came = mark_source(
-        &mut marking.cover,
-        task,
-        job.first,
-        &mut source,
-        output,
-    );
+    let came = mark_source(&mut marking.cover, task, job.first, &mut source, output);
     marking.long = marking.long.saturating_add(came.pass.long);
     let selected = came.pass.selected;
     match end_of(came, reason.get(), job.shown) {
@@ -261,12 +255,7 @@ fn mark_reader<A: Automaton, R: Read + Drop, W: Sink, E: Sink>(
 }
 
 /// Tells that the expression of the rule of a number is too big to be compiled.
-fn tell_too_big<E: Sink>(
-    alloc: Global,
-    rules: &[Rule],
-    number: usize,
-    errors: &mut Errors<'_, E>,
-) {
+fn tell_too_big<E: Sink>(alloc: Global, rules: &[Rule], number: usize, errors: &mut Errors<'_, E>) {
     let Some(rule) = rules.get(number) else {
         return tell_memory(errors);
     };

@@ -83,11 +83,7 @@ fn put_ruled_object<W: Write>(
         (ruled_object style.now rules.now place line.now run.now) }
 {
     let fields = fields_of(style, place, line, run);
-    put_ruled_json(
-        output,
-        &fields,
-        id_of(rules, run.pattern().as_usize()),
-    )
+    put_ruled_json(output, &fields, id_of(rules, run.pattern().as_usize()))
 }
 
 /// The name of the rule of a number.

@@ -228,7 +228,15 @@ fn mark_below<A: Automaton, F: Open + Folders, R: Read, W: Sink, E: Sink>(
     let job = job_of(operands.alloc, given, screen, several);
     tell_each(given.flags.no_messages, found.unread.as_slice(), errors);
     let files = operands.files;
-    let status = mark_names(marking, &job, files, names.as_slice(), input, output, errors);
+    let status = mark_names(
+        marking,
+        &job,
+        files,
+        names.as_slice(),
+        input,
+        output,
+        errors,
+    );
     status_below(&given.flags, found.unread.as_slice(), status)
 }
 

@@ -10,7 +10,7 @@ ghost use Rattle.acgrep.specs.Beside.{unfit_said};
 ghost use Rattle.programs.specs.Names.{name_bytes};
 ghost use Rattle.programs.specs.Telling.{Tells, TellsBytes, TellsSome};
 ghost use Rattle.acgrep.specs.Told.{MaySaid, MayTell, TellsCause, TellsOfCall, TellsOfSaid, TellsOfSearch, TellsOfText, TellsRefusal, is_hushed};
-ghost use Rattle.acgrep.specs.Mistakes.{TellsLacking, TellsMistake, TellsNoPattern, TellsRefused};
+ghost use Rattle.acgrep.specs.Mistakes.{TellsLacking, TellsMistake, TellsNoPattern, TellsRefused, TellsUnfit};
 ghost use Rattle.acgrep.specs.Folders.{known_by, tree_of};
 ghost use Rattle.acgrep.specs.Runs.{Asks, AsksByRules, AsksToSearch, BeginsNoMatch, BeginsSaid, BeginsSearch, BeginsFor, GivesNone, IfSaid, IsByPatterns, IsJob, Searches, SearchesFor, SearchesRuled, SearchesSaid, WritesNoMatch, are_empty, asks_none, form_asked, form_said, inverts, is_colored, kind_sought, knows_none, lists_finds, origins_of, ruled, selects_none, status_told, takes_any, words_sought};
 ghost use Rattle.acgrep.specs.Rules.{rules_said};
@@ -67,7 +67,7 @@ pub fn run<F: Open + Folders, R: Read, W: Sink, E: Sink>(
     // Options that do not go together are told.
     ensures unfit { IfSaid arguments.now (λ said. Asks said → IfSome (unfit_said said) (λ line. result ≡ 2)) }
     ensures unfitting { IfSaid arguments.now (λ said. Asks said → IfSome (unfit_said said)
-        (TellsBytes E.Sink errors.old errors.new)) }
+        (λ line. TellsUnfit E.Sink line errors.old errors.new)) }
 
     // A search needs a pattern, and where there is none that is told.
     ensures patternless { IfSaid arguments.now (λ said. AsksToSearch said → GivesNone said

@@ -2,8 +2,6 @@
 use Rattle.std.proofs.Common.{◌≡◌, [], ◌∷◌, ◌-◌, ◌∙◌, ◌||◌, ℕ, Bool, false, List, Bor, length, take, drop, refl, subst, sym, ap}
 use Rattle.std.proofs.Math.ListN.{get_or}
 use Rattle.programs.specs.Names.{is_input, name_bytes}
-use Rattle.acgrep.specs.MarkedFiles.{MarksBy}
-use Rattle.acgrep.specs.declared.files.Seen.{Seen}
 use Rattle.acgrep.proofs.FilesMarked.{still_marks}
 use Rattle.acgrep.proofs.NamesMarked.{MarkedSoFar, comes_left, either_input, marked_end, marked_start, marked_step}
 use Rattle.acgrep.proofs.NamesSearched.{ends_by, names_cut}
@@ -19,8 +17,11 @@ loop-rest-init g c =
     record {
       can = c.requires.ready;
       unread = λ unread. refl;
-      so_far = λ covering by. (by, subst (λ (b : Bool). MarkedSoFar job covering holds left names held names b held c.new-seen.result) (sym c.requires.unread)
-          (subst (MarkedSoFar job covering holds left names held names false held) (sym c.new-seen.ensures) (marked_start job covering holds left names held)));
+      so_far = λ covering by. (
+        by,
+        subst (λ (b : Bool). MarkedSoFar job covering holds left names held names b held c.new-seen.result) (sym c.requires.unread)
+            (subst (MarkedSoFar job covering holds left names held names false held) (sym c.new-seen.ensures) (marked_start job covering holds left names held)),
+      );
     }
 
 pub loop-rest-preserved : goal.loop-rest-preserved

@@ -1,5 +1,4 @@
 -- Standard input is read, unless it was read before.
-use Rattle.std.proofs.Common.{ap}
 use Rattle.acgrep.proofs.FilesMarked.{input_again, input_first, input_none}
 use Rattle.acgrep.proofs.marked_files.mark_input.Goals as goal
 

@@ -1,5 +1,5 @@
 -- The rules are those of the program, or of the file.
-use Rattle.std.proofs.Common.{◌≡◌, ◌∙◌, [], ◌++◌, List, ℕ, ap, subst, sym}
+use Rattle.std.proofs.Common.{◌≡◌, ◌∙◌, ◌++◌, List, ℕ, ap, subst, sym}
 use Rattle.secret_rules.specs.Tables.{TellsRules}
 use Rattle.acgrep.specs.RunsByRules.{AddsRules}
 use Rattle.acgrep.proofs.RulesGiven.{file_added, own_added}

@@ -1,5 +1,4 @@
 -- The rules of the text are added.
-use Rattle.std.proofs.lemmas.Result.{on_ok_weaker}
 use Rattle.acgrep.proofs.rule_lists.more_rules.Goals as goal
 
 pub returns : goal.returns

@@ -1,5 +1,5 @@
 -- Those of a name more were read.
-use Rattle.std.proofs.Common.{◌≡◌, ◌<◌, [], ◌∷◌, ◌-◌, ℕ, List, Bor, length, take, drop, ap, subst, sym, arith}
+use Rattle.std.proofs.Common.{◌≡◌, ◌<◌, [], ◌-◌, ℕ, List, Bor, length, take, drop, subst, sym, arith}
 use Rattle.std.proofs.lemmas.Grind.{common_steps}
 use Rattle.std.proofs.Math.ListN.{get_or}
 use Rattle.programs.specs.Names.{name_bytes}

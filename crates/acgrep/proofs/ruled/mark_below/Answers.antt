@@ -1,5 +1,5 @@
 -- What was found was searched, and what cannot be read was told before.
-use Rattle.std.proofs.Common.{◌≡◌, ◌∙◌, ◌<◌, ◌≤◌, [], Bool, false, ℕ, List, ap, inl, inr, subst, sym}
+use Rattle.std.proofs.Common.{◌≡◌, ◌∙◌, ◌<◌, ◌≤◌, Bool, false, ℕ, List, ap, inr, subst, sym}
 use Rattle.programs.specs.Names.{name_bytes}
 use Rattle.acgrep.specs.Arguments.{said}
 use Rattle.acgrep.specs.MarkedFiles.{AreMarkedOr, AreMarksBegun}

@@ -1,5 +1,5 @@
 -- The operands themselves were searched, where folders are not entered.
-use Rattle.std.proofs.Common.{◌≡◌, ◌∙◌, [], Bool, false, ℕ, refl, inr, subst, sym}
+use Rattle.std.proofs.Common.{◌≡◌, ◌∙◌, [], Bool, false, refl, inr, subst, sym}
 use Rattle.programs.specs.Names.{name_bytes, or_input}
 use Rattle.acgrep.specs.Arguments.{said}
 use Rattle.acgrep.specs.Folders.{tree_of}

@@ -1,19 +1,21 @@
 -- What was said was done, and a flush keeps what was written.
-use Rattle.std.proofs.Common.{false, ◌||◌, ◌≡◌, ◌<◌, ◌≤◌, ◌∙◌, Option, Some, ap, ℕ, inl, inr, arith, subst, sym}
+use Rattle.std.proofs.Common.{false, ◌||◌, ◌≡◌, ◌<◌, ◌≤◌, ◌∙◌, List, Option, Some, ap, ℕ, inl, inr, arith, subst, sym}
 use Rattle.acgrep.specs.Arguments.{Said, said, said_by, shown_by}
-use Rattle.programs.specs.Telling.{TellsBytes}
 use Rattle.acgrep.specs.Beside.{unfit_said}
 use Rattle.acgrep.specs.Runs.{Asks, AsksByRules, AsksToSearch, BeginsSearch, GivesNone, IsByPatterns, Searches}
 use Rattle.acgrep.specs.RunsByRules.{BeginsByRules, SearchesByRules}
 use Rattle.acgrep.proofs.MarksKept.{begun_by_rules, by_rules_kept}
 use Rattle.acgrep.proofs.Kept.{ruled_kept, same_said, search_held}
-use Rattle.programs.specs.Telling.{Tells, TellsSome}
+use Rattle.programs.specs.Telling.{Tells, TellsBytes, TellsSome}
 use Rattle.programs.proofs.Lines.{some-tells, some-weaker}
 use Rattle.acgrep.specs.Folders.{known_by}
 use Rattle.acgrep.specs.Listed.{listed_bytes}
 use Rattle.acgrep.specs.Told.{MaySaid, MayTell, is_hushed, names_said}
-use Rattle.acgrep.specs.Mistakes.{TellsLacking, TellsMistake, TellsNoPattern}
-use Rattle.acgrep.proofs.Mistaken.{mistake-told, refused-lacking}
+use Rattle.acgrep.specs.Mistakes.{TellsLacking, TellsMistake, TellsNoPattern, TellsUnfit, memory_line}
+use Rattle.programs.specs.declared.errors.Errors.{Errors}
+use Rattle.std.specs.Prelude.{IfSome}
+use Rattle.acgrep.proofs.Unfitting.{each_all, some_all, some_both, some_more}
+use Rattle.acgrep.proofs.Mistaken.{mistake-told, refused-lacking, refused-memory}
 use Rattle.acgrep.proofs.Told.{finished, not-quiet, told-said}
 use Rattle.acgrep.proofs.run.run.Goals as goal
 
@@ -159,3 +161,31 @@ returns-in-Err-clause-marks g c given is asks low = elim c.finish-in-Err.ensures
 
 pub returns-in-Err-clause-begins_marks : goal.returns-in-Err-clause-begins_marks
 returns-in-Err-clause-begins_marks g c given is asks = inl c.finish-in-Err.ensures.kept
+
+-- options that do not go together are told
+pub returns-in-Ok-clause-unfit : goal.returns-in-Ok-clause-unfit
+returns-in-Ok-clause-unfit g c given is asks =
+    let same : said c.in-Ok.given ≡ given = same_said (said_by (listed_bytes c.args.arguments.now)) given (said c.in-Ok.given) is c.in-Ok.ensures.read in
+    subst (λ (s : Said). IfSome (unfit_said s) (λ (line : List ℕ). c.finish.result ≡ 2)) same
+    (some_more (unfit_said (said c.in-Ok.given)) (λ (line : List ℕ). c.answer-status.result ≡ 2) (λ (line : List ℕ). c.finish.result ≡ 2)
+    (λ line two. elim c.finish.ensures.status [ inl kept ↦ kept ∙ two | inr failed ↦ failed ]) (c.answer-status.ensures.unfit (subst Asks (sym same) asks)))
+
+pub returns-in-Ok-clause-unfitting : goal.returns-in-Ok-clause-unfitting
+returns-in-Ok-clause-unfitting g c given is asks =
+    let same : said c.in-Ok.given ≡ given = same_said (said_by (listed_bytes c.args.arguments.now)) given (said c.in-Ok.given) is c.in-Ok.ensures.read in
+    let asks' = subst Asks (sym same) asks in
+    subst (λ (s : Said). IfSome (unfit_said s) (λ (line : List ℕ). TellsUnfit g.E.Sink line c.args.errors.now c.finish.new.errors)) same
+    (some_both (unfit_said (said c.in-Ok.given)) (λ (line : List ℕ). c.answer-status.result ≡ 2) (TellsBytes g.E.Sink c.args.errors.now c.answer-status.new.errors)
+    (λ (line : List ℕ). TellsUnfit g.E.Sink line c.args.errors.now c.finish.new.errors)
+    (λ line two told. inr (subst (λ (e : Errors g.row.E.Denot). TellsBytes g.E.Sink c.args.errors.now e line) (sym (c.finish.ensures.told_before (omega (arith, two)))) told))
+    (c.answer-status.ensures.unfit asks') (c.answer-status.ensures.unfitting asks'))
+
+pub returns-in-Err-clause-unfit : goal.returns-in-Err-clause-unfit
+returns-in-Err-clause-unfit g c given is asks = some_all (unfit_said given) _ (elim c.finish-in-Err.ensures.status [ inl two ↦ two | inr two ↦ two ])
+
+pub returns-in-Err-clause-unfitting : goal.returns-in-Err-clause-unfitting
+returns-in-Err-clause-unfitting g c given is asks =
+    let arguments = listed_bytes c.args.arguments.now in
+    each_all (unfit_said given) (λ (line : List ℕ). TellsUnfit g.E.Sink line c.args.errors.now c.finish-in-Err.new.errors) (λ line. inl
+    (subst (λ (e : Errors g.row.E.Denot). TellsBytes g.E.Sink c.args.errors.now e memory_line) (sym (c.finish-in-Err.ensures.told_before (omega arith)))
+    (refused-memory g.E.Sink (said_by arguments) given c.in-Err.refusal c.args.errors.now c.tell_refused.new.errors is c.in-Err.ensures.refused c.tell_refused.ensures.exact)))
