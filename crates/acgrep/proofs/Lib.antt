@@ -25,6 +25,7 @@ pub mod LineLists
 pub mod LongNames
 pub mod MarkedLines
 pub mod MarksKept
+pub mod MarksTold
 pub mod Mistaken
 pub mod NamesMarked
 pub mod NamesSearched

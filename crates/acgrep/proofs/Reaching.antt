@@ -52,13 +52,13 @@ reached-bound flags (name ∷ names) found bound = elim (cases_Bool (flags.quiet
 ]
 
 -- where something cannot be read it is one under `-q` alone
-reached-quiet : (flags : Flags) (name : List ℕ) (names : List (List ℕ)) (found : ℕ) → status_reached flags (name ∷ names) found < 2 → flags.quiet ≡ true
+pub reached-quiet : (flags : Flags) (name : List ℕ) (names : List (List ℕ)) (found : ℕ) → status_reached flags (name ∷ names) found < 2 → flags.quiet ≡ true
 reached-quiet flags name names found low = elim (cases_Bool (flags.quiet && (found == 0))) [
   | inl enough ↦ (and_parts flags.quiet (found == 0) enough).0
   | inr not ↦ let two = rw not at low in absurd (omega (arith, two))
 ]
 
-shown-quiet : (flags : Flags) → flags.quiet ≡ true → shown_by flags ≡ Nothing
+pub shown-quiet : (flags : Flags) → flags.quiet ≡ true → shown_by flags ≡ Nothing
 shown-quiet flags quiet = rw quiet refl
 
 module _ (tree : Tree) (given : Said) (names files unread : List (List ℕ)) (reached : AreReached tree given names files unread) where

@@ -90,12 +90,12 @@ abbrev pub unfit_line : Unfit → List ℕ
 unfit_line (Beside name) = beside_line name.now
 unfit_line Alone = alone_line
 
-abbrev pub line_of_name : Option (List ℕ) → Option (List ℕ)
-line_of_name None = None
-line_of_name (Some name) = Some (beside_line name)
+abbrev pub told_beside : Option (List ℕ) → Option (List ℕ)
+told_beside None = None
+told_beside (Some name) = Some (beside_line name)
 
 -- what is told of options that do not go together, if some do not
 abbrev pub unfit_said : Said → Option (List ℕ)
 unfit_said given =
-    if given.flags.by_rules then line_of_name (name_beside_rules given)
+    if given.flags.by_rules then told_beside (name_beside_rules given)
     else (if is_some given.flags.longest then Some alone_line else None)

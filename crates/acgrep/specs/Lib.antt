@@ -35,4 +35,5 @@ pub mod Selected
 pub mod Streamed
 pub mod Tallies
 pub mod Told
+pub mod ToldByRules
 pub mod Written

@@ -2,8 +2,11 @@
 
 ghost use Rattle.std.specs.Prelude.{◌≡◌, ◌<◌, ◌≤◌, ◌||◌, false};
 ghost use Rattle.programs.specs.Names.{is_input, name_bytes, or_input};
+ghost use Rattle.programs.specs.Telling.{TellsSome};
 ghost use Rattle.acgrep.specs.Files.{BeginsTotal, EndsFile, IfBroken, IfSearched};
 ghost use Rattle.acgrep.specs.MarkedFiles.{AreMarkedOr, AreMarksBegun, ComesInput, ComesMarked, ComesName, IfMarks, IsMarking, MarksNames, SameMarking};
+ghost use Rattle.acgrep.specs.Told.{TellsIf, TellsOfEnd, TellsOfOutcome, TellsOutcome, TellsStatus};
+ghost use Rattle.acgrep.specs.ToldByRules.{IsMarkTold};
 
 use crate::failure::Stop;
 use crate::files::{Files, Outcome, Seen, goes_on, job_for, put_total, writes_into};
@@ -58,6 +61,7 @@ pub fn mark_files<A: Automaton, F: Open, R: Read, W: Sink, E: Sink>(
     ensures begun { IfMarks A.Automaton marking.old.cover (λ covering.
         AreMarksBegun job.now covering (F.holds files.now.files.now) (R.remaining input.old) false
         (or_input (name_bytes files.now.names.now)) (W.taken output.old) (W.taken output.new)) }
+    ensures told { TellsStatus E.Sink IsMarkTold job.now.hushed job.now.shown result errors.old errors.new }
 {
     if files.names.is_empty() {
         let names = [INPUT];
@@ -93,6 +97,7 @@ pub fn mark_names<A: Automaton, F: Open, R: Read, W: Sink, E: Sink>(
     ensures begun { IfMarks A.Automaton marking.old.cover (λ covering.
         AreMarksBegun job.now covering (F.holds files.now) (R.remaining input.old) false
         (name_bytes names.now) (W.taken output.old) (W.taken output.new)) }
+    ensures told { TellsStatus E.Sink IsMarkTold job.now.hushed job.now.shown result errors.old errors.new }
 {
     let seen = mark_each(marking, job, files, names, input, output, errors);
     seen.status(job.shown)
@@ -113,6 +118,7 @@ fn mark_each<A: Automaton, F: Open, R: Read, W: Sink, E: Sink>(
     ensures seen { IfMarks A.Automaton marking.old.cover (λ covering.
         MarksNames job.now covering (F.holds files.now) (R.remaining input.old)
         (name_bytes names.now) (W.taken output.old) (W.taken output.new) result) }
+    ensures told { TellsIf E.Sink IsMarkTold job.now.hushed result.failed errors.old errors.new }
 {
     let mut seen = Seen::new();
     let mut rest = names;
@@ -140,6 +146,7 @@ fn mark_name<A: Automaton, F: Open, R: Read, W: Sink, E: Sink>(
         (W.taken output.old) (W.taken output.new) result) }
     ensures read { marking.new.input_read ≡ (marking.old.input_read || is_input name.now) }
     ensures leaves { is_input name.now ≡ false → input.new ≡ input.old }
+    ensures told { TellsOutcome E.Sink IsMarkTold job.now.hushed result errors.old errors.new }
     ensures same { SameMarking marking.old marking.new }
     ensures ready { IsMarking A.Automaton marking.new }
 {
@@ -166,6 +173,7 @@ fn mark_named<A: Automaton, F: Open, W: Sink, E: Sink>(
     ensures comes { IfMarks A.Automaton marking.old.cover (λ covering.
         ComesMarked job.now covering (F.holds files.now name.now) (W.taken output.old) (W.taken output.new) result) }
     ensures read { marking.new.input_read ≡ marking.old.input_read }
+    ensures told { TellsOutcome E.Sink IsMarkTold job.now.hushed result errors.old errors.new }
     ensures same { SameMarking marking.old marking.new }
     ensures ready { IsMarking A.Automaton marking.new }
 {
@@ -198,6 +206,7 @@ fn mark_input<A: Automaton, F: Open, R: Read, W: Sink, E: Sink>(
     ensures comes { IfMarks A.Automaton marking.old.cover (λ covering.
         ComesInput job.now covering again (R.remaining input.old) (W.taken output.old) (W.taken output.new) result) }
     ensures read { marking.new.input_read ≡ marking.old.input_read }
+    ensures told { TellsOutcome E.Sink IsMarkTold job.now.hushed result errors.old errors.new }
     ensures same { SameMarking marking.old marking.new }
     ensures ready { IsMarking A.Automaton marking.new }
 {
@@ -229,6 +238,7 @@ fn mark_reader<A: Automaton, R: Read + Drop, W: Sink, E: Sink>(
     ensures comes { IfMarks A.Automaton marking.old.cover (λ covering.
         ComesMarked job.now covering (R.remaining reader) (W.taken output.old) (W.taken output.new) result) }
     ensures read { marking.new.input_read ≡ marking.old.input_read }
+    ensures told { TellsOutcome E.Sink IsMarkTold job.now.hushed result errors.old errors.new }
     ensures same { SameMarking marking.old marking.new }
     ensures ready { IsMarking A.Automaton marking.new }
 {
@@ -255,7 +265,9 @@ fn mark_reader<A: Automaton, R: Read + Drop, W: Sink, E: Sink>(
 }
 
 /// Tells that the expression of the rule of a number is too big to be compiled.
-fn tell_too_big<E: Sink>(alloc: Global, rules: &[Rule], number: usize, errors: &mut Errors<'_, E>) {
+fn tell_too_big<E: Sink>(alloc: Global, rules: &[Rule], number: usize, errors: &mut Errors<'_, E>)
+    ensures told { TellsSome E.Sink IsMarkTold errors.old errors.new }
+{
     let Some(rule) = rules.get(number) else {
         return tell_memory(errors);
     };
@@ -274,6 +286,7 @@ fn end_marked<W: Sink, E: Sink>(
 ) -> Outcome
     ensures ended { IfSearched result (EndsFile job.now selected (W.taken output.old) (W.taken output.new)) }
     ensures begun { IfBroken result (BeginsTotal job.now selected (W.taken output.old) (W.taken output.new)) }
+    ensures told { TellsOfEnd E.Sink job.now.hushed result errors.old errors.new }
 {
     let mut page = Vec::new(job.alloc);
     match put_total(job, selected, &mut page, output) {
@@ -295,6 +308,7 @@ fn break_marked<W: Sink, E: Sink>(
 ) -> Outcome
     ensures unsearched { IfSearched result (λ any. ⊥) }
     ensures begun { BeginsTotal job.now selected (W.taken output.old) (W.taken output.new) }
+    ensures told { TellsOfOutcome E.Sink job.now.hushed job.now.style.name.now result errors.old errors.new }
 {
     let _ = output.flush();
     if tell_stop(job, stop, errors) {

@@ -1,6 +1,8 @@
 //! Reading the rules by which lines are marked.
 
-ghost use Rattle.std.specs.Prelude.{◌≡◌, ◌++◌, IfSome, OnOk, true};
+ghost use Rattle.std.specs.Prelude.{◌≡◌, ◌++◌, IfSome, IsNone, IsSome, OnOk, false, true};
+ghost use Rattle.programs.specs.Telling.{TellsSome};
+ghost use Rattle.acgrep.specs.ToldByRules.{IsMarkTold};
 ghost use Rattle.programs.specs.Names.{name_bytes};
 ghost use Rattle.secret_rules.specs.Rules.{AreSound};
 ghost use Rattle.secret_rules.specs.Tables.{TellsRules};
@@ -34,6 +36,8 @@ pub fn read_rules<F: Open, R: Read, E: Sink>(
     ensures rules { IfSome result (AreAllRules (F.holds files.now) (name_bytes names.now)
         (R.remaining input.old) (R.remaining input.new)) }
     ensures sound { IfSome result AreSound }
+    ensures silent { IsSome result → errors.new ≡ errors.old }
+    ensures told { IsNone result → TellsSome E.Sink IsMarkTold errors.old errors.new }
 {
     let mut rules = Vec::new(alloc);
     let mut rest = names;
@@ -63,6 +67,8 @@ fn add_rules<F: Open, R: Read, E: Sink>(
 ) -> bool
     ensures added { result ≡ true → AddsRules (AreNamedRules (F.holds files.now) name.now
         (R.remaining input.old) (R.remaining input.new)) rules.old.items rules.new.items }
+    ensures silent { result ≡ true → errors.new ≡ errors.old }
+    ensures told { result ≡ false → TellsSome E.Sink IsMarkTold errors.old errors.new }
 {
     if is_own(name) {
         return add_text(alloc, rules, name, BUILTIN.as_bytes(), errors);
@@ -93,6 +99,8 @@ fn add_text<E: Sink>(
     errors: &mut Errors<'_, E>,
 ) -> bool
     ensures added { result ≡ true → AddsRules (TellsRules text.now) rules.old.items rules.new.items }
+    ensures silent { result ≡ true → errors.new ≡ errors.old }
+    ensures told { result ≡ false → TellsSome E.Sink IsMarkTold errors.old errors.new }
 {
     match more_rules(alloc, rules, text) {
         Ok(()) => true,
@@ -121,7 +129,9 @@ fn append_rules(rules: &mut Vec<Rule>, more: Vec<Rule>) -> Result<(), AllocError
 }
 
 /// Tells why all rules together are refused: each of them was looked at before.
-fn tell_refused<E: Sink>(error: &RulesError, errors: &mut Errors<'_, E>) {
+fn tell_refused<E: Sink>(error: &RulesError, errors: &mut Errors<'_, E>)
+    ensures told { TellsSome E.Sink IsMarkTold errors.old errors.new }
+{
     match error {
         RulesError::Keywords(error) => tell_all(error, errors),
         RulesError::Rule(_, _, _) | RulesError::OutOfMemory => tell_memory(errors),
@@ -129,6 +139,8 @@ fn tell_refused<E: Sink>(error: &RulesError, errors: &mut Errors<'_, E>) {
 }
 
 /// Tells why no searcher is built for all rules.
-pub fn tell_all<E: Sink>(error: &BuildError, errors: &mut Errors<'_, E>) {
+pub fn tell_all<E: Sink>(error: &BuildError, errors: &mut Errors<'_, E>)
+    ensures told { TellsSome E.Sink IsMarkTold errors.old errors.new }
+{
     errors.tell_build(PROGRAM, Some(ALL), None, error);
 }

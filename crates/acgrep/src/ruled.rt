@@ -5,10 +5,13 @@ ghost use Rattle.programs.specs.Names.{name_bytes};
 ghost use Rattle.programs.specs.Telling.{TellsBytes};
 ghost use Rattle.secret_rules.specs.Covering.{covering_by};
 ghost use Rattle.secret_rules.specs.Ready.{CanCoverLines, rules_of};
-ghost use Rattle.acgrep.specs.Arguments.{said};
+ghost use Rattle.acgrep.specs.Arguments.{said, shown_by};
 ghost use Rattle.acgrep.specs.Folders.{known_by};
 ghost use Rattle.acgrep.specs.MarkedFiles.{IfMarks, IsMarking, MarksBy};
 ghost use Rattle.acgrep.specs.Runs.{asks_to_look};
+ghost use Rattle.acgrep.specs.Told.{TellsStatus};
+ghost use Rattle.acgrep.specs.ToldByRules.{IsMarkTold};
+ghost use Rattle.acgrep.specs.declared.options.Shown.TheVariants.{Nothing};
 ghost use Rattle.acgrep.specs.RunsByRules.{BeginsByRules, MarksAsked, MarksReached, MarksRuled, MayBeginAsked, MayBeginMarks, MayReachMarked, ReachesMarked, unwritten_line, long_message, most_said, no_patterns};
 
 use crate::arguments::Given;
@@ -52,6 +55,7 @@ pub fn mark_said<F: Open + Folders, R: Read, W: Sink, E: Sink>(
         (R.remaining input.old) (W.taken output.old) (W.taken output.new) result }
     ensures begins { BeginsByRules (known_by F.Open F.Folders files.now) screen.now (said given.entry)
         (R.remaining input.old) (W.taken output.old) (W.taken output.new) }
+    ensures told { TellsStatus E.Sink IsMarkTold given.entry.flags.no_messages Nothing result errors.old errors.new }
 {
     let rules = given.rules.as_slice();
     let Some(texts) = read_globs(alloc, rules, files, input, errors) else {
@@ -80,6 +84,7 @@ fn mark_asked<F: Open + Folders, R: Read, W: Sink, E: Sink>(
         (R.remaining input.old) (W.taken output.old) (W.taken output.new) result }
     ensures begins { MayBeginAsked (known_by F.Open F.Folders files.now) screen.now (said given.now)
         (R.remaining input.old) (W.taken output.old) (W.taken output.new) }
+    ensures told { TellsStatus E.Sink IsMarkTold given.now.flags.no_messages Nothing result errors.old errors.new }
 {
     let names = given.rule_files.as_slice();
     let Some(rules) = read_rules(alloc, names, files, input, errors) else {
@@ -104,6 +109,7 @@ fn search_by<F: Open + Folders, R: Read, W: Sink, E: Sink>(
         (R.remaining input.old) (W.taken output.old) (W.taken output.new) result }
     ensures begins { MayBeginMarks (known_by F.Open F.Folders files.now) screen.now (said given.now) rules.now
         (R.remaining input.old) (W.taken output.old) (W.taken output.new) }
+    ensures told { TellsStatus E.Sink IsMarkTold given.now.flags.no_messages Nothing result errors.old errors.new }
 {
     let most = most_of(&given.flags);
     let cover = match cover_of(alloc, rules, most) {
@@ -187,6 +193,8 @@ fn mark_operands<A: Automaton, F: Open + Folders, R: Read, W: Sink, E: Sink>(
     ensures begun { IfMarks A.Automaton marking.old.cover (λ covering.
         MayReachMarked (known_by F.Open F.Folders operands.now.files.now) screen.now (said given.now) covering
         (name_bytes operands.now.names.now) (R.remaining input.old) (W.taken output.old) (W.taken output.new)) }
+    ensures told { TellsStatus E.Sink IsMarkTold given.now.flags.no_messages (shown_by given.now.flags)
+        result errors.old errors.new }
 {
     if asks_to_look(given) {
         return mark_below(marking, given, screen, operands, input, output, errors);
@@ -215,6 +223,8 @@ fn mark_below<A: Automaton, F: Open + Folders, R: Read, W: Sink, E: Sink>(
     ensures begun { IfMarks A.Automaton marking.old.cover (λ covering.
         MayReachMarked (known_by F.Open F.Folders operands.now.files.now) screen.now (said given.now) covering
         (name_bytes operands.now.names.now) (R.remaining input.old) (W.taken output.old) (W.taken output.new)) }
+    ensures told { TellsStatus E.Sink IsMarkTold given.now.flags.no_messages (shown_by given.now.flags)
+        result errors.old errors.new }
 {
     let Ok(found) = reach(operands.alloc, operands.files, given, operands.names) else {
         tell_memory(errors);

@@ -9,7 +9,9 @@ ghost use Rattle.acgrep.specs.Arguments.{said, said_by};
 ghost use Rattle.acgrep.specs.Beside.{unfit_said};
 ghost use Rattle.programs.specs.Names.{name_bytes};
 ghost use Rattle.programs.specs.Telling.{Tells, TellsBytes, TellsSome};
-ghost use Rattle.acgrep.specs.Told.{MaySaid, MayTell, TellsCause, TellsOfCall, TellsOfSaid, TellsOfSearch, TellsOfText, TellsRefusal, is_hushed};
+ghost use Rattle.acgrep.specs.Told.{MaySaid, MayTell, TellsCause, TellsOfCall, TellsOfSaid, TellsOfSearch, TellsOfText, TellsRefusal, TellsStatus, is_hushed};
+ghost use Rattle.acgrep.specs.ToldByRules.{IsMarkTold};
+ghost use Rattle.acgrep.specs.declared.options.Shown.TheVariants.{Nothing};
 ghost use Rattle.acgrep.specs.Mistakes.{TellsLacking, TellsMistake, TellsNoPattern, TellsRefused, TellsUnfit};
 ghost use Rattle.acgrep.specs.Folders.{known_by, tree_of};
 ghost use Rattle.acgrep.specs.Runs.{Asks, AsksByRules, AsksToSearch, BeginsNoMatch, BeginsSaid, BeginsSearch, BeginsFor, GivesNone, IfSaid, IsByPatterns, IsJob, Searches, SearchesFor, SearchesRuled, SearchesSaid, WritesNoMatch, are_empty, asks_none, form_asked, form_said, inverts, is_colored, kind_sought, knows_none, lists_finds, origins_of, ruled, selects_none, status_told, takes_any, words_sought};
@@ -108,6 +110,12 @@ pub fn run<F: Open + Folders, R: Read, W: Sink, E: Sink>(
         → TellsSome E.Sink (MaySaid (known_by F.Open F.Folders files.now) (R.remaining input.old)
         (said_by (listed_bytes arguments.now))) errors.old errors.new }
 
+    // By rules a line may tell of these too, and of lines that are too long with any status.
+    ensures tells_marks { IfSaid arguments.now (λ said. AsksByRules said
+        → Tells E.Sink IsMarkTold errors.old errors.new) }
+    ensures says_why_marks { IfSaid arguments.now (λ said. AsksByRules said → said.flags.no_messages ≡ false
+        → result ≡ 2 → TellsSome E.Sink IsMarkTold errors.old errors.new) }
+
     // All output was flushed where the status tells of no error.
     ensures flushed { result < 2 → W.flushed output.new ≡ true }
 {
@@ -194,6 +202,8 @@ fn answer<F: Open + Folders, R: Read, W: Sink, E: Sink>(
     ensures begins_marks { AsksByRules (said given.entry)
         → BeginsByRules (known_by F.Open F.Folders files.now) screen.now (said given.entry)
         (R.remaining input.old) (W.taken output.old) (W.taken output.new) }
+    ensures told_marks { AsksByRules (said given.entry)
+        → TellsStatus E.Sink IsMarkTold given.entry.flags.no_messages Nothing result errors.old errors.new }
     ensures told { IsByPatterns (Some (said given.entry))
         → TellsOfCall E.Sink (known_by F.Open F.Folders files.now) (R.remaining input.old)
         (said given.entry) result errors.old errors.new }

@@ -1,4 +1,7 @@
 -- A flush keeps what was written, and behind it a beginning of the total stands.
+use Rattle.std.proofs.Common.{Bool, subst}
+use Rattle.acgrep.specs.Told.{IsMessage, TellsOutcome, stopped_if}
+use Rattle.acgrep.proofs.Told.{unread-then}
 use Rattle.acgrep.proofs.FilesBegun.{total_kept, total_none}
 use Rattle.acgrep.proofs.marked_files.break_marked.Goals as goal
 
@@ -15,3 +18,19 @@ pub returns-clause-begun : goal.returns-clause-begun
 returns-clause-begun g c =
     total_kept c.args.job.now c.args.selected (g.W.Sink.taken c.args.output.now) (g.W.Sink.taken c.flush.new.self) (g.W.Sink.taken c.put_total.new.output)
     c.flush.ensures.kept c.put_total.ensures.begun
+
+pub returns-then-tell_stop-clause-told : goal.returns-then-tell_stop-clause-told
+returns-then-tell_stop-clause-told g c = λ names is.
+    subst (λ (stops : Bool). TellsOutcome g.E.Sink (IsMessage names) c.args.job.now.hushed (stopped_if stops) c.args.errors.now c.tell_stop.new.errors) c.if-tell_stop.true
+    (c.tell_stop.ensures.told names is)
+
+pub returns-in-Ok-clause-told : goal.returns-in-Ok-clause-told
+returns-in-Ok-clause-told g c = λ names is.
+    subst (λ (stops : Bool). TellsOutcome g.E.Sink (IsMessage names) c.args.job.now.hushed (stopped_if stops) c.args.errors.now c.tell_stop.new.errors) c.if-tell_stop.false
+    (c.tell_stop.ensures.told names is)
+
+pub returns-clause-told : goal.returns-clause-told
+returns-clause-told g c = λ names is.
+    unread-then g.E.Sink (IsMessage names) c.args.job.now.hushed c.args.errors.now c.tell_stop.new.errors c.tell_total.new.errors
+    (subst (λ (stops : Bool). TellsOutcome g.E.Sink (IsMessage names) c.args.job.now.hushed (stopped_if stops) c.args.errors.now c.tell_stop.new.errors) c.if-tell_stop.false
+    (c.tell_stop.ensures.told names is)) (c.tell_total.ensures.told names)

@@ -2,6 +2,10 @@
 use Rattle.std.proofs.Common.{◌≡◌, [], ◌∷◌, ◌-◌, ◌∙◌, ◌||◌, ℕ, Bool, false, List, Bor, length, take, drop, refl, subst, sym, ap}
 use Rattle.std.proofs.Math.ListN.{get_or}
 use Rattle.programs.specs.Names.{is_input, name_bytes}
+use Rattle.acgrep.specs.declared.files.Seen.{Seen}
+use Rattle.acgrep.specs.Told.{TellsIf}
+use Rattle.acgrep.specs.ToldByRules.{IsMarkTold}
+use Rattle.acgrep.proofs.Told.{if-more}
 use Rattle.acgrep.proofs.FilesMarked.{still_marks}
 use Rattle.acgrep.proofs.NamesMarked.{MarkedSoFar, comes_left, either_input, marked_end, marked_start, marked_step}
 use Rattle.acgrep.proofs.NamesSearched.{ends_by, names_cut}
@@ -17,6 +21,7 @@ loop-rest-init g c =
     record {
       can = c.requires.ready;
       unread = λ unread. refl;
+      told = subst (λ (seen : Seen). TellsIf g.E.Sink IsMarkTold job.hushed seen.failed c.args.errors.now c.args.errors.now) (sym c.new-seen.ensures) refl;
       so_far = λ covering by. (
         by,
         subst (λ (b : Bool). MarkedSoFar job covering holds left names held names b held c.new-seen.result) (sym c.requires.unread)
@@ -45,6 +50,8 @@ loop-rest-preserved g c =
       unread = λ unread.
           let both = either_input read (is_input name) (sym c.mark_name-outcome.ensures.read ∙ unread) in
           ap g.R.Read.remaining (c.mark_name-outcome.ensures.leaves both.1) ∙ c.loop-rest.invariant.unread both.0;
+      told = subst (λ (seen : Seen). TellsIf g.E.Sink IsMarkTold job.hushed seen.failed c.args.errors.now c.mark_name-outcome.new.errors) (sym c.after-seen.ensures)
+          (if-more g.E.Sink IsMarkTold job.hushed c.args.errors.now c.loop-rest.errors c.mark_name-outcome.new.errors c.mark_name-outcome.result job.shown c.loop-rest.seen c.loop-rest.invariant.told c.mark_name-outcome.ensures.told);
       so_far = λ covering by.
           let before = c.loop-rest.invariant.so_far covering by in
           let so_far = subst (λ (l : List (List ℕ)). MarkedSoFar job covering holds left names first l read held c.loop-rest.seen) cut before.1 in
@@ -56,10 +63,8 @@ loop-rest-preserved g c =
           );
     }
 
-pub returns : goal.returns
-returns g c = record {
-  seen = λ covering by.
-      marked_end c.args.job.now covering (g.F.Open.holds c.args.files.now) (g.R.Read.remaining c.args.input.now) (name_bytes c.args.names.now) (g.W.Sink.taken c.args.output.now)
-      (name_bytes c.loop-rest.rest.now) c.loop-rest.marking.input_read (g.W.Sink.taken c.loop-rest.output) c.loop-rest.seen
-      (ends_by c.loop-rest.rest.now c.loop-rest.seen (c.goes_on.ensures.stops c.loop-rest-test.false)) (c.loop-rest.invariant.so_far covering by).1;
-}
+pub returns-clause-seen : goal.returns-clause-seen
+returns-clause-seen g c = λ covering by.
+    marked_end c.args.job.now covering (g.F.Open.holds c.args.files.now) (g.R.Read.remaining c.args.input.now) (name_bytes c.args.names.now) (g.W.Sink.taken c.args.output.now)
+    (name_bytes c.loop-rest.rest.now) c.loop-rest.marking.input_read (g.W.Sink.taken c.loop-rest.output) c.loop-rest.seen
+    (ends_by c.loop-rest.rest.now c.loop-rest.seen (c.goes_on.ensures.stops c.loop-rest-test.false)) (c.loop-rest.invariant.so_far covering by).1

@@ -3,6 +3,8 @@ use Rattle.std.proofs.Common.{◌≡◌, false, length}
 use Rattle.programs.specs.Names.{name_bytes}
 use Rattle.secret_rules.specs.Covering.{Covering}
 use Rattle.acgrep.specs.MarkedFiles.{IsMarking, MarksBy}
+use Rattle.acgrep.specs.Told.{TellsIf}
+use Rattle.acgrep.specs.ToldByRules.{IsMarkTold}
 use Rattle.acgrep.proofs.NamesMarked.{MarkedSoFar}
 use Rattle.acgrep.proofs.marked_files.mark_each.Given as goal
 
@@ -10,6 +12,7 @@ abbrev pub invariant-loop-rest : goal.invariant-loop-rest
 invariant-loop-rest g l = record {
   can : IsMarking g.A.Automaton l.marking;
   unread : l.marking.input_read ≡ false → g.R.Read.remaining l.input ≡ g.R.Read.remaining l.initial.input;
+  told : TellsIf g.E.Sink IsMarkTold l.fn.job.hushed l.seen.failed l.initial.errors l.errors;
   so_far : (covering : Covering) → MarksBy g.A.Automaton l.initial.marking.cover covering → MarksBy g.A.Automaton l.marking.cover covering
       × MarkedSoFar l.fn.job covering (g.F.Open.holds l.fn.files) (g.R.Read.remaining l.initial.input) (name_bytes l.fn.names) (g.W.Sink.taken l.initial.output)
       (name_bytes l.rest) l.marking.input_read (g.W.Sink.taken l.output) l.seen;

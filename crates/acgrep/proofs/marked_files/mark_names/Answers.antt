@@ -3,6 +3,9 @@ use Rattle.std.proofs.Common.{◌<◌, ℕ, subst, sym}
 use Rattle.programs.specs.Names.{name_bytes}
 use Rattle.acgrep.specs.MarkedFiles.{AreMarkedOr}
 use Rattle.acgrep.proofs.NamesMarked.{status_marked}
+use Rattle.acgrep.specs.Told.{TellsStatus}
+use Rattle.acgrep.specs.ToldByRules.{IsMarkTold}
+use Rattle.acgrep.proofs.Told.{status-seen}
 use Rattle.acgrep.proofs.marked_files.mark_names.Goals as goal
 
 pub returns-clause-searched : goal.returns-clause-searched
@@ -18,3 +21,8 @@ returns-clause-searched g c = λ covering by low.
 
 pub returns-clause-begun : goal.returns-clause-begun
 returns-clause-begun g c = λ covering by. (c.mark_each-seen.ensures.seen covering by).begun
+
+pub returns-clause-told : goal.returns-clause-told
+returns-clause-told g c =
+    subst (λ (status : ℕ). TellsStatus g.E.Sink IsMarkTold c.args.job.now.hushed c.args.job.now.shown status c.args.errors.now c.mark_each-seen.new.errors) (sym c.status.ensures)
+    (status-seen g.E.Sink IsMarkTold c.args.job.now.hushed c.args.job.now.shown c.mark_each-seen.result c.args.errors.now c.mark_each-seen.new.errors c.mark_each-seen.ensures.told)

@@ -5,6 +5,7 @@ use Rattle.acgrep.specs.MarkedFiles.{asked_by}
 use Rattle.acgrep.proofs.FileTellings.{if_searched}
 use Rattle.acgrep.proofs.FilesBegun.{if_broken, total_none}
 use Rattle.acgrep.proofs.FilesMarked.{broken_of, covering_rules, file_part, file_searched}
+use Rattle.acgrep.proofs.MarksTold.{end-told, outcome-told}
 use Rattle.acgrep.proofs.marked_files.mark_reader.Goals as goal
 
 pub returns-in-None-clause-comes : goal.returns-in-None-clause-comes
@@ -45,3 +46,9 @@ returns-clause-comes g c = λ covering by.
       searched = if_searched c.break_marked.result _ _ (λ any none. absurd none) c.break_marked.ensures.unsearched;
       begun = broken_of c.break_marked.result (file_part _ g.W.Sink c.args.job.now covering _ _ _ _ _ came.pass _ left c.new-source.ensures.empty_reads ends _ asked walks.begun came.pass.selected c.break_marked.ensures.begun);
     }
+
+pub returns-in-None-clause-told : goal.returns-in-None-clause-told
+returns-in-None-clause-told g c = end-told g.E.Sink c.args.job.now.hushed c.end_marked.result c.args.errors.now c.end_marked.new.errors c.end_marked.ensures.told
+
+pub returns-clause-told : goal.returns-clause-told
+returns-clause-told g c = outcome-told g.E.Sink c.args.job.now.hushed c.args.job.now.style.name.now c.break_marked.result c.args.errors.now c.break_marked.new.errors c.break_marked.ensures.told

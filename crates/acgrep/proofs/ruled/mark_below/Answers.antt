@@ -1,5 +1,5 @@
 -- What was found was searched, and what cannot be read was told before.
-use Rattle.std.proofs.Common.{◌≡◌, ◌∙◌, ◌<◌, ◌≤◌, Bool, false, ℕ, List, ap, inr, subst, sym}
+use Rattle.std.proofs.Common.{[], ◌≡◌, ◌∙◌, ◌<◌, ◌≤◌, Bool, false, ℕ, List, ap, inr, subst, sym}
 use Rattle.programs.specs.Names.{name_bytes}
 use Rattle.acgrep.specs.Arguments.{said}
 use Rattle.acgrep.specs.MarkedFiles.{AreMarkedOr, AreMarksBegun}
@@ -7,6 +7,13 @@ use Rattle.acgrep.specs.Folders.{missed_of, tree_of}
 use Rattle.acgrep.specs.Listed.{listed_bytes}
 use Rattle.acgrep.specs.Runs.{AreReached, IsJob, are_several, status_reached}
 use Rattle.acgrep.proofs.Reaching.{reached-bound, reached-low}
+use Rattle.acgrep.specs.Arguments.{shown_by}
+use Rattle.acgrep.specs.Reached.{TellsMissed}
+use Rattle.acgrep.specs.Told.{TellsStatus}
+use Rattle.acgrep.specs.ToldByRules.{IsMarkTold}
+use Rattle.acgrep.specs.declared.options.Shown.{Shown}
+use Rattle.acgrep.proofs.MarksTold.{missed-told, some-told}
+use Rattle.acgrep.proofs.Told.{status-some}
 use Rattle.acgrep.proofs.ruled.mark_below.Goals as goal
 
 pub returns-clause-bound : goal.returns-clause-bound
@@ -70,3 +77,29 @@ returns-clause-begun g c = λ covering by.
           (g.W.Sink.taken c.args.output.now) (g.W.Sink.taken c.mark_names-status.new.output)) searched
           (c.mark_names-status.ensures.begun covering by);
     })
+
+pub returns-in_default-clause-told : goal.returns-in_default-clause-told
+returns-in_default-clause-told g c =
+    let flags = c.args.given.now.flags in
+    status-some g.E.Sink IsMarkTold flags.no_messages (shown_by flags) c.args.errors.now c.tell_memory.new.errors (some-told g.E.Sink [] c.args.errors.now c.tell_memory.new.errors (c.tell_memory.ensures.told []))
+
+pub returns-in_default-slices_of-clause-told : goal.returns-in_default-slices_of-clause-told
+returns-in_default-slices_of-clause-told g c =
+    let flags = c.args.given.now.flags in
+    let e = c.tell_memory-in_default-slices_of.new.errors in
+    status-some g.E.Sink IsMarkTold flags.no_messages (shown_by flags) c.args.errors.now e (some-told g.E.Sink [] c.args.errors.now e (c.tell_memory-in_default-slices_of.ensures.told []))
+
+pub returns-clause-told : goal.returns-clause-told
+returns-clause-told g c =
+    let flags = c.args.given.now.flags in
+    let unread = missed_of c.in-Ok.found.unread.items in
+    let found = c.mark_names-status.result in
+    let status : c.status_below.result ≡ status_reached flags unread found = c.status_below.ensures.status ∙ ap (λ l. status_reached flags (missed_of l) found) c.as_slice-5.ensures.value in
+    let job = c.job_of-job.ensures.job in
+    let old = c.args.errors.now in
+    let mid = c.tell_each.new.errors in
+    let new = c.mark_names-status.new.errors in
+    let before = subst (λ (l : List (List ℕ)). TellsMissed g.E.Sink flags.no_messages l old mid) (ap missed_of c.as_slice-3.ensures.value) c.tell_each.ensures.told in
+    let after = subst (λ (s : Shown). TellsStatus g.E.Sink IsMarkTold flags.no_messages s found mid new) job.shown
+    (subst (λ (b : Bool). TellsStatus g.E.Sink IsMarkTold b c.job_of-job.result.shown found mid new) job.hushed c.mark_names-status.ensures.told) in
+    subst (λ (n : ℕ). TellsStatus g.E.Sink IsMarkTold flags.no_messages (shown_by flags) n old new) (sym status) (missed-told g.E.Sink flags unread found old mid new before after)

@@ -1,5 +1,5 @@
 -- The rules in files were read, and what was said was done by them.
-use Rattle.std.proofs.Common.{ap, inl, inr, subst}
+use Rattle.std.proofs.Common.{[], refl, ap, inl, inr, subst}
 use Rattle.std.proofs.KnownBytes.{Keeps-refl}
 use Rattle.acgrep.specs.Arguments.{Said, said}
 use Rattle.acgrep.specs.Folders.{known_by}
@@ -8,6 +8,12 @@ use Rattle.acgrep.specs.Rules.{rules_said}
 use Rattle.acgrep.specs.Runs.{AreRules}
 use Rattle.acgrep.specs.RunsByRules.{MarksAsked, MayBeginAsked}
 use Rattle.acgrep.proofs.RuleTexts.{rules_read}
+use Rattle.programs.specs.declared.errors.Errors.{Errors}
+use Rattle.acgrep.specs.Told.{TellsStatus, rule_files}
+use Rattle.acgrep.specs.ToldByRules.{IsMarkTold}
+use Rattle.acgrep.specs.declared.options.Shown.TheVariants.{Nothing}
+use Rattle.acgrep.proofs.MarksTold.{some-told}
+use Rattle.acgrep.proofs.Told.{status-some}
 use Rattle.acgrep.proofs.ruled.mark_said.Goals as goal
 
 pub returns-in_default-clause-begins : goal.returns-in_default-clause-begins
@@ -53,3 +59,18 @@ returns-clause-begins g c =
       read = read;
       begun = subst (λ (s : Said). MayBeginAsked known c.args.screen.now s between held held') c.with_rules-ruled.ensures.ruled c.mark_asked.ensures.begins;
     })
+
+pub returns-in_default-clause-told : goal.returns-in_default-clause-told
+returns-in_default-clause-told g c =
+    status-some g.E.Sink IsMarkTold c.args.given.flags.no_messages Nothing c.args.errors.now c.read_globs.new.errors
+    (some-told g.E.Sink (rule_files (rules_said c.as_slice-rules.result.now)) c.args.errors.now c.read_globs.new.errors (c.in_default.ensures.told refl))
+
+pub returns-in_default-expanded-clause-told : goal.returns-in_default-expanded-clause-told
+returns-in_default-expanded-clause-told g c =
+    subst (λ (e : Errors g.row.E.Denot). TellsStatus g.E.Sink IsMarkTold c.args.given.flags.no_messages Nothing 2 e c.tell_memory.new.errors) (c.in-Some.ensures.silent refl)
+    (status-some g.E.Sink IsMarkTold c.args.given.flags.no_messages Nothing c.read_globs.new.errors c.tell_memory.new.errors (some-told g.E.Sink [] c.read_globs.new.errors c.tell_memory.new.errors (c.tell_memory.ensures.told [])))
+
+pub returns-clause-told : goal.returns-clause-told
+returns-clause-told g c =
+    subst (λ (e : Errors g.row.E.Denot). TellsStatus g.E.Sink IsMarkTold c.args.given.flags.no_messages Nothing c.mark_asked.result e c.mark_asked.new.errors) (c.in-Some.ensures.silent refl)
+    (subst (λ (s : Said). TellsStatus g.E.Sink IsMarkTold s.flags.no_messages Nothing c.mark_asked.result c.read_globs.new.errors c.mark_asked.new.errors) c.with_rules-ruled.ensures.ruled c.mark_asked.ensures.told)

@@ -7,7 +7,9 @@ use Rattle.acgrep.proofs.Unfitting.{some_all, some_unfit, unfit_fits}
 use Rattle.std.proofs.lemmas.Bool.{true≢false}
 use Rattle.acgrep.specs.Arguments.{said, shown_by}
 use Rattle.acgrep.specs.Folders.{known_by}
-use Rattle.acgrep.specs.Told.{MaySaid, MayTell, TellsOfCall, names_said}
+use Rattle.acgrep.specs.Told.{MaySaid, MayTell, TellsOfCall, names_said, TellsStatus}
+use Rattle.acgrep.specs.ToldByRules.{IsMarkTold}
+use Rattle.acgrep.specs.declared.options.Shown.TheVariants.{Nothing}
 use Rattle.acgrep.proofs.Statuses.{told-low, told-status}
 use Rattle.acgrep.proofs.Told.{status-weaker}
 use Rattle.acgrep.proofs.run.answer.Goals as goal
@@ -95,3 +97,22 @@ returns-then-given-3-clause-searches g c = λ asks low. absurd (true≢false (sy
 
 pub returns-then-given-3-clause-told : goal.returns-then-given-3-clause-told
 returns-then-given-3-clause-told g c = λ by. absurd (true≢false (sym c.if-given-3.true ∙ by.0))
+
+-- what is told of a call by rules
+pub returns-then-given-clause-told_marks : goal.returns-then-given-clause-told_marks
+returns-then-given-clause-told_marks g c = λ asks. absurd (true≢false (sym c.if-given.true ∙ asks.asks.no_version))
+
+pub returns-then-given-2-clause-told_marks : goal.returns-then-given-2-clause-told_marks
+returns-then-given-2-clause-told_marks g c = λ asks. absurd (true≢false (sym c.if-given-2.true ∙ asks.asks.no_help))
+
+pub returns-in-Some-clause-told_marks : goal.returns-in-Some-clause-told_marks
+returns-in-Some-clause-told_marks g c = λ asks. unfit_fits c.in-Some.unfit (unfit_said (said c.args.given)) c.in-Some.ensures.unfit asks.fits
+
+pub returns-then-given-3-clause-told_marks : goal.returns-then-given-3-clause-told_marks
+returns-then-given-3-clause-told_marks g c = λ asks.
+    let flags = c.args.given.flags in
+    subst (λ (n : ℕ). TellsStatus g.E.Sink IsMarkTold flags.no_messages Nothing n c.args.errors.now c.mark_said-marked.new.errors) (sym c.status_told.ensures.told)
+    (told-status g.E.Sink IsMarkTold flags.no_messages Nothing flags.no_match_ok c.mark_said-marked.result c.args.errors.now c.mark_said-marked.new.errors c.mark_said-marked.ensures.told)
+
+pub returns-clause-told_marks : goal.returns-clause-told_marks
+returns-clause-told_marks g c = λ asks. absurd (true≢false (sym asks.by_rules ∙ c.if-given-3.false))

@@ -1,5 +1,5 @@
 -- What was said was done, and a flush keeps what was written.
-use Rattle.std.proofs.Common.{false, ◌||◌, ◌≡◌, ◌<◌, ◌≤◌, ◌∙◌, List, Option, Some, ap, ℕ, inl, inr, arith, subst, sym}
+use Rattle.std.proofs.Common.{[], false, ◌||◌, ◌≡◌, ◌<◌, ◌≤◌, ◌∙◌, List, Option, Some, ap, ℕ, inl, inr, arith, subst, sym}
 use Rattle.acgrep.specs.Arguments.{Said, said, said_by, shown_by}
 use Rattle.acgrep.specs.Beside.{unfit_said}
 use Rattle.acgrep.specs.Runs.{Asks, AsksByRules, AsksToSearch, BeginsSearch, GivesNone, IsByPatterns, Searches}
@@ -16,7 +16,11 @@ use Rattle.programs.specs.declared.errors.Errors.{Errors}
 use Rattle.std.specs.Prelude.{IfSome}
 use Rattle.acgrep.proofs.Unfitting.{each_all, some_all, some_both, some_more}
 use Rattle.acgrep.proofs.Mistaken.{mistake-told, refused-lacking, refused-memory}
-use Rattle.acgrep.proofs.Told.{finished, not-quiet, told-said}
+use Rattle.acgrep.specs.ToldByRules.{IsMarkTold}
+use Rattle.acgrep.specs.declared.options.Shown.TheVariants.{Nothing}
+use Rattle.programs.specs.declared.reason.Reason.TheVariants.{OutOfMemory as NoMemory}
+use Rattle.acgrep.proofs.MarksTold.{some-told}
+use Rattle.acgrep.proofs.Told.{finished, not-quiet, tells-memory, told-said}
 use Rattle.acgrep.proofs.run.run.Goals as goal
 
 pub returns-in-Ok-clause-searches : goal.returns-in-Ok-clause-searches
@@ -189,3 +193,32 @@ returns-in-Err-clause-unfitting g c given is asks =
     each_all (unfit_said given) (λ (line : List ℕ). TellsUnfit g.E.Sink line c.args.errors.now c.finish-in-Err.new.errors) (λ line. inl
     (subst (λ (e : Errors g.row.E.Denot). TellsBytes g.E.Sink c.args.errors.now e memory_line) (sym (c.finish-in-Err.ensures.told_before (omega arith)))
     (refused-memory g.E.Sink (said_by arguments) given c.in-Err.refusal c.args.errors.now c.tell_refused.new.errors is c.in-Err.ensures.refused c.tell_refused.ensures.exact)))
+
+-- what is told of a call by rules
+pub returns-in-Ok-clause-tells_marks : goal.returns-in-Ok-clause-tells_marks
+returns-in-Ok-clause-tells_marks g c given is asks =
+    let bound : c.finish.result ≤ 2 = elim c.finish.ensures.status [ inl kept ↦ omega (arith, kept, c.answer-status.ensures.bound) | inr two ↦ omega (arith, two) ] in
+    let same : said c.in-Ok.given ≡ given = same_said (said_by (listed_bytes c.args.arguments.now)) given (said c.in-Ok.given) is c.in-Ok.ensures.read in
+    let told = finished g.E.Sink [] IsMarkTold (λ line is. inl ([], is)) c.in-Ok.given.flags.no_messages Nothing c.answer-status.result c.finish.result c.args.errors.now c.answer-status.new.errors c.finish.new.errors
+    c.answer-status.ensures.bound bound c.finish.ensures.status (c.answer-status.ensures.told_marks (subst AsksByRules (sym same) asks)) c.finish.ensures.silent c.finish.ensures.told_before (λ low two. c.finish.ensures.told low two []) in
+    told.tells
+
+pub returns-in-Ok-clause-says_why_marks : goal.returns-in-Ok-clause-says_why_marks
+returns-in-Ok-clause-says_why_marks g c given is asks asked failed =
+    let bound : c.finish.result ≤ 2 = elim c.finish.ensures.status [ inl kept ↦ omega (arith, kept, c.answer-status.ensures.bound) | inr two ↦ omega (arith, two) ] in
+    let same : said c.in-Ok.given ≡ given = same_said (said_by (listed_bytes c.args.arguments.now)) given (said c.in-Ok.given) is c.in-Ok.ensures.read in
+    let told = finished g.E.Sink [] IsMarkTold (λ line is. inl ([], is)) c.in-Ok.given.flags.no_messages Nothing c.answer-status.result c.finish.result c.args.errors.now c.answer-status.new.errors c.finish.new.errors
+    c.answer-status.ensures.bound bound c.finish.ensures.status (c.answer-status.ensures.told_marks (subst AsksByRules (sym same) asks)) c.finish.ensures.silent c.finish.ensures.told_before (λ low two. c.finish.ensures.told low two []) in
+    told.some (ap (λ (s : Said). s.flags.no_messages) same ∙ asked) failed
+
+pub returns-in-Err-clause-says_why_marks : goal.returns-in-Err-clause-says_why_marks
+returns-in-Err-clause-says_why_marks g c given is asks asked failed =
+    subst (TellsSome g.E.Sink IsMarkTold c.args.errors.now) (sym (c.finish-in-Err.ensures.told_before (omega arith)))
+    (some-told g.E.Sink [] c.args.errors.now c.tell_refused.new.errors (tells-memory g.E.Sink [] c.args.errors.now c.tell_refused.new.errors NoMemory
+    (refused-memory g.E.Sink (said_by (listed_bytes c.args.arguments.now)) given c.in-Err.refusal c.args.errors.now c.tell_refused.new.errors is c.in-Err.ensures.refused c.tell_refused.ensures.exact)))
+
+pub returns-in-Err-clause-tells_marks : goal.returns-in-Err-clause-tells_marks
+returns-in-Err-clause-tells_marks g c given is asks =
+    some-tells g.E.Sink IsMarkTold c.args.errors.now c.finish-in-Err.new.errors (subst (TellsSome g.E.Sink IsMarkTold c.args.errors.now) (sym (c.finish-in-Err.ensures.told_before (omega arith)))
+    (some-told g.E.Sink [] c.args.errors.now c.tell_refused.new.errors (tells-memory g.E.Sink [] c.args.errors.now c.tell_refused.new.errors NoMemory
+    (refused-memory g.E.Sink (said_by (listed_bytes c.args.arguments.now)) given c.in-Err.refusal c.args.errors.now c.tell_refused.new.errors is c.in-Err.ensures.refused c.tell_refused.ensures.exact))))

@@ -1,0 +1,73 @@
+-- What is told of files whose lines rules mark.
+use Rattle.std.proofs.Common.{◌≡◌, ◌<◌, inl, inr, ℕ, Bool, true, false, List, [], ◌∷◌, refl, sym, ap, subst, length, arith}
+use Rattle.std.specs.Prelude.{◌==◌, if◌then◌else◌}
+use Rattle.std.proofs.lemmas.List.Elements.{All-nil}
+use Rattle.aho_devices.specs.declared.device.Sink.{Ghosts as SinkGhosts}
+use Rattle.programs.specs.Telling.{Tells, TellsBytes, TellsSome}
+use Rattle.programs.specs.declared.errors.Errors.{Errors}
+use Rattle.programs.proofs.Lines.{some-one, some-tells, some-then, some-weaker, tells-then, tells-weaker}
+use Rattle.acgrep.specs.Arguments.{shown_by}
+use Rattle.acgrep.specs.Reached.{TellsMissed}
+use Rattle.acgrep.specs.Runs.{status_reached}
+use Rattle.acgrep.specs.RunsByRules.{long_message, unwritten_line}
+use Rattle.acgrep.specs.Told.{IsMessage, TellsOfEnd, TellsOfOutcome, TellsOutcome, TellsStatus}
+use Rattle.acgrep.specs.ToldByRules.{IsMarkTold}
+use Rattle.acgrep.specs.declared.files.Outcome.{Outcome}
+use Rattle.acgrep.specs.declared.files.Outcome.TheVariants.{Searched, Unread, Stopped}
+use Rattle.acgrep.specs.declared.options.Flags.{Flags}
+use Rattle.acgrep.specs.declared.options.Shown.{Shown}
+use Rattle.acgrep.specs.declared.options.Shown.TheVariants.{Nothing}
+use Rattle.acgrep.proofs.Reaching.{reached-quiet, shown-quiet}
+
+module _ {E : Type 0} (K : SinkGhosts E) where
+  -- a message is such a line
+  pub some-told : (names : List (List ℕ)) (old new : Errors E) → TellsSome K (IsMessage names) old new → TellsSome K IsMarkTold old new
+  some-told names old new told = some-weaker K (IsMessage names) IsMarkTold old new (λ line is. inl (names, is)) told
+
+  outcome-by : (names : List (List ℕ)) (hushed : Bool) (outcome : Outcome) (old new : Errors E) → TellsOutcome K (IsMessage names) hushed outcome old new → TellsOutcome K IsMarkTold hushed outcome old new
+  outcome-by names hushed (Searched any) old new told = told
+  outcome-by names true Unread old new told = told
+  outcome-by names false Unread old new told = some-told names old new told
+  outcome-by names hushed Stopped old new told = some-told names old new told
+
+  pub outcome-told : (hushed : Bool) (name : List ℕ) (outcome : Outcome) (old new : Errors E) → TellsOfOutcome K hushed name outcome old new → TellsOutcome K IsMarkTold hushed outcome old new
+  outcome-told hushed name outcome old new told = outcome-by (name ∷ []) hushed outcome old new (told (name ∷ []) (λ asked. inl refl))
+
+  pub end-told : (hushed : Bool) (outcome : Outcome) (old new : Errors E) → TellsOfEnd K hushed outcome old new → TellsOutcome K IsMarkTold hushed outcome old new
+  end-told hushed outcome old new told = outcome-by [] hushed outcome old new (told [])
+
+  -- what cannot be looked at was told before
+  pub missed-told : (flags : Flags) (unread : List (List ℕ)) (found : ℕ) (old mid new : Errors E) → TellsMissed K flags.no_messages unread old mid
+      → TellsStatus K IsMarkTold flags.no_messages (shown_by flags) found mid new → TellsStatus K IsMarkTold flags.no_messages (shown_by flags) (status_reached flags unread found) old new
+  missed-told flags unread found old mid new before after = by unread refl
+    where
+      first : Tells K IsMarkTold old mid
+      first = tells-weaker K (IsMessage unread) IsMarkTold old mid (λ line is. inl (unread, is)) before.tells
+
+      by : (missed : List (List ℕ)) → unread ≡ missed → TellsStatus K IsMarkTold flags.no_messages (shown_by flags) (status_reached flags missed found) old new
+      by [] none = subst (λ (e : Errors E). TellsStatus K IsMarkTold flags.no_messages (shown_by flags) found e new) (before.none (inr (ap length none))) after
+      by (name ∷ others) some = record {
+        tells = tells-then K IsMarkTold old mid new first after.tells;
+        silent = λ low loud. absurd (loud (shown-quiet flags (reached-quiet flags name others found low)));
+        some = λ asked two.
+            let full : 0 < length unread = subst (λ (l : List (List ℕ)). 0 < length l) (sym some) (omega arith) in
+            some-then K IsMarkTold old mid new (some-told unread old mid (before.some asked full)) after.tells;
+      }
+
+  long-tells : (most count : ℕ) (old new : Errors E) → TellsBytes K old new (long_message most count) → Tells K IsMarkTold old new
+  long-tells most count old new told = by (count == 0) told
+    where
+      by : (none : Bool) → TellsBytes K old new (if none then [] else unwritten_line most count) → Tells K IsMarkTold old new
+      by true told = record { told = []; are_lines = All-nil IsMarkTold; written = told }
+      by false told = some-tells K IsMarkTold old new (some-one K IsMarkTold old new (unwritten_line most count) (inr (inr (inr (inr (most, count, refl))))) told)
+
+  -- and how many lines are too long behind
+  pub long-told : (hushed : Bool) (shown : Shown) (status most count : ℕ) (old mid new : Errors E) → TellsStatus K IsMarkTold hushed shown status old mid → TellsBytes K mid new (long_message most count)
+      → TellsStatus K IsMarkTold hushed Nothing status old new
+  long-told hushed shown status most count old mid new before told =
+      let later = long-tells most count mid new told in
+      record {
+        tells = tells-then K IsMarkTold old mid new before.tells later;
+        silent = λ low loud. absurd (loud refl);
+        some = λ asked two. some-then K IsMarkTold old mid new (before.some asked two) later;
+      }

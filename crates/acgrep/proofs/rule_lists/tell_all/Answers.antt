@@ -1,0 +1,14 @@
+-- The line tells of all rules.
+use Rattle.std.proofs.Common.{inl, inr, refl, codes}
+use Rattle.std.specs.Prelude.{None, Some}
+use Rattle.aho_core.specs.Texts.{build_error_text}
+use Rattle.programs.specs.Messages.{message_of}
+use Rattle.programs.proofs.Lines.{some-one}
+use Rattle.acgrep.specs.ToldByRules.{IsMarkTold}
+use Rattle.acgrep.proofs.rule_lists.tell_all.Goals as goal
+
+pub returns : goal.returns
+returns g c = record {
+  told = some-one g.E.Sink IsMarkTold c.args.errors.now c.tell_build.new.self (message_of (codes "acgrep") (Some (codes "--rules")) None (build_error_text c.args.error.now))
+      (inr (inr (inr (inl (c.args.error.now, refl))))) c.tell_build.ensures.told;
+}

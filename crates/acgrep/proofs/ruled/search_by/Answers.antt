@@ -1,0 +1,14 @@
+-- How many lines are too long is told at the end.
+use Rattle.acgrep.specs.Arguments.{shown_by}
+use Rattle.acgrep.specs.ToldByRules.{IsMarkTold}
+use Rattle.acgrep.specs.declared.options.Shown.TheVariants.{Nothing}
+use Rattle.acgrep.proofs.MarksTold.{long-told}
+use Rattle.acgrep.proofs.Told.{status-some}
+use Rattle.acgrep.proofs.ruled.search_by.Goals as goal
+
+pub returns-in-Err-clause-told : goal.returns-in-Err-clause-told
+returns-in-Err-clause-told g c = status-some g.E.Sink IsMarkTold c.args.given.now.flags.no_messages Nothing c.args.errors.now c.tell_all.new.errors c.tell_all.ensures.told
+
+pub returns-clause-told : goal.returns-clause-told
+returns-clause-told g c =
+    long-told g.E.Sink c.args.given.now.flags.no_messages (shown_by c.args.given.now.flags) c.mark_operands-status.result _ _ c.args.errors.now c.mark_operands-status.new.errors c.tell_long.new.errors c.mark_operands-status.ensures.told c.tell_long.ensures.told
