@@ -19,8 +19,8 @@ use Rattle.secret_rules.specs.declared.line_cover.LineCover.{LineCover}
 use Rattle.secret_rules.specs.declared.rule.Rule.{Rule}
 use Rattle.programs.specs.Names.{is_input}
 use Rattle.acgrep.specs.Files.{BeginsTotal, EndsFile, IfBroken, IfSearched, IsNamed, known_of, shown_name, total_if}
-use Rattle.acgrep.specs.Marked.{Asked, marked_shown, marked_line, marked_lines, pass_behind}
-use Rattle.acgrep.specs.MarkedFiles.{AreFirstGiven, BeginsGiven, BeginsInput, BeginsMarks, ComesInput, ComesMarked, ComesName, HasFirst, HasToldAll, MarksBy, MarksFile, MarksInput, MarksText, TellsAll, WalksGiven, WalksLines, asked_by, file_marked, file_selected, pass_from, seen_lines}
+use Rattle.acgrep.specs.Marked.{FileAsked, marked_shown, marked_line, marked_lines, pass_behind}
+use Rattle.acgrep.specs.MarkedFiles.{AreFirstGiven, BeginsWalk, BeginsInput, BeginsMarks, ComesInput, ComesMarked, ComesName, HasFirst, HasToldAll, MarksBy, MarksFile, MarksInput, MarksText, TellsAll, WalksGiven, WalksLines, file_asked, file_marked, file_selected, pass_from, seen_lines}
 use Rattle.acgrep.specs.Written.{needs_one}
 use Rattle.acgrep.specs.declared.files.Outcome.{Outcome}
 use Rattle.acgrep.specs.declared.files.Outcome.TheVariants.{Searched, Unread, Stopped}
@@ -75,11 +75,11 @@ shown_none Names style rules place line runs is = refl
 shown_none Lacking style rules place line runs is = refl
 shown_none Nothing style rules place line runs is = refl
 
-line_none : (asked : Asked) → needs_one asked.shown ≡ true → (place : Place) (line : List ℕ) (runs : List Occurrence) → marked_line asked place line runs ≡ []
+line_none : (asked : FileAsked) → needs_one asked.shown ≡ true → (place : Place) (line : List ℕ) (runs : List Occurrence) → marked_line asked place line runs ≡ []
 line_none asked needs place line runs =
     either_none ((length runs == 0) || (length line == 0)) (marked_shown asked.shown asked.style asked.rules place line runs) (shown_none asked.shown asked.style asked.rules place line runs needs)
 
-lines_none : (asked : Asked) → needs_one asked.shown ≡ true → (pass : Pass) (lines : List (List ℕ)) (runs : List (List Occurrence)) → marked_lines asked pass lines runs ≡ []
+lines_none : (asked : FileAsked) → needs_one asked.shown ≡ true → (pass : Pass) (lines : List (List ℕ)) (runs : List (List Occurrence)) → marked_lines asked pass lines runs ≡ []
 lines_none asked needs pass [] runs = refl
 lines_none asked needs pass (line ∷ lines) [] = refl
 lines_none asked needs pass (line ∷ lines) (own ∷ runs) =
@@ -100,7 +100,7 @@ module _ {R W : Type 0} (S : SourceGhosts R) (K : SinkGhosts W) (job : Job) (cov
   reads_given given read = subst (λ bytes. Consumes bytes (S.remaining source') given) left read
 
   -- a file that was read to its end
-  pub file_whole : (asked : Asked) → asked ≡ asked_by job covering.rules → WalksGiven S K asked (pass_from job.first) pass' source source' output output' covering → (any : Bool)
+  pub file_whole : (asked : FileAsked) → asked ≡ file_asked job covering.rules → WalksGiven S K asked (pass_from job.first) pass' source source' output output' covering → (any : Bool)
       → EndsFile job pass'.selected (K.taken output') held' any → MarksText job covering known (K.taken output) held' any
   file_whole asked same whole any ends_file =
       let lines = stream_lines whole.text in
@@ -112,16 +112,16 @@ module _ {R W : Type 0} (S : SourceGhosts R) (K : SinkGhosts W) (job : Job) (cov
         are = whole.are;
         any_is = ends_file.is_any ∙ ap (nat_lt 0) selected;
         written = Appends-trans (K.taken output) (K.taken output') held' (file_marked job covering lines whole.runs) (total_if job.shown job.style (file_selected job covering lines whole.runs))
-            (subst (λ (a : Asked). Appends (K.taken output) (K.taken output') (marked_lines a (pass_from job.first) (seen_lines covering.most lines) whole.runs)) same whole.written)
+            (subst (λ (a : FileAsked). Appends (K.taken output) (K.taken output') (marked_lines a (pass_from job.first) (seen_lines covering.most lines) whole.runs)) same whole.written)
             (subst (λ (n : ℕ). Appends (K.taken output') held' (total_if job.shown job.style n)) selected ends_file.written);
       }
 
   -- one of which a selected line told all
-  pub file_told : (asked : Asked) → asked ≡ asked_by job covering.rules → BeginsGiven S K asked (pass_from job.first) pass' source source' output output' covering → HasToldAll job.shown pass' → (any : Bool)
+  pub file_told : (asked : FileAsked) → asked ≡ file_asked job covering.rules → BeginsWalk S K asked (pass_from job.first) pass' source source' output output' covering → HasToldAll job.shown pass' → (any : Bool)
       → EndsFile job pass'.selected (K.taken output') held' any → TellsAll job covering known (K.taken output) held' any
   file_told asked same begun all any ends_file =
       let selected = ap (λ (p : Pass). p.selected) begun.comes in
-      let needs : needs_one asked.shown ≡ true = ap (λ (a : Asked). needs_one a.shown) same ∙ all.0 in
+      let needs : needs_one asked.shown ≡ true = ap (λ (a : FileAsked). needs_one a.shown) same ∙ all.0 in
       let nothing : begun.part ≡ [] = starts_nothing (marked_lines asked (pass_from job.first) (seen_lines covering.most begun.lines) begun.runs) begun.part (lines_none asked needs (pass_from job.first) (seen_lines covering.most begun.lines) begun.runs) begun.begins in
       record {
         needs = all.0;
@@ -137,7 +137,7 @@ module _ {R W : Type 0} (S : SourceGhosts R) (K : SinkGhosts W) (job : Job) (cov
       }
 
   -- and one that was not read to its end, or not all was written
-  pub file_part : (asked : Asked) → asked ≡ asked_by job covering.rules → BeginsGiven S K asked (pass_from job.first) pass' source source' output output' covering → (count : ℕ)
+  pub file_part : (asked : FileAsked) → asked ≡ file_asked job covering.rules → BeginsWalk S K asked (pass_from job.first) pass' source source' output output' covering → (count : ℕ)
       → BeginsTotal job count (K.taken output') held' → BeginsMarks job covering known (K.taken output) held'
   file_part asked same begun count total = record {
     lines = begun.lines;
@@ -145,7 +145,7 @@ module _ {R W : Type 0} (S : SourceGhosts R) (K : SinkGhosts W) (job : Job) (cov
     has = first_of covering known (S.remaining source') begun.given begun.ended begun.lines begun.runs begun.are (reads_given begun.given begun.gives.bytes)
         (ends_seen (S.empty_reads source) (S.empty_reads source') begun.ended none ends begun.gives.end);
     part = begun.part;
-    begins = subst (λ (a : Asked). StartsWith (marked_lines a (pass_from job.first) (seen_lines covering.most begun.lines) begun.runs) begun.part) same begun.begins;
+    begins = subst (λ (a : FileAsked). StartsWith (marked_lines a (pass_from job.first) (seen_lines covering.most begun.lines) begun.runs) begun.part) same begun.begins;
     count = count;
     tail = total.begun;
     ends = subst (λ (l : List ℕ). StartsWith l total.begun) (sym total.cut) (starts_front total.begun total.missing);
@@ -153,7 +153,7 @@ module _ {R W : Type 0} (S : SourceGhosts R) (K : SinkGhosts W) (job : Job) (cov
   }
 
   -- a file was searched that was read to its end, or of which a selected line told all
-  pub file_searched : (asked : Asked) → asked ≡ asked_by job covering.rules → (done : Result (Unit {0}) LineError) → WalksLines S K asked (pass_from job.first) pass' done source source' output output' covering
+  pub file_searched : (asked : FileAsked) → asked ≡ file_asked job covering.rules → (done : Result (Unit {0}) LineError) → WalksLines S K asked (pass_from job.first) pass' done source source' output output' covering
       → (done ≡ Ok tt) ⊎ HasToldAll job.shown pass' → (any : Bool) → EndsFile job pass'.selected (K.taken output') held' any → MarksFile job covering known (K.taken output) held' any
   file_searched asked same (Ok tt) walks (inl is) any ends_file = inl (file_whole asked same walks.whole any ends_file)
   file_searched asked same (Err error) walks (inl is) any ends_file = absurd (cc)

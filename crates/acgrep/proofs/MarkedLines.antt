@@ -17,7 +17,7 @@ use Rattle.secret_rules.specs.Visits.{AreFirstLines, BeginsVisiting, LeavesVisit
 use Rattle.secret_rules.specs.declared.error.LineError.{LineError}
 use Rattle.secret_rules.specs.declared.rule.Rule.{Rule}
 use Rattle.secret_rules.specs.declared.visitor.LineVisitor.{Ghosts as VisitorGhosts}
-use Rattle.acgrep.specs.Marked.{Asked, StopsMarked, WritesMarked, asked_of, marked_line, marked_lines, pass_after, pass_behind}
+use Rattle.acgrep.specs.Marked.{FileAsked, StopsMarked, WritesMarked, asked_of, marked_line, marked_lines, pass_after, pass_behind}
 use Rattle.acgrep.specs.MarkedFiles.{AreFirstGiven, WalksLines, seen_lines}
 use Rattle.acgrep.specs.declared.marked.Pass.{Pass}
 use Rattle.acgrep.specs.declared.marked.Task.{Task}
@@ -55,7 +55,7 @@ lines_append most [] line = refl
 lines_append most (one ∷ first) line = ap (λ l. seen_line most one.bytes ∷ l) (lines_append most first line)
 
 -- what is written of some lines and one more
-marked_append : (asked : Asked) (pass : Pass) (first : List (List ℕ)) (line : List ℕ) (more : List (List Occurrence)) (own : List Occurrence) → length first ≡ length more
+marked_append : (asked : FileAsked) (pass : Pass) (first : List (List ℕ)) (line : List ℕ) (more : List (List Occurrence)) (own : List Occurrence) → length first ≡ length more
     → marked_lines asked pass (first ++ line ∷ []) (more ++ own ∷ []) ≡ marked_lines asked pass first more ++ marked_line asked (pass_after pass first more).place line own
 marked_append asked pass [] line [] own same = append-nil (marked_line asked pass.place line own)
 marked_append asked pass [] line (runs ∷ more) own same = absurd (omega (arith, same))

@@ -9,7 +9,7 @@ use Rattle.secret_rules.specs.Lines.{stream_lines}
 use Rattle.programs.specs.Names.{is_input}
 use Rattle.programs.specs.Answers.{status_of}
 use Rattle.acgrep.specs.Files.{BeginsTotal, EndsFile, is_enough, known_of, nothing_seen, seen_after, status_by}
-use Rattle.acgrep.specs.MarkedFiles.{AreFilesMarked, AreMarkedOr, AreMarksBegun, BeginsInput, BeginsMarks, ComesName, HasMarked, MarksFile, MarksInput, MarksName, MarksNames, OneIsMarked}
+use Rattle.acgrep.specs.MarkedFiles.{AreFilesMarked, AreMarkedOr, AreMarksBegun, BeginsInput, BeginsMarks, ComesName, HasMarkedLine, MarksFile, MarksInput, MarksName, MarksNames, OneIsMarked}
 use Rattle.acgrep.specs.declared.files.Outcome.{Outcome}
 use Rattle.acgrep.specs.declared.files.Outcome.TheVariants.{Searched, Unread, Stopped}
 use Rattle.acgrep.specs.declared.files.Seen.{Seen}
@@ -76,7 +76,7 @@ module _ (job : Job) (covering : Covering) (holds : List ℕ → Option (List �
   }
 
 -- a file of which a line is selected has one
-has_one : (job : Job) (covering : Covering) (known held held' : Option (List ℕ)) → MarksFile job covering known held held' true → HasMarked job covering known
+has_one : (job : Job) (covering : Covering) (known held held' : Option (List ℕ)) → MarksFile job covering known held held' true → HasMarkedLine job covering known
 has_one job covering known held held' (inl whole) = record {
   lines = stream_lines whole.text;
   runs = whole.runs;
@@ -85,7 +85,7 @@ has_one job covering known held held' (inl whole) = record {
 }
 has_one job covering known held held' (inr told) = record { lines = told.lines; runs = told.runs; has = told.has; selected = told.selected }
 
-input_one : (job : Job) (covering : Covering) (again : Bool) (known held held' : Option (List ℕ)) → MarksInput job covering again known held held' true → HasMarked job covering known
+input_one : (job : Job) (covering : Covering) (again : Bool) (known held held' : Option (List ℕ)) → MarksInput job covering again known held held' true → HasMarkedLine job covering known
 input_one job covering true known held held' file = let clash : true ≡ false = file.is_any in absurd (cc)
 input_one job covering false known held held' file = has_one job covering known held held' file
 

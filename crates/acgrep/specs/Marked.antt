@@ -68,18 +68,22 @@ abbrev pub line_len : List ℕ → List Occurrence → ℕ
 line_len line runs = if length line == 0 then first_end runs else length line
 
 -- what is asked of a file: what is written of a selected line, what stands before it, and the rules
-pub record Asked : Type 0 where
+pub record FileAsked : Type 0 where
   pub shown : Shown
   pub style : Style
   pub rules : List Rule
 
-abbrev pub asked_of : Task → Asked
+abbrev pub asked_of : Task → FileAsked
 asked_of task = record { shown = task.shown; style = task.style; rules = task.rules.now }
 
 -- nothing is written of a line that is not selected, and of one that is too long
-abbrev pub marked_line : Asked → Place → List ℕ → List Occurrence → List ℕ
+abbrev pub marked_line : FileAsked → Place → List ℕ → List Occurrence → List ℕ
 marked_line asked place line runs =
     if (length runs == 0) || (length line == 0) then [] else marked_shown asked.shown asked.style asked.rules place line runs
+
+-- by what is asked of a file
+abbrev pub task_line : Task → Place → List ℕ → List Occurrence → List ℕ
+task_line task place line runs = marked_line (asked_of task) place line runs
 
 -- one more, if that is so; a count stays at the greatest number
 abbrev pub more_if : Bool → ℕ → ℕ
@@ -98,7 +102,7 @@ abbrev pub pass_after : Pass → List (List ℕ) → List (List Occurrence) → 
 pass_after pass (line ∷ lines) (runs ∷ more) = pass_after (pass_behind pass line runs) lines more
 pass_after pass lines runs = pass
 
-abbrev pub marked_lines : Asked → Pass → List (List ℕ) → List (List Occurrence) → List ℕ
+abbrev pub marked_lines : FileAsked → Pass → List (List ℕ) → List (List Occurrence) → List ℕ
 marked_lines asked pass (line ∷ lines) (runs ∷ more) = marked_line asked pass.place line runs ++ marked_lines asked (pass_behind pass line runs) lines more
 marked_lines asked pass lines runs = []
 

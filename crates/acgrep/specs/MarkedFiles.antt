@@ -18,7 +18,7 @@ use Rattle.secret_rules.specs.declared.error.LineError.{LineError}
 use Rattle.secret_rules.specs.declared.line_cover.LineCover.{LineCover}
 use Rattle.secret_rules.specs.declared.rule.Rule.{Rule}
 use Rattle.acgrep.specs.Files.{BeginsTotal, EndsFile, IfBroken, IfSearched, IsNamed, is_enough, known_of, shown_name, total_if}
-use Rattle.acgrep.specs.Marked.{Asked, marked_lines, pass_after}
+use Rattle.acgrep.specs.Marked.{FileAsked, marked_lines, pass_after}
 use Rattle.acgrep.specs.Written.{needs_one}
 use Rattle.acgrep.specs.declared.files.Outcome.{Outcome}
 use Rattle.acgrep.specs.declared.files.Seen.{Seen}
@@ -30,8 +30,8 @@ use Rattle.acgrep.specs.declared.print.Place.{Place}
 use Rattle.acgrep.specs.declared.select.Job.{Job}
 
 -- what is asked of the lines of a file, by these rules
-abbrev pub asked_by : Job → List Rule → Asked
-asked_by job rules = record { shown = job.shown; style = job.style; rules = rules }
+abbrev pub file_asked : Job → List Rule → FileAsked
+file_asked job rules = record { shown = job.shown; style = job.style; rules = rules }
 
 -- before its first line, which stands there
 abbrev pub pass_from : Place → Pass
@@ -47,7 +47,7 @@ seen_lines most lines = map (λ (line : Line). seen_line most line.bytes) lines
 
 -- what is written of the first lines of a file, which have these runs, and how many of them are selected
 abbrev pub file_marked : Job → Covering → List Line → List (List Occurrence) → List ℕ
-file_marked job covering lines runs = marked_lines (asked_by job covering.rules) (pass_from job.first) (seen_lines covering.most lines) runs
+file_marked job covering lines runs = marked_lines (file_asked job covering.rules) (pass_from job.first) (seen_lines covering.most lines) runs
 
 abbrev pub file_selected : Job → Covering → List Line → List (List Occurrence) → ℕ
 file_selected job covering lines runs = (pass_after (pass_from job.first) (seen_lines covering.most lines) runs).selected
@@ -101,7 +101,7 @@ pub record MarksBy {A : Type 0} (G : Automata A) (cover : LineCover A) (covering
   pub is : covering ≡ covering_by (words_of cover) (rules_of cover) (most_of cover) covering.patterns
 
 -- a line of a file is selected
-pub record HasMarked (job : Job) (covering : Covering) (known : Option (List ℕ)) : Type 0 where
+pub record HasMarkedLine (job : Job) (covering : Covering) (known : Option (List ℕ)) : Type 0 where
   pub lines : List Line
   pub runs : List (List Occurrence)
   pub has : HasFirst covering known lines runs
@@ -151,7 +151,7 @@ AreFilesMarked job covering holds left read (name ∷ names) held held' any =
 abbrev pub OneIsMarked : Job → Covering → (List ℕ → Option (List ℕ)) → (left : Option (List ℕ)) → List (List ℕ) → Type 0
 OneIsMarked job covering holds left [] = ⊥
 OneIsMarked job covering holds left (name ∷ names) =
-    ((named : Job) × IsNamed job (shown_name job.label.now name) false named × HasMarked named covering (known_of holds name left))
+    ((named : Job) × IsNamed job (shown_name job.label.now name) false named × HasMarkedLine named covering (known_of holds name left))
     ⊎ OneIsMarked job covering holds left names
 
 -- the files of these names were searched, and the status tells it; under `-q` that is all, even where others cannot be read
@@ -185,7 +185,7 @@ pub record SameMarking {A : Type 0} (one other : Marking A) : Type 0 where
   pub rules : other.rules ≡ one.rules
 
 -- the stream has ended, and what is asked of each of its lines was written, from how far a file was searched on
-pub record WalksGiven {R W : Type 0} (S : SourceGhosts R) (K : SinkGhosts W) (asked : Asked) (pass pass' : Pass) (source source' : R) (output output' : W) (covering : Covering) : Type 0 where
+pub record WalksGiven {R W : Type 0} (S : SourceGhosts R) (K : SinkGhosts W) (asked : FileAsked) (pass pass' : Pass) (source source' : R) (output output' : W) (covering : Covering) : Type 0 where
   pub text : List ℕ
   pub gives : SourceGave S source source' text true
   pub runs : List (List Occurrence)
@@ -199,7 +199,7 @@ pub record AreFirstGiven (covering : Covering) (given : List ℕ) (ended : Bool)
   pub first : (bytes : List ℕ) → MayBe given ended bytes → AreFirstLines lines (stream_lines bytes)
 
 -- the search came behind some first lines, and a beginning of what is asked of some first lines was written
-pub record BeginsGiven {R W : Type 0} (S : SourceGhosts R) (K : SinkGhosts W) (asked : Asked) (pass pass' : Pass) (source source' : R) (output output' : W) (covering : Covering) : Type 0 where
+pub record BeginsWalk {R W : Type 0} (S : SourceGhosts R) (K : SinkGhosts W) (asked : FileAsked) (pass pass' : Pass) (source source' : R) (output output' : W) (covering : Covering) : Type 0 where
   pub given : List ℕ
   pub ended : Bool
   pub gives : SourceGave S source source' given ended
@@ -215,10 +215,19 @@ pub record BeginsGiven {R W : Type 0} (S : SourceGhosts R) (K : SinkGhosts W) (a
   pub comes : pass' ≡ pass_after pass (seen_lines covering.most passed) own
 
 -- what comes of the lines of a source
-pub record WalksLines {R W : Type 0} (S : SourceGhosts R) (K : SinkGhosts W) (asked : Asked) (pass pass' : Pass) (result : Result (Unit {0}) LineError) (source source' : R) (output output' : W) (covering : Covering) : Type 0 where
+pub record WalksLines {R W : Type 0} (S : SourceGhosts R) (K : SinkGhosts W) (asked : FileAsked) (pass pass' : Pass) (result : Result (Unit {0}) LineError) (source source' : R) (output output' : W) (covering : Covering) : Type 0 where
   pub whole : OnOk result (WalksGiven S K asked pass pass' source source' output output' covering)
-  pub begun : BeginsGiven S K asked pass pass' source source' output output' covering
+  pub begun : BeginsWalk S K asked pass pass' source source' output output' covering
 
 -- what holds of all by which a cover marks lines
 abbrev pub IfMarks : {A : Type 0} → Automata A → LineCover A → (Covering → Type 0) → Type 0
 IfMarks G cover Holds = (covering : Covering) → MarksBy G cover covering → Holds covering
+
+-- what comes of a file of these bytes, whatever it marks by
+module _ {W A : Type 0} (G : Automata A) (K : SinkGhosts W) (marking : Marking A) (job : Job) where
+  abbrev pub MarksBytes : Option (List ℕ) → W → W → Outcome → Type 0
+  MarksBytes known output output' outcome = IfMarks G marking.cover (λ covering. ComesMarked job covering known (K.taken output) (K.taken output') outcome)
+
+  -- and of standard input
+  abbrev pub MarksAgain : (again : Bool) → Option (List ℕ) → W → W → Outcome → Type 0
+  MarksAgain again known output output' outcome = IfMarks G marking.cover (λ covering. ComesInput job covering again known (K.taken output) (K.taken output') outcome)

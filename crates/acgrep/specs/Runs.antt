@@ -41,18 +41,18 @@ abbrev pub IfSaid : {Z : Type 0} → List (Vec ℕ Z) → (Said → Type 0) → 
 IfSaid arguments Holds = (given : Said) → said_by (listed_bytes arguments) ≡ Some given → Holds given
 
 -- a search is asked for, and neither `--help` nor `--version`
-pub record Asks (given : Said) : Type 0 where
+pub record AsksAny (given : Said) : Type 0 where
   pub no_help : given.flags.help ≡ false
   pub no_version : given.flags.version ≡ false
 
 -- one by patterns, or one by rules, by options that go together
 pub record AsksToSearch (given : Said) : Type 0 where
-  pub asks : Asks given
+  pub asks : AsksAny given
   pub fits : unfit_said given ≡ None
   pub by_patterns : given.flags.by_rules ≡ false
 
 pub record AsksByRules (given : Said) : Type 0 where
-  pub asks : Asks given
+  pub asks : AsksAny given
   pub fits : unfit_said given ≡ None
   pub by_rules : given.flags.by_rules ≡ true
 

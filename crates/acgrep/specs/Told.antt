@@ -19,7 +19,7 @@ use Rattle.acgrep.specs.Files.{shown_name}
 use Rattle.acgrep.specs.Folders.{Known, Tree}
 use Rattle.acgrep.specs.Formats.{unknown_in}
 use Rattle.acgrep.specs.Rules.{RuleSaid, is_from_file}
-use Rattle.acgrep.specs.Runs.{AreReached, AreRules, names_by, origins_of, ruled, sources_by}
+use Rattle.acgrep.specs.Runs.{AreReached, AreRules, IsByPatterns, names_by, origins_of, ruled, sources_by}
 use Rattle.acgrep.specs.declared.arguments.Source.{Source}
 use Rattle.acgrep.specs.declared.arguments.Wrong.{Wrong}
 use Rattle.acgrep.specs.declared.arguments.Wrong.TheVariants.{NoPattern, UnknownLetter, NotFound, NoArgument, TakesNone, UnknownKind, UnknownColor, UnknownFolders, UnknownDevices, UnknownBinary, UnknownField, NoNumber}
@@ -210,6 +210,10 @@ names_said (Some said) =
 abbrev pub is_hushed : Option Said → Bool
 is_hushed None = false
 is_hushed (Some said) = said.flags.no_messages
+
+-- a call by patterns, where something is
+abbrev pub IsLoud : Option Said → Type 0
+IsLoud given = IsByPatterns given × (is_hushed given ≡ false)
 
 -- a line of a call may name a file that an operand names or that is below it, or what cannot be looked at or read
 pub record NamesReached (tree : Tree) (given : Said) (names : List (List ℕ)) (line : List ℕ) : Type 0 where

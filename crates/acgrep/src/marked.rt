@@ -4,7 +4,7 @@ ghost use Rattle.std.specs.Prelude.{◌≡◌, IfErr, OnErr, OnOk};
 ghost use Rattle.std.specs.Io.KnownBytes.{Appends};
 ghost use Rattle.aho_devices.specs.Counts.{AppendsBeginning};
 ghost use Rattle.secret_rules.specs.Visitors.{IsVisitRefusal};
-ghost use Rattle.acgrep.specs.Marked.{asked_of, is_marked, is_too_long, line_len, marked_line, more_if, pass_behind};
+ghost use Rattle.acgrep.specs.Marked.{is_marked, is_too_long, line_len, more_if, pass_behind, task_line};
 ghost use Rattle.acgrep.specs.Written.{needs_one};
 
 use crate::marking::put_marked;
@@ -138,9 +138,9 @@ fn write_marked<W: Sink>(
     runs: &[Match],
 ) -> Result<(), StreamError>
     ensures written { OnOk result (Appends (W.taken output.old) (W.taken output.new)
-        (marked_line (asked_of task.now) place line.now runs.now)) }
+        (task_line task.now place line.now runs.now)) }
     ensures begun { OnErr result (AppendsBeginning (W.taken output.old) (W.taken output.new)
-        (marked_line (asked_of task.now) place line.now runs.now)) }
+        (task_line task.now place line.now runs.now)) }
     ensures only { IfErr result IsVisitRefusal }
 {
     if runs.is_empty() || line.is_empty() {

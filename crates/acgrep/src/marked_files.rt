@@ -4,7 +4,7 @@ ghost use Rattle.std.specs.Prelude.{◌≡◌, ◌<◌, ◌≤◌, ◌||◌, fal
 ghost use Rattle.programs.specs.Names.{is_input, name_bytes, or_input};
 ghost use Rattle.programs.specs.Telling.{TellsSome};
 ghost use Rattle.acgrep.specs.Files.{BeginsTotal, EndsFile, IfBroken, IfSearched};
-ghost use Rattle.acgrep.specs.MarkedFiles.{AreMarkedOr, AreMarksBegun, ComesInput, ComesMarked, ComesName, IfMarks, IsMarking, MarksNames, SameMarking};
+ghost use Rattle.acgrep.specs.MarkedFiles.{AreMarkedOr, AreMarksBegun, ComesName, IfMarks, IsMarking, MarksAgain, MarksBytes, MarksNames, SameMarking};
 ghost use Rattle.acgrep.specs.Told.{TellsIf, TellsOfEnd, TellsOfOutcome, TellsOutcome, TellsStatus};
 ghost use Rattle.acgrep.specs.ToldByRules.{IsMarkTold};
 
@@ -170,8 +170,8 @@ fn mark_named<A: Automaton, F: Open, W: Sink, E: Sink>(
     errors: &mut Errors<'_, E>,
 ) -> Outcome
     requires ready { IsMarking A.Automaton marking.old }
-    ensures comes { IfMarks A.Automaton marking.old.cover (λ covering.
-        ComesMarked job.now covering (F.holds files.now name.now) (W.taken output.old) (W.taken output.new) result) }
+    ensures comes { MarksBytes A.Automaton W.Sink marking.old job.now (F.holds files.now name.now)
+        output.old output.new result }
     ensures read { marking.new.input_read ≡ marking.old.input_read }
     ensures told { TellsOutcome E.Sink IsMarkTold job.now.hushed result errors.old errors.new }
     ensures same { SameMarking marking.old marking.new }
@@ -203,8 +203,8 @@ fn mark_input<A: Automaton, F: Open, R: Read, W: Sink, E: Sink>(
     errors: &mut Errors<'_, E>,
 ) -> Outcome
     requires ready { IsMarking A.Automaton marking.old }
-    ensures comes { IfMarks A.Automaton marking.old.cover (λ covering.
-        ComesInput job.now covering again (R.remaining input.old) (W.taken output.old) (W.taken output.new) result) }
+    ensures comes { MarksAgain A.Automaton W.Sink marking.old job.now again (R.remaining input.old)
+        output.old output.new result }
     ensures read { marking.new.input_read ≡ marking.old.input_read }
     ensures told { TellsOutcome E.Sink IsMarkTold job.now.hushed result errors.old errors.new }
     ensures same { SameMarking marking.old marking.new }
@@ -235,8 +235,8 @@ fn mark_reader<A: Automaton, R: Read + Drop, W: Sink, E: Sink>(
     errors: &mut Errors<'_, E>,
 ) -> Outcome
     requires ready { IsMarking A.Automaton marking.old }
-    ensures comes { IfMarks A.Automaton marking.old.cover (λ covering.
-        ComesMarked job.now covering (R.remaining reader) (W.taken output.old) (W.taken output.new) result) }
+    ensures comes { MarksBytes A.Automaton W.Sink marking.old job.now (R.remaining reader)
+        output.old output.new result }
     ensures read { marking.new.input_read ≡ marking.old.input_read }
     ensures told { TellsOutcome E.Sink IsMarkTold job.now.hushed result errors.old errors.new }
     ensures same { SameMarking marking.old marking.new }

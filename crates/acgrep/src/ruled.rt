@@ -1,18 +1,17 @@
 //! A call by rules: the lines are selected in which they mark something.
 
 ghost use Rattle.std.specs.Prelude.{◌≡◌, ◌<◌, ◌≤◌, IfOk, false, true};
-ghost use Rattle.programs.specs.Names.{name_bytes};
 ghost use Rattle.programs.specs.Telling.{TellsBytes};
 ghost use Rattle.secret_rules.specs.Covering.{covering_by};
 ghost use Rattle.secret_rules.specs.Ready.{CanCoverLines, rules_of};
 ghost use Rattle.acgrep.specs.Arguments.{said, shown_by};
 ghost use Rattle.acgrep.specs.Folders.{known_by};
-ghost use Rattle.acgrep.specs.MarkedFiles.{IfMarks, IsMarking, MarksBy};
+ghost use Rattle.acgrep.specs.MarkedFiles.{IsMarking, MarksBy};
 ghost use Rattle.acgrep.specs.Runs.{asks_to_look};
 ghost use Rattle.acgrep.specs.Told.{TellsStatus};
 ghost use Rattle.acgrep.specs.ToldByRules.{IsMarkTold};
 ghost use Rattle.acgrep.specs.declared.options.Shown.TheVariants.{Nothing};
-ghost use Rattle.acgrep.specs.RunsByRules.{BeginsByRules, MarksAsked, MarksReached, MarksRuled, MayBeginAsked, MayBeginMarks, MayReachMarked, ReachesMarked, unwritten_line, long_message, most_said, no_patterns};
+ghost use Rattle.acgrep.specs.RunsByRules.{BeginsByRules, BeginsMarking, MarksAsked, MarksReached, MarksRuled, MayBeginAsked, MayBeginMarks, SearchesMarking, unwritten_line, long_message, most_said, no_patterns};
 
 use crate::arguments::Given;
 use crate::below::{are_several, asks_to_look, reach, slices_of, status_below, tell_each};
@@ -187,12 +186,10 @@ fn mark_operands<A: Automaton, F: Open + Folders, R: Read, W: Sink, E: Sink>(
     requires ready { IsMarking A.Automaton marking.old }
     requires unread { marking.old.input_read ≡ false }
     ensures bound { result ≤ 2 }
-    ensures searched { IfMarks A.Automaton marking.old.cover (λ covering. result < 2
-        → ReachesMarked (known_by F.Open F.Folders operands.now.files.now) screen.now (said given.now) covering
-        (name_bytes operands.now.names.now) (R.remaining input.old) (W.taken output.old) (W.taken output.new) result) }
-    ensures begun { IfMarks A.Automaton marking.old.cover (λ covering.
-        MayReachMarked (known_by F.Open F.Folders operands.now.files.now) screen.now (said given.now) covering
-        (name_bytes operands.now.names.now) (R.remaining input.old) (W.taken output.old) (W.taken output.new)) }
+    ensures searched { SearchesMarking F.Open F.Folders R.Read W.Sink A.Automaton operands.now.files.now
+        marking.old screen.now (said given.now) operands.now.names.now input.old output.old output.new result }
+    ensures begun { BeginsMarking F.Open F.Folders R.Read W.Sink A.Automaton operands.now.files.now
+        marking.old screen.now (said given.now) operands.now.names.now input.old output.old output.new }
     ensures told { TellsStatus E.Sink IsMarkTold given.now.flags.no_messages (shown_by given.now.flags)
         result errors.old errors.new }
 {
@@ -217,12 +214,10 @@ fn mark_below<A: Automaton, F: Open + Folders, R: Read, W: Sink, E: Sink>(
     requires unread { marking.old.input_read ≡ false }
     requires looks { asks_to_look (said given.now) ≡ true }
     ensures bound { result ≤ 2 }
-    ensures searched { IfMarks A.Automaton marking.old.cover (λ covering. result < 2
-        → ReachesMarked (known_by F.Open F.Folders operands.now.files.now) screen.now (said given.now) covering
-        (name_bytes operands.now.names.now) (R.remaining input.old) (W.taken output.old) (W.taken output.new) result) }
-    ensures begun { IfMarks A.Automaton marking.old.cover (λ covering.
-        MayReachMarked (known_by F.Open F.Folders operands.now.files.now) screen.now (said given.now) covering
-        (name_bytes operands.now.names.now) (R.remaining input.old) (W.taken output.old) (W.taken output.new)) }
+    ensures searched { SearchesMarking F.Open F.Folders R.Read W.Sink A.Automaton operands.now.files.now
+        marking.old screen.now (said given.now) operands.now.names.now input.old output.old output.new result }
+    ensures begun { BeginsMarking F.Open F.Folders R.Read W.Sink A.Automaton operands.now.files.now
+        marking.old screen.now (said given.now) operands.now.names.now input.old output.old output.new }
     ensures told { TellsStatus E.Sink IsMarkTold given.now.flags.no_messages (shown_by given.now.flags)
         result errors.old errors.new }
 {

@@ -9,12 +9,11 @@ ghost use Rattle.acgrep.specs.Arguments.{said, said_by};
 ghost use Rattle.acgrep.specs.Beside.{unfit_said};
 ghost use Rattle.programs.specs.Names.{name_bytes};
 ghost use Rattle.programs.specs.Telling.{Tells, TellsBytes, TellsSome};
-ghost use Rattle.acgrep.specs.Told.{MaySaid, MayTell, TellsCause, TellsOfCall, TellsOfSaid, TellsOfSearch, TellsOfText, TellsRefusal, TellsStatus, is_hushed};
-ghost use Rattle.acgrep.specs.ToldByRules.{IsMarkTold};
-ghost use Rattle.acgrep.specs.declared.options.Shown.TheVariants.{Nothing};
+ghost use Rattle.acgrep.specs.Told.{MaySaid, MayTell, TellsCause, TellsOfCall, TellsOfSaid, TellsOfSearch, TellsOfText, IsLoud, TellsRefusal};
+ghost use Rattle.acgrep.specs.ToldByRules.{IsMarkTold, TellsByRules};
 ghost use Rattle.acgrep.specs.Mistakes.{TellsLacking, TellsMistake, TellsNoPattern, TellsRefused, TellsUnfit};
 ghost use Rattle.acgrep.specs.Folders.{known_by, tree_of};
-ghost use Rattle.acgrep.specs.Runs.{Asks, AsksByRules, AsksToSearch, BeginsNoMatch, BeginsSaid, BeginsSearch, BeginsFor, GivesNone, IfSaid, IsByPatterns, IsJob, Searches, SearchesFor, SearchesRuled, SearchesSaid, WritesNoMatch, are_empty, asks_none, form_asked, form_said, inverts, is_colored, kind_sought, knows_none, lists_finds, origins_of, ruled, selects_none, status_told, takes_any, words_sought};
+ghost use Rattle.acgrep.specs.Runs.{AsksAny, AsksByRules, AsksToSearch, BeginsNoMatch, BeginsSaid, BeginsSearch, BeginsFor, GivesNone, IfSaid, IsByPatterns, IsJob, Searches, SearchesFor, SearchesRuled, SearchesSaid, WritesNoMatch, are_empty, asks_none, form_asked, form_said, inverts, is_colored, kind_sought, knows_none, lists_finds, origins_of, ruled, selects_none, status_told, takes_any, words_sought};
 ghost use Rattle.acgrep.specs.Rules.{rules_said};
 ghost use Rattle.acgrep.specs.RunsByRules.{BeginsByRules, SearchesByRules};
 
@@ -67,8 +66,8 @@ pub fn run<F: Open + Folders, R: Read, W: Sink, E: Sink>(
         → Keeps (W.taken output.old) (W.taken output.new) }
 
     // Options that do not go together are told.
-    ensures unfit { IfSaid arguments.now (λ said. Asks said → IfSome (unfit_said said) (λ line. result ≡ 2)) }
-    ensures unfitting { IfSaid arguments.now (λ said. Asks said → IfSome (unfit_said said)
+    ensures unfit { IfSaid arguments.now (λ said. AsksAny said → IfSome (unfit_said said) (λ line. result ≡ 2)) }
+    ensures unfitting { IfSaid arguments.now (λ s. AsksAny s → IfSome (unfit_said s)
         (λ line. TellsUnfit E.Sink line errors.old errors.new)) }
 
     // A search needs a pattern, and where there is none that is told.
@@ -103,10 +102,9 @@ pub fn run<F: Open + Folders, R: Read, W: Sink, E: Sink>(
     ensures tells { IsByPatterns (said_by (listed_bytes arguments.now))
         → Tells E.Sink (MaySaid (known_by F.Open F.Folders files.now) (R.remaining input.old)
         (said_by (listed_bytes arguments.now))) errors.old errors.new }
-    ensures silent { IfSaid arguments.now (λ said. IsByPatterns (Some said) → said.flags.quiet ≡ false
+    ensures silent { IfSaid arguments.now (λ s. IsByPatterns (Some s) → s.flags.quiet ≡ false
         → result < 2 → errors.new ≡ errors.old) }
-    ensures says_why { IsByPatterns (said_by (listed_bytes arguments.now))
-        → is_hushed (said_by (listed_bytes arguments.now)) ≡ false → result ≡ 2
+    ensures says_why { IsLoud (said_by (listed_bytes arguments.now)) → result ≡ 2
         → TellsSome E.Sink (MaySaid (known_by F.Open F.Folders files.now) (R.remaining input.old)
         (said_by (listed_bytes arguments.now))) errors.old errors.new }
 
@@ -193,8 +191,8 @@ fn answer<F: Open + Folders, R: Read, W: Sink, E: Sink>(
     ensures begins { AsksToSearch (said given.entry)
         → BeginsSearch (known_by F.Open F.Folders files.now) screen.now (said given.entry)
         (R.remaining input.old) (W.taken output.old) (W.taken output.new) }
-    ensures unfit { Asks (said given.entry) → IfSome (unfit_said (said given.entry)) (λ line. result ≡ 2) }
-    ensures unfitting { Asks (said given.entry) → IfSome (unfit_said (said given.entry))
+    ensures unfit { AsksAny (said given.entry) → IfSome (unfit_said (said given.entry)) (λ line. result ≡ 2) }
+    ensures unfitting { AsksAny (said given.entry) → IfSome (unfit_said (said given.entry))
         (TellsBytes E.Sink errors.old errors.new) }
     ensures marks { AsksByRules (said given.entry) → result < 2
         → SearchesByRules (known_by F.Open F.Folders files.now) screen.now (said given.entry)
@@ -203,7 +201,7 @@ fn answer<F: Open + Folders, R: Read, W: Sink, E: Sink>(
         → BeginsByRules (known_by F.Open F.Folders files.now) screen.now (said given.entry)
         (R.remaining input.old) (W.taken output.old) (W.taken output.new) }
     ensures told_marks { AsksByRules (said given.entry)
-        → TellsStatus E.Sink IsMarkTold given.entry.flags.no_messages Nothing result errors.old errors.new }
+        → TellsByRules E.Sink (said given.entry) result errors.old errors.new }
     ensures told { IsByPatterns (Some (said given.entry))
         → TellsOfCall E.Sink (known_by F.Open F.Folders files.now) (R.remaining input.old)
         (said given.entry) result errors.old errors.new }

@@ -1,7 +1,7 @@
 -- What comes of the lines, and then what is asked of the file as a whole.
 use Rattle.std.proofs.Common.{◌≢◌, ◌∙◌, ap, refl, sym}
 use Rattle.programs.proofs.Ends.{at_end}
-use Rattle.acgrep.specs.MarkedFiles.{asked_by}
+use Rattle.acgrep.specs.MarkedFiles.{file_asked}
 use Rattle.acgrep.proofs.FileTellings.{if_searched}
 use Rattle.acgrep.proofs.FilesBegun.{if_broken, total_none}
 use Rattle.acgrep.proofs.FilesMarked.{broken_of, covering_rules, file_part, file_searched}
@@ -12,7 +12,7 @@ pub returns-in-None-clause-comes : goal.returns-in-None-clause-comes
 returns-in-None-clause-comes g c = λ covering by.
     let came = c.mark_source-came.result in
     let walks = c.mark_source-came.ensures.walks covering by in
-    let asked = ap (asked_by c.args.job.now) (sym (covering_rules g.A.Automaton c.args.marking.now.cover covering c.args.marking.now.rules.now by c.requires.ready.rules)) in
+    let asked = ap (file_asked c.args.job.now) (sym (covering_rules g.A.Automaton c.args.marking.now.cover covering c.args.marking.now.rules.now by c.requires.ready.rules)) in
     let left = c.new-source.ensures.remaining ∙ ap g.R.Read.remaining c.new.ensures.reader in
     let ends = λ (some : c.mark_source-came.new.source.empty_reads ≢ 0). at_end _ (λ bytes known. c.mark_source-came.new.source.ended bytes some known) in
     record {
@@ -26,7 +26,7 @@ pub returns-in-Some-Rule-clause-comes : goal.returns-in-Some-Rule-clause-comes
 returns-in-Some-Rule-clause-comes g c = λ covering by.
     let came = c.mark_source-came.result in
     let walks = c.mark_source-came.ensures.walks covering by in
-    let asked = ap (asked_by c.args.job.now) (sym (covering_rules g.A.Automaton c.args.marking.now.cover covering c.args.marking.now.rules.now by c.requires.ready.rules)) in
+    let asked = ap (file_asked c.args.job.now) (sym (covering_rules g.A.Automaton c.args.marking.now.cover covering c.args.marking.now.rules.now by c.requires.ready.rules)) in
     let left = c.new-source.ensures.remaining ∙ ap g.R.Read.remaining c.new.ensures.reader in
     let ends = λ (some : c.mark_source-came.new.source.empty_reads ≢ 0). at_end _ (λ bytes known. c.mark_source-came.new.source.ended bytes some known) in
     record {
@@ -39,7 +39,7 @@ pub returns-clause-comes : goal.returns-clause-comes
 returns-clause-comes g c = λ covering by.
     let came = c.mark_source-came.result in
     let walks = c.mark_source-came.ensures.walks covering by in
-    let asked = ap (asked_by c.args.job.now) (sym (covering_rules g.A.Automaton c.args.marking.now.cover covering c.args.marking.now.rules.now by c.requires.ready.rules)) in
+    let asked = ap (file_asked c.args.job.now) (sym (covering_rules g.A.Automaton c.args.marking.now.cover covering c.args.marking.now.rules.now by c.requires.ready.rules)) in
     let left = c.new-source.ensures.remaining ∙ ap g.R.Read.remaining c.new.ensures.reader in
     let ends = λ (some : c.mark_source-came.new.source.empty_reads ≢ 0). at_end _ (λ bytes known. c.mark_source-came.new.source.ended bytes some known) in
     record {

@@ -2,7 +2,7 @@
 use Rattle.std.proofs.Common.{[], false, ◌||◌, ◌≡◌, ◌<◌, ◌≤◌, ◌∙◌, List, Option, Some, ap, ℕ, inl, inr, arith, subst, sym}
 use Rattle.acgrep.specs.Arguments.{Said, said, said_by, shown_by}
 use Rattle.acgrep.specs.Beside.{unfit_said}
-use Rattle.acgrep.specs.Runs.{Asks, AsksByRules, AsksToSearch, BeginsSearch, GivesNone, IsByPatterns, Searches}
+use Rattle.acgrep.specs.Runs.{AsksAny, AsksByRules, AsksToSearch, BeginsSearch, GivesNone, IsByPatterns, Searches}
 use Rattle.acgrep.specs.RunsByRules.{BeginsByRules, SearchesByRules}
 use Rattle.acgrep.proofs.MarksKept.{begun_by_rules, by_rules_kept}
 use Rattle.acgrep.proofs.Kept.{ruled_kept, same_said, search_held}
@@ -72,8 +72,9 @@ returns-in-Ok-clause-tells g c = λ by.
     subst (λ (given : Option Said). Tells g.E.Sink (MaySaid known left given) c.args.errors.now c.finish.new.errors) (sym c.in-Ok.ensures.read) told.tells
 
 pub returns-in-Ok-clause-says_why : goal.returns-in-Ok-clause-says_why
-returns-in-Ok-clause-says_why g c = λ by asked failed.
-    let by' = subst IsByPatterns c.in-Ok.ensures.read by in
+returns-in-Ok-clause-says_why g c = λ loud failed.
+    let by' = subst IsByPatterns c.in-Ok.ensures.read loud.0 in
+    let asked = loud.1 in
     let names = names_said (Some (said c.in-Ok.given)) in
     let known = known_by g.F.Open g.F.Folders c.args.files.now in
     let left = g.R.Read.remaining c.args.input.now in
@@ -106,7 +107,7 @@ returns-in-Err-clause-tells g c = λ by.
     (some-weaker g.E.Sink (MayTell (names_said given)) (MaySaid known left given) c.args.errors.now c.tell_refused.new.errors (told-said known left given) (c.tell_refused.ensures.told (names_said given))))
 
 pub returns-in-Err-clause-says_why : goal.returns-in-Err-clause-says_why
-returns-in-Err-clause-says_why g c = λ by asked failed.
+returns-in-Err-clause-says_why g c = λ loud failed.
     let given = said_by (listed_bytes c.args.arguments.now) in
     let known = known_by g.F.Open g.F.Folders c.args.files.now in
     let left = g.R.Read.remaining c.args.input.now in
@@ -172,12 +173,12 @@ returns-in-Ok-clause-unfit g c given is asks =
     let same : said c.in-Ok.given ≡ given = same_said (said_by (listed_bytes c.args.arguments.now)) given (said c.in-Ok.given) is c.in-Ok.ensures.read in
     subst (λ (s : Said). IfSome (unfit_said s) (λ (line : List ℕ). c.finish.result ≡ 2)) same
     (some_more (unfit_said (said c.in-Ok.given)) (λ (line : List ℕ). c.answer-status.result ≡ 2) (λ (line : List ℕ). c.finish.result ≡ 2)
-    (λ line two. elim c.finish.ensures.status [ inl kept ↦ kept ∙ two | inr failed ↦ failed ]) (c.answer-status.ensures.unfit (subst Asks (sym same) asks)))
+    (λ line two. elim c.finish.ensures.status [ inl kept ↦ kept ∙ two | inr failed ↦ failed ]) (c.answer-status.ensures.unfit (subst AsksAny (sym same) asks)))
 
 pub returns-in-Ok-clause-unfitting : goal.returns-in-Ok-clause-unfitting
 returns-in-Ok-clause-unfitting g c given is asks =
     let same : said c.in-Ok.given ≡ given = same_said (said_by (listed_bytes c.args.arguments.now)) given (said c.in-Ok.given) is c.in-Ok.ensures.read in
-    let asks' = subst Asks (sym same) asks in
+    let asks' = subst AsksAny (sym same) asks in
     subst (λ (s : Said). IfSome (unfit_said s) (λ (line : List ℕ). TellsUnfit g.E.Sink line c.args.errors.now c.finish.new.errors)) same
     (some_both (unfit_said (said c.in-Ok.given)) (λ (line : List ℕ). c.answer-status.result ≡ 2) (TellsBytes g.E.Sink c.args.errors.now c.answer-status.new.errors)
     (λ (line : List ℕ). TellsUnfit g.E.Sink line c.args.errors.now c.finish.new.errors)
