@@ -34,10 +34,10 @@ pub use aho_corasick::noncontiguous::Limits;
 pub use aho_core::error::{
     BuildError, Fault, MatchError, MatchErrorKind, ReplaceError, StreamError,
 };
-pub use aho_core::search::{Anchored, Input, Match, MatchKind, PatternID, Span};
+pub use aho_core::search::{Anchored, Input, Match, MatchKind, PatternID, Span, StateID};
 pub use aho_devices::adapters::{FromRead, FromWrite};
 pub use aho_devices::device::{Sink, Source};
-pub use aho_devices::write::write_whole;
+pub use aho_devices::write::{Nowhere, write_whole};
 pub use aho_prefilter::text::{Bytes, Text};
 pub use aho_stream::progress::{StreamPiece, StreamProgress};
 pub use backward::Backward;
