@@ -5,11 +5,11 @@ use Rattle.std.specs.Str.{bytes_eq}
 use Rattle.std.specs.declared.io.traits.Write.{Ghosts as Writers}
 use Rattle.aho_devices.specs.Counts.{AppendsBeginning}
 use Rattle.aho_devices.specs.declared.adapters.FromWrite.{FromWrite}
-use Rattle.programs.specs.Arguments.{find_by}
-use Rattle.programs.specs.Asked.{Asked}
-use Rattle.programs.specs.Failures.{LeavesPrinting}
-use Rattle.programs.specs.Streams.{output_bytes}
-use Rattle.programs.specs.declared.failure.Failure.{Failure}
+use Rattle.tool_parts.specs.Arguments.{find_by}
+use Rattle.tool_parts.specs.Asked.{Asked}
+use Rattle.tool_parts.specs.Failures.{LeavesPrinting}
+use Rattle.tool_parts.specs.Streams.{output_bytes}
+use Rattle.tool_parts.specs.declared.failure.Failure.{Failure}
 
 -- [-u] KIND [-i] PATTERN..: the automaton that is drawn
 abbrev pub drawing_by : List (List ℕ) → Option Asked

@@ -12,14 +12,14 @@ mod text;
 
 ghost use Rattle.std.specs.Prelude.{◌≡◌, ◌≤◌, None, IfOk, IfErr, OnErr};
 ghost use Rattle.std.specs.Process.{exit_status};
-ghost use Rattle.programs.specs.Arguments.{texts};
-ghost use Rattle.programs.specs.Failures.{status_of_failure};
-ghost use Rattle.programs.specs.Streams.{output_bytes};
+ghost use Rattle.tool_parts.specs.Arguments.{texts};
+ghost use Rattle.tool_parts.specs.Failures.{status_of_failure};
+ghost use Rattle.tool_parts.specs.Streams.{output_bytes};
 ghost use Rattle.acdraw.specs.Calls.{Draws, drawing_by};
 
 use aho_devices::adapters::FromWrite;
-use programs::arguments::arguments;
-use programs::failure::Failure;
+use tool_parts::arguments::arguments;
+use tool_parts::failure::Failure;
 use run::{run, tell};
 use std::alloc::Global;
 use std::io::Write;

@@ -1,21 +1,21 @@
 //! A call of the program over its arguments and streams.
 
 ghost use Rattle.std.specs.Prelude.{◌≡◌, ◌≢◌, ◌≤◌, ◌⊎◌, true, None, Some, IfOk, IfErr, IfSome, OnOk, option_map};
-ghost use Rattle.programs.specs.Answers.{TellsFailure, TellsLine};
-ghost use Rattle.programs.specs.Arguments.{texts};
-ghost use Rattle.programs.specs.Asked.{Asked, Builds, asked_for};
-ghost use Rattle.programs.specs.Failures.{status_of_failure};
-ghost use Rattle.programs.specs.Streams.{WritesBeginning, output_bytes};
-ghost use Rattle.programs.specs.declared.failure.Failure.TheVariants.{Usage};
+ghost use Rattle.tool_parts.specs.Answers.{TellsFailure, TellsLine};
+ghost use Rattle.tool_parts.specs.Arguments.{texts};
+ghost use Rattle.tool_parts.specs.Asked.{Asked, Builds, asked_for};
+ghost use Rattle.tool_parts.specs.Failures.{status_of_failure};
+ghost use Rattle.tool_parts.specs.Streams.{WritesBeginning, output_bytes};
+ghost use Rattle.tool_parts.specs.declared.failure.Failure.TheVariants.{Usage};
 ghost use Rattle.acdraw.specs.Calls.{Draws, LeavesDrawing, drawing_by, draws_anchored, usage_line};
 
 use crate::dot::dot_of;
 use crate::picture::picture_of;
 use aho_devices::adapters::FromWrite;
-use programs::command::{Request, parse_find};
-use programs::failure::Failure;
-use programs::print::write_whole;
-use programs::run::{build, report};
+use tool_parts::command::{Request, parse_find};
+use tool_parts::failure::Failure;
+use tool_parts::print::write_whole;
+use tool_parts::run::{build, report};
 use std::alloc::Global;
 use std::io::Write;
 

@@ -12,19 +12,19 @@
 
 ghost use Rattle.std.specs.Prelude.{◌≡◌, ◌<◌, ◌≤◌, IfErr, OnErr, OnOk, true};
 ghost use Rattle.std.specs.Process.{exit_status};
-ghost use Rattle.programs.specs.Answers.{PrintsIfDone, TellsIfFailed, TellsLine, WritesIfDone};
-ghost use Rattle.programs.specs.Arguments.{IfGivenAsked, IfGivenReplacing, IfGivenWrong};
-ghost use Rattle.programs.specs.Failures.{HasStatus};
-ghost use Rattle.programs.specs.Streams.{NoFaults, Unread, Unwritten};
+ghost use Rattle.tool_parts.specs.Answers.{PrintsIfDone, TellsIfFailed, TellsLine, WritesIfDone};
+ghost use Rattle.tool_parts.specs.Arguments.{IfGivenAsked, IfGivenReplacing, IfGivenWrong};
+ghost use Rattle.tool_parts.specs.Failures.{HasStatus};
+ghost use Rattle.tool_parts.specs.Streams.{NoFaults, Unread, Unwritten};
 
-use aho_devices::adapters::{FromRead, FromWrite};
-use programs::arguments::arguments;
-use programs::failure::Failure;
-use programs::run::{report, run};
-use programs::unopened::fill_closed;
+use chromesquid::{FromRead, FromWrite};
 use std::alloc::Global;
 use std::io::{BufWriter, Read, Write};
 use std::process::ExitCode;
+use tool_parts::arguments::arguments;
+use tool_parts::failure::Failure;
+use tool_parts::run::{report, run};
+use tool_parts::unopened::fill_closed;
 
 /// How many bytes of output are kept before they are written.
 const OUTPUT_CAPACITY: usize = 64 * 1024;

@@ -5,7 +5,7 @@ use Rattle.std.specs.Io.KnownBytes.{Appends, Consumes, IsAtEnd}
 use Rattle.std.proofs.KnownBytes.{Appends-trans}
 use Rattle.std.proofs.lemmas.Bool.{cases_Bool, lt-ltb, ltb-false, ltb-true}
 use Rattle.aho_core.specs.Patterns.{Patterns}
-use Rattle.programs.specs.Names.{is_input}
+use Rattle.tool_parts.specs.Names.{is_input}
 use Rattle.acgrep.specs.Binary.{TellsGuarded, is_guarded, lines_by, lines_sought, takes_text}
 use Rattle.acgrep.specs.Contexts.{IsBegin, SearchesIn, TellsFile, TellsIn, around_by, around_of, walk_of}
 use Rattle.acgrep.specs.Files.{EndsFile, IfSearched, IsNamed, IsRead, SearchesFile, SearchesName, SearchesReader, TellsBy, TellsSearched, count_if, known_of, shown_name, total_if}

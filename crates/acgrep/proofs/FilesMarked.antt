@@ -17,7 +17,7 @@ use Rattle.secret_rules.specs.Ready.{CanCoverLines, CoversTheSame, most_of, rule
 use Rattle.secret_rules.specs.declared.error.LineError.{LineError}
 use Rattle.secret_rules.specs.declared.line_cover.LineCover.{LineCover}
 use Rattle.secret_rules.specs.declared.rule.Rule.{Rule}
-use Rattle.programs.specs.Names.{is_input}
+use Rattle.tool_parts.specs.Names.{is_input}
 use Rattle.acgrep.specs.Files.{BeginsTotal, EndsFile, IfBroken, IfSearched, IsNamed, known_of, shown_name, total_if}
 use Rattle.acgrep.specs.Marked.{FileAsked, marked_shown, marked_line, marked_lines, pass_behind}
 use Rattle.acgrep.specs.MarkedFiles.{AreFirstGiven, BeginsWalk, BeginsInput, BeginsMarks, ComesInput, ComesMarked, ComesName, HasFirst, HasToldAll, MarksBy, MarksFile, MarksInput, MarksText, TellsAll, WalksGiven, WalksLines, file_asked, file_marked, file_selected, pass_from, seen_lines}

@@ -4,7 +4,7 @@ use Rattle.std.specs.Prelude.{◌||◌, MatchBool}
 use Rattle.std.specs.Io.KnownBytes.{Keeps}
 use Rattle.std.proofs.KnownBytes.{Keeps-trans}
 use Rattle.secret_rules.specs.Covering.{Covering}
-use Rattle.programs.specs.Names.{is_input}
+use Rattle.tool_parts.specs.Names.{is_input}
 use Rattle.acgrep.specs.Arguments.{Said}
 use Rattle.acgrep.specs.Files.{is_enough}
 use Rattle.acgrep.specs.Folders.{Known}

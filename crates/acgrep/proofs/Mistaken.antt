@@ -1,8 +1,8 @@
 -- What a refusal tells is the first mistake, or that memory ran out.
 use Rattle.std.proofs.Common.{◌≡◌, inl, inr, sym, ◌∙◌, List, ℕ, Option, None, Some}
 use Rattle.aho_devices.specs.declared.device.Sink.{Ghosts as SinkGhosts}
-use Rattle.programs.specs.Telling.{TellsBytes}
-use Rattle.programs.specs.declared.errors.Errors.{Errors}
+use Rattle.tool_parts.specs.Telling.{TellsBytes}
+use Rattle.tool_parts.specs.declared.errors.Errors.{Errors}
 use Rattle.acgrep.specs.Arguments.{AreRefused, Said}
 use Rattle.acgrep.specs.Mistakes.{IsFirstMistake, TellsLacking, TellsMistake, TellsRefused, memory_line}
 use Rattle.acgrep.specs.Told.{wrong_parts}

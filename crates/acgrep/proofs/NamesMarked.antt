@@ -6,8 +6,8 @@ use Rattle.std.proofs.KnownBytes.{Keeps-refl}
 use Rattle.std.proofs.lemmas.Bool.{cases_Bool}
 use Rattle.secret_rules.specs.Covering.{Covering}
 use Rattle.secret_rules.specs.Lines.{stream_lines}
-use Rattle.programs.specs.Names.{is_input}
-use Rattle.programs.specs.Answers.{status_of}
+use Rattle.tool_parts.specs.Names.{is_input}
+use Rattle.tool_parts.specs.Answers.{status_of}
 use Rattle.acgrep.specs.Files.{BeginsTotal, EndsFile, is_enough, known_of, nothing_seen, seen_after, status_by}
 use Rattle.acgrep.specs.MarkedFiles.{AreFilesMarked, AreMarkedOr, AreMarksBegun, BeginsInput, BeginsMarks, ComesName, HasMarkedLine, MarksFile, MarksInput, MarksName, MarksNames, OneIsMarked}
 use Rattle.acgrep.specs.declared.files.Outcome.{Outcome}

@@ -6,8 +6,8 @@ use Rattle.std.proofs.Math.ListN.{get_or}
 use Rattle.std.proofs.lemmas.Bool.{cases_Bool}
 use Rattle.std.proofs.lemmas.List.{take_all}
 use Rattle.aho_core.specs.Patterns.{Patterns}
-use Rattle.programs.specs.Names.{name_bytes, or_input}
-use Rattle.programs.specs.Answers.{status_of}
+use Rattle.tool_parts.specs.Names.{name_bytes, or_input}
+use Rattle.tool_parts.specs.Answers.{status_of}
 use Rattle.acgrep.specs.Binary.{is_guarded, lines_sought}
 use Rattle.acgrep.specs.Files.{AreFilesBegun, AreFilesSearched, AreSearchedOr, BeginsName, HasSelected, IfBroken, IfSearched, IsNamed, LeavesInput, OneIsSelected, SearchesName, SearchesNames, is_enough, known_of, nothing_seen, seen_after, shown_name, status_by}
 use Rattle.acgrep.specs.Written.{IsSelected, SomeLine}

@@ -6,9 +6,9 @@ use Rattle.std.proofs.KnownBytes.{Appends-kept, Appends-nil, Keeps-refl}
 use Rattle.std.proofs.lemmas.Bool.{cases_Bool}
 use Rattle.aho_devices.specs.Counts.{AppendsBeginning}
 use Rattle.aho_devices.specs.declared.device.Sink.{Ghosts as SinkGhosts}
-use Rattle.programs.proofs.Beginnings.{beginning-kept}
-use Rattle.programs.specs.Telling.{TellsSome}
-use Rattle.programs.specs.declared.errors.Errors.{Errors}
+use Rattle.tool_parts.proofs.Beginnings.{beginning-kept}
+use Rattle.tool_parts.specs.Telling.{TellsSome}
+use Rattle.tool_parts.specs.declared.errors.Errors.{Errors}
 use Rattle.acgrep.specs.Arguments.{asks_counts, ending_by}
 use Rattle.acgrep.specs.Runs.{BeginsCounts, BeginsNoMatch, Counts, OrBeginsCounts, OrCounts, WritesNoMatch}
 use Rattle.acgrep.specs.Tallies.{counts_table}

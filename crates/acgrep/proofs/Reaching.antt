@@ -5,10 +5,10 @@ use Rattle.std.specs.Borrow.{Bor}
 use Rattle.std.proofs.lemmas.List.{length-map}
 use Rattle.std.proofs.lemmas.Bool.{and_parts, cases_Bool}
 use Rattle.aho_devices.specs.declared.device.Sink.{Ghosts as SinkGhosts}
-use Rattle.programs.specs.Names.{IsOneOf, name_bytes, or_input}
-use Rattle.programs.specs.Telling.{Tells, TellsSome}
-use Rattle.programs.specs.declared.errors.Errors.{Errors}
-use Rattle.programs.proofs.Lines.{some-tells, some-then, some-weaker, then-some, tells-none, tells-then, tells-weaker}
+use Rattle.tool_parts.specs.Names.{IsOneOf, name_bytes, or_input}
+use Rattle.tool_parts.specs.Telling.{Tells, TellsSome}
+use Rattle.tool_parts.specs.declared.errors.Errors.{Errors}
+use Rattle.tool_parts.proofs.Lines.{some-tells, some-then, some-weaker, then-some, tells-none, tells-then, tells-weaker}
 use Rattle.acgrep.specs.Arguments.{Origin, Said, shown_by, ways_by}
 use Rattle.acgrep.specs.Folders.{AreChosen, Tree}
 use Rattle.acgrep.specs.Reached.{TellsMissed}

@@ -4,7 +4,7 @@ use Rattle.std.specs.Prelude.{MatchBool}
 use Rattle.std.proofs.Math.ListN.{get_or}
 use Rattle.std.proofs.lemmas.Bool.{cases_Bool}
 use Rattle.std.proofs.lemmas.List.{map-append, take_all}
-use Rattle.programs.specs.Names.{IsOneOf}
+use Rattle.tool_parts.specs.Names.{IsOneOf}
 use Rattle.acgrep.specs.Loading.{AddsText, AreTexts, IsTextOfRule}
 use Rattle.acgrep.specs.Rules.{RuleSaid, expanded, is_from_file, is_space, glob_before, rule_before, rule_said, rules_by, rules_said, glob_of_line}
 use Rattle.acgrep.specs.Runs.{AreRules, AreRulesOf, IsTextOf}

@@ -1,6 +1,6 @@
 -- The rules that a call names.
 use Rattle.std.proofs.Common.{◌≡◌, ℕ, true, false, List, [], ◌∷◌, ◌++◌, Option, Bor, length, refl, sym, ap, subst, ◌∙◌, append-nil, append_assoc, arith}
-use Rattle.programs.specs.Names.{name_bytes}
+use Rattle.tool_parts.specs.Names.{name_bytes}
 use Rattle.secret_rules.specs.Tables.{TellsRules}
 use Rattle.secret_rules.specs.declared.rule.Rule.{Rule}
 use Rattle.acgrep.specs.Runs.{IsTextOf}

@@ -12,12 +12,12 @@ use Rattle.aho_core.specs.Texts.{build_error_text, match_error_text}
 use Rattle.aho_core.specs.declared.error.BuildError.{BuildError}
 use Rattle.aho_core.specs.declared.error.MatchErrorKind.{MatchErrorKind}
 use Rattle.aho_devices.specs.declared.device.Sink.{Ghosts as SinkGhosts}
-use Rattle.programs.specs.Messages.{Message, message_by, reason_text}
-use Rattle.programs.specs.Names.{IsOneOf}
-use Rattle.programs.specs.Telling.{Tells, TellsBytes, TellsSome}
-use Rattle.programs.specs.declared.errors.Errors.{Errors}
-use Rattle.programs.specs.declared.reason.Reason.{Reason}
-use Rattle.programs.proofs.Lines.{some-one, some-tells, some-then, some-weaker, tells-none, tells-weaker, then-some}
+use Rattle.tool_parts.specs.Messages.{Message, message_by, reason_text}
+use Rattle.tool_parts.specs.Names.{IsOneOf}
+use Rattle.tool_parts.specs.Telling.{Tells, TellsBytes, TellsSome}
+use Rattle.tool_parts.specs.declared.errors.Errors.{Errors}
+use Rattle.tool_parts.specs.declared.reason.Reason.{Reason}
+use Rattle.tool_parts.proofs.Lines.{some-one, some-tells, some-then, some-weaker, tells-none, tells-weaker, then-some}
 use Rattle.acgrep.specs.Arguments.{Said, origin_of}
 use Rattle.acgrep.specs.Files.{is_enough, seen_after, shown_name, status_by}
 use Rattle.acgrep.specs.Folders.{Known}

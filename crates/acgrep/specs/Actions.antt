@@ -2,8 +2,8 @@
 use Rattle.std.specs.Prelude.{ℕ, ◌||◌, Bool, List, [], ◌∷◌, Option, None, Some, codes, if◌then◌else◌}
 use Rattle.std.specs.Result.{result_ok}
 use Rattle.std.specs.Str.{bytes_eq, str_eq_ignore_ascii_case}
-use Rattle.call_options.specs.Names.{Named, found_among, meant, named}
-use Rattle.call_options.specs.declared.found.Found.TheVariants.{Unknown}
+use Rattle.tool_parts.specs.OptionNames.{Named, found_among, meant, named}
+use Rattle.tool_parts.specs.declared.options.found.Found.TheVariants.{Unknown}
 use Rattle.acgrep.specs.declared.options.Color.{Color}
 use Rattle.acgrep.specs.declared.options.Color.TheVariants.{Auto, Always, Never}
 use Rattle.acgrep.specs.declared.options.Switch.{Switch}

@@ -3,7 +3,7 @@ use Rattle.std.specs.Prelude.{ℕ, ◌==◌, ◌||◌, ◌&&◌, nat_lt, Bool, t
 use Rattle.std.specs.Char.{is_ascii_digit}
 use Rattle.std.specs.List.{after_first, before_first, position_or_len, slice_split}
 use Rattle.std.specs.Str.{bytes_eq}
-use Rattle.call_options.specs.Forms.{is_equals}
+use Rattle.tool_parts.specs.ArgumentForms.{is_equals}
 use Rattle.acgrep.specs.declared.colors.Colors.{Colors}
 
 -- the code of each colour, and whether the rest of a line is erased where one begins or ends

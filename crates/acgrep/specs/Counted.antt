@@ -5,7 +5,7 @@ use Rattle.std.specs.declared.io.traits.Read.{Ghosts as Readers}
 use Rattle.aho_core.specs.Replacement.{pieces_of}
 use Rattle.aho_devices.specs.declared.device.Sink.{Ghosts as SinkGhosts}
 use Rattle.chromesquid.specs.Searcher.{Searcher}
-use Rattle.programs.specs.Names.{name_bytes}
+use Rattle.tool_parts.specs.Names.{name_bytes}
 use Rattle.acgrep.specs.Arguments.{Said}
 use Rattle.acgrep.specs.Folders.{known_by}
 use Rattle.acgrep.specs.Runs.{BeginsCounted, BeginsOrCounts, CountsReached, ReachesOrCounts}

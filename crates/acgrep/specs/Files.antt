@@ -1,6 +1,6 @@
 -- What is written of files, one after another.
-use Rattle.programs.specs.Answers.{status_of}
-use Rattle.programs.specs.Names.{is_input, name_bytes, or_input}
+use Rattle.tool_parts.specs.Answers.{status_of}
+use Rattle.tool_parts.specs.Names.{is_input, name_bytes, or_input}
 use Rattle.std.specs.Prelude.{◌≡◌, ◌⊎◌, ℕ, ◌||◌, nat_lt, Bool, true, false, List, [], ◌∷◌, ◌++◌, Option, IfSome, MatchBool, if◌then◌else◌}
 use Rattle.std.specs.Borrow.{Bor}
 use Rattle.std.specs.Io.KnownBytes.{Appends, Consumes, IsAtEnd, Keeps}

@@ -5,7 +5,7 @@ use Rattle.std.specs.Str.{IsUtf8, bytes_eq}
 use Rattle.std.specs.List.Sorted.{IsPermutation, IsSorted}
 use Rattle.std.specs.Cmp.Lexicographic.{slice_cmp}
 use Rattle.std.specs.Ordering.{nat_cmp}
-use Rattle.programs.specs.Names.{is_input}
+use Rattle.tool_parts.specs.Names.{is_input}
 use Rattle.acgrep.specs.Listed.{listed_bytes}
 use Rattle.acgrep.specs.Rules.{RuleSaid, is_left_out, without_slashes}
 use Rattle.acgrep.specs.declared.folders.Folders.{Ghosts as FolderGhosts}

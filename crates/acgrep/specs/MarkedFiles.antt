@@ -1,6 +1,6 @@
 -- What is written of files whose lines rules mark, one after another.
-use Rattle.programs.specs.Answers.{status_of}
-use Rattle.programs.specs.Names.{is_input}
+use Rattle.tool_parts.specs.Answers.{status_of}
+use Rattle.tool_parts.specs.Names.{is_input}
 use Rattle.std.specs.Prelude.{◌≡◌, ◌⊎◌, ℕ, ◌&&◌, ◌||◌, nat_lt, Bool, MatchBool, true, false, List, [], ◌∷◌, ◌++◌, Option, IfSome, OnOk, Result, map}
 use Rattle.std.specs.Io.KnownBytes.{Appends, Keeps}
 use Rattle.std.specs.Io.{StartsWith}

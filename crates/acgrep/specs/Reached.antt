@@ -4,9 +4,9 @@ use Rattle.std.specs.Borrow.{Bor}
 use Rattle.std.specs.declared.io.traits.Read.{Ghosts as Readers}
 use Rattle.aho_devices.specs.declared.device.Sink.{Ghosts as SinkGhosts}
 use Rattle.chromesquid.specs.Searcher.{Searcher}
-use Rattle.programs.specs.Telling.{Tells, TellsSome}
-use Rattle.programs.specs.declared.errors.Errors.{Errors}
-use Rattle.programs.specs.Names.{name_bytes}
+use Rattle.tool_parts.specs.Telling.{Tells, TellsSome}
+use Rattle.tool_parts.specs.declared.errors.Errors.{Errors}
+use Rattle.tool_parts.specs.Names.{name_bytes}
 use Rattle.acgrep.specs.Arguments.{Said}
 use Rattle.acgrep.specs.Folders.{known_by}
 use Rattle.acgrep.specs.Runs.{SearchesReached}

@@ -9,7 +9,7 @@ use Rattle.aho_core.specs.declared.search.MatchKind.TheVariants.{LeftmostLongest
 use Rattle.acgrep.specs.Beside.{unfit_said}
 use Rattle.acgrep.specs.Binary.{is_guarded, takes_text, writes_lines}
 use Rattle.acgrep.specs.Arguments.{Origin, Said, asks_counts, context_by, ending_by, fit_by, origin_of, said_by, shown_by, ways_by}
-use Rattle.programs.specs.Names.{is_input, or_input}
+use Rattle.tool_parts.specs.Names.{is_input, or_input}
 use Rattle.acgrep.specs.Files.{AreFilesBegun, AreSearchedOr}
 use Rattle.acgrep.specs.Folders.{AreBelow, AreChosen, Known, Tree, passes}
 use Rattle.acgrep.specs.Lines.{lines}

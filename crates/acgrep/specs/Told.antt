@@ -6,14 +6,14 @@ use Rattle.aho_core.specs.Texts.{build_error_text, match_error_text}
 use Rattle.aho_core.specs.declared.error.BuildError.{BuildError}
 use Rattle.aho_core.specs.declared.error.MatchErrorKind.{MatchErrorKind}
 use Rattle.aho_devices.specs.declared.device.Sink.{Ghosts as SinkGhosts}
-use Rattle.programs.specs.Messages.{Message, message_by, reason_text}
-use Rattle.programs.specs.Names.{IsOneOf, or_input}
-use Rattle.programs.specs.Telling.{Tells, TellsBytes, TellsSome}
-use Rattle.programs.specs.declared.errors.Errors.{Errors}
-use Rattle.programs.specs.declared.reason.Reason.{Reason}
-use Rattle.call_options.specs.Misuses.{text_before, text_behind}
-use Rattle.call_options.specs.declared.misuse.Misuse.{Misuse}
-use Rattle.call_options.specs.declared.misuse.Misuse.TheVariants.{UnknownLetter as NoLetter, NotFound as NoName, NoArgument as Unargued, TakesNone as Argued}
+use Rattle.tool_parts.specs.Messages.{Message, message_by, reason_text}
+use Rattle.tool_parts.specs.Names.{IsOneOf, or_input}
+use Rattle.tool_parts.specs.Telling.{Tells, TellsBytes, TellsSome}
+use Rattle.tool_parts.specs.declared.errors.Errors.{Errors}
+use Rattle.tool_parts.specs.declared.reason.Reason.{Reason}
+use Rattle.tool_parts.specs.Misuses.{text_before, text_behind}
+use Rattle.tool_parts.specs.declared.options.misuse.Misuse.{Misuse}
+use Rattle.tool_parts.specs.declared.options.misuse.Misuse.TheVariants.{UnknownLetter as NoLetter, NotFound as NoName, NoArgument as Unargued, TakesNone as Argued}
 use Rattle.acgrep.specs.Arguments.{Origin, Said, shown_by}
 use Rattle.acgrep.specs.Files.{shown_name}
 use Rattle.acgrep.specs.Folders.{Known, Tree}

@@ -2,11 +2,11 @@
 
 ghost use Rattle.std.specs.Prelude.{◌≡◌};
 ghost use Rattle.acgrep.specs.Actions.{binary_named, color_named, devices_named, folder_actions, folders_named, is_one_of};
-ghost use Rattle.call_options.specs.Names.{found_among};
-ghost use Rattle.call_options.specs.declared.found.Found.TheVariants.{Unknown};
+ghost use Rattle.tool_parts.specs.OptionNames.{found_among};
+ghost use Rattle.tool_parts.specs.declared.options.found.Found.TheVariants.{Unknown};
 
 use crate::options::{Color, Switch};
-use call_options::found::Found;
+use tool_parts::options::found::Found;
 
 /// The names of what is done with devices.
 const READ: &[u8] = b"read";

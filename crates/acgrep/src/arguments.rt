@@ -4,7 +4,7 @@
 //! no other option's name has. Two hyphens end the options.
 
 ghost use Rattle.std.specs.Prelude.{◌≡◌, ◌≤◌, ◌<◌, Some, IfOk, IfErr, OnOk, length};
-ghost use Rattle.programs.specs.Arguments.{kind_by};
+ghost use Rattle.tool_parts.specs.Arguments.{kind_by};
 ghost use Rattle.acgrep.specs.Arguments.{AreDigits, FailsBy, ReadsBy, SaysMore, argument_by, behind_by, color_by, fresh_by, joined_by, letters_by, named_by, nothing_said, number_by, said, said_by, source_option, so_far, taken_by, turned_by, value_by, valued_letter, with_binary, with_devices, with_folders, with_format, with_operand, with_rule, with_rule_file, with_separator, with_source};
 ghost use Rattle.acgrep.specs.Listed.{listed_bytes};
 ghost use Rattle.acgrep.specs.Long.{option_by};
@@ -18,8 +18,8 @@ use crate::format::{Piece, read_format};
 use crate::long::{Long, Valued, option_of};
 use crate::options::{Color, Flags, switch_of};
 use crate::rules::{Rule, Sense, without_slashes};
-use call_options::argument::{Argument, argument_of};
-use call_options::found::NotFound;
+use tool_parts::options::argument::{Argument, argument_of};
+use tool_parts::options::found::NotFound;
 use chromesquid::MatchKind;
 use std::alloc::{AllocError, Global};
 use std::str;

@@ -1,7 +1,7 @@
 //! Searching the files that operands name, with those below folders where that is asked for.
 
 ghost use Rattle.std.specs.Prelude.{◌≡◌, ◌≤◌, ◌<◌, IfOk, true, false};
-ghost use Rattle.programs.specs.Names.{name_bytes};
+ghost use Rattle.tool_parts.specs.Names.{name_bytes};
 ghost use Rattle.chromesquid.specs.Searcher.{IsBuiltFrom, IsBuiltFromSome};
 ghost use Rattle.acgrep.specs.Arguments.{said};
 ghost use Rattle.acgrep.specs.Files.{AreFilesBegun, AreSearchedOr};
@@ -26,7 +26,7 @@ use crate::select::Job;
 use crate::tell::{tell_memory, tell_missed};
 use crate::walk::{Found, Unread, walk};
 use chromesquid::{AhoCorasick, Sink};
-use programs::errors::Errors;
+use tool_parts::errors::Errors;
 use std::alloc::{AllocError, Global};
 use std::io::Read;
 

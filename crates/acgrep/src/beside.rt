@@ -1,7 +1,7 @@
 //! Which options do not go with rules.
 
 ghost use Rattle.std.specs.Prelude.{◌≡◌, option_map};
-ghost use Rattle.programs.specs.Telling.{TellsBytes};
+ghost use Rattle.tool_parts.specs.Telling.{TellsBytes};
 ghost use Rattle.acgrep.specs.Arguments.{said};
 ghost use Rattle.acgrep.specs.Beside.{last_beside, line_beside, name_beside_rules, output_beside, pattern_beside, source_beside, unfit_line, unfit_said, is_color};
 
@@ -9,7 +9,7 @@ use crate::arguments::{Given, Source};
 use crate::options::{Color, Flags};
 use crate::tell::PROGRAM;
 use chromesquid::{MatchKind, Sink};
-use programs::errors::Errors;
+use tool_parts::errors::Errors;
 
 /// How standard input is called, where nothing else is said.
 const LABEL: &[u8] = b"(standard input)";

@@ -1,7 +1,7 @@
 //! Which of the operands are searched, where folders are not entered.
 
 ghost use Rattle.std.specs.Prelude.{◌≡◌, [], IfOk, OnOk};
-ghost use Rattle.programs.specs.Names.{name_bytes, or_input};
+ghost use Rattle.tool_parts.specs.Names.{name_bytes, or_input};
 ghost use Rattle.acgrep.specs.Folders.{AreChosen, Chooses, IsKept, is_passed, missed_of, tree_of};
 ghost use Rattle.acgrep.specs.Listed.{listed_bytes};
 ghost use Rattle.acgrep.specs.Rules.{rules_said};

@@ -8,7 +8,7 @@ ghost use Rattle.std.specs.List.{position_or_len, slice_split};
 ghost use Rattle.acgrep.specs.Colors.{colors_by, is_code, is_code_byte, is_colon, is_right, palette_of, with_parts};
 
 use crate::lines::behind;
-use call_options::argument::first_equals;
+use tool_parts::options::argument::first_equals;
 
 /// The names of matches: in selected lines and around them, in selected ones, and around them.
 const BOTH: &[u8] = b"mt";

@@ -4,7 +4,7 @@ ghost use Rattle.std.specs.Prelude.{◌≡◌, ◌≤◌, ◌<◌, ◌⊎◌, On
 ghost use Rattle.std.specs.Io.KnownBytes.{Appends};
 ghost use Rattle.aho_core.specs.Replacement.{pieces_of};
 ghost use Rattle.aho_devices.specs.Counts.{AppendsBeginning};
-ghost use Rattle.programs.specs.Names.{name_bytes};
+ghost use Rattle.tool_parts.specs.Names.{name_bytes};
 ghost use Rattle.chromesquid.specs.Searcher.{IsBuiltFromSome};
 ghost use Rattle.acgrep.specs.Arguments.{said};
 ghost use Rattle.acgrep.specs.Counted.{BeginsCountOf, BeginsSearchOrCount, CountsOperands, SearchesOrCounts};
@@ -22,7 +22,7 @@ use crate::open::Open;
 use crate::tally::{put_rows, tally, zeros};
 use crate::unread::tell_total;
 use chromesquid::{AhoCorasick, FromWrite, Sink, write_whole};
-use programs::errors::Errors;
+use tool_parts::errors::Errors;
 use std::alloc::{AllocError, Global};
 use std::io::Read;
 

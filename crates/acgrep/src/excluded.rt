@@ -13,7 +13,7 @@ use crate::open::Open;
 use crate::rules::{Rule, Sense};
 use crate::tell::tell_memory;
 use chromesquid::Sink;
-use programs::errors::Errors;
+use tool_parts::errors::Errors;
 use std::alloc::{AllocError, Global};
 use std::io;
 use std::io::Read;

@@ -1,7 +1,7 @@
 //! Why a search stops.
 
 use chromesquid::{MatchError, StreamError};
-use programs::reason::Reason;
+use tool_parts::reason::Reason;
 use std::alloc::AllocError;
 use std::io;
 

@@ -4,12 +4,12 @@ ghost use Rattle.std.specs.Prelude.{◌≡◌, Some, None, IfErr, IfOk};
 ghost use Rattle.acgrep.specs.Long.{context_options, file_options, found_by, option_by, or_own, other_options, output_options, own_options, pattern_options, shared_by};
 ghost use Rattle.acgrep.specs.Mistakes.{wrong_name};
 ghost use Rattle.acgrep.specs.Told.{wrong_parts};
-ghost use Rattle.call_options.specs.Names.{found_among};
-ghost use Rattle.call_options.specs.declared.found.Found.TheVariants.{Unknown};
+ghost use Rattle.tool_parts.specs.OptionNames.{found_among};
+ghost use Rattle.tool_parts.specs.declared.options.found.Found.TheVariants.{Unknown};
 
 use crate::arguments::Wrong;
 use crate::options::Switch;
-use call_options::found::Found;
+use tool_parts::options::found::Found;
 
 /// An option that takes an argument.
 #[derive(Clone, Copy)]

@@ -1,8 +1,8 @@
 //! Searching the files of a call by rules, one after another.
 
 ghost use Rattle.std.specs.Prelude.{◌≡◌, ◌<◌, ◌≤◌, ◌||◌, false};
-ghost use Rattle.programs.specs.Names.{is_input, name_bytes, or_input};
-ghost use Rattle.programs.specs.Telling.{TellsSome};
+ghost use Rattle.tool_parts.specs.Names.{is_input, name_bytes, or_input};
+ghost use Rattle.tool_parts.specs.Telling.{TellsSome};
 ghost use Rattle.acgrep.specs.Files.{BeginsTotal, EndsFile, IfBroken, IfSearched};
 ghost use Rattle.acgrep.specs.MarkedFiles.{AreMarkedOr, AreMarksBegun, ComesName, IfMarks, IsMarking, MarksAgain, MarksBytes, MarksNames, SameMarking};
 ghost use Rattle.acgrep.specs.Told.{TellsIf, TellsOfEnd, TellsOfOutcome, TellsOutcome, TellsStatus};
@@ -19,8 +19,8 @@ use crate::select::Job;
 use crate::tell::{PROGRAM, tell_memory};
 use crate::unread::{tell_closed, tell_same, tell_stop, tell_total, tell_unread, tell_unreadable};
 use chromesquid::{Automaton, FromRead, Sink};
-use programs::errors::Errors;
-use programs::reason::Reason;
+use tool_parts::errors::Errors;
+use tool_parts::reason::Reason;
 use rule_files::{RuleFlaw, bad_rule, tell_rule};
 use secret_rules::{LineCover, Rule};
 use std::alloc::Global;

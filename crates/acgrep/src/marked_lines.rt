@@ -10,7 +10,7 @@ use crate::marked::{Marked, Pass, Task, needs_one};
 use crate::options::Shown;
 use crate::print::Place;
 use chromesquid::{Automaton, Sink, Source, StreamError};
-use programs::reason::Reason;
+use tool_parts::reason::Reason;
 use secret_rules::{LineCover, LineError, MarkError, visit_lines};
 
 /// What comes of the lines of a source.

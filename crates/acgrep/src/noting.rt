@@ -2,7 +2,7 @@
 
 ghost use Rattle.std.specs.Prelude.{◌≡◌};
 
-use programs::reason::Reason;
+use tool_parts::reason::Reason;
 use std::cell::Cell;
 use std::io;
 use std::io::Read;

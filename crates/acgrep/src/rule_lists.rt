@@ -1,9 +1,9 @@
 //! Reading the rules by which lines are marked.
 
 ghost use Rattle.std.specs.Prelude.{◌≡◌, ◌++◌, IfSome, IsNone, IsSome, OnOk, false, true};
-ghost use Rattle.programs.specs.Telling.{TellsSome};
+ghost use Rattle.tool_parts.specs.Telling.{TellsSome};
 ghost use Rattle.acgrep.specs.ToldByRules.{IsMarkTold};
-ghost use Rattle.programs.specs.Names.{name_bytes};
+ghost use Rattle.tool_parts.specs.Names.{name_bytes};
 ghost use Rattle.secret_rules.specs.Rules.{AreSound};
 ghost use Rattle.secret_rules.specs.Tables.{TellsRules};
 ghost use Rattle.acgrep.specs.RunsByRules.{AddsRules, AreAllRules, AreNamedRules, is_own};
@@ -13,7 +13,7 @@ use crate::keys::{read_text, tell_source};
 use crate::open::Open;
 use crate::tell::{PROGRAM, tell_memory};
 use chromesquid::{BuildError, Sink};
-use programs::errors::Errors;
+use tool_parts::errors::Errors;
 use rule_files::{TextFault, rules_in, tell_fault};
 use secret_rules::{BUILTIN, Rule, Rules, RulesError};
 use std::alloc::{AllocError, Global};

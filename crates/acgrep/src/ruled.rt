@@ -1,7 +1,7 @@
 //! A call by rules: the lines are selected in which they mark something.
 
 ghost use Rattle.std.specs.Prelude.{◌≡◌, ◌<◌, ◌≤◌, IfOk, false, true};
-ghost use Rattle.programs.specs.Telling.{TellsBytes};
+ghost use Rattle.tool_parts.specs.Telling.{TellsBytes};
 ghost use Rattle.secret_rules.specs.Covering.{covering_by};
 ghost use Rattle.secret_rules.specs.Ready.{CanCoverLines, rules_of};
 ghost use Rattle.acgrep.specs.Arguments.{said, shown_by};
@@ -27,7 +27,7 @@ use crate::run::{job_of, with_rules};
 use crate::tell::{PROGRAM, tell_memory};
 use chromesquid::noncontiguous::NFA;
 use chromesquid::{Automaton, BuildError, Sink};
-use programs::errors::Errors;
+use tool_parts::errors::Errors;
 use rule_files::{MAX_DIGITS, digits_of};
 use secret_rules::{LineCover, Rules};
 use std::alloc::Global;

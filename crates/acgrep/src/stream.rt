@@ -17,7 +17,7 @@ use crate::lines::line_start;
 use crate::select::{Job, State, search_text};
 use chromesquid::{AhoCorasick, Sink};
 use memchr::memchr;
-use programs::reason::Reason;
+use tool_parts::reason::Reason;
 use std::io::Read;
 
 /// What a read gave.

@@ -3,7 +3,7 @@
 ghost use Rattle.acgrep.specs.Mistakes.{memory_line};
 ghost use Rattle.acgrep.specs.Told.{TellsCause, TellsOfFile, TellsOfNamed, TellsWrong, misuse_parts, named_parts, number_parts, unopened_by, unopened_line, valued_name};
 ghost use Rattle.std.specs.List.{concat};
-ghost use Rattle.programs.specs.Telling.{TellsBytes};
+ghost use Rattle.tool_parts.specs.Telling.{TellsBytes};
 ghost use Rattle.std.specs.Prelude.{◌≡◌};
 
 use crate::arguments::Wrong;
@@ -11,10 +11,10 @@ use crate::failure::Unusable;
 use crate::help::USAGE;
 use crate::json::is_text;
 use crate::long::Valued;
-use call_options::misuse::Misuse;
+use tool_parts::options::misuse::Misuse;
 use chromesquid::{BuildError, MatchError, Sink};
-use programs::errors::Errors;
-use programs::reason::Reason;
+use tool_parts::errors::Errors;
+use tool_parts::reason::Reason;
 
 /// What is told of a folder that stands in itself.
 const LOOP: &[u8] = b"warning: recursive directory loop";

@@ -9,8 +9,8 @@ use crate::tell::{
     tell_fault, tell_input, tell_memory, tell_output, tell_search, tell_unopened, tell_write,
 };
 use chromesquid::Sink;
-use programs::errors::Errors;
-use programs::reason::Reason;
+use tool_parts::errors::Errors;
+use tool_parts::reason::Reason;
 
 /// Tells why a file cannot be read, if that is asked for.
 pub fn tell_unread<E: Sink>(job: &Job<'_>, reason: Reason, errors: &mut Errors<'_, E>)

@@ -2,7 +2,7 @@
 
 ghost use Rattle.std.specs.Prelude.{◌≡◌, [], ◌∷◌, ◌++◌, IfErr, IfOk, IfSome, List, OnOk, false, map};
 ghost use Rattle.std.specs.List.Sorted.{IsPermutation};
-ghost use Rattle.programs.specs.Names.{name_bytes};
+ghost use Rattle.tool_parts.specs.Names.{name_bytes};
 ghost use Rattle.acgrep.specs.Folders.{AreBelow, Begins, Enters, FindsFiles, IsKind, IsUnknown, Loses, PutsInside, between, folder_named, is_folder, is_followed, is_lost_left, is_searched, is_spot_left, is_standard, path_inside, missed_of, operand, reads_devices, spot_of, spots_of, tree_of};
 ghost use Rattle.acgrep.specs.Listed.{listed_bytes};
 ghost use Rattle.acgrep.specs.Rules.{RuleSaid, rules_said};
@@ -12,7 +12,7 @@ use crate::folders::{Folders, Kind};
 use crate::keys::is_input;
 use crate::open::Identity;
 use crate::rules::{Rule, is_left_out, without_slashes};
-use programs::reason::Reason;
+use tool_parts::reason::Reason;
 use std::alloc::{AllocError, Global};
 use std::collections::VecDeque;
 use std::io::ErrorKind;

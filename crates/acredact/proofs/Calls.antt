@@ -10,13 +10,13 @@ use Rattle.aho_core.specs.declared.error.stream.StreamError.{StreamError}
 use Rattle.aho_core.specs.declared.error.stream.StreamError.TheVariants.{Match, Read, Write, WriteZero, Memory, PositionLimit}
 use Rattle.aho_devices.specs.declared.adapters.FromRead.{FromRead}
 use Rattle.aho_devices.specs.declared.device.Sink.{Ghosts as SinkGhosts}
-use Rattle.programs.specs.Failures.{failure_of_stream}
-use Rattle.programs.specs.Streams.{bytes_left}
-use Rattle.programs.specs.Telling.{Tells, TellsBytes, TellsSome}
-use Rattle.programs.specs.declared.errors.Errors.{Errors}
-use Rattle.programs.specs.declared.failure.Failure.TheVariants.{Build, OutOfMemory, Write as NotWritten, WriteZero as TakesNothing}
-use Rattle.programs.specs.declared.reason.Reason.{Reason}
-use Rattle.programs.proofs.Tellings.{tells-later}
+use Rattle.tool_parts.specs.Failures.{failure_of_stream}
+use Rattle.tool_parts.specs.Streams.{bytes_left}
+use Rattle.tool_parts.specs.Telling.{Tells, TellsBytes, TellsSome}
+use Rattle.tool_parts.specs.declared.errors.Errors.{Errors}
+use Rattle.tool_parts.specs.declared.failure.Failure.TheVariants.{Build, OutOfMemory, Write as NotWritten, WriteZero as TakesNothing}
+use Rattle.tool_parts.specs.declared.reason.Reason.{Reason}
+use Rattle.tool_parts.proofs.Tellings.{tells-later}
 use Rattle.acredact.specs.Arguments.{Given, counts_asked}
 use Rattle.acredact.specs.Calls.{AreBounded, BeginsCall, Call, CallOutcome, IsBuildRefusal, IsCountsFailure, IsCountsLine, IsLineOf, IsRunFailure, IsUnreadLine, IsUntouched, IsWordLine, MayFail, OutputFails, RestOutcome, RunOutcome, TellsCounts, TellsNumbers, names_asked, reading_by, work_by}
 use Rattle.acredact.specs.Counts.{secret_lines, zeros}

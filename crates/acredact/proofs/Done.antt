@@ -14,12 +14,12 @@ use Rattle.aho_devices.specs.Counts.{counted}
 use Rattle.aho_devices.specs.Refusals.{IsWriteRefusal, is_write_fault, is_write_of_nothing}
 use Rattle.aho_devices.specs.declared.adapters.FromWrite.{FromWrite}
 use Rattle.aho_devices.specs.declared.device.Sink.{Ghosts as SinkGhosts}
-use Rattle.programs.specs.Names.{name_bytes}
-use Rattle.programs.specs.Streams.{output_bytes, bytes_left}
-use Rattle.programs.specs.Telling.{TellsBytes}
-use Rattle.programs.specs.declared.errors.Errors.{Errors}
-use Rattle.programs.specs.declared.reason.Reason.{Reason}
-use Rattle.programs.proofs.Tellings.{tells-later}
+use Rattle.tool_parts.specs.Names.{name_bytes}
+use Rattle.tool_parts.specs.Streams.{output_bytes, bytes_left}
+use Rattle.tool_parts.specs.Telling.{TellsBytes}
+use Rattle.tool_parts.specs.declared.errors.Errors.{Errors}
+use Rattle.tool_parts.specs.declared.reason.Reason.{Reason}
+use Rattle.tool_parts.proofs.Tellings.{tells-later}
 use Rattle.acredact.specs.Faults.{IsOutputEnd}
 use Rattle.acredact.specs.Files.{AreCut, AreDone, AreRedacted, FileOutcome, FilesOutcome, IsDone, ToldOutcome, Work, are_none, unread_line}
 use Rattle.acredact.specs.Messages.{output_line}

@@ -15,7 +15,7 @@ use Rattle.aho_core.specs.Replacement.{pieces_of}
 use Rattle.aho_core.specs.Search.{plain_search}
 use Rattle.aho_laws.specs.CoverLaws.{AreClean, IsCleanPiece}
 use Rattle.aho_laws.specs.CutLaws.{NoneHolds}
-use Rattle.programs.specs.Asked.{ArePatterns}
+use Rattle.tool_parts.specs.Asked.{ArePatterns}
 use Rattle.acredact.specs.Pieces.{WordsAreMarked, HoldNone, IsFlaw, IsHolder, IsMarked, IsUnclean}
 use Rattle.acredact.specs.Secrets.{NoneOccurs}
 use Rattle.acredact.specs.Spelling.{HoldsByte}

@@ -4,7 +4,7 @@ use Rattle.std.specs.Prelude.{Bool, MatchBool, IfSome, true, false}
 use Rattle.std.specs.Io.KnownBytes.{Keeps}
 use Rattle.std.proofs.KnownBytes.{Consumes-all}
 use Rattle.std.proofs.Math.Seq.{take-length}
-use Rattle.programs.specs.Names.{is_input}
+use Rattle.tool_parts.specs.Names.{is_input}
 use Rattle.acredact.specs.declared.arguments.Item.{Item}
 use Rattle.acredact.specs.declared.failure.Failure.{Failure}
 use Rattle.acredact.specs.Arguments.{Given, all_given, given_of}

@@ -13,7 +13,7 @@ use Rattle.aho_cover.specs.Words.{CountsIn}
 use Rattle.aho_laws.proofs.CoverRuns.{runs-unique}
 use Rattle.secret_rules.specs.Covering.{AreLineRuns, CoveredIn, Covering, seen_line, whole_line}
 use Rattle.secret_rules.specs.LineCovers.{all_of}
-use Rattle.programs.specs.Names.{is_input}
+use Rattle.tool_parts.specs.Names.{is_input}
 use Rattle.secret_rules.specs.Lines.{Line, stream_lines}
 use Rattle.secret_rules.proofs.Covered.{whole-runs}
 use Rattle.acredact.specs.LongLines.{HasLong, HaveLong, long_among, whole_number}

@@ -1,9 +1,9 @@
 -- The options of one list after those of the other.
 use Rattle.std.proofs.Common.{◌≡◌, ℕ, List}
-use Rattle.call_options.specs.Names.{found_among}
-use Rattle.call_options.specs.declared.found.Found.{Found}
-use Rattle.call_options.specs.declared.found.Found.TheVariants.{Unknown}
-use Rattle.call_options.proofs.Names.{then_options}
+use Rattle.tool_parts.specs.OptionNames.{found_among}
+use Rattle.tool_parts.specs.declared.options.found.Found.{Found}
+use Rattle.tool_parts.specs.declared.options.found.Found.TheVariants.{Unknown}
+use Rattle.tool_parts.proofs.OptionNames.{then_options}
 use Rattle.acredact.specs.Long.{found_of_name, options_of_output, options_of_patterns}
 use Rattle.acredact.specs.declared.arguments.Word.{Word}
 

@@ -8,10 +8,10 @@ use Rattle.aho_core.specs.Occurrence.{Occurrence}
 use Rattle.aho_core.specs.Patterns.{Patterns}
 use Rattle.aho_automaton.specs.declared.automaton.Automaton.{Ghosts as Automata}
 use Rattle.aho_devices.specs.declared.device.Sink.{Ghosts as SinkGhosts}
-use Rattle.programs.specs.Names.{IsOneOf, is_input}
-use Rattle.programs.specs.Telling.{Tells, TellsBytes, TellsSome}
-use Rattle.programs.specs.declared.errors.Errors.{Errors}
-use Rattle.programs.specs.declared.reason.Reason.{Reason}
+use Rattle.tool_parts.specs.Names.{IsOneOf, is_input}
+use Rattle.tool_parts.specs.Telling.{Tells, TellsBytes, TellsSome}
+use Rattle.tool_parts.specs.declared.errors.Errors.{Errors}
+use Rattle.tool_parts.specs.declared.reason.Reason.{Reason}
 use Rattle.secret_rules.specs.Covering.{Covering, covering_by}
 use Rattle.secret_rules.specs.LineCovers.{AreSearchedFor}
 use Rattle.secret_rules.specs.Lines.{stream_lines}

@@ -10,7 +10,7 @@ use Rattle.aho_devices.specs.Refusals.{IsFillRefusal, is_read_fault}
 use Rattle.aho_devices.specs.declared.device.Sink.{Ghosts as SinkGhosts}
 use Rattle.aho_devices.specs.declared.device.Source.{Ghosts as SourceGhosts}
 use Rattle.aho_stream.specs.Replacing.{SourceGave}
-use Rattle.programs.specs.Names.{is_input}
+use Rattle.tool_parts.specs.Names.{is_input}
 use Rattle.acredact.specs.Metering.{IsMetered, settled_left}
 use Rattle.acredact.specs.Secrets.{Redactor}
 use Rattle.acredact.specs.Streams.{ReachesStream, RedactsStream, StreamOutcome}

@@ -3,7 +3,7 @@ use Rattle.std.proofs.Common.{◌≡◌, ℕ, Bool, true, false, List, Option, s
 use Rattle.std.specs.Prelude.{Some, None, if◌then◌else◌}
 use Rattle.std.proofs.lemmas.List.Elements.{All-map}
 use Rattle.aho_cover.specs.Pieces.{PieceRule}
-use Rattle.pseudonyms.specs.Pseudonyms.{pseudonym_rule}
+use Rattle.acredact.specs.Pseudonyms.{pseudonym_rule}
 use Rattle.acredact.specs.Arguments.{Given, has}
 use Rattle.acredact.specs.Loading.{Loaded, loaded_by}
 use Rattle.acredact.specs.Named.{all_named, named_secret}

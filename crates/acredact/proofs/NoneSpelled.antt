@@ -13,9 +13,9 @@ use Rattle.aho_core.specs.Patterns.{Patterns, pattern_at}
 use Rattle.aho_laws.specs.CoverLaws.{IsCleanPiece}
 use Rattle.aho_laws.specs.CutLaws.{NoneHolds}
 use Rattle.aho_laws.proofs.Members.{member-map, member-of_map}
-use Rattle.programs.specs.Asked.{ArePatterns}
-use Rattle.pseudonyms.specs.Hmac.{hmac_sha256}
-use Rattle.pseudonyms.specs.Pseudonyms.{as_compared, hex_at, hex_digit, piece_of_digest, pseudonym_rule}
+use Rattle.tool_parts.specs.Asked.{ArePatterns}
+use Rattle.acredact.specs.Hmac.{hmac_sha256}
+use Rattle.acredact.specs.Pseudonyms.{as_compared, hex_at, hex_digit, piece_of_digest, pseudonym_rule}
 use Rattle.sha2.specs.Sha256.{digest_bytes, sha256}
 use Rattle.acredact.specs.Pieces.{IsJudgedBy}
 use Rattle.acredact.specs.Secrets.{NoneOccurs}

@@ -14,9 +14,9 @@ use Rattle.aho_devices.specs.declared.adapters.FromRead.{FromRead}
 use Rattle.aho_devices.specs.declared.adapters.FromWrite.{FromWrite}
 use Rattle.aho_devices.specs.declared.device.Sink.{Ghosts as SinkGhosts}
 use Rattle.aho_devices.specs.declared.device.Source.{Ghosts as SourceGhosts}
-use Rattle.programs.specs.Names.{is_input}
-use Rattle.programs.specs.Streams.{output_bytes, bytes_left}
-use Rattle.programs.specs.declared.reason.Reason.{Reason}
+use Rattle.tool_parts.specs.Names.{is_input}
+use Rattle.tool_parts.specs.Streams.{output_bytes, bytes_left}
+use Rattle.tool_parts.specs.declared.reason.Reason.{Reason}
 use Rattle.acredact.specs.Faults.{IsOutputEnd, IsReadReason, IsStreamEnd, is_unread, reading_of}
 use Rattle.acredact.specs.Files.{BeginsNamed, BeginsText, FileOutcome, IsUnread, ReachesNamed, ReachesText, RedactsText, TextOutcome, Work}
 use Rattle.acredact.specs.Reads.{OfName}

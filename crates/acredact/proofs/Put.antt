@@ -5,10 +5,10 @@ use Rattle.std.specs.declared.io.traits.Read.{Ghosts as Readers}
 use Rattle.std.specs.declared.io.traits.Write.{Ghosts as Writers}
 use Rattle.std.proofs.lemmas.List.Elements.{All-weaker}
 use Rattle.aho_devices.specs.declared.device.Sink.{Ghosts as SinkGhosts}
-use Rattle.programs.specs.Streams.{bytes_left}
-use Rattle.programs.specs.Telling.{Tells, TellsBytes, TellsSome}
-use Rattle.programs.specs.declared.errors.Errors.{Errors}
-use Rattle.programs.specs.declared.reason.Reason.{Reason}
+use Rattle.tool_parts.specs.Streams.{bytes_left}
+use Rattle.tool_parts.specs.Telling.{Tells, TellsBytes, TellsSome}
+use Rattle.tool_parts.specs.declared.errors.Errors.{Errors}
+use Rattle.tool_parts.specs.declared.reason.Reason.{Reason}
 use Rattle.acredact.specs.Sums.{sums_of}
 use Rattle.acredact.specs.Arguments.{AsksAnyCheck, AsksForRules, AsksToRedact, Given, all_asked, counts_asked}
 use Rattle.acredact.specs.Calls.{Call, CountsCall, IsCountsLine, IsLineOf, WarnsCall}

@@ -15,7 +15,7 @@ use Rattle.aho_core.specs.declared.search.Anchored.TheVariants.{No}
 use Rattle.aho_core.specs.declared.search.MatchKind.{MatchKind}
 use Rattle.aho_core.specs.declared.search.MatchKind.TheVariants.{Standard}
 use Rattle.aho_automaton.specs.declared.automaton.Automaton.{Ghosts}
-use Rattle.programs.specs.Arguments.{kind_by}
+use Rattle.tool_parts.specs.Arguments.{kind_by}
 use Rattle.acredact.specs.Arguments.{Given, GivesNoPattern, covers_asked, has, is_cover, kind_asked, last_value}
 use Rattle.acredact.specs.Calls.{gives_pattern, gives_value}
 use Rattle.acredact.specs.Forms.{forms_from}

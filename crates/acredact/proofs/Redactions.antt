@@ -35,7 +35,7 @@ use Rattle.aho_cover.specs.declared.progress.CoverProgress.{CoverProgress}
 use Rattle.aho_cover.specs.Pieces.{IsCoverWith, piece_in}
 use Rattle.aho_cover.specs.Words.{AreRunsWith, all_runs}
 use Rattle.aho_cover.proofs.Chosen.{all-are, all-covers, all-made}
-use Rattle.pseudonyms.specs.Pseudonyms.{pseudonym_rule}
+use Rattle.acredact.specs.Pseudonyms.{pseudonym_rule}
 use Rattle.acredact.specs.Secrets.{AreCleanBy, AreReplaced, BeginsRedaction, CountsFor, IsRedaction, Keyed, NoByteIsKept, NoneIsWhole, NoneOccurs, Redactor, rule_by, rule_of}
 use Rattle.acredact.specs.Streams.{ReachesStream, RedactsStream, StartsStream, StreamOutcome}
 use Rattle.acredact.specs.Totals.{CountsOfStream}

@@ -6,9 +6,9 @@ use Rattle.std.specs.declared.io.traits.Write.{Ghosts as Writers}
 use Rattle.std.proofs.KnownBytes.{Keeps-refl}
 use Rattle.aho_devices.specs.declared.adapters.FromWrite.{FromWrite}
 use Rattle.aho_devices.specs.declared.device.Sink.{Ghosts as SinkGhosts}
-use Rattle.programs.specs.Streams.{output_bytes}
-use Rattle.programs.specs.Telling.{Tells, TellsBytes, TellsSome}
-use Rattle.programs.specs.declared.errors.Errors.{Errors}
+use Rattle.tool_parts.specs.Streams.{output_bytes}
+use Rattle.tool_parts.specs.Telling.{Tells, TellsBytes, TellsSome}
+use Rattle.tool_parts.specs.declared.errors.Errors.{Errors}
 use Rattle.secret_rules.specs.Covering.{covering_by}
 use Rattle.secret_rules.specs.declared.error.LineError.{LineError}
 use Rattle.secret_rules.specs.declared.rule.Rule.{Rule}

@@ -9,11 +9,11 @@ use Rattle.aho_core.specs.Occurrence.{Occurrence}
 use Rattle.aho_cover.specs.Counting.{CountsThese}
 use Rattle.aho_cover.proofs.Counted.{counts_none, counts_then}
 use Rattle.aho_devices.specs.declared.device.Sink.{Ghosts as SinkGhosts}
-use Rattle.programs.specs.Names.{IsOneOf, is_input}
-use Rattle.programs.specs.Telling.{Tells, TellsBytes, TellsSome}
-use Rattle.programs.specs.declared.errors.Errors.{Errors}
-use Rattle.programs.specs.declared.reason.Reason.{Reason}
-use Rattle.programs.proofs.Tellings.{tells-later}
+use Rattle.tool_parts.specs.Names.{IsOneOf, is_input}
+use Rattle.tool_parts.specs.Telling.{Tells, TellsBytes, TellsSome}
+use Rattle.tool_parts.specs.declared.errors.Errors.{Errors}
+use Rattle.tool_parts.specs.declared.reason.Reason.{Reason}
+use Rattle.tool_parts.proofs.Tellings.{tells-later}
 use Rattle.secret_rules.specs.declared.error.LineError.{LineError}
 use Rattle.acredact.specs.Calls.{IsUnreadLine}
 use Rattle.acredact.specs.Files.{unread_line}

@@ -3,7 +3,7 @@ use Rattle.std.proofs.Common.{◌≡◌, inl, inr, ℕ, ◌≤◌, List, [], ◌
 use Rattle.std.specs.Prelude.{◌⊎◌, ◌==◌, None, Some, Vec, length}
 use Rattle.std.specs.Str.{IsUtf8}
 use Rattle.std.proofs.lemmas.Bool.{ne_eqb}
-use Rattle.programs.specs.Arguments.{texts}
+use Rattle.tool_parts.specs.Arguments.{texts}
 use Rattle.acredact.specs.Apart.{AreSetApart, HaveNoName, IsWrong, PutsName, PutsText, has_none, names_file, next_behind, status_behind}
 use Rattle.acredact.specs.Reads.{bytes_of_names}
 use Rattle.acredact.specs.declared.apart.Apart.{Apart}

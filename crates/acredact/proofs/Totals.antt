@@ -8,8 +8,8 @@ use Rattle.aho_cover.specs.Counting.{CountsThese}
 use Rattle.aho_cover.proofs.Counted.{counts_none, counts_then}
 use Rattle.aho_devices.specs.declared.device.Sink.{Ghosts as SinkGhosts}
 use Rattle.aho_devices.specs.declared.device.Source.{Ghosts as SourceGhosts}
-use Rattle.programs.specs.Names.{is_input}
-use Rattle.programs.specs.declared.errors.Errors.{Errors}
+use Rattle.tool_parts.specs.Names.{is_input}
+use Rattle.tool_parts.specs.declared.errors.Errors.{Errors}
 use Rattle.acredact.specs.Arguments.{Given}
 use Rattle.acredact.specs.Calls.{TellsCounts, TellsTotals}
 use Rattle.acredact.specs.Counts.{zeros}

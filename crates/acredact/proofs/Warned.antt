@@ -8,11 +8,11 @@ use Rattle.std.proofs.lemmas.List.Elements.{All-append, All-cons, All-head, All-
 use Rattle.aho_core.specs.Listing.{IsMember}
 use Rattle.aho_core.specs.Patterns.{Patterns}
 use Rattle.aho_devices.specs.declared.device.Sink.{Ghosts as SinkGhosts}
-use Rattle.programs.specs.Streams.{bytes_left}
-use Rattle.programs.specs.Telling.{Tells, TellsBytes, TellsSome}
-use Rattle.programs.specs.declared.errors.Errors.{Errors}
-use Rattle.programs.specs.declared.failure.Failure.TheVariants.{OutOfMemory}
-use Rattle.programs.proofs.Tellings.{tells-later}
+use Rattle.tool_parts.specs.Streams.{bytes_left}
+use Rattle.tool_parts.specs.Telling.{Tells, TellsBytes, TellsSome}
+use Rattle.tool_parts.specs.declared.errors.Errors.{Errors}
+use Rattle.tool_parts.specs.declared.failure.Failure.TheVariants.{OutOfMemory}
+use Rattle.tool_parts.proofs.Tellings.{tells-later}
 use Rattle.acredact.specs.Arguments.{Given, counts_asked, has}
 use Rattle.acredact.specs.Calls.{AreBounded, Call, CallOutcome, IsBuildRefusal, IsCountsFailure, IsCountsLine, IsLineOf, IsRunFailure, IsUntouched, IsWordLine, MayFail, OutputFails, RestOutcome, RunOutcome, TellsAnyNumbers, TellsCounts, TellsNumbers, WarnedOutcome, names_asked, reading_by, redactor_by_given, work_by}
 use Rattle.acredact.specs.Counts.{secret_lines, zeros}

@@ -2,10 +2,10 @@
 use Rattle.std.specs.Prelude.{◌≡◌, ◌⊎◌, ℕ, ◌++◌, ◌||◌, not, Bool, true, false, List, [], ◌∷◌, Option, Some, None, Result, IfOk, codes, map, if◌then◌else◌}
 use Rattle.std.specs.List.{concat}
 use Rattle.std.specs.Str.{IsUtf8}
-use Rattle.call_options.specs.Forms.{Form, argument_form, joined_letters, long_name, long_with, no_more, no_option}
-use Rattle.programs.specs.Arguments.{texts}
-use Rattle.programs.specs.declared.failure.Failure.{Failure as OtherFailure}
-use Rattle.programs.specs.declared.failure.Failure.TheVariants.{OutOfMemory, Usage}
+use Rattle.tool_parts.specs.ArgumentForms.{Form, argument_form, joined_letters, long_name, long_with, no_more, no_option}
+use Rattle.tool_parts.specs.Arguments.{texts}
+use Rattle.tool_parts.specs.declared.failure.Failure.{Failure as OtherFailure}
+use Rattle.tool_parts.specs.declared.failure.Failure.TheVariants.{OutOfMemory, Usage}
 use Rattle.acredact.specs.Arguments.{Given, ItemsSoFar, all_asked, by_argument, has}
 use Rattle.acredact.specs.Calls.{gives_pattern}
 use Rattle.acredact.specs.Messages.{line_about}

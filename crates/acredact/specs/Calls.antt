@@ -10,13 +10,13 @@ use Rattle.aho_core.specs.declared.error.BuildError.{BuildError}
 use Rattle.aho_devices.specs.Counts.{counted}
 use Rattle.aho_devices.specs.declared.adapters.FromWrite.{FromWrite}
 use Rattle.aho_devices.specs.declared.device.Sink.{Ghosts as SinkGhosts}
-use Rattle.programs.specs.Names.{IsOneOf, or_input}
-use Rattle.programs.specs.Streams.{output_bytes, bytes_left}
-use Rattle.programs.specs.Telling.{Tells, TellsBytes, TellsSome}
-use Rattle.programs.specs.declared.errors.Errors.{Errors}
-use Rattle.programs.specs.declared.failure.Failure.{Failure as OtherFailure}
-use Rattle.programs.specs.declared.failure.Failure.TheVariants.{Build, OutOfMemory, Write, WriteZero}
-use Rattle.programs.specs.declared.reason.Reason.{Reason}
+use Rattle.tool_parts.specs.Names.{IsOneOf, or_input}
+use Rattle.tool_parts.specs.Streams.{output_bytes, bytes_left}
+use Rattle.tool_parts.specs.Telling.{Tells, TellsBytes, TellsSome}
+use Rattle.tool_parts.specs.declared.errors.Errors.{Errors}
+use Rattle.tool_parts.specs.declared.failure.Failure.{Failure as OtherFailure}
+use Rattle.tool_parts.specs.declared.failure.Failure.TheVariants.{Build, OutOfMemory, Write, WriteZero}
+use Rattle.tool_parts.specs.declared.reason.Reason.{Reason}
 use Rattle.acredact.specs.Arguments.{Given, GivesNoPattern, RefusesUnclean, counts_asked, covers_asked, has, is_same, last_value, words_asked}
 use Rattle.acredact.specs.Bounds.{NumbersOfAll, ReadInAll}
 use Rattle.acredact.specs.Builds.{RefusesPatterns, patterns_by_given}

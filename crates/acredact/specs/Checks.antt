@@ -6,12 +6,12 @@ use Rattle.aho_core.specs.Listing.{IsMember}
 use Rattle.aho_core.specs.Patterns.{Patterns}
 use Rattle.aho_devices.specs.declared.adapters.FromRead.{FromRead}
 use Rattle.aho_devices.specs.declared.device.Sink.{Ghosts as SinkGhosts}
-use Rattle.programs.specs.Names.{name_bytes}
-use Rattle.programs.specs.Streams.{bytes_left}
-use Rattle.programs.specs.Telling.{Tells, TellsBytes}
-use Rattle.programs.specs.declared.errors.Errors.{Errors}
-use Rattle.programs.specs.declared.failure.Failure.TheVariants.{OutOfMemory}
-use Rattle.programs.specs.declared.reason.Reason.{Reason}
+use Rattle.tool_parts.specs.Names.{name_bytes}
+use Rattle.tool_parts.specs.Streams.{bytes_left}
+use Rattle.tool_parts.specs.Telling.{Tells, TellsBytes}
+use Rattle.tool_parts.specs.declared.errors.Errors.{Errors}
+use Rattle.tool_parts.specs.declared.failure.Failure.TheVariants.{OutOfMemory}
+use Rattle.tool_parts.specs.declared.reason.Reason.{Reason}
 use Rattle.acredact.specs.Arguments.{AsksToCheck, Given, GivesNoPattern, has, words_asked}
 use Rattle.acredact.specs.Builds.{patterns_by_given}
 use Rattle.acredact.specs.Calls.{Call, IsBuildRefusal, IsUnreadLine, call_of, gives_pattern, names_asked, reading_by}

@@ -2,8 +2,8 @@
 use Rattle.std.specs.Prelude.{◌≡◌, ◌⊎◌, ℕ, ◌-◌, ◌==◌, ◌&&◌, ◌||◌, Bool, MatchBool, true, List, [], ◌∷◌, ◌++◌, Option, Some, None, codes, get_or, map, if◌then◌else◌, length, nat_lt, slice_index}
 use Rattle.std.specs.List.{All, concat, flat_map}
 use Rattle.aho_devices.specs.declared.device.Sink.{Ghosts as SinkGhosts}
-use Rattle.programs.specs.Telling.{TellsBytes}
-use Rattle.programs.specs.declared.errors.Errors.{Errors}
+use Rattle.tool_parts.specs.Telling.{TellsBytes}
+use Rattle.tool_parts.specs.declared.errors.Errors.{Errors}
 use Rattle.acredact.specs.Arguments.{Given}
 use Rattle.acredact.specs.Failures.{bad_line}
 use Rattle.acredact.specs.Messages.{told_line}

@@ -13,11 +13,11 @@ use Rattle.aho_devices.specs.Refusals.{is_write_fault, is_write_of_nothing}
 use Rattle.aho_devices.specs.declared.adapters.FromRead.{FromRead}
 use Rattle.aho_devices.specs.declared.adapters.FromWrite.{FromWrite}
 use Rattle.aho_devices.specs.declared.device.Sink.{Ghosts as SinkGhosts}
-use Rattle.programs.specs.Messages.{reason_text}
-use Rattle.programs.specs.Names.{name_bytes}
-use Rattle.programs.specs.Streams.{output_bytes, bytes_left}
-use Rattle.programs.specs.Telling.{TellsBytes}
-use Rattle.programs.specs.declared.reason.Reason.{Reason}
+use Rattle.tool_parts.specs.Messages.{reason_text}
+use Rattle.tool_parts.specs.Names.{name_bytes}
+use Rattle.tool_parts.specs.Streams.{output_bytes, bytes_left}
+use Rattle.tool_parts.specs.Telling.{TellsBytes}
+use Rattle.tool_parts.specs.declared.reason.Reason.{Reason}
 use Rattle.acredact.specs.Faults.{IsOutputEnd, IsReadReason}
 use Rattle.acredact.specs.Messages.{line_about, output_line}
 use Rattle.acredact.specs.Reads.{OfName, ReadsText}

@@ -11,12 +11,12 @@ use Rattle.aho_core.specs.declared.error.stream.StreamError.{StreamError}
 use Rattle.aho_core.specs.declared.error.stream.StreamError.TheVariants.{Memory}
 use Rattle.aho_devices.specs.declared.adapters.FromWrite.{FromWrite}
 use Rattle.aho_devices.specs.declared.device.Sink.{Ghosts as SinkGhosts}
-use Rattle.programs.specs.Names.{IsOneOf, is_input}
-use Rattle.programs.specs.Streams.{bytes_left, output_bytes}
-use Rattle.programs.specs.Telling.{Tells, TellsBytes, TellsSome}
-use Rattle.programs.specs.declared.errors.Errors.{Errors}
-use Rattle.programs.specs.declared.failure.Failure.TheVariants.{OutOfMemory}
-use Rattle.programs.specs.declared.reason.Reason.{Reason}
+use Rattle.tool_parts.specs.Names.{IsOneOf, is_input}
+use Rattle.tool_parts.specs.Streams.{bytes_left, output_bytes}
+use Rattle.tool_parts.specs.Telling.{Tells, TellsBytes, TellsSome}
+use Rattle.tool_parts.specs.declared.errors.Errors.{Errors}
+use Rattle.tool_parts.specs.declared.failure.Failure.TheVariants.{OutOfMemory}
+use Rattle.tool_parts.specs.declared.reason.Reason.{Reason}
 use Rattle.acredact.specs.Arguments.{Given, RefusesUnclean, all_given, counts_asked, has, last_value}
 use Rattle.acredact.specs.Calls.{Call, IsBuildRefusal, IsLineOf, IsStrictFailure, MayFail, TellsTotals, WarnsCall, call_of, names_asked, reading_by, redactor_by_given, work_by}
 use Rattle.acredact.specs.Doubts.{TellsDoubts, TellsWarnings}

@@ -4,11 +4,11 @@ use Rattle.std.specs.declared.io.traits.Read.{Ghosts as Readers}
 use Rattle.std.specs.declared.io.traits.Write.{Ghosts as Writers}
 use Rattle.aho_devices.specs.declared.device.Sink.{Ghosts as SinkGhosts}
 use Rattle.aho_devices.specs.declared.adapters.FromWrite.{FromWrite}
-use Rattle.programs.specs.Names.{is_input}
-use Rattle.programs.specs.Streams.{output_bytes}
-use Rattle.programs.specs.Telling.{TellsBytes, TellsSome}
-use Rattle.programs.specs.declared.errors.Errors.{Errors}
-use Rattle.programs.specs.declared.reason.Reason.{Reason}
+use Rattle.tool_parts.specs.Names.{is_input}
+use Rattle.tool_parts.specs.Streams.{output_bytes}
+use Rattle.tool_parts.specs.Telling.{TellsBytes, TellsSome}
+use Rattle.tool_parts.specs.declared.errors.Errors.{Errors}
+use Rattle.tool_parts.specs.declared.reason.Reason.{Reason}
 use Rattle.acredact.specs.Arguments.{Given, RefusesUnclean, counts_asked}
 use Rattle.acredact.specs.Calls.{Call, CountsAsked, IsLineOf, LeavesNoneAsked, OutputFails, RedactsAsked, WarnsAsked, call_of}
 use Rattle.acredact.specs.Files.{unread_line}

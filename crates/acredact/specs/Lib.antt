@@ -62,3 +62,6 @@ pub mod RunCounts
 pub mod RunPieces
 pub mod Ruled
 pub mod RuledChecks
+-- pseudonyms: keyed digests
+pub mod Hmac
+pub mod Pseudonyms

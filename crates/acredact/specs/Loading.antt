@@ -4,12 +4,12 @@ use Rattle.std.specs.Borrow.{Bor}
 use Rattle.std.specs.List.{AllZip, filter_map}
 use Rattle.std.specs.declared.io.traits.Read.{Ghosts as Readers}
 use Rattle.aho_devices.specs.declared.adapters.FromRead.{FromRead}
-use Rattle.pseudonyms.specs.Pseudonyms.{pseudonym_rule}
-use Rattle.programs.specs.Names.{is_input}
-use Rattle.programs.specs.Streams.{bytes_left}
-use Rattle.programs.specs.declared.failure.Failure.TheVariants.{OutOfMemory as NoMemory}
-use Rattle.programs.specs.declared.reason.Reason.{Reason}
-use Rattle.programs.specs.declared.reason.Reason.TheVariants.{NotFound, Denied, Directory, Irregular, NoDirectory, Links, LongName, Invalid, Full, TooLarge, Quota, Interrupted, Unavailable, Locked, NoLock, Changed, Owner, Closed, OutOfMemory, PositionLimit, ReadFault, Fault}
+use Rattle.acredact.specs.Pseudonyms.{pseudonym_rule}
+use Rattle.tool_parts.specs.Names.{is_input}
+use Rattle.tool_parts.specs.Streams.{bytes_left}
+use Rattle.tool_parts.specs.declared.failure.Failure.TheVariants.{OutOfMemory as NoMemory}
+use Rattle.tool_parts.specs.declared.reason.Reason.{Reason}
+use Rattle.tool_parts.specs.declared.reason.Reason.TheVariants.{NotFound, Denied, Directory, Irregular, NoDirectory, Links, LongName, Invalid, Full, TooLarge, Quota, Interrupted, Unavailable, Locked, NoLock, Changed, Owner, Closed, OutOfMemory, PositionLimit, ReadFault, Fault}
 use Rattle.acredact.specs.Arguments.{Given, has, last_value}
 use Rattle.acredact.specs.Forms.{AskedForms, HideSecrets, forms_asked, with_forms}
 use Rattle.acredact.specs.LineFaults.{IsLineFault, IsListFault, mark_in}

@@ -1,9 +1,9 @@
 -- The long names of options, and what they mean.
 use Rattle.std.specs.Prelude.{ℕ, List, [], ◌∷◌, Option, codes}
 use Rattle.std.specs.Result.{result_ok}
-use Rattle.call_options.specs.Names.{Named, found_among, meant, named}
-use Rattle.call_options.specs.declared.found.Found.{Found}
-use Rattle.call_options.specs.declared.found.Found.TheVariants.{Unknown}
+use Rattle.tool_parts.specs.OptionNames.{Named, found_among, meant, named}
+use Rattle.tool_parts.specs.declared.options.found.Found.{Found}
+use Rattle.tool_parts.specs.declared.options.found.Found.TheVariants.{Unknown}
 use Rattle.acredact.specs.declared.arguments.Word.{Word}
 use Rattle.acredact.specs.declared.arguments.Word.TheVariants.{IgnoreCase, Kind, Pattern, Patterns, Table, Env, EnvFile, Whole, With, Pseudonym, Forms, AsWord, Rules, After, MaxLine, Output, InPlace, Count, Summary, Crlf, AllowEmpty, Strict, Check, Help, Version}
 

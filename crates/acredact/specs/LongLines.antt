@@ -1,8 +1,8 @@
 -- How many lines are too long, and so covered whole.
 use Rattle.std.specs.Prelude.{◌≡◌, ℕ, ◌+◌, ◌-◌, ◌^◌, ◌==◌, min, nat_lt, List, [], ◌∷◌, Option, filter, if◌then◌else◌, length}
 use Rattle.aho_devices.specs.declared.device.Sink.{Ghosts as SinkGhosts}
-use Rattle.programs.specs.Telling.{TellsBytes}
-use Rattle.programs.specs.declared.errors.Errors.{Errors}
+use Rattle.tool_parts.specs.Telling.{TellsBytes}
+use Rattle.tool_parts.specs.declared.errors.Errors.{Errors}
 use Rattle.secret_rules.specs.Covering.{Covering}
 use Rattle.secret_rules.specs.Lines.{Line, stream_lines}
 use Rattle.acredact.specs.Reads.{OfName, ReadsText}

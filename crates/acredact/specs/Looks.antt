@@ -13,8 +13,8 @@ use Rattle.aho_devices.specs.Refusals.{is_read_fault}
 use Rattle.aho_devices.specs.declared.device.Source.{Ghosts as SourceGhosts}
 use Rattle.aho_stream.specs.Replacing.{MayBe, SourceGave}
 use Rattle.aho_stream.specs.StreamRun.{CanBegin}
-use Rattle.programs.specs.declared.reason.Reason.{Reason}
-use Rattle.programs.specs.declared.reason.Reason.TheVariants.{PositionLimit as TooLong, ReadFault}
+use Rattle.tool_parts.specs.declared.reason.Reason.{Reason}
+use Rattle.tool_parts.specs.declared.reason.Reason.TheVariants.{PositionLimit as TooLong, ReadFault}
 use Rattle.acredact.specs.Faults.{is_unread}
 use Rattle.acredact.specs.Reads.{ReadsText}
 use Rattle.acredact.specs.Secrets.{CountsFor, Redactor, redactor_by}

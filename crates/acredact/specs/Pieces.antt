@@ -11,9 +11,9 @@ use Rattle.aho_core.specs.Search.{plain_search}
 use Rattle.aho_automaton.specs.declared.automaton.Automaton.{Ghosts}
 use Rattle.aho_devices.specs.declared.device.Sink.{Ghosts as SinkGhosts}
 use Rattle.aho_laws.specs.CoverLaws.{AreClean, IsCleanPiece}
-use Rattle.programs.specs.Asked.{ArePatterns}
-use Rattle.programs.specs.Telling.{TellsBytes}
-use Rattle.programs.specs.declared.errors.Errors.{Errors}
+use Rattle.tool_parts.specs.Asked.{ArePatterns}
+use Rattle.tool_parts.specs.Telling.{TellsBytes}
+use Rattle.tool_parts.specs.declared.errors.Errors.{Errors}
 use Rattle.acredact.specs.Messages.{unclean_line}
 use Rattle.acredact.specs.Secrets.{AreCleanBy, IfOf, Redactor}
 use Rattle.acredact.specs.Spelling.{HoldsByte, IsSpelled}

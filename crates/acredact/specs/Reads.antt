@@ -1,7 +1,7 @@
 -- What is read of the file of a name.
 use Rattle.std.specs.Prelude.{◌≡◌, ℕ, MatchBool, List, Option, Vec, map}
 use Rattle.std.specs.Io.KnownBytes.{Consumes, IsAtEnd}
-use Rattle.programs.specs.Names.{is_input}
+use Rattle.tool_parts.specs.Names.{is_input}
 
 -- the bytes of each of some texts
 abbrev pub bytes_of_names : {Z : Type 0} → List (Vec ℕ Z) → List (List ℕ)

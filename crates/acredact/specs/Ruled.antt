@@ -19,13 +19,13 @@ use Rattle.aho_devices.specs.declared.adapters.FromWrite.{FromWrite}
 use Rattle.aho_devices.specs.declared.device.Sink.{Ghosts as SinkGhosts}
 use Rattle.aho_devices.specs.declared.device.Source.{Ghosts as SourceGhosts}
 use Rattle.aho_stream.specs.Replacing.{MayBe}
-use Rattle.programs.specs.Names.{name_bytes}
-use Rattle.programs.specs.Streams.{bytes_left, output_bytes}
-use Rattle.programs.specs.Telling.{Tells, TellsSome}
-use Rattle.programs.specs.declared.errors.Errors.{Errors}
-use Rattle.programs.specs.declared.reason.Reason.{Reason}
-use Rattle.programs.specs.declared.reason.Reason.TheVariants.{PositionLimit as TooLong, ReadFault}
-use Rattle.pseudonyms.specs.Pseudonyms.{pseudonym_rule}
+use Rattle.tool_parts.specs.Names.{name_bytes}
+use Rattle.tool_parts.specs.Streams.{bytes_left, output_bytes}
+use Rattle.tool_parts.specs.Telling.{Tells, TellsSome}
+use Rattle.tool_parts.specs.declared.errors.Errors.{Errors}
+use Rattle.tool_parts.specs.declared.reason.Reason.{Reason}
+use Rattle.tool_parts.specs.declared.reason.Reason.TheVariants.{PositionLimit as TooLong, ReadFault}
+use Rattle.acredact.specs.Pseudonyms.{pseudonym_rule}
 use Rattle.secret_rules.specs.Covering.{AreLineRuns, Covering, covering_by, lines_cover}
 use Rattle.secret_rules.specs.LineCovers.{AreSearchedFor, LeavesLines}
 use Rattle.secret_rules.specs.Lines.{stream_lines}

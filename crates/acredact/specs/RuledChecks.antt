@@ -15,12 +15,12 @@ use Rattle.aho_devices.specs.declared.adapters.FromRead.{FromRead}
 use Rattle.aho_devices.specs.declared.device.Sink.{Ghosts as SinkGhosts}
 use Rattle.aho_devices.specs.declared.device.Source.{Ghosts as SourceGhosts}
 use Rattle.aho_stream.specs.Replacing.{MayBe, SourceGave}
-use Rattle.programs.specs.Names.{name_bytes}
-use Rattle.programs.specs.Streams.{bytes_left, output_bytes}
-use Rattle.programs.specs.Telling.{Tells, TellsSome}
-use Rattle.programs.specs.declared.errors.Errors.{Errors}
-use Rattle.programs.specs.declared.reason.Reason.{Reason}
-use Rattle.programs.specs.declared.reason.Reason.TheVariants.{PositionLimit as TooLong, ReadFault}
+use Rattle.tool_parts.specs.Names.{name_bytes}
+use Rattle.tool_parts.specs.Streams.{bytes_left, output_bytes}
+use Rattle.tool_parts.specs.Telling.{Tells, TellsSome}
+use Rattle.tool_parts.specs.declared.errors.Errors.{Errors}
+use Rattle.tool_parts.specs.declared.reason.Reason.{Reason}
+use Rattle.tool_parts.specs.declared.reason.Reason.TheVariants.{PositionLimit as TooLong, ReadFault}
 use Rattle.secret_rules.specs.Covering.{AreLineRuns, Covering, covering_by}
 use Rattle.secret_rules.specs.LineCovers.{AreSearchedFor}
 use Rattle.secret_rules.specs.Lines.{Line, stream_lines}

@@ -1,7 +1,7 @@
 -- What is written in the place of a run of a call with rules.
 use Rattle.std.specs.Prelude.{ℕ, List, Option, None, Some, if◌then◌else◌, nat_lt}
 use Rattle.aho_cover.specs.Pieces.{PieceRule}
-use Rattle.pseudonyms.specs.Pseudonyms.{pseudonym_rule}
+use Rattle.acredact.specs.Pseudonyms.{pseudonym_rule}
 use Rattle.acredact.specs.Secrets.{Keyed}
 
 -- a text, or from a number on, where there is one, what is made of the run

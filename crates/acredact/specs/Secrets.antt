@@ -18,7 +18,7 @@ use Rattle.aho_cover.specs.Covers.{MayGoOn, covered_up_to}
 use Rattle.aho_cover.specs.Pieces.{PieceRule, fixed_rule, piece_in}
 use Rattle.aho_cover.specs.Words.{CountsIn, decided_of}
 use Rattle.aho_automaton.specs.declared.automaton.Automaton.{Ghosts}
-use Rattle.pseudonyms.specs.Pseudonyms.{pseudonym_rule}
+use Rattle.acredact.specs.Pseudonyms.{pseudonym_rule}
 use Rattle.acredact.specs.Spelling.{NoneAreSpelled}
 use Rattle.aho_stream.specs.Replacing.{MayBe}
 use Rattle.aho_stream.specs.StreamRun.{CanBegin}

@@ -3,8 +3,8 @@ use Rattle.std.specs.Prelude.{◌≡◌, ℕ, true, false, List, if◌then◌els
 use Rattle.std.specs.declared.io.traits.Read.{Ghosts as Readers}
 use Rattle.std.specs.declared.io.traits.Write.{Ghosts as Writers}
 use Rattle.aho_devices.specs.declared.device.Sink.{Ghosts as SinkGhosts}
-use Rattle.programs.specs.Streams.{bytes_left}
-use Rattle.programs.specs.Telling.{TellsSome}
+use Rattle.tool_parts.specs.Streams.{bytes_left}
+use Rattle.tool_parts.specs.Telling.{TellsSome}
 use Rattle.acredact.specs.Arguments.{AsksToRedact, Given, GivesNoPattern, RefusesUnclean, counts_asked}
 use Rattle.acredact.specs.Calls.{BeginsCall, Call, CountsCall, IsLineOf, LeavesNone, OutputFails, RedactsCall, TellsUpToEnd, WarnsCall, call_of}
 use Rattle.acredact.specs.declared.folder.Folder.{Ghosts as Folders}

@@ -1,9 +1,9 @@
 //! Arguments that are not UTF-8. Those that name files are set apart and told, and the others are wrong.
 
 ghost use Rattle.std.specs.Prelude.{◌≡◌, ◌⊎◌, ℕ, List, IfErr, IfOk, OnErr, string_bytes};
-ghost use Rattle.programs.specs.Arguments.{texts};
-ghost use Rattle.programs.specs.Telling.{TellsBytes};
-ghost use Rattle.programs.specs.declared.failure.Failure.TheVariants.{OutOfMemory, Usage};
+ghost use Rattle.tool_parts.specs.Arguments.{texts};
+ghost use Rattle.tool_parts.specs.Telling.{TellsBytes};
+ghost use Rattle.tool_parts.specs.declared.failure.Failure.TheVariants.{OutOfMemory, Usage};
 ghost use Rattle.acredact.specs.Apart.{IsSetApart, IsNotApart, IsToldOf, Puts, names_file, next_behind, status_behind, told_by, told_lines, unnamed_lines};
 ghost use Rattle.acredact.specs.Reads.{bytes_of_names};
 ghost use Rattle.acredact.specs.Arguments.{all_given};
@@ -14,12 +14,12 @@ use crate::arguments::{Expects, Item, Mistake, Word, has, items, read};
 use crate::failure::Failure;
 use crate::run::{FAILED, gives_pattern};
 use crate::shown::tell_shown;
-use aho_devices::device::Sink;
-use call_options::argument::{Argument, argument_of};
-use programs::errors::Errors;
-use programs::failure;
+use chromesquid::Sink;
 use std::alloc::{Alloc, AllocError, Global};
 use std::env::{Env, FillError};
+use tool_parts::errors::Errors;
+use tool_parts::failure;
+use tool_parts::options::argument::{Argument, argument_of};
 
 /// How long an argument may be at first.
 const FIRST_LENGTH: usize = 4096;

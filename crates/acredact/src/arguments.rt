@@ -1,7 +1,7 @@
 //! What the arguments of a call are: options with their values, and names of files.
 
 ghost use Rattle.std.specs.Prelude.{◌≡◌, ◌++◌, [], ◌∷◌, Some, None, IfErr, IfOk, OnOk, option_map, string_bytes};
-ghost use Rattle.programs.specs.Arguments.{kind_by, texts};
+ghost use Rattle.tool_parts.specs.Arguments.{kind_by, texts};
 ghost use Rattle.acredact.specs.Arguments.{ReadsAs, all_asked, all_given, by_any, by_argument, checks_asked, counts_asked, covers_asked, given, given_by, has, in_place_asked, in_place_mixture_of, is_cover, is_same, is_value_of, by_joined, kind_asked, last_value, by_letter, by_letters, mixture_of, by_name, option_name, output_asked, by_taken, takes_value, max_line_mixture_of, rules_mixture_of, gives_rules, rules_asked, rules_check_asked, words_asked, words_mixture_of, by_value};
 ghost use Rattle.acredact.specs.Long.{word_by_name};
 ghost use Rattle.acredact.specs.Mistakes.{FailsAs, IsMistake, IsMistakeOfCall, TellsAs, line_of_any, line_of_argument, line_of_joined, line_of_letter, line_of_letters, line_of_name, mistake_line, value_line};
@@ -10,10 +10,10 @@ use crate::forms::are_forms;
 use crate::line_size::size_of;
 use crate::long::option_of;
 use crate::values::is_variable_name;
-use aho_core::search::MatchKind;
-use call_options::argument::{Argument, text_argument_of};
-use call_options::found::NotFound;
+use chromesquid::MatchKind;
 use std::alloc::{AllocError, Global};
+use tool_parts::options::argument::{Argument, text_argument_of};
+use tool_parts::options::found::NotFound;
 
 /// What an argument is, or the option that it is the value of.
 #[derive(Clone, Copy, PartialEq, Eq)]

@@ -11,13 +11,10 @@ ghost use Rattle.acredact.specs.Back.{BackStream, IsBackAsked};
 
 use crate::arguments::{Item, Word, counts, covers, has, kind_of};
 use crate::ways::{Replacing, Way};
-use aho_automaton::automaton::Automaton;
 use aho_backward::backward::Backward;
-use aho_backward::error::BackwardError;
-use aho_backward::overhang::is_worth_it;
-use aho_corasick::noncontiguous::NFA;
-use aho_core::error::{BuildError, StreamError};
-use aho_devices::device::{Sink, Source};
+use chromesquid::noncontiguous::NFA;
+use chromesquid::overhang::is_worth_it;
+use chromesquid::{Automaton, BackwardError, BuildError, Sink, Source, StreamError};
 use std::alloc::{AllocError, Global};
 
 /// The searcher by a walk backward, where the kind that is asked for is a leftmost one, nothing is counted, and some pattern goes on

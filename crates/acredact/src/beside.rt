@@ -7,15 +7,15 @@ use crate::held::{Held, lock};
 use crate::left::{folder_of, name_beside, remove_left};
 use crate::outputs::Outputs;
 use crate::seen::{Seen, known, stays_at};
-use aho_devices::adapters::FromWrite;
-use programs::closed::Noted;
-use programs::reason::Reason;
+use chromesquid::FromWrite;
 use std::alloc::{AllocError, Global};
 use std::cell::Cell;
 use std::fs::{File, Files, OpenOptions, Permissions};
 use std::io::{BufWriter, ErrorKind, Write};
 use std::os::unix::fs::{OpenOptionsExt, PermissionsExt, fchown};
 use std::{fs, io};
+use tool_parts::closed::Noted;
+use tool_parts::reason::Reason;
 
 /// How many bytes of a new file are kept before they are written.
 const FILE_CAPACITY: usize = 64 * 1024;

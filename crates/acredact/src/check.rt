@@ -18,13 +18,11 @@ use crate::look::{Searched, Verdict, look_at_files};
 use crate::patterns::{Rule, patterns_of};
 use crate::rows::build;
 use crate::run::{FAILED, gives_pattern, names, report};
-use aho_automaton::automaton::Automaton;
-use aho_devices::adapters::FromRead;
-use aho_devices::device::Sink;
-use programs::errors::Errors;
-use programs::rows::rows_of;
+use chromesquid::{Automaton, FromRead, Sink};
 use std::alloc::{AllocError, Global};
 use std::io::Read;
+use tool_parts::errors::Errors;
+use tool_parts::rows::rows_of;
 
 /// The exit status where something would be replaced.
 const FOUND: u8 = 1;

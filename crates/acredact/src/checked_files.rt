@@ -11,15 +11,12 @@ use crate::folder::Folder;
 use crate::legend::Legend;
 use crate::look::{Look, Verdict};
 use crate::teller::Teller;
-use aho_automaton::automaton::Automaton;
-use aho_core::error::StreamError;
-use aho_devices::adapters::FromRead;
-use aho_devices::device::{Sink, Source};
-use programs::errors::Errors;
-use programs::reason::Reason;
+use chromesquid::{Automaton, FromRead, Sink, Source, StreamError};
 use secret_rules::{LineCover, LineError, visit_lines};
 use std::alloc::Global;
 use std::io::Read;
+use tool_parts::errors::Errors;
+use tool_parts::reason::Reason;
 
 /// Which files are looked at, and what is told of them.
 #[derive(Clone, Copy)]

@@ -16,8 +16,7 @@ ghost use Rattle.acredact.specs.Tables.{piece_by, secret_of};
 
 use crate::patterns::Rule;
 use crate::spelled::first_spelled;
-use aho_automaton::automaton::Automaton;
-use aho_core::search::{Input, Match};
+use chromesquid::{Automaton, Input, Match};
 
 /// By what pieces are judged.
 #[derive(Clone, Copy)]

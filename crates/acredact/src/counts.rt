@@ -2,13 +2,13 @@
 
 ghost use Rattle.std.specs.Prelude.{◌≡◌, IfOk, OnErr, OnOk, decimal};
 ghost use Rattle.acredact.specs.Counts.{PutsText, count_line, counts_told, place_told, zeros};
-ghost use Rattle.programs.specs.Telling.{TellsBytes};
+ghost use Rattle.tool_parts.specs.Telling.{TellsBytes};
 
 use crate::patterns::Rule;
-use aho_devices::device::Sink;
+use chromesquid::Sink;
 use itoa::write_digits;
-use programs::errors::Errors;
 use std::alloc::{AllocError, Global};
+use tool_parts::errors::Errors;
 
 /// The most digits that a number has.
 const MAX_DIGITS: usize = 20;

@@ -3,7 +3,7 @@
 
 ghost use Rattle.std.specs.Prelude.{◌≡◌, IfErr, None, OnErr, OnOk, true};
 ghost use Rattle.std.specs.List.{concat};
-ghost use Rattle.programs.specs.Telling.{TellsBytes};
+ghost use Rattle.tool_parts.specs.Telling.{TellsBytes};
 ghost use Rattle.acredact.specs.Doubts.{AreUndoubted, IsDoubtFailure, RefusesDoubt, RefusesFirstDoubt, TellsDoubts, list_doubt_lines, doubt_in, doubt_lines, doubt_of, is_blank, is_quote, list_name};
 ghost use Rattle.acredact.specs.Arguments.{all_given};
 ghost use Rattle.acredact.specs.Short.{AreLongAsked};
@@ -13,8 +13,8 @@ use crate::arguments::Item;
 use crate::failure::{Failure, tell_line};
 use crate::patterns::{BadLine, LineFault, Rule};
 use crate::short::{refuse_short_asked, tell_short_asked};
-use aho_devices::device::Sink;
-use programs::errors::Errors;
+use chromesquid::Sink;
+use tool_parts::errors::Errors;
 
 /// Tells of each pattern of a list that is doubtful, by file and line, and of each that is too short for forms, by its number; or
 /// refuses the first of them.

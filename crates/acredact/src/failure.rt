@@ -1,8 +1,8 @@
 //! Why a call ends early, and how that is told.
 
 ghost use Rattle.std.specs.Prelude.{◌≡◌, ℕ, List, decimal};
-ghost use Rattle.programs.specs.Messages.{reason_text};
-ghost use Rattle.programs.specs.Telling.{TellsBytes};
+ghost use Rattle.tool_parts.specs.Messages.{reason_text};
+ghost use Rattle.tool_parts.specs.Telling.{TellsBytes};
 ghost use Rattle.acredact.specs.Failures.{IsFailureLine, IsOtherLine, bad_line, is_of_output, short_line};
 ghost use Rattle.acredact.specs.LineFaults.{line_fault_text};
 ghost use Rattle.acredact.specs.Messages.{alone, flaw_text, line_about, no_file_line, no_output_line, output_line, piece_line, told_line, unclean_line};
@@ -13,13 +13,12 @@ use crate::arguments::{Mistake, Mixture, name_of};
 use crate::clean::{Flaw, Unclean};
 use crate::patterns::{BadLine, LineFault};
 use crate::shown::{MAX_DIGITS, PROGRAM, digits_of, is_plain, tell_shown, write_shown};
-use aho_core::error::{BuildError, StreamError};
-use aho_devices::device::Sink;
-use call_options::misuse::Misuse;
-use programs::errors::Errors;
-use programs::failure;
-use programs::reason::Reason;
+use chromesquid::{BuildError, Sink, StreamError};
 use std::alloc::AllocError;
+use tool_parts::errors::Errors;
+use tool_parts::failure;
+use tool_parts::options::misuse::Misuse;
+use tool_parts::reason::Reason;
 
 /// Why a call ends early.
 #[derive(Drop)]
@@ -62,7 +61,7 @@ impl<'a> From<Mistake<'a>> for Failure<'a> {
 
 impl From<AllocError> for Failure<'_> {
     ghost use Rattle.acredact.specs.declared.failure.Failure.TheVariants.{Other};
-    ghost use Rattle.programs.specs.declared.failure.Failure.TheVariants.{OutOfMemory};
+    ghost use Rattle.tool_parts.specs.declared.failure.Failure.TheVariants.{OutOfMemory};
 
     ghost from_gives = { λ _ failure. failure ≡ Other OutOfMemory };
 
@@ -73,7 +72,7 @@ impl From<AllocError> for Failure<'_> {
 
 impl From<BuildError> for Failure<'_> {
     ghost use Rattle.acredact.specs.declared.failure.Failure.TheVariants.{Other};
-    ghost use Rattle.programs.specs.declared.failure.Failure.TheVariants.{Build};
+    ghost use Rattle.tool_parts.specs.declared.failure.Failure.TheVariants.{Build};
 
     ghost from_gives = { λ error failure. failure ≡ Other (Build error) };
 
@@ -84,7 +83,7 @@ impl From<BuildError> for Failure<'_> {
 
 impl From<StreamError> for Failure<'_> {
     ghost use Rattle.acredact.specs.declared.failure.Failure.TheVariants.{Other};
-    ghost use Rattle.programs.specs.Failures.{failure_of_stream};
+    ghost use Rattle.tool_parts.specs.Failures.{failure_of_stream};
 
     ghost from_gives = { λ error failure. failure ≡ Other (failure_of_stream error) };
 

@@ -4,8 +4,8 @@ ghost use Rattle.std.specs.Prelude.{◌≡◌, ◌&&◌, ℕ, List, None, Ok, Op
 ghost use Rattle.aho_core.specs.Patterns.{Patterns};
 ghost use Rattle.aho_backward.specs.Searcher.{IsBackwardOf};
 ghost use Rattle.aho_devices.specs.Counts.{counted};
-ghost use Rattle.programs.specs.Names.{is_input};
-ghost use Rattle.programs.specs.Streams.{bytes_left};
+ghost use Rattle.tool_parts.specs.Names.{is_input};
+ghost use Rattle.tool_parts.specs.Streams.{bytes_left};
 ghost use Rattle.acredact.specs.Back.{BackCounts, BackOutcome};
 ghost use Rattle.acredact.specs.Bounds.{JobNumbers, NumbersGiven, NumbersOfFile, NumbersOfInput, NumbersOpened, NumbersTold};
 ghost use Rattle.acredact.specs.Faults.{is_unread, reading_of};
@@ -20,20 +20,17 @@ use crate::back::Backing;
 use crate::failure::{tell_output, tell_unread};
 use crate::folder::Folder;
 use crate::meter::{Known, Lent, Metered, Taken};
+use crate::pseudonym::Pseudonyms;
 use crate::streams::Streams;
 use crate::summary::Volume;
 use crate::ways::{Covering, Key, Naming, Replacing, Way};
-use aho_automaton::automaton::Automaton;
 use aho_backward::backward::Backward;
-use aho_core::error::StreamError;
-use aho_cover::start::StreamCoverStart;
-use aho_devices::adapters::{FromRead, FromWrite};
-use aho_devices::device::{Sink, Source};
-use programs::reason::Reason;
-use pseudonyms::pseudonym::Pseudonyms;
+use chromesquid::any::StreamCoverStart;
+use chromesquid::{Automaton, FromRead, FromWrite, Sink, Source, StreamError};
 use std::alloc::Global;
 use std::io::{Read, Write};
 use std::marker::{Brand, PhantomData};
+use tool_parts::reason::Reason;
 
 /// What is done to which files.
 #[derive(Clone, Copy)]

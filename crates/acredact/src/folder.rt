@@ -2,11 +2,10 @@
 
 ghost use Rattle.std.specs.Prelude.{ℕ, Bool, List, Option, None, IfErr, IfOk, ⊤};
 ghost use Rattle.std.specs.Io.KnownBytes.{Keeps};
-ghost use Rattle.programs.specs.declared.reason.Reason.{Reason};
+ghost use Rattle.tool_parts.specs.declared.reason.Reason.{Reason};
 ghost use Rattle.acredact.specs.Reads.{bytes_of_names};
 
 use crate::environment::environment;
-use programs::reason::Reason;
 use std::alloc::{AllocError, Global};
 use std::cell::Cell;
 use std::env::Env;
@@ -15,6 +14,7 @@ use std::fs::{Metadata, OpenFile};
 use std::io::Read;
 use std::os::unix::fs::MetadataExt;
 use std::rt::Files;
+use tool_parts::reason::Reason;
 
 /// What opens files by their names, and tells the environment.
 pub trait Folder {

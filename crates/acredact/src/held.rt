@@ -1,9 +1,9 @@
 //! A file that is to be replaced: it is opened and locked until that is done.
 
 use crate::seen::{Seen, known, place_at, stays_at};
-use programs::reason::Reason;
 use std::fs;
 use std::fs::{File, Files, TryLockError};
+use tool_parts::reason::Reason;
 
 /// A file that is to be replaced.
 #[derive(Drop)]

@@ -2,9 +2,9 @@
 
 ghost use Rattle.std.specs.Prelude.{◌≡◌, ◌≤◌, Err, IfErr, IfOk, IfSome, Ok, OnErr, false, length, true};
 ghost use Rattle.aho_core.specs.declared.error.stream.StreamError.TheVariants.{Memory};
-ghost use Rattle.programs.specs.Arguments.{texts};
-ghost use Rattle.programs.specs.Streams.{output_bytes};
-ghost use Rattle.programs.specs.Telling.{TellsSome};
+ghost use Rattle.tool_parts.specs.Arguments.{texts};
+ghost use Rattle.tool_parts.specs.Streams.{output_bytes};
+ghost use Rattle.tool_parts.specs.Telling.{TellsSome};
 ghost use Rattle.acredact.specs.Arguments.{AreMistaken, AsksInPlace, IfAsked, all_given, counts_given};
 ghost use Rattle.acredact.specs.Back.{AreBoth, IfBackIs};
 ghost use Rattle.acredact.specs.Calls.{IsWrongFailure, IsWrongLine, ReadsAsked};
@@ -36,15 +36,12 @@ use crate::run::{
 };
 use crate::streams::Streams;
 use crate::summary::Volume;
-use aho_automaton::automaton::Automaton;
 use aho_backward::backward::Backward;
-use aho_core::error::StreamError;
-use aho_devices::adapters::FromWrite;
-use aho_devices::device::Sink;
-use programs::errors::Errors;
-use programs::rows::rows_of;
+use chromesquid::{Automaton, FromWrite, Sink, StreamError};
 use std::alloc::Global;
 use std::io::Read;
+use tool_parts::errors::Errors;
+use tool_parts::rows::rows_of;
 
 /// Whether the arguments ask for files to be replaced in place.
 ///

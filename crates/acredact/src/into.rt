@@ -1,8 +1,8 @@
 //! A call whose output is a new file, which takes the place of another where all was done.
 
 ghost use Rattle.std.specs.Prelude.{◌≡◌, IfErr, IfOk, option_map, true};
-ghost use Rattle.programs.specs.Arguments.{texts};
-ghost use Rattle.programs.specs.Streams.{output_bytes};
+ghost use Rattle.tool_parts.specs.Arguments.{texts};
+ghost use Rattle.tool_parts.specs.Streams.{output_bytes};
 ghost use Rattle.acredact.specs.Arguments.{IfAsked, IfNoCheck, IfRuled, NamesOutput};
 ghost use Rattle.acredact.specs.Calls.{IsWrongFailure, RedactsAsked};
 ghost use Rattle.acredact.specs.Into.{CountsAll, IsKept, IsSpared, LeavesNoneAll, RuledTellsUnput, TellsNone, TellsUnput, TellsUnread, WarnsAll, WritesAll, WritesAllByRules};
@@ -15,11 +15,10 @@ use crate::folder::Folder;
 use crate::outputs::Outputs;
 use crate::run::{FAILED, run};
 use crate::streams::Streams;
-use aho_devices::adapters::FromWrite;
-use aho_devices::device::Sink;
-use programs::errors::Errors;
+use chromesquid::{FromWrite, Sink};
 use std::alloc::Global;
 use std::io::Read;
+use tool_parts::errors::Errors;
 
 /// The file that is named for the output, if one is.
 ///

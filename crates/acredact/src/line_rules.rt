@@ -13,14 +13,14 @@ use crate::folder::Folder;
 use crate::load::{Lists, read_list};
 use crate::patterns::{BadLine, mark_of, split_at};
 use crate::ruled_failure::RuledFailure;
-use aho_devices::adapters::FromRead;
-use programs::failure;
+use chromesquid::FromRead;
 use secret_rules::{
     BUILTIN, LineError, MarkError, ParseError, Rule as LineRule, RuleFault, Rules, RulesError,
     parse,
 };
 use std::alloc::{AllocError, Global};
 use std::io::Read;
+use tool_parts::failure;
 
 /// What stands for a file in messages about the rule of a keyword.
 const AFTER: &str = "--after";

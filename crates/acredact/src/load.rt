@@ -3,7 +3,7 @@
 ghost use Rattle.std.specs.Prelude.{◌≡◌, ℕ, List, Option, Some, IfErr, IfOk, OnOk, false};
 ghost use Rattle.aho_core.specs.Replacement.{pieces_of};
 ghost use Rattle.aho_devices.specs.Counts.{counted};
-ghost use Rattle.programs.specs.Streams.{bytes_left};
+ghost use Rattle.tool_parts.specs.Streams.{bytes_left};
 ghost use Rattle.acredact.specs.Arguments.{all_given, given_of};
 ghost use Rattle.acredact.specs.Calls.{rules_asked};
 ghost use Rattle.acredact.specs.Forms.{HaveForms, forms_asked};
@@ -12,7 +12,7 @@ ghost use Rattle.acredact.specs.Parts.{AddsSome, ArePartsBy, GivesPattern};
 ghost use Rattle.acredact.specs.Reads.{ReadsText};
 ghost use Rattle.acredact.specs.Values.{GiveEach, GivesValue};
 ghost use Rattle.acredact.specs.declared.failure.Failure.TheVariants.{Other, Pattern};
-ghost use Rattle.programs.specs.declared.failure.Failure.TheVariants.{OutOfMemory as OutOfMemoryFailure};
+ghost use Rattle.tool_parts.specs.declared.failure.Failure.TheVariants.{OutOfMemory as OutOfMemoryFailure};
 ghost use Rattle.acredact.specs.declared.patterns.LineFault.TheVariants.{OutOfMemory};
 
 use crate::arguments::{Item, Word, covers, has, last_value};
@@ -23,12 +23,11 @@ use crate::forms::add_forms;
 use crate::parts::add_parts;
 use crate::patterns::{BadLine, Form, LineFault, Place, Rule, add_line, add_lines, mark_of};
 use crate::values::{are_refused, first_fault, values_in_text, values_of_entries, whole_in};
-use aho_devices::adapters::FromRead;
-use aho_devices::device::Source;
-use programs::failure;
-use programs::reason::Reason;
+use chromesquid::{FromRead, Source};
 use std::alloc::Global;
 use std::io::Read;
+use tool_parts::failure;
+use tool_parts::reason::Reason;
 
 /// How many bytes of a list are read at once.
 const PIECE: usize = 16 * 1024;

@@ -3,10 +3,10 @@
 ghost use Rattle.std.specs.Prelude.{◌≡◌, Some, None, IfErr, IfOk};
 ghost use Rattle.acredact.specs.Long.{found_of_name, word_by_name, options_of_output, options_of_patterns};
 ghost use Rattle.acredact.specs.Mistakes.{mistake_line, line_of_name};
-ghost use Rattle.call_options.specs.Names.{found_among};
+ghost use Rattle.tool_parts.specs.OptionNames.{found_among};
 
 use crate::arguments::{Mistake, Word};
-use call_options::found::Found;
+use tool_parts::options::found::Found;
 
 /// The option of a long name, or of a beginning that no other option's name has.
 pub fn option_of(name: &[u8]) -> Result<Word, Mistake<'_>>

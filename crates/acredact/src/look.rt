@@ -6,8 +6,8 @@ ghost use Rattle.aho_core.specs.Patterns.{Patterns};
 ghost use Rattle.aho_devices.specs.Counts.{counted};
 ghost use Rattle.aho_stream.specs.FindRuns.{FindsAlong};
 ghost use Rattle.aho_stream.specs.Iterators.{CanGoOn, automaton_of};
-ghost use Rattle.programs.specs.Streams.{bytes_left};
-ghost use Rattle.programs.specs.Telling.{TellsBytes};
+ghost use Rattle.tool_parts.specs.Streams.{bytes_left};
+ghost use Rattle.tool_parts.specs.Telling.{TellsBytes};
 ghost use Rattle.acredact.specs.Checks.{IsLookOf, SeesSearched, look_lines, quest_of};
 ghost use Rattle.acredact.specs.Faults.{IsReadReason};
 ghost use Rattle.acredact.specs.Looks.{CanLook, IsLook, IsLookEnd, LooksAt, is_failed_look, is_unread_look, look_of, sought, verdict_with};
@@ -16,20 +16,12 @@ ghost use Rattle.acredact.specs.Secrets.{IfOf};
 use crate::failure::tell_unread;
 use crate::files::is_input;
 use crate::folder::Folder;
-use aho_automaton::automaton::Automaton;
-use aho_core::error::StreamError;
-use aho_cover::pieces::PatternPieces;
-use aho_cover::start::StreamCoverStart;
-use aho_cover::stream::cover_with;
-use aho_devices::adapters::FromRead;
-use aho_devices::device::{Sink, Source};
-use aho_devices::write::Nowhere;
-use aho_stream::finds::StreamFindIter;
-use aho_stream::start::StreamStart;
-use programs::errors::Errors;
-use programs::reason::Reason;
+use chromesquid::any::{PatternPieces, StreamCoverStart, StreamFindIter, StreamStart, cover_with};
+use chromesquid::{Automaton, FromRead, Nowhere, Sink, Source, StreamError};
 use std::alloc::{AllocError, Global};
 use std::io::Read;
+use tool_parts::errors::Errors;
+use tool_parts::reason::Reason;
 
 /// What a file is found to be.
 #[derive(Clone, Copy)]

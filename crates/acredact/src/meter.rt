@@ -4,8 +4,7 @@ ghost use Rattle.std.specs.Prelude.{◌≡◌, ℕ, ◌≤◌, List, None, Optio
 ghost use Rattle.aho_devices.specs.Counts.{counted, is_empty_read};
 ghost use Rattle.acredact.specs.Metering.{GivesFirst, IsMetered, settled_left};
 
-use aho_core::error::Fault;
-use aho_devices::device::Source;
+use chromesquid::{Fault, Source};
 use std::marker::{Brand, PhantomData};
 
 /// What a source had to give before its bytes were counted, and the number to which they are added.

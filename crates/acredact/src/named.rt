@@ -1,16 +1,16 @@
 //! Rules that are named by a key: each has for its replacement the pseudonym of its secret, in whatever form that stands.
 
 ghost use Rattle.std.specs.Prelude.{◌≡◌, ◌∷◌, [], IfOk, OnOk, Some};
-ghost use Rattle.pseudonyms.specs.Pseudonyms.{pseudonym_rule};
+ghost use Rattle.acredact.specs.Pseudonyms.{pseudonym_rule};
 ghost use Rattle.acredact.specs.Named.{all_named, named_secret, own_pattern, pattern_numbered};
 ghost use Rattle.acredact.specs.Parts.{AddsSome};
 ghost use Rattle.acredact.specs.Tables.{secret_of, secrets_of};
 
 use crate::patterns::{Rule, copy_of};
+use crate::pseudonym::Pseudonyms;
 use crate::ways::Key;
-use aho_core::search::PatternID;
-use aho_cover::pieces::Pieces;
-use pseudonyms::pseudonym::Pseudonyms;
+use chromesquid::PatternID;
+use chromesquid::any::Pieces;
 use std::alloc::{AllocError, Global};
 
 /// These rules, named by a key.

@@ -1,11 +1,11 @@
 //! Files that are replaced whole: a new one is written beside each, and takes its place at the end.
 
 ghost use Rattle.std.specs.Prelude.{◌≡◌, ℕ, [], IfOk, IfSome, List, MatchResult, Option};
-ghost use Rattle.programs.specs.declared.reason.Reason.{Reason};
+ghost use Rattle.tool_parts.specs.declared.reason.Reason.{Reason};
 
-use aho_devices::adapters::FromWrite;
-use programs::reason::Reason;
+use chromesquid::FromWrite;
 use std::io::Write;
+use tool_parts::reason::Reason;
 
 /// What makes new files, and has them take the places of others.
 pub trait Outputs {

@@ -11,15 +11,11 @@ ghost use Rattle.acredact.specs.Streams.{ComesOf, StreamOutcome, WritesPiece};
 ghost use Rattle.acredact.specs.Totals.{CountsBy, CountsOfStream};
 ghost use Rattle.acredact.specs.Ways.{IfCoverer};
 
-use aho_automaton::automaton::Automaton;
-use aho_core::error::StreamError;
-use aho_core::search::Match;
-use aho_cover::pieces::{PatternPieces, Pieces};
-use aho_cover::start::StreamCoverStart;
-use aho_cover::stream::cover_with;
-use aho_devices::device::{Sink, Source};
-use aho_devices::write::write_whole;
-use aho_stream::replace::{try_stream_replace_all, try_stream_replace_all_with_mut};
+use chromesquid::any::{
+    PatternPieces, Pieces, StreamCoverStart, cover_with, try_stream_replace_all,
+    try_stream_replace_all_with_mut,
+};
+use chromesquid::{Automaton, Match, Sink, Source, StreamError, write_whole};
 use std::alloc::Global;
 
 /// Writes what the source gives to the sink, but in the place of each run of bytes that lie in matches the replacement of the

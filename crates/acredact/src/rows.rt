@@ -7,9 +7,8 @@ ghost use Rattle.acredact.specs.Arguments.{all_given};
 ghost use Rattle.acredact.specs.Builds.{RefusesPatterns, patterns_by_given, settings_by_given};
 
 use crate::arguments::{Item, Word, has, kind_of};
-use aho_automaton::automaton::Automaton;
-use aho_corasick::noncontiguous::{Builder, NFA};
-use aho_core::error::BuildError;
+use chromesquid::noncontiguous::{Builder, NFA};
+use chromesquid::{Automaton, BuildError};
 use std::alloc::Global;
 
 /// The automaton of these patterns, by the match kind and the case rule that are given.

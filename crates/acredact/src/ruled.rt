@@ -3,7 +3,7 @@
 ghost use Rattle.std.specs.Prelude.{◌≡◌, ◌⊎◌, ◌++◌, ◌∷◌, [], IfOk, IsOk, OnOk, map, replicate, true};
 ghost use Rattle.aho_core.specs.Replacement.{pieces_of};
 ghost use Rattle.aho_core.specs.declared.search.Anchored.TheVariants.{No};
-ghost use Rattle.programs.specs.Telling.{TellsBytes};
+ghost use Rattle.tool_parts.specs.Telling.{TellsBytes};
 ghost use Rattle.acredact.specs.LongLines.{long_told};
 ghost use Rattle.acredact.specs.Doubts.{last_of};
 ghost use Rattle.acredact.specs.Arguments.{all_given};
@@ -26,16 +26,13 @@ use crate::run_counts::tell_runs;
 use crate::run_pieces::RunPieces;
 use crate::streams::Streams;
 use crate::summary::Volume;
-use aho_automaton::automaton::Automaton;
-use aho_corasick::noncontiguous::{Builder, NFA};
-use aho_core::error::BuildError;
-use aho_core::search::MatchKind;
-use aho_cover::pieces::Pieces;
-use aho_devices::device::Sink;
-use programs::errors::Errors;
+use chromesquid::any::Pieces;
+use chromesquid::noncontiguous::{Builder, NFA};
+use chromesquid::{Automaton, BuildError, MatchKind, Sink};
 use secret_rules::{Rule as LineRule, Rules};
 use std::alloc::{AllocError, Global};
 use std::io::{Read, Write};
+use tool_parts::errors::Errors;
 
 /// Redacts each file by rules, line by line, and answers the exit status: 0 where all was redacted, and 2 where rules or patterns are
 /// wrong, memory runs out, or a file cannot be read or the output not be written.

@@ -1,18 +1,17 @@
 //! Why a call with rules ends early, and how that is told.
 
 ghost use Rattle.std.specs.Prelude.{◌≡◌, ℕ, List};
-ghost use Rattle.programs.specs.Telling.{TellsBytes};
+ghost use Rattle.tool_parts.specs.Telling.{TellsBytes};
 ghost use Rattle.acredact.specs.RuleLines.{IsRuledLine, IsTomlLine, line_end_line, too_long_line};
 
 use crate::bad_rule::{BadRule, tell_rule};
 use crate::failure::{Failure, tell_failure};
 use crate::shown::{MAX_DIGITS, PROGRAM, digits_of, tell_shown};
-use aho_core::error::BuildError;
-use aho_devices::device::Sink;
-use programs::errors::Errors;
-use programs::failure;
+use chromesquid::{BuildError, Sink};
 use std::alloc::AllocError;
 use toml::de::Error as TomlError;
+use tool_parts::errors::Errors;
+use tool_parts::failure;
 
 /// Why a call with rules ends early.
 #[derive(Drop)]
@@ -36,7 +35,7 @@ pub enum RuledFailure<'a> {
 impl From<AllocError> for RuledFailure<'_> {
     ghost use Rattle.acredact.specs.declared.failure.Failure.TheVariants.{Other};
     ghost use Rattle.acredact.specs.declared.ruled_failure.RuledFailure.TheVariants.{Plain};
-    ghost use Rattle.programs.specs.declared.failure.Failure.TheVariants.{OutOfMemory};
+    ghost use Rattle.tool_parts.specs.declared.failure.Failure.TheVariants.{OutOfMemory};
 
     ghost from_gives = { λ _ failure. failure ≡ Plain (Other OutOfMemory) };
 
@@ -48,7 +47,7 @@ impl From<AllocError> for RuledFailure<'_> {
 impl From<BuildError> for RuledFailure<'_> {
     ghost use Rattle.acredact.specs.declared.failure.Failure.TheVariants.{Other};
     ghost use Rattle.acredact.specs.declared.ruled_failure.RuledFailure.TheVariants.{Plain};
-    ghost use Rattle.programs.specs.declared.failure.Failure.TheVariants.{Build};
+    ghost use Rattle.tool_parts.specs.declared.failure.Failure.TheVariants.{Build};
 
     ghost from_gives = { λ error failure. failure ≡ Plain (Other (Build error)) };
 

@@ -12,16 +12,13 @@ use crate::folder::Folder;
 use crate::meter::{Known, Lent, Metered, Taken};
 use crate::streams::Streams;
 use crate::summary::Volume;
-use aho_automaton::automaton::Automaton;
-use aho_core::error::{BuildError, StreamError};
-use aho_cover::pieces::Pieces;
-use aho_devices::adapters::{FromRead, FromWrite};
-use aho_devices::device::{Sink, Source};
-use programs::reason::Reason;
+use chromesquid::any::Pieces;
+use chromesquid::{Automaton, BuildError, FromRead, FromWrite, Sink, Source, StreamError};
 use secret_rules::{LineCover, LineError, Rules, cover_lines};
 use std::alloc::Global;
 use std::io::{Read, Write};
 use std::marker::{Brand, PhantomData};
+use tool_parts::reason::Reason;
 
 /// How many numbers patterns, rules and long lines have together at most.
 const MOST_NUMBERS: usize = 2_147_483_646;

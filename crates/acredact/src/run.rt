@@ -2,10 +2,10 @@
 
 ghost use Rattle.std.specs.Prelude.{◌≡◌, ◌++◌, ◌⊎◌, ◌<◌, ◌≤◌, ℕ, List, IfErr, IfOk, IfSome, Ok, OnErr, OnOk, Some, false, length, option_map, true};
 ghost use Rattle.aho_core.specs.Replacement.{pieces_of};
-ghost use Rattle.programs.specs.Arguments.{texts};
-ghost use Rattle.programs.specs.Names.{name_bytes};
-ghost use Rattle.programs.specs.Streams.{WritesBytes, bytes_left};
-ghost use Rattle.programs.specs.Telling.{Tells, TellsBytes, TellsSome};
+ghost use Rattle.tool_parts.specs.Arguments.{texts};
+ghost use Rattle.tool_parts.specs.Names.{name_bytes};
+ghost use Rattle.tool_parts.specs.Streams.{WritesBytes, bytes_left};
+ghost use Rattle.tool_parts.specs.Telling.{Tells, TellsBytes, TellsSome};
 ghost use Rattle.acredact.specs.Arguments.{AreMistaken, AsksToRedact, GivesNoPattern, IfAsked, IfChecking, IfNoCheck, IfRuled, IfRulesCheck, IsCheck, RefusesUnclean, all_given, any_check_asked, counts_asked, counts_given, has};
 ghost use Rattle.acredact.specs.Back.{AreBoth, FilesJob, IfBackIs, RowsCounts, RowsOutcome};
 ghost use Rattle.acredact.specs.Bounds.{JobNumbers};
@@ -52,17 +52,13 @@ use crate::streams::Streams;
 use crate::summary::{Volume, put_summary};
 use crate::sums::sums_of;
 use crate::ways::Key;
-use aho_automaton::automaton::Automaton;
 use aho_backward::backward::Backward;
-use aho_core::error::StreamError;
-use aho_devices::adapters::FromWrite;
-use aho_devices::device::Sink;
-use aho_devices::write::write_whole;
-use programs::errors::Errors;
-use programs::failure;
-use programs::rows::rows_of;
+use chromesquid::{Automaton, FromWrite, Sink, StreamError, write_whole};
 use std::alloc::{AllocError, Global};
 use std::io::{Read, Write};
+use tool_parts::errors::Errors;
+use tool_parts::failure;
+use tool_parts::rows::rows_of;
 
 /// What is written in the place of a match, where nothing else is given.
 const REDACTED: &[u8] = b"[redacted]";

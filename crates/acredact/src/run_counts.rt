@@ -1,7 +1,7 @@
 //! How many runs have the number of each pattern and of each rule, and how that and a summary are told.
 
 ghost use Rattle.std.specs.Prelude.{◌≡◌, IfOk, OnErr, OnOk, drop};
-ghost use Rattle.programs.specs.Telling.{Tells, TellsBytes};
+ghost use Rattle.tool_parts.specs.Telling.{Tells, TellsBytes};
 ghost use Rattle.acredact.specs.Arguments.{all_given};
 ghost use Rattle.acredact.specs.Counts.{PutsText, lines_of_rules};
 ghost use Rattle.acredact.specs.RunCounts.{IsRunsLine, TellsAnyRuns, objects_told_by, rule_count_line, rule_counts_text, runs_text, runs_told_by};
@@ -15,10 +15,10 @@ use crate::run_summary::put_run_summary;
 use crate::shown::put_shown;
 use crate::summary::Volume;
 use crate::sums::sums_of;
-use aho_devices::device::Sink;
-use programs::errors::Errors;
+use chromesquid::Sink;
 use secret_rules::{Rule as LineRule, Rules};
 use std::alloc::{AllocError, Global};
+use tool_parts::errors::Errors;
 
 /// Tells what is asked for: how many runs have the number of each pattern and of each rule, and a summary. It answers whether all files
 /// were read.

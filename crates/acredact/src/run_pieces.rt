@@ -6,10 +6,10 @@ ghost use Rattle.aho_cover.specs.Pieces.{fixed_rule};
 ghost use Rattle.acredact.specs.Files.{keyed_of};
 ghost use Rattle.acredact.specs.RunPieces.{mixed_rule, pseudonyms_by};
 
+use crate::pseudonym::Pseudonyms;
 use crate::ways::Key;
-use aho_core::search::PatternID;
-use aho_cover::pieces::{PatternPieces, Pieces};
-use pseudonyms::pseudonym::Pseudonyms;
+use chromesquid::PatternID;
+use chromesquid::any::{PatternPieces, Pieces};
 
 /// A text for each number; where there is a key, from a number on the pseudonym of the run.
 #[derive(Drop)]

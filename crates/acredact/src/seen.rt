@@ -3,14 +3,14 @@
 ghost use Rattle.std.specs.Prelude.{◌≡◌, Err, IfErr, IfOk, Ok, bit_and};
 ghost use Rattle.std.specs.Fs.{metadata_len, metadata_mode};
 ghost use Rattle.std.specs.IoError.{error_kind};
-ghost use Rattle.programs.specs.Reasons.{reason_of};
+ghost use Rattle.tool_parts.specs.Reasons.{reason_of};
 
 use crate::folder::Place;
-use programs::reason::Reason;
 use std::fs::{Files, Metadata};
 use std::io::ErrorKind;
 use std::os::unix::fs::MetadataExt;
 use std::{fs, io};
+use tool_parts::reason::Reason;
 
 /// Who may read, write and run a file, without the bits by which a program runs as another user.
 const PERMISSIONS: u32 = 0o777;

@@ -2,7 +2,7 @@
 
 ghost use Rattle.std.specs.Prelude.{◌≡◌, IfErr, OnOk};
 ghost use Rattle.std.specs.List.{concat};
-ghost use Rattle.programs.specs.Telling.{TellsBytes};
+ghost use Rattle.tool_parts.specs.Telling.{TellsBytes};
 ghost use Rattle.acredact.specs.Arguments.{all_given};
 ghost use Rattle.acredact.specs.Short.{AreLong, AreLongAsked, RefusesShort, RefusesShortAsked, is_formless, lines_of_short, short_lines, short_told};
 ghost use Rattle.acredact.specs.Tables.{secret_of, secrets_of};
@@ -10,8 +10,8 @@ ghost use Rattle.acredact.specs.Tables.{secret_of, secrets_of};
 use crate::arguments::{Item, Word, has};
 use crate::failure::{Failure, tell_short};
 use crate::patterns::Rule;
-use aho_devices::device::Sink;
-use programs::errors::Errors;
+use chromesquid::Sink;
+use tool_parts::errors::Errors;
 
 /// How many bytes a pattern has at least that has forms.
 const LEAST: usize = 4;

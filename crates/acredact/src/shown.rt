@@ -1,15 +1,15 @@
 //! Names in messages: a control character is written as `\x` and two hexadecimal digits, so that each message is one line.
 
 ghost use Rattle.std.specs.Prelude.{◌≡◌, ◌<◌, ℕ, OnOk, Option, decimal, option_map, true};
-ghost use Rattle.programs.specs.Messages.{line_before};
-ghost use Rattle.programs.specs.Telling.{TellsBytes};
+ghost use Rattle.tool_parts.specs.Messages.{line_before};
+ghost use Rattle.tool_parts.specs.Telling.{TellsBytes};
 ghost use Rattle.acredact.specs.Counts.{PutsText};
 ghost use Rattle.acredact.specs.Messages.{digit_of, digits_in, escaped_of, is_control, message_about, shown, told_line};
 
-use aho_devices::device::Sink;
+use chromesquid::Sink;
 use itoa::write_digits;
-use programs::errors::Errors;
 use std::alloc::AllocError;
+use tool_parts::errors::Errors;
 
 /// The name that stands before each message.
 pub const PROGRAM: &[u8] = b"acredact";

@@ -1,8 +1,8 @@
 //! What a call of the program reads and writes besides files.
 
-use aho_devices::adapters::{FromRead, FromWrite};
-use programs::errors::Errors;
+use chromesquid::{FromRead, FromWrite};
 use std::io::Read;
+use tool_parts::errors::Errors;
 
 /// The streams of a call.
 #[derive(Drop)]

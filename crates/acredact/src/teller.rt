@@ -9,10 +9,7 @@ ghost use Rattle.acredact.specs.RuledChecks.{findings_behind, findings_of, is_ne
 
 use crate::findings::Findings;
 use crate::legend::{numbers_in, put_finding, told_for};
-use aho_core::error::StreamError;
-use aho_core::search::Match;
-use aho_devices::device::Sink;
-use aho_devices::write::write_whole;
+use chromesquid::{Match, Sink, StreamError, write_whole};
 use secret_rules::LineVisitor;
 use std::alloc::AllocError;
 

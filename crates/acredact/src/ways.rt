@@ -6,13 +6,10 @@ ghost use Rattle.acredact.specs.Secrets.{Redactor};
 ghost use Rattle.acredact.specs.Streams.{StreamOutcome};
 ghost use Rattle.acredact.specs.Totals.{CountsOfStream};
 
+use crate::pseudonym::Pseudonyms;
 use crate::redact::{cover, cover_by_pieces, redact, redact_counting};
-use aho_automaton::automaton::Automaton;
-use aho_core::error::StreamError;
-use aho_cover::pieces::Pieces;
-use aho_cover::start::StreamCoverStart;
-use aho_devices::device::{Sink, Source};
-use pseudonyms::pseudonym::Pseudonyms;
+use chromesquid::any::{Pieces, StreamCoverStart};
+use chromesquid::{Automaton, Sink, Source, StreamError};
 use std::alloc::Global;
 
 /// What redacts streams, one after another.

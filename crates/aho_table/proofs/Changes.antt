@@ -4,7 +4,7 @@ use Rattle.std.proofs.Math.ListN.{set, length-set}
 use Rattle.std.proofs.lemmas.List.{length-map, map-set, map-append, take-map, length_push, length-take, set-get_or, get_or_default}
 use Rattle.std.proofs.lemmas.List.Sums.{sum_by-append}
 use Rattle.std.proofs.Math.Seq.{take-append_seam}
-use Rattle.aho_lists.specs.Lists.{Lists, PatternLists, list_at, closed_at, IsList, IsListed, IsOwnNumber}
+use Rattle.aho_table.specs.Lists.{Lists, PatternLists, list_at, closed_at, IsList, IsListed, IsOwnNumber}
 use Rattle.aho_table.specs.Table.{State, new_state, state_at, transitions_count, matches_count}
 use Rattle.aho_table.specs.Inside.{record_at, recorded_state, recorded_states, transition_numbers, match_numbers, IsNone, IsShared, AreNumbers, IsConsistent}
 use Rattle.aho_table.specs.declared.links.states.Record.{Record}

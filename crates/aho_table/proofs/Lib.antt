@@ -24,3 +24,23 @@ pub mod Records
 pub mod Changes
 -- the same of records, and of the lists by their numbers
 pub mod RenumberedRecords
+-- lists in one vector: of patterns, and of transitions
+pub mod Patterns
+pub mod Listed
+pub mod Laying
+pub mod PatternChanges
+pub mod Closed
+pub mod Runs
+pub mod Stores
+pub mod ListChanges
+pub mod TransitionRuns
+pub mod TransitionStores
+pub mod TransitionGaps
+pub mod TransitionChanges
+pub mod Results
+pub mod Walks
+pub mod SideBySide
+pub mod Families
+pub mod Firsts
+pub mod Sides
+pub mod Renamed

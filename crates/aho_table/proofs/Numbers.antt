@@ -3,7 +3,7 @@ use Rattle.std.proofs.Common.{◌≡◌, ◌≢◌, ℕ, ◌<◌, ◌≤◌, ◌
 use Rattle.std.proofs.Math.ListN.{set, length-set}
 use Rattle.std.proofs.lemmas.Bool.{cases_eq, cases_order}
 use Rattle.std.proofs.lemmas.List.{get_or_past, length_push, get_or-set_same, get_or-set_other, get_or_append_left, get_or_push, get_or-take, length-take}
-use Rattle.aho_lists.specs.Lists.{list_at, IsList}
+use Rattle.aho_table.specs.Lists.{list_at, IsList}
 use Rattle.aho_table.specs.Inside.{AreNumbers}
 
 -- a number that is a list's is below their count

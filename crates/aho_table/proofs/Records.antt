@@ -3,7 +3,7 @@ use Rattle.std.proofs.Common.{◌≡◌, ◌≢◌, ℕ, ◌<◌, ◌≤◌, Lis
 use Rattle.std.proofs.Math.ListN.{set, length-set}
 use Rattle.std.proofs.lemmas.Bool.{cases_eq, cases_order}
 use Rattle.std.proofs.lemmas.List.{length-map, get_or-map, map-set, map-append, take-map, get_or_past, ext_get_or, get_or-set_same, get_or-set_other}
-use Rattle.aho_lists.specs.Lists.{Lists, PatternLists, list_at, IsList}
+use Rattle.aho_table.specs.Lists.{Lists, PatternLists, list_at, IsList}
 use Rattle.aho_table.specs.Table.{State, new_state, state_at, IsRising, AllRising}
 use Rattle.aho_table.specs.Inside.{LimitedStates, record_at, recorded_state, recorded_states, transition_numbers, match_numbers, IsNone, IsShared, AreNumbers}
 use Rattle.aho_table.specs.declared.links.states.Record.{Record}

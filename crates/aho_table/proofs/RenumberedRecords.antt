@@ -4,8 +4,8 @@ use Rattle.std.specs.List.{AllZip, swap}
 use Rattle.std.proofs.lemmas.List.{length-map, ext_get_or}
 use Rattle.std.proofs.lemmas.List.Edits.{length-swap}
 use Rattle.std.proofs.lemmas.List.Elements.{length_all_zip}
-use Rattle.aho_lists.specs.Lists.{Lists, PatternLists, list_at}
-use Rattle.aho_lists.specs.Renaming.{IsTransitionLed}
+use Rattle.aho_table.specs.Lists.{Lists, PatternLists, list_at}
+use Rattle.aho_table.specs.Renaming.{IsTransitionLed}
 use Rattle.aho_table.specs.Table.{State, new_state}
 use Rattle.aho_table.specs.Inside.{record_at, recorded_state, recorded_states, transition_numbers, IsNone, IsShared, AreNumbers, IsConsistent, IsLinkLed}
 use Rattle.aho_table.specs.Remapping.{transposed}

@@ -4,7 +4,7 @@ use Rattle.std.proofs.lemmas.Bool.{cases_order}
 use Rattle.std.proofs.lemmas.List.Elements.{All-cons}
 use Rattle.std.specs.List.{All}
 use Rattle.aho_table.specs.Table.{transition_at, with_transition, lists_transition, IsRising}
-pub use Rattle.aho_lists.proofs.TransitionRuns.{transition_at-same, transition_at-other, lists_transition-same, lists_transition-other, lists_transition-none, with_transition-more, with_transition-same, with_transition-less}
+pub use Rattle.aho_table.proofs.TransitionRuns.{transition_at-same, transition_at-other, lists_transition-same, lists_transition-other, lists_transition-none, with_transition-more, with_transition-same, with_transition-less}
 
 -- ---- the byte's entry stands at this place
 

@@ -1,8 +1,8 @@
 -- The inside of a table: what its records and its stores of lists make of its states, the classes of bytes, and the rows by them.
 use Rattle.std.specs.Prelude.{◌≡◌, ◌≢◌, ℕ, ◌+◌, ◌-◌, ◌<◌, ◌≤◌, ◌⊎◌, Bool, true, nat_lt, List, [], ◌∷◌, map, length, slice_index, slice_index_or}
 use Rattle.aho_core.specs.Numbers.{greatest_index}
-use Rattle.aho_lists.specs.Lists.{Lists, PatternLists, list_at, closed_at, IsList}
-use Rattle.aho_lists.specs.Renaming.{IsLed}
+use Rattle.aho_table.specs.Lists.{Lists, PatternLists, list_at, closed_at, IsList}
+use Rattle.aho_table.specs.Renaming.{IsLed}
 use Rattle.aho_table.specs.Alphabet.{class_of, class_count}
 use Rattle.aho_table.specs.Table.{State, state_at, transition_at, transitions_count, matches_count}
 use Rattle.aho_table.specs.declared.links.states.Record.{Record}

@@ -1,6 +1,6 @@
 -- What a `Table` is seen as: for each state a list of transitions, a list of patterns, a failure link and a depth.
 use Rattle.std.specs.Prelude.{◌≡◌, ◌≢◌, ℕ, ◌+◌, ◌<◌, ◌≤◌, Bool, true, false, map, List, [], ◌∷◌, ◌++◌, length, sum_by, slice_index_or, slice_set}
-pub use Rattle.aho_lists.specs.TransitionList.{transition_at, with_transition, IsRising, lists_transition}
+pub use Rattle.aho_table.specs.TransitionList.{transition_at, with_transition, IsRising, lists_transition}
 use Rattle.aho_table.specs.Alphabet.{AreOfOneClass}
 use Rattle.aho_table.specs.declared.links.Child.{Child}
 use Rattle.aho_table.specs.declared.links.Child.TheVariants.{Found, Added}

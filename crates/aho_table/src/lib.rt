@@ -4,4 +4,5 @@
 pub mod alphabet;
 pub mod impls;
 pub mod links;
+pub mod lists;
 pub mod remapper;

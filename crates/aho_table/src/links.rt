@@ -11,11 +11,11 @@ mod rows;
 mod states;
 
 use crate::alphabet::ByteClasses;
+pub use crate::lists::matches::Matches;
 use aho_core::error::BuildError;
 use aho_core::search::{PatternID, SmallIndex, StateID, Work};
-pub use aho_lists::matches::Matches;
 /// What `Table::follow` answers where no transition is listed.
-pub use aho_lists::transitions::{FAIL, Transitions};
+pub use crate::lists::transitions::{FAIL, Transitions};
 use rows::Rows;
 use states::States;
 use std::alloc::{AllocError, Global};

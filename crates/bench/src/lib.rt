@@ -2,7 +2,7 @@
 //! the product of its places, the patterns and their lengths.
 //!
 //! Its contracts are the definitions themselves, so what it answers is what any other search has to answer. The tests of
-//! `bench_tests` go over the worked rows, every short input and random ones with it and with the automaton.
+//! `library_tests` go over the worked rows, every short input and random ones with it and with the automaton.
 #![tactic(auto)]
 
 pub mod callers;

@@ -13,8 +13,7 @@ use crate::handle::CsSearcher;
 use crate::options::CsState;
 use crate::search::anchoring_of;
 use crate::status::{DONE, NO_PATTERN, NO_SEARCHER, REFUSED};
-use aho_core::search::StateID;
-use chromesquid::{AhoCorasick, Automaton};
+use chromesquid::{AhoCorasick, Automaton, StateID};
 
 /// The state of a number.
 fn state_of(number: u32) -> StateID

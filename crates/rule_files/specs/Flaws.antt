@@ -1,6 +1,6 @@
 -- What is told of a text that gives no rules, and of a rule that is none.
 use Rattle.std.specs.Prelude.{◌≡◌, ℕ, ◌+◌, ◌-◌, ◌^◌, min, List, [], ◌∷◌, ◌++◌, Option, None, Some, codes, decimal, option_map, string_bytes}
-use Rattle.programs.specs.Messages.{message_of}
+use Rattle.tool_parts.specs.Messages.{message_of}
 use Rattle.secret_rules.specs.Tables.{key_name}
 use Rattle.secret_rules.specs.declared.parsing.Key.{Key}
 use Rattle.secret_rules.specs.declared.parsing.Key.TheVariants.{Id, Regex as RegexKey, Keywords as KeywordsKey, SecretGroup, Until, With}

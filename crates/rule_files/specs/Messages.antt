@@ -1,7 +1,7 @@
 -- Names in messages, and the line of a message.
 use Rattle.std.specs.Prelude.{ℕ, ◌-◌, ◌/◌, ◌%◌, ◌+◌, ◌==◌, ◌||◌, Bool, List, [], ◌∷◌, ◌++◌, Option, Some, codes, if◌then◌else◌, nat_lt}
 use Rattle.std.specs.List.{flat_map}
-use Rattle.programs.specs.Messages.{message_of}
+use Rattle.tool_parts.specs.Messages.{message_of}
 
 -- a control character of ASCII
 abbrev pub is_unshown : ℕ → Bool

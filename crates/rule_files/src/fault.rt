@@ -1,15 +1,15 @@
 //! Why a text gives no rules, and how that is told.
 
 ghost use Rattle.std.specs.Prelude.{◌≡◌, ℕ, List};
-ghost use Rattle.programs.specs.Telling.{TellsBytes};
+ghost use Rattle.tool_parts.specs.Telling.{TellsBytes};
 ghost use Rattle.rule_files.specs.Flaws.{IsFaultLine};
 
 use crate::flaw::{BadRule, tell_rule};
 use crate::shown::tell_shown;
-use aho_devices::device::Sink;
-use programs::errors::Errors;
+use chromesquid::Sink;
 use std::alloc::AllocError;
 use toml::de::Error as TomlError;
+use tool_parts::errors::Errors;
 
 /// Why a text gives no rules.
 #[derive(Drop)]

@@ -2,13 +2,13 @@
 //! expression.
 
 ghost use Rattle.std.specs.Prelude.{◌≡◌, ℕ, List};
-ghost use Rattle.programs.specs.Telling.{TellsBytes};
+ghost use Rattle.tool_parts.specs.Telling.{TellsBytes};
 ghost use Rattle.rule_files.specs.Flaws.{IsFlawedLine, IsWhyFlawed, wanted_text, name_of_bad};
 
 use crate::shown::{MAX_DIGITS, digits_of, write_shown};
-use aho_devices::device::Sink;
-use programs::errors::Errors;
+use chromesquid::Sink;
 use secret_rules::{Key, RegexError};
+use tool_parts::errors::Errors;
 
 /// Why a rule is none.
 #[derive(Clone, Copy)]

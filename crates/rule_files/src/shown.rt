@@ -1,13 +1,13 @@
 //! Names in messages: a control character is written as `\x` and two hexadecimal digits, so that each message is one line.
 
 ghost use Rattle.std.specs.Prelude.{◌≡◌, ◌<◌, decimal, true};
-ghost use Rattle.programs.specs.Messages.{line_before};
-ghost use Rattle.programs.specs.Telling.{TellsBytes};
+ghost use Rattle.tool_parts.specs.Messages.{line_before};
+ghost use Rattle.tool_parts.specs.Telling.{TellsBytes};
 ghost use Rattle.rule_files.specs.Messages.{as_shown, is_unshown, shown_byte, shown_line, upper_hex};
 
-use aho_devices::device::Sink;
+use chromesquid::Sink;
 use itoa::write_digits;
-use programs::errors::Errors;
+use tool_parts::errors::Errors;
 
 /// The most digits that a number has.
 pub const MAX_DIGITS: usize = 20;

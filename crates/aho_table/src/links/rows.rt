@@ -8,9 +8,9 @@ ghost use Rattle.aho_table.specs.Renaming.{IsLed};
 ghost use Rattle.aho_table.specs.Inside.{row_next, IsRow, IsRowAdded};
 
 use crate::alphabet::{ByteClassSet, ByteClasses};
+use crate::lists::renumber::renamed;
+use crate::lists::transitions::{FAIL, Transitions};
 use aho_core::search::StateID;
-use aho_lists::renumber::renamed;
-use aho_lists::transitions::{FAIL, Transitions};
 use std::alloc::{AllocError, Global};
 
 /// The rows of a table. A row is named by the index at which it starts; index 0 is taken from the start.

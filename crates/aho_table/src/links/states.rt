@@ -9,11 +9,11 @@ ghost use Rattle.std.specs.List.{AllZip, swap};
 ghost use Rattle.aho_table.specs.Renaming.{IsRenamed};
 ghost use Rattle.aho_table.specs.Inside.{record_at, IsLinkLed};
 
+use crate::lists::matches::{MatchLists, Matches};
+use crate::lists::renumber::renamed;
+use crate::lists::transitions::{FAIL, TransitionLists, Transitions};
 use aho_core::error::BuildError;
 use aho_core::search::{PatternID, SmallIndex, StateID};
-use aho_lists::matches::{MatchLists, Matches};
-use aho_lists::renumber::renamed;
-use aho_lists::transitions::{FAIL, TransitionLists, Transitions};
 use std::alloc::{AllocError, Global};
 use std::marker::Model;
 

@@ -1,6 +1,6 @@
 -- The operands were chosen, or what is below them was found.
 use Rattle.std.proofs.Common.{List, subst}
-use Rattle.programs.specs.Names.{name_bytes, or_input}
+use Rattle.tool_parts.specs.Names.{name_bytes, or_input}
 use Rattle.acgrep.specs.Arguments.{said}
 use Rattle.acgrep.specs.Folders.{AreChosen, missed_of, tree_of}
 use Rattle.acgrep.specs.Listed.{listed_bytes}

@@ -1,7 +1,7 @@
 -- What was found was searched, and what cannot be read was told before.
 use Rattle.std.proofs.Common.{◌≡◌, ◌∙◌, ◌<◌, ◌≤◌, [], Bool, false, ℕ, List, ap, inl, inr, subst, sym}
-use Rattle.programs.specs.Names.{name_bytes}
-use Rattle.programs.proofs.Lines.{some-weaker}
+use Rattle.tool_parts.specs.Names.{name_bytes}
+use Rattle.tool_parts.proofs.Lines.{some-weaker}
 use Rattle.acgrep.specs.Arguments.{said, shown_by}
 use Rattle.acgrep.specs.Files.{AreFilesBegun, AreSearchedOr}
 use Rattle.acgrep.specs.Folders.{missed_of, tree_of}

@@ -2,7 +2,7 @@
 use Rattle.std.proofs.Common.{◌<◌, false, List, ℕ, length, subst, sym, arith}
 use Rattle.std.proofs.lemmas.Grind.{common_steps}
 use Rattle.std.proofs.lemmas.List.{length-map}
-use Rattle.programs.specs.Names.{name_bytes}
+use Rattle.tool_parts.specs.Names.{name_bytes}
 use Rattle.acgrep.specs.Files.{AreFilesBegun, AreSearchedOr}
 use Rattle.acgrep.specs.Told.{IsMessage, TellsOfFiles, files_told}
 use Rattle.acgrep.proofs.Reaching.{or-none}

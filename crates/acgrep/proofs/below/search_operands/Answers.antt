@@ -1,6 +1,6 @@
 -- The operands themselves were searched, where folders are not entered.
 use Rattle.std.proofs.Common.{◌≡◌, ◌∙◌, [], Bool, false, ℕ, refl, inr, subst, sym}
-use Rattle.programs.specs.Names.{name_bytes, or_input}
+use Rattle.tool_parts.specs.Names.{name_bytes, or_input}
 use Rattle.acgrep.specs.Arguments.{said}
 use Rattle.acgrep.specs.Folders.{tree_of}
 use Rattle.acgrep.specs.Runs.{IsJob, asks_to_look}

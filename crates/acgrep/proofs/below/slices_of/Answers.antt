@@ -1,7 +1,7 @@
 -- A name more.
 use Rattle.std.proofs.Common.{◌≡◌, [], ◌∷◌, ◌++◌, ◌∙◌, ℕ, List, ap, sym}
 use Rattle.std.proofs.lemmas.List.{append-nil}
-use Rattle.programs.specs.Names.{name_bytes}
+use Rattle.tool_parts.specs.Names.{name_bytes}
 use Rattle.acgrep.specs.Listed.{listed_bytes}
 use Rattle.acgrep.proofs.Walking.{all-gone, moved}
 use Rattle.acgrep.proofs.below.slices_of.Goals as goal

@@ -1,6 +1,6 @@
 -- The names so far, and those that are left.
 use Rattle.std.proofs.Common.{◌≡◌, ◌++◌, length}
-use Rattle.programs.specs.Names.{name_bytes}
+use Rattle.tool_parts.specs.Names.{name_bytes}
 use Rattle.acgrep.specs.Listed.{listed_bytes}
 use Rattle.acgrep.proofs.below.slices_of.Given as goal
 

@@ -1,7 +1,7 @@
 -- A name more was looked at.
 use Rattle.std.proofs.Common.{◌≡◌, [], ◌<◌, ℕ, Bor, List, arith, length}
 use Rattle.std.proofs.lemmas.Grind.{common_steps}
-use Rattle.programs.specs.Names.{name_bytes}
+use Rattle.tool_parts.specs.Names.{name_bytes}
 use Rattle.acgrep.specs.Folders.{tree_of}
 use Rattle.acgrep.specs.Rules.{rules_said}
 use Rattle.acgrep.proofs.Choosing.{chosen-end, chosen-more}

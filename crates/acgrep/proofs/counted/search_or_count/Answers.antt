@@ -1,7 +1,7 @@
 -- The matches are counted where that is asked for.
 use Rattle.std.proofs.Common.{◌≡◌, ◌∙◌, true, false, sym}
 use Rattle.aho_core.specs.Replacement.{pieces_of}
-use Rattle.programs.specs.Names.{name_bytes}
+use Rattle.tool_parts.specs.Names.{name_bytes}
 use Rattle.acgrep.specs.Arguments.{asks_counts, said}
 use Rattle.acgrep.specs.Folders.{known_by}
 use Rattle.acgrep.specs.Runs.{BeginsOrKeeps, SearchesReached}

@@ -1,8 +1,8 @@
 -- The text of a rule more was read.
 use Rattle.std.proofs.Common.{◌≡◌, ◌∙◌, ◌<◌, length, arith, [], subst}
 use Rattle.std.proofs.lemmas.Grind.{common_steps}
-use Rattle.programs.specs.Telling.{TellsSome}
-use Rattle.programs.specs.declared.errors.Errors.{Errors}
+use Rattle.tool_parts.specs.Telling.{TellsSome}
+use Rattle.tool_parts.specs.declared.errors.Errors.{Errors}
 use Rattle.acgrep.specs.Rules.{rules_said}
 use Rattle.acgrep.specs.Told.{IsMessage, rule_files}
 use Rattle.acgrep.specs.declared.rules.Rule.{Rule}

@@ -1,6 +1,6 @@
 -- What was put together is written, or a beginning of it.
 use Rattle.std.proofs.Common.{◌≡◌, List, ℕ, subst}
-use Rattle.programs.proofs.Beginnings.{beginning-whole}
+use Rattle.tool_parts.proofs.Beginnings.{beginning-whole}
 use Rattle.std.specs.Io.KnownBytes.{Appends}
 use Rattle.std.proofs.KnownBytes.{Keeps-refl}
 use Rattle.acgrep.specs.Files.{total_if}

@@ -1,7 +1,7 @@
 -- A file more was searched.
 use Rattle.std.proofs.Common.{◌≡◌, [], ◌∷◌, ◌-◌, ℕ, List, Bor, length, take, drop, subst, sym, ap, refl}
 use Rattle.std.proofs.Math.ListN.{get_or}
-use Rattle.programs.specs.Names.{name_bytes}
+use Rattle.tool_parts.specs.Names.{name_bytes}
 use Rattle.std.proofs.KnownBytes.{Keeps-refl}
 use Rattle.acgrep.proofs.FilesBegun.{begun_none}
 use Rattle.acgrep.proofs.NamesSearched.{SoFar, ends_by, names_cut, so_far_end, so_far_start, so_far_step}

@@ -1,7 +1,7 @@
 -- The files so far were searched.
 use Rattle.std.proofs.Common.{length}
 use Rattle.aho_core.specs.Patterns.{Patterns}
-use Rattle.programs.specs.Names.{name_bytes}
+use Rattle.tool_parts.specs.Names.{name_bytes}
 use Rattle.chromesquid.specs.Searcher.{IsBuiltFrom}
 use Rattle.acgrep.specs.Selected.{HoldNoEnding}
 use Rattle.acgrep.specs.Told.{IsMessage, TellsIf, files_told}

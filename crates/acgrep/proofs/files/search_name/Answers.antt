@@ -1,6 +1,6 @@
 -- The name that is told is that of the file.
 use Rattle.std.proofs.Common.{◌≡◌, ℕ, Bool, List, true, false, refl, sym, ap, subst, ◌∙◌}
-use Rattle.programs.specs.Names.{IsOneOf, is_input}
+use Rattle.tool_parts.specs.Names.{IsOneOf, is_input}
 use Rattle.acgrep.specs.Files.{SearchesFile, SearchesName, SearchesReader, shown_name}
 use Rattle.acgrep.specs.Selected.{HoldNoEnding}
 use Rattle.acgrep.specs.Told.{IsMessage, TellsOutcome}

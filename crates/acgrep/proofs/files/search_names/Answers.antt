@@ -1,6 +1,6 @@
 -- The status tells what was seen.
 use Rattle.std.proofs.Common.{◌<◌, ℕ, false, subst, sym}
-use Rattle.programs.specs.Names.{name_bytes}
+use Rattle.tool_parts.specs.Names.{name_bytes}
 use Rattle.acgrep.specs.Files.{AreSearchedOr}
 use Rattle.std.proofs.KnownBytes.{Keeps-refl}
 use Rattle.acgrep.proofs.FilesBegun.{begun_none}

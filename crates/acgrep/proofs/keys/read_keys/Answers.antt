@@ -2,8 +2,8 @@
 use Rattle.std.proofs.Common.{rules, ◌≡◌, ◌<◌, length, arith, [], subst}
 use Rattle.std.proofs.lemmas.Grind.{common_steps}
 use Rattle.acgrep.specs.Runs.{origins_of}
-use Rattle.programs.specs.Telling.{TellsSome}
-use Rattle.programs.specs.declared.errors.Errors.{Errors}
+use Rattle.tool_parts.specs.Telling.{TellsSome}
+use Rattle.tool_parts.specs.declared.errors.Errors.{Errors}
 use Rattle.acgrep.specs.Told.{IsMessage, source_names}
 use Rattle.acgrep.specs.declared.arguments.Source.{Source}
 use Rattle.acgrep.specs.declared.arguments.Source.TheVariants.{Text}

@@ -1,7 +1,7 @@
 -- A file more was searched.
 use Rattle.std.proofs.Common.{◌≡◌, [], ◌∷◌, ◌-◌, ◌∙◌, ◌||◌, ℕ, Bool, false, List, Bor, length, take, drop, refl, subst, sym, ap}
 use Rattle.std.proofs.Math.ListN.{get_or}
-use Rattle.programs.specs.Names.{is_input, name_bytes}
+use Rattle.tool_parts.specs.Names.{is_input, name_bytes}
 use Rattle.acgrep.specs.declared.files.Seen.{Seen}
 use Rattle.acgrep.specs.Told.{TellsIf}
 use Rattle.acgrep.specs.ToldByRules.{IsMarkTold}

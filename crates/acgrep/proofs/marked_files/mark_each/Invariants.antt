@@ -1,6 +1,6 @@
 -- The files so far were searched.
 use Rattle.std.proofs.Common.{◌≡◌, false, length}
-use Rattle.programs.specs.Names.{name_bytes}
+use Rattle.tool_parts.specs.Names.{name_bytes}
 use Rattle.secret_rules.specs.Covering.{Covering}
 use Rattle.acgrep.specs.MarkedFiles.{IsMarking, MarksBy}
 use Rattle.acgrep.specs.Told.{TellsIf}

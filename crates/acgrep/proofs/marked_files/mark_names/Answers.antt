@@ -1,6 +1,6 @@
 -- The status tells what was seen.
 use Rattle.std.proofs.Common.{◌<◌, ℕ, subst, sym}
-use Rattle.programs.specs.Names.{name_bytes}
+use Rattle.tool_parts.specs.Names.{name_bytes}
 use Rattle.acgrep.specs.MarkedFiles.{AreMarkedOr}
 use Rattle.acgrep.proofs.NamesMarked.{status_marked}
 use Rattle.acgrep.specs.Told.{TellsStatus}

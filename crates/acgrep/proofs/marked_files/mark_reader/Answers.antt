@@ -1,6 +1,6 @@
 -- What comes of the lines, and then what is asked of the file as a whole.
 use Rattle.std.proofs.Common.{◌≢◌, ◌∙◌, ap, refl, sym}
-use Rattle.programs.proofs.Ends.{at_end}
+use Rattle.tool_parts.proofs.Ends.{at_end}
 use Rattle.acgrep.specs.MarkedFiles.{file_asked}
 use Rattle.acgrep.proofs.FileTellings.{if_searched}
 use Rattle.acgrep.proofs.FilesBegun.{if_broken, total_none}

@@ -1,11 +1,11 @@
 -- Those of a name more were read.
-use Rattle.programs.specs.Telling.{TellsSome}
-use Rattle.programs.specs.declared.errors.Errors.{Errors}
+use Rattle.tool_parts.specs.Telling.{TellsSome}
+use Rattle.tool_parts.specs.declared.errors.Errors.{Errors}
 use Rattle.acgrep.specs.ToldByRules.{IsMarkTold}
 use Rattle.std.proofs.Common.{refl, ◌∙◌, ◌≡◌, ◌<◌, [], ◌-◌, ℕ, List, Bor, length, take, drop, subst, sym, arith}
 use Rattle.std.proofs.lemmas.Grind.{common_steps}
 use Rattle.std.proofs.Math.ListN.{get_or}
-use Rattle.programs.specs.Names.{name_bytes}
+use Rattle.tool_parts.specs.Names.{name_bytes}
 use Rattle.secret_rules.specs.declared.rule.Rule.{Rule}
 use Rattle.acgrep.specs.RunsByRules.{AreAllRules}
 use Rattle.acgrep.proofs.NamesSearched.{names_cut}

@@ -2,8 +2,8 @@
 use Rattle.std.proofs.Common.{inl, inr, refl, codes}
 use Rattle.std.specs.Prelude.{None, Some}
 use Rattle.aho_core.specs.Texts.{build_error_text}
-use Rattle.programs.specs.Messages.{message_of}
-use Rattle.programs.proofs.Lines.{some-one}
+use Rattle.tool_parts.specs.Messages.{message_of}
+use Rattle.tool_parts.proofs.Lines.{some-one}
 use Rattle.acgrep.specs.ToldByRules.{IsMarkTold}
 use Rattle.acgrep.proofs.rule_lists.tell_all.Goals as goal
 

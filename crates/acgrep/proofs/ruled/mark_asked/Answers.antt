@@ -1,7 +1,7 @@
 -- The rules were read, and what was said was done by them.
 use Rattle.std.proofs.Common.{refl, subst, inl}
 use Rattle.std.proofs.KnownBytes.{Keeps-refl}
-use Rattle.programs.specs.declared.errors.Errors.{Errors}
+use Rattle.tool_parts.specs.declared.errors.Errors.{Errors}
 use Rattle.acgrep.specs.Told.{TellsStatus}
 use Rattle.acgrep.specs.ToldByRules.{IsMarkTold}
 use Rattle.acgrep.specs.declared.options.Shown.TheVariants.{Nothing}

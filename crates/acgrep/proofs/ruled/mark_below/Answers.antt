@@ -1,6 +1,6 @@
 -- What was found was searched, and what cannot be read was told before.
 use Rattle.std.proofs.Common.{[], ◌≡◌, ◌∙◌, ◌<◌, ◌≤◌, Bool, false, ℕ, List, ap, inr, subst, sym}
-use Rattle.programs.specs.Names.{name_bytes}
+use Rattle.tool_parts.specs.Names.{name_bytes}
 use Rattle.acgrep.specs.Arguments.{said}
 use Rattle.acgrep.specs.MarkedFiles.{AreMarkedOr, AreMarksBegun}
 use Rattle.acgrep.specs.Folders.{missed_of, tree_of}

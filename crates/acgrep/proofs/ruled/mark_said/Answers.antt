@@ -8,7 +8,7 @@ use Rattle.acgrep.specs.Rules.{rules_said}
 use Rattle.acgrep.specs.Runs.{AreRules}
 use Rattle.acgrep.specs.RunsByRules.{MarksAsked, MayBeginAsked}
 use Rattle.acgrep.proofs.RuleTexts.{rules_read}
-use Rattle.programs.specs.declared.errors.Errors.{Errors}
+use Rattle.tool_parts.specs.declared.errors.Errors.{Errors}
 use Rattle.acgrep.specs.Told.{TellsStatus, rule_files}
 use Rattle.acgrep.specs.ToldByRules.{IsMarkTold}
 use Rattle.acgrep.specs.declared.options.Shown.TheVariants.{Nothing}

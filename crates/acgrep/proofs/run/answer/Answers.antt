@@ -1,7 +1,7 @@
 -- A text is written, or a search is made, and its status told.
 use Rattle.std.proofs.Common.{◌<◌, ◌∙◌, ℕ, Some, inl, refl, subst, sym}
 use Rattle.std.proofs.KnownBytes.{Keeps-refl}
-use Rattle.programs.specs.Telling.{TellsBytes}
+use Rattle.tool_parts.specs.Telling.{TellsBytes}
 use Rattle.acgrep.specs.Beside.{unfit_said}
 use Rattle.acgrep.proofs.Unfitting.{some_all, some_unfit, unfit_fits}
 use Rattle.std.proofs.lemmas.Bool.{true≢false}

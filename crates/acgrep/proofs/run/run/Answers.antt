@@ -6,19 +6,19 @@ use Rattle.acgrep.specs.Runs.{AsksAny, AsksByRules, AsksToSearch, BeginsSearch, 
 use Rattle.acgrep.specs.RunsByRules.{BeginsByRules, SearchesByRules}
 use Rattle.acgrep.proofs.MarksKept.{begun_by_rules, by_rules_kept}
 use Rattle.acgrep.proofs.Kept.{ruled_kept, same_said, search_held}
-use Rattle.programs.specs.Telling.{Tells, TellsBytes, TellsSome}
-use Rattle.programs.proofs.Lines.{some-tells, some-weaker}
+use Rattle.tool_parts.specs.Telling.{Tells, TellsBytes, TellsSome}
+use Rattle.tool_parts.proofs.Lines.{some-tells, some-weaker}
 use Rattle.acgrep.specs.Folders.{known_by}
 use Rattle.acgrep.specs.Listed.{listed_bytes}
 use Rattle.acgrep.specs.Told.{MaySaid, MayTell, is_hushed, names_said}
 use Rattle.acgrep.specs.Mistakes.{TellsLacking, TellsMistake, TellsNoPattern, TellsUnfit, memory_line}
-use Rattle.programs.specs.declared.errors.Errors.{Errors}
+use Rattle.tool_parts.specs.declared.errors.Errors.{Errors}
 use Rattle.std.specs.Prelude.{IfSome}
 use Rattle.acgrep.proofs.Unfitting.{each_all, some_all, some_both, some_more}
 use Rattle.acgrep.proofs.Mistaken.{mistake-told, refused-lacking, refused-memory}
 use Rattle.acgrep.specs.ToldByRules.{IsMarkTold}
 use Rattle.acgrep.specs.declared.options.Shown.TheVariants.{Nothing}
-use Rattle.programs.specs.declared.reason.Reason.TheVariants.{OutOfMemory as NoMemory}
+use Rattle.tool_parts.specs.declared.reason.Reason.TheVariants.{OutOfMemory as NoMemory}
 use Rattle.acgrep.proofs.MarksTold.{some-told}
 use Rattle.acgrep.proofs.Told.{finished, not-quiet, tells-memory, told-said}
 use Rattle.acgrep.proofs.run.run.Goals as goal

@@ -9,9 +9,9 @@ use Rattle.acgrep.specs.Runs.{AreSought, BeginsNoMatch, BeginsOrCounts, BeginsOr
 use Rattle.acgrep.specs.Searchers.{patterns_asked}
 use Rattle.acgrep.proofs.Unselected.{none_selected}
 use Rattle.acgrep.proofs.PlainWords.{free_plain}
-use Rattle.programs.specs.Names.{name_bytes}
-use Rattle.programs.specs.declared.errors.Errors.{Errors}
-use Rattle.programs.proofs.Lines.{some-weaker}
+use Rattle.tool_parts.specs.Names.{name_bytes}
+use Rattle.tool_parts.specs.declared.errors.Errors.{Errors}
+use Rattle.tool_parts.proofs.Lines.{some-weaker}
 use Rattle.acgrep.specs.Arguments.{ending_by, fit_by, said, shown_by}
 use Rattle.acgrep.specs.Folders.{known_by, tree_of}
 use Rattle.acgrep.specs.Told.{IsMessage, MaySay, TellsStatus, names_told, source_names}

@@ -3,10 +3,10 @@ use Rattle.std.proofs.Common.{◌≡◌, inl, inr, refl, ℕ, ◌<◌, false, Li
 use Rattle.std.proofs.KnownBytes.{Keeps-refl}
 use Rattle.std.proofs.lemmas.Grind.{common_steps}
 use Rattle.std.specs.List.{concat}
-use Rattle.programs.specs.Names.{name_bytes}
+use Rattle.tool_parts.specs.Names.{name_bytes}
 use Rattle.acgrep.specs.Runs.{BeginsFor, SearchesFor, names_by, origins_of, sources_by}
 use Rattle.acgrep.specs.declared.arguments.Source.{Source}
-use Rattle.programs.proofs.Lines.{some-one}
+use Rattle.tool_parts.proofs.Lines.{some-one}
 use Rattle.acgrep.specs.Arguments.{Origin, said, shown_by}
 use Rattle.acgrep.specs.Folders.{known_by, tree_of}
 use Rattle.acgrep.specs.Told.{MaySay, TellsOfSearch, wrong_parts}

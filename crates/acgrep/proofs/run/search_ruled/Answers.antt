@@ -2,9 +2,9 @@
 use Rattle.std.proofs.Common.{◌≡◌, List, Some, ap, inl, inr, refl, subst}
 use Rattle.std.proofs.KnownBytes.{Keeps-refl}
 use Rattle.std.specs.List.{concat}
-use Rattle.programs.specs.Telling.{TellsSome}
-use Rattle.programs.specs.declared.errors.Errors.{Errors}
-use Rattle.programs.proofs.Lines.{some-one, some-weaker}
+use Rattle.tool_parts.specs.Telling.{TellsSome}
+use Rattle.tool_parts.specs.declared.errors.Errors.{Errors}
+use Rattle.tool_parts.proofs.Lines.{some-one, some-weaker}
 use Rattle.acgrep.specs.Arguments.{Said, said, shown_by}
 use Rattle.acgrep.specs.Folders.{known_by}
 use Rattle.acgrep.specs.Listed.{listed_bytes}

@@ -1,7 +1,7 @@
 -- What is told of wrong arguments.
 use Rattle.std.proofs.Common.{inl, inr, refl, sym, subst}
 use Rattle.std.specs.List.{concat}
-use Rattle.programs.proofs.Lines.{some-one, some-weaker}
+use Rattle.tool_parts.proofs.Lines.{some-one, some-weaker}
 use Rattle.acgrep.specs.Mistakes.{TellsRefused}
 use Rattle.acgrep.specs.Told.{IsMessage, MayTell, wrong_parts}
 use Rattle.acgrep.specs.declared.arguments.Refusal.{Refusal}

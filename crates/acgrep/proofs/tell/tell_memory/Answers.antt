@@ -1,5 +1,5 @@
 -- A message is told.
-use Rattle.programs.specs.declared.reason.Reason.TheVariants.{OutOfMemory}
+use Rattle.tool_parts.specs.declared.reason.Reason.TheVariants.{OutOfMemory}
 use Rattle.acgrep.proofs.Told.{tells-memory}
 use Rattle.acgrep.proofs.tell.tell_memory.Goals as goal
 

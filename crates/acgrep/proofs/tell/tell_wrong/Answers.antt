@@ -1,8 +1,8 @@
 -- The parts are those of what is told.
 use Rattle.std.proofs.Common.{List, ℕ, sym, subst}
 use Rattle.std.specs.List.{concat}
-use Rattle.programs.specs.Telling.{TellsBytes}
-use Rattle.call_options.specs.declared.misuse.Misuse.TheVariants.{NoArgument}
+use Rattle.tool_parts.specs.Telling.{TellsBytes}
+use Rattle.tool_parts.specs.declared.options.misuse.Misuse.TheVariants.{NoArgument}
 use Rattle.acgrep.specs.Told.{misuse_parts, number_parts, wrong_parts}
 use Rattle.acgrep.specs.declared.arguments.Wrong.{Wrong}
 use Rattle.acgrep.proofs.tell.tell_wrong.Goals as goal

@@ -1,7 +1,7 @@
 -- Nothing is told where that is asked for.
 use Rattle.std.proofs.Common.{Bool, refl, subst, sym}
 use Rattle.std.specs.Prelude.{◌≡◌, MatchBool}
-use Rattle.programs.specs.Telling.{TellsSome}
+use Rattle.tool_parts.specs.Telling.{TellsSome}
 use Rattle.acgrep.specs.Told.{IsMessage}
 use Rattle.acgrep.proofs.unread.tell_closed.Goals as goal
 

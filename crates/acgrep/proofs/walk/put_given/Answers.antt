@@ -3,7 +3,7 @@ use Rattle.std.proofs.Common.{◌≡◌, [], ◌∷◌, ◌++◌, ◌-◌, ◌�
 use Rattle.std.proofs.Math.ListN.{get_or}
 use Rattle.std.proofs.lemmas.Grind.{common_steps}
 use Rattle.std.proofs.lemmas.List.{map-append}
-use Rattle.programs.specs.Names.{name_bytes}
+use Rattle.tool_parts.specs.Names.{name_bytes}
 use Rattle.acgrep.specs.Folders.{Spot, operand, spot_of, spots_of}
 use Rattle.acgrep.proofs.Walking.{put-more}
 use Rattle.acgrep.proofs.walk.put_given.Goals as goal

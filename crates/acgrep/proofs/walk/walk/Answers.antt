@@ -1,6 +1,6 @@
 -- A name more was looked at; where none is left the walk is done.
 use Rattle.std.proofs.Common.{rules, length, ◌≡◌, [], ◌∷◌, List, ap, subst}
-use Rattle.programs.specs.Names.{name_bytes}
+use Rattle.tool_parts.specs.Names.{name_bytes}
 use Rattle.acgrep.specs.Folders.{Begins, Spot, spot_of, spots_of, tree_of}
 use Rattle.acgrep.specs.Rules.{rules_said}
 use Rattle.acgrep.proofs.Walking.{all-gone, begins-end, begins-then}

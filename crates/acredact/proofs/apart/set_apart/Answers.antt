@@ -1,6 +1,6 @@
 -- One argument more is set apart.
 use Rattle.std.proofs.Common.{rules, ◌≡◌, ℕ, List, length, ap, subst}
-use Rattle.programs.specs.Arguments.{texts}
+use Rattle.tool_parts.specs.Arguments.{texts}
 use Rattle.acredact.specs.Apart.{IsWrong, PutsName, PutsText}
 use Rattle.acredact.specs.Reads.{bytes_of_names}
 use Rattle.std.specs.Prelude.{◌⊎◌}

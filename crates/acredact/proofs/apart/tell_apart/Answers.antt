@@ -1,7 +1,7 @@
 -- What is told is what the other arguments ask for.
 use Rattle.std.proofs.Common.{◌≡◌, List, length, ap, refl, subst, ◌∙◌}
 use Rattle.std.specs.Prelude.{◌==◌, Some}
-use Rattle.programs.specs.Arguments.{texts}
+use Rattle.tool_parts.specs.Arguments.{texts}
 use Rattle.acredact.specs.Apart.{told_by}
 use Rattle.acredact.specs.Arguments.{all_asked, all_given}
 use Rattle.acredact.specs.Mistakes.{IsMistakeOfCall}

@@ -1,7 +1,7 @@
 -- Of one more it is told.
 use Rattle.std.proofs.Common.{rules, ◌≡◌, ℕ, List, [], ◌++◌, length, refl, sym, ap, subst, ◌∙◌, append-nil, append_assoc}
-use Rattle.programs.specs.Telling.{TellsBytes}
-use Rattle.programs.proofs.Tellings.{tells-later}
+use Rattle.tool_parts.specs.Telling.{TellsBytes}
+use Rattle.tool_parts.proofs.Tellings.{tells-later}
 use Rattle.acredact.specs.Apart.{unnamed_line, unnamed_lines}
 use Rattle.acredact.specs.Reads.{bytes_of_names}
 use Rattle.acredact.proofs.Done.{tells_none}

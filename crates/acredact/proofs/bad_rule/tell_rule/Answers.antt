@@ -1,7 +1,7 @@
 -- The line by its parts.
 use Rattle.std.proofs.Common.{List, ℕ, refl, subst, codes}
-use Rattle.programs.specs.Telling.{TellsBytes}
-use Rattle.programs.proofs.Tellings.{tells-later}
+use Rattle.tool_parts.specs.Telling.{TellsBytes}
+use Rattle.tool_parts.proofs.Tellings.{tells-later}
 use Rattle.acredact.specs.Messages.{shown}
 use Rattle.acredact.specs.RuleLines.{bad_rule_line, rule_name}
 use Rattle.acredact.proofs.ShownNames.{seven_parts}

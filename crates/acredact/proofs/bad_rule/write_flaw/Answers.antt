@@ -1,7 +1,7 @@
 -- Of an expression the line tells the place in it.
 use Rattle.std.proofs.Common.{◌≡◌, ℕ, List, ◌++◌, ◌+◌, ◌-◌, ◌∙◌, sym, ap, subst, codes, append-nil}
 use Rattle.std.specs.Prelude.{◌^◌, decimal, min}
-use Rattle.programs.specs.Telling.{TellsBytes}
+use Rattle.tool_parts.specs.Telling.{TellsBytes}
 use Rattle.acredact.specs.RuleLines.{IsFlawText}
 use Rattle.acredact.specs.declared.bad_rule.RuleFlaw.{RuleFlaw}
 use Rattle.acredact.proofs.bad_rule.write_flaw.Goals as goal

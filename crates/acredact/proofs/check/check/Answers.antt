@@ -1,6 +1,6 @@
 -- The status of a check.
 use Rattle.std.proofs.Common.{ℕ, sym, subst}
-use Rattle.programs.specs.Streams.{bytes_left}
+use Rattle.tool_parts.specs.Streams.{bytes_left}
 use Rattle.acredact.specs.Arguments.{all_given}
 use Rattle.acredact.specs.Calls.{call_of}
 use Rattle.acredact.specs.Checks.{CheckStatus}

@@ -1,8 +1,8 @@
 -- Of doubtful patterns it is told before a file is looked at, or the first is refused.
 use Rattle.std.proofs.Common.{inr, subst, sym}
 use Rattle.std.specs.Prelude.{Bool, Err}
-use Rattle.programs.specs.Streams.{bytes_left}
-use Rattle.programs.specs.declared.errors.Errors.{Errors}
+use Rattle.tool_parts.specs.Streams.{bytes_left}
+use Rattle.tool_parts.specs.declared.errors.Errors.{Errors}
 use Rattle.acredact.specs.Arguments.{all_given}
 use Rattle.acredact.specs.Calls.{call_of}
 use Rattle.acredact.specs.Checks.{CheckOutcome}

@@ -12,8 +12,8 @@ use Rattle.aho_hybrid.specs.contracts.hybrid.HybridAutomaton.TheImpl.{ghosts as 
 use Rattle.aho_corasick.specs.contracts.noncontiguous.NFAAutomaton.TheImpl.Laws.{laws-law as nfa-laws}
 use Rattle.aho_hybrid.specs.contracts.hybrid.HybridAutomaton.TheImpl.Laws.{laws-law as rows-laws}
 use Rattle.aho_hybrid.specs.declared.hybrid.Hybrid.{Hybrid}
-use Rattle.programs.specs.Names.{name_bytes}
-use Rattle.programs.specs.Streams.{bytes_left}
+use Rattle.tool_parts.specs.Names.{name_bytes}
+use Rattle.tool_parts.specs.Streams.{bytes_left}
 use Rattle.acredact.specs.Arguments.{all_given, covers_asked, has}
 use Rattle.acredact.specs.Builds.{RefusesPatterns, patterns_by_given}
 use Rattle.acredact.specs.Calls.{call_of, names_asked}
@@ -24,8 +24,8 @@ use Rattle.acredact.specs.declared.arguments.Word.TheVariants.{AsWord}
 use Rattle.acredact.specs.declared.failure.Failure.{Failure}
 use Rattle.acredact.specs.declared.failure.Failure.TheVariants.{Other}
 use Rattle.acredact.specs.declared.look.Verdict.{Verdict}
-use Rattle.programs.specs.declared.failure.Failure.TheVariants.{Build, OutOfMemory}
-use Rattle.programs.proofs.Lent.{lent}
+use Rattle.tool_parts.specs.declared.failure.Failure.TheVariants.{Build, OutOfMemory}
+use Rattle.tool_parts.proofs.Lent.{lent}
 use Rattle.acredact.proofs.Checks.{seen_fails, seen_refused, seen_whole}
 use Rattle.acredact.proofs.Ready.{covers_standard, look_ready, some_shortest}
 use Rattle.acredact.proofs.check.check_rules.Goals.{After-as_ref}

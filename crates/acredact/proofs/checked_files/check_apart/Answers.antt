@@ -1,7 +1,7 @@
 -- A file that was not read to its end is told.
 use Rattle.std.proofs.Common.{subst}
 use Rattle.std.specs.Prelude.{Ok}
-use Rattle.programs.specs.Streams.{bytes_left}
+use Rattle.tool_parts.specs.Streams.{bytes_left}
 use Rattle.acredact.specs.RuledChecks.{LookedNamed, quest_in}
 use Rattle.acredact.specs.declared.look.Look.{Look}
 use Rattle.acredact.proofs.LookedFiles.{seen_unread}

@@ -1,8 +1,8 @@
 -- A file more was looked at.
 use Rattle.std.proofs.Common.{rules, ◌≡◌, ◌≤◌, ℕ, List, length, subst, sym}
 use Rattle.std.specs.Prelude.{Result, Err}
-use Rattle.programs.specs.Names.{name_bytes}
-use Rattle.programs.specs.Streams.{bytes_left}
+use Rattle.tool_parts.specs.Names.{name_bytes}
+use Rattle.tool_parts.specs.Streams.{bytes_left}
 use Rattle.secret_rules.specs.declared.error.LineError.{LineError}
 use Rattle.acredact.specs.RuledChecks.{SeesFiles, quest_in}
 use Rattle.acredact.specs.declared.look.Verdict.{Verdict}

@@ -1,7 +1,7 @@
 -- The files in front of what is left were looked at.
 use Rattle.std.proofs.Common.{length}
-use Rattle.programs.specs.Names.{name_bytes}
-use Rattle.programs.specs.Streams.{bytes_left}
+use Rattle.tool_parts.specs.Names.{name_bytes}
+use Rattle.tool_parts.specs.Streams.{bytes_left}
 use Rattle.secret_rules.specs.Ready.{CanCoverLines}
 use Rattle.acredact.specs.RuledChecks.{IfCovers, IsCoveredBy, quest_in}
 use Rattle.acredact.proofs.LookedFiles.{SeenSoFar}

@@ -1,6 +1,6 @@
 -- The file is that of the input, or of the folder.
 use Rattle.std.proofs.Common.{List, ℕ, ◌∙◌, sym, refl, subst}
-use Rattle.programs.specs.Streams.{bytes_left}
+use Rattle.tool_parts.specs.Streams.{bytes_left}
 use Rattle.acredact.specs.RuledChecks.{LookedText, labels_of, quest_in}
 use Rattle.acredact.proofs.LookedFiles.{looked_input, looked_opened, looked_refused}
 use Rattle.acredact.proofs.checked_files.check_file.Goals as goal

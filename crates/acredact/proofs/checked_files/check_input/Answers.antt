@@ -1,8 +1,8 @@
 -- The input is read to its end.
 use Rattle.std.proofs.Common.{◌≢◌, ap, sym, subst}
 use Rattle.std.specs.Prelude.{Result}
-use Rattle.programs.specs.Streams.{bytes_left}
-use Rattle.programs.proofs.Ends.{at_end}
+use Rattle.tool_parts.specs.Streams.{bytes_left}
+use Rattle.tool_parts.proofs.Ends.{at_end}
 use Rattle.secret_rules.specs.declared.error.LineError.{LineError}
 use Rattle.acredact.specs.RuledChecks.{LookedText, labels_of}
 use Rattle.acredact.specs.declared.look.Look.{Look}

@@ -1,6 +1,6 @@
 -- The reader is read to its end.
 use Rattle.std.proofs.Common.{Option, List, ℕ, ap, subst}
-use Rattle.programs.specs.Streams.{bytes_left}
+use Rattle.tool_parts.specs.Streams.{bytes_left}
 use Rattle.acredact.specs.RuledChecks.{LookedText, labels_of}
 use Rattle.acredact.proofs.checked_files.check_opened.Goals as goal
 

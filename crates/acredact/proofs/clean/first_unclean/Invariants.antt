@@ -4,7 +4,7 @@ use Rattle.std.specs.Prelude.{[]}
 use Rattle.aho_core.specs.Patterns.{Patterns}
 use Rattle.aho_core.specs.Replacement.{pieces_of}
 use Rattle.aho_laws.specs.CoverLaws.{IsCleanPiece}
-use Rattle.programs.specs.Asked.{ArePatterns}
+use Rattle.tool_parts.specs.Asked.{ArePatterns}
 use Rattle.acredact.specs.Pieces.{pieces_by}
 use Rattle.acredact.proofs.clean.first_unclean.Given as goal
 

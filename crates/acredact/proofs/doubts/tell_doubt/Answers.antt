@@ -2,7 +2,7 @@
 use Rattle.std.proofs.Common.{◌≡◌, ℕ, List, sym, subst, ◌∙◌, append-nil}
 use Rattle.std.specs.Prelude.{None, Option, Some}
 use Rattle.std.specs.List.{concat}
-use Rattle.programs.specs.Telling.{TellsBytes}
+use Rattle.tool_parts.specs.Telling.{TellsBytes}
 use Rattle.acredact.specs.Arguments.{all_given}
 use Rattle.acredact.specs.Doubts.{bad_at, doubt_of, lines_of_doubt, list_name}
 use Rattle.acredact.specs.Failures.{bad_line}

@@ -1,7 +1,7 @@
 -- What is told of lists comes first.
 use Rattle.std.proofs.Common.{Bool, sym, subst}
-use Rattle.programs.specs.Telling.{TellsBytes}
-use Rattle.programs.proofs.Tellings.{tells-later}
+use Rattle.tool_parts.specs.Telling.{TellsBytes}
+use Rattle.tool_parts.proofs.Tellings.{tells-later}
 use Rattle.acredact.specs.Arguments.{all_given}
 use Rattle.acredact.specs.Doubts.{TellsDoubts, list_doubt_lines}
 use Rattle.acredact.specs.Short.{short_told}

@@ -1,6 +1,6 @@
 -- The line by its parts.
 use Rattle.std.proofs.Common.{List, ℕ, subst}
-use Rattle.programs.specs.Telling.{TellsBytes}
+use Rattle.tool_parts.specs.Telling.{TellsBytes}
 use Rattle.acredact.specs.Messages.{flaw_text, piece_line}
 use Rattle.acredact.specs.declared.clean.Flaw.TheVariants.{Empty}
 use Rattle.acredact.proofs.failure.tell_empty.Goals as goal

@@ -1,9 +1,9 @@
 -- Each mistake by its message.
 use Rattle.std.proofs.Common.{List, ℕ, [], ◌∷◌, sym, subst, ◌∙◌}
 use Rattle.std.specs.Prelude.{codes}
-use Rattle.programs.specs.Telling.{TellsBytes}
+use Rattle.tool_parts.specs.Telling.{TellsBytes}
 use Rattle.acredact.specs.Messages.{alone, told_line}
-use Rattle.call_options.specs.declared.misuse.Misuse.TheVariants.{NoArgument}
+use Rattle.tool_parts.specs.declared.options.misuse.Misuse.TheVariants.{NoArgument}
 use Rattle.acredact.specs.Mistakes.{mistake_line, misuse_line, named_line}
 use Rattle.acredact.specs.declared.arguments.Mistake.{Mistake}
 use Rattle.acredact.proofs.failure.tell_mistake.Goals as goal

@@ -1,7 +1,7 @@
 -- A message in one part, or in three.
 use Rattle.std.proofs.Common.{rules, ◌≡◌, ℕ, List, ◌++◌, sym, subst, true, codes}
-use Rattle.programs.specs.Telling.{TellsBytes}
-use Rattle.programs.proofs.Tellings.{tells-later}
+use Rattle.tool_parts.specs.Telling.{TellsBytes}
+use Rattle.tool_parts.proofs.Tellings.{tells-later}
 use Rattle.acredact.specs.Messages.{shown}
 use Rattle.acredact.proofs.ShownNames.{three_parts}
 use Rattle.acredact.proofs.failure.tell_named.Goals as goal

@@ -1,7 +1,7 @@
 -- Each flaw by its text.
 use Rattle.std.proofs.Common.{sym, subst}
 use Rattle.std.specs.Prelude.{decimal}
-use Rattle.programs.specs.Telling.{TellsBytes}
+use Rattle.tool_parts.specs.Telling.{TellsBytes}
 use Rattle.acredact.specs.Messages.{flaw_text, piece_line}
 use Rattle.acredact.specs.declared.clean.Flaw.{Flaw}
 use Rattle.acredact.proofs.failure.tell_unclean.Goals as goal

@@ -2,7 +2,7 @@
 use Rattle.std.proofs.Common.{rules, ◌≡◌, Option, refl, sym, subst}
 use Rattle.std.specs.Prelude.{Bool, Result, Ok, Err}
 use Rattle.aho_core.specs.declared.error.stream.StreamError.{StreamError}
-use Rattle.programs.specs.declared.reason.Reason.{Reason}
+use Rattle.tool_parts.specs.declared.reason.Reason.{Reason}
 use Rattle.acredact.specs.Files.{FileOutcome, ToldOutcome, work_of}
 use Rattle.acredact.proofs.Done.{told_cut, told_unread, told_whole}
 use Rattle.acredact.proofs.files.redact_apart.Goals as goal

@@ -2,8 +2,8 @@
 use Rattle.std.proofs.Common.{rules, arith, ◌≡◌, ◌∙◌, ◌≤◌, ℕ, List, ap, length, subst, sym, true}
 use Rattle.std.specs.Prelude.{Bool, Result, Ok, Err, OnOk}
 use Rattle.aho_core.specs.declared.error.stream.StreamError.{StreamError}
-use Rattle.programs.specs.Names.{name_bytes}
-use Rattle.programs.specs.Streams.{bytes_left}
+use Rattle.tool_parts.specs.Names.{name_bytes}
+use Rattle.tool_parts.specs.Streams.{bytes_left}
 use Rattle.acredact.specs.Bounds.{JobNumbers}
 use Rattle.acredact.specs.Files.{FilesOutcome, work_of}
 use Rattle.acredact.proofs.Bounded.{NumbersSoFar, all_numbered, more_numbered, none_numbered, one_file}

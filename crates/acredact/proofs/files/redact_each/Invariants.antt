@@ -1,7 +1,7 @@
 -- The files in front of what is left are done.
 use Rattle.std.proofs.Common.{◌≡◌, length, true}
-use Rattle.programs.specs.Names.{name_bytes}
-use Rattle.programs.specs.Streams.{bytes_left}
+use Rattle.tool_parts.specs.Names.{name_bytes}
+use Rattle.tool_parts.specs.Streams.{bytes_left}
 use Rattle.acredact.specs.Files.{work_of}
 use Rattle.acredact.specs.Ways.{IfBy, Redacts}
 use Rattle.acredact.proofs.Bounded.{NumbersSoFar}

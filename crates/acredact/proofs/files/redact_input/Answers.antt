@@ -4,9 +4,9 @@ use Rattle.std.specs.Prelude.{Bool, Result}
 use Rattle.std.proofs.lemmas.Result.{IfErr-weaker, on_ok_weaker}
 use Rattle.aho_core.specs.declared.error.stream.StreamError.{StreamError}
 use Rattle.aho_devices.specs.Counts.{counted}
-use Rattle.programs.specs.Streams.{bytes_left}
-use Rattle.programs.proofs.Ends.{at_end}
-use Rattle.programs.specs.declared.reason.Reason.{Reason}
+use Rattle.tool_parts.specs.Streams.{bytes_left}
+use Rattle.tool_parts.proofs.Ends.{at_end}
+use Rattle.tool_parts.specs.declared.reason.Reason.{Reason}
 use Rattle.acredact.specs.Faults.{is_unread}
 use Rattle.acredact.specs.Files.{TextOutcome}
 use Rattle.acredact.proofs.Bounded.{numbers_text}

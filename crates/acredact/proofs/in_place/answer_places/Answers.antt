@@ -1,7 +1,7 @@
 -- The status is that of the call.
 use Rattle.std.proofs.Common.{rules, ◌≡◌, ℕ, arith, subst, sym, true, false}
 use Rattle.std.specs.Prelude.{Bool, Ok, Result}
-use Rattle.programs.specs.Streams.{bytes_left}
+use Rattle.tool_parts.specs.Streams.{bytes_left}
 use Rattle.acredact.specs.Arguments.{all_given}
 use Rattle.acredact.specs.Calls.{call_of}
 use Rattle.acredact.specs.InPlace.{CalledPlaces, PlacesStatus}

@@ -1,6 +1,6 @@
 -- What was loaded is what is redacted.
 use Rattle.std.proofs.Common.{rules, ◌≡◌, inl, inr, List, ap, refl, sym, subst, false}
-use Rattle.programs.specs.Streams.{bytes_left}
+use Rattle.tool_parts.specs.Streams.{bytes_left}
 use Rattle.acredact.specs.Arguments.{all_given}
 use Rattle.acredact.specs.Calls.{call_of, gives_pattern, reading_by, rules_asked}
 use Rattle.acredact.specs.Loading.{AreGiven, CannotLoadAll}

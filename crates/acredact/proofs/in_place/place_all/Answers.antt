@@ -18,9 +18,9 @@ use Rattle.aho_hybrid.specs.declared.hybrid.Hybrid.{Hybrid}
 use Rattle.aho_corasick.specs.declared.noncontiguous.NFA.{NFA}
 use Rattle.aho_backward.specs.Searcher.{IsBackwardOf}
 use Rattle.aho_backward.specs.declared.backward.Backward.{Backward}
-use Rattle.programs.specs.Asked.{ArePatterns}
-use Rattle.programs.specs.Names.{name_bytes}
-use Rattle.programs.specs.Streams.{bytes_left}
+use Rattle.tool_parts.specs.Asked.{ArePatterns}
+use Rattle.tool_parts.specs.Names.{name_bytes}
+use Rattle.tool_parts.specs.Streams.{bytes_left}
 use Rattle.acredact.specs.Arguments.{Given, all_given, covers_asked, has, words_asked}
 use Rattle.acredact.specs.Back.{AreBoth, IsBackAsked}
 use Rattle.acredact.specs.Builds.{RefusesPatterns, patterns_by_given}
@@ -35,8 +35,8 @@ use Rattle.acredact.specs.Volumes.{ReadsVolume}
 use Rattle.acredact.specs.declared.failure.Failure.{Failure}
 use Rattle.acredact.specs.declared.arguments.Word.TheVariants.{Strict}
 use Rattle.acredact.specs.declared.failure.Failure.TheVariants.{Other}
-use Rattle.programs.specs.declared.failure.Failure.TheVariants.{Build, OutOfMemory}
-use Rattle.programs.proofs.Lent.{lent}
+use Rattle.tool_parts.specs.declared.failure.Failure.TheVariants.{Build, OutOfMemory}
+use Rattle.tool_parts.proofs.Lent.{lent}
 use Rattle.acredact.proofs.Ready.{covers_standard, ready_of, some_shortest}
 use Rattle.acredact.proofs.Calls.{work_as}
 use Rattle.acredact.proofs.in_place.place_all.Goals.{After-as_ref}

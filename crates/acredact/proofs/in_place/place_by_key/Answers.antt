@@ -1,8 +1,8 @@
 -- The key names runs, or with forms the secrets.
 use Rattle.std.proofs.Common.{rules, ◌≡◌, inl, true, false, refl, sym, ap, subst, ◌∙◌}
 use Rattle.std.specs.Prelude.{Bool, Err, Result, Some}
-use Rattle.programs.specs.declared.failure.Failure.TheVariants.{OutOfMemory}
-use Rattle.pseudonyms.specs.Pseudonyms.{pseudonym_rule}
+use Rattle.tool_parts.specs.declared.failure.Failure.TheVariants.{OutOfMemory}
+use Rattle.acredact.specs.Pseudonyms.{pseudonym_rule}
 use Rattle.acredact.specs.Arguments.{all_given, has}
 use Rattle.acredact.specs.Calls.{call_of}
 use Rattle.acredact.specs.InPlace.{CalledPlaces}

@@ -1,7 +1,7 @@
 -- There may be no memory for the counts.
 use Rattle.std.proofs.Common.{rules, ◌≡◌, inl, refl, sym, subst}
 use Rattle.std.specs.Prelude.{Bool, Result, Err}
-use Rattle.programs.specs.declared.failure.Failure.TheVariants.{OutOfMemory}
+use Rattle.tool_parts.specs.declared.failure.Failure.TheVariants.{OutOfMemory}
 use Rattle.acredact.specs.Arguments.{all_given}
 use Rattle.acredact.specs.Calls.{call_of}
 use Rattle.acredact.specs.InPlace.{CalledPlaces}

@@ -1,8 +1,8 @@
 -- The files in front of what is left were come to.
 use Rattle.std.proofs.Common.{◌≡◌, length, true}
 use Rattle.std.specs.Prelude.{IfSome}
-use Rattle.programs.specs.Names.{name_bytes}
-use Rattle.programs.specs.Streams.{bytes_left}
+use Rattle.tool_parts.specs.Names.{name_bytes}
+use Rattle.tool_parts.specs.Streams.{bytes_left}
 use Rattle.acredact.specs.Back.{IfBackIs}
 use Rattle.acredact.specs.Files.{redactor_of, work_of}
 use Rattle.acredact.specs.Secrets.{IfOf}

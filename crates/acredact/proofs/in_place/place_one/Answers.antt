@@ -1,8 +1,8 @@
 -- A new file is made, filled, and takes the place; or the file stays as it was.
 use Rattle.std.proofs.Common.{rules, ◌≡◌, [], ◌∷◌, inl, inr, refl, sym, subst, true, false}
 use Rattle.std.specs.Prelude.{IfSome, Ok}
-use Rattle.programs.specs.Names.{is_input}
-use Rattle.programs.specs.Streams.{bytes_left}
+use Rattle.tool_parts.specs.Names.{is_input}
+use Rattle.tool_parts.specs.Streams.{bytes_left}
 use Rattle.acredact.specs.Files.{redactor_of, work_of}
 use Rattle.acredact.specs.Totals.{CountsOfName}
 use Rattle.acredact.specs.Volumes.{ReadsVolume}

@@ -1,8 +1,8 @@
 -- The arguments are right or wrong.
 use Rattle.std.proofs.Common.{◌≡◌, inl, ℕ, List, ap, refl, sym, subst, ◌∙◌, arith}
 use Rattle.std.specs.Prelude.{None, Some}
-use Rattle.programs.specs.Arguments.{texts}
-use Rattle.programs.specs.Streams.{bytes_left}
+use Rattle.tool_parts.specs.Arguments.{texts}
+use Rattle.tool_parts.specs.Streams.{bytes_left}
 use Rattle.acredact.specs.Arguments.{Given, all_asked, all_given}
 use Rattle.acredact.specs.Calls.{IsWrongLine, call_of}
 use Rattle.acredact.specs.InPlace.{PlacesStatus}

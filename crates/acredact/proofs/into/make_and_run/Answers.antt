@@ -1,7 +1,7 @@
 -- The new file is made and filled, or it is told why not.
 use Rattle.std.proofs.Common.{rules, ◌≡◌, [], inl, inr, sym, subst, refl, true, false, arith}
 use Rattle.std.specs.Prelude.{IfSome}
-use Rattle.programs.specs.Names.{is_input}
+use Rattle.tool_parts.specs.Names.{is_input}
 use Rattle.acredact.specs.Calls.{call_of}
 use Rattle.acredact.specs.Into.{IsOutputLine, IsRuledOutputLine}
 use Rattle.acredact.proofs.Put.{no_check_of, ruled_no_check}

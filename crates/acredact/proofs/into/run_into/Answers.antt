@@ -1,8 +1,8 @@
 -- What the call says of its output, and what became of that.
 use Rattle.std.proofs.Common.{◌≡◌, sym, subst, true}
-use Rattle.programs.specs.Streams.{output_bytes}
-use Rattle.programs.specs.Arguments.{texts}
-use Rattle.programs.specs.Telling.{TellsSome}
+use Rattle.tool_parts.specs.Streams.{output_bytes}
+use Rattle.tool_parts.specs.Arguments.{texts}
+use Rattle.tool_parts.specs.Telling.{TellsSome}
 use Rattle.acredact.specs.Calls.{CountsAsked, LeavesNoneAsked, OutputFails, RedactsAsked, WarnsAsked, call_of}
 use Rattle.acredact.specs.Into.{IsOutputLine, IsRuledOutputLine}
 use Rattle.acredact.specs.Ruled.{NotesAsked, RuledAsked}

@@ -1,6 +1,6 @@
 -- The rules that the options so far give were read.
 use Rattle.std.proofs.Common.{length}
-use Rattle.programs.specs.Streams.{bytes_left}
+use Rattle.tool_parts.specs.Streams.{bytes_left}
 use Rattle.acredact.specs.Arguments.{all_given}
 use Rattle.acredact.specs.Loading.{reading_of_lists}
 use Rattle.acredact.proofs.RulesRead.{RulesSoFar}

@@ -1,7 +1,7 @@
 -- The text is that of the input, or of a file of the folder.
 use Rattle.std.proofs.Common.{◌∙◌, sym, inl}
 use Rattle.std.proofs.lemmas.Result.{IfErr-weaker, IfOk-weaker}
-use Rattle.programs.specs.Streams.{bytes_left}
+use Rattle.tool_parts.specs.Streams.{bytes_left}
 use Rattle.acredact.proofs.Loaded.{text_input, text_opened}
 use Rattle.acredact.proofs.load.read_list.Goals as goal
 

@@ -1,7 +1,7 @@
 -- The text of the reader.
 use Rattle.std.proofs.Common.{Option, List, ℕ, ap, subst}
 use Rattle.std.proofs.lemmas.Result.{IfOk-weaker}
-use Rattle.programs.specs.Streams.{bytes_left}
+use Rattle.tool_parts.specs.Streams.{bytes_left}
 use Rattle.acredact.specs.Reads.{ReadsText}
 use Rattle.acredact.proofs.load.read_opened.Goals as goal
 

@@ -1,6 +1,6 @@
 -- What an item more gives is loaded.
 use Rattle.std.proofs.Common.{rules, ◌≡◌, ◌≤◌, List, [], ap, length, subst, sym}
-use Rattle.programs.specs.Streams.{bytes_left}
+use Rattle.tool_parts.specs.Streams.{bytes_left}
 use Rattle.acredact.specs.Arguments.{all_given}
 use Rattle.acredact.specs.Loading.{reading_of_lists}
 use Rattle.acredact.specs.Tables.{Secret, secrets_of}

@@ -2,8 +2,8 @@
 use Rattle.std.proofs.Common.{rules, ◌≡◌, ◌≤◌, ◌-◌, ℕ, List, drop, length, subst, sym, take}
 use Rattle.std.specs.Prelude.{Err, Result}
 use Rattle.std.specs.declared.alloc.AllocError.{AllocError}
-use Rattle.programs.specs.Names.{name_bytes}
-use Rattle.programs.specs.Streams.{bytes_left}
+use Rattle.tool_parts.specs.Names.{name_bytes}
+use Rattle.tool_parts.specs.Streams.{bytes_left}
 use Rattle.acredact.specs.Checks.{SeesFiles, quest_of}
 use Rattle.acredact.specs.declared.look.Verdict.{Verdict}
 use Rattle.acredact.proofs.Checks.{SeenSoFar, seen_all, seen_cut, seen_more, seen_none}

@@ -1,7 +1,7 @@
 -- The files in front of what is left were looked at.
 use Rattle.std.proofs.Common.{length}
-use Rattle.programs.specs.Names.{name_bytes}
-use Rattle.programs.specs.Streams.{bytes_left}
+use Rattle.tool_parts.specs.Names.{name_bytes}
+use Rattle.tool_parts.specs.Streams.{bytes_left}
 use Rattle.acredact.specs.Checks.{quest_of}
 use Rattle.acredact.specs.Secrets.{IfOf}
 use Rattle.acredact.proofs.Checks.{SeenSoFar}

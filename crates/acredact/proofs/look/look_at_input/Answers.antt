@@ -3,8 +3,8 @@ use Rattle.std.proofs.Common.{◌≢◌, ap, sym, subst, ◌∙◌}
 use Rattle.std.specs.Prelude.{Bool, IfOk, Result}
 use Rattle.std.specs.declared.alloc.AllocError.{AllocError}
 use Rattle.aho_devices.specs.Counts.{counted}
-use Rattle.programs.specs.Streams.{bytes_left}
-use Rattle.programs.proofs.Ends.{at_end}
+use Rattle.tool_parts.specs.Streams.{bytes_left}
+use Rattle.tool_parts.proofs.Ends.{at_end}
 use Rattle.acredact.specs.Faults.{IsReadReason}
 use Rattle.acredact.specs.Looks.{IsLook, is_failed_look, sought}
 use Rattle.acredact.specs.declared.look.Look.{Look}

@@ -2,7 +2,7 @@
 use Rattle.std.proofs.Common.{Option, List, ℕ, ap, subst}
 use Rattle.std.specs.Prelude.{IfOk, Result, Ok, Err}
 use Rattle.std.specs.declared.alloc.AllocError.{AllocError}
-use Rattle.programs.specs.Streams.{bytes_left}
+use Rattle.tool_parts.specs.Streams.{bytes_left}
 use Rattle.acredact.specs.Faults.{IsReadReason}
 use Rattle.acredact.specs.Looks.{IsLook, sought}
 use Rattle.acredact.specs.Secrets.{Redactor}

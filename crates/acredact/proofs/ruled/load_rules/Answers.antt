@@ -1,5 +1,5 @@
 -- The rules that were loaded are redacted by.
-use Rattle.programs.specs.Streams.{bytes_left}
+use Rattle.tool_parts.specs.Streams.{bytes_left}
 use Rattle.acredact.specs.Arguments.{all_given}
 use Rattle.acredact.specs.Calls.{call_of, rules_asked}
 use Rattle.acredact.specs.LineRules.{AreRulesRead}

@@ -1,7 +1,7 @@
 -- What is told of doubtful patterns comes first.
 use Rattle.std.proofs.Common.{sym, subst}
-use Rattle.programs.specs.Streams.{bytes_left, output_bytes}
-use Rattle.programs.specs.declared.errors.Errors.{Errors}
+use Rattle.tool_parts.specs.Streams.{bytes_left, output_bytes}
+use Rattle.tool_parts.specs.declared.errors.Errors.{Errors}
 use Rattle.acredact.specs.Arguments.{all_given}
 use Rattle.acredact.specs.Calls.{call_of}
 use Rattle.acredact.specs.Ruled.{DoubtedRuled, ruled_load}

@@ -1,9 +1,9 @@
 -- The key names runs, and with forms the secrets.
 use Rattle.std.proofs.Common.{rules, ◌≡◌, true, false, ap, sym, subst, ◌∙◌}
 use Rattle.std.specs.Prelude.{Bool, Err, Result, Some}
-use Rattle.programs.specs.declared.failure.Failure.TheVariants.{OutOfMemory}
-use Rattle.pseudonyms.specs.Pseudonyms.{pseudonym_rule}
-use Rattle.programs.specs.Streams.{bytes_left, output_bytes}
+use Rattle.tool_parts.specs.declared.failure.Failure.TheVariants.{OutOfMemory}
+use Rattle.acredact.specs.Pseudonyms.{pseudonym_rule}
+use Rattle.tool_parts.specs.Streams.{bytes_left, output_bytes}
 use Rattle.acredact.specs.Arguments.{all_given, has}
 use Rattle.acredact.specs.Calls.{call_of}
 use Rattle.acredact.specs.Ruled.{RuledCall, ruled_load}

@@ -6,11 +6,11 @@ use Rattle.aho_core.specs.Replacement.{pieces_of}
 use Rattle.aho_corasick.specs.contracts.noncontiguous.NFAAutomaton.TheImpl.{ghosts as NFAGhosts}
 use Rattle.aho_corasick.specs.contracts.noncontiguous.NFAAutomaton.TheImpl.Laws.{laws-law as nfa-laws}
 use Rattle.aho_cover.specs.Pieces.{PieceRule}
-use Rattle.programs.specs.Names.{name_bytes}
-use Rattle.programs.specs.Streams.{bytes_left, output_bytes}
-use Rattle.programs.specs.Telling.{TellsBytes}
+use Rattle.tool_parts.specs.Names.{name_bytes}
+use Rattle.tool_parts.specs.Streams.{bytes_left, output_bytes}
+use Rattle.tool_parts.specs.Telling.{TellsBytes}
 use Rattle.secret_rules.specs.declared.rule.Rule.{Rule as LineRule}
-use Rattle.programs.specs.declared.failure.Failure.TheVariants.{Build, OutOfMemory}
+use Rattle.tool_parts.specs.declared.failure.Failure.TheVariants.{Build, OutOfMemory}
 use Rattle.acredact.specs.Arguments.{all_given, has}
 use Rattle.acredact.specs.Calls.{call_of, names_asked}
 use Rattle.acredact.specs.Doubts.{last_of}

@@ -1,6 +1,6 @@
 -- The patterns that were loaded are looked for.
 use Rattle.std.proofs.Common.{List, ap, sym, subst}
-use Rattle.programs.specs.Streams.{bytes_left}
+use Rattle.tool_parts.specs.Streams.{bytes_left}
 use Rattle.acredact.specs.Arguments.{all_given}
 use Rattle.acredact.specs.Calls.{call_of, reading_by, rules_asked}
 use Rattle.acredact.specs.Loading.{AreGiven}

@@ -1,6 +1,6 @@
 -- What is told is what the output holds more.
 use Rattle.std.proofs.Common.{refl}
-use Rattle.programs.specs.Streams.{output_bytes}
+use Rattle.tool_parts.specs.Streams.{output_bytes}
 use Rattle.acredact.proofs.ruled_check.check_telling.Goals as goal
 
 pub returns-clause-sees : goal.returns-clause-sees

@@ -1,7 +1,7 @@
 -- The line by its parts.
 use Rattle.std.proofs.Common.{List, ℕ, ◌++◌, subst}
 use Rattle.std.specs.Prelude.{codes}
-use Rattle.programs.specs.Telling.{TellsBytes}
+use Rattle.tool_parts.specs.Telling.{TellsBytes}
 use Rattle.acredact.proofs.ruled_failure.tell_line_end.Goals as goal
 
 pub returns : goal.returns

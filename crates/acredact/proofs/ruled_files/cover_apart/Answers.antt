@@ -1,8 +1,8 @@
 -- A file that was not read to its end is told.
 use Rattle.std.proofs.Common.{rules, ◌≡◌, Option, sym, subst}
 use Rattle.std.specs.Prelude.{Bool, Result, Ok, Err}
-use Rattle.programs.specs.Streams.{bytes_left, output_bytes}
-use Rattle.programs.specs.declared.reason.Reason.{Reason}
+use Rattle.tool_parts.specs.Streams.{bytes_left, output_bytes}
+use Rattle.tool_parts.specs.declared.reason.Reason.{Reason}
 use Rattle.secret_rules.specs.declared.error.LineError.{LineError}
 use Rattle.acredact.specs.Ruled.{DoesFile, NamedOutcome, ruled_in}
 use Rattle.acredact.proofs.RuledFiles.{lined_cut, lined_unread, lined_whole}

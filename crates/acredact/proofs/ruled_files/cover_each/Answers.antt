@@ -1,8 +1,8 @@
 -- A file more is done.
 use Rattle.std.proofs.Common.{rules, ◌≡◌, ◌∙◌, ◌≤◌, ℕ, List, ap, length, subst, sym, true}
 use Rattle.std.specs.Prelude.{Bool, Result, Err, Ok}
-use Rattle.programs.specs.Names.{name_bytes}
-use Rattle.programs.specs.Streams.{bytes_left, output_bytes}
+use Rattle.tool_parts.specs.Names.{name_bytes}
+use Rattle.tool_parts.specs.Streams.{bytes_left, output_bytes}
 use Rattle.secret_rules.specs.declared.error.LineError.{LineError}
 use Rattle.acredact.specs.Ruled.{DoesFiles, ruled_in}
 use Rattle.acredact.specs.Volumes.{files_with}

@@ -1,7 +1,7 @@
 -- The files in front of what is left are done.
 use Rattle.std.proofs.Common.{◌≡◌, length, true}
-use Rattle.programs.specs.Names.{name_bytes}
-use Rattle.programs.specs.Streams.{bytes_left, output_bytes}
+use Rattle.tool_parts.specs.Names.{name_bytes}
+use Rattle.tool_parts.specs.Streams.{bytes_left, output_bytes}
 use Rattle.acredact.specs.Ruled.{IfLined, IsLined, ruled_in}
 use Rattle.acredact.proofs.Metering.{VolumeSoFar}
 use Rattle.acredact.proofs.RuledFiles.{LinedSoFar}

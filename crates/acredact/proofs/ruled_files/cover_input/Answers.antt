@@ -1,9 +1,9 @@
 -- The input is read to its end.
 use Rattle.std.proofs.Common.{◌≢◌, ◌∙◌, ap, sym, subst, Option}
 use Rattle.std.specs.Prelude.{Result}
-use Rattle.programs.specs.Streams.{bytes_left, output_bytes}
-use Rattle.programs.specs.declared.reason.Reason.{Reason}
-use Rattle.programs.proofs.Ends.{at_end}
+use Rattle.tool_parts.specs.Streams.{bytes_left, output_bytes}
+use Rattle.tool_parts.specs.declared.reason.Reason.{Reason}
+use Rattle.tool_parts.proofs.Ends.{at_end}
 use Rattle.secret_rules.specs.declared.error.LineError.{LineError}
 use Rattle.acredact.specs.Ruled.{LinesOutcome, Ruling, unread_of}
 use Rattle.acredact.proofs.Metering.{text_bytes}

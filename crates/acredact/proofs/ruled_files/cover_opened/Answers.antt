@@ -1,6 +1,6 @@
 -- The reader is read to its end.
 use Rattle.std.proofs.Common.{Option, List, ℕ, ap, subst}
-use Rattle.programs.specs.Streams.{bytes_left, output_bytes}
+use Rattle.tool_parts.specs.Streams.{bytes_left, output_bytes}
 use Rattle.acredact.specs.Ruled.{LinesOutcome}
 use Rattle.acredact.specs.Volumes.{AddsBytes}
 use Rattle.acredact.proofs.ruled_files.cover_opened.Goals as goal

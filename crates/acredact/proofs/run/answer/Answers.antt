@@ -1,7 +1,7 @@
 -- A check or a redaction, and its status.
 use Rattle.std.proofs.Common.{rules, ◌≡◌, ℕ, refl, sym, subst, ◌∙◌, true, false}
 use Rattle.std.specs.Prelude.{Bool, Ok, OnOk, Result}
-use Rattle.programs.specs.Streams.{bytes_left}
+use Rattle.tool_parts.specs.Streams.{bytes_left}
 use Rattle.acredact.specs.Arguments.{all_given, any_check_asked, checks_asked, rules_asked, rules_check_asked}
 use Rattle.acredact.specs.Calls.{CallOutcome, call_of}
 use Rattle.acredact.specs.Statuses.{CallStatus}

@@ -1,7 +1,7 @@
 -- What was loaded is redacted by the key, where there is one.
 use Rattle.std.proofs.Common.{inl, inr, List, ℕ, refl, sym, subst}
 use Rattle.std.specs.Prelude.{None, Option, Some}
-use Rattle.programs.specs.Streams.{bytes_left}
+use Rattle.tool_parts.specs.Streams.{bytes_left}
 use Rattle.acredact.specs.Arguments.{all_given, last_value}
 use Rattle.acredact.specs.Calls.{call_of, reading_by, rules_asked}
 use Rattle.acredact.specs.Loading.{CannotLoadKey, IsKeyGiven, key_in, reading_of_lists}

@@ -1,6 +1,6 @@
 -- The names so far, and those of what is left.
 use Rattle.std.proofs.Common.{◌≡◌, ◌++◌, length}
-use Rattle.programs.specs.Names.{name_bytes}
+use Rattle.tool_parts.specs.Names.{name_bytes}
 use Rattle.acredact.specs.Arguments.{all_given}
 use Rattle.acredact.specs.Calls.{names_given}
 use Rattle.acredact.proofs.run.names.Given as goal

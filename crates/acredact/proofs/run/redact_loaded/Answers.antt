@@ -1,8 +1,8 @@
 -- Of doubtful patterns it is told before anything else, or the first is refused.
 use Rattle.std.proofs.Common.{inr, subst, sym}
 use Rattle.std.specs.Prelude.{Bool, Err}
-use Rattle.programs.specs.Streams.{bytes_left}
-use Rattle.programs.specs.declared.errors.Errors.{Errors}
+use Rattle.tool_parts.specs.Streams.{bytes_left}
+use Rattle.tool_parts.specs.declared.errors.Errors.{Errors}
 use Rattle.acredact.specs.Arguments.{all_given, has}
 use Rattle.acredact.specs.Calls.{CallOutcome, call_of}
 use Rattle.acredact.specs.Doubts.{IsDoubtFailure, TellsDoubts}

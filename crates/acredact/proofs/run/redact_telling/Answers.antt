@@ -1,7 +1,7 @@
 -- The files' outcome, and then the counts.
 use Rattle.std.proofs.Common.{List, ℕ, refl, subst, ap}
 use Rattle.std.specs.Prelude.{Ok}
-use Rattle.programs.specs.Streams.{bytes_left}
+use Rattle.tool_parts.specs.Streams.{bytes_left}
 use Rattle.acredact.specs.Arguments.{all_given, counts_asked}
 use Rattle.acredact.specs.Calls.{call_of, names_asked, work_by}
 use Rattle.acredact.specs.Loading.{key_lent, loaded_as}

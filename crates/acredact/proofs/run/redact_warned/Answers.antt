@@ -2,7 +2,7 @@
 use Rattle.std.proofs.Common.{rules, ◌≡◌, ℕ, refl, sym, subst}
 use Rattle.std.specs.Prelude.{Bool, Err, IsOk, Result}
 use Rattle.aho_core.specs.declared.error.MatchErrorKind.{MatchErrorKind}
-use Rattle.programs.specs.Failures.{failure_of_stream}
+use Rattle.tool_parts.specs.Failures.{failure_of_stream}
 use Rattle.acredact.specs.Calls.{WarnedOutcome}
 use Rattle.acredact.specs.Files.{redactor_of, work_of}
 use Rattle.acredact.specs.declared.failure.Failure.{Failure}

@@ -1,6 +1,6 @@
 -- The counts and the summary are of the sums.
 use Rattle.std.proofs.Common.{rules, ◌≡◌, ℕ, List, [], ◌++◌, ap, subst, ◌∙◌, append-nil}
-use Rattle.programs.specs.Telling.{TellsBytes}
+use Rattle.tool_parts.specs.Telling.{TellsBytes}
 use Rattle.acredact.specs.Arguments.{all_given}
 use Rattle.acredact.specs.Counts.{lines_of_rules}
 use Rattle.acredact.specs.Summaries.{counts_told_by, summary_told_by, totals_text}

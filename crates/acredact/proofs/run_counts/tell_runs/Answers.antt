@@ -1,6 +1,6 @@
 -- The counts are one text.
 use Rattle.std.proofs.Common.{rules, ◌≡◌, List, subst, true}
-use Rattle.programs.specs.Telling.{TellsBytes}
+use Rattle.tool_parts.specs.Telling.{TellsBytes}
 use Rattle.secret_rules.specs.declared.rule.Rule.{Rule as LineRule}
 use Rattle.acredact.specs.Arguments.{all_given, counts_asked}
 use Rattle.acredact.specs.RunCounts.{runs_text}

@@ -2,7 +2,7 @@
 use Rattle.std.proofs.Common.{rules, ◌≡◌, ℕ, List, [], ◌++◌, length, ap, sym, subst, ◌∙◌, append-nil}
 use Rattle.std.specs.Prelude.{drop}
 use Rattle.std.proofs.lemmas.List.{length-map}
-use Rattle.programs.specs.Telling.{TellsBytes}
+use Rattle.tool_parts.specs.Telling.{TellsBytes}
 use Rattle.acredact.specs.Arguments.{all_given}
 use Rattle.acredact.specs.Counts.{lines_of_rules}
 use Rattle.acredact.specs.RunCounts.{objects_told_by, runs_text, runs_told_by}

@@ -1,9 +1,9 @@
 -- A message in one part, or in five.
 use Rattle.std.proofs.Common.{rules, ◌≡◌, ℕ, List, sym, subst, true, codes}
 use Rattle.std.specs.Prelude.{Some}
-use Rattle.programs.specs.Messages.{line_before}
-use Rattle.programs.specs.Telling.{TellsBytes}
-use Rattle.programs.proofs.Tellings.{tells-later}
+use Rattle.tool_parts.specs.Messages.{line_before}
+use Rattle.tool_parts.specs.Telling.{TellsBytes}
+use Rattle.tool_parts.proofs.Tellings.{tells-later}
 use Rattle.acredact.specs.Messages.{shown, told_line}
 use Rattle.acredact.proofs.ShownNames.{five_parts}
 use Rattle.acredact.proofs.shown.tell_shown.Goals as goal

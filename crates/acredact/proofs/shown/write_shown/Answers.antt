@@ -1,8 +1,8 @@
 -- One byte more is written.
 use Rattle.std.proofs.Common.{rules, ◌≡◌, ◌≤◌, [], ◌++◌, length, refl, sym, ap, subst, ◌∙◌, append-nil}
 use Rattle.std.specs.Prelude.{slice_index}
-use Rattle.programs.specs.Telling.{TellsBytes}
-use Rattle.programs.proofs.Tellings.{tells-later}
+use Rattle.tool_parts.specs.Telling.{TellsBytes}
+use Rattle.tool_parts.proofs.Tellings.{tells-later}
 use Rattle.acredact.specs.Messages.{escaped_of, shown}
 use Rattle.acredact.proofs.Done.{tells_none}
 use Rattle.acredact.proofs.ShownNames.{nil_of, shown_next}

@@ -1,6 +1,6 @@
 -- The bytes so far are written.
 use Rattle.std.proofs.Common.{◌≡◌, ℕ, List, ◌++◌, length}
-use Rattle.programs.specs.Telling.{TellsBytes}
+use Rattle.tool_parts.specs.Telling.{TellsBytes}
 use Rattle.acredact.specs.Messages.{shown}
 use Rattle.acredact.proofs.shown.write_shown.Given as goal
 

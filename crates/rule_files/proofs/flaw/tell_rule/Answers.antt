@@ -1,7 +1,7 @@
 -- The line by its parts.
 use Rattle.std.proofs.Common.{refl, subst, codes}
-use Rattle.programs.specs.Telling.{TellsBytes}
-use Rattle.programs.proofs.Tellings.{tells-later}
+use Rattle.tool_parts.specs.Telling.{TellsBytes}
+use Rattle.tool_parts.proofs.Tellings.{tells-later}
 use Rattle.rule_files.specs.Messages.{as_shown}
 use Rattle.rule_files.specs.Flaws.{flawed_line, name_of_bad}
 use Rattle.rule_files.proofs.ShownNames.{seven_parts}

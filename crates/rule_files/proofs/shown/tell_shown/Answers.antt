@@ -1,9 +1,9 @@
 -- A message in one part, or in five.
 use Rattle.std.proofs.Common.{rules, ◌≡◌, ℕ, List, sym, subst, true, codes}
 use Rattle.std.specs.Prelude.{Some}
-use Rattle.programs.specs.Messages.{line_before, message_of}
-use Rattle.programs.specs.Telling.{TellsBytes}
-use Rattle.programs.proofs.Tellings.{tells-later}
+use Rattle.tool_parts.specs.Messages.{line_before, message_of}
+use Rattle.tool_parts.specs.Telling.{TellsBytes}
+use Rattle.tool_parts.proofs.Tellings.{tells-later}
 use Rattle.rule_files.specs.Messages.{as_shown}
 use Rattle.rule_files.proofs.ShownNames.{five_parts}
 use Rattle.rule_files.proofs.shown.tell_shown.Goals as goal

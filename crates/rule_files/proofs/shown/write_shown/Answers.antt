@@ -1,8 +1,8 @@
 -- One byte more is written.
 use Rattle.std.proofs.Common.{rules, ◌≡◌, ◌≤◌, [], ◌++◌, length, refl, sym, ap, subst, ◌∙◌, append-nil}
 use Rattle.std.specs.Prelude.{slice_index}
-use Rattle.programs.specs.Telling.{TellsBytes}
-use Rattle.programs.proofs.Tellings.{tells-later, tells-nothing}
+use Rattle.tool_parts.specs.Telling.{TellsBytes}
+use Rattle.tool_parts.proofs.Tellings.{tells-later, tells-nothing}
 use Rattle.rule_files.specs.Messages.{shown_byte, as_shown}
 use Rattle.rule_files.proofs.ShownNames.{nil_of, shown_next}
 use Rattle.rule_files.proofs.shown.write_shown.Goals as goal

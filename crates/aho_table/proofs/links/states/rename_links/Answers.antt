@@ -2,7 +2,7 @@
 use Rattle.std.proofs.Common.{◌≤◌, List, length, sym, subst, arith}
 use Rattle.std.specs.List.{AllZip}
 use Rattle.std.proofs.lemmas.List.{with_items_is}
-use Rattle.aho_lists.proofs.Renamed.{AllZip-written}
+use Rattle.aho_table.proofs.Renamed.{AllZip-written}
 use Rattle.aho_table.specs.Inside.{IsLinkLed}
 use Rattle.aho_table.specs.declared.links.states.Record.{Record}
 use Rattle.aho_table.proofs.links.states.rename_links.Goals as goal

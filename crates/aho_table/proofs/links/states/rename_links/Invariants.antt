@@ -1,5 +1,5 @@
 -- The links so far are led.
-use Rattle.aho_lists.specs.Renaming.{IsWritten}
+use Rattle.aho_table.specs.Renaming.{IsWritten}
 use Rattle.aho_table.specs.Inside.{IsLinkLed}
 use Rattle.aho_table.proofs.links.states.rename_links.Given as goal
 

@@ -3,7 +3,7 @@ use Rattle.std.proofs.Common.{◌≤◌, ℕ, List, length, sym, subst, arith}
 use Rattle.std.specs.List.{AllZip}
 use Rattle.std.proofs.lemmas.List.{with_items_is}
 use Rattle.aho_table.specs.Renaming.{IsLed}
-use Rattle.aho_lists.proofs.Renamed.{AllZip-written}
+use Rattle.aho_table.proofs.Renamed.{AllZip-written}
 use Rattle.aho_table.proofs.links.rows.Rows.rename.Goals as goal
 
 pub returns-clause-renamed : goal.returns-clause-renamed

@@ -1,5 +1,5 @@
 -- The entries so far are led.
-use Rattle.aho_lists.specs.Renaming.{IsWritten}
+use Rattle.aho_table.specs.Renaming.{IsWritten}
 use Rattle.aho_table.specs.Renaming.{IsLed}
 use Rattle.aho_table.proofs.links.rows.Rows.rename.Given as goal
 

@@ -1,7 +1,7 @@
 -- The state's list is changed, and no other.
 use Rattle.std.proofs.Common.{List, [], ◌∷◌, ◌++◌, refl, inl, sym, ap, subst, ◌∙◌, arith}
 use Rattle.std.proofs.Math.ListN.{set}
-use Rattle.aho_lists.specs.Lists.{list_at}
+use Rattle.aho_table.specs.Lists.{list_at}
 use Rattle.aho_table.specs.Table.{State, state_at}
 use Rattle.std.proofs.lemmas.List.{length_push}
 use Rattle.aho_table.specs.Inside.{LimitedStates, recorded_states, IsShared, IsConsistent}

@@ -1,7 +1,7 @@
 -- One record more, of no lists.
 use Rattle.std.proofs.Common.{ℕ, List, [], ◌∷◌, ◌++◌, length, refl, sym, ap, subst, ◌∙◌, arith}
-use Rattle.aho_lists.specs.Lists.{list_at}
-use Rattle.aho_lists.proofs.Results.{overflow_at, out_of_memory_at}
+use Rattle.aho_table.specs.Lists.{list_at}
+use Rattle.aho_table.proofs.Results.{overflow_at, out_of_memory_at}
 use Rattle.aho_table.specs.Table.{new_state}
 use Rattle.aho_table.specs.Inside.{LimitedStates, recorded_states, IsConsistent}
 use Rattle.aho_table.specs.declared.links.states.Record.{Record}

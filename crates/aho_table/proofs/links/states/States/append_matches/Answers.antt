@@ -2,8 +2,8 @@
 use Rattle.std.proofs.Common.{◌≡◌, ◌⊎◌, ◌+◌, List, ℕ, ◌++◌, length, refl, inl, inr, sym, ap, subst, ◌∙◌, arith}
 use Rattle.std.proofs.Math.ListN.{set}
 use Rattle.std.proofs.lemmas.List.{length-append}
-use Rattle.aho_lists.specs.Lists.{list_at}
-use Rattle.aho_lists.proofs.Results.{IfErr-given}
+use Rattle.aho_table.specs.Lists.{list_at}
+use Rattle.aho_table.proofs.Results.{IfErr-given}
 use Rattle.aho_table.specs.Refusal.{IsRefusalOf}
 use Rattle.aho_table.specs.Table.{State, state_at, matches_in, matches_count}
 use Rattle.aho_table.specs.Inside.{LimitedStates, recorded_states, IsShared, IsConsistent}

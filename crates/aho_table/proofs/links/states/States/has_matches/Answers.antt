@@ -2,7 +2,7 @@
 use Rattle.std.proofs.Common.{◌≡◌, ℕ, List, length, nat_lt, sym, ap, ◌∙◌, arith}
 use Rattle.std.proofs.lemmas.Bool.Decides.{nat_tests}
 use Rattle.std.proofs.lemmas.List.{nil_from_length}
-use Rattle.aho_lists.specs.Lists.{list_at}
+use Rattle.aho_table.specs.Lists.{list_at}
 use Rattle.aho_table.specs.Table.{State, matches_in}
 use Rattle.aho_table.proofs.Records.{read_in, read_is, matches_known}
 use Rattle.aho_table.proofs.links.states.States.has_matches.Goals as goal

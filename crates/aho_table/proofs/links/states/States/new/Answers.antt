@@ -1,6 +1,6 @@
 -- No states, and stores without lists.
 use Rattle.std.proofs.Common.{◌≡◌, ℕ, List, [], ◌∷◌, false, min, sym, ap, subst, ◌∙◌, arith}
-use Rattle.aho_lists.specs.Lists.{Lists, PatternLists}
+use Rattle.aho_table.specs.Lists.{Lists, PatternLists}
 use Rattle.aho_table.specs.Inside.{recorded_states, IsConsistent}
 use Rattle.aho_table.specs.declared.links.states.Record.{Record}
 use Rattle.aho_table.proofs.Records.{recorded_states-none, same_table}

@@ -1,6 +1,6 @@
 -- The store follows the state's list.
 use Rattle.std.proofs.Common.{ap, sym, ◌∙◌}
-use Rattle.aho_lists.specs.TransitionList.{transition_at}
+use Rattle.aho_table.specs.TransitionList.{transition_at}
 use Rattle.aho_table.specs.Table.{State}
 use Rattle.aho_table.proofs.Records.{read_in, read_is, transitions_known}
 use Rattle.aho_table.proofs.links.states.States.next.Goals as goal

@@ -1,9 +1,9 @@
 -- The state's list is changed, and no other.
 use Rattle.std.proofs.Common.{◌≡◌, ℕ, List, length, Bool, true, cond, refl, sym, ap, subst, ◌∙◌, arith}
 use Rattle.std.proofs.Math.ListN.{set}
-use Rattle.aho_lists.specs.Lists.{Lists, list_at}
-use Rattle.aho_lists.specs.TransitionList.{with_transition, lists_transition}
-use Rattle.aho_lists.proofs.Families.{set_transition_in-count, number_after-fresh}
+use Rattle.aho_table.specs.Lists.{Lists, list_at}
+use Rattle.aho_table.specs.TransitionList.{with_transition, lists_transition}
+use Rattle.aho_table.proofs.Families.{set_transition_in-count, number_after-fresh}
 use Rattle.aho_table.specs.Table.{State, state_at, transitions_count}
 use Rattle.aho_table.specs.Inside.{LimitedStates, recorded_states, IsNone, IsConsistent}
 use Rattle.aho_table.specs.declared.links.states.Record.{Record}

@@ -1,5 +1,0 @@
--- The state that is held is one of the automaton.
-use Rattle.bench_tests.proofs.calls.found_by_calls.Given as goal
-
-abbrev pub invariant-loop-at : goal.invariant-loop-at
-invariant-loop-at g l = g.A.Automaton.valid l.automaton l.sid

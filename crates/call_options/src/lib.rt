@@ -1,9 +1,0 @@
-//! What the programs have in common that read options: long names and their beginnings, what an argument is, and what is told of
-//! options that are misused.
-#![tactic(auto)]
-
-pub mod argument;
-pub mod found;
-pub mod misuse;
-#[cfg(test)]
-mod tests;

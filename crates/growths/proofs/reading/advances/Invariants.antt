@@ -1,6 +1,0 @@
--- The chunks have come so far with some bytes.
-use Rattle.aho_stream.specs.Iterators.{CanGoOn}
-use Rattle.growths.proofs.reading.advances.Given as goal
-
-abbrev pub invariant-loop : goal.invariant-loop
-invariant-loop g l = CanGoOn g.A.Automaton l.chunks

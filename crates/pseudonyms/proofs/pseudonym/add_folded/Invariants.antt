@@ -1,9 +1,0 @@
--- The bytes before the place were added.
-use Rattle.std.proofs.Common.{ℕ, List, ◌++◌, take}
-use Rattle.std.specs.Prelude.{true}
-use Rattle.sha2.specs.Hashers.{Holds256}
-use Rattle.pseudonyms.specs.Pseudonyms.{as_compared}
-use Rattle.pseudonyms.proofs.pseudonym.add_folded.Given as goal
-
-abbrev pub invariant-bytes : goal.invariant-bytes
-invariant-bytes l = (message : List ℕ) → Holds256 l.initial.hasher message → Holds256 l.hasher (message ++ as_compared true (take l.at l.bytes))

@@ -1,2 +1,0 @@
-pub mod Hmac
-pub mod Pseudonyms

@@ -1,0 +1,12 @@
+pub mod Beginnings
+pub mod Calls
+pub mod Counted
+pub mod Lent
+pub mod Matches
+pub mod Pairs
+pub mod Replacings
+pub mod Ends
+pub mod Tellings
+pub mod Lines
+pub mod Searched
+pub mod OptionNames

@@ -1,0 +1,7 @@
+-- A number has twenty digits at most.
+use Rattle.std.proofs.Common.{rules}
+use Rattle.std.proofs.lemmas.Fmt.{length-decimal-le}
+use Rattle.tool_parts.proofs.parts.digits_of.Goals as goal
+
+pub write_digits-start-requires : goal.write_digits-start-requires
+write_digits-start-requires c = search (rules, length-decimal-le 20)

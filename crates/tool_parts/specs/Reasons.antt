@@ -1,0 +1,23 @@
+-- Which reason is told for which error of the system.
+use Rattle.std.specs.declared.io.ErrorKind.{ErrorKind}
+use Rattle.std.specs.declared.io.ErrorKind.TheVariants.{NotFound, PermissionDenied, BrokenPipe, WouldBlock, NotADirectory, IsADirectory, FilesystemLoop, InvalidInput, StorageFull, QuotaExceeded, FileTooLarge, InvalidFilename, Interrupted, OutOfMemory}
+use Rattle.tool_parts.specs.declared.reason.Reason.{Reason}
+use Rattle.tool_parts.specs.declared.reason.Reason.TheVariants.{NotFound as Missing, Denied, Directory, NoDirectory, Links, LongName, Invalid, Full, TooLarge, Quota, Interrupted as BySignal, Unavailable, Closed, OutOfMemory as NoMemory, Fault}
+
+-- each kind of error that has a text of its own, and a fault for all others
+abbrev pub reason_of : ErrorKind → Reason
+reason_of NotFound = Missing
+reason_of PermissionDenied = Denied
+reason_of IsADirectory = Directory
+reason_of NotADirectory = NoDirectory
+reason_of FilesystemLoop = Links
+reason_of InvalidFilename = LongName
+reason_of InvalidInput = Invalid
+reason_of StorageFull = Full
+reason_of FileTooLarge = TooLarge
+reason_of QuotaExceeded = Quota
+reason_of Interrupted = BySignal
+reason_of WouldBlock = Unavailable
+reason_of BrokenPipe = Closed
+reason_of OutOfMemory = NoMemory
+reason_of _ = Fault

@@ -1,0 +1,113 @@
+//! Why a call of the system failed, as the programs tell it.
+
+ghost use Rattle.std.specs.IoError.{error_kind};
+ghost use Rattle.std.specs.Prelude.{◌≡◌};
+ghost use Rattle.tool_parts.specs.Messages.{reason_text};
+ghost use Rattle.tool_parts.specs.Reasons.{reason_of};
+
+use std::io;
+use std::io::ErrorKind;
+
+/// Why a file cannot be opened or read to its end, or the output not be written.
+#[derive(Clone, Copy, PartialEq, Eq)]
+pub enum Reason {
+    /// There is none of this name.
+    NotFound,
+    /// It may not be opened.
+    Denied,
+    /// It is a directory.
+    Directory,
+    /// It is no regular file.
+    Irregular,
+    /// A part of its name is no directory.
+    NoDirectory,
+    /// Its name leads through too many links.
+    Links,
+    /// Its name is too long.
+    LongName,
+    /// The system takes no such call.
+    Invalid,
+    /// Its device is full.
+    Full,
+    /// It would get too large.
+    TooLarge,
+    /// Its owner may not take more room.
+    Quota,
+    /// A signal came.
+    Interrupted,
+    /// It gives or takes nothing now.
+    Unavailable,
+    /// Another program holds its lock.
+    Locked,
+    /// The system gives no lock of it.
+    NoLock,
+    /// It is not what it was, or another one has its name.
+    Changed,
+    /// A new file does not get its owner and its group.
+    Owner,
+    /// Nobody reads it any more.
+    Closed,
+    /// Memory runs out.
+    OutOfMemory,
+    /// It is longer than a stream may be.
+    PositionLimit,
+    /// A read of a stream failed, which does not say why.
+    ReadFault,
+    /// A call of the system failed for another reason.
+    Fault,
+}
+
+impl Reason {
+    /// The reason of an error of the system.
+    pub fn of(error: &io::Error) -> Reason
+        ensures of { result ≡ reason_of (error_kind error.now) }
+    {
+        match error.kind() {
+            ErrorKind::NotFound => Reason::NotFound,
+            ErrorKind::PermissionDenied => Reason::Denied,
+            ErrorKind::IsADirectory => Reason::Directory,
+            ErrorKind::NotADirectory => Reason::NoDirectory,
+            ErrorKind::FilesystemLoop => Reason::Links,
+            ErrorKind::InvalidFilename => Reason::LongName,
+            ErrorKind::InvalidInput => Reason::Invalid,
+            ErrorKind::StorageFull => Reason::Full,
+            ErrorKind::FileTooLarge => Reason::TooLarge,
+            ErrorKind::QuotaExceeded => Reason::Quota,
+            ErrorKind::Interrupted => Reason::Interrupted,
+            ErrorKind::WouldBlock => Reason::Unavailable,
+            ErrorKind::BrokenPipe => Reason::Closed,
+            ErrorKind::OutOfMemory => Reason::OutOfMemory,
+            _ => Reason::Fault,
+        }
+    }
+
+    /// What is told of it.
+    pub fn text(self) -> &'static str
+        ensures text { result.now ≡ reason_text self }
+    {
+        match self {
+            Reason::NotFound => "No such file or directory",
+            Reason::Denied => "Permission denied",
+            Reason::Directory => "Is a directory",
+            Reason::Irregular => "Not a regular file",
+            Reason::NoDirectory => "Not a directory",
+            Reason::Links => "Too many levels of symbolic links",
+            Reason::LongName => "File name too long",
+            Reason::Invalid => "Invalid argument",
+            Reason::Full => "No space left on device",
+            Reason::TooLarge => "File too large",
+            Reason::Quota => "Disk quota exceeded",
+            Reason::Interrupted => "Interrupted system call",
+            Reason::Unavailable => "Resource temporarily unavailable",
+            Reason::Locked => "locked by another program",
+            Reason::NoLock => "cannot be locked",
+            Reason::Changed => "changed meanwhile",
+            Reason::Owner => "owner or group cannot be kept",
+            Reason::Closed => "Broken pipe",
+            Reason::OutOfMemory => "out of memory",
+            Reason::PositionLimit => "position limit reached",
+            Reason::ReadFault => "read fault",
+            Reason::Fault => "Input/output error",
+        }
+    }
+}
