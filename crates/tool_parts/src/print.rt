@@ -8,6 +8,7 @@ ghost use Rattle.tool_parts.specs.Failures.{IsOfWrite};
 ghost use Rattle.tool_parts.specs.Streams.{CountsWrites, WritesBeginning, WritesBytes, WritesNothing};
 
 use crate::failure::Failure;
+use chromesquid::write_whole as write_all;
 use chromesquid::{FromWrite, Match, Sink};
 use itoa::write_digits;
 use std::io::Write;
@@ -104,7 +105,7 @@ fn write_bytes<W: Write>(output: &mut FromWrite<W>, bytes: &[u8]) -> Result<(), 
     ensures of_write { IfErr result IsOfWrite }
     ensures faults { CountsWrites output.old output.new result }
 {
-    Ok(write_whole(output, bytes)?)
+    Ok(write_all(output, bytes)?)
 }
 
 /// Hands on what a buffer keeps. A failed flush is not tried again.
