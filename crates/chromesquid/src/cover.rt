@@ -122,8 +122,11 @@ impl AhoCorasick {
         ensures answered { (reason : MatchErrorKind) → CanCoverAll self.now
             → result ≢ Err (ReplaceError.Match reason) }
     {
-        match self.rows() {
-            Some(rows) => cover_bytes_by(alloc, rows, self, haystack, replace_with),
+        if let Some(rows) = self.rows() {
+            return cover_bytes_by(alloc, rows, self, haystack, replace_with);
+        }
+        match self.levels() {
+            Some(levels) => cover_bytes_by(alloc, levels, self, haystack, replace_with),
             None => cover_bytes_by(alloc, self.itself(), self, haystack, replace_with),
         }
     }
@@ -193,8 +196,11 @@ impl AhoCorasick {
         ensures answered { (reason : MatchErrorKind) → CanCoverAll self.now
             → result ≢ Err (StreamError.Match reason) }
     {
-        match self.rows() {
-            Some(rows) => cover_stream_by(alloc, rows, self, source, sink, replace_with),
+        if let Some(rows) = self.rows() {
+            return cover_stream_by(alloc, rows, self, source, sink, replace_with);
+        }
+        match self.levels() {
+            Some(levels) => cover_stream_by(alloc, levels, self, source, sink, replace_with),
             None => cover_stream_by(alloc, self.itself(), self, source, sink, replace_with),
         }
     }

@@ -12,7 +12,7 @@ ghost use Rattle.aho_build.specs.Items.{patterns_of};
 ghost use Rattle.aho_corasick.specs.Clones.{IsCloneOf};
 ghost use Rattle.aho_prefilter.specs.Prefilter.{IsPrefilterOf};
 ghost use Rattle.chromesquid.specs.Engine.{HasKind, HoldsInRows, IsElse, RefusesAs, held_in_rows, kind_in};
-ghost use Rattle.chromesquid.specs.declared.engine.Engine.TheVariants.{Rows};
+ghost use Rattle.chromesquid.specs.declared.engine.Engine.TheVariants.{Levels as InLevels, Rows};
 ghost use Rattle.chromesquid.specs.declared.kinds.AhoCorasickKind.TheVariants.{Hybrid as OfRows, NoncontiguousNFA};
 
 use crate::kinds::AhoCorasickKind;
@@ -131,6 +131,16 @@ impl Engine {
         match self {
             Engine::Noncontiguous(_) | Engine::Levels(_) => None,
             Engine::Rows(hybrid) => Some(hybrid),
+        }
+    }
+
+    /// The levels, where they are what is held.
+    pub(crate) fn levels(&self) -> Option<&Levels>
+        ensures held { IfSome result (λ levels. self.now ≡ InLevels levels.now) }
+    {
+        match self {
+            Engine::Noncontiguous(_) | Engine::Rows(_) => None,
+            Engine::Levels(levels) => Some(levels),
         }
     }
 

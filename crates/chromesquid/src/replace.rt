@@ -60,8 +60,11 @@ impl AhoCorasick {
             → result ≡ Err (ReplaceError.Match InvalidInputUnanchored) }
         ensures error { WhereRefused result (RefusesSearch self.now No) }
     {
-        match self.rows() {
-            Some(rows) => replace_text_by(alloc, rows, self, haystack, replace_with),
+        if let Some(rows) = self.rows() {
+            return replace_text_by(alloc, rows, self, haystack, replace_with);
+        }
+        match self.levels() {
+            Some(levels) => replace_text_by(alloc, levels, self, haystack, replace_with),
             None => replace_text_by(alloc, self.itself(), self, haystack, replace_with),
         }
     }
@@ -108,8 +111,11 @@ impl AhoCorasick {
             → result ≡ Err (ReplaceError.Match InvalidInputUnanchored) }
         ensures error { WhereRefused result (RefusesSearch self.now No) }
     {
-        match self.rows() {
-            Some(rows) => replace_bytes_by(alloc, rows, self, haystack, replace_with),
+        if let Some(rows) = self.rows() {
+            return replace_bytes_by(alloc, rows, self, haystack, replace_with);
+        }
+        match self.levels() {
+            Some(levels) => replace_bytes_by(alloc, levels, self, haystack, replace_with),
             None => replace_bytes_by(alloc, self.itself(), self, haystack, replace_with),
         }
     }
@@ -190,8 +196,11 @@ impl AhoCorasick {
         ensures error { WhereRefused result (RefusesSearch self.now No) }
         ensures unchanged { WhereRefused result (dst.new ≡ dst.old) }
     {
-        match self.rows() {
-            Some(rows) => replace_text_with_by(rows, self, haystack, dst, replace_with),
+        if let Some(rows) = self.rows() {
+            return replace_text_with_by(rows, self, haystack, dst, replace_with);
+        }
+        match self.levels() {
+            Some(levels) => replace_text_with_by(levels, self, haystack, dst, replace_with),
             None => replace_text_with_by(self.itself(), self, haystack, dst, replace_with),
         }
     }
@@ -217,8 +226,11 @@ impl AhoCorasick {
         ensures error { WhereRefused result (RefusesSearch self.now No) }
         ensures unchanged { WhereRefused result (dst.new ≡ dst.old) }
     {
-        match self.rows() {
-            Some(rows) => replace_bytes_with_by(rows, self, haystack, dst, replace_with),
+        if let Some(rows) = self.rows() {
+            return replace_bytes_with_by(rows, self, haystack, dst, replace_with);
+        }
+        match self.levels() {
+            Some(levels) => replace_bytes_with_by(levels, self, haystack, dst, replace_with),
             None => replace_bytes_with_by(self.itself(), self, haystack, dst, replace_with),
         }
     }

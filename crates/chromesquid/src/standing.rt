@@ -16,7 +16,7 @@ ghost use Rattle.aho_stream.specs.StreamRun.{RefusesUntouched};
 ghost use Rattle.chromesquid.specs.Covers.{CanCoverAll, CoversBeginning, CoversBytes, CoversNearly, CoversWhole, why_not_covered};
 ghost use Rattle.chromesquid.specs.InMemory.{EndsOverBytes, EndsOverText, ReplacesBytes, ReplacesText, StopsOverBytes, StopsOverText, WhereRefused};
 ghost use Rattle.chromesquid.specs.Searcher.{Answers, HasEmpty, HasNoEmpty, RefusesSearch, StandsFor, patterns_len_of};
-ghost use Rattle.chromesquid.specs.declared.engine.Engine.TheVariants.{Rows};
+ghost use Rattle.chromesquid.specs.declared.engine.Engine.TheVariants.{Levels as InLevels, Rows};
 ghost use Rattle.chromesquid.specs.Streams.{ReplacesBeginning, ReplacesNearly, ReplacesWhole, RunsStream};
 
 use crate::kinds::is_allowed;
@@ -27,6 +27,7 @@ use aho_core::search::{Anchored, Match};
 use aho_cover::stream::try_stream_cover_all;
 use aho_devices::device::{Sink, Source};
 use aho_hybrid::hybrid::Hybrid;
+use aho_levels::levels::Levels;
 use aho_stream::replace::{try_stream_replace_all, try_stream_replace_all_with};
 use std::alloc::{AllocError, Global};
 
@@ -46,7 +47,21 @@ impl AhoCorasick {
         }
     }
 
-    /// The searcher, as any automaton, where it has no such rows.
+    /// The automaton of many patterns that answers searches that are not anchored, where the searcher has one and answers these: as
+    /// `rows`, for a search over any automaton.
+    pub fn levels(&self) -> Option<&Levels>
+        ensures stands { IfSome result (λ levels.
+            StandsFor ⟦<Levels as Automaton>⟧ levels.now self.now) }
+        ensures held { IfSome result (λ levels. self.now.automaton ≡ InLevels levels.now) }
+    {
+        let searcher = self.built();
+        if !is_allowed(searcher.start_kind(), Anchored::No) {
+            return None;
+        }
+        searcher.automaton().levels()
+    }
+
+    /// The searcher, as any automaton, where it has neither.
     pub fn itself(&self) -> &AhoCorasick
         ensures stands { StandsFor ⟦<AhoCorasick as Automaton>⟧ result.now self.now }
         ensures same { result.now ≡ self.now }

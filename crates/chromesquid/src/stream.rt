@@ -209,8 +209,11 @@ impl AhoCorasick {
         ensures answered { (reason : MatchErrorKind) → HasNoEmpty self.now → Answers self.now No
             → result ≢ Err (StreamError.Match reason) }
     {
-        match self.rows() {
-            Some(rows) => replace_stream_by(alloc, rows, self, source, sink, replace_with),
+        if let Some(rows) = self.rows() {
+            return replace_stream_by(alloc, rows, self, source, sink, replace_with);
+        }
+        match self.levels() {
+            Some(levels) => replace_stream_by(alloc, levels, self, source, sink, replace_with),
             None => replace_stream_by(alloc, self.itself(), self, source, sink, replace_with),
         }
     }
@@ -269,8 +272,11 @@ impl AhoCorasick {
             → RefusesUntouched result (StreamError.Match InvalidInputUnanchored)
             source.old source.new sink.old sink.new }
     {
-        match self.rows() {
-            Some(rows) => replace_stream_with_by(alloc, rows, self, source, sink, replace_with),
+        if let Some(rows) = self.rows() {
+            return replace_stream_with_by(alloc, rows, self, source, sink, replace_with);
+        }
+        match self.levels() {
+            Some(levels) => replace_stream_with_by(alloc, levels, self, source, sink, replace_with),
             None => replace_stream_with_by(alloc, self.itself(), self, source, sink, replace_with),
         }
     }
