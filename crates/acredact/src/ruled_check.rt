@@ -18,12 +18,13 @@ use crate::line_size::most_of;
 use crate::load::{lists_of, rules};
 use crate::look::Verdict;
 use crate::patterns::{Rule, patterns_of};
-use crate::ruled::{build_lined, line_end_in};
+use crate::ready::names;
+use crate::ruled::{line_end_in, lined_searcher};
 use crate::ruled_failure::{RuledFailure, tell_ruled};
 use crate::ruled_files::line_cover;
-use crate::run::{FAILED, names};
+use crate::run::FAILED;
 use crate::streams::Streams;
-use chromesquid::{Automaton, Nowhere, Sink};
+use chromesquid::{AhoCorasick, Automaton, Nowhere, Sink};
 use secret_rules::{LineCover, LineError, Rules};
 use std::alloc::Global;
 use std::io::{Read, Write};
@@ -138,12 +139,47 @@ fn check_lines<'a, F: Folder, I: Read, W: Write, E: Sink>(
     }
     let patterns = patterns_of(alloc, secrets)?;
     let names = names(alloc, given)?;
-    let nfa = build_lined(alloc, given, patterns.as_slice())?;
+    let searcher = lined_searcher(alloc, given, patterns.as_slice())?;
+    let names = names.as_slice();
+    check_by(alloc, given, secrets, line_rules, folder, &searcher, names, streams)
+}
+
+/// Looks at all files by the automaton that the searcher of these patterns holds.
+fn check_by<'a, F: Folder, I: Read, W: Write, E: Sink>(
+    alloc: Global,
+    given: &[Item<'_>],
+    secrets: &[Rule],
+    rules: &Rules,
+    folder: &F,
+    searcher: &AhoCorasick,
+    names: &[&str],
+    streams: &mut Streams<'_, I, W, E>,
+) -> Result<Verdict, RuledFailure<'a>> {
+    if let Some(rows) = searcher.rows() {
+        return check_cover(alloc, given, secrets, rules, folder, rows, names, streams);
+    }
+    match searcher.levels() {
+        Some(levels) => check_cover(alloc, given, secrets, rules, folder, levels, names, streams),
+        None => check_cover(alloc, given, secrets, rules, folder, searcher.itself(), names, streams),
+    }
+}
+
+/// Looks at all files by an automaton of these patterns.
+fn check_cover<'a, A: Automaton, F: Folder, I: Read, W: Write, E: Sink>(
+    alloc: Global,
+    given: &[Item<'_>],
+    secrets: &[Rule],
+    rules: &Rules,
+    folder: &F,
+    automaton: &A,
+    names: &[&str],
+    streams: &mut Streams<'_, I, W, E>,
+) -> Result<Verdict, RuledFailure<'a>> {
     let most = most_of(given);
     let words = has(given, Word::AsWord);
     let tells = has(given, Word::Summary);
-    let mut cover = line_cover(alloc, &nfa, line_rules, words, most)?;
-    let rules = line_rules.as_slice();
+    let mut cover = line_cover(alloc, automaton, rules, words, most)?;
+    let rules = rules.as_slice();
     let legend = Legend {
         secrets,
         rules,
@@ -155,7 +191,7 @@ fn check_lines<'a, F: Folder, I: Read, W: Write, E: Sink>(
         legend,
         tells,
     };
-    match check_to(&mut cover, &checked, names.as_slice(), streams) {
+    match check_to(&mut cover, &checked, names, streams) {
         Ok(verdict) => Ok(verdict),
         Err(error) => Err(failure_in(alloc, rules, error)),
     }

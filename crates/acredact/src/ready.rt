@@ -1,0 +1,191 @@
+//! What is ready before any file is read: what is searched for, what is written in the place of that, and which files are read.
+
+ghost use Rattle.std.specs.Prelude.{◌≡◌, ◌⊎◌, IfErr, IfOk, IfSome, OnErr, OnOk};
+ghost use Rattle.acredact.specs.Arguments.{all_given, has};
+
+use crate::arguments::{Item, Word, counts, covers, has, is_same, kind_of, last_value};
+use crate::clean::{Judge, Unclean, unclean_of};
+use crate::doubts::warn_of_lists;
+use crate::failure::{Failure, tell_unclean};
+use crate::files::Job;
+use crate::folder::Folder;
+use crate::patterns::{Rule, patterns_of, replacements_of};
+use crate::searcher::searcher_of;
+use crate::secrets::{Secrets, key_bytes};
+use crate::ways::Key;
+use chromesquid::{AhoCorasick, MatchKind, Sink};
+use std::alloc::{AllocError, Global};
+use tool_parts::errors::Errors;
+
+/// What is written in the place of a match, where nothing else is given.
+const REDACTED: &[u8] = b"[redacted]";
+
+/// What is ready.
+#[derive(Drop)]
+pub struct Ready<'r> {
+    /// The patterns.
+    pub patterns: Vec<&'r [u8]>,
+    /// What is written in the place of each.
+    pub replacements: Vec<&'r [u8]>,
+    /// The names of the files.
+    pub names: Vec<&'r str>,
+    /// What searches for the patterns.
+    pub searcher: AhoCorasick,
+}
+
+/// Tells of doubtful patterns of lists, or refuses the first; makes ready what redacts; and tells of a piece that is not clean, or refuses it.
+pub fn prepare<'a, 'r, E: Sink>(
+    alloc: Global,
+    given: &'r [Item<'a>],
+    secrets: &'r Secrets,
+    errors: &mut Errors<'_, E>,
+) -> Result<Ready<'r>, Failure<'a>> {
+    let strict = has(given, Word::Strict);
+    match warn_of_lists(errors, given, secrets.rules.as_slice(), strict) {
+        Ok(()) => prepare_pieces(alloc, given, secrets, strict, errors),
+        Err(failure) => Err(failure),
+    }
+}
+
+/// Makes ready what redacts, and tells of a piece that is not clean, or refuses it.
+fn prepare_pieces<'a, 'r, E: Sink>(
+    alloc: Global,
+    given: &[Item<'r>],
+    secrets: &'r Secrets,
+    strict: bool,
+    errors: &mut Errors<'_, E>,
+) -> Result<Ready<'r>, Failure<'a>> {
+    match ready_of(alloc, given, secrets.rules.as_slice(), finds_all(given)) {
+        Ok(ready) => judged(given, secrets, ready, strict, errors),
+        Err(failure) => Err(failure),
+    }
+}
+
+/// Whether all finds of a text are replaced, and no match is counted.
+fn finds_all(given: &[Item<'_>]) -> bool {
+    kind_of(given) != MatchKind::Standard && !counts(given)
+}
+
+/// What is ready by these rules.
+pub fn ready_of<'a, 'r>(
+    alloc: Global,
+    given: &[Item<'r>],
+    rules: &'r [Rule],
+    finds_all: bool,
+) -> Result<Ready<'r>, Failure<'a>> {
+    let patterns = patterns_of(alloc, rules)?;
+    let replacements = replacements_of(alloc, rules, text_of(given))?;
+    let names = names(alloc, given)?;
+    let kind = kind_of(given);
+    let ignore_case = has(given, Word::IgnoreCase);
+    let words = patterns.as_slice();
+    let searcher = searcher_of(alloc, kind, ignore_case, finds_all, words)?;
+    Ok(Ready {
+        patterns,
+        replacements,
+        names,
+        searcher,
+    })
+}
+
+/// What is ready, where pieces that are not clean are not refused, or none is such. Else the first is told.
+fn judged<'a, 'r, E: Sink>(
+    given: &[Item<'_>],
+    secrets: &Secrets,
+    ready: Ready<'r>,
+    strict: bool,
+    errors: &mut Errors<'_, E>,
+) -> Result<Ready<'r>, Failure<'a>> {
+    let judge = Judge {
+        words: ready.patterns.as_slice(),
+        ignore_case: has(given, Word::IgnoreCase),
+        rules: secrets.rules.as_slice(),
+        usual: text_of(given),
+    };
+    let named = secrets.key.is_some();
+    let unclean = unclean_of(ready.searcher.itself(), &judge, covers(given), named);
+    match warn(errors, unclean, strict) {
+        Ok(()) => Ok(ready),
+        Err(failure) => Err(failure),
+    }
+}
+
+/// Tells of a piece that is not clean, or refuses it.
+fn warn<'a, E: Sink>(
+    errors: &mut Errors<'_, E>,
+    unclean: Option<Unclean>,
+    strict: bool,
+) -> Result<(), Failure<'a>>
+    ensures told { OnOk result (TellsUnclean E.Sink strict unclean errors.old errors.new) }
+    ensures refused { IfErr result (λ failure. (piece : Unclean) × (unclean ≡ Some piece)
+        × (failure ≡ UncleanPiece piece) × (strict ≡ true)) }
+    ensures untold { OnErr result (errors.new ≡ errors.old) }
+{
+    match unclean {
+        None => Ok(()),
+        Some(piece) => {
+            if strict {
+                return Err(Failure::Unclean(piece));
+            }
+            tell_unclean(errors, piece);
+            Ok(())
+        }
+    }
+}
+
+/// What is done to the files.
+pub fn job_of<'s, 't, F: Folder>(
+    alloc: Global,
+    given: &[Item<'_>],
+    secrets: &'s Secrets,
+    ready: &'s Ready<'t>,
+    folder: &'s F,
+) -> Job<'s, 't, F> {
+    Job {
+        alloc,
+        folder,
+        names: ready.names.as_slice(),
+        replacements: ready.replacements.as_slice(),
+        key: key_by(key_bytes(secrets), has(given, Word::IgnoreCase)),
+        covers: covers(given),
+        words: has(given, Word::AsWord),
+    }
+}
+
+/// A key, by the case rule of the patterns.
+pub fn key_by(bytes: Option<&[u8]>, ignore_case: bool) -> Option<Key<'_>>
+    ensures key { option_map keyed_of result ≡ option_map (keyed_as ignore_case) (key_lent bytes.entry) }
+{
+    match bytes {
+        Some(bytes) => Some(Key { bytes, ignore_case }),
+        None => None,
+    }
+}
+
+/// What is written for a pattern that has no replacement of its own.
+pub fn text_of<'a>(given: &[Item<'a>]) -> &'a [u8]
+    ensures text { result.now ≡ text_asked (all_given given.now) }
+{
+    match last_value(given, Word::With) {
+        Some(text) => text.as_bytes(),
+        None => REDACTED,
+    }
+}
+
+/// The names of the files that are read: standard input where none is given.
+pub fn names<'a>(alloc: Global, given: &[Item<'a>]) -> Result<Vec<&'a str>, AllocError>
+    ensures names { IfOk result (λ files. name_bytes files.items ≡ names_asked (all_given given.now)) }
+{
+    let mut files = Vec::new(alloc);
+    let mut rest = given;
+    while !rest.is_empty() {
+        if is_same(Word::File, rest[0].word) {
+            files.push(rest[0].value)?;
+        }
+        rest = &rest[1..];
+    }
+    if files.is_empty() {
+        files.push("-")?;
+    }
+    Ok(files)
+}
