@@ -26,7 +26,7 @@ use Rattle.acredact.specs.Failures.{IsFailureLine}
 use Rattle.acredact.specs.Forms.{forms_asked}
 use Rattle.acredact.specs.Files.{AreCut, AreDone, AreFree, AreRedacted, Does, Work, are_none, redactor_of, unread_line, work_of}
 use Rattle.acredact.specs.Hidden.{AreHidden}
-use Rattle.acredact.specs.Loading.{AreGiven, AreLoaded, CannotLoadKey, CannotLoadOne, IsKeyGiven, Loaded, Reading, Rules, key_lent, loaded_as}
+use Rattle.acredact.specs.Loading.{AreLoaded, CannotLoadAll, CannotLoadKey, CannotLoadOne, Loaded, Reading, Rules}
 use Rattle.acredact.specs.Messages.{output_line, unclean_line}
 use Rattle.acredact.specs.Mistakes.{IsMistakeOfCall}
 use Rattle.acredact.specs.Pieces.{IsUncleanBy, TellsOfPieces}
@@ -163,6 +163,10 @@ abbrev pub IsRefusedCall : Call → Failure → Type 0
 IsRefusedCall call failure = (load : Loaded) × (left : Option (List ℕ)) × (between : Option (List ℕ))
     × AreLoaded (reading_by call) call.given load left between
     × IsBuildRefusal (patterns_by_given call.given (patterns_in load.secrets)) failure
+
+-- one of the options or the key cannot be loaded, or memory runs out
+abbrev pub CannotLoadCall : Call → Failure → Type 0
+CannotLoadCall call failure = CannotLoadAll (reading_by call) call.given failure ⊎ CannotLoadKey (reading_by call) call.given failure
 
 -- why a call ends early: there is no pattern, one of the options or the key cannot be loaded, the counts cannot be written, a piece is not clean,
 -- the patterns are refused, the files are not redacted, or a pattern of a list is refused
@@ -393,42 +397,17 @@ module _ {R : Type 0} {Reads : Readers R} {W : Type 0} (Writes : Writers W) wher
       pub quiet : result ≡ Ok true → streams'.errors ≡ streams.errors
       pub fails : IfErr result (IsRunFailure (OutputFails streams.output streams'.output))
 
-    -- they are not, since a piece is refused, memory runs out, or the library refuses the patterns; or what is told of the pieces comes first
-    abbrev pub WarnedOutcome : (strict : Bool) → Work → Result Bool Failure → (streams streams' : Streams R W E Reads) → Type 0
-    WarnedOutcome strict work result streams streams' =
-        ((failure : Failure) × (result ≡ Err failure) × (streams' ≡ streams)
-        × (IsStrictFailure strict work.redactor failure
-        ⊎ (IsBuildRefusal work.redactor.patterns failure ⊎ IsRunFailure (OutputFails streams.output streams.output) failure)))
-        ⊎ ((errors : Errors E) × TellsOfPieces K strict work.redactor streams.errors errors × RunOutcome work result (record streams { errors = errors }) streams')
-
-    -- the same of a job, where files are redacted by these patterns
-    abbrev pub WarnedJob : {F X : Type 0} → Folders F X → (strict : Bool) → Job F → Patterns → Result Bool Failure → (streams streams' : Streams R W E Reads) → Type 0
-    WarnedJob D strict job p result streams streams' = WarnedOutcome strict (work_of D job (redactor_of job p)) result streams streams'
-
-    -- the same of a call whose patterns were loaded as these rules, and whose key is this, with the bytes that the input has left since
-    abbrev pub LoadOutcome : {F X : Type 0} → Folders F X → F → List Given → List Rule → Option (Bor (List ℕ)) → Result Bool Failure → (streams streams' : Streams R W E Reads) → Type 0
-    LoadOutcome D folder given rules key result streams streams' = (left : Option (List ℕ))
-        → AreLoaded (reading_by (call_of D folder given)) given (loaded_as rules (key_lent key)) left (bytes_left streams.input)
+    -- the same of a call whose patterns and key were loaded, with the bytes that the input has left since
+    abbrev pub LoadOutcome : {F X : Type 0} → Folders F X → F → List Given → Loaded → Result Bool Failure → (streams streams' : Streams R W E Reads) → Type 0
+    LoadOutcome D folder given load result streams streams' = (left : Option (List ℕ))
+        → AreLoaded (reading_by (call_of D folder given)) given load left (bytes_left streams.input)
         → CallOutcome (call_of D folder given) left result streams streams'
 
-    -- the same behind what is told of doubtful patterns of lists
-    abbrev pub DoubtedOutcome : {F X : Type 0} → Folders F X → F → List Given → List Rule → Option (Bor (List ℕ)) → Result Bool Failure → (streams streams' : Streams R W E Reads) → Type 0
-    DoubtedOutcome D folder given rules key result streams streams' = (first : Errors E)
-        → TellsDoubts K (has Strict given) given (secrets_of rules) first streams.errors
-        → LoadOutcome D folder given rules key result (record streams { errors = first }) streams'
-
-    -- and of one whose key is to be loaded
-    abbrev pub KeylessOutcome : {F X : Type 0} → Folders F X → F → List Given → List Rule → Result Bool Failure → (streams streams' : Streams R W E Reads) → Type 0
-    KeylessOutcome D folder given rules result streams streams' = (left : Option (List ℕ))
-        → AreGiven (reading_by (call_of D folder given)) given (secrets_of rules) left (bytes_left streams.input)
-        → CallOutcome (call_of D folder given) left result streams streams'
-
-    -- the same once the bytes of the key were read too
-    abbrev pub KeyedOutcome : {F X : Type 0} → Folders F X → F → List Given → List Rule → (key : List ℕ) → Result Bool Failure → (streams streams' : Streams R W E Reads) → Type 0
-    KeyedOutcome D folder given rules key result streams streams' = (left between : Option (List ℕ))
-        → AreGiven (reading_by (call_of D folder given)) given (secrets_of rules) left between
-        → IsKeyGiven (reading_by (call_of D folder given)) (last_value Pseudonym given) (Some key) between (bytes_left streams.input)
-        → CallOutcome (call_of D folder given) left result streams streams'
+    -- and behind what is told of them
+    abbrev pub ReadyOutcome : {F X : Type 0} → Folders F X → F → List Given → Loaded → Result Bool Failure → (streams streams' : Streams R W E Reads) → Type 0
+    ReadyOutcome D folder given load result streams streams' = (left : Option (List ℕ))
+        → AreLoaded (reading_by (call_of D folder given)) given load left (bytes_left streams.input)
+        → RestOutcome (call_of D folder given) load result streams streams'
 
     -- and of a call whose patterns are to be loaded
     abbrev pub AskedOutcome : {F X : Type 0} → Folders F X → F → List Given → Result Bool Failure → (streams streams' : Streams R W E Reads) → Type 0

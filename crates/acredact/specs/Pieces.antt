@@ -31,10 +31,6 @@ IsJudgeOf judge p = ArePatterns p judge.ignore_case (pieces_of judge.words.now)
 abbrev pub pieces_by : Judge → List (List ℕ)
 pieces_by judge = map (piece_by judge.usual.now) (secrets_of judge.rules.now)
 
--- what holds of the patterns of an automaton, of one with rows, where there is one, and of a judge
-abbrev pub IfOfAll : {A B : Type 0} → Ghosts A → Ghosts B → A → Option (Bor B) → Judge → (Patterns → Type 0) → Type 0
-IfOfAll G H automaton rows judge Holds = IfOf G automaton (λ p. IsJudgeOf judge p → IfSome rows (λ rows. H.is_of rows.now p) → Holds p)
-
 -- no word does
 abbrev pub HoldNone : Bool → List (List ℕ) → ℕ → Type 0
 HoldNone ignore_case words byte = (number : ℕ) → number < length words → HoldsByte ignore_case (slice_index_or words number []) byte → ⊥

@@ -1,13 +1,9 @@
 //! The redaction by a leftmost kind where patterns go far beyond others that occur in them: by a walk backward, which looks up at most
 //! four transitions for each byte whatever the patterns are.
 
-ghost use Rattle.std.specs.Prelude.{◌≡◌, IfOk, IsOk};
 ghost use Rattle.aho_core.specs.Patterns.{Patterns};
-ghost use Rattle.aho_core.specs.Replacement.{pieces_of};
-ghost use Rattle.aho_core.specs.declared.search.Anchored.TheVariants.{No};
 ghost use Rattle.aho_backward.specs.Searcher.{IsBackwardOf};
-ghost use Rattle.acredact.specs.Arguments.{all_given};
-ghost use Rattle.acredact.specs.Back.{BackStream, IsBackAsked};
+ghost use Rattle.acredact.specs.Back.{BackStream};
 
 use crate::ways::{Replacing, Way};
 use aho_backward::backward::Backward;

@@ -1,11 +1,11 @@
 //! A check: whether something would be replaced in files. It writes nothing but warnings and failures.
 
-ghost use Rattle.std.specs.Prelude.{◌≡◌, IfErr, IfSome, OnOk};
+ghost use Rattle.std.specs.Prelude.{◌≡◌, IfErr, OnOk};
+ghost use Rattle.chromesquid.specs.Searcher.{ForItsPatterns};
 ghost use Rattle.acredact.specs.Arguments.{GivesNoPattern, all_given};
 ghost use Rattle.acredact.specs.Builds.{patterns_by_given};
 ghost use Rattle.acredact.specs.Checks.{ChecksGiven, ChecksLoaded, EndsCheck, IsBuildFailure, SeesRules, SeesSearched};
 ghost use Rattle.acredact.specs.Looks.{CanLook};
-ghost use Rattle.acredact.specs.Secrets.{IfOf};
 ghost use Rattle.acredact.specs.Statuses.{check_status};
 ghost use Rattle.acredact.specs.Tables.{HaveNoEmpty, patterns_in, secrets_of};
 
@@ -16,7 +16,7 @@ use crate::folder::Folder;
 use crate::load::{lists_of, rules};
 use crate::look::{Searched, Verdict, look_at_files};
 use crate::patterns::Rule;
-use crate::ready::{Ready, ready_of};
+use crate::ready::ready_of;
 use crate::run::{FAILED, gives_pattern, report};
 use chromesquid::{AhoCorasick, Automaton, FromRead, Sink};
 use std::alloc::{AllocError, Global};
@@ -115,27 +115,17 @@ fn check_rules<'a, F: Folder, I: Read, E: Sink>(
         (patterns_by_given (all_given given.now) (patterns_in (secrets_of rules.now)))) }
 {
     match ready_of(alloc, given, rules, false) {
-        Ok(ready) => look_ready(alloc, given, &ready, folder, input, errors),
+        Ok(ready) => {
+            let files = Searched {
+                alloc,
+                folder,
+                names: ready.names.as_slice(),
+                words: words(given),
+            };
+            Ok(look_by(&ready.searcher, &files, input, errors)?)
+        }
         Err(failure) => Err(failure),
     }
-}
-
-/// Looks in each file for what is ready.
-fn look_ready<'a, F: Folder, I: Read, E: Sink>(
-    alloc: Global,
-    given: &[Item<'_>],
-    ready: &Ready<'_>,
-    folder: &F,
-    input: &mut FromRead<I>,
-    errors: &mut Errors<'_, E>,
-) -> Result<Verdict, Failure<'a>> {
-    let files = Searched {
-        alloc,
-        folder,
-        names: ready.names.as_slice(),
-        words: words(given),
-    };
-    Ok(look_by(&ready.searcher, &files, input, errors)?)
 }
 
 /// Looks at each file by the automaton that the searcher holds.

@@ -1,19 +1,18 @@
 //! A call that replaces each file: a new one is written beside it, and takes its place where all of it was redacted.
 
-ghost use Rattle.std.specs.Prelude.{◌≡◌, ◌≤◌, Err, IfErr, IfOk, IfSome, Ok, OnErr, false, length, true};
+ghost use Rattle.std.specs.Prelude.{◌≡◌, ◌≤◌, Err, IfErr, IfOk, Ok, OnErr, false, true};
 ghost use Rattle.aho_core.specs.declared.error.stream.StreamError.TheVariants.{Memory};
+ghost use Rattle.chromesquid.specs.Searcher.{ForItsPatterns};
 ghost use Rattle.tool_parts.specs.Arguments.{texts};
 ghost use Rattle.tool_parts.specs.Streams.{output_bytes};
 ghost use Rattle.tool_parts.specs.Telling.{TellsSome};
-ghost use Rattle.acredact.specs.Arguments.{AreMistaken, AsksInPlace, IfAsked, all_given, counts_given};
-ghost use Rattle.acredact.specs.Back.{AreBoth, IfBackIs};
-ghost use Rattle.acredact.specs.Calls.{IsWrongFailure, IsWrongLine, ReadsAsked};
-ghost use Rattle.acredact.specs.Counts.{zeros};
+ghost use Rattle.acredact.specs.Arguments.{AreMistaken, AsksInPlace, IfAsked, all_given};
+ghost use Rattle.acredact.specs.Calls.{IsWrongFailure, IsWrongLine};
 ghost use Rattle.acredact.specs.Files.{CanDo};
-ghost use Rattle.acredact.specs.InPlace.{AskedPlaces, CallCounts, CallPlaces, DoubtedPlaces, FreesAll, KeepsEach, KeyedPlaces, KeylessPlaces, LoadedPlaces, NameCounts, NameVolume, PlaceJob, PlacesAll, PlacesCount, PlacesJob, PlacesReach, PlacesTell, SaysOfPlaces, WarnsPlaces};
+ghost use Rattle.acredact.specs.InPlace.{AskedPlaces, FreesAll, KeepsEach, LoadedPlaces, NameCounts, NameVolume, PlaceJob, PlacesAll, PlacesCount, PlacesJob, PlacesReach, PlacesTell, ReadyPlaces, SaysOfPlaces};
 ghost use Rattle.acredact.specs.Into.{IsKept, TellsUnread, WarnsAll};
-ghost use Rattle.acredact.specs.Pieces.{IfOfAll};
-ghost use Rattle.acredact.specs.Secrets.{IfOf};
+ghost use Rattle.acredact.specs.Loading.{loaded_in};
+ghost use Rattle.acredact.specs.Ready.{IsReadyFor};
 ghost use Rattle.acredact.specs.Tables.{HaveNoEmpty, secrets_of};
 ghost use Rattle.acredact.specs.Totals.{JobCounts};
 ghost use Rattle.acredact.specs.Volumes.{JobVolume};

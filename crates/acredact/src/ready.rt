@@ -1,7 +1,20 @@
 //! What is ready before any file is read: what is searched for, what is written in the place of that, and which files are read.
 
-ghost use Rattle.std.specs.Prelude.{◌≡◌, ◌⊎◌, IfErr, IfOk, IfSome, OnErr, OnOk};
+ghost use Rattle.std.specs.Prelude.{◌≡◌, ◌⊎◌, List, IfErr, IfOk, OnErr, OnOk, Some, option_map, true};
+ghost use Rattle.tool_parts.specs.Names.{name_bytes};
 ghost use Rattle.acredact.specs.Arguments.{all_given, has};
+ghost use Rattle.acredact.specs.Builds.{patterns_by_given};
+ghost use Rattle.acredact.specs.Calls.{call_of, keyed_as, names_asked, redactor_by_given, text_asked, work_by};
+ghost use Rattle.acredact.specs.Checks.{IsBuildFailure};
+ghost use Rattle.acredact.specs.Doubts.{TellsDoubts, TellsWarnings};
+ghost use Rattle.acredact.specs.Files.{CanDo, keyed_of, redactor_of, work_of};
+ghost use Rattle.acredact.specs.Loading.{key_lent, loaded_in};
+ghost use Rattle.acredact.specs.Pieces.{IsJudged, TellsOfPieces, TellsUnclean};
+ghost use Rattle.acredact.specs.Ready.{CannotJudge, CannotPrepare, IsReadyFor};
+ghost use Rattle.acredact.specs.Tables.{HaveNoEmpty, Secret, patterns_in, secrets_of};
+ghost use Rattle.acredact.specs.declared.arguments.Word.TheVariants.{Strict};
+ghost use Rattle.acredact.specs.declared.clean.Unclean.{Unclean};
+ghost use Rattle.acredact.specs.declared.failure.Failure.TheVariants.{Unclean as UncleanPiece};
 
 use crate::arguments::{Item, Word, counts, covers, has, is_same, kind_of, last_value};
 use crate::clean::{Judge, Unclean, unclean_of};
@@ -13,7 +26,7 @@ use crate::patterns::{Rule, patterns_of, replacements_of};
 use crate::searcher::searcher_of;
 use crate::secrets::{Secrets, key_bytes};
 use crate::ways::Key;
-use chromesquid::{AhoCorasick, MatchKind, Sink};
+use chromesquid::{AhoCorasick, Automaton, MatchKind, Sink};
 use std::alloc::{AllocError, Global};
 use tool_parts::errors::Errors;
 
@@ -39,10 +52,18 @@ pub fn prepare<'a, 'r, E: Sink>(
     given: &'r [Item<'a>],
     secrets: &'r Secrets,
     errors: &mut Errors<'_, E>,
-) -> Result<Ready<'r>, Failure<'a>> {
+) -> Result<Ready<'r>, Failure<'a>>
+    ensures ready { IfOk result (IsReadyFor (all_given given.now) (secrets_of secrets.entry.now.rules.items)) }
+    ensures told { OnOk result (TellsWarnings E.Sink (has Strict (all_given given.now)) (all_given given.now)
+        (secrets_of secrets.entry.now.rules.items) (redactor_by_given (all_given given.now) (loaded_in secrets.entry.now))
+        errors.old errors.new) }
+    ensures fails { IfErr result (CannotPrepare (all_given given.now) (loaded_in secrets.entry.now)) }
+    ensures untold { OnErr result ((errors.new ≡ errors.old) ⊎ TellsDoubts E.Sink (has Strict (all_given given.now))
+        (all_given given.now) (secrets_of secrets.entry.now.rules.items) errors.old errors.new) }
+{
     let strict = has(given, Word::Strict);
     match warn_of_lists(errors, given, secrets.rules.as_slice(), strict) {
-        Ok(()) => prepare_pieces(alloc, given, secrets, strict, errors),
+        Ok(()) => prepare_pieces(alloc, given, secrets, errors),
         Err(failure) => Err(failure),
     }
 }
@@ -52,11 +73,16 @@ fn prepare_pieces<'a, 'r, E: Sink>(
     alloc: Global,
     given: &[Item<'r>],
     secrets: &'r Secrets,
-    strict: bool,
     errors: &mut Errors<'_, E>,
-) -> Result<Ready<'r>, Failure<'a>> {
+) -> Result<Ready<'r>, Failure<'a>>
+    ensures ready { IfOk result (IsReadyFor (all_given given.now) (secrets_of secrets.entry.now.rules.items)) }
+    ensures told { OnOk result (TellsOfPieces E.Sink (has Strict (all_given given.now))
+        (redactor_by_given (all_given given.now) (loaded_in secrets.entry.now)) errors.old errors.new) }
+    ensures fails { IfErr result (CannotJudge (all_given given.now) (loaded_in secrets.entry.now)) }
+    ensures untold { OnErr result (errors.new ≡ errors.old) }
+{
     match ready_of(alloc, given, secrets.rules.as_slice(), finds_all(given)) {
-        Ok(ready) => judged(given, secrets, ready, strict, errors),
+        Ok(ready) => judged(given, secrets, ready, errors),
         Err(failure) => Err(failure),
     }
 }
@@ -72,7 +98,11 @@ pub fn ready_of<'a, 'r>(
     given: &[Item<'r>],
     rules: &'r [Rule],
     finds_all: bool,
-) -> Result<Ready<'r>, Failure<'a>> {
+) -> Result<Ready<'r>, Failure<'a>>
+    ensures ready { IfOk result (IsReadyFor (all_given given.now) (secrets_of rules.entry.now)) }
+    ensures refused { IfErr result (IsBuildFailure (patterns_by_given (all_given given.now)
+        (patterns_in (secrets_of rules.entry.now)))) }
+{
     let patterns = patterns_of(alloc, rules)?;
     let replacements = replacements_of(alloc, rules, text_of(given))?;
     let names = names(alloc, given)?;
@@ -93,9 +123,27 @@ fn judged<'a, 'r, E: Sink>(
     given: &[Item<'_>],
     secrets: &Secrets,
     ready: Ready<'r>,
-    strict: bool,
     errors: &mut Errors<'_, E>,
-) -> Result<Ready<'r>, Failure<'a>> {
+) -> Result<Ready<'r>, Failure<'a>>
+    requires ready { IsReadyFor (all_given given.now) (secrets_of secrets.now.rules.items) ready }
+    ensures ready { IfOk result (IsReadyFor (all_given given.now) (secrets_of secrets.now.rules.items)) }
+    ensures told { OnOk result (TellsOfPieces E.Sink (has Strict (all_given given.now))
+        (redactor_by_given (all_given given.now) (loaded_in secrets.now)) errors.old errors.new) }
+    ensures fails { IfErr result (CannotJudge (all_given given.now) (loaded_in secrets.now)) }
+    ensures untold { OnErr result (errors.new ≡ errors.old) }
+{
+    let unclean = unclean_in(given, secrets, &ready);
+    match warn(errors, unclean, has(given, Word::Strict)) {
+        Ok(()) => Ok(ready),
+        Err(failure) => Err(failure),
+    }
+}
+
+/// The first pattern whose piece is not clean, of what is ready.
+fn unclean_in(given: &[Item<'_>], secrets: &Secrets, ready: &Ready<'_>) -> Option<Unclean>
+    requires ready { IsReadyFor (all_given given.now) (secrets_of secrets.now.rules.items) ready.now }
+    ensures judged { IsJudged (redactor_by_given (all_given given.now) (loaded_in secrets.now)) result }
+{
     let judge = Judge {
         words: ready.patterns.as_slice(),
         ignore_case: has(given, Word::IgnoreCase),
@@ -103,11 +151,7 @@ fn judged<'a, 'r, E: Sink>(
         usual: text_of(given),
     };
     let named = secrets.key.is_some();
-    let unclean = unclean_of(ready.searcher.itself(), &judge, covers(given), named);
-    match warn(errors, unclean, strict) {
-        Ok(()) => Ok(ready),
-        Err(failure) => Err(failure),
-    }
+    unclean_of(ready.searcher.itself(), &judge, covers(given), named)
 }
 
 /// Tells of a piece that is not clean, or refuses it.
@@ -140,7 +184,15 @@ pub fn job_of<'s, 't, F: Folder>(
     secrets: &'s Secrets,
     ready: &'s Ready<'t>,
     folder: &'s F,
-) -> Job<'s, 't, F> {
+) -> Job<'s, 't, F>
+    ensures work { IsReadyFor (all_given given.now) (secrets_of secrets.entry.now.rules.items) ready.entry.now
+        → work_of F.Folder result (redactor_of result (patterns_by_given (all_given given.now)
+        (patterns_in (secrets_of secrets.entry.now.rules.items))))
+        ≡ work_by (call_of F.Folder folder.entry.now (all_given given.now)) (loaded_in secrets.entry.now) }
+    ensures can { HaveNoEmpty (secrets_of secrets.entry.now.rules.items)
+        → IsReadyFor (all_given given.now) (secrets_of secrets.entry.now.rules.items) ready.entry.now
+        → CanDo ⟦<AhoCorasick as Automaton>⟧ ready.entry.now.searcher result }
+{
     Job {
         alloc,
         folder,

@@ -1,15 +1,18 @@
 //! A call with rules: each line is redacted by what rules mark in it, and by the patterns that occur in it.
 
-ghost use Rattle.std.specs.Prelude.{◌≡◌, ◌⊎◌, ◌++◌, ◌∷◌, [], IfOk, IsOk, OnOk, map, replicate, true};
+ghost use Rattle.std.specs.Prelude.{◌≡◌, ◌⊎◌, ◌++◌, ◌∷◌, [], IfOk, OnOk, map, replicate, true};
 ghost use Rattle.aho_core.specs.Replacement.{pieces_of};
 ghost use Rattle.aho_core.specs.declared.search.Anchored.TheVariants.{No};
+ghost use Rattle.chromesquid.specs.Searcher.{Answers, IsBuiltFrom};
+ghost use Rattle.secret_rules.specs.OpenLines.{CanSearch};
+ghost use Rattle.tool_parts.specs.Names.{name_bytes};
 ghost use Rattle.tool_parts.specs.Telling.{TellsBytes};
 ghost use Rattle.acredact.specs.LongLines.{long_told};
 ghost use Rattle.acredact.specs.Doubts.{last_of};
 ghost use Rattle.acredact.specs.Arguments.{all_given};
-ghost use Rattle.acredact.specs.Builds.{build_settings};
+ghost use Rattle.acredact.specs.Calls.{names_asked};
 ghost use Rattle.acredact.specs.Ruled.{AreTextsAsked, AskedRuled, KeyedRuled, KeylessRuled, LoadedRuled, SaysOfRules, UndoubtedRuled, UnruledOutcome, lent_rule, named_count, own_text, patterns_by_case};
-ghost use Rattle.acredact.specs.Tables.{HaveNoEmpty, secrets_of};
+ghost use Rattle.acredact.specs.Tables.{HaveNoEmpty, patterns_in, secrets_of};
 
 use crate::arguments::{Item, Word, has};
 use crate::doubts::warn_of_lists;
@@ -19,9 +22,9 @@ use crate::line_size::most_of;
 use crate::load::{key_of, lists_of, rules};
 use crate::named::named_rules;
 use crate::patterns::{Rule, patterns_of, replacements_of, split_at};
+use crate::ready::{key_by, names, text_of};
 use crate::ruled_failure::{RuledFailure, tell_long, tell_ruled};
 use crate::ruled_files::{cover_files, lined_of};
-use crate::ready::{key_by, names, text_of};
 use crate::run::FAILED;
 use crate::run_counts::tell_runs;
 use crate::run_pieces::RunPieces;
@@ -189,7 +192,9 @@ fn redact_ruled<'a, F: Folder, I: Read, W: Write, E: Sink>(
     let names = names(alloc, given)?;
     let searcher = lined_searcher(alloc, given, patterns.as_slice())?;
     let names = names.as_slice();
-    redact_by(alloc, given, secrets, rules, key, folder, &searcher, names, streams)
+    redact_by(
+        alloc, given, secrets, rules, key, folder, &searcher, names, streams,
+    )
 }
 
 /// Redacts all files by the automaton that the searcher of these patterns holds.
@@ -203,13 +208,34 @@ fn redact_by<'a, F: Folder, I: Read, W: Write, E: Sink>(
     searcher: &AhoCorasick,
     names: &[&str],
     streams: &mut Streams<'_, I, W, E>,
-) -> Result<bool, RuledFailure<'a>> {
+) -> Result<bool, RuledFailure<'a>>
+    requires can { CanSearch ⟦<AhoCorasick as Automaton>⟧ searcher.now }
+    requires of { IsBuiltFrom searcher.now (patterns_by_case (all_given given.now) (patterns_in (secrets_of secrets.now))) }
+    requires names { name_bytes names.now ≡ names_asked (all_given given.now) }
+    ensures outcome { LoadedRuled W.Write E.Sink F.Folder folder.now given.now secrets.now rules.now key.entry
+        result streams.old streams.new }
+    ensures flushed { OnOk result (streams.new.output.device.flushed ≡ true) }
+{
     if let Some(rows) = searcher.rows() {
-        return redact_lines(alloc, given, secrets, rules, key, folder, rows, names, streams);
+        return redact_lines(
+            alloc, given, secrets, rules, key, folder, rows, names, streams,
+        );
     }
     match searcher.levels() {
-        Some(levels) => redact_lines(alloc, given, secrets, rules, key, folder, levels, names, streams),
-        None => redact_lines(alloc, given, secrets, rules, key, folder, searcher.itself(), names, streams),
+        Some(levels) => redact_lines(
+            alloc, given, secrets, rules, key, folder, levels, names, streams,
+        ),
+        None => redact_lines(
+            alloc,
+            given,
+            secrets,
+            rules,
+            key,
+            folder,
+            searcher.itself(),
+            names,
+            streams,
+        ),
     }
 }
 
@@ -225,7 +251,14 @@ fn redact_lines<'a, A: Automaton, F: Folder, I: Read, W: Write, E: Sink>(
     automaton: &A,
     names: &[&str],
     streams: &mut Streams<'_, I, W, E>,
-) -> Result<bool, RuledFailure<'a>> {
+) -> Result<bool, RuledFailure<'a>>
+    requires can { CanSearch A.Automaton automaton.now }
+    requires of { A.is_of automaton.now (patterns_by_case (all_given given.now) (patterns_in (secrets_of secrets.now))) }
+    requires names { name_bytes names.now ≡ names_asked (all_given given.now) }
+    ensures outcome { LoadedRuled W.Write E.Sink F.Folder folder.now given.now secrets.now rules.now key.entry
+        result streams.old streams.new }
+    ensures flushed { OnOk result (streams.new.output.device.flushed ≡ true) }
+{
     let texts = texts_of(alloc, given, secrets, rules.as_slice())?;
     let most = most_of(given);
     let texts = texts.as_slice();

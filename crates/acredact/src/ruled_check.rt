@@ -1,10 +1,15 @@
 //! A check by rules: whether something would be redacted in a line of a file, and, where that is asked for, by which rule in which line.
 
 ghost use Rattle.std.specs.Prelude.{◌≡◌, ◌<◌, ◌≤◌, OnOk, false, true};
+ghost use Rattle.chromesquid.specs.Searcher.{IsBuiltFrom};
+ghost use Rattle.secret_rules.specs.OpenLines.{CanSearch};
 ghost use Rattle.secret_rules.specs.Ready.{CanCoverLines};
+ghost use Rattle.tool_parts.specs.Names.{name_bytes};
 ghost use Rattle.acredact.specs.Arguments.{all_given, has};
+ghost use Rattle.acredact.specs.Calls.{names_asked};
+ghost use Rattle.acredact.specs.Ruled.{patterns_by_case};
 ghost use Rattle.acredact.specs.RuledChecks.{AskedCheck, SeesTo, IfCovers, LoadedCheck, SaysOfRulesCheck, UndoubtedCheck, UnruledCheck};
-ghost use Rattle.acredact.specs.Tables.{HaveNoEmpty, secrets_of};
+ghost use Rattle.acredact.specs.Tables.{HaveNoEmpty, patterns_in, secrets_of};
 ghost use Rattle.acredact.specs.declared.arguments.Word.TheVariants.{Summary};
 
 use crate::arguments::{Item, Word, has};
@@ -141,7 +146,9 @@ fn check_lines<'a, F: Folder, I: Read, W: Write, E: Sink>(
     let names = names(alloc, given)?;
     let searcher = lined_searcher(alloc, given, patterns.as_slice())?;
     let names = names.as_slice();
-    check_by(alloc, given, secrets, line_rules, folder, &searcher, names, streams)
+    check_by(
+        alloc, given, secrets, line_rules, folder, &searcher, names, streams,
+    )
 }
 
 /// Looks at all files by the automaton that the searcher of these patterns holds.
@@ -154,13 +161,32 @@ fn check_by<'a, F: Folder, I: Read, W: Write, E: Sink>(
     searcher: &AhoCorasick,
     names: &[&str],
     streams: &mut Streams<'_, I, W, E>,
-) -> Result<Verdict, RuledFailure<'a>> {
+) -> Result<Verdict, RuledFailure<'a>>
+    requires can { CanSearch ⟦<AhoCorasick as Automaton>⟧ searcher.now }
+    requires of { IsBuiltFrom searcher.now (patterns_by_case (all_given given.now) (patterns_in (secrets_of secrets.now))) }
+    requires names { name_bytes names.now ≡ names_asked (all_given given.now) }
+    ensures outcome { LoadedCheck W.Write E.Sink F.Folder folder.now given.now secrets.now rules.now
+        result streams.old streams.new }
+    ensures unwritten { has Summary (all_given given.now) ≡ false
+        → streams.new.output ≡ streams.old.output }
+    ensures flushed { has Summary (all_given given.now) ≡ true
+        → OnOk result (streams.new.output.device.flushed ≡ true) }
+{
     if let Some(rows) = searcher.rows() {
         return check_cover(alloc, given, secrets, rules, folder, rows, names, streams);
     }
     match searcher.levels() {
         Some(levels) => check_cover(alloc, given, secrets, rules, folder, levels, names, streams),
-        None => check_cover(alloc, given, secrets, rules, folder, searcher.itself(), names, streams),
+        None => check_cover(
+            alloc,
+            given,
+            secrets,
+            rules,
+            folder,
+            searcher.itself(),
+            names,
+            streams,
+        ),
     }
 }
 
@@ -174,7 +200,17 @@ fn check_cover<'a, A: Automaton, F: Folder, I: Read, W: Write, E: Sink>(
     automaton: &A,
     names: &[&str],
     streams: &mut Streams<'_, I, W, E>,
-) -> Result<Verdict, RuledFailure<'a>> {
+) -> Result<Verdict, RuledFailure<'a>>
+    requires can { CanSearch A.Automaton automaton.now }
+    requires of { A.is_of automaton.now (patterns_by_case (all_given given.now) (patterns_in (secrets_of secrets.now))) }
+    requires names { name_bytes names.now ≡ names_asked (all_given given.now) }
+    ensures outcome { LoadedCheck W.Write E.Sink F.Folder folder.now given.now secrets.now rules.now
+        result streams.old streams.new }
+    ensures unwritten { has Summary (all_given given.now) ≡ false
+        → streams.new.output ≡ streams.old.output }
+    ensures flushed { has Summary (all_given given.now) ≡ true
+        → OnOk result (streams.new.output.device.flushed ≡ true) }
+{
     let most = most_of(given);
     let words = has(given, Word::AsWord);
     let tells = has(given, Word::Summary);

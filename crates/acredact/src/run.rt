@@ -1,33 +1,29 @@
 //! A call of the program over its arguments, files and streams.
 
-ghost use Rattle.std.specs.Prelude.{◌≡◌, ◌++◌, ◌⊎◌, ◌<◌, ◌≤◌, ℕ, List, IfErr, IfOk, IfSome, Ok, OnErr, OnOk, Some, false, length, option_map, true};
-ghost use Rattle.aho_core.specs.Replacement.{pieces_of};
+ghost use Rattle.std.specs.Prelude.{◌≡◌, ◌++◌, ◌⊎◌, ◌<◌, ◌≤◌, ℕ, List, IfErr, IfOk, OnErr, OnOk, false, true};
+ghost use Rattle.chromesquid.specs.Searcher.{ForItsPatterns};
 ghost use Rattle.tool_parts.specs.Arguments.{texts};
-ghost use Rattle.tool_parts.specs.Names.{name_bytes};
-ghost use Rattle.tool_parts.specs.Streams.{WritesBytes, bytes_left};
+ghost use Rattle.tool_parts.specs.Streams.{WritesBytes};
 ghost use Rattle.tool_parts.specs.Telling.{Tells, TellsBytes, TellsSome};
 ghost use Rattle.acredact.specs.Arguments.{AreMistaken, AsksToRedact, GivesNoPattern, IfAsked, IfChecking, IfNoCheck, IfRuled, IfRulesCheck, IsCheck, RefusesUnclean, all_given, any_check_asked, counts_asked, counts_given, has};
-ghost use Rattle.acredact.specs.Back.{AreBoth, FilesJob, IfBackIs, RowsCounts, RowsOutcome};
+ghost use Rattle.acredact.specs.Back.{FilesJob};
 ghost use Rattle.acredact.specs.Bounds.{JobNumbers};
-ghost use Rattle.acredact.specs.Calls.{AskedOutcome, BeginsAsked, CountsAsked, DoubtedOutcome, HidesAsked, IsCountsFailure, IsCountsLine, IsPrintFailure, IsRefusedLine, IsWrongLine, KeyedOutcome, KeylessOutcome, LeavesNoneAsked, LoadOutcome, NumbersAsked, NumbersToldAsked, OutputFails, ReadsAsked, RedactsAsked, TellsAsked, TellsAnyCounts, WarnedJob, WarnedOutcome, WarnsAsked, call_of, gives_pattern, gives_value, keyed_as, names_asked, text_asked, work_by};
+ghost use Rattle.acredact.specs.Calls.{AskedOutcome, BeginsAsked, CountsAsked, HidesAsked, IsCountsFailure, IsCountsLine, IsPrintFailure, IsRefusedLine, IsWrongLine, LeavesNoneAsked, LoadOutcome, NumbersToldAsked, OutputFails, ReadyOutcome, RedactsAsked, TellsAsked, TellsAnyCounts, WarnsAsked, gives_pattern, gives_value};
 ghost use Rattle.acredact.specs.Checks.{MatchedAsked, SaysOfCheck, TellsListsAsked, TellsUncheckedAsked, UnmatchedAsked};
-ghost use Rattle.acredact.specs.Counts.{PutsText, lines_of_rules, secret_lines, zeros};
+ghost use Rattle.acredact.specs.Counts.{PutsText, lines_of_rules, secret_lines};
 ghost use Rattle.acredact.specs.Failures.{IsFailureLine};
-ghost use Rattle.acredact.specs.Files.{CanDo, keyed_of};
-ghost use Rattle.acredact.specs.Loading.{key_lent, loaded_as};
-ghost use Rattle.acredact.specs.Pieces.{IfOfAll, TellsUnclean, pieces_by};
+ghost use Rattle.acredact.specs.Files.{CanDo};
+ghost use Rattle.acredact.specs.Loading.{loaded_in};
+ghost use Rattle.acredact.specs.Ready.{IsReadyFor};
 ghost use Rattle.acredact.specs.RuledChecks.{RuledFindingsBegin, RuledFound, RuledClean, SaysOfRulesCheck, ListsByRules};
 ghost use Rattle.acredact.specs.Ruled.{NotesAsked, RuledAsked, RuledBegins, RuledCountsAsked, RuledTells, SaysOfRules};
-ghost use Rattle.acredact.specs.Secrets.{IfOf};
 ghost use Rattle.acredact.specs.Statuses.{IsIdle, SaysOfRedaction};
 ghost use Rattle.acredact.specs.Sums.{sums_of};
 ghost use Rattle.acredact.specs.Tables.{HaveNoEmpty, secrets_of};
 ghost use Rattle.acredact.specs.Summaries.{counts_told_by, summary_told_by, totals_text};
-ghost use Rattle.acredact.specs.Totals.{CountsWork, JobCounts};
+ghost use Rattle.acredact.specs.Totals.{JobCounts};
 ghost use Rattle.acredact.specs.Volumes.{JobVolume};
-ghost use Rattle.acredact.specs.declared.clean.Unclean.{Unclean};
-ghost use Rattle.acredact.specs.declared.failure.Failure.TheVariants.{Unclean as UncleanPiece};
-ghost use Rattle.acredact.specs.declared.arguments.Word.TheVariants.{Forms, IgnoreCase, Strict, Summary};
+ghost use Rattle.acredact.specs.declared.arguments.Word.TheVariants.{Forms, Summary};
 
 use crate::arguments::{
     Item, Mistake, Word, asks_rules, checks, checks_by_rules, counts, has, items,

@@ -2,10 +2,11 @@
 
 ghost use Rattle.std.specs.Prelude.{◌≡◌, ℕ, List, Option, IfErr, IfOk};
 ghost use Rattle.tool_parts.specs.Streams.{bytes_left};
-ghost use Rattle.acredact.specs.Arguments.{all_given};
+ghost use Rattle.acredact.specs.Arguments.{all_given, has};
 ghost use Rattle.acredact.specs.Calls.{CannotLoadCall, call_of, reading_by};
 ghost use Rattle.acredact.specs.Loading.{AreGiven, AreLoaded, LoadsByKey, loaded_in, key_in, key_lent};
 ghost use Rattle.acredact.specs.Tables.{secrets_of};
+ghost use Rattle.acredact.specs.declared.arguments.Word.TheVariants.{IgnoreCase};
 
 use crate::arguments::{Item, Word, has};
 use crate::failure::Failure;
