@@ -18,11 +18,11 @@ use Rattle.tool_parts.specs.declared.failure.Failure.TheVariants.{Build, OutOfMe
 use Rattle.tool_parts.specs.declared.reason.Reason.{Reason}
 use Rattle.tool_parts.proofs.Tellings.{tells-later}
 use Rattle.acredact.specs.Arguments.{Given, counts_asked}
-use Rattle.acredact.specs.Calls.{AreBounded, BeginsCall, Call, CallOutcome, IsBuildRefusal, IsCountsFailure, IsCountsLine, IsLineOf, IsRunFailure, IsUnreadLine, IsUntouched, IsWordLine, MayFail, OutputFails, RestOutcome, RunOutcome, TellsCounts, TellsNumbers, names_asked, reading_by, work_by}
+use Rattle.acredact.specs.Calls.{AreBounded, BeginsCall, Call, CallOutcome, CannotLoadCall, IsBuildRefusal, IsCountsFailure, IsCountsLine, IsLineOf, IsRunFailure, IsUnreadLine, IsUntouched, IsWordLine, MayFail, OutputFails, RestOutcome, RunOutcome, TellsCounts, TellsNumbers, names_asked, reading_by, work_by}
 use Rattle.acredact.specs.Counts.{secret_lines, zeros}
 use Rattle.acredact.specs.Files.{AreCut, FilesOutcome, IsDone, Work, are_none, unread_line}
 use Rattle.acredact.specs.Messages.{output_line}
-use Rattle.acredact.specs.Loading.{AreLoaded, CannotLoadAll, Loaded, loaded_as}
+use Rattle.acredact.specs.Loading.{AreLoaded, Loaded, loaded_as}
 use Rattle.acredact.specs.Secrets.{Keyed}
 use Rattle.acredact.specs.Summaries.{no_volume, totals_text}
 use Rattle.acredact.specs.Sums.{sums_of}
@@ -81,7 +81,7 @@ tells_counts K given old new secrets counts volume is told = record {
 
 -- before anything was touched
 module _ {R : Type 0} {Reads : Readers R} {W E : Type 0} (Writes : Writers W) (K : SinkGhosts E) (work : Work) where
-  pub run_refused : (streams : Streams R W E Reads) (failure : Failure) → IsRunFailure (OutputFails streams.output streams.output) failure → RunOutcome Writes K work (Err failure) streams streams
+  run_refused : (streams : Streams R W E Reads) (failure : Failure) → IsRunFailure (OutputFails streams.output streams.output) failure → RunOutcome Writes K work (Err failure) streams streams
   run_refused streams failure fails = record { done = tt; cut = inl refl; quiet = λ (is : Err failure ≡ Ok true). absurd (cc); fails = fails }
 
   -- memory may always run out
@@ -142,10 +142,11 @@ build_other p failure unclean (error, of, refused) is = let clash : Other (Build
 pub may_fail : (call : Call) (fails : Type 0) (failure : Failure) → IsRunFailure fails failure → MayFail call fails failure
 may_fail call fails failure is = inr (inr (inr (inr (inr (inl is)))))
 
--- one of the options cannot be loaded, or memory runs out for the forms
-pub load_fails : (call : Call) (fails : Type 0) (failure : Failure) → CannotLoadAll (reading_by call) call.given failure → MayFail call fails failure
-load_fails call fails failure (inl one) = inr (inl (inl one))
-load_fails call fails failure (inr memory) = may_fail call fails failure (inl memory)
+-- one of the options or the key cannot be loaded, or memory runs out
+pub load_fails : (call : Call) (fails : Type 0) (failure : Failure) → CannotLoadCall call failure → MayFail call fails failure
+load_fails call fails failure (inl (inl one)) = inr (inl (inl one))
+load_fails call fails failure (inl (inr memory)) = may_fail call fails failure (inl memory)
+load_fails call fails failure (inr key) = inr (inl (inr key))
 
 -- the files of a call whose patterns were loaded
 module _ {R : Type 0} {Reads : Readers R} {W E : Type 0} (Writes : Writers W) (K : SinkGhosts E) (call : Call) where

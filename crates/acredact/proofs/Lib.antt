@@ -33,8 +33,6 @@ mod Loaded
 mod Metering
 mod Bounded
 mod Limits
--- why patterns are refused
-mod Refused
 -- which pieces are clean, and what follows
 mod Flaws
 mod NoneSpelled
@@ -57,6 +55,8 @@ mod LongNames
 mod SetApart
 mod Readings
 mod Ready
+-- what a searcher holds can do what it can
+mod Standing
 mod Naming
 -- calls with rules
 mod RulesRead

@@ -1,5 +1,5 @@
 -- By what a stream is redacted by a walk backward.
-use Rattle.std.specs.Prelude.{ℕ, Bool, List, Option, Result, false, IfSome}
+use Rattle.std.specs.Prelude.{ℕ, Bool, List, Result, false}
 use Rattle.std.specs.Borrow.{Bor}
 use Rattle.std.specs.declared.io.traits.Read.{Ghosts as Readers}
 use Rattle.std.specs.declared.io.traits.Write.{Ghosts as Writers}
@@ -10,8 +10,6 @@ use Rattle.aho_backward.specs.Searcher.{IsBackwardOf}
 use Rattle.aho_backward.specs.declared.backward.Backward.{Backward}
 use Rattle.aho_devices.specs.declared.device.Sink.{Ghosts as SinkGhosts}
 use Rattle.aho_devices.specs.declared.device.Source.{Ghosts as SourceGhosts}
-use Rattle.acredact.specs.Arguments.{Given}
-use Rattle.acredact.specs.Builds.{patterns_by_given}
 use Rattle.acredact.specs.Files.{FilesOutcome, redactor_of, work_of}
 use Rattle.acredact.specs.Secrets.{IfOf, Redactor, redactor_by}
 use Rattle.acredact.specs.Streams.{StreamOutcome}

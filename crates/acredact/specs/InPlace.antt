@@ -1,12 +1,10 @@
 -- What becomes of files that are replaced in place: of each a new one is filled, and takes its place where all was done.
-use Rattle.std.specs.Prelude.{◌≡◌, ◌⊎◌, ℕ, Bool, true, false, List, [], ◌∷◌, ◌++◌, Option, Some, Result, Ok, Err, IfErr, IfOk, IfSome, OnErr}
-use Rattle.std.specs.Borrow.{Bor}
+use Rattle.std.specs.Prelude.{◌≡◌, ◌⊎◌, ℕ, Bool, true, false, List, [], ◌∷◌, ◌++◌, Option, Result, Ok, IfErr, IfOk, IfSome, OnErr}
 use Rattle.std.specs.List.{All, concat}
 use Rattle.std.specs.declared.io.traits.Read.{Ghosts as Readers}
 use Rattle.std.specs.declared.io.traits.Write.{Ghosts as Writers}
 use Rattle.aho_core.specs.Occurrence.{Occurrence}
 use Rattle.aho_core.specs.Patterns.{Patterns}
-use Rattle.aho_core.specs.Replacement.{pieces_of}
 use Rattle.aho_core.specs.declared.error.stream.StreamError.{StreamError}
 use Rattle.aho_core.specs.declared.error.stream.StreamError.TheVariants.{Memory}
 use Rattle.aho_devices.specs.declared.adapters.FromWrite.{FromWrite}
@@ -17,28 +15,24 @@ use Rattle.tool_parts.specs.Telling.{Tells, TellsBytes, TellsSome}
 use Rattle.tool_parts.specs.declared.errors.Errors.{Errors}
 use Rattle.tool_parts.specs.declared.failure.Failure.TheVariants.{OutOfMemory}
 use Rattle.tool_parts.specs.declared.reason.Reason.{Reason}
-use Rattle.acredact.specs.Arguments.{Given, RefusesUnclean, all_given, counts_asked, has, last_value}
-use Rattle.acredact.specs.Calls.{Call, IsBuildRefusal, IsLineOf, IsStrictFailure, MayFail, TellsTotals, WarnsCall, call_of, names_asked, reading_by, redactor_by_given, work_by}
-use Rattle.acredact.specs.Doubts.{TellsDoubts, TellsWarnings}
+use Rattle.acredact.specs.Arguments.{Given, RefusesUnclean, all_given, counts_asked, has}
+use Rattle.acredact.specs.Calls.{Call, IsLineOf, MayFail, TellsTotals, WarnsCall, call_of, names_asked, reading_by, redactor_by_given, work_by}
+use Rattle.acredact.specs.Doubts.{TellsWarnings}
 use Rattle.acredact.specs.Failures.{IsFailureLine}
 use Rattle.acredact.specs.Files.{AreFree, AreRedacted, Work, are_none, redactor_of, unread_line, work_of}
 use Rattle.acredact.specs.Into.{IsSpared}
-use Rattle.acredact.specs.Loading.{AreGiven, AreLoaded, IsKeyGiven, Loaded, key_lent, loaded_as}
+use Rattle.acredact.specs.Loading.{AreLoaded, Loaded}
 use Rattle.acredact.specs.Messages.{no_file_line, output_line}
-use Rattle.acredact.specs.Pieces.{TellsOfPieces, pieces_by}
 use Rattle.acredact.specs.Summaries.{no_volume}
-use Rattle.acredact.specs.Tables.{secrets_of}
-use Rattle.acredact.specs.Totals.{CountsOfName, CountsWork, NamesHaveRanges}
+use Rattle.acredact.specs.Totals.{CountsOfName, NamesHaveRanges}
 use Rattle.acredact.specs.Volumes.{ReadsVolume}
 use Rattle.acredact.specs.declared.arguments.Item.{Item}
-use Rattle.acredact.specs.declared.arguments.Word.TheVariants.{Pseudonym, Strict}
-use Rattle.acredact.specs.declared.clean.Judge.{Judge}
+use Rattle.acredact.specs.declared.arguments.Word.TheVariants.{Strict}
 use Rattle.acredact.specs.declared.failure.Failure.{Failure}
 use Rattle.acredact.specs.declared.failure.Failure.TheVariants.{Other}
 use Rattle.acredact.specs.declared.files.Job.{Job}
 use Rattle.acredact.specs.declared.folder.Folder.{Ghosts as Folders}
 use Rattle.acredact.specs.declared.outputs.Outputs.{Ghosts as Places}
-use Rattle.acredact.specs.declared.patterns.Rule.{Rule}
 use Rattle.acredact.specs.declared.streams.Streams.{Streams}
 use Rattle.acredact.specs.declared.summary.Volume.{Volume}
 

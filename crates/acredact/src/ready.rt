@@ -1,6 +1,6 @@
 //! What is ready before any file is read: what is searched for, what is written in the place of that, and which files are read.
 
-ghost use Rattle.std.specs.Prelude.{◌≡◌, ◌⊎◌, List, IfErr, IfOk, OnErr, OnOk, Some, option_map, true};
+ghost use Rattle.std.specs.Prelude.{◌≡◌, ◌⊎◌, IfErr, IfOk, OnErr, OnOk, Some, option_map, true};
 ghost use Rattle.tool_parts.specs.Names.{name_bytes};
 ghost use Rattle.acredact.specs.Arguments.{all_given, has};
 ghost use Rattle.acredact.specs.Builds.{patterns_by_given};
@@ -11,7 +11,7 @@ ghost use Rattle.acredact.specs.Files.{CanDo, keyed_of, redactor_of, work_of};
 ghost use Rattle.acredact.specs.Loading.{key_lent, loaded_in};
 ghost use Rattle.acredact.specs.Pieces.{IsJudged, TellsOfPieces, TellsUnclean};
 ghost use Rattle.acredact.specs.Ready.{CannotJudge, CannotPrepare, IsReadyFor};
-ghost use Rattle.acredact.specs.Tables.{HaveNoEmpty, Secret, patterns_in, secrets_of};
+ghost use Rattle.acredact.specs.Tables.{HaveNoEmpty, patterns_in, secrets_of};
 ghost use Rattle.acredact.specs.declared.arguments.Word.TheVariants.{Strict};
 ghost use Rattle.acredact.specs.declared.clean.Unclean.{Unclean};
 ghost use Rattle.acredact.specs.declared.failure.Failure.TheVariants.{Unclean as UncleanPiece};

@@ -1,6 +1,6 @@
 //! The searcher of a call. The builder of `chromesquid` decides by what it searches; no answer depends on that.
 
-ghost use Rattle.std.specs.Prelude.{◌≡◌, IfErr, IfOk, None, true};
+ghost use Rattle.std.specs.Prelude.{◌≡◌, IfErr, IfOk, true};
 ghost use Rattle.aho_core.specs.Replacement.{pieces_of};
 ghost use Rattle.aho_core.specs.declared.search.Anchored.TheVariants.{No};
 ghost use Rattle.chromesquid.specs.Searcher.{Answers, IsBuiltFrom};

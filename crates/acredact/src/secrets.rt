@@ -5,7 +5,7 @@ ghost use Rattle.tool_parts.specs.Streams.{bytes_left};
 ghost use Rattle.acredact.specs.Arguments.{all_given, has};
 ghost use Rattle.acredact.specs.Calls.{CannotLoadCall, call_of, reading_by};
 ghost use Rattle.acredact.specs.Loading.{AreGiven, AreLoaded, LoadsByKey, loaded_in, key_in, key_lent};
-ghost use Rattle.acredact.specs.Tables.{secrets_of};
+ghost use Rattle.acredact.specs.Tables.{HaveNoEmpty, secrets_of};
 ghost use Rattle.acredact.specs.declared.arguments.Word.TheVariants.{IgnoreCase};
 
 use crate::arguments::{Item, Word, has};
@@ -37,6 +37,7 @@ pub fn load<'a, F: Folder, I: Read>(
 ) -> Result<Secrets, Failure<'a>>
     ensures loaded { IfOk result (λ secrets. AreLoaded (reading_by (call_of F.Folder folder.now (all_given given.now)))
         (all_given given.now) (loaded_in secrets) (bytes_left input.old) (bytes_left input.new)) }
+    ensures some { IfOk result (λ secrets. HaveNoEmpty (secrets_of secrets.rules.items)) }
     ensures fails { IfErr result (CannotLoadCall (call_of F.Folder folder.now (all_given given.now))) }
 {
     let lists = lists_of(alloc, given, folder);
