@@ -9,11 +9,13 @@ use Rattle.acredact.specs.Builds.{patterns_by_given}
 use Rattle.acredact.specs.Calls.{IsStrictFailure, names_asked, pieces_asked, redactor_by_given}
 use Rattle.acredact.specs.Checks.{IsBuildFailure}
 use Rattle.acredact.specs.Doubts.{IsDoubtFailure}
+use Rattle.acredact.specs.Files.{redactor_of}
 use Rattle.acredact.specs.Loading.{Loaded}
 use Rattle.acredact.specs.Tables.{Secret, patterns_in}
 use Rattle.acredact.specs.declared.arguments.Word.TheVariants.{Strict}
 use Rattle.acredact.specs.declared.failure.Failure.{Failure}
-use Rattle.acredact.specs.declared.ready.Ready.{Ready}
+use Rattle.acredact.specs.declared.files.Job.{Job}
+use Rattle.acredact.specs.declared.prepare.Ready.{Ready}
 
 -- it is what these options ask for, where these secrets were loaded
 pub record IsReadyFor (given : List Given) (secrets : List Secret) (ready : Ready) : Type 0 where
@@ -23,7 +25,13 @@ pub record IsReadyFor (given : List Given) (secrets : List Secret) (ready : Read
   pub of : IsBuiltFrom ready.searcher (patterns_by_given given (patterns_in secrets))
   pub answers : Answers ready.searcher No
 
--- why it is not: a piece is refused, or the library refuses the patterns, or memory runs out
+-- what is done to files is what they ask for
+pub record IsJobFor {F : Type 0} (folder : F) (given : List Given) (load : Loaded) (job : Job F) : Type 0 where
+  pub opens : job.folder.now ≡ folder
+  pub names : name_bytes job.names.now ≡ names_asked given
+  pub redactor : redactor_of job (patterns_by_given given (patterns_in load.secrets)) ≡ redactor_by_given given load
+
+-- why it is not ready: a piece is refused, or the library refuses the patterns, or memory runs out
 abbrev pub CannotJudge : List Given → Loaded → Failure → Type 0
 CannotJudge given load failure =
     IsStrictFailure (has Strict given) (redactor_by_given given load) failure ⊎ IsBuildFailure (patterns_by_given given (patterns_in load.secrets)) failure

@@ -16,7 +16,7 @@ use crate::folder::Folder;
 use crate::load::{lists_of, rules};
 use crate::look::{Searched, Verdict, look_at_files};
 use crate::patterns::Rule;
-use crate::ready::ready_of;
+use crate::prepare::ready_of;
 use crate::run::{FAILED, gives_pattern, report};
 use chromesquid::{AhoCorasick, Automaton, FromRead, Sink};
 use std::alloc::{AllocError, Global};

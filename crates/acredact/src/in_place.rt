@@ -23,7 +23,7 @@ use crate::failure::{Failure, tell_no_file, tell_unread};
 use crate::files::{Job, both, is_input};
 use crate::folder::Folder;
 use crate::outputs::Outputs;
-use crate::ready::{Ready, job_of, prepare};
+use crate::prepare::{Ready, job_of, prepare};
 use crate::run::{FAILED, gives_pattern, redact_by, report, tell_counted};
 use crate::secrets::{Secrets, load};
 use crate::streams::Streams;

@@ -22,7 +22,7 @@ use crate::line_size::most_of;
 use crate::load::{key_of, lists_of, rules};
 use crate::named::named_rules;
 use crate::patterns::{Rule, patterns_of, replacements_of, split_at};
-use crate::ready::{key_by, names, text_of};
+use crate::prepare::{key_by, names, text_of};
 use crate::ruled_failure::{RuledFailure, tell_long, tell_ruled};
 use crate::ruled_files::{cover_files, lined_of};
 use crate::run::FAILED;

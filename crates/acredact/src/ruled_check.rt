@@ -23,7 +23,7 @@ use crate::line_size::most_of;
 use crate::load::{lists_of, rules};
 use crate::look::Verdict;
 use crate::patterns::{Rule, patterns_of};
-use crate::ready::names;
+use crate::prepare::names;
 use crate::ruled::{line_end_in, lined_searcher};
 use crate::ruled_failure::{RuledFailure, tell_ruled};
 use crate::ruled_files::line_cover;

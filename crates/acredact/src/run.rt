@@ -35,7 +35,7 @@ use crate::files::{Job, back_files, redact_files};
 use crate::folder::Folder;
 use crate::help::{HELP, VERSION};
 use crate::patterns::Rule;
-use crate::ready::{Ready, job_of, prepare};
+use crate::prepare::{Ready, job_of, prepare};
 use crate::ruled::redact_by_rules;
 use crate::ruled_check::check_by_rules;
 use crate::secrets::{Secrets, load};

@@ -21,6 +21,7 @@ use Rattle.acredact.specs.declared.arguments.Word.TheVariants.{Strict}
 use Rattle.acredact.specs.declared.failure.Failure.{Failure}
 use Rattle.acredact.specs.declared.failure.Failure.TheVariants.{Other}
 use Rattle.acredact.specs.declared.patterns.Rule.{Rule}
+use Rattle.acredact.proofs.Calls.{job_does}
 use Rattle.acredact.proofs.PlacedCalls.{places_cut, places_told, places_uncounted}
 use Rattle.acredact.proofs.in_place.place_ready.Goals as goal
 
@@ -42,8 +43,8 @@ returns-in_err-all g c = record {
       let call = call_of g.F.Folder c.args.folder.now (all_given c.args.given.now) in
       let load = loaded_in c.args.secrets.now in
       let is : c.from_residual-in_err-all.result ≡ Err (Other (failure_of_stream c.in_err-all.field-0.0)) = search rules in
-      let places = subst (λ (w : Work). PlacesOutcome g.O.File.Write g.O.Outputs w g.E.Sink Memory (Err c.in_err-all.field-0.0) c.args.outputs.now c.place_each-all.new.outputs c.args.streams.now.errors c.place_each-all.new.streams.errors)
-      (c.job_of-job.ensures.work c.requires.ready) (c.in_err-all.ensures.outcome _ c.requires.ready.of) in
+      let places = job_does g.F.Folder c.args.folder.now call.given load c.job_of-job.result (c.job_of-job.ensures.job c.requires.ready)
+      (λ (w : Work). PlacesOutcome g.O.File.Write g.O.Outputs w g.E.Sink Memory (Err c.in_err-all.field-0.0) c.args.outputs.now c.place_each-all.new.outputs c.args.streams.now.errors c.place_each-all.new.streams.errors) (c.in_err-all.ensures.outcome _ c.requires.ready.of) in
       let (lines, cut, told) = places.cut in
       subst (λ (r : Result Bool Failure). CalledPlaces g.O.File.Write g.E.Sink g.O.Outputs call left r c.args.outputs.now c.place_each-all.new.outputs first c.place_each-all.new.streams.errors) (sym is)
       (places_cut g.O.File.Write g.E.Sink g.O.Outputs call left load (bytes_left c.args.streams.now.input) loaded c.args.outputs.now c.place_each-all.new.outputs first c.args.streams.now.errors c.place_each-all.new.streams.errors warnings
@@ -57,7 +58,8 @@ returns g c = record {
       let key = key_in c.args.secrets.now.key in
       let value : c.as_slice-rules.result.now ≡ c.args.secrets.now.rules.items = c.as_slice-rules.ensures.value in
       let work = work_by call (loaded_as c.as_slice-rules.result.now key) in
-      let same = c.job_of-job.ensures.work c.requires.ready ∙ ap (λ (l : List Rule). work_by call (loaded_as l key)) (sym value) in
+      let as_asked = λ (P : Work → Type 0) (done : P _). subst (λ (l : List Rule). P (work_by call (loaded_as l key))) (sym value)
+      (job_does g.F.Folder c.args.folder.now call.given (loaded_in c.args.secrets.now) c.job_of-job.result (c.job_of-job.ensures.job c.requires.ready) P done) in
       let old = bytes_left c.args.streams.now.input in
       let new = bytes_left c.place_each-all.new.streams.input in
       let counts = c.place_each-all.new.counts in
@@ -68,12 +70,12 @@ returns g c = record {
       c.args.outputs.now c.place_each-all.new.outputs first c.args.streams.now.errors c.place_each-all.new.streams.errors c.tell_counted.new.errors
       (subst (λ (l : List Rule). TellsWarnings g.E.Sink (has Strict call.given) call.given (secrets_of l) (redactor_by_given call.given (loaded_as l key)) first c.args.streams.now.errors) (sym value) warnings)
       c.in_ok-all.all c.tell_counted.result
-      (subst (λ (w : Work). PlacesOutcome g.O.File.Write g.O.Outputs w g.E.Sink Memory (Ok c.in_ok-all.all) c.args.outputs.now c.place_each-all.new.outputs c.args.streams.now.errors c.place_each-all.new.streams.errors) same
+      (as_asked (λ w. PlacesOutcome g.O.File.Write g.O.Outputs w g.E.Sink Memory (Ok c.in_ok-all.all) c.args.outputs.now c.place_each-all.new.outputs c.args.streams.now.errors c.place_each-all.new.streams.errors)
       (c.in_ok-all.ensures.outcome _ c.requires.ready.of))
       (λ whole. (
         subst (λ (l : List ℕ). CountsOfNames old new l counts work work.names) none
-            (subst (λ (w : Work). CountsOfNames old new c.as_mut_slice-tally.result.now counts w w.names) same (c.in_ok-all.ensures.counted _ c.requires.ready.of (ap Ok whole))),
-        subst (λ (w : Work). ReadsVolume w.holds w.names no_volume volume old new) same (c.in_ok-all.ensures.read (ap Ok whole)),
+            (as_asked (λ w. CountsOfNames old new c.as_mut_slice-tally.result.now counts w w.names) (c.in_ok-all.ensures.counted _ c.requires.ready.of (ap Ok whole))),
+        as_asked (λ w. ReadsVolume w.holds w.names no_volume volume old new) (c.in_ok-all.ensures.read (ap Ok whole)),
       ))
       c.tell_counted.ensures.all c.tell_counted.ensures.told c.tell_counted.ensures.fails c.tell_counted.ensures.lines;
 }

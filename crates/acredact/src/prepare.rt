@@ -10,7 +10,7 @@ ghost use Rattle.acredact.specs.Doubts.{TellsDoubts, TellsWarnings};
 ghost use Rattle.acredact.specs.Files.{CanDo, keyed_of, redactor_of, work_of};
 ghost use Rattle.acredact.specs.Loading.{key_lent, loaded_in};
 ghost use Rattle.acredact.specs.Pieces.{IsJudged, TellsOfPieces, TellsUnclean};
-ghost use Rattle.acredact.specs.Ready.{CannotJudge, CannotPrepare, IsReadyFor};
+ghost use Rattle.acredact.specs.Ready.{CannotJudge, CannotPrepare, IsJobFor, IsReadyFor};
 ghost use Rattle.acredact.specs.Tables.{HaveNoEmpty, patterns_in, secrets_of};
 ghost use Rattle.acredact.specs.declared.arguments.Word.TheVariants.{Strict};
 ghost use Rattle.acredact.specs.declared.clean.Unclean.{Unclean};
@@ -63,9 +63,10 @@ pub fn prepare<'a, 'r, E: Sink>(
 {
     let strict = has(given, Word::Strict);
     match warn_of_lists(errors, given, secrets.rules.as_slice(), strict) {
-        Ok(()) => prepare_pieces(alloc, given, secrets, errors),
-        Err(failure) => Err(failure),
+        Ok(()) => {}
+        Err(failure) => return Err(failure),
     }
+    prepare_pieces(alloc, &*given, secrets, errors)
 }
 
 /// Makes ready what redacts, and tells of a piece that is not clean, or refuses it.
@@ -81,10 +82,12 @@ fn prepare_pieces<'a, 'r, E: Sink>(
     ensures fails { IfErr result (CannotJudge (all_given given.now) (loaded_in secrets.entry.now)) }
     ensures untold { OnErr result (errors.new ≡ errors.old) }
 {
-    match ready_of(alloc, given, secrets.rules.as_slice(), finds_all(given)) {
-        Ok(ready) => judged(given, secrets, ready, errors),
-        Err(failure) => Err(failure),
-    }
+    let rules = secrets.rules.as_slice();
+    let ready = match ready_of(alloc, given, rules, finds_all(given)) {
+        Ok(ready) => ready,
+        Err(failure) => return Err(failure),
+    };
+    judged(given, secrets, ready, errors)
 }
 
 /// Whether all finds of a text are replaced, and no match is counted.
@@ -134,9 +137,10 @@ fn judged<'a, 'r, E: Sink>(
 {
     let unclean = unclean_in(given, secrets, &ready);
     match warn(errors, unclean, has(given, Word::Strict)) {
-        Ok(()) => Ok(ready),
-        Err(failure) => Err(failure),
+        Ok(()) => {}
+        Err(failure) => return Err(failure),
     }
+    Ok(ready)
 }
 
 /// The first pattern whose piece is not clean, of what is ready.
@@ -185,10 +189,8 @@ pub fn job_of<'s, 't, F: Folder>(
     ready: &'s Ready<'t>,
     folder: &'s F,
 ) -> Job<'s, 't, F>
-    ensures work { IsReadyFor (all_given given.now) (secrets_of secrets.entry.now.rules.items) ready.entry.now
-        → work_of F.Folder result (redactor_of result (patterns_by_given (all_given given.now)
-        (patterns_in (secrets_of secrets.entry.now.rules.items))))
-        ≡ work_by (call_of F.Folder folder.entry.now (all_given given.now)) (loaded_in secrets.entry.now) }
+    ensures job { IsReadyFor (all_given given.now) (secrets_of secrets.entry.now.rules.items) ready.entry.now
+        → IsJobFor folder.entry.now (all_given given.now) (loaded_in secrets.entry.now) result }
     ensures can { HaveNoEmpty (secrets_of secrets.entry.now.rules.items)
         → IsReadyFor (all_given given.now) (secrets_of secrets.entry.now.rules.items) ready.entry.now
         → CanDo ⟦<AhoCorasick as Automaton>⟧ ready.entry.now.searcher result }

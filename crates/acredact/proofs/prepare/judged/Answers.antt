@@ -6,10 +6,10 @@ use Rattle.acredact.specs.Calls.{redactor_by_given}
 use Rattle.acredact.specs.Loading.{loaded_in}
 use Rattle.acredact.specs.Pieces.{IsJudged, TellsUnclean}
 use Rattle.acredact.specs.declared.clean.Unclean.{Unclean}
-use Rattle.acredact.proofs.ready.judged.Goals as goal
+use Rattle.acredact.proofs.prepare.judged.Goals as goal
 
-pub returns-in-Ok-clause-told : goal.returns-in-Ok-clause-told
-returns-in-Ok-clause-told g c = (
+pub returns-clause-told : goal.returns-clause-told
+returns-clause-told g c = (
   c.unclean_in-unclean.result,
   c.unclean_in-unclean.ensures.judged,
   subst (λ (b : Bool). TellsUnclean g.E.Sink b c.unclean_in-unclean.result c.args.errors.now c.warn.new.errors) c.has.ensures.has c.in-Ok.ensures.told,

@@ -8,10 +8,10 @@ use Rattle.acredact.specs.Doubts.{IsDoubtFailure, TellsDoubts}
 use Rattle.acredact.specs.Tables.{secrets_of}
 use Rattle.acredact.specs.declared.arguments.Word.TheVariants.{Strict}
 use Rattle.acredact.specs.declared.patterns.Rule.{Rule}
-use Rattle.acredact.proofs.ready.prepare.Goals as goal
+use Rattle.acredact.proofs.prepare.prepare.Goals as goal
 
-pub returns-in-Ok-clause-told : goal.returns-in-Ok-clause-told
-returns-in-Ok-clause-told g c =
+pub returns-clause-told : goal.returns-clause-told
+returns-clause-told g c =
     let doubts = subst (λ (b : Bool). TellsDoubts g.E.Sink b (all_given c.args.given.now) (secrets_of c.as_slice.result.now) c.args.errors.now c.warn_of_lists.new.errors) c.has-strict.ensures.has c.in-Ok.ensures.told in
     on_ok_weaker c.prepare_pieces.result
     (λ pieces. (
@@ -21,11 +21,11 @@ returns-in-Ok-clause-told g c =
     ))
     c.prepare_pieces.ensures.told
 
-pub returns-in-Ok-clause-fails : goal.returns-in-Ok-clause-fails
-returns-in-Ok-clause-fails g c = IfErr-weaker c.prepare_pieces.result _ _ (λ failure cannot. inr cannot) c.prepare_pieces.ensures.fails
+pub returns-clause-fails : goal.returns-clause-fails
+returns-clause-fails g c = IfErr-weaker c.prepare_pieces.result _ _ (λ failure cannot. inr cannot) c.prepare_pieces.ensures.fails
 
-pub returns-in-Ok-clause-untold : goal.returns-in-Ok-clause-untold
-returns-in-Ok-clause-untold g c =
+pub returns-clause-untold : goal.returns-clause-untold
+returns-clause-untold g c =
     let doubts = subst (λ (b : Bool). TellsDoubts g.E.Sink b (all_given c.args.given.now) (secrets_of c.as_slice.result.now) c.args.errors.now c.warn_of_lists.new.errors) c.has-strict.ensures.has c.in-Ok.ensures.told in
     on_err_weaker c.prepare_pieces.result
     (λ same. inr (subst (λ (e : Errors _). TellsDoubts g.E.Sink (has Strict (all_given c.args.given.now)) (all_given c.args.given.now) (secrets_of c.args.secrets.now.rules.items) c.args.errors.now e) (sym same)

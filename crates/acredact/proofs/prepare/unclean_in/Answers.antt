@@ -12,7 +12,7 @@ use Rattle.acredact.specs.Tables.{patterns_in, piece_by, secret_of, secrets_of}
 use Rattle.acredact.specs.declared.arguments.Word.TheVariants.{IgnoreCase}
 use Rattle.acredact.specs.declared.patterns.Rule.{Rule}
 use Rattle.acredact.proofs.Warned.{judged_as}
-use Rattle.acredact.proofs.ready.unclean_in.Goals as goal
+use Rattle.acredact.proofs.prepare.unclean_in.Goals as goal
 
 pub unclean_of-requires : goal.unclean_of-requires
 unclean_of-requires c =

@@ -11,7 +11,7 @@ use Rattle.acredact.specs.Checks.{IsBuildFailure}
 use Rattle.acredact.specs.Tables.{patterns_in, piece_by, secrets_of}
 use Rattle.acredact.specs.declared.arguments.Word.TheVariants.{IgnoreCase}
 use Rattle.acredact.specs.declared.failure.Failure.TheVariants.{Other}
-use Rattle.acredact.proofs.ready.ready_of.Goals as goal
+use Rattle.acredact.proofs.prepare.ready_of.Goals as goal
 
 pub returns-in_err-searcher-clause-refused : goal.returns-in_err-searcher-clause-refused
 returns-in_err-searcher-clause-refused g c =
