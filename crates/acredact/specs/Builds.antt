@@ -12,20 +12,20 @@ use Rattle.acredact.specs.Arguments.{Given, has, kind_asked}
 use Rattle.acredact.specs.declared.arguments.Word.TheVariants.{IgnoreCase}
 
 -- these words, by a match kind and a case rule
-abbrev pub patterns_asked : MatchKind → Bool → List (List ℕ) → Patterns
-patterns_asked kind ignore_case words = record { words = words; kind = kind; ignore_case = ignore_case }
+abbrev pub patterns_by_kind : MatchKind → Bool → List (List ℕ) → Patterns
+patterns_by_kind kind ignore_case words = record { words = words; kind = kind; ignore_case = ignore_case }
 
 -- by those that are given
 abbrev pub patterns_by_given : List Given → List (List ℕ) → Patterns
-patterns_by_given given words = patterns_asked (kind_asked given) (has IgnoreCase given) words
+patterns_by_given given words = patterns_by_kind (kind_asked given) (has IgnoreCase given) words
 
 -- the settings of their build: all else is as a new builder has it
 abbrev pub build_settings : Patterns → Settings
 build_settings p = record default_settings { kind = p.kind; ignore_case = p.ignore_case }
 
 -- how their searcher is built: what memory is refused for is left out, and all finds of texts may be asked for
-abbrev pub building_asked : MatchKind → Bool → (finds_all : Bool) → Building
-building_asked kind ignore_case finds_all =
+abbrev pub building_of_kind : MatchKind → Bool → (finds_all : Bool) → Building
+building_of_kind kind ignore_case finds_all =
     record default_building { settings = record default_settings { kind = kind; ignore_case = ignore_case }; best_effort = true; finds_all = finds_all }
 
 -- why the library does not make it: memory is wanting, or the first number that these patterns ask for above its limit, and the error says

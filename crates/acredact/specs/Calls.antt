@@ -16,7 +16,7 @@ use Rattle.tool_parts.specs.declared.errors.Errors.{Errors}
 use Rattle.tool_parts.specs.declared.failure.Failure.{Failure as OtherFailure}
 use Rattle.tool_parts.specs.declared.failure.Failure.TheVariants.{Build, OutOfMemory, Write, WriteZero}
 use Rattle.tool_parts.specs.declared.reason.Reason.{Reason}
-use Rattle.acredact.specs.Arguments.{Given, GivesNoPattern, RefusesUnclean, counts_asked, covers_asked, has, is_same, last_value, words_asked}
+use Rattle.acredact.specs.Arguments.{Given, GivesNoPattern, RefusesUnclean, all_given, counts_asked, covers_asked, has, is_same, last_value, words_asked}
 use Rattle.acredact.specs.Bounds.{NumbersOfAll, ReadInAll}
 use Rattle.acredact.specs.Builds.{RefusesPatterns, patterns_by_given}
 use Rattle.acredact.specs.Counts.{secret_lines, lines_of_rules}
@@ -25,7 +25,7 @@ use Rattle.acredact.specs.Failures.{IsFailureLine}
 use Rattle.acredact.specs.Forms.{forms_asked}
 use Rattle.acredact.specs.Files.{AreCut, AreDone, AreFree, AreRedacted, Does, Work, are_none, unread_line}
 use Rattle.acredact.specs.Hidden.{AreHidden}
-use Rattle.acredact.specs.Loading.{AreLoaded, CannotLoadAll, CannotLoadKey, CannotLoadOne, Loaded, Reading, Rules}
+use Rattle.acredact.specs.Loading.{AreGiven, AreLoaded, CannotLoadAll, CannotLoadKey, CannotLoadOne, Loaded, Reading, Rules, loaded_in}
 use Rattle.acredact.specs.Messages.{output_line, unclean_line}
 use Rattle.acredact.specs.Mistakes.{IsMistakeOfCall}
 use Rattle.acredact.specs.Pieces.{IsUncleanBy}
@@ -35,6 +35,7 @@ use Rattle.acredact.specs.Sums.{sums_of}
 use Rattle.acredact.specs.Summaries.{no_volume, totals_text}
 use Rattle.acredact.specs.Totals.{AreTotals, NamesHaveRanges}
 use Rattle.acredact.specs.Volumes.{ReadsVolume}
+use Rattle.acredact.specs.declared.arguments.Item.{Item}
 use Rattle.acredact.specs.declared.arguments.Mistake.TheVariants.{NoPattern, OutOfMemory as NoRoom}
 use Rattle.acredact.specs.declared.arguments.Word.TheVariants.{Crlf, Forms, AllowEmpty, IgnoreCase, Strict, File, Pattern as PatternOption, Patterns as PatternFile, Table, Env, EnvFile, Whole, With}
 use Rattle.acredact.specs.declared.clean.Unclean.{Unclean}
@@ -42,6 +43,7 @@ use Rattle.acredact.specs.declared.failure.Failure.{Failure}
 use Rattle.acredact.specs.declared.failure.Failure.TheVariants.{NotText, Arguments, Unclean as UncleanPiece, Counts, Other}
 use Rattle.acredact.specs.declared.folder.Folder.{Ghosts as Folders}
 use Rattle.acredact.specs.declared.patterns.Rule.{Rule}
+use Rattle.acredact.specs.declared.secrets.Secrets.{Secrets}
 use Rattle.acredact.specs.declared.streams.Streams.{Streams}
 use Rattle.acredact.specs.declared.summary.Volume.{Volume}
 
@@ -165,6 +167,18 @@ IsRefusedCall call failure = (load : Loaded) × (left : Option (List ℕ)) × (b
 -- one of the options or the key cannot be loaded, or memory runs out
 abbrev pub CannotLoadCall : Call → Failure → Type 0
 CannotLoadCall call failure = CannotLoadAll (reading_by call) call.given failure ⊎ CannotLoadKey (reading_by call) call.given failure
+
+-- what is loaded for some arguments, and what is where the rules were
+module _ {F X : Type 0} (D : Folders F X) (folder : F) (items : List Item) where
+  abbrev pub CannotLoadBy : Failure → Type 0
+  CannotLoadBy failure = CannotLoadCall (call_of D folder (all_given items)) failure
+
+  abbrev pub AreLoadedBy : (left left' : Option (List ℕ)) → Secrets → Type 0
+  AreLoadedBy left left' made = AreLoaded (reading_by (call_of D folder (all_given items))) (all_given items) (loaded_in made) left left'
+
+  abbrev pub LoadsBeside : List Rule → Result Secrets Failure → (left left' : Option (List ℕ)) → Type 0
+  LoadsBeside rules result left left' = (first : Option (List ℕ))
+      → AreGiven (reading_by (call_of D folder (all_given items))) (all_given items) (secrets_of rules) first left → IfOk result (AreLoadedBy first left')
 
 -- why a call ends early: there is no pattern, one of the options or the key cannot be loaded, the counts cannot be written, a piece is not clean,
 -- the patterns are refused, the files are not redacted, or a pattern of a list is refused

@@ -10,14 +10,15 @@ use Rattle.tool_parts.specs.Streams.{bytes_left}
 use Rattle.tool_parts.specs.declared.failure.Failure.TheVariants.{OutOfMemory as NoMemory}
 use Rattle.tool_parts.specs.declared.reason.Reason.{Reason}
 use Rattle.tool_parts.specs.declared.reason.Reason.TheVariants.{NotFound, Denied, Directory, Irregular, NoDirectory, Links, LongName, Invalid, Full, TooLarge, Quota, Interrupted, Unavailable, Locked, NoLock, Changed, Owner, Closed, OutOfMemory, PositionLimit, ReadFault, Fault}
-use Rattle.acredact.specs.Arguments.{Given, has, last_value}
+use Rattle.acredact.specs.Arguments.{Given, all_given, has, last_value}
 use Rattle.acredact.specs.Forms.{AskedForms, HideSecrets, forms_asked, with_forms}
 use Rattle.acredact.specs.LineFaults.{IsLineFault, IsListFault, mark_in}
 use Rattle.acredact.specs.Named.{all_named}
 use Rattle.acredact.specs.Parts.{AddsSome, GivesPattern}
 use Rattle.acredact.specs.Reads.{OfName, ReadsText}
-use Rattle.acredact.specs.Tables.{HaveLines, HoldsBy, Secret, lines_in, secrets_of, stripped_by}
+use Rattle.acredact.specs.Tables.{HaveLines, HaveNoEmpty, HoldsBy, Secret, lines_in, secrets_of, stripped_by}
 use Rattle.acredact.specs.Values.{GiveEach, are_refused, first_fault, value_in_line, value_of_entry, whole_in}
+use Rattle.acredact.specs.declared.arguments.Item.{Item}
 use Rattle.acredact.specs.declared.arguments.Word.{Word}
 use Rattle.acredact.specs.declared.arguments.Word.TheVariants.{IgnoreCase, Kind, Pattern, Patterns, Table, Env, EnvFile, Whole, With, Pseudonym, Forms, AsWord, Rules as RulesFile, After, MaxLine, Output, InPlace, Count, Summary, Crlf, AllowEmpty, Strict, Check, Help, Version, File}
 use Rattle.acredact.specs.declared.failure.Failure.{Failure}
@@ -185,9 +186,13 @@ loaded_as rules key = record { secrets = secrets_of rules; key = key }
 abbrev pub loaded_in : Secrets → Loaded
 loaded_in made = loaded_as made.rules.items (key_in made.key)
 
--- these secrets with a key
-abbrev pub LoadsByKey : List Given → List Secret → (key : List ℕ) → Secrets → Type 0
-LoadsByKey given secrets key made = loaded_in made ≡ loaded_by given secrets (Some key)
+-- no pattern of them is empty
+abbrev pub AreSome : Secrets → Type 0
+AreSome made = HaveNoEmpty (secrets_of made.rules.items)
+
+-- these rules with a key
+abbrev pub LoadsByKey : List Item → List Rule → (key : List ℕ) → Secrets → Type 0
+LoadsByKey items rules key made = loaded_in made ≡ loaded_by (all_given items) (secrets_of rules) (Some key)
 
 -- what a file holds is added
 pub record IsAddedFile (reading : Reading) (listed : Listed) (name : List ℕ) (old new : List Secret) (left left' : Option (List ℕ)) : Type 0 where

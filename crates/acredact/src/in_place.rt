@@ -6,14 +6,13 @@ ghost use Rattle.chromesquid.specs.Searcher.{ForItsPatterns};
 ghost use Rattle.tool_parts.specs.Arguments.{texts};
 ghost use Rattle.tool_parts.specs.Streams.{output_bytes};
 ghost use Rattle.tool_parts.specs.Telling.{TellsSome};
-ghost use Rattle.acredact.specs.Arguments.{AreMistaken, AsksInPlace, IfAsked, all_given};
+ghost use Rattle.acredact.specs.Arguments.{AreMistaken, AsksInPlace, IfAsked};
 ghost use Rattle.acredact.specs.Calls.{IsWrongFailure, IsWrongLine};
 ghost use Rattle.acredact.specs.Files.{CanDo};
 ghost use Rattle.acredact.specs.InPlace.{AskedPlaces, FreesAll, KeepsEach, LoadedPlaces, NameCounts, NameVolume, PlaceJob, PlacesAll, PlacesCount, PlacesJob, PlacesReach, PlacesTell, ReadyPlaces, SaysOfPlaces};
 ghost use Rattle.acredact.specs.Into.{IsKept, TellsUnread, WarnsAll};
-ghost use Rattle.acredact.specs.Loading.{loaded_in};
-ghost use Rattle.acredact.specs.Ready.{IsReadyFor};
-ghost use Rattle.acredact.specs.Tables.{HaveNoEmpty, secrets_of};
+ghost use Rattle.acredact.specs.Loading.{AreSome, loaded_in};
+ghost use Rattle.acredact.specs.Ready.{IsReadyBy};
 ghost use Rattle.acredact.specs.Totals.{JobCounts};
 ghost use Rattle.acredact.specs.Volumes.{JobVolume};
 
@@ -141,7 +140,7 @@ fn place_loaded<'a, F: Folder, O: Outputs, I: Read, E: Sink>(
     outputs: &mut O,
     streams: &mut Streams<'_, I, O::File, E>,
 ) -> Result<bool, Failure<'a>>
-    requires some { HaveNoEmpty (secrets_of secrets.now.rules.items) }
+    requires some { AreSome secrets.now }
     ensures outcome { LoadedPlaces O.File.Write E.Sink F.Folder O.Outputs
         folder.now given.now (loaded_in secrets.now) result outputs.old outputs.new streams.old streams.new }
 {
@@ -161,8 +160,8 @@ fn place_ready<'a, F: Folder, O: Outputs, I: Read, E: Sink>(
     outputs: &mut O,
     streams: &mut Streams<'_, I, O::File, E>,
 ) -> Result<bool, Failure<'a>>
-    requires some { HaveNoEmpty (secrets_of secrets.now.rules.items) }
-    requires ready { IsReadyFor (all_given given.now) (secrets_of secrets.now.rules.items) ready.now }
+    requires some { AreSome secrets.now }
+    requires ready { IsReadyBy given.now secrets.now ready.now }
     ensures outcome { ReadyPlaces O.File.Write E.Sink F.Folder O.Outputs
         folder.now given.now (loaded_in secrets.now) result outputs.old outputs.new streams.old streams.new }
 {

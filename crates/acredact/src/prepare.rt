@@ -1,17 +1,14 @@
 //! What is ready before any file is read: what is searched for, what is written in the place of that, and which files are read.
 
-ghost use Rattle.std.specs.Prelude.{◌≡◌, ◌⊎◌, IfErr, IfOk, OnErr, OnOk, Some, option_map, true};
+ghost use Rattle.std.specs.Prelude.{◌≡◌, IfErr, IfOk, OnErr, OnOk, Some, option_map, true};
 ghost use Rattle.tool_parts.specs.Names.{name_bytes};
 ghost use Rattle.acredact.specs.Arguments.{all_given, has};
-ghost use Rattle.acredact.specs.Builds.{patterns_by_given};
-ghost use Rattle.acredact.specs.Calls.{call_of, keyed_as, names_asked, redactor_by_given, text_asked, work_by};
-ghost use Rattle.acredact.specs.Checks.{IsBuildFailure};
-ghost use Rattle.acredact.specs.Doubts.{TellsDoubts, TellsWarnings};
-ghost use Rattle.acredact.specs.Files.{CanDo, keyed_of, redactor_of, work_of};
-ghost use Rattle.acredact.specs.Loading.{key_lent, loaded_in};
-ghost use Rattle.acredact.specs.Pieces.{IsJudged, TellsOfPieces, TellsUnclean};
-ghost use Rattle.acredact.specs.Ready.{CannotJudge, CannotPrepare, IsJobFor, IsReadyFor};
-ghost use Rattle.acredact.specs.Tables.{HaveNoEmpty, patterns_in, secrets_of};
+ghost use Rattle.acredact.specs.Calls.{keyed_as, names_asked, text_asked};
+ghost use Rattle.acredact.specs.Files.{CanDo, keyed_of};
+ghost use Rattle.acredact.specs.Loading.{AreSome, key_lent};
+ghost use Rattle.acredact.specs.Pieces.{IsJudged, TellsUnclean};
+ghost use Rattle.acredact.specs.Ready.{CannotBeReady, CannotBuild, CannotJudgeBy, IsJobBy, IsReadyBy, IsReadyFor, JudgesBy, TellsOfAll, TellsOfLists, redactor_loaded};
+ghost use Rattle.acredact.specs.Tables.{secrets_of};
 ghost use Rattle.acredact.specs.declared.arguments.Word.TheVariants.{Strict};
 ghost use Rattle.acredact.specs.declared.clean.Unclean.{Unclean};
 ghost use Rattle.acredact.specs.declared.failure.Failure.TheVariants.{Unclean as UncleanPiece};
@@ -53,13 +50,10 @@ pub fn prepare<'a, 'r, E: Sink>(
     secrets: &'r Secrets,
     errors: &mut Errors<'_, E>,
 ) -> Result<Ready<'r>, Failure<'a>>
-    ensures ready { IfOk result (IsReadyFor (all_given given.now) (secrets_of secrets.entry.now.rules.items)) }
-    ensures told { OnOk result (TellsWarnings E.Sink (has Strict (all_given given.now)) (all_given given.now)
-        (secrets_of secrets.entry.now.rules.items) (redactor_by_given (all_given given.now) (loaded_in secrets.entry.now))
-        errors.old errors.new) }
-    ensures fails { IfErr result (CannotPrepare (all_given given.now) (loaded_in secrets.entry.now)) }
-    ensures untold { OnErr result ((errors.new ≡ errors.old) ⊎ TellsDoubts E.Sink (has Strict (all_given given.now))
-        (all_given given.now) (secrets_of secrets.entry.now.rules.items) errors.old errors.new) }
+    ensures ready { IfOk result (IsReadyBy given.now secrets.now) }
+    ensures told { OnOk result (TellsOfAll E.Sink given.now secrets.now errors.old errors.new) }
+    ensures fails { IfErr result (CannotBeReady given.now secrets.now) }
+    ensures untold { OnErr result (TellsOfLists E.Sink given.now secrets.now errors.old errors.new) }
 {
     let strict = has(given, Word::Strict);
     match warn_of_lists(errors, given, secrets.rules.as_slice(), strict) {
@@ -76,10 +70,9 @@ fn prepare_pieces<'a, 'r, E: Sink>(
     secrets: &'r Secrets,
     errors: &mut Errors<'_, E>,
 ) -> Result<Ready<'r>, Failure<'a>>
-    ensures ready { IfOk result (IsReadyFor (all_given given.now) (secrets_of secrets.entry.now.rules.items)) }
-    ensures told { OnOk result (TellsOfPieces E.Sink (has Strict (all_given given.now))
-        (redactor_by_given (all_given given.now) (loaded_in secrets.entry.now)) errors.old errors.new) }
-    ensures fails { IfErr result (CannotJudge (all_given given.now) (loaded_in secrets.entry.now)) }
+    ensures ready { IfOk result (IsReadyBy given.now secrets.now) }
+    ensures told { OnOk result (JudgesBy E.Sink given.now secrets.now errors.old errors.new) }
+    ensures fails { IfErr result (CannotJudgeBy given.now secrets.now) }
     ensures untold { OnErr result (errors.new ≡ errors.old) }
 {
     let rules = secrets.rules.as_slice();
@@ -102,9 +95,8 @@ pub fn ready_of<'a, 'r>(
     rules: &'r [Rule],
     finds_all: bool,
 ) -> Result<Ready<'r>, Failure<'a>>
-    ensures ready { IfOk result (IsReadyFor (all_given given.now) (secrets_of rules.entry.now)) }
-    ensures refused { IfErr result (IsBuildFailure (patterns_by_given (all_given given.now)
-        (patterns_in (secrets_of rules.entry.now)))) }
+    ensures ready { IfOk result (IsReadyFor (all_given given.now) (secrets_of rules.now)) }
+    ensures refused { IfErr result (CannotBuild given.now rules.now) }
 {
     let patterns = patterns_of(alloc, rules)?;
     let replacements = replacements_of(alloc, rules, text_of(given))?;
@@ -128,11 +120,10 @@ fn judged<'a, 'r, E: Sink>(
     ready: Ready<'r>,
     errors: &mut Errors<'_, E>,
 ) -> Result<Ready<'r>, Failure<'a>>
-    requires ready { IsReadyFor (all_given given.now) (secrets_of secrets.now.rules.items) ready }
-    ensures ready { IfOk result (IsReadyFor (all_given given.now) (secrets_of secrets.now.rules.items)) }
-    ensures told { OnOk result (TellsOfPieces E.Sink (has Strict (all_given given.now))
-        (redactor_by_given (all_given given.now) (loaded_in secrets.now)) errors.old errors.new) }
-    ensures fails { IfErr result (CannotJudge (all_given given.now) (loaded_in secrets.now)) }
+    requires ready { IsReadyBy given.now secrets.now ready }
+    ensures ready { IfOk result (IsReadyBy given.now secrets.now) }
+    ensures told { OnOk result (JudgesBy E.Sink given.now secrets.now errors.old errors.new) }
+    ensures fails { IfErr result (CannotJudgeBy given.now secrets.now) }
     ensures untold { OnErr result (errors.new ≡ errors.old) }
 {
     let unclean = unclean_in(given, secrets, &ready);
@@ -145,8 +136,8 @@ fn judged<'a, 'r, E: Sink>(
 
 /// The first pattern whose piece is not clean, of what is ready.
 fn unclean_in(given: &[Item<'_>], secrets: &Secrets, ready: &Ready<'_>) -> Option<Unclean>
-    requires ready { IsReadyFor (all_given given.now) (secrets_of secrets.now.rules.items) ready.now }
-    ensures judged { IsJudged (redactor_by_given (all_given given.now) (loaded_in secrets.now)) result }
+    requires ready { IsReadyBy given.now secrets.now ready.now }
+    ensures judged { IsJudged (redactor_loaded given.now secrets.now) result }
 {
     let judge = Judge {
         words: ready.patterns.as_slice(),
@@ -189,11 +180,10 @@ pub fn job_of<'s, 't, F: Folder>(
     ready: &'s Ready<'t>,
     folder: &'s F,
 ) -> Job<'s, 't, F>
-    ensures job { IsReadyFor (all_given given.now) (secrets_of secrets.entry.now.rules.items) ready.entry.now
-        → IsJobFor folder.entry.now (all_given given.now) (loaded_in secrets.entry.now) result }
-    ensures can { HaveNoEmpty (secrets_of secrets.entry.now.rules.items)
-        → IsReadyFor (all_given given.now) (secrets_of secrets.entry.now.rules.items) ready.entry.now
-        → CanDo ⟦<AhoCorasick as Automaton>⟧ ready.entry.now.searcher result }
+    ensures job { IsReadyBy given.now secrets.now ready.now
+        → IsJobBy given.now secrets.now folder.now result }
+    ensures can { AreSome secrets.now → IsReadyBy given.now secrets.now ready.now
+        → CanDo ⟦<AhoCorasick as Automaton>⟧ ready.now.searcher result }
 {
     Job {
         alloc,

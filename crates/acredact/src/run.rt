@@ -13,13 +13,13 @@ ghost use Rattle.acredact.specs.Checks.{MatchedAsked, SaysOfCheck, TellsListsAsk
 ghost use Rattle.acredact.specs.Counts.{PutsText, lines_of_rules, secret_lines};
 ghost use Rattle.acredact.specs.Failures.{IsFailureLine};
 ghost use Rattle.acredact.specs.Files.{CanDo};
-ghost use Rattle.acredact.specs.Loading.{loaded_in};
-ghost use Rattle.acredact.specs.Ready.{IsReadyFor};
+ghost use Rattle.acredact.specs.Loading.{AreSome, loaded_in};
+ghost use Rattle.acredact.specs.Ready.{IsReadyBy};
 ghost use Rattle.acredact.specs.RuledChecks.{RuledFindingsBegin, RuledFound, RuledClean, SaysOfRulesCheck, ListsByRules};
 ghost use Rattle.acredact.specs.Ruled.{NotesAsked, RuledAsked, RuledBegins, RuledCountsAsked, RuledTells, SaysOfRules};
 ghost use Rattle.acredact.specs.Statuses.{IsIdle, SaysOfRedaction};
 ghost use Rattle.acredact.specs.Sums.{sums_of};
-ghost use Rattle.acredact.specs.Tables.{HaveNoEmpty, secrets_of};
+ghost use Rattle.acredact.specs.Tables.{secrets_of};
 ghost use Rattle.acredact.specs.Summaries.{counts_told_by, summary_told_by, totals_text};
 ghost use Rattle.acredact.specs.Totals.{JobCounts};
 ghost use Rattle.acredact.specs.Volumes.{JobVolume};
@@ -302,7 +302,7 @@ fn redact_loaded<'a, F: Folder, I: Read, W: Write, E: Sink>(
     folder: &F,
     streams: &mut Streams<'_, I, W, E>,
 ) -> Result<bool, Failure<'a>>
-    requires some { HaveNoEmpty (secrets_of secrets.now.rules.items) }
+    requires some { AreSome secrets.now }
     ensures outcome { LoadOutcome W.Write E.Sink F.Folder folder.now (all_given given.now)
         (loaded_in secrets.now) result streams.old streams.new }
     ensures flushed { OnOk result (streams.new.output.device.flushed ≡ true) }
@@ -322,8 +322,8 @@ fn redact_ready<'a, F: Folder, I: Read, W: Write, E: Sink>(
     folder: &F,
     streams: &mut Streams<'_, I, W, E>,
 ) -> Result<bool, Failure<'a>>
-    requires some { HaveNoEmpty (secrets_of secrets.now.rules.items) }
-    requires ready { IsReadyFor (all_given given.now) (secrets_of secrets.now.rules.items) ready.now }
+    requires some { AreSome secrets.now }
+    requires ready { IsReadyBy given.now secrets.now ready.now }
     ensures outcome { ReadyOutcome W.Write E.Sink F.Folder folder.now (all_given given.now)
         (loaded_in secrets.now) result streams.old streams.new }
     ensures flushed { OnOk result (streams.new.output.device.flushed ≡ true) }

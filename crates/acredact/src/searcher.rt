@@ -4,7 +4,7 @@ ghost use Rattle.std.specs.Prelude.{◌≡◌, IfErr, IfOk, true};
 ghost use Rattle.aho_core.specs.Replacement.{pieces_of};
 ghost use Rattle.aho_core.specs.declared.search.Anchored.TheVariants.{No};
 ghost use Rattle.chromesquid.specs.Searcher.{Answers, IsBuiltFrom};
-ghost use Rattle.acredact.specs.Builds.{RefusesPatterns, building_asked, patterns_asked};
+ghost use Rattle.acredact.specs.Builds.{RefusesPatterns, building_of_kind, patterns_by_kind};
 
 use chromesquid::{AhoCorasick, AhoCorasickBuilder, BuildError, MatchKind};
 use std::alloc::Global;
@@ -23,16 +23,16 @@ pub fn searcher_of(
     patterns: &[&[u8]],
 ) -> Result<AhoCorasick, BuildError>
     ensures of { IfOk result (λ built.
-        IsBuiltFrom built (patterns_asked kind ignore_case (pieces_of patterns.now))) }
+        IsBuiltFrom built (patterns_by_kind kind ignore_case (pieces_of patterns.now))) }
     ensures answers { IfOk result (λ built. Answers built No) }
-    ensures refused { IfErr result (RefusesPatterns (patterns_asked kind ignore_case (pieces_of patterns.now))) }
+    ensures refused { IfErr result (RefusesPatterns (patterns_by_kind kind ignore_case (pieces_of patterns.now))) }
 {
     builder_for(kind, ignore_case, finds_all).build(alloc, patterns)
 }
 
 /// How it is built.
 fn builder_for(kind: MatchKind, ignore_case: bool, finds_all: bool) -> AhoCorasickBuilder
-    ensures asked { result ≡ building_asked kind ignore_case finds_all }
+    ensures asked { result ≡ building_of_kind kind ignore_case finds_all }
 {
     AhoCorasickBuilder::new()
         .match_kind(kind)

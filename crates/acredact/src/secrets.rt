@@ -1,11 +1,10 @@
 //! What is loaded before any file is read: the rules of all patterns, and the key of pseudonyms.
 
-ghost use Rattle.std.specs.Prelude.{◌≡◌, ℕ, List, Option, IfErr, IfOk};
+ghost use Rattle.std.specs.Prelude.{◌≡◌, Option, IfErr, IfOk};
 ghost use Rattle.tool_parts.specs.Streams.{bytes_left};
 ghost use Rattle.acredact.specs.Arguments.{all_given, has};
-ghost use Rattle.acredact.specs.Calls.{CannotLoadCall, call_of, reading_by};
-ghost use Rattle.acredact.specs.Loading.{AreGiven, AreLoaded, LoadsByKey, loaded_in, key_in, key_lent};
-ghost use Rattle.acredact.specs.Tables.{HaveNoEmpty, secrets_of};
+ghost use Rattle.acredact.specs.Calls.{AreLoadedBy, CannotLoadBy, LoadsBeside};
+ghost use Rattle.acredact.specs.Loading.{AreSome, LoadsByKey, key_in, key_lent};
 ghost use Rattle.acredact.specs.declared.arguments.Word.TheVariants.{IgnoreCase};
 
 use crate::arguments::{Item, Word, has};
@@ -35,10 +34,9 @@ pub fn load<'a, F: Folder, I: Read>(
     folder: &F,
     input: &mut FromRead<I>,
 ) -> Result<Secrets, Failure<'a>>
-    ensures loaded { IfOk result (λ secrets. AreLoaded (reading_by (call_of F.Folder folder.now (all_given given.now)))
-        (all_given given.now) (loaded_in secrets) (bytes_left input.old) (bytes_left input.new)) }
-    ensures some { IfOk result (λ secrets. HaveNoEmpty (secrets_of secrets.rules.items)) }
-    ensures fails { IfErr result (CannotLoadCall (call_of F.Folder folder.now (all_given given.now))) }
+    ensures loaded { IfOk result (AreLoadedBy F.Folder folder.now given.now (bytes_left input.old) (bytes_left input.new)) }
+    ensures some { IfOk result AreSome }
+    ensures fails { IfErr result (CannotLoadBy F.Folder folder.now given.now) }
 {
     let lists = lists_of(alloc, given, folder);
     match rules(&lists, given, input) {
@@ -55,12 +53,9 @@ fn load_key<'a, F: Folder, I: Read>(
     folder: &F,
     input: &mut FromRead<I>,
 ) -> Result<Secrets, Failure<'a>>
-    ensures loaded { (left : Option (List ℕ))
-        → AreGiven (reading_by (call_of F.Folder folder.now (all_given given.now))) (all_given given.now)
-        (secrets_of rules.items) left (bytes_left input.old)
-        → IfOk result (λ secrets. AreLoaded (reading_by (call_of F.Folder folder.now (all_given given.now)))
-        (all_given given.now) (loaded_in secrets) left (bytes_left input.new)) }
-    ensures fails { IfErr result (CannotLoadCall (call_of F.Folder folder.now (all_given given.now))) }
+    ensures loaded { LoadsBeside F.Folder folder.now given.now rules.items result
+        (bytes_left input.old) (bytes_left input.new) }
+    ensures fails { IfErr result (CannotLoadBy F.Folder folder.now given.now) }
 {
     let lists = lists_of(alloc, given, folder);
     match key_of(&lists, given, input) {
@@ -77,7 +72,7 @@ fn with_key(
     rules: Vec<Rule>,
     key: Vec<u8>,
 ) -> Result<Secrets, AllocError>
-    ensures loaded { IfOk result (LoadsByKey (all_given given.now) (secrets_of rules.items) key.items) }
+    ensures loaded { IfOk result (LoadsByKey given.now rules.items key.items) }
 {
     if !has(given, Word::Forms) {
         return Ok(Secrets {

@@ -7,3 +7,9 @@ look_at_files-requires g c = record { ready = look_as _ _ _ c.in-Some.ensures.st
 
 pub returns-in-Some : goal.returns-in-Some
 returns-in-Some g c = record { sees = λ p of. c.look_at_files.ensures.sees p (c.in-Some.ensures.stands.of p of) }
+
+pub returns-in-Some-levels : goal.returns-in-Some-levels
+returns-in-Some-levels g c = record { sees = λ p of. c.look_at_files-in-Some-levels.ensures.sees p (c.in-Some-levels.ensures.stands.of p of) }
+
+pub returns-in-None : goal.returns-in-None
+returns-in-None g c = record { sees = λ p of. c.look_at_files-in-None.ensures.sees p (c.itself.ensures.stands.of p of) }

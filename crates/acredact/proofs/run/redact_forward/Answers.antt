@@ -10,3 +10,15 @@ returns-in-Some-clause-outcome g c = λ p of. c.redact_files.ensures.outcome p (
 
 pub returns-in-Some-clause-counted : goal.returns-in-Some-clause-counted
 returns-in-Some-clause-counted g c = λ p of. c.redact_files.ensures.counted p (c.in-Some.ensures.stands.of p of)
+
+pub returns-in-Some-levels-clause-outcome : goal.returns-in-Some-levels-clause-outcome
+returns-in-Some-levels-clause-outcome g c = λ p of. c.redact_files-in-Some-levels.ensures.outcome p (c.in-Some-levels.ensures.stands.of p of)
+
+pub returns-in-Some-levels-clause-counted : goal.returns-in-Some-levels-clause-counted
+returns-in-Some-levels-clause-counted g c = λ p of. c.redact_files-in-Some-levels.ensures.counted p (c.in-Some-levels.ensures.stands.of p of)
+
+pub returns-in-None-clause-outcome : goal.returns-in-None-clause-outcome
+returns-in-None-clause-outcome g c = λ p of. c.redact_files-in-None.ensures.outcome p (c.itself.ensures.stands.of p of)
+
+pub returns-in-None-clause-counted : goal.returns-in-None-clause-counted
+returns-in-None-clause-counted g c = λ p of. c.redact_files-in-None.ensures.counted p (c.itself.ensures.stands.of p of)
