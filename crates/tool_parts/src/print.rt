@@ -8,8 +8,7 @@ ghost use Rattle.tool_parts.specs.Failures.{IsOfWrite};
 ghost use Rattle.tool_parts.specs.Streams.{CountsWrites, WritesBeginning, WritesBytes, WritesNothing};
 
 use crate::failure::Failure;
-use chromesquid::write_whole as write_all;
-use chromesquid::{FromWrite, Match, Sink};
+use chromesquid::{FromWrite, Match, Sink, write_whole as write_all};
 use itoa::write_digits;
 use std::io::Write;
 
