@@ -26,9 +26,9 @@ use crate::select::Job;
 use crate::tell::{tell_memory, tell_missed};
 use crate::walk::{Found, Unread, walk};
 use chromesquid::{AhoCorasick, Sink};
-use tool_parts::errors::Errors;
 use std::alloc::{AllocError, Global};
 use std::io::Read;
+use tool_parts::errors::Errors;
 
 /// Searches the files that these operands name.
 pub fn search_operands<F: Open + Folders, R: Read, W: Sink, E: Sink>(

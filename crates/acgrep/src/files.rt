@@ -24,11 +24,11 @@ use crate::stream::search_front;
 use crate::tell::tell_memory;
 use crate::unread::{tell_closed, tell_same, tell_stop, tell_total, tell_unreadable};
 use chromesquid::{AhoCorasick, Sink, write_whole};
-use tool_parts::errors::Errors;
-use tool_parts::reason::Reason;
 use std::alloc::Global;
 use std::io::{Read, Write};
 use std::{io, str};
+use tool_parts::errors::Errors;
+use tool_parts::reason::Reason;
 
 /// The files of a call.
 #[derive(Clone, Copy)]

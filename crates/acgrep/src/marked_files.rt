@@ -19,13 +19,13 @@ use crate::select::Job;
 use crate::tell::{PROGRAM, tell_memory};
 use crate::unread::{tell_closed, tell_same, tell_stop, tell_total, tell_unread, tell_unreadable};
 use chromesquid::{Automaton, FromRead, Sink};
-use tool_parts::errors::Errors;
-use tool_parts::reason::Reason;
 use rule_files::{RuleFlaw, bad_rule, tell_rule};
 use secret_rules::{LineCover, Rule};
 use std::alloc::Global;
 use std::cell::Cell;
 use std::io::Read;
+use tool_parts::errors::Errors;
+use tool_parts::reason::Reason;
 
 /// What stands for a file in messages about a rule that cannot be used.
 const RULES: &[u8] = b"--rules";

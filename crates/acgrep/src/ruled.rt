@@ -27,11 +27,11 @@ use crate::run::{job_of, with_rules};
 use crate::tell::{PROGRAM, tell_memory};
 use chromesquid::noncontiguous::NFA;
 use chromesquid::{Automaton, BuildError, Sink};
-use tool_parts::errors::Errors;
 use rule_files::{MAX_DIGITS, digits_of};
 use secret_rules::{LineCover, Rules};
 use std::alloc::Global;
 use std::io::Read;
+use tool_parts::errors::Errors;
 
 /// How many bytes a line may have, where nothing else is said.
 const USUAL_MOST: u64 = 1024 * 1024;
