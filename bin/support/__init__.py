@@ -72,14 +72,10 @@ def end_of(child, seconds, given=None):
         return None
 
 
-def with_part(page, command, lines):
-    """A page with these lines between the marks that name the command which writes them."""
-    return re.sub(PART.format(re.escape(command)), lambda it: it[1] + "\n".join(lines) + "\n" + it[2], page, count=1, flags=re.S)
-
-
 def write_part(command, lines):
     """Writes these lines into docs/SPEED.md, between the marks that name the command."""
-    write(os.path.join(TOP, "docs", "SPEED.md"), with_part(read("docs/SPEED.md"), command, lines))
+    page = re.sub(PART.format(re.escape(command)), lambda it: it[1] + "\n".join(lines) + "\n" + it[2], read("docs/SPEED.md"), count=1, flags=re.S)
+    write(os.path.join(TOP, "docs", "SPEED.md"), page)
 
 
 def help_or_usage(words, told, usage, *known):

@@ -65,14 +65,14 @@ def sown(dice, words, text, each=EACH, around=b""):
     return bytes(text)
 
 
-def put_words_and_text(dice, folder, count, block, blocks):
+def put_words_and_text(dice, folder, count, block):
     """Writes so many words, and a text in which they stand."""
     words = unlike(dice, count)
     piece = sown(dice, words, block, around=b" ")
-    return write(os.path.join(folder, "words"), b"\n".join(words) + b"\n"), write_blocks(folder, piece, blocks)
+    return write(os.path.join(folder, "words"), b"\n".join(words) + b"\n"), write_blocks(folder, piece)
 
 
-def write_blocks(folder, piece, blocks):
+def write_blocks(folder, piece, blocks=BLOCKS):
     """Writes a text that is so often this piece."""
     with open(os.path.join(folder, "text"), "wb") as file:
         for _ in range(blocks):
