@@ -3,7 +3,7 @@ use Rattle.std.specs.Prelude.{ℕ, ◌==◌, ◌||◌, List, [], ◌∷◌, ◌+
 use Rattle.std.specs.List.{flat_map}
 use Rattle.secret_rules.specs.declared.rule.Rule.{Rule}
 use Rattle.acredact.specs.Doubts.{last_of}
-use Rattle.acredact.specs.Messages.{digits_in}
+use Rattle.rule_files.specs.Messages.{digits_in}
 use Rattle.acredact.specs.Summaries.{amounts_text}
 use Rattle.acredact.specs.declared.summary.Volume.{Volume}
 

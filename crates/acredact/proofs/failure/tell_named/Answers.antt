@@ -2,7 +2,7 @@
 use Rattle.std.proofs.Common.{rules, ◌≡◌, ℕ, List, ◌++◌, sym, subst, true, codes}
 use Rattle.tool_parts.specs.Telling.{TellsBytes}
 use Rattle.tool_parts.proofs.Tellings.{tells-later}
-use Rattle.acredact.specs.Messages.{shown}
+use Rattle.rule_files.specs.Messages.{as_shown}
 use Rattle.acredact.proofs.ShownNames.{three_parts}
 use Rattle.acredact.proofs.failure.tell_named.Goals as goal
 
@@ -16,6 +16,6 @@ returns-then-is_plain g c =
 pub returns : goal.returns
 returns g c = record {
   told = subst (TellsBytes g.E.Sink c.args.errors.now c.write-3.new.self)
-      (three_parts (codes "acredact") (codes ": ") c.args.before.now (shown c.args.name.now) c.args.behind.now (codes "\n"))
+      (three_parts (codes "acredact") (codes ": ") c.args.before.now (as_shown c.args.name.now) c.args.behind.now (codes "\n"))
       (tells-later g.E.Sink (tells-later g.E.Sink c.write-2.ensures.told c.write_shown.ensures.told) c.write-3.ensures.told);
 }
