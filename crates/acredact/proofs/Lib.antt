@@ -10,8 +10,7 @@ mod Summing
 mod Runs
 mod PartLines
 mod Valued
--- names in messages, and what is told of doubtful patterns
-mod ShownNames
+-- what is told of doubtful patterns
 mod Doubting
 mod Shortest
 -- what is written is a redaction, or begins one

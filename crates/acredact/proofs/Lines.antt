@@ -58,9 +58,9 @@ pub line_last : (all front : List (List ℕ)) (rest : List ℕ) → all ≡ fron
 line_last all front rest is without = is ∙ ap (λ l. front ++ l) (slice_split_none (λ b. nat_eq b 10) rest without)
 
 -- a text that is not empty has lines
-pub lines_some : (text : List ℕ) → 1 ≤ length text → lines_in text ≡ slice_split (λ b. nat_eq b 10) (strip_last 10 text)
-lines_some [] some = absurd (omega (arith, some))
-lines_some (byte ∷ bytes) some = refl
+pub lines_of_some : (text : List ℕ) → 1 ≤ length text → lines_in text ≡ slice_split (λ b. nat_eq b 10) (strip_last 10 text)
+lines_of_some [] some = absurd (omega (arith, some))
+lines_of_some (byte ∷ bytes) some = refl
 
 -- the line behind some others is at fault
 pub fault_at : (form : Form) (lines front rest : List (List ℕ)) (line : List ℕ) (number : ℕ) (bad : BadLine) → lines ≡ front ++ (line ∷ rest) → number ≡ min (length front + 1) (2 ^ 64 - 1)

@@ -3,7 +3,7 @@ use Rattle.std.proofs.Common.{◌≡◌, inl, inr, ℕ, ◌≤◌, ◌-◌, List
 use Rattle.std.specs.Prelude.{Bool, MatchBool, IfSome, true, false}
 use Rattle.std.specs.Io.KnownBytes.{Keeps}
 use Rattle.std.proofs.KnownBytes.{Consumes-all}
-use Rattle.std.proofs.Math.Seq.{take-length}
+use Rattle.std.proofs.lemmas.List.{take_rest}
 use Rattle.tool_parts.specs.Names.{is_input}
 use Rattle.acredact.specs.declared.arguments.Item.{Item}
 use Rattle.acredact.specs.declared.failure.Failure.{Failure}
@@ -38,9 +38,7 @@ module _ (reading : Reading) (all : List Given) (before : Option (List ℕ)) whe
       → IsAddedItem reading (given_of (get_or items 0 other)) old new between left → GivenSoFar (all_given (take (length items - 1) (drop 1 items))) new left
   given_next [] other old new between left some so added = absurd (omega (arith, some))
   given_next (item ∷ items) other old new between left some so added =
-      let count : length (item ∷ items) - 1 ≡ length items = omega arith in
-      let rest : take (length (item ∷ items) - 1) items ≡ items = ap (λ n. take n items) count ∙ take-length items in
-      subst (λ (items : List Item). GivenSoFar (all_given items) new left) (sym rest) (given_more (given_of item) (all_given items) old new between left so added)
+      subst (λ (items : List Item). GivenSoFar (all_given items) new left) (sym (take_rest (item ∷ items) 1)) (given_more (given_of item) (all_given items) old new between left so added)
 
   pub given_fails : (items : List Item) (other : Item) (secrets : List Secret) (between : Option (List ℕ)) (failure : Failure) → 1 ≤ length items → GivenSoFar (all_given items) secrets between
       → CannotLoad reading (given_of (get_or items 0 other)) failure → CannotLoadOne reading all failure

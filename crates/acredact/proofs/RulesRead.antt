@@ -1,7 +1,7 @@
 -- The rules that options give, one after another.
 use Rattle.std.proofs.Common.{◌≡◌, ℕ, ◌≤◌, ◌-◌, List, [], ◌∷◌, ◌++◌, Option, length, take, drop, get_or, refl, sym, ap, subst, ◌∙◌, append-nil, append_assoc, arith, true, false}
 use Rattle.std.specs.Prelude.{Bool, MatchBool}
-use Rattle.std.proofs.Math.Seq.{take-length}
+use Rattle.std.proofs.lemmas.List.{take_rest}
 use Rattle.secret_rules.specs.Tables.{TellsRules}
 use Rattle.secret_rules.specs.declared.rule.Rule.{Rule}
 use Rattle.acredact.specs.declared.arguments.Item.{Item}
@@ -32,9 +32,7 @@ module _ (reading : Reading) (all : List Given) (before : Option (List ℕ)) whe
       → IsAddedRules (OptionGivesRules reading (given_of (get_or items 0 other)).word (given_of (get_or items 0 other)).value) old new between left → RulesSoFar (all_given (take (length items - 1) (drop 1 items))) new left
   rules_next [] other old new between left some so added = absurd (omega (arith, some))
   rules_next (item ∷ items) other old new between left some so added =
-      let count : length (item ∷ items) - 1 ≡ length items = omega arith in
-      let rest : take (length (item ∷ items) - 1) items ≡ items = ap (λ n. take n items) count ∙ take-length items in
-      subst (λ (items : List Item). RulesSoFar (all_given items) new left) (sym rest) (rules_more (given_of item) (all_given items) old new between left so added)
+      subst (λ (items : List Item). RulesSoFar (all_given items) new left) (sym (take_rest (item ∷ items) 1)) (rules_more (given_of item) (all_given items) old new between left so added)
 
   pub rules_none : RulesSoFar all [] before
   rules_none = record { given = λ more left given. given }

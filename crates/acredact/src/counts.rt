@@ -1,8 +1,7 @@
 //! How many matches of each pattern were replaced.
 
-ghost use Rattle.std.specs.Prelude.{◌≡◌, IfOk, OnErr, OnOk, decimal};
+ghost use Rattle.std.specs.Prelude.{◌≡◌, IfOk, OnOk, decimal};
 ghost use Rattle.acredact.specs.Counts.{PutsText, count_line, counts_told, place_told, zeros};
-ghost use Rattle.tool_parts.specs.Telling.{TellsBytes};
 
 use crate::patterns::Rule;
 use chromesquid::Sink;

@@ -1,6 +1,6 @@
 //! Names that are put at the end of a text: each control character as `\x` and two hexadecimal digits.
 
-ghost use Rattle.std.specs.Prelude.{◌≡◌, OnOk};
+ghost use Rattle.std.specs.Prelude.{OnOk};
 ghost use Rattle.rule_files.specs.Messages.{as_shown, digits_in, shown_byte};
 ghost use Rattle.acredact.specs.Counts.{PutsText};
 

@@ -2,7 +2,6 @@
 use Rattle.std.proofs.Common.{List, ℕ, ◌++◌, ap, subst, ◌∙◌, append-nil}
 use Rattle.std.specs.Prelude.{codes}
 use Rattle.tool_parts.specs.Telling.{TellsBytes}
-use Rattle.acredact.specs.Messages.{numbered_line}
 use Rattle.acredact.proofs.failure.tell_with_other.Goals as goal
 
 pub returns : goal.returns
