@@ -3,7 +3,7 @@ use Rattle.std.specs.Prelude.{◌≡◌, ◌⊎◌, ℕ, Bool, true, false, List
 use Rattle.tool_parts.specs.Failures.{failure_text}
 use Rattle.tool_parts.specs.Messages.{Message, reason_text}
 use Rattle.tool_parts.specs.declared.failure.Failure.{Failure as OtherFailure}
-use Rattle.tool_parts.specs.declared.failure.Failure.TheVariants.{Usage, Build, Search, OutOfMemory, PositionLimit, Read, Write, WriteZero}
+use Rattle.tool_parts.specs.declared.failure.Failure.TheVariants.{Write, WriteZero}
 use Rattle.acredact.specs.LineFaults.{line_fault_text}
 use Rattle.tool_parts.specs.declared.reason.Reason.{Reason}
 use Rattle.acredact.specs.Messages.{about, alone, line_about, message_about, numbered_line, told_line, unclean_line}
@@ -14,14 +14,9 @@ use Rattle.acredact.specs.declared.patterns.BadLine.{BadLine}
 
 -- the output failed, or took nothing
 abbrev pub is_of_output : OtherFailure → Bool
-is_of_output Usage = false
-is_of_output (Build error) = false
-is_of_output (Search error) = false
-is_of_output OutOfMemory = false
-is_of_output PositionLimit = false
-is_of_output Read = false
 is_of_output Write = true
 is_of_output WriteZero = true
+is_of_output other = false
 
 -- the line that tells a failure of the library
 abbrev pub IsOtherLine : OtherFailure → List ℕ → Type 0

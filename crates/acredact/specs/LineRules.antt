@@ -13,7 +13,7 @@ use Rattle.acredact.specs.LineSizes.{size_in}
 use Rattle.acredact.specs.Loading.{Reading, reading_of_lists}
 use Rattle.acredact.specs.Reads.{OfName, ReadsText}
 use Rattle.acredact.specs.declared.arguments.Word.{Word}
-use Rattle.acredact.specs.declared.arguments.Word.TheVariants.{IgnoreCase, Kind, Pattern, Patterns, Table, Env, EnvFile, Whole, With, Pseudonym, Forms, AsWord, Rules, After, MaxLine, Output, InPlace, Count, Summary, Crlf, AllowEmpty, Strict, Check, Help, Version, File}
+use Rattle.acredact.specs.declared.arguments.Word.TheVariants.{Rules, After, MaxLine}
 use Rattle.acredact.specs.declared.folder.Folder.{Ghosts as Folders}
 use Rattle.acredact.specs.declared.load.Lists.{Lists}
 
@@ -59,30 +59,7 @@ GivesNoRules rules left left' = (rules ≡ []) × (left' ≡ left)
 abbrev pub OptionGivesRules : Reading → Word → List ℕ → List Rule → (left left' : Option (List ℕ)) → Type 0
 OptionGivesRules reading Rules value rules left left' = GivesNamedRules reading value rules left left'
 OptionGivesRules reading After value rules left left' = GivesBehind value rules × (left' ≡ left)
-OptionGivesRules reading Pattern value rules left left' = GivesNoRules rules left left'
-OptionGivesRules reading Patterns value rules left left' = GivesNoRules rules left left'
-OptionGivesRules reading Table value rules left left' = GivesNoRules rules left left'
-OptionGivesRules reading Env value rules left left' = GivesNoRules rules left left'
-OptionGivesRules reading EnvFile value rules left left' = GivesNoRules rules left left'
-OptionGivesRules reading Whole value rules left left' = GivesNoRules rules left left'
-OptionGivesRules reading IgnoreCase value rules left left' = GivesNoRules rules left left'
-OptionGivesRules reading AsWord value rules left left' = GivesNoRules rules left left'
-OptionGivesRules reading Kind value rules left left' = GivesNoRules rules left left'
-OptionGivesRules reading With value rules left left' = GivesNoRules rules left left'
-OptionGivesRules reading Pseudonym value rules left left' = GivesNoRules rules left left'
-OptionGivesRules reading Forms value rules left left' = GivesNoRules rules left left'
-OptionGivesRules reading MaxLine value rules left left' = GivesNoRules rules left left'
-OptionGivesRules reading Output value rules left left' = GivesNoRules rules left left'
-OptionGivesRules reading Count value rules left left' = GivesNoRules rules left left'
-OptionGivesRules reading Summary value rules left left' = GivesNoRules rules left left'
-OptionGivesRules reading Crlf value rules left left' = GivesNoRules rules left left'
-OptionGivesRules reading InPlace value rules left left' = GivesNoRules rules left left'
-OptionGivesRules reading AllowEmpty value rules left left' = GivesNoRules rules left left'
-OptionGivesRules reading Strict value rules left left' = GivesNoRules rules left left'
-OptionGivesRules reading Check value rules left left' = GivesNoRules rules left left'
-OptionGivesRules reading Help value rules left left' = GivesNoRules rules left left'
-OptionGivesRules reading Version value rules left left' = GivesNoRules rules left left'
-OptionGivesRules reading File value rules left left' = GivesNoRules rules left left'
+OptionGivesRules reading other value rules left left' = GivesNoRules rules left left'
 
 -- those that all options give, in order
 abbrev pub AreRulesRead : Reading → List Given → List Rule → (left left' : Option (List ℕ)) → Type 0
