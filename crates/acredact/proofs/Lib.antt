@@ -58,7 +58,6 @@ mod Readings
 mod Ready
 mod Naming
 -- calls with rules
-mod RulesRead
 mod LongLines
 mod RuledText
 mod RuledFiles

@@ -107,11 +107,15 @@ OptionGives reading EnvFile value secrets left left' = GivesSecrets reading Vari
 OptionGives reading Whole value secrets left left' = GivesSecrets reading WholeFile value secrets left left'
 OptionGives reading other value secrets left left' = (secrets ≡ []) × (left' ≡ left)
 
--- the secrets that all options give, in order
+-- what all options give, in order, where each gives what this says
+abbrev pub EachGives : {X : Type 0} → (Gives : Given → List X → (left left' : Option (List ℕ)) → Type 0) → List Given → List X → (left left' : Option (List ℕ)) → Type 0
+EachGives Gives [] all left left' = (all ≡ []) × (left' ≡ left)
+EachGives {X} Gives (item ∷ items) all left left' = (first : List X) × (rest : List X) × (all ≡ first ++ rest)
+    × (between : Option (List ℕ)) × Gives item first left between × EachGives Gives items rest between left'
+
+-- the secrets that they give
 abbrev pub AreRead : Reading → List Given → List Secret → (left left' : Option (List ℕ)) → Type 0
-AreRead reading [] secrets left left' = (secrets ≡ []) × (left' ≡ left)
-AreRead reading (item ∷ items) secrets left left' = (first : List Secret) × (rest : List Secret) × (secrets ≡ first ++ rest)
-    × (between : Option (List ℕ)) × OptionGives reading item.word item.value first left between × AreRead reading items rest between left'
+AreRead reading given secrets left left' = EachGives (λ item. OptionGives reading item.word item.value) given secrets left left'
 
 -- and behind them those of their forms, outside of which the forms show no character that holds a bit of a secret
 pub record AreGiven (reading : Reading) (given : List Given) (secrets : List Secret) (left left' : Option (List ℕ)) : Type 0 where
@@ -161,30 +165,18 @@ key_lent key = option_map (λ bytes. bytes.now) key
 abbrev pub loaded_as : List Rule → Option (List ℕ) → Loaded
 loaded_as rules key = record { secrets = secrets_of rules; key = key }
 
--- what a file holds is added
-pub record IsAddedFile (reading : Reading) (listed : Listed) (name : List ℕ) (old new : List Secret) (left left' : Option (List ℕ)) : Type 0 where
-  pub more : List Secret
-  pub grown : new ≡ old ++ more
-  pub held : GivesSecrets reading listed name more left left'
-
--- what an option gives is added
-pub record IsAddedItem (reading : Reading) (item : Given) (old new : List Secret) (left left' : Option (List ℕ)) : Type 0 where
-  pub more : List Secret
-  pub grown : new ≡ old ++ more
-  pub of : OptionGives reading item.word item.value more left left'
-
--- the same, of the rules and of the input before and after
+-- what a file holds, or what an option gives, is added, of the rules and of the input before and after
 abbrev pub AddsList : {F Z : Type 0} → Lists F → Listed → List ℕ → (rules rules' : Vec Rule Z) → Type 0
 AddsList lists listed text rules rules' = AddsSome (HoldsListed (rules_for lists) listed text) rules rules'
 
 module _ {F X R Z : Type 0} {Reads : Readers R} (D : Folders F X) (lists : Lists F) where
   abbrev pub AddsFile : Listed → List ℕ → (rules rules' : Vec Rule Z) → (input input' : FromRead R Reads) → Type 0
   AddsFile listed name rules rules' input input' =
-      IsAddedFile (reading_of_lists D lists) listed name (secrets_of rules.items) (secrets_of rules'.items) (bytes_left input) (bytes_left input')
+      AddsSome (λ more. GivesSecrets (reading_of_lists D lists) listed name more (bytes_left input) (bytes_left input')) rules rules'
 
   abbrev pub AddsItem : Given → (rules rules' : Vec Rule Z) → (input input' : FromRead R Reads) → Type 0
   AddsItem item rules rules' input input' =
-      IsAddedItem (reading_of_lists D lists) item (secrets_of rules.items) (secrets_of rules'.items) (bytes_left input) (bytes_left input')
+      AddsSome (λ more. OptionGives (reading_of_lists D lists) item.word item.value more (bytes_left input) (bytes_left input')) rules rules'
 
   -- the rules hold what all options give
   abbrev pub GivesRules : List Given → (rules : Vec Rule Z) → (input input' : FromRead R Reads) → Type 0
