@@ -23,7 +23,7 @@ pub enum Argument<T> {
 }
 
 /// What an argument of any bytes is.
-#[tactic(auto, unfolding(crate::specs::Forms::argument_form))]
+#[tactic(auto, unfolding(crate::specs::ArgumentForms::argument_form))]
 pub fn argument_of(argument: &[u8]) -> Argument<&[u8]>
     ensures form { form_of result ≡ argument_form argument.now }
 {
@@ -72,7 +72,7 @@ fn short_of(argument: &[u8]) -> Argument<&[u8]>
 }
 
 /// What an argument is that is text.
-#[tactic(auto, unfolding(crate::specs::Forms::argument_form))]
+#[tactic(auto, unfolding(crate::specs::ArgumentForms::argument_form))]
 pub fn text_argument_of(argument: &str) -> Argument<&str>
     ensures form { form_of result ≡ argument_form argument.now }
 {

@@ -27,7 +27,7 @@ pub enum NotFound {
 
 impl<O: Copy> Found<O> {
     /// What it means with a further option, which has this name.
-    #[tactic(auto, unfolding(crate::specs::Names::found_more))]
+    #[tactic(auto, unfolding(crate::specs::OptionNames::found_more))]
     pub fn or(self, asked: &[u8], name: &[u8], option: O) -> Found<O>
         ensures found { result ≡ found_more asked.now self (name.now ∷ []) option }
     {
@@ -41,7 +41,7 @@ impl<O: Copy> Found<O> {
     }
 
     /// What it means with a further option, which has two names. A beginning of both begins one option alone.
-    #[tactic(auto, unfolding(crate::specs::Names::found_more))]
+    #[tactic(auto, unfolding(crate::specs::OptionNames::found_more))]
     pub fn or_either(self, asked: &[u8], one: &[u8], other: &[u8], option: O) -> Found<O>
         ensures found { result ≡ found_more asked.now self (one.now ∷ other.now ∷ []) option }
     {
