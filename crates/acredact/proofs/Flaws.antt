@@ -69,11 +69,11 @@ last_is piece front byte is =
     let count : length piece - 1 ≡ length front = omega (arith, ap length is ∙ length-append front (byte ∷ [])) in
     ap (λ (n : ℕ). get_or piece n 0) count ∙ ap (λ (l : List ℕ). get_or l (length front) 0) is ∙ get_or-append_seam front byte [] 0
 
-first_of : (piece : List ℕ) → 0 < length piece → (rest : List ℕ) × (piece ≡ get_or piece 0 0 ∷ rest)
+pub first_of : (piece : List ℕ) → 0 < length piece → (rest : List ℕ) × (piece ≡ get_or piece 0 0 ∷ rest)
 first_of [] some = absurd (omega (arith, some))
 first_of (x ∷ xs) some = (xs, refl)
 
-last_of : (piece : List ℕ) → 0 < length piece → (front : List ℕ) × (piece ≡ front ++ get_or piece (length piece - 1) 0 ∷ [])
+pub last_of : (piece : List ℕ) → 0 < length piece → (front : List ℕ) × (piece ≡ front ++ get_or piece (length piece - 1) 0 ∷ [])
 last_of piece some =
     let (front, byte, is) = split piece some in
     (front, is ∙ ap (λ (b : ℕ). front ++ b ∷ []) (sym (last_is piece front byte is)))
