@@ -1,5 +1,5 @@
 -- How much was read and replaced by rules, as one object of JSON.
-use Rattle.std.specs.Prelude.{ℕ, ◌==◌, ◌||◌, List, [], ◌∷◌, ◌++◌, codes, decimal, if◌then◌else◌, nat_lt}
+use Rattle.std.specs.Prelude.{◌++◌, ◌==◌, ◌||◌, ◌∷◌, List, [], codes, decimal, if◌then◌else◌, nat_lt, string_bytes, ℕ}
 use Rattle.std.specs.List.{flat_map}
 use Rattle.secret_rules.specs.declared.rule.Rule.{Rule}
 use Rattle.acredact.specs.Doubts.{last_of}

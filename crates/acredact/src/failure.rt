@@ -170,7 +170,12 @@ pub fn tell_failure<E: Sink>(errors: &mut Errors<'_, E>, failure: &Failure<'_>)
 }
 
 /// Tells as a line something of what has this number.
-pub fn tell_numbered<E: Sink>(errors: &mut Errors<'_, E>, what: &[u8], number: usize, why: &[u8])
+pub fn tell_numbered<E: Sink>(
+    errors: &mut Errors<'_, E>,
+    what: &'static [u8],
+    number: usize,
+    why: &'static [u8],
+)
     ensures told { TellsBytes E.Sink errors.old errors.new (numbered_line what.now number why.now) }
 {
     let mut room = [0; MAX_DIGITS];
@@ -180,11 +185,11 @@ pub fn tell_numbered<E: Sink>(errors: &mut Errors<'_, E>, what: &[u8], number: u
 /// Tells as such a line of another number, too.
 pub fn tell_with_other<E: Sink>(
     errors: &mut Errors<'_, E>,
-    what: &[u8],
+    what: &'static [u8],
     number: usize,
-    between: &[u8],
+    between: &'static [u8],
     other: u64,
-    why: &[u8],
+    why: &'static [u8],
 )
     ensures told { TellsBytes E.Sink errors.old errors.new
         (numbered_line what.now number (between.now ++ (decimal other ++ why.now))) }

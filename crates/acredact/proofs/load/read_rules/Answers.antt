@@ -19,12 +19,12 @@ pub loop-rest-preserved : goal.loop-rest-preserved
 loop-rest-preserved g c =
     let some : 1 ≤ length c.loop-rest.rest.now = search rules in
     let (so, fails) = c.loop-rest.invariant in
-    (given_next _ _ _ c.loop-rest.rest.now _ _ _ _ _ some so c.in-Ok.ensures.added, fails_next _ _ c.loop-rest.rest.now some fails)
+    (given_next _ _ _ c.loop-rest.rest.now _ _ _ _ _ some so c.in-Ok.ensures.added, fails_next (reading_of_lists g.F.Folder c.args.lists.now) _ c.loop-rest.rest.now some fails)
 
 pub returns-in-Err : goal.returns-in-Err
 returns-in-Err g c =
     let some : 1 ≤ length c.loop-rest.rest.now = search rules in
-    record { read = tt; fails = fails_here _ _ c.loop-rest.rest.now _ _ some c.loop-rest.invariant.1 c.in-Err.ensures.fails }
+    record { read = tt; fails = fails_here (reading_of_lists g.F.Folder c.args.lists.now) _ c.loop-rest.rest.now _ _ some c.loop-rest.invariant.1 c.in-Err.ensures.fails }
 
 pub returns : goal.returns
 returns g c =
