@@ -6,19 +6,19 @@ use Rattle.tool_parts.specs.Arguments.{texts}
 use Rattle.acredact.specs.Arguments.{AreMistaken, AsksForRules, AsksForRulesCheck, AsksToCheck, AsksToRedact, Given, IfAsked, IfNoCheck, IsCheck, RefusesUnclean, all_asked}
 use Rattle.acredact.specs.Calls.{LeavesNoneAsked}
 use Rattle.acredact.proofs.SetApart.{behind_one, behind_two, behind_zero}
-use Rattle.acredact.proofs.exit_code.Goals.{After-from}
+use Rattle.acredact.proofs.exit_code.Goals.{After-drop-apart-in-Ok}
 use Rattle.acredact.proofs.exit_code.Given.{Over}
 use Rattle.acredact.proofs.exit_code.Goals as goal
 
 -- a status of 0 or 1 is that of the call
-ended_zero : (g : Over) (c : After-from g) → exit_status c.from.result ≡ 0 → c.run-status.result ≡ 0
+ended_zero : (g : Over) (c : After-drop-apart-in-Ok g) → exit_status c.from.result ≡ 0 → c.run-status.result ≡ 0
 ended_zero g c zero = behind_zero c.args.told c.run-status.result (sym c.status_behind.ensures.status ∙ (sym c.from.ensures ∙ zero))
 
-ended_one : (g : Over) (c : After-from g) → exit_status c.from.result ≡ 1 → c.run-status.result ≡ 1
+ended_one : (g : Over) (c : After-drop-apart-in-Ok g) → exit_status c.from.result ≡ 1 → c.run-status.result ≡ 1
 ended_one g c one = behind_one c.args.told c.run-status.result (sym c.status_behind.ensures.status ∙ (sym c.from.ensures ∙ one))
 
 -- so what is so of a call that ends with it is so of the process
-by_call : (g : Over) (c : After-from g) (Asks Done : List Given → Type 0) (n : ℕ) → (exit_status c.from.result ≡ n → c.run-status.result ≡ n)
+by_call : (g : Over) (c : After-drop-apart-in-Ok g) (Asks Done : List Given → Type 0) (n : ℕ) → (exit_status c.from.result ≡ n → c.run-status.result ≡ n)
     → ((given : List Given) → all_asked (texts c.as_slice.result.now) ≡ Some given → Asks given → c.run-status.result ≡ n → Done given)
     → IfOk c.args.given (λ apart. (given : List Given) → all_asked (texts apart.arguments.items) ≡ Some given → Asks given → exit_status c.from.result ≡ n → Done given)
 by_call g c Asks Done n same holds =
