@@ -18,20 +18,24 @@ use Rattle.tool_parts.specs.declared.failure.Failure.TheVariants.{Build, OutOfMe
 use Rattle.tool_parts.specs.declared.reason.Reason.{Reason}
 use Rattle.tool_parts.proofs.Tellings.{tells-later}
 use Rattle.acredact.specs.Arguments.{Given, counts_asked}
-use Rattle.acredact.specs.Calls.{AreBounded, BeginsCall, Call, CallOutcome, IsBuildRefusal, IsCountsFailure, IsCountsLine, IsLineOf, IsRunFailure, IsUnreadLine, IsUntouched, IsWordLine, MayFail, OutputFails, RestOutcome, RunOutcome, TellsCounts, TellsNumbers, names_asked, reading_by, work_by}
+use Rattle.acredact.specs.Calls.{AreBounded, BeginsCall, Call, CallOutcome, CannotLoadCall, IsBuildRefusal, IsCountsFailure, IsCountsLine, IsLineOf, IsRunFailure, IsUnreadLine, IsUntouched, IsWordLine, MayFail, OutputFails, RestOutcome, RunOutcome, TellsCounts, TellsNumbers, call_of, names_asked, reading_by, redactor_by_given, work_by}
+use Rattle.acredact.specs.Builds.{patterns_by_given}
 use Rattle.acredact.specs.Counts.{secret_lines, zeros}
-use Rattle.acredact.specs.Files.{AreCut, FilesOutcome, IsDone, Work, are_none, unread_line}
+use Rattle.acredact.specs.Files.{AreCut, FilesOutcome, IsDone, Work, are_none, redactor_of, unread_line, work_of}
 use Rattle.acredact.specs.Messages.{output_line}
-use Rattle.acredact.specs.Loading.{AreLoaded, CannotLoadAll, Loaded, loaded_as}
-use Rattle.acredact.specs.Secrets.{Keyed}
+use Rattle.acredact.specs.Loading.{AreLoaded, Loaded, loaded_as}
+use Rattle.acredact.specs.Ready.{IsJobFor}
+use Rattle.acredact.specs.Secrets.{Redactor}
 use Rattle.acredact.specs.Summaries.{no_volume, totals_text}
 use Rattle.acredact.specs.Sums.{sums_of}
-use Rattle.acredact.specs.Tables.{Secret, secrets_of}
+use Rattle.acredact.specs.Tables.{Secret, patterns_in, secrets_of}
 use Rattle.acredact.specs.Totals.{CountsOfNames}
 use Rattle.acredact.specs.Volumes.{ReadsVolume}
 use Rattle.acredact.specs.declared.clean.Unclean.{Unclean}
 use Rattle.acredact.specs.declared.failure.Failure.{Failure}
 use Rattle.acredact.specs.declared.failure.Failure.TheVariants.{Counts, Other, Unclean as UncleanPiece}
+use Rattle.acredact.specs.declared.files.Job.{Job}
+use Rattle.acredact.specs.declared.folder.Folder.{Ghosts as Folders}
 use Rattle.acredact.specs.declared.patterns.Rule.{Rule}
 use Rattle.acredact.specs.declared.streams.Streams.{Streams}
 use Rattle.acredact.specs.declared.summary.Volume.{Volume}
@@ -81,7 +85,7 @@ tells_counts K given old new secrets counts volume is told = record {
 
 -- before anything was touched
 module _ {R : Type 0} {Reads : Readers R} {W E : Type 0} (Writes : Writers W) (K : SinkGhosts E) (work : Work) where
-  pub run_refused : (streams : Streams R W E Reads) (failure : Failure) → IsRunFailure (OutputFails streams.output streams.output) failure → RunOutcome Writes K work (Err failure) streams streams
+  run_refused : (streams : Streams R W E Reads) (failure : Failure) → IsRunFailure (OutputFails streams.output streams.output) failure → RunOutcome Writes K work (Err failure) streams streams
   run_refused streams failure fails = record { done = tt; cut = inl refl; quiet = λ (is : Err failure ≡ Ok true). absurd (cc); fails = fails }
 
   -- memory may always run out
@@ -142,10 +146,11 @@ build_other p failure unclean (error, of, refused) is = let clash : Other (Build
 pub may_fail : (call : Call) (fails : Type 0) (failure : Failure) → IsRunFailure fails failure → MayFail call fails failure
 may_fail call fails failure is = inr (inr (inr (inr (inr (inl is)))))
 
--- one of the options cannot be loaded, or memory runs out for the forms
-pub load_fails : (call : Call) (fails : Type 0) (failure : Failure) → CannotLoadAll (reading_by call) call.given failure → MayFail call fails failure
-load_fails call fails failure (inl one) = inr (inl (inl one))
-load_fails call fails failure (inr memory) = may_fail call fails failure (inl memory)
+-- one of the options or the key cannot be loaded, or memory runs out
+pub load_fails : (call : Call) (fails : Type 0) (failure : Failure) → CannotLoadCall call failure → MayFail call fails failure
+load_fails call fails failure (inl (inl one)) = inr (inl (inl one))
+load_fails call fails failure (inl (inr memory)) = may_fail call fails failure (inl memory)
+load_fails call fails failure (inr key) = inr (inl (inr key))
 
 -- the files of a call whose patterns were loaded
 module _ {R : Type 0} {Reads : Readers R} {W E : Type 0} (Writes : Writers W) (K : SinkGhosts E) (call : Call) where
@@ -295,16 +300,13 @@ module _ {R : Type 0} {Reads : Readers R} {W E : Type 0} (Writes : Writers W) (K
     rest_told all counted (Err failure) errors is run grown same are_told fails told bounded totals =
         rest_untold all errors failure run (subst (λ (b : Bool). IsCountsFailure b failure) is fails) told bounded totals
 
--- what holds of some work holds of the same with the same names, pieces, key and way
-pub work_as : (holds : List ℕ → Option (List ℕ)) (refuses : List ℕ → Reason → Type 0) (meets : List ℕ → Bool → Type 0) (p : Patterns) (names names' pieces pieces' : List (List ℕ)) (covers covers' words words' : Bool) (key key' : Option Keyed) → names ≡ names' → covers ≡ covers' → words ≡ words' → pieces ≡ pieces' → key ≡ key'
-    → (P : Work → Type 0) → P (record { holds = holds; refuses = refuses; meets = meets; names = names; redactor = record { patterns = p; covers = covers; words = words; pieces = pieces; key = key } })
-    → P (record { holds = holds; refuses = refuses; meets = meets; names = names'; redactor = record { patterns = p; covers = covers'; words = words'; pieces = pieces'; key = key' } })
-work_as holds refuses meets p names names' pieces pieces' covers covers' words words' key key' same by chosen alike keyed P is =
-    subst (λ (k : Option Keyed). P (record { holds = holds; refuses = refuses; meets = meets; names = names'; redactor = record { patterns = p; covers = covers'; words = words'; pieces = pieces'; key = k } })) keyed
-    (subst (λ (l : List (List ℕ)). P (record { holds = holds; refuses = refuses; meets = meets; names = names'; redactor = record { patterns = p; covers = covers'; words = words'; pieces = l; key = key } })) alike
-    (subst (λ (b : Bool). P (record { holds = holds; refuses = refuses; meets = meets; names = names'; redactor = record { patterns = p; covers = covers'; words = b; pieces = pieces; key = key } })) chosen
-    (subst (λ (b : Bool). P (record { holds = holds; refuses = refuses; meets = meets; names = names'; redactor = record { patterns = p; covers = b; words = words; pieces = pieces; key = key } })) by
-    (subst (λ (l : List (List ℕ)). P (record { holds = holds; refuses = refuses; meets = meets; names = l; redactor = record { patterns = p; covers = covers; words = words; pieces = pieces; key = key } })) same is))))
+-- what holds of the work of a job holds of what a call asks for
+pub job_does : {F X : Type 0} (D : Folders F X) (folder : F) (given : List Given) (load : Loaded) (job : Job F) → IsJobFor folder given load job
+    → (P : Work → Type 0) → P (work_of D job (redactor_of job (patterns_by_given given (patterns_in load.secrets)))) → P (work_by (call_of D folder given) load)
+job_does {F} D folder given load job is P done =
+    subst (λ (f : F). P (record { holds = D.holds f; refuses = D.refuses f; meets = D.meets f; names = names_asked given; redactor = redactor_by_given given load })) is.opens
+    (subst (λ (r : Redactor). P (record { holds = D.holds job.folder.now; refuses = D.refuses job.folder.now; meets = D.meets job.folder.now; names = names_asked given; redactor = r })) is.redactor
+    (subst (λ (l : List (List ℕ)). P (record { holds = D.holds job.folder.now; refuses = D.refuses job.folder.now; meets = D.meets job.folder.now; names = l; redactor = redactor_of job (patterns_by_given given (patterns_in load.secrets)) })) is.names done))
 
 -- a call as it is from a state whose input was read further
 module _ {R : Type 0} {Reads : Readers R} {W E : Type 0} (Writes : Writers W) (K : SinkGhosts E) (call : Call) (left : Option (List ℕ)) where

@@ -32,8 +32,6 @@ mod Loaded
 mod Metering
 mod Bounded
 mod Limits
--- why patterns are refused
-mod Refused
 -- which pieces are clean, and what follows
 mod Flaws
 mod NoneSpelled
@@ -56,6 +54,8 @@ mod LongNames
 mod SetApart
 mod Readings
 mod Ready
+-- what a searcher holds can do what it can
+mod Standing
 mod Naming
 -- calls with rules
 mod LongLines

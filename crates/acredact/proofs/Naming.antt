@@ -1,16 +1,16 @@
 -- What is loaded where a key names the secrets.
-use Rattle.std.proofs.Common.{◌≡◌, ℕ, Bool, true, false, List, Option, sym, ap, subst, ◌∙◌}
+use Rattle.std.proofs.Common.{◌≡◌, ℕ, Bool, true, false, List, Option, refl, sym, ap, subst, ◌∙◌}
 use Rattle.std.specs.Prelude.{Some, None, if◌then◌else◌}
 use Rattle.std.proofs.lemmas.List.Elements.{All-map}
 use Rattle.aho_cover.specs.Pieces.{PieceRule}
 use Rattle.acredact.specs.Pseudonyms.{pseudonym_rule}
 use Rattle.acredact.specs.Arguments.{Given, has}
-use Rattle.acredact.specs.Loading.{Loaded, loaded_by}
+use Rattle.acredact.specs.Loading.{AreLoaded, Loaded, Reading, loaded_by}
 use Rattle.acredact.specs.Named.{all_named, named_secret}
 use Rattle.acredact.specs.Ruled.{secrets_by}
 use Rattle.acredact.specs.Tables.{HaveNoEmpty, Secret}
 use Rattle.acredact.specs.declared.arguments.Word.TheVariants.{Forms, IgnoreCase}
-use Rattle.acredact.proofs.Ready.{IsSomeSecret}
+use Rattle.acredact.proofs.Ready.{IsSomeSecret, given_some}
 
 -- no pattern that is named is empty
 pub named_some : (rule : PieceRule) (secrets named : List Secret) → named ≡ all_named rule secrets → HaveNoEmpty secrets → HaveNoEmpty named
@@ -46,3 +46,19 @@ module _ (given : List Given) (secrets : List Secret) (key : List ℕ) where
       → named ≡ all_named (pseudonym_rule ignore_case bytes) secrets → named ≡ secrets_by given (Some key) secrets
   ruled_named named ignore_case bytes asked case same is =
       is ∙ ap (λ (b : Bool). all_named (pseudonym_rule b bytes) secrets) case ∙ ap (λ (l : List ℕ). all_named (pseudonym_rule (has IgnoreCase given) l) secrets) same ∙ sym (ap by_rules asked)
+
+-- of what is loaded no pattern is empty
+pub loaded_some : (reading : Reading) (given : List Given) (load : Loaded) (left left' : Option (List ℕ)) → AreLoaded reading given load left left' → HaveNoEmpty load.secrets
+loaded_some reading given load left left' loaded =
+    subst (λ (l : Loaded). HaveNoEmpty l.secrets) (sym loaded.is) (by_key loaded.key)
+  where
+    some : HaveNoEmpty loaded.secrets
+    some = given_some reading given loaded.secrets left loaded.between loaded.given_all
+
+    by : (key : List ℕ) (forms : Bool) → HaveNoEmpty (by_forms given loaded.secrets key forms).secrets
+    by key true = named_some (pseudonym_rule (has IgnoreCase given) key) loaded.secrets _ refl some
+    by key false = some
+
+    by_key : (key : Option (List ℕ)) → HaveNoEmpty (loaded_by given loaded.secrets key).secrets
+    by_key None = some
+    by_key (Some key) = by key (has Forms given)

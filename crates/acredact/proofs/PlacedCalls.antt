@@ -1,9 +1,12 @@
 -- What comes of a call that replaces files, by what comes of these.
-use Rattle.std.proofs.Common.{◌≡◌, inl, inr, ℕ, List, [], ◌∷◌, ◌++◌, Option, true, false, refl, sym, subst, ◌∙◌, arith}
-use Rattle.std.specs.Prelude.{Bool, MatchBool, Result, Ok, Err, IfErr, IfOk, OnOk}
+use Rattle.std.proofs.Common.{◌≡◌, inl, inr, ℕ, List, [], ◌∷◌, ◌++◌, Option, true, false, refl, sym, ap, subst, ◌∙◌, arith}
+use Rattle.std.specs.Prelude.{◌⊎◌, Bool, MatchBool, Result, Ok, Err, IfErr, IfOk, OnOk}
 use Rattle.std.specs.List.{All, concat}
 use Rattle.std.specs.declared.io.traits.Write.{Ghosts as Writers}
 use Rattle.std.proofs.lemmas.List.Elements.{All-append, All-head, All-tail, All-weaker}
+use Rattle.aho_core.specs.declared.error.stream.StreamError.{StreamError}
+use Rattle.aho_core.specs.declared.error.stream.StreamError.TheVariants.{Memory}
+use Rattle.aho_cover.specs.Counting.{CountsThese}
 use Rattle.aho_devices.specs.declared.device.Sink.{Ghosts as SinkGhosts}
 use Rattle.tool_parts.specs.Telling.{Tells, TellsBytes, TellsSome}
 use Rattle.tool_parts.specs.declared.errors.Errors.{Errors}
@@ -12,12 +15,13 @@ use Rattle.tool_parts.proofs.Tellings.{tells-later}
 use Rattle.acredact.specs.Arguments.{counts_asked, has}
 use Rattle.acredact.specs.Calls.{Call, IsCountsFailure, IsCountsLine, IsLineOf, MayFail, TellsCounts, names_asked, reading_by, redactor_by_given, work_by}
 use Rattle.acredact.specs.Counts.{zeros}
-use Rattle.acredact.specs.Doubts.{TellsDoubts}
+use Rattle.acredact.specs.Doubts.{TellsDoubts, TellsWarnings}
 use Rattle.acredact.specs.Failures.{IsFailureLine}
 use Rattle.acredact.specs.Files.{are_none}
-use Rattle.acredact.specs.InPlace.{CalledPlaces, IsPlaceLine, PlacesOutcome, PlacesStatus, WarnedPlaces}
+use Rattle.acredact.specs.InPlace.{AreCutOff, CalledPlaces, IsPlaceLine, PlacesOutcome, PlacesStatus}
 use Rattle.acredact.specs.Loading.{AreLoaded, Loaded, loaded_as}
 use Rattle.acredact.specs.Pieces.{TellsOfPieces}
+use Rattle.acredact.specs.Ready.{CannotPrepare}
 use Rattle.acredact.specs.Summaries.{no_volume}
 use Rattle.acredact.specs.Tables.{secrets_of}
 use Rattle.acredact.specs.Totals.{CountsOfNames}
@@ -32,7 +36,7 @@ use Rattle.acredact.proofs.Calls.{may_fail, none_are, tells_last, tells_same}
 use Rattle.acredact.proofs.Done.{concat_both}
 use Rattle.acredact.proofs.Placed.{IsOfOne, cut_whole, freed_all, lines_of_all, lines_of_cut, placed_all, placed_whole}
 use Rattle.acredact.proofs.Totals.{totals_told}
-use Rattle.acredact.proofs.Warned.{clean_pieces, doubts_tell, some_behind, tells_both, warnings_tell}
+use Rattle.acredact.proofs.Warned.{clean_pieces, doubts_tell, may_prepare, some_behind, tells_both, warnings_tell}
 
 -- what is told may be told of more
 pub tells_weaker : {E : Type 0} (K : SinkGhosts E) (Less More : List ℕ → Type 0) (old new : Errors E) → ((line : List ℕ) → Less line → More line) → Tells K Less old new → Tells K More old new
@@ -64,16 +68,19 @@ module _ {O Z E : Type 0} (Writes : Writers Z) (K : SinkGhosts E) (U : Places O 
     told = tells_same K (IsPlaceLine call) errors errors refl;
   }
 
-  module _ (load : Loaded) (between : Option (List ℕ)) (loaded : AreLoaded (reading_by call) call.given load left between) (outputs outputs' : O) (first old : Errors E) (doubts : TellsDoubts K (has Strict call.given) call.given load.secrets first old) where
-    warned_tell : (mid : Errors E) → TellsOfPieces K (has Strict call.given) (redactor_by_given call.given load) old mid → Tells K (IsPlaceLine call) first mid
-    warned_tell mid pieces = tells_weaker K (IsLineOf call ⊥) (IsPlaceLine call) first mid (λ line is. inl is) (warnings_tell K call ⊥ load left between loaded first old mid doubts pieces)
+  module _ (load : Loaded) (between : Option (List ℕ)) (loaded : AreLoaded (reading_by call) call.given load left between) where
+    abbrev Warned : (errors errors' : Errors E) → Type 0
+    Warned errors errors' = TellsWarnings K (has Strict call.given) call.given load.secrets (redactor_by_given call.given load) errors errors'
+
+    warned_tell : (first warned : Errors E) → Warned first warned → Tells K (IsPlaceLine call) first warned
+    warned_tell first warned (mid, doubts, pieces) =
+        tells_weaker K (IsLineOf call ⊥) (IsPlaceLine call) first warned (λ line is. inl is) (warnings_tell K call ⊥ load left between loaded first mid warned doubts pieces)
 
     files_lines : (lines : List (List ℕ)) → All (IsOfOne (names_asked call.given)) lines → All (IsPlaceLine call) lines
     files_lines lines are = All-weaker (IsOfOne (names_asked call.given)) (IsPlaceLine call) (λ line is. inr is) lines are
 
-    -- no file is made, behind what is told of patterns of lists
-    pub places_behind : (failure : Failure) → MayFail call ⊥ failure → CalledPlaces Writes K U call left (Err failure) outputs outputs first old
-    places_behind failure may = record {
+    places_ended : (failure : Failure) (outputs : O) (old new : Errors E) → MayFail call ⊥ failure → Tells K (IsPlaceLine call) old new → CalledPlaces Writes K U call left (Err failure) outputs outputs old new
+    places_ended failure outputs old new may told = record {
       replaces = λ (is : Err failure ≡ Ok true). absurd (cc);
       strict = λ asked (is : Err failure ≡ Ok true). absurd (cc);
       keeps = inl refl;
@@ -81,24 +88,25 @@ module _ {O Z E : Type 0} (Writes : Writers Z) (K : SinkGhosts E) (U : Places O 
       counts = λ some (is : Err failure ≡ Ok true). absurd (cc);
       partly = λ (is : Err failure ≡ Ok false). absurd (cc);
       fails = record { may = may; ends = inl refl };
-      told = tells_weaker K (IsLineOf call ⊥) (IsPlaceLine call) first old (λ line is. inl is) (doubts_tell K call ⊥ load left between loaded (has Strict call.given) refl first old doubts);
+      told = told;
     }
 
-    -- no file was made, or memory ran out at one
-    pub places_cut : (failure : Failure) (new : Errors E) → WarnedPlaces Writes U (work_by call load) K (has Strict call.given) (Err failure) outputs outputs' old new
-        → CalledPlaces Writes K U call left (Err failure) outputs outputs' first new
-    places_cut failure new (inl (why, is, same, untold, of)) =
-        let alike : why ≡ failure = cc in
-        let may : MayFail call ⊥ why = elim of [
-          | inl strict ↦ inr (inr (inr (inl (load, left, between, loaded, strict))))
-          | inr (inl refused) ↦ inr (inr (inr (inr (inl (load, left, _, loaded, refused)))))
-          | inr (inr memory) ↦ may_fail call ⊥ why (inl memory)
-        ] in
-        subst (λ (o : O). CalledPlaces Writes K U call left (Err failure) outputs o first new) (sym same)
-        (subst (λ (e : Errors E). CalledPlaces Writes K U call left (Err failure) outputs outputs first e) (sym untold)
-        (places_behind failure (subst (MayFail call ⊥) alike may)))
-    places_cut failure new (inr (mid, pieces, run)) =
-        let (lines, cut, told) = run.cut in
+    -- nothing is ready
+    pub places_unready : (outputs : O) (old new : Errors E) (failure : Failure) → CannotPrepare call.given load failure → (new ≡ old) ⊎ TellsDoubts K (has Strict call.given) call.given load.secrets old new
+        → CalledPlaces Writes K U call left (Err failure) outputs outputs old new
+    places_unready outputs old new failure cannot told = places_ended failure outputs old new (may_prepare call load left between loaded ⊥ failure cannot) (elim told [
+      | inl same ↦ tells_same K (IsPlaceLine call) old new same
+      | inr doubts ↦ tells_weaker K (IsLineOf call ⊥) (IsPlaceLine call) old new (λ line is. inl is) (doubts_tell K call ⊥ load left between loaded (has Strict call.given) refl old new doubts)
+    ])
+
+    -- there is no memory for the counts
+    pub places_uncounted : (outputs : O) (first warned : Errors E) → Warned first warned → CalledPlaces Writes K U call left (Err (Other OutOfMemory)) outputs outputs first warned
+    places_uncounted outputs first warned warnings = places_ended (Other OutOfMemory) outputs first warned (may_fail call ⊥ (Other OutOfMemory) (inl refl)) (warned_tell first warned warnings)
+
+    -- memory ran out at a file
+    pub places_cut : (outputs outputs' : O) (first warned new : Errors E) → Warned first warned → (failure : Failure) → failure ≡ Other OutOfMemory
+        → (lines : List (List ℕ)) → AreCutOff Writes U (work_by call load) (names_asked call.given) lines outputs outputs' → TellsBytes K warned new (concat lines) → CalledPlaces Writes K U call left (Err failure) outputs outputs' first new
+    places_cut outputs outputs' first warned new warnings failure memory lines cut told =
         let whole = cut_whole Writes K U (work_by call load) (names_asked call.given) lines outputs outputs' cut in
         record {
           replaces = λ (is : Err failure ≡ Ok true). absurd (cc);
@@ -108,34 +116,33 @@ module _ {O Z E : Type 0} (Writes : Writers Z) (K : SinkGhosts E) (U : Places O 
           counts = λ some (is : Err failure ≡ Ok true). absurd (cc);
           partly = λ (is : Err failure ≡ Ok false). absurd (cc);
           fails = record {
-            may = may_fail call ⊥ failure (inl run.memory_ends);
-            ends = inr (inr (run.memory_ends, record { load = load; between = between; loaded = loaded; whole = whole }));
+            may = may_fail call ⊥ failure (inl memory);
+            ends = inr (inr (memory, record { load = load; between = between; loaded = loaded; whole = whole }));
           };
-          told = tells_both K (IsPlaceLine call) first mid new (warned_tell mid pieces)
+          told = tells_both K (IsPlaceLine call) first warned new (warned_tell first warned warnings)
               (record { told = lines; are_lines = files_lines lines (lines_of_cut Writes K U (work_by call load) (names_asked call.given) lines outputs outputs' cut); written = told });
         }
 
-  module _ (rules : List Rule) (key : Option (List ℕ)) (numbers : List ℕ) (volume : Volume) (between after : Option (List ℕ)) (loaded : AreLoaded (reading_by call) call.given (loaded_as rules key) left between) (outputs outputs' : O) (first old mid new : Errors E)
-      (doubts : TellsDoubts K (has Strict call.given) call.given (secrets_of rules) first old) where
-    abbrev Counted : Bool → Bool → Type 0
-    Counted counted all = all ≡ true → CountsOfNames between after (zeros counted rules) numbers (work_by call (loaded_as rules key)) (names_asked call.given)
+  module _ (rules : List Rule) (key : Option (List ℕ)) (numbers : List ℕ) (volume : Volume) (between after : Option (List ℕ)) (loaded : AreLoaded (reading_by call) call.given (loaded_as rules key) left between) (outputs outputs' : O) (first warned mid new : Errors E)
+      (warnings : TellsWarnings K (has Strict call.given) call.given (secrets_of rules) (redactor_by_given call.given (loaded_as rules key)) first warned) where
+    abbrev Counted : Bool → Type 0
+    Counted all = all ≡ true → CountsOfNames between after (zeros (counts_asked call.given) rules) numbers (work_by call (loaded_as rules key)) (names_asked call.given)
         × ReadsVolume call.holds (names_asked call.given) no_volume volume between after
 
     abbrev Told : Bool → Type 0
     Told counted = MatchBool counted (TellsCounts K call.given rules numbers volume mid new) (new ≡ mid)
 
-    module _ (all : Bool) (warned : Errors E) (pieces : TellsOfPieces K (has Strict call.given) (redactor_by_given call.given (loaded_as rules key)) old warned)
-        (run : PlacesOutcome Writes U (work_by call (loaded_as rules key)) K {X = Failure} (Other OutOfMemory) (Ok all) outputs outputs' warned mid) (told : Tells K (IsCountsLine call.given (secrets_of rules)) mid new) where
+    module _ (all : Bool) (run : PlacesOutcome Writes U (work_by call (loaded_as rules key)) K {X = StreamError} Memory (Ok all) outputs outputs' warned mid) (told : Tells K (IsCountsLine call.given (secrets_of rules)) mid new) where
       counts_lines : All (IsPlaceLine call) told.told
       counts_lines = All-weaker (IsCountsLine call.given (secrets_of rules)) (IsPlaceLine call) (λ line is. inl (inr (inr (inl (loaded_as rules key, left, between, loaded, is))))) told.told told.are_lines
 
       -- the counts are told
-      places_done : Counted (counts_asked call.given) all → Told (counts_asked call.given) → CalledPlaces Writes K U call left (Ok all) outputs outputs' first new
+      places_done : Counted all → Told (counts_asked call.given) → CalledPlaces Writes K U call left (Ok all) outputs outputs' first new
       places_done grown are_told =
           let load = loaded_as rules key in
           let work = work_by call load in
           let (lines, is_all, placed, written) = run.placed in
-          let are = files_lines load between loaded outputs outputs' first old doubts lines (lines_of_all Writes K U work (names_asked call.given) lines outputs outputs' placed) in
+          let are = files_lines load between loaded lines (lines_of_all Writes K U work (names_asked call.given) lines outputs outputs' placed) in
           let replaced = λ (so : all ≡ true). placed_all Writes K U work (names_asked call.given) lines outputs outputs' (none_are lines (sym is_all ∙ so)) placed in
           record {
             replaces = λ (is : Ok all ≡ Ok true). let so : all ≡ true = cc in record { load = load; between = between; loaded = loaded; replaced = replaced so };
@@ -143,20 +150,21 @@ module _ {O Z E : Type 0} (Writes : Writers Z) (K : SinkGhosts E) (U : Places O 
               load = load;
               between = between;
               loaded = loaded;
-              freed = freed_all Writes K U work asked.covers asked.all (clean_pieces K (has Strict call.given) (redactor_by_given call.given load) old warned asked.strict pieces asked.covers) (names_asked call.given) outputs outputs' (replaced so);
+              freed = freed_all Writes K U work asked.covers asked.all (clean_pieces K (has Strict call.given) (redactor_by_given call.given load) warnings.0 warned asked.strict warnings.2 asked.covers) (names_asked call.given) outputs outputs' (replaced so);
             };
             keeps = inr (record { load = load; between = between; loaded = loaded; whole = placed_whole Writes K U work (names_asked call.given) lines outputs outputs' placed });
             quiet = λ none (is : Ok all ≡ Ok true).
                 let same : new ≡ mid = subst (λ (b : Bool). Told b) none are_told in
+                let so : all ≡ true = cc in
                 record {
                   load = load;
                   between = between;
                   loaded = loaded;
-                  told = (old, doubts, subst (λ (e : Errors E). TellsOfPieces K (has Strict call.given) (redactor_by_given call.given load) old e) (sym (same ∙ run.quiet is)) pieces);
+                  told = (warnings.0, warnings.1, subst (λ (e : Errors E). TellsOfPieces K (has Strict call.given) (redactor_by_given call.given load) warnings.0 e) (sym (same ∙ run.quiet (ap Ok so))) warnings.2);
                 };
             counts = λ some (is : Ok all ≡ Ok true).
                 let so : all ≡ true = cc in
-                let ((ranges, found, counted), read) = subst (λ (b : Bool). Counted b all) some grown so in
+                let ((ranges, found, counted), read) = grown so in
                 record {
                   load = load;
                   between = between;
@@ -165,16 +173,16 @@ module _ {O Z E : Type 0} (Writes : Writers Z) (K : SinkGhosts E) (U : Places O 
                   ranges = ranges;
                   found = found;
                   meanwhile = warned;
-                  warned = (old, doubts, pieces);
+                  warned = warnings;
                   volume = volume;
                   read = read;
-                  counted = totals_told K call.given rules ranges numbers volume warned new counted
-                      (subst (λ (e : Errors E). TellsCounts K call.given rules numbers volume e new) (run.quiet is) (subst (λ (b : Bool). Told b) some are_told));
+                  counted = totals_told K call.given rules ranges numbers volume warned new (subst (λ (b : Bool). CountsThese ranges (zeros b rules) numbers) some counted)
+                      (subst (λ (e : Errors E). TellsCounts K call.given rules numbers volume e new) (run.quiet (ap Ok so)) (subst (λ (b : Bool). Told b) some are_told));
                 };
             partly = λ (is : Ok all ≡ Ok false).
                 let so : all ≡ false = cc in (
                   record { load = load; between = between; loaded = loaded; lines = lines; placed = placed },
-                  some_behind K (IsPlaceLine call) first warned new (warned_tell load between loaded outputs outputs' first old doubts warned pieces)
+                  some_behind K (IsPlaceLine call) first warned new (warned_tell load between loaded first warned warnings)
                       (some_lines K (IsPlaceLine call) warned mid new lines told.told (sym so ∙ is_all) are counts_lines written told.written),
                 );
             fails = tt;
@@ -187,7 +195,7 @@ module _ {O Z E : Type 0} (Writes : Writers Z) (K : SinkGhosts E) (U : Places O 
           let load = loaded_as rules key in
           let work = work_by call load in
           let (lines, is_all, placed, written) = run.placed in
-          let are = files_lines load between loaded outputs outputs' first old doubts lines (lines_of_all Writes K U work (names_asked call.given) lines outputs outputs' placed) in
+          let are = files_lines load between loaded lines (lines_of_all Writes K U work (names_asked call.given) lines outputs outputs' placed) in
           record {
             replaces = λ (is : Err failure ≡ Ok true). absurd (cc);
             strict = λ asked (is : Err failure ≡ Ok true). absurd (cc);
@@ -202,21 +210,17 @@ module _ {O Z E : Type 0} (Writes : Writers Z) (K : SinkGhosts E) (U : Places O 
               ];
               ends = inr (inl (record { load = load; between = between; loaded = loaded; lines = lines; placed = placed }));
             };
-            told = tells_both K (IsPlaceLine call) first warned new (warned_tell load between loaded outputs outputs' first old doubts warned pieces)
+            told = tells_both K (IsPlaceLine call) first warned new (warned_tell load between loaded first warned warnings)
                 (tells_both K (IsPlaceLine call) warned mid new (record { told = lines; are_lines = are; written = written }) (record { told = told.told; are_lines = counts_lines; written = told.written }));
           }
 
     -- by what is answered of that
-    pub places_told : (all counted : Bool) (result : Result Bool Failure) → counted ≡ counts_asked call.given
-        → WarnedPlaces Writes U (work_by call (loaded_as rules key)) K (has Strict call.given) (Ok all) outputs outputs' old mid → Counted counted all
-        → IfOk result (λ done. done ≡ all) → OnOk result (Told counted) → IfErr result (IsCountsFailure counted) → Tells K (IsCountsLine call.given (secrets_of rules)) mid new
+    pub places_told : (all : Bool) (result : Result Bool Failure) → PlacesOutcome Writes U (work_by call (loaded_as rules key)) K {X = StreamError} Memory (Ok all) outputs outputs' warned mid → Counted all
+        → IfOk result (λ done. done ≡ all) → OnOk result (Told (counts_asked call.given)) → IfErr result (IsCountsFailure (counts_asked call.given)) → Tells K (IsCountsLine call.given (secrets_of rules)) mid new
         → CalledPlaces Writes K U call left result outputs outputs' first new
-    places_told all counted result is (inl (why, fails, same, untold, of)) grown done counts unknown told = let clash : Ok all ≡ Err why = fails in absurd (cc)
-    places_told all counted (Ok done) is (inr (warned, pieces, run)) grown same counts unknown told =
-        subst (λ (b : Bool). CalledPlaces Writes K U call left (Ok b) outputs outputs' first new) (sym same)
-        (places_done all warned pieces run told (subst (λ (b : Bool). Counted b all) is grown) (subst (λ (b : Bool). Told b) is counts))
-    places_told all counted (Err failure) is (inr (warned, pieces, run)) grown same counts unknown told =
-        places_untold all warned pieces run told failure (subst (λ (b : Bool). IsCountsFailure b failure) is unknown)
+    places_told all (Ok done) run grown same counts unknown told =
+        subst (λ (b : Bool). CalledPlaces Writes K U call left (Ok b) outputs outputs' first new) (sym same) (places_done all run told grown counts)
+    places_told all (Err failure) run grown same counts unknown told = places_untold all run told failure unknown
 
   -- all were replaced
   pub places_zero : (outputs outputs' : O) (old new : Errors E) → CalledPlaces Writes K U call left (Ok true) outputs outputs' old new → PlacesStatus Writes K U call left 0 outputs outputs' old new

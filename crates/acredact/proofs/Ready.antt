@@ -1,6 +1,6 @@
 -- What is loaded can be searched for.
 use Rattle.std.proofs.Common.{◌≡◌, inl, inr, ℕ, ◌≤◌, Bool, false, true, List, [], ◌∷◌, Option, length, map, refl, sym, ap, subst, ◌∙◌, arith}
-use Rattle.std.specs.Prelude.{MatchBool, ◌||◌, codes, if◌then◌else◌, nat_eq, nat_lt, option_and_then, unwrap_or, Result, Ok, Err, IsOk, Some, None}
+use Rattle.std.specs.Prelude.{MatchBool, ◌||◌, ◌&&◌, codes, if◌then◌else◌, nat_eq, nat_lt, option_and_then, unwrap_or, IsOk, Some, None}
 use Rattle.std.specs.Io.BufRead.{strip_last}
 use Rattle.std.specs.Borrow.{Bor}
 use Rattle.std.specs.List.{AllZip, filter_map, flat_map, slice_split}
@@ -10,19 +10,25 @@ use Rattle.std.proofs.lemmas.Slice.Eq.{bytes_eq-Decides}
 use Rattle.std.proofs.lemmas.List.Elements.{All-append, All-cons, All-head, All-nil, All-tail}
 use Rattle.aho_core.specs.Laws.{shortest}
 use Rattle.aho_core.specs.Patterns.{Patterns}
-use Rattle.aho_core.specs.declared.error.MatchErrorKind.{MatchErrorKind}
+use Rattle.aho_core.specs.Replacement.{pieces_of}
 use Rattle.aho_core.specs.declared.search.Anchored.TheVariants.{No}
 use Rattle.aho_core.specs.declared.search.MatchKind.{MatchKind}
 use Rattle.aho_core.specs.declared.search.MatchKind.TheVariants.{Standard}
-use Rattle.aho_automaton.specs.declared.automaton.Automaton.{Ghosts}
+use Rattle.aho_stream.specs.StreamRun.{CanBegin}
+use Rattle.chromesquid.proofs.Built.{count_of, finds_by, shortest_of, start_of}
+use Rattle.chromesquid.specs.Searcher.{Answers, IsBuiltFrom, Searcher}
+use Rattle.chromesquid.specs.contracts.automaton.AhoCorasickAutomaton.TheImpl.{ghosts as of_searcher}
+use Rattle.secret_rules.specs.OpenLines.{CanSearch}
 use Rattle.tool_parts.specs.Arguments.{kind_by}
-use Rattle.acredact.specs.Arguments.{Given, GivesNoPattern, covers_asked, has, is_cover, kind_asked, last_value}
+use Rattle.acredact.specs.Arguments.{Given, GivesNoPattern, covers_asked, has, is_cover, kind_asked, last_value, words_asked}
+use Rattle.acredact.specs.Builds.{patterns_by_given}
 use Rattle.acredact.specs.Calls.{gives_pattern, gives_value}
 use Rattle.acredact.specs.Forms.{forms_from}
 use Rattle.acredact.specs.Loading.{AreGiven, AreRead, OptionGives, Reading, Rules, form_by, reading_of_lists, rules_for, values_in_text}
 use Rattle.acredact.specs.Looks.{CanLook}
 use Rattle.acredact.specs.Parts.{ArePartsBy, GivesPattern, line_secrets, secret_given}
-use Rattle.acredact.specs.Secrets.{CanRedact}
+use Rattle.acredact.specs.Ready.{IsReadyFor}
+use Rattle.acredact.specs.Secrets.{CanRedact, Keyed, Redactor}
 use Rattle.acredact.specs.Tables.{HaveNoEmpty, HoldsBy, Secret, patterns_in}
 use Rattle.acredact.specs.Values.{GiveEach, no_bytes, value_of_entry, whole_in}
 use Rattle.acredact.specs.declared.arguments.Word.{Word}
@@ -30,6 +36,7 @@ use Rattle.acredact.specs.declared.arguments.Word.TheVariants.{IgnoreCase, Kind,
 use Rattle.acredact.specs.declared.folder.Folder.{Ghosts as Folders}
 use Rattle.acredact.specs.declared.load.Lists.{Lists}
 use Rattle.acredact.specs.declared.patterns.Form.{Form}
+use Rattle.acredact.specs.declared.prepare.Ready.{Ready}
 use Rattle.acredact.proofs.FormsSome.{all_forms_some}
 
 abbrev pub IsSomeSecret : Secret → Type 0
@@ -127,32 +134,60 @@ standard_by : (asked : Option (List ℕ)) → is_cover (unwrap_or asked (codes "
 standard_by None is = refl
 standard_by (Some name) is = ap (λ (kind : Option MatchKind). unwrap_or kind Standard) (kind_of_cover name is)
 
-pub covers_standard : (given : List Given) → covers_asked given ≡ true → kind_asked given ≡ Standard
+-- words are those of covers
+words_cover : (covers has : Bool) → (covers && has) ≡ true → covers ≡ true
+words_cover true has is = refl
+words_cover false has is = absurd (cc)
+
+covers_standard : (given : List Given) → covers_asked given ≡ true → kind_asked given ≡ Standard
 covers_standard given is = standard_by (last_value Kind given) is
 
-started : (start : Result ℕ MatchErrorKind) → IsOk start → (sid : ℕ) × (start ≡ Ok sid)
-started (Ok sid) is = (sid, refl)
-started (Err error) is = absurd (cc)
+abbrev pub redactor_as : Patterns → (covers words : Bool) → List (List ℕ) → Option Keyed → Redactor
+redactor_as p covers words pieces key = record { patterns = p; covers = covers; words = words; pieces = pieces; key = key }
 
--- an automaton is ready
-pub ready_of : {A : Type 0} (G : Ghosts A) (automaton : A) (p : Patterns) (covers : Bool) (replacements : List (Bor (List ℕ))) → G.is_of automaton p → G.lengths automaton ≡ map length p.words → G.kind automaton ≡ p.kind
-    → (covers ≡ true → p.kind ≡ Standard) → IsOk (G.start automaton No) → 1 ≤ shortest (map length p.words) → length replacements ≡ length p.words → CanRedact G automaton covers replacements
-ready_of G automaton p covers replacements of are kind standard starts some one =
-    let start = started (G.start automaton No) starts in
-    record {
-      patterns = p;
-      of = of;
-      begins = (start.0, subst (λ (ns : List ℕ). 1 ≤ shortest ns) (sym are) some, start.1);
-      standard = λ is. kind ∙ standard is;
-      one_each = one ∙ sym (length-map p.words length) ∙ ap length (sym are);
-    }
+-- a searcher of such patterns begins streams
+begins_of : (searcher : Searcher) (p : Patterns) → IsBuiltFrom searcher p → Answers searcher No → 1 ≤ shortest (map length p.words) → CanBegin of_searcher searcher
+begins_of searcher p built answers some =
+    let start = start_of No searcher (p, built) answers in
+    (start.0, subst (λ (least : ℕ). 1 ≤ least) (sym (shortest_of p searcher built)) some, start.1)
 
--- or to look
-pub look_ready : {A : Type 0} (G : Ghosts A) (automaton : A) (p : Patterns) (words : Bool) → G.is_of automaton p → G.lengths automaton ≡ map length p.words → G.kind automaton ≡ p.kind
-    → (words ≡ true → p.kind ≡ Standard) → IsOk (G.start automaton No) → 1 ≤ shortest (map length p.words) → CanLook G automaton words
-look_ready G automaton p words of are kind standard starts some =
-    let start = started (G.start automaton No) starts in
-    record { patterns = p; of = of; begins = (start.0, subst (λ (ns : List ℕ). 1 ≤ shortest ns) (sym are) some, start.1); standard = λ is. kind ∙ standard is }
+-- one of all that occurs searches lines
+pub searcher_searches : (searcher : Searcher) (p : Patterns) → IsBuiltFrom searcher p → Answers searcher No → p.kind ≡ Standard → 1 ≤ shortest (map length p.words) → CanSearch of_searcher searcher
+searcher_searches searcher p built answers standard some =
+    let begins = begins_of searcher p built answers some in
+    record { of = (p, built); standard = finds_by p searcher built ∙ standard; starts = subst IsOk (sym begins.2) refl; full = begins.1 }
+
+module _ (given : List Given) (secrets : List Secret) (ready : Ready) (is : IsReadyFor given secrets ready) (some : HaveNoEmpty secrets) where
+  -- it redacts files
+  pub ready_redacts : (covers : Bool) → covers ≡ covers_asked given → (replacements : List (Bor (List ℕ))) → pieces_of replacements ≡ pieces_of ready.replacements.items → CanRedact of_searcher ready.searcher covers replacements
+  ready_redacts covers same replacements pieces =
+      let p = patterns_by_given given (patterns_in secrets) in
+      let many = λ (l : List (Bor (List ℕ))). sym (length-map l (λ piece. piece.now)) in
+      record {
+        patterns = p;
+        of = is.of;
+        begins = begins_of ready.searcher p is.of is.answers (some_shortest secrets some);
+        standard = λ asked. finds_by p ready.searcher is.of ∙ covers_standard given (sym same ∙ asked);
+        one_each = many replacements ∙ ap length (pieces ∙ is.pieces) ∙ length-map secrets _ ∙ sym (length-map secrets _) ∙ sym (count_of p ready.searcher is.of);
+      }
+
+  -- and looks at them
+  pub ready_looks : (words : Bool) → words ≡ words_asked given → CanLook of_searcher ready.searcher words
+  ready_looks words same =
+      let p = patterns_by_given given (patterns_in secrets) in
+      record {
+        patterns = p;
+        of = is.of;
+        begins = begins_of ready.searcher p is.of is.answers (some_shortest secrets some);
+        standard = λ asked. finds_by p ready.searcher is.of ∙ covers_standard given (words_cover (covers_asked given) (has AsWord given) (sym same ∙ asked));
+      }
+
+-- what is redacted is the same, by the same
+pub redactor_same : (p : Patterns) (covers covers' words words' : Bool) (pieces pieces' : List (List ℕ)) (key key' : Option Keyed) → covers ≡ covers' → words ≡ words' → pieces ≡ pieces' → key ≡ key'
+    → redactor_as p covers words pieces key ≡ redactor_as p covers' words' pieces' key'
+redactor_same p covers covers' words words' pieces pieces' key key' by chosen alike keyed =
+    ap (λ (b : Bool). redactor_as p b words pieces key) by ∙ ap (λ (b : Bool). redactor_as p covers' b pieces key) chosen
+    ∙ ap (λ (l : List (List ℕ)). redactor_as p covers' words' l key) alike ∙ ap (redactor_as p covers' words' pieces') keyed
 
 -- lists are read alike
 pub reading_from : {F X : Type 0} (D : Folders F X) (lists : Lists F) (folder : F) (rules : Rules) → lists.folder.now ≡ folder → rules_for lists ≡ rules → (P : Reading → Type 0)

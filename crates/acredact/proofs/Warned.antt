@@ -1,6 +1,6 @@
 -- What comes of a call whose pieces were looked at.
-use Rattle.std.proofs.Common.{◌≡◌, inl, inr, ℕ, List, [], ◌∷◌, ◌++◌, Option, true, false, refl, sym, ap, subst, ◌∙◌, append-nil}
-use Rattle.std.specs.Prelude.{◌⊎◌, Bool, MatchBool, None, Some, Result, Ok, Err, IfErr, IfOk, OnErr, OnOk, is_some, option_map}
+use Rattle.std.proofs.Common.{◌≡◌, inl, inr, ℕ, List, [], ◌∷◌, ◌++◌, Option, true, false, refl, sym, subst, ◌∙◌, append-nil}
+use Rattle.std.specs.Prelude.{◌⊎◌, Bool, None, Some, Result, Ok, Err, IfErr, OnErr, Vec, is_some, option_map}
 use Rattle.std.specs.List.{All, concat}
 use Rattle.std.specs.declared.io.traits.Read.{Ghosts as Readers}
 use Rattle.std.specs.declared.io.traits.Write.{Ghosts as Writers}
@@ -13,29 +13,21 @@ use Rattle.tool_parts.specs.Telling.{Tells, TellsBytes, TellsSome}
 use Rattle.tool_parts.specs.declared.errors.Errors.{Errors}
 use Rattle.tool_parts.specs.declared.failure.Failure.TheVariants.{OutOfMemory}
 use Rattle.tool_parts.proofs.Tellings.{tells-later}
-use Rattle.acredact.specs.Arguments.{Given, counts_asked, has}
-use Rattle.acredact.specs.Calls.{AreBounded, Call, CallOutcome, IsBuildRefusal, IsCountsFailure, IsCountsLine, IsLineOf, IsRunFailure, IsUntouched, IsWordLine, MayFail, OutputFails, RestOutcome, RunOutcome, TellsAnyNumbers, TellsCounts, TellsNumbers, WarnedOutcome, names_asked, reading_by, redactor_by_given, work_by}
-use Rattle.acredact.specs.Counts.{secret_lines, zeros}
+use Rattle.acredact.specs.Arguments.{Given, has}
+use Rattle.acredact.specs.Calls.{Call, CallOutcome, IsLineOf, IsUntouched, IsWordLine, MayFail, OutputFails, RestOutcome, TellsAnyNumbers, TellsNumbers, keyed_as, names_asked, reading_by, redactor_by_given, work_by}
 use Rattle.acredact.specs.Doubts.{TellsDoubts, all_doubt_lines}
-use Rattle.acredact.specs.Files.{Work, key_for, keyed_of}
-use Rattle.acredact.specs.Loading.{AreLoaded, Loaded, loaded_as}
+use Rattle.acredact.specs.Loading.{AreLoaded, Loaded, key_in}
 use Rattle.acredact.specs.Messages.{unclean_line}
-use Rattle.acredact.specs.Pieces.{IsJudged, IsJudgedBy, TellsOfPieces, TellsUnclean}
-use Rattle.acredact.specs.Secrets.{AreCleanBy, Redactor}
-use Rattle.acredact.specs.Summaries.{no_volume, totals_text}
-use Rattle.acredact.specs.Sums.{sums_of}
-use Rattle.acredact.specs.Tables.{Secret, secrets_of}
-use Rattle.acredact.specs.Totals.{CountsOfNames}
-use Rattle.acredact.specs.Volumes.{ReadsVolume}
+use Rattle.acredact.specs.Pieces.{IsJudgedBy, TellsOfPieces}
+use Rattle.acredact.specs.Ready.{CannotPrepare}
+use Rattle.acredact.specs.Secrets.{AreCleanBy, Redactor, key_of_cover}
+use Rattle.acredact.specs.Tables.{Secret}
 use Rattle.acredact.specs.declared.arguments.Word.TheVariants.{Strict}
 use Rattle.acredact.specs.declared.clean.Unclean.{Unclean}
 use Rattle.acredact.specs.declared.failure.Failure.{Failure}
 use Rattle.acredact.specs.declared.failure.Failure.TheVariants.{Other, Unclean as UncleanPiece}
-use Rattle.acredact.specs.declared.patterns.Rule.{Rule}
-use Rattle.acredact.specs.declared.ways.Key.{Key}
 use Rattle.acredact.specs.declared.streams.Streams.{Streams}
-use Rattle.acredact.specs.declared.summary.Volume.{Volume}
-use Rattle.acredact.proofs.Calls.{build_other, may_fail, rest_cut, rest_told, run_other, tells_same}
+use Rattle.acredact.proofs.Calls.{build_other, call_refused, may_fail, tells_same}
 use Rattle.acredact.proofs.Done.{concat_both}
 use Rattle.acredact.proofs.Free.{free_of}
 
@@ -49,19 +41,21 @@ same_strict : {E : Type 0} (K : SinkGhosts E) (strict : Bool) (given : List Give
 same_strict K true given secrets old new is doubts = doubts.1
 same_strict K false given secrets old new is doubts = let clash : false ≡ true = is in absurd (cc)
 
--- whether there is a key
-named_by : (key : Option Key) → is_some key ≡ is_some (option_map keyed_of key)
-named_by None = refl
-named_by (Some key) = refl
+-- what is answered of pieces is so where these, the way and the key are asked for
+judged_by : {Z : Type 0} (p : Patterns) (covers ignore_case : Bool) (key : Option (Vec ℕ Z)) (pieces : List (List ℕ)) (answer : Option Unclean)
+    → IsJudgedBy p covers (is_some key) pieces answer → IsJudgedBy p covers (is_some (key_of_cover covers (option_map (keyed_as ignore_case) (key_in key)))) pieces answer
+judged_by p true ignore_case None pieces answer judged = judged
+judged_by p true ignore_case (Some key) pieces answer judged = judged
+judged_by p false ignore_case key pieces None judged = λ (clash : false ≡ true). absurd (cc)
+judged_by p false ignore_case key pieces (Some unclean) (clash, judged) = absurd (cc)
 
--- what is answered of pieces is so of a job with these
-pub judged_as : (p : Patterns) (covers named : Bool) (key : Option Key) (pieces pieces' : List (List ℕ)) (answer : Option Unclean) → named ≡ is_some key → pieces ≡ pieces'
-    → IsJudgedBy p covers named pieces' answer → IsJudgedBy p covers (is_some (key_for covers key)) pieces answer
-judged_as p true named key pieces pieces' answer is same judged =
-    subst (λ (l : List (List ℕ)). IsJudgedBy p true (is_some (key_for true key)) l answer) (sym same)
-    (subst (λ (b : Bool). IsJudgedBy p true b pieces' answer) (is ∙ named_by key) judged)
-judged_as p false named key pieces pieces' None is same judged = λ (clash : false ≡ true). absurd (cc)
-judged_as p false named key pieces pieces' (Some unclean) is same (clash, judged) = absurd (cc)
+pub judged_as : {Z : Type 0} (p : Patterns) (covers covers' named ignore_case : Bool) (key : Option (Vec ℕ Z)) (pieces pieces' : List (List ℕ)) (answer : Option Unclean) → covers' ≡ covers → named ≡ is_some key → pieces' ≡ pieces
+    → IsJudgedBy p covers' named pieces' answer → IsJudgedBy p covers (is_some (key_of_cover covers (option_map (keyed_as ignore_case) (key_in key)))) pieces answer
+judged_as p covers covers' named ignore_case key pieces pieces' answer by is same judged =
+    judged_by p covers ignore_case key pieces answer
+    (subst (λ (b : Bool). IsJudgedBy p b (is_some key) pieces answer) by
+    (subst (λ (b : Bool). IsJudgedBy p covers' b pieces answer) is
+    (subst (λ (l : List (List ℕ)). IsJudgedBy p covers' named l answer) same judged)))
 
 -- lines behind lines
 module _ {E : Type 0} (K : SinkGhosts E) (IsLine : List ℕ → Type 0) (old mid new : Errors E) (first : Tells K IsLine old mid) where
@@ -158,30 +152,19 @@ module _ {E : Type 0} (K : SinkGhosts E) (call : Call) (load : Loaded) (left bet
     };
   })
 
--- no file was read
-module _ {R : Type 0} {Reads : Readers R} {W E : Type 0} (Writes : Writers W) (K : SinkGhosts E) (strict : Bool) (work : Work) where
-  pub warned_refused : (streams : Streams R W E Reads) (failure : Failure) → IsRunFailure (OutputFails streams.output streams.output) failure → WarnedOutcome Writes K strict work (Err failure) streams streams
-  warned_refused streams failure fails = inl (failure, refl, refl, inr (inr fails))
+-- why nothing is ready may end a call, and where it is a piece it is to be refused
+module _ (call : Call) (load : Loaded) (left between : Option (List ℕ)) (loaded : AreLoaded (reading_by call) call.given load left between) where
+  pub may_prepare : (fails : Type 0) (failure : Failure) → CannotPrepare call.given load failure → MayFail call fails failure
+  may_prepare fails failure (inl doubted) = inr (inr (inr (inr (inr (inr (load, left, between, loaded, doubted))))))
+  may_prepare fails failure (inr (inl strict)) = inr (inr (inr (inl (load, left, between, loaded, strict))))
+  may_prepare fails failure (inr (inr (inl refused))) = inr (inr (inr (inr (inl (load, left, between, loaded, refused)))))
+  may_prepare fails failure (inr (inr (inr memory))) = may_fail call fails failure (inl memory)
 
-  -- memory may always run out
-  pub warned_memory : (streams : Streams R W E Reads) → WarnedOutcome Writes K strict work (Err (Other OutOfMemory)) streams streams
-  warned_memory streams = warned_refused streams (Other OutOfMemory) (inl refl)
-
-  -- the library refuses the patterns
-  pub warned_built : (streams : Streams R W E Reads) (failure : Failure) → IsBuildRefusal work.redactor.patterns failure → WarnedOutcome Writes K strict work (Err failure) streams streams
-  warned_built streams failure refused = inl (failure, refl, refl, inr (inl refused))
-
-  -- a piece is refused
-  pub warned_strict : (streams : Streams R W E Reads) (errors : Errors E) (answer : Option Unclean) (failure : Failure) → IsJudged work.redactor answer
-      → (piece : Unclean) × (answer ≡ Some piece) × (failure ≡ UncleanPiece piece) × (strict ≡ true) → errors ≡ streams.errors → WarnedOutcome Writes K strict work (Err failure) streams (record streams { errors = errors })
-  warned_strict streams errors answer failure judged (piece, is, fails, asked) same =
-      let here : IsJudged work.redactor (Some piece) = subst (λ (a : Option Unclean). IsJudged work.redactor a) is judged in
-      inl (failure, refl, ap (λ (e : Errors E). record streams { errors = e }) same, inl (piece, fails, asked, here.0, here.1))
-
-  -- files are redacted behind what is told of pieces
-  pub warned_run : (old new : Streams R W E Reads) (errors : Errors E) (answer : Option Unclean) (result : Result Bool Failure) → IsJudged work.redactor answer → TellsUnclean K strict answer old.errors errors
-      → RunOutcome Writes K work result (record old { errors = errors }) new → WarnedOutcome Writes K strict work result old new
-  warned_run old new errors answer result judged told run = inr (errors, (answer, judged, told), run)
+strictly : (given : List Given) (load : Loaded) (failure : Failure) (unclean : Unclean) → CannotPrepare given load failure → failure ≡ UncleanPiece unclean → has Strict given ≡ true
+strictly given load failure unclean (inl doubted) is = doubted.0
+strictly given load failure unclean (inr (inl strict)) is = strict.2
+strictly given load failure unclean (inr (inr (inl refused))) is = absurd (build_other _ failure unclean refused is)
+strictly given load failure unclean (inr (inr (inr memory))) is = let clash : Other OutOfMemory ≡ UncleanPiece unclean = sym memory ∙ is in absurd (cc)
 
 module _ {R : Type 0} {Reads : Readers R} {W E : Type 0} (Writes : Writers W) (K : SinkGhosts E) (call : Call) (left : Option (List ℕ)) where
   refused_other : (old new : Streams R W E Reads) (result : Result Bool Failure) → IfErr result (λ failure. (unclean : Unclean) → failure ≡ UncleanPiece unclean → ⊥)
@@ -189,9 +172,9 @@ module _ {R : Type 0} {Reads : Readers R} {W E : Type 0} (Writes : Writers W) (K
   refused_other old new (Ok all) other = tt
   refused_other old new (Err failure) other = λ unclean is. absurd (other unclean is)
 
-  module _ (load : Loaded) (old mid : Streams R W E Reads) (loaded : AreLoaded (reading_by call) call.given load left (bytes_left old.input)) (first : Errors E) (doubts : TellsDoubts K (has Strict call.given) call.given load.secrets first old.errors) where
+  module _ (load : Loaded) (old : Streams R W E Reads) (loaded : AreLoaded (reading_by call) call.given load left (bytes_left old.input)) (first : Errors E) (doubts : TellsDoubts K (has Strict call.given) call.given load.secrets first old.errors) where
     -- no file is read, behind what is told of patterns of lists
-    pub call_behind : (failure : Failure) → ((unclean : Unclean) → failure ≡ UncleanPiece unclean → has Strict call.given ≡ true) → MayFail call (OutputFails old.output old.output) failure
+    call_behind : (failure : Failure) → ((unclean : Unclean) → failure ≡ UncleanPiece unclean → has Strict call.given ≡ true) → MayFail call (OutputFails old.output old.output) failure
         → CallOutcome Writes K call left (Err failure) (record old { errors = first }) old
     call_behind failure strictly fails = record {
       redacts = λ (is : Err failure ≡ Ok true). absurd (cc);
@@ -207,7 +190,7 @@ module _ {R : Type 0} {Reads : Readers R} {W E : Type 0} (Writes : Writers W) (K
     }
 
     -- what comes of the files comes behind what is told of the pieces
-    call_warned : (new : Streams R W E Reads) (errors : Errors E) (result : Result Bool Failure) → TellsOfPieces K (has Strict call.given) (redactor_by_given call.given load) old.errors errors
+    pub call_warned : (new : Streams R W E Reads) (errors : Errors E) (result : Result Bool Failure) → TellsOfPieces K (has Strict call.given) (redactor_by_given call.given load) old.errors errors
         → RestOutcome Writes K call load result (record old { errors = errors }) new → CallOutcome Writes K call left result (record old { errors = first }) new
     call_warned new errors result told rest =
         let warns = λ (fails : Type 0). warnings_tell K call fails load left (bytes_left old.input) loaded first old.errors errors doubts told in
@@ -249,30 +232,11 @@ module _ {R : Type 0} {Reads : Readers R} {W E : Type 0} (Writes : Writers W) (K
           told = told_behind K call first errors new.errors (OutputFails old.output new.output) result (warns _) rest.told;
         }
 
-    -- the files' redaction fails, or is refused
-    pub call_cut : (failure : Failure) → WarnedOutcome Writes K (has Strict call.given) (work_by call load) (Err failure) old mid → CallOutcome Writes K call left (Err failure) (record old { errors = first }) mid
-    call_cut failure (inl (why, is, same, of)) =
-        let alike : why ≡ failure = cc in
-        subst (λ (s : Streams R W E Reads). CallOutcome Writes K call left (Err failure) (record old { errors = first }) s) (sym same)
-        (subst (λ (f : Failure). CallOutcome Writes K call left (Err f) (record old { errors = first }) old) alike
-        (elim of [
-          | inl strict ↦ call_behind why (λ unclean is. strict.2) (inr (inr (inr (inl (load, left, bytes_left old.input, loaded, strict)))))
-          | inr (inl refused) ↦ call_behind why (λ unclean is. absurd (build_other _ why unclean refused is)) (inr (inr (inr (inr (inl (load, left, _, loaded, refused))))))
-          | inr (inr run) ↦ call_behind why (λ unclean is. absurd (run_other _ why unclean run is)) (may_fail call _ why run)
-        ]))
-    call_cut failure (inr (errors, told, run)) =
-        call_warned mid errors (Err failure) told (rest_cut Writes K call load (record old { errors = errors }) mid failure run)
-
-  -- all was done but the counts
-  pub call_told : (rules : List Rule) (key : Option (List ℕ)) (numbers : List ℕ) (volume : Volume) (old mid : Streams R W E Reads) → AreLoaded (reading_by call) call.given (loaded_as rules key) left (bytes_left old.input)
-      → (first : Errors E) → TellsDoubts K (has Strict call.given) call.given (secrets_of rules) first old.errors → (all counted : Bool) (result : Result Bool Failure) (errors : Errors E) → counted ≡ counts_asked call.given → WarnedOutcome Writes K (has Strict call.given) (work_by call (loaded_as rules key)) (Ok all) old mid
-      → (all ≡ true → CountsOfNames (bytes_left old.input) (bytes_left mid.input) (zeros counted rules) numbers (work_by call (loaded_as rules key)) (names_asked call.given)
-      × ReadsVolume call.holds (names_asked call.given) no_volume volume (bytes_left old.input) (bytes_left mid.input))
-      → IfOk result (λ done. done ≡ all) → OnOk result (MatchBool counted (TellsCounts K call.given rules numbers volume mid.errors errors) (errors ≡ mid.errors))
-      → IfErr result (IsCountsFailure counted) → Tells K (IsCountsLine call.given (secrets_of rules)) mid.errors errors
-      → AreBounded call.holds (names_asked call.given) (sums_of (secrets_of rules) numbers) volume (bytes_left old.input) (bytes_left mid.input) → Tells K (λ line. line ≡ totals_text call.given (secret_lines (secrets_of rules)) (sums_of (secrets_of rules) numbers) volume) mid.errors errors
-      → CallOutcome Writes K call left result (record old { errors = first }) (record mid { errors = errors })
-  call_told rules key numbers volume old mid loaded first doubts all counted result errors is (inl (why, fails, same, of)) grown done counts untold told bounded totals = let clash : Ok all ≡ Err why = fails in absurd (cc)
-  call_told rules key numbers volume old mid loaded first doubts all counted result errors is (inr (warned, pieces, run)) grown done counts untold told bounded totals =
-      call_warned (loaded_as rules key) old mid loaded first doubts (record mid { errors = errors }) warned result pieces
-      (rest_told Writes K call rules key left (bytes_left old.input) loaded numbers volume (record old { errors = warned }) mid all counted result errors is run grown done counts untold told bounded totals)
+  -- nothing is ready
+  pub call_unready : (load : Loaded) (old : Streams R W E Reads) → AreLoaded (reading_by call) call.given load left (bytes_left old.input) → (errors : Errors E) (failure : Failure) → CannotPrepare call.given load failure
+      → (errors ≡ old.errors) ⊎ TellsDoubts K (has Strict call.given) call.given load.secrets old.errors errors → CallOutcome Writes K call left (Err failure) old (record old { errors = errors })
+  call_unready load old loaded errors failure cannot (inl same) =
+      subst (λ (e : Errors E). CallOutcome Writes K call left (Err failure) old (record old { errors = e })) (sym same)
+      (call_refused Writes K call left old.input old failure (may_prepare call load left (bytes_left old.input) loaded _ failure cannot))
+  call_unready load old loaded errors failure cannot (inr doubts) =
+      call_behind load (record old { errors = errors }) loaded old.errors doubts failure (λ unclean. strictly call.given load failure unclean cannot) (may_prepare call load left (bytes_left old.input) loaded _ failure cannot)

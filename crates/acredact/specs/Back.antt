@@ -1,5 +1,5 @@
 -- By what a stream is redacted by a walk backward.
-use Rattle.std.specs.Prelude.{ℕ, Bool, List, Option, Result, false, IfSome}
+use Rattle.std.specs.Prelude.{ℕ, Bool, List, Result, false}
 use Rattle.std.specs.Borrow.{Bor}
 use Rattle.std.specs.declared.io.traits.Read.{Ghosts as Readers}
 use Rattle.std.specs.declared.io.traits.Write.{Ghosts as Writers}
@@ -10,8 +10,6 @@ use Rattle.aho_backward.specs.Searcher.{IsBackwardOf}
 use Rattle.aho_backward.specs.declared.backward.Backward.{Backward}
 use Rattle.aho_devices.specs.declared.device.Sink.{Ghosts as SinkGhosts}
 use Rattle.aho_devices.specs.declared.device.Source.{Ghosts as SourceGhosts}
-use Rattle.acredact.specs.Arguments.{Given}
-use Rattle.acredact.specs.Builds.{patterns_by_given}
 use Rattle.acredact.specs.Files.{FilesOutcome, redactor_of, work_of}
 use Rattle.acredact.specs.Secrets.{IfOf, Redactor, redactor_by}
 use Rattle.acredact.specs.Streams.{StreamOutcome}
@@ -20,10 +18,6 @@ use Rattle.acredact.specs.Ways.{IsRedactor}
 use Rattle.acredact.specs.declared.files.Job.{Job}
 use Rattle.acredact.specs.declared.folder.Folder.{Ghosts as Folders}
 use Rattle.acredact.specs.declared.streams.Streams.{Streams}
-
--- where there is a searcher by a walk backward, it gives the finds of these words, by the kind and the case rule that are given
-abbrev pub IsBackAsked : {A : Type 0} → Ghosts A → List Given → List (List ℕ) → Option (Backward A) → Type 0
-IsBackAsked G given words searcher = IfSome searcher (λ searcher. IsBackwardOf G searcher (patterns_by_given given words))
 
 -- what comes of a stream that it redacts by its patterns, with these replacements
 abbrev pub BackStream : {A R W : Type 0} → Ghosts A → SourceGhosts R → SinkGhosts W → Backward A → List (Bor (List ℕ)) → Result (Unit {0}) StreamError → (source source' : R) (sink sink' : W) → Type 0
@@ -35,14 +29,6 @@ pub record IsBacking {A B : Type 0} (G : Ghosts A) (H : Ghosts B) (searcher : Ba
   pub backward : IsBackwardOf H searcher r.patterns
   pub forward : IsRedactor G automaton false false replacements r
 
--- a searcher, where there is one, and an automaton are of the same patterns
-abbrev pub AreBoth : {A B : Type 0} → Ghosts A → Ghosts B → A → Option (Bor (Backward B)) → Type 0
-AreBoth G H automaton searcher = IfSome searcher (λ searcher. (p : Patterns) × G.is_of automaton p × IsBackwardOf H searcher.now p)
-
--- what holds where these patterns are those of a searcher, if there is one
-abbrev pub IfBackIs : {B : Type 0} → Ghosts B → Option (Bor (Backward B)) → Patterns → Type 0 → Type 0
-IfBackIs H searcher p Holds = IfSome searcher (λ searcher. IsBackwardOf H searcher.now p) → Holds
-
 module _ {R W E F X : Type 0} {Reads : Readers R} (D : Folders F X) (job : Job F) where
   -- what comes of the files of a job that are redacted by these patterns
   abbrev pub FilesJob : Writers W → SinkGhosts E → Result Bool StreamError → (streams streams' : Streams R W E Reads) → Patterns → Type 0
@@ -53,14 +39,7 @@ module _ {A B R W E F X : Type 0} {Reads : Readers R} (Writes : Writers W) (K : 
   abbrev pub BackOutcome : Backward B → Job F → Result Bool StreamError → (streams streams' : Streams R W E Reads) → Type 0
   BackOutcome searcher job result streams streams' = IfOf G automaton (λ p. IsBackwardOf H searcher p → FilesJob D job Writes K result streams streams' p)
 
-  -- and of an automaton and one with rows, where there is one
-  abbrev pub RowsOutcome : Option (Bor B) → Job F → Result Bool StreamError → (streams streams' : Streams R W E Reads) → Type 0
-  RowsOutcome rows job result streams streams' = IfOf G automaton (λ p. IfSome rows (λ rows. H.is_of rows.now p) → FilesJob D job Writes K result streams streams' p)
-
 module _ {A B R W E F X Z : Type 0} {Reads : Readers R} (G : Ghosts A) (H : Ghosts B) (D : Folders F X) (automaton : A) where
   -- and what is counted
   abbrev pub BackCounts : Backward B → Job F → Result Bool Z → (streams streams' : Streams R W E Reads) → (counts counts' : List ℕ) → Type 0
   BackCounts searcher job result streams streams' counts counts' = IfOf G automaton (λ p. IsBackwardOf H searcher p → JobCounts D job result streams streams' counts counts' p)
-
-  abbrev pub RowsCounts : Option (Bor B) → Job F → Result Bool Z → (streams streams' : Streams R W E Reads) → (counts counts' : List ℕ) → Type 0
-  RowsCounts rows job result streams streams' counts counts' = IfOf G automaton (λ p. IfSome rows (λ rows. H.is_of rows.now p) → JobCounts D job result streams streams' counts counts' p)

@@ -1,24 +1,32 @@
--- The automaton that is asked for, and why it is not made.
-use Rattle.std.specs.Prelude.{◌≡◌, ◌⊎◌, ℕ, List, [], Some}
+-- The searcher that is asked for, and why it is not made.
+use Rattle.std.specs.Prelude.{◌≡◌, ◌⊎◌, ℕ, Bool, true, List, Some}
 use Rattle.aho_core.specs.Patterns.{Patterns}
 use Rattle.aho_core.specs.declared.error.BuildError.{BuildError}
 use Rattle.aho_core.specs.declared.error.BuildError.TheVariants.{OutOfMemory}
+use Rattle.aho_core.specs.declared.search.MatchKind.{MatchKind}
 use Rattle.aho_build.specs.Refusals.{Growth, cause, refusal_of}
 use Rattle.aho_build.specs.Settings.{default_settings}
 use Rattle.aho_build.specs.declared.settings.Settings.{Settings}
+use Rattle.chromesquid.specs.Searcher.{Building, default_building}
 use Rattle.acredact.specs.Arguments.{Given, has, kind_asked}
 use Rattle.acredact.specs.declared.arguments.Word.TheVariants.{IgnoreCase}
 
--- these words, by the kind and the case rule that are given
-abbrev pub patterns_by_given : List Given → List (List ℕ) → Patterns
-patterns_by_given given words = record { words = words; kind = kind_asked given; ignore_case = has IgnoreCase given }
+-- these words, by a match kind and a case rule
+abbrev pub patterns_asked : MatchKind → Bool → List (List ℕ) → Patterns
+patterns_asked kind ignore_case words = record { words = words; kind = kind; ignore_case = ignore_case }
 
--- the settings of an automaton's build: all else is as a new builder has it
+-- by those that are given
+abbrev pub patterns_by_given : List Given → List (List ℕ) → Patterns
+patterns_by_given given words = patterns_asked (kind_asked given) (has IgnoreCase given) words
+
+-- the settings of their build: all else is as a new builder has it
 abbrev pub build_settings : Patterns → Settings
 build_settings p = record default_settings { kind = p.kind; ignore_case = p.ignore_case }
 
-abbrev pub settings_by_given : List Given → Settings
-settings_by_given given = build_settings (patterns_by_given given [])
+-- how their searcher is built: what memory is refused for is left out, and all finds of texts may be asked for
+abbrev pub building_asked : MatchKind → Bool → (finds_all : Bool) → Building
+building_asked kind ignore_case finds_all =
+    record default_building { settings = record default_settings { kind = kind; ignore_case = ignore_case }; best_effort = true; finds_all = finds_all }
 
 -- why the library does not make it: memory is wanting, or the first number that these patterns ask for above its limit, and the error says
 -- which that is

@@ -1,6 +1,5 @@
 -- What a call does, by what its arguments ask for, and what it tells.
-use Rattle.std.specs.Prelude.{◌≡◌, ◌⊎◌, ℕ, ◌<◌, ◌≤◌, slice_index, ◌||◌, Bool, MatchBool, true, false, List, [], ◌∷◌, Option, Some, Result, Ok, Err, IfErr, IfOk, OnErr, codes, is_some, length, map, option_map, unwrap_or, if◌then◌else◌}
-use Rattle.std.specs.Borrow.{Bor}
+use Rattle.std.specs.Prelude.{◌≡◌, ◌⊎◌, ℕ, ◌<◌, ◌≤◌, slice_index, ◌||◌, Bool, MatchBool, true, false, List, [], ◌∷◌, Option, Result, Ok, IfErr, IfOk, OnErr, codes, is_some, length, map, option_map, unwrap_or, if◌then◌else◌}
 use Rattle.std.specs.declared.io.traits.Read.{Ghosts as Readers}
 use Rattle.std.specs.declared.io.traits.Write.{Ghosts as Writers}
 use Rattle.aho_core.specs.Listing.{IsMember}
@@ -21,15 +20,15 @@ use Rattle.acredact.specs.Arguments.{Given, GivesNoPattern, RefusesUnclean, coun
 use Rattle.acredact.specs.Bounds.{NumbersOfAll, ReadInAll}
 use Rattle.acredact.specs.Builds.{RefusesPatterns, patterns_by_given}
 use Rattle.acredact.specs.Counts.{secret_lines, lines_of_rules}
-use Rattle.acredact.specs.Doubts.{IsDoubtFailure, TellsDoubts, TellsWarnings, all_doubt_lines}
+use Rattle.acredact.specs.Doubts.{IsDoubtFailure, TellsWarnings, all_doubt_lines}
 use Rattle.acredact.specs.Failures.{IsFailureLine}
 use Rattle.acredact.specs.Forms.{forms_asked}
-use Rattle.acredact.specs.Files.{AreCut, AreDone, AreFree, AreRedacted, Does, Work, are_none, redactor_of, unread_line, work_of}
+use Rattle.acredact.specs.Files.{AreCut, AreDone, AreFree, AreRedacted, Does, Work, are_none, unread_line}
 use Rattle.acredact.specs.Hidden.{AreHidden}
-use Rattle.acredact.specs.Loading.{AreGiven, AreLoaded, CannotLoadKey, CannotLoadOne, IsKeyGiven, Loaded, Reading, Rules, key_lent, loaded_as}
+use Rattle.acredact.specs.Loading.{AreLoaded, CannotLoadAll, CannotLoadKey, CannotLoadOne, Loaded, Reading, Rules}
 use Rattle.acredact.specs.Messages.{output_line, unclean_line}
 use Rattle.acredact.specs.Mistakes.{IsMistakeOfCall}
-use Rattle.acredact.specs.Pieces.{IsUncleanBy, TellsOfPieces}
+use Rattle.acredact.specs.Pieces.{IsUncleanBy}
 use Rattle.acredact.specs.Secrets.{Keyed, Redactor, key_of_cover}
 use Rattle.acredact.specs.Tables.{Secret, patterns_in, piece_by, secrets_of}
 use Rattle.acredact.specs.Sums.{sums_of}
@@ -37,11 +36,10 @@ use Rattle.acredact.specs.Summaries.{no_volume, totals_text}
 use Rattle.acredact.specs.Totals.{AreTotals, NamesHaveRanges}
 use Rattle.acredact.specs.Volumes.{ReadsVolume}
 use Rattle.acredact.specs.declared.arguments.Mistake.TheVariants.{NoPattern, OutOfMemory as NoRoom}
-use Rattle.acredact.specs.declared.arguments.Word.TheVariants.{Crlf, Forms, AllowEmpty, IgnoreCase, Strict, File, Pattern as PatternOption, Patterns as PatternFile, Table, Env, EnvFile, Whole, With, Pseudonym}
+use Rattle.acredact.specs.declared.arguments.Word.TheVariants.{Crlf, Forms, AllowEmpty, IgnoreCase, Strict, File, Pattern as PatternOption, Patterns as PatternFile, Table, Env, EnvFile, Whole, With}
 use Rattle.acredact.specs.declared.clean.Unclean.{Unclean}
 use Rattle.acredact.specs.declared.failure.Failure.{Failure}
 use Rattle.acredact.specs.declared.failure.Failure.TheVariants.{NotText, Arguments, Unclean as UncleanPiece, Counts, Other}
-use Rattle.acredact.specs.declared.files.Job.{Job}
 use Rattle.acredact.specs.declared.folder.Folder.{Ghosts as Folders}
 use Rattle.acredact.specs.declared.patterns.Rule.{Rule}
 use Rattle.acredact.specs.declared.streams.Streams.{Streams}
@@ -163,6 +161,10 @@ abbrev pub IsRefusedCall : Call → Failure → Type 0
 IsRefusedCall call failure = (load : Loaded) × (left : Option (List ℕ)) × (between : Option (List ℕ))
     × AreLoaded (reading_by call) call.given load left between
     × IsBuildRefusal (patterns_by_given call.given (patterns_in load.secrets)) failure
+
+-- one of the options or the key cannot be loaded, or memory runs out
+abbrev pub CannotLoadCall : Call → Failure → Type 0
+CannotLoadCall call failure = CannotLoadAll (reading_by call) call.given failure ⊎ CannotLoadKey (reading_by call) call.given failure
 
 -- why a call ends early: there is no pattern, one of the options or the key cannot be loaded, the counts cannot be written, a piece is not clean,
 -- the patterns are refused, the files are not redacted, or a pattern of a list is refused
@@ -393,42 +395,17 @@ module _ {R : Type 0} {Reads : Readers R} {W : Type 0} (Writes : Writers W) wher
       pub quiet : result ≡ Ok true → streams'.errors ≡ streams.errors
       pub fails : IfErr result (IsRunFailure (OutputFails streams.output streams'.output))
 
-    -- they are not, since a piece is refused, memory runs out, or the library refuses the patterns; or what is told of the pieces comes first
-    abbrev pub WarnedOutcome : (strict : Bool) → Work → Result Bool Failure → (streams streams' : Streams R W E Reads) → Type 0
-    WarnedOutcome strict work result streams streams' =
-        ((failure : Failure) × (result ≡ Err failure) × (streams' ≡ streams)
-        × (IsStrictFailure strict work.redactor failure
-        ⊎ (IsBuildRefusal work.redactor.patterns failure ⊎ IsRunFailure (OutputFails streams.output streams.output) failure)))
-        ⊎ ((errors : Errors E) × TellsOfPieces K strict work.redactor streams.errors errors × RunOutcome work result (record streams { errors = errors }) streams')
-
-    -- the same of a job, where files are redacted by these patterns
-    abbrev pub WarnedJob : {F X : Type 0} → Folders F X → (strict : Bool) → Job F → Patterns → Result Bool Failure → (streams streams' : Streams R W E Reads) → Type 0
-    WarnedJob D strict job p result streams streams' = WarnedOutcome strict (work_of D job (redactor_of job p)) result streams streams'
-
-    -- the same of a call whose patterns were loaded as these rules, and whose key is this, with the bytes that the input has left since
-    abbrev pub LoadOutcome : {F X : Type 0} → Folders F X → F → List Given → List Rule → Option (Bor (List ℕ)) → Result Bool Failure → (streams streams' : Streams R W E Reads) → Type 0
-    LoadOutcome D folder given rules key result streams streams' = (left : Option (List ℕ))
-        → AreLoaded (reading_by (call_of D folder given)) given (loaded_as rules (key_lent key)) left (bytes_left streams.input)
+    -- the same of a call whose patterns and key were loaded, with the bytes that the input has left since
+    abbrev pub LoadOutcome : {F X : Type 0} → Folders F X → F → List Given → Loaded → Result Bool Failure → (streams streams' : Streams R W E Reads) → Type 0
+    LoadOutcome D folder given load result streams streams' = (left : Option (List ℕ))
+        → AreLoaded (reading_by (call_of D folder given)) given load left (bytes_left streams.input)
         → CallOutcome (call_of D folder given) left result streams streams'
 
-    -- the same behind what is told of doubtful patterns of lists
-    abbrev pub DoubtedOutcome : {F X : Type 0} → Folders F X → F → List Given → List Rule → Option (Bor (List ℕ)) → Result Bool Failure → (streams streams' : Streams R W E Reads) → Type 0
-    DoubtedOutcome D folder given rules key result streams streams' = (first : Errors E)
-        → TellsDoubts K (has Strict given) given (secrets_of rules) first streams.errors
-        → LoadOutcome D folder given rules key result (record streams { errors = first }) streams'
-
-    -- and of one whose key is to be loaded
-    abbrev pub KeylessOutcome : {F X : Type 0} → Folders F X → F → List Given → List Rule → Result Bool Failure → (streams streams' : Streams R W E Reads) → Type 0
-    KeylessOutcome D folder given rules result streams streams' = (left : Option (List ℕ))
-        → AreGiven (reading_by (call_of D folder given)) given (secrets_of rules) left (bytes_left streams.input)
-        → CallOutcome (call_of D folder given) left result streams streams'
-
-    -- the same once the bytes of the key were read too
-    abbrev pub KeyedOutcome : {F X : Type 0} → Folders F X → F → List Given → List Rule → (key : List ℕ) → Result Bool Failure → (streams streams' : Streams R W E Reads) → Type 0
-    KeyedOutcome D folder given rules key result streams streams' = (left between : Option (List ℕ))
-        → AreGiven (reading_by (call_of D folder given)) given (secrets_of rules) left between
-        → IsKeyGiven (reading_by (call_of D folder given)) (last_value Pseudonym given) (Some key) between (bytes_left streams.input)
-        → CallOutcome (call_of D folder given) left result streams streams'
+    -- and behind what is told of them
+    abbrev pub ReadyOutcome : {F X : Type 0} → Folders F X → F → List Given → Loaded → Result Bool Failure → (streams streams' : Streams R W E Reads) → Type 0
+    ReadyOutcome D folder given load result streams streams' = (left : Option (List ℕ))
+        → AreLoaded (reading_by (call_of D folder given)) given load left (bytes_left streams.input)
+        → RestOutcome (call_of D folder given) load result streams streams'
 
     -- and of a call whose patterns are to be loaded
     abbrev pub AskedOutcome : {F X : Type 0} → Folders F X → F → List Given → Result Bool Failure → (streams streams' : Streams R W E Reads) → Type 0

@@ -1,12 +1,10 @@
 -- What becomes of files that are replaced in place: of each a new one is filled, and takes its place where all was done.
-use Rattle.std.specs.Prelude.{◌≡◌, ◌⊎◌, ℕ, Bool, true, false, List, [], ◌∷◌, ◌++◌, Option, Some, Result, Ok, Err, IfErr, IfOk, IfSome, OnErr}
-use Rattle.std.specs.Borrow.{Bor}
+use Rattle.std.specs.Prelude.{◌≡◌, ◌⊎◌, ℕ, Bool, true, false, List, [], ◌∷◌, ◌++◌, Option, Result, Ok, IfErr, IfOk, IfSome, OnErr}
 use Rattle.std.specs.List.{All, concat}
 use Rattle.std.specs.declared.io.traits.Read.{Ghosts as Readers}
 use Rattle.std.specs.declared.io.traits.Write.{Ghosts as Writers}
 use Rattle.aho_core.specs.Occurrence.{Occurrence}
 use Rattle.aho_core.specs.Patterns.{Patterns}
-use Rattle.aho_core.specs.Replacement.{pieces_of}
 use Rattle.aho_core.specs.declared.error.stream.StreamError.{StreamError}
 use Rattle.aho_core.specs.declared.error.stream.StreamError.TheVariants.{Memory}
 use Rattle.aho_devices.specs.declared.adapters.FromWrite.{FromWrite}
@@ -17,28 +15,24 @@ use Rattle.tool_parts.specs.Telling.{Tells, TellsBytes, TellsSome}
 use Rattle.tool_parts.specs.declared.errors.Errors.{Errors}
 use Rattle.tool_parts.specs.declared.failure.Failure.TheVariants.{OutOfMemory}
 use Rattle.tool_parts.specs.declared.reason.Reason.{Reason}
-use Rattle.acredact.specs.Arguments.{Given, RefusesUnclean, all_given, counts_asked, has, last_value}
-use Rattle.acredact.specs.Calls.{Call, IsBuildRefusal, IsLineOf, IsStrictFailure, MayFail, TellsTotals, WarnsCall, call_of, names_asked, reading_by, redactor_by_given, work_by}
-use Rattle.acredact.specs.Doubts.{TellsDoubts, TellsWarnings}
+use Rattle.acredact.specs.Arguments.{Given, RefusesUnclean, all_given, counts_asked, has}
+use Rattle.acredact.specs.Calls.{Call, IsLineOf, MayFail, TellsTotals, WarnsCall, call_of, names_asked, reading_by, redactor_by_given, work_by}
+use Rattle.acredact.specs.Doubts.{TellsWarnings}
 use Rattle.acredact.specs.Failures.{IsFailureLine}
 use Rattle.acredact.specs.Files.{AreFree, AreRedacted, Work, are_none, redactor_of, unread_line, work_of}
 use Rattle.acredact.specs.Into.{IsSpared}
-use Rattle.acredact.specs.Loading.{AreGiven, AreLoaded, IsKeyGiven, Loaded, key_lent, loaded_as}
+use Rattle.acredact.specs.Loading.{AreLoaded, Loaded}
 use Rattle.acredact.specs.Messages.{no_file_line, output_line}
-use Rattle.acredact.specs.Pieces.{TellsOfPieces, pieces_by}
 use Rattle.acredact.specs.Summaries.{no_volume}
-use Rattle.acredact.specs.Tables.{secrets_of}
-use Rattle.acredact.specs.Totals.{CountsOfName, CountsWork, NamesHaveRanges}
+use Rattle.acredact.specs.Totals.{CountsOfName, NamesHaveRanges}
 use Rattle.acredact.specs.Volumes.{ReadsVolume}
 use Rattle.acredact.specs.declared.arguments.Item.{Item}
-use Rattle.acredact.specs.declared.arguments.Word.TheVariants.{Pseudonym, Strict}
-use Rattle.acredact.specs.declared.clean.Judge.{Judge}
+use Rattle.acredact.specs.declared.arguments.Word.TheVariants.{Strict}
 use Rattle.acredact.specs.declared.failure.Failure.{Failure}
 use Rattle.acredact.specs.declared.failure.Failure.TheVariants.{Other}
 use Rattle.acredact.specs.declared.files.Job.{Job}
 use Rattle.acredact.specs.declared.folder.Folder.{Ghosts as Folders}
 use Rattle.acredact.specs.declared.outputs.Outputs.{Ghosts as Places}
-use Rattle.acredact.specs.declared.patterns.Rule.{Rule}
 use Rattle.acredact.specs.declared.streams.Streams.{Streams}
 use Rattle.acredact.specs.declared.summary.Volume.{Volume}
 
@@ -123,13 +117,6 @@ module _ {O Z : Type 0} (Writes : Writers Z) (U : Places O Z) (work : Work) wher
       pub quiet : result ≡ Ok true → errors' ≡ errors
       pub memory_ends : IfErr result (λ error. error ≡ memory)
 
-    -- no file is made, since a piece is refused, memory runs out, or the library refuses the patterns; or what is told of pieces comes first
-    abbrev pub WarnedPlaces : (strict : Bool) → Result Bool Failure → (outputs outputs' : O) → (errors errors' : Errors E) → Type 0
-    WarnedPlaces strict result outputs outputs' errors errors' =
-        ((failure : Failure) × (result ≡ Err failure) × (outputs' ≡ outputs) × (errors' ≡ errors)
-        × (IsStrictFailure strict work.redactor failure ⊎ (IsBuildRefusal work.redactor.patterns failure ⊎ (failure ≡ Other OutOfMemory))))
-        ⊎ ((mid : Errors E) × TellsOfPieces K strict work.redactor errors mid × PlacesOutcome (Other OutOfMemory) result outputs outputs' mid errors')
-
 module _ {F X R O Z E : Type 0} {Reads : Readers R} (Writes : Writers Z) (K : SinkGhosts E) (D : Folders F X) (U : Places O Z) where
   -- the same of a job, where files are redacted by these patterns
   abbrev pub PlaceJob : Job F → List ℕ → Result Bool StreamError → (outputs outputs' : O) → (streams streams' : Streams R Z E Reads) → Patterns → Type 0
@@ -139,16 +126,6 @@ module _ {F X R O Z E : Type 0} {Reads : Readers R} (Writes : Writers Z) (K : Si
   abbrev pub PlacesJob : Job F → Result Bool StreamError → (outputs outputs' : O) → (streams streams' : Streams R Z E Reads) → Patterns → Type 0
   PlacesJob job result outputs outputs' streams streams' p =
       PlacesOutcome Writes U (work_of D job (redactor_of job p)) K Memory result outputs outputs' streams.errors streams'.errors
-
-  -- and behind what is told of the pieces, where these are those that are judged
-  abbrev pub WarnsPlaces : (strict : Bool) → Job F → Judge → Result Bool Failure → (outputs outputs' : O) → (streams streams' : Streams R Z E Reads) → Patterns → Type 0
-  WarnsPlaces strict job judge result outputs outputs' streams streams' p = pieces_of job.replacements.now ≡ pieces_by judge
-      → WarnedPlaces Writes U (work_of D job (redactor_of job p)) K strict result outputs outputs' streams.errors streams'.errors
-
-  -- that of a call whose patterns and key were loaded, where the failure that ends it says why
-  abbrev pub CallPlaces : F → List Item → List Rule → Option (Bor (List ℕ)) → Result Bool Failure → (outputs outputs' : O) → (streams streams' : Streams R Z E Reads) → Type 0
-  CallPlaces folder items rules key result outputs outputs' streams streams' =
-      WarnedPlaces Writes U (work_by (call_of D folder (all_given items)) (loaded_as rules (key_lent key))) K (has Strict (all_given items)) result outputs outputs' streams.errors streams'.errors
 
 module _ {F X R W E : Type 0} {Reads : Readers R} (D : Folders F X) (job : Job F) (name : List ℕ) (result : Result Bool StreamError) where
   -- a file that was replaced was counted, by these patterns
@@ -160,11 +137,6 @@ module _ {F X R W E : Type 0} {Reads : Readers R} (D : Folders F X) (job : Job F
   abbrev pub NameVolume : (volume volume' : Volume) → (streams streams' : Streams R W E Reads) → Type 0
   NameVolume volume volume' streams streams' = result ≡ Ok true
       → ReadsVolume (D.holds job.folder.now) (name ∷ []) volume volume' (bytes_left streams.input) (bytes_left streams'.input)
-
--- what is counted of a call whose patterns and key were loaded
-abbrev pub CallCounts : {F X R W E : Type 0} {Reads : Readers R} → Folders F X → F → List Item → List Rule → Option (Bor (List ℕ)) → Result Bool Failure → (streams streams' : Streams R W E Reads) → (counts counts' : List ℕ) → Type 0
-CallCounts D folder items rules key result streams streams' counts counts' =
-    CountsWork (work_by (call_of D folder (all_given items)) (loaded_as rules (key_lent key))) result streams streams' counts counts'
 
 -- what may be told of a call: what is told of a redaction that writes nothing to standard output, and that standard input is no file
 abbrev pub IsPlaceLine : Call → List ℕ → Type 0
@@ -295,27 +267,15 @@ module _ {F X O Z E R : Type 0} {Reads : Readers R} (Writes : Writers Z) (K : Si
   AskedPlaces items result outputs outputs' streams streams' =
       CalledPlaces Writes K U (call_of D folder (all_given items)) (bytes_left streams.input) result outputs outputs' streams.errors streams'.errors
 
-  -- and of one whose key is to be loaded, once its patterns were loaded as these rules
-  abbrev pub KeylessPlaces : List Item → List Rule → Result Bool Failure → (outputs outputs' : O) → (streams streams' : Streams R Z E Reads) → Type 0
-  KeylessPlaces items rules result outputs outputs' streams streams' = (left : Option (List ℕ))
-      → AreGiven (reading_by (call_of D folder (all_given items))) (all_given items) (secrets_of rules) left (bytes_left streams.input)
+  -- and of one whose patterns and key were loaded
+  abbrev pub LoadedPlaces : List Item → Loaded → Result Bool Failure → (outputs outputs' : O) → (streams streams' : Streams R Z E Reads) → Type 0
+  LoadedPlaces items load result outputs outputs' streams streams' = (left : Option (List ℕ))
+      → AreLoaded (reading_by (call_of D folder (all_given items))) (all_given items) load left (bytes_left streams.input)
       → CalledPlaces Writes K U (call_of D folder (all_given items)) left result outputs outputs' streams.errors streams'.errors
 
-  -- or once the bytes of the key were read too
-  abbrev pub KeyedPlaces : List Item → List Rule → (key : List ℕ) → Result Bool Failure → (outputs outputs' : O) → (streams streams' : Streams R Z E Reads) → Type 0
-  KeyedPlaces items rules key result outputs outputs' streams streams' = (left between : Option (List ℕ))
-      → AreGiven (reading_by (call_of D folder (all_given items))) (all_given items) (secrets_of rules) left between
-      → IsKeyGiven (reading_by (call_of D folder (all_given items))) (last_value Pseudonym (all_given items)) (Some key) between (bytes_left streams.input)
-      → CalledPlaces Writes K U (call_of D folder (all_given items)) left result outputs outputs' streams.errors streams'.errors
-
-  -- or once that was loaded
-  abbrev pub LoadedPlaces : List Item → List Rule → Option (Bor (List ℕ)) → Result Bool Failure → (outputs outputs' : O) → (streams streams' : Streams R Z E Reads) → Type 0
-  LoadedPlaces items rules key result outputs outputs' streams streams' = (left : Option (List ℕ))
-      → AreLoaded (reading_by (call_of D folder (all_given items))) (all_given items) (loaded_as rules (key_lent key)) left (bytes_left streams.input)
-      → CalledPlaces Writes K U (call_of D folder (all_given items)) left result outputs outputs' streams.errors streams'.errors
-
-  -- the same behind what is told of doubtful patterns of lists
-  abbrev pub DoubtedPlaces : List Item → List Rule → Option (Bor (List ℕ)) → Result Bool Failure → (outputs outputs' : O) → (streams streams' : Streams R Z E Reads) → Type 0
-  DoubtedPlaces items rules key result outputs outputs' streams streams' = (first : Errors E)
-      → TellsDoubts K (has Strict (all_given items)) (all_given items) (secrets_of rules) first streams.errors
-      → LoadedPlaces items rules key result outputs outputs' (record streams { errors = first }) streams'
+  -- the same behind what is told of them
+  abbrev pub ReadyPlaces : List Item → Loaded → Result Bool Failure → (outputs outputs' : O) → (streams streams' : Streams R Z E Reads) → Type 0
+  ReadyPlaces items load result outputs outputs' streams streams' = (left : Option (List ℕ)) (first : Errors E)
+      → AreLoaded (reading_by (call_of D folder (all_given items))) (all_given items) load left (bytes_left streams.input)
+      → TellsWarnings K (has Strict (all_given items)) (all_given items) load.secrets (redactor_by_given (all_given items) load) first streams.errors
+      → CalledPlaces Writes K U (call_of D folder (all_given items)) left result outputs outputs' first streams'.errors

@@ -45,6 +45,7 @@ pub mod Short
 pub mod Doubts
 pub mod Calls
 pub mod Checks
+pub mod Ready
 pub mod Statuses
 -- files whose names are not UTF-8
 pub mod Apart

@@ -29,6 +29,7 @@ use Rattle.acredact.specs.declared.load.Lists.{Lists}
 use Rattle.acredact.specs.declared.patterns.BadLine.{BadLine}
 use Rattle.acredact.specs.declared.patterns.Form.{Form}
 use Rattle.acredact.specs.declared.patterns.Rule.{Rule}
+use Rattle.acredact.specs.declared.secrets.Secrets.{Secrets}
 
 -- how lists, the files of patterns and tables, are read
 pub record Rules : Type 0 where
@@ -164,6 +165,14 @@ key_lent key = option_map (λ bytes. bytes.now) key
 -- these rules and this key
 abbrev pub loaded_as : List Rule → Option (List ℕ) → Loaded
 loaded_as rules key = record { secrets = secrets_of rules; key = key }
+
+-- those that were loaded
+abbrev pub loaded_in : Secrets → Loaded
+loaded_in made = loaded_as made.rules.items (key_in made.key)
+
+-- these secrets with a key
+abbrev pub LoadsByKey : List Given → List Secret → (key : List ℕ) → Secrets → Type 0
+LoadsByKey given secrets key made = loaded_in made ≡ loaded_by given secrets (Some key)
 
 -- what a file holds, or what an option gives, is added, of the rules and of the input before and after
 abbrev pub AddsList : {F Z : Type 0} → Lists F → Listed → List ℕ → (rules rules' : Vec Rule Z) → Type 0

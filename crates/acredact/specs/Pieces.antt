@@ -1,6 +1,5 @@
 -- Which of the texts that are written in the place of patterns are clean, so that with what stands beside them they spell no pattern.
-use Rattle.std.specs.Prelude.{◌≡◌, ◌⊎◌, ℕ, ◌+◌, ◌<◌, Bool, true, false, List, [], ◌∷◌, ◌++◌, Option, Some, None, IfSome, is_some, length, map, slice_index_or}
-use Rattle.std.specs.Borrow.{Bor}
+use Rattle.std.specs.Prelude.{◌≡◌, ◌⊎◌, ℕ, ◌+◌, ◌<◌, Bool, true, false, List, [], ◌∷◌, ◌++◌, Option, Some, None, is_some, length, map, slice_index_or}
 use Rattle.aho_core.specs.Bytes.{folded_by}
 use Rattle.aho_core.specs.Listing.{IsMember}
 use Rattle.aho_core.specs.Occurrence.{Occurrence}
@@ -8,14 +7,13 @@ use Rattle.aho_core.specs.Occurs.{OccursIn}
 use Rattle.aho_core.specs.Patterns.{Patterns, pattern_at}
 use Rattle.aho_core.specs.Replacement.{pieces_of}
 use Rattle.aho_core.specs.Search.{plain_search}
-use Rattle.aho_automaton.specs.declared.automaton.Automaton.{Ghosts}
 use Rattle.aho_devices.specs.declared.device.Sink.{Ghosts as SinkGhosts}
 use Rattle.aho_laws.specs.CoverLaws.{AreClean, IsCleanPiece}
 use Rattle.tool_parts.specs.Asked.{ArePatterns}
 use Rattle.tool_parts.specs.Telling.{TellsBytes}
 use Rattle.tool_parts.specs.declared.errors.Errors.{Errors}
 use Rattle.acredact.specs.Messages.{unclean_line}
-use Rattle.acredact.specs.Secrets.{AreCleanBy, IfOf, Redactor}
+use Rattle.acredact.specs.Secrets.{AreCleanBy, Redactor}
 use Rattle.acredact.specs.Spelling.{HoldsByte, IsSpelled}
 use Rattle.acredact.specs.Tables.{piece_by, secrets_of}
 use Rattle.acredact.specs.declared.clean.Flaw.{Flaw}
@@ -30,10 +28,6 @@ IsJudgeOf judge p = ArePatterns p judge.ignore_case (pieces_of judge.words.now)
 -- what is written for each of its rules
 abbrev pub pieces_by : Judge → List (List ℕ)
 pieces_by judge = map (piece_by judge.usual.now) (secrets_of judge.rules.now)
-
--- what holds of the patterns of an automaton, of one with rows, where there is one, and of a judge
-abbrev pub IfOfAll : {A B : Type 0} → Ghosts A → Ghosts B → A → Option (Bor B) → Judge → (Patterns → Type 0) → Type 0
-IfOfAll G H automaton rows judge Holds = IfOf G automaton (λ p. IsJudgeOf judge p → IfSome rows (λ rows. H.is_of rows.now p) → Holds p)
 
 -- no word does
 abbrev pub HoldNone : Bool → List (List ℕ) → ℕ → Type 0

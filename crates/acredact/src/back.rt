@@ -1,48 +1,14 @@
 //! The redaction by a leftmost kind where patterns go far beyond others that occur in them: by a walk backward, which looks up at most
 //! four transitions for each byte whatever the patterns are.
 
-ghost use Rattle.std.specs.Prelude.{◌≡◌, IfOk, IsOk};
 ghost use Rattle.aho_core.specs.Patterns.{Patterns};
-ghost use Rattle.aho_core.specs.Replacement.{pieces_of};
-ghost use Rattle.aho_core.specs.declared.search.Anchored.TheVariants.{No};
 ghost use Rattle.aho_backward.specs.Searcher.{IsBackwardOf};
-ghost use Rattle.acredact.specs.Arguments.{all_given};
-ghost use Rattle.acredact.specs.Back.{BackStream, IsBackAsked};
+ghost use Rattle.acredact.specs.Back.{BackStream};
 
-use crate::arguments::{Item, Word, counts, covers, has, kind_of};
 use crate::ways::{Replacing, Way};
 use aho_backward::backward::Backward;
-use chromesquid::noncontiguous::NFA;
-use chromesquid::overhang::is_worth_it;
-use chromesquid::{Automaton, BackwardError, BuildError, Sink, Source, StreamError};
-use std::alloc::{AllocError, Global};
-
-/// The searcher by a walk backward, where the kind that is asked for is a leftmost one, nothing is counted, and some pattern goes on
-/// by so many bytes behind another one that occurs in it that the walk is worth its memory. The automaton is one of these patterns.
-///
-/// # Errors
-///
-/// The error says that memory ran out.
-pub fn back_of(
-    alloc: Global,
-    given: &[Item<'_>],
-    words: &[&[u8]],
-    nfa: &NFA,
-) -> Result<Option<Backward<NFA>>, AllocError>
-    requires of { (p : Patterns) × ⟦<NFA as Automaton>⟧.is_of nfa.now p }
-    requires starts { IsOk (⟦<NFA as Automaton>⟧.start nfa.now No) }
-    ensures of { IfOk result
-        (IsBackAsked ⟦<NFA as Automaton>⟧ (all_given given.now) (pieces_of words.now)) }
-{
-    if covers(given) || counts(given) || !is_worth_it(nfa, words) {
-        return Ok(None);
-    }
-    match Backward::<NFA>::new(alloc, words, kind_of(given), has(given, Word::IgnoreCase)) {
-        Ok(back) => Ok(Some(back)),
-        Err(BackwardError::Build(BuildError::OutOfMemory)) => Err(AllocError),
-        Err(_) => Ok(None),
-    }
-}
+use chromesquid::{Automaton, Sink, Source, StreamError};
+use std::alloc::Global;
 
 /// Writes what the source gives to the sink, with its replacement in the place of each match, by a walk backward.
 ///

@@ -1,11 +1,11 @@
 //! A check: whether something would be replaced in files. It writes nothing but warnings and failures.
 
-ghost use Rattle.std.specs.Prelude.{◌≡◌, IfErr, IfSome, OnOk};
+ghost use Rattle.std.specs.Prelude.{◌≡◌, IfErr, OnOk};
+ghost use Rattle.chromesquid.specs.Searcher.{ForItsPatterns};
 ghost use Rattle.acredact.specs.Arguments.{GivesNoPattern, all_given};
 ghost use Rattle.acredact.specs.Builds.{patterns_by_given};
 ghost use Rattle.acredact.specs.Checks.{ChecksGiven, ChecksLoaded, EndsCheck, IsBuildFailure, SeesRules, SeesSearched};
 ghost use Rattle.acredact.specs.Looks.{CanLook};
-ghost use Rattle.acredact.specs.Secrets.{IfOf};
 ghost use Rattle.acredact.specs.Statuses.{check_status};
 ghost use Rattle.acredact.specs.Tables.{HaveNoEmpty, patterns_in, secrets_of};
 
@@ -15,14 +15,13 @@ use crate::failure::Failure;
 use crate::folder::Folder;
 use crate::load::{lists_of, rules};
 use crate::look::{Searched, Verdict, look_at_files};
-use crate::patterns::{Rule, patterns_of};
-use crate::rows::build;
-use crate::run::{FAILED, gives_pattern, names, report};
-use chromesquid::{Automaton, FromRead, Sink};
+use crate::patterns::Rule;
+use crate::prepare::ready_of;
+use crate::run::{FAILED, gives_pattern, report};
+use chromesquid::{AhoCorasick, Automaton, FromRead, Sink};
 use std::alloc::{AllocError, Global};
 use std::io::Read;
 use tool_parts::errors::Errors;
-use tool_parts::rows::rows_of;
 
 /// The exit status where something would be replaced.
 const FOUND: u8 = 1;
@@ -115,35 +114,36 @@ fn check_rules<'a, F: Folder, I: Read, E: Sink>(
     ensures fails { IfErr result (IsBuildFailure
         (patterns_by_given (all_given given.now) (patterns_in (secrets_of rules.now)))) }
 {
-    let patterns = patterns_of(alloc, rules)?;
-    let names = names(alloc, given)?;
-    let texts = patterns.as_slice();
-    let nfa = build(alloc, given, texts)?;
-    let rows = rows_of(alloc, &nfa, has(given, Word::IgnoreCase), texts)?;
-    let files = Searched {
-        alloc,
-        folder,
-        names: names.as_slice(),
-        words: words(given),
-    };
-    Ok(look_by(&nfa, rows.as_ref(), &files, input, errors)?)
+    match ready_of(alloc, given, rules, false) {
+        Ok(ready) => {
+            let files = Searched {
+                alloc,
+                folder,
+                names: ready.names.as_slice(),
+                words: words(given),
+            };
+            Ok(look_by(&ready.searcher, &files, input, errors)?)
+        }
+        Err(failure) => Err(failure),
+    }
 }
 
-/// Looks at each file by the automaton with rows, if there is one.
-fn look_by<A: Automaton, B: Automaton, F: Folder, I: Read, E: Sink>(
-    automaton: &A,
-    rows: Option<&B>,
+/// Looks at each file by the automaton that the searcher holds.
+fn look_by<F: Folder, I: Read, E: Sink>(
+    searcher: &AhoCorasick,
     files: &Searched<'_, '_, F>,
     input: &mut FromRead<I>,
     errors: &mut Errors<'_, E>,
 ) -> Result<Verdict, AllocError>
-    requires ready { CanLook A.Automaton automaton.now files.now.words }
-    requires rows { IfSome rows (λ rows. CanLook B.Automaton rows.now files.now.words) }
-    ensures sees { IfOf A.Automaton automaton.now (λ p. IfSome rows.entry (λ rows. B.is_of rows.now p)
-        → SeesSearched E.Sink F.Folder files.now p result input.old input.new errors.old errors.new) }
+    requires ready { CanLook ⟦<AhoCorasick as Automaton>⟧ searcher.now files.now.words }
+    ensures sees { ForItsPatterns searcher.now (λ p. SeesSearched E.Sink F.Folder files.now p
+        result input.old input.new errors.old errors.new) }
 {
-    match rows {
-        Some(automaton) => look_at_files(automaton, files, input, errors),
-        None => look_at_files(automaton, files, input, errors),
+    if let Some(rows) = searcher.rows() {
+        return look_at_files(rows, files, input, errors);
+    }
+    match searcher.levels() {
+        Some(levels) => look_at_files(levels, files, input, errors),
+        None => look_at_files(searcher.itself(), files, input, errors),
     }
 }

@@ -1,47 +1,37 @@
 //! A call that replaces each file: a new one is written beside it, and takes its place where all of it was redacted.
 
-ghost use Rattle.std.specs.Prelude.{◌≡◌, ◌≤◌, Err, IfErr, IfOk, IfSome, Ok, OnErr, false, length, true};
+ghost use Rattle.std.specs.Prelude.{◌≡◌, ◌≤◌, Err, IfErr, IfOk, Ok, OnErr, false, true};
 ghost use Rattle.aho_core.specs.declared.error.stream.StreamError.TheVariants.{Memory};
+ghost use Rattle.chromesquid.specs.Searcher.{ForItsPatterns};
 ghost use Rattle.tool_parts.specs.Arguments.{texts};
 ghost use Rattle.tool_parts.specs.Streams.{output_bytes};
 ghost use Rattle.tool_parts.specs.Telling.{TellsSome};
-ghost use Rattle.acredact.specs.Arguments.{AreMistaken, AsksInPlace, IfAsked, all_given, counts_given};
-ghost use Rattle.acredact.specs.Back.{AreBoth, IfBackIs};
-ghost use Rattle.acredact.specs.Calls.{IsWrongFailure, IsWrongLine, ReadsAsked};
-ghost use Rattle.acredact.specs.Counts.{zeros};
+ghost use Rattle.acredact.specs.Arguments.{AreMistaken, AsksInPlace, IfAsked, all_given};
+ghost use Rattle.acredact.specs.Calls.{IsWrongFailure, IsWrongLine};
 ghost use Rattle.acredact.specs.Files.{CanDo};
-ghost use Rattle.acredact.specs.InPlace.{AskedPlaces, CallCounts, CallPlaces, DoubtedPlaces, FreesAll, KeepsEach, KeyedPlaces, KeylessPlaces, LoadedPlaces, NameCounts, NameVolume, PlaceJob, PlacesAll, PlacesCount, PlacesJob, PlacesReach, PlacesTell, SaysOfPlaces, WarnsPlaces};
+ghost use Rattle.acredact.specs.InPlace.{AskedPlaces, FreesAll, KeepsEach, LoadedPlaces, NameCounts, NameVolume, PlaceJob, PlacesAll, PlacesCount, PlacesJob, PlacesReach, PlacesTell, ReadyPlaces, SaysOfPlaces};
 ghost use Rattle.acredact.specs.Into.{IsKept, TellsUnread, WarnsAll};
-ghost use Rattle.acredact.specs.Pieces.{IfOfAll};
-ghost use Rattle.acredact.specs.Secrets.{IfOf};
+ghost use Rattle.acredact.specs.Loading.{loaded_in};
+ghost use Rattle.acredact.specs.Ready.{IsReadyFor};
 ghost use Rattle.acredact.specs.Tables.{HaveNoEmpty, secrets_of};
 ghost use Rattle.acredact.specs.Totals.{JobCounts};
 ghost use Rattle.acredact.specs.Volumes.{JobVolume};
 
-use crate::arguments::{Item, Mistake, Word, counts, covers, has, items, replaces_in_place};
-use crate::back::back_of;
-use crate::clean::{Judge, unclean_of};
+use crate::arguments::{Item, Mistake, counts, items, replaces_in_place};
 use crate::counts::counts_of;
-use crate::doubts::warn_of_lists;
 use crate::failure::{Failure, tell_no_file, tell_unread};
 use crate::files::{Job, both, is_input};
 use crate::folder::Folder;
-use crate::load::{key_of, lists_of, rules};
-use crate::named::named_rules;
 use crate::outputs::Outputs;
-use crate::patterns::{Rule, patterns_of, replacements_of};
-use crate::rows::build;
-use crate::run::{
-    FAILED, gives_pattern, key_by, name_key, names, redact_by, report, tell_counted, text_of, warn,
-};
+use crate::prepare::{Ready, job_of, prepare};
+use crate::run::{FAILED, gives_pattern, redact_by, report, tell_counted};
+use crate::secrets::{Secrets, load};
 use crate::streams::Streams;
 use crate::summary::Volume;
-use aho_backward::backward::Backward;
-use chromesquid::{Automaton, FromWrite, Sink, StreamError};
+use chromesquid::{AhoCorasick, Automaton, FromWrite, Sink, StreamError};
 use std::alloc::Global;
 use std::io::Read;
 use tool_parts::errors::Errors;
-use tool_parts::rows::rows_of;
 
 /// Whether the arguments ask for files to be replaced in place.
 ///
@@ -136,284 +126,75 @@ fn load_places<'a, F: Folder, O: Outputs, I: Read, E: Sink>(
     if !gives_pattern(given) {
         return Err(Failure::Arguments(Mistake::NoPattern));
     }
-    let lists = lists_of(alloc, given, folder);
-    match rules(&lists, given, &mut streams.input) {
-        Ok(rules) => load_key(alloc, given, rules.as_slice(), folder, outputs, streams),
+    match load(alloc, given, folder, &mut streams.input) {
+        Ok(secrets) => place_loaded(alloc, given, &secrets, folder, outputs, streams),
         Err(failure) => Err(failure),
     }
 }
 
-/// Loads the key of pseudonyms, where they are asked for, replaces each file by it and these rules, and answers whether all were
-/// replaced.
-fn load_key<'a, F: Folder, O: Outputs, I: Read, E: Sink>(
-    alloc: Global,
-    given: &[Item<'a>],
-    rules: &[Rule],
-    folder: &F,
-    outputs: &mut O,
-    streams: &mut Streams<'_, I, O::File, E>,
-) -> Result<bool, Failure<'a>>
-    requires some { HaveNoEmpty (secrets_of rules.now) }
-    ensures outcome { KeylessPlaces O.File.Write E.Sink F.Folder O.Outputs
-        folder.now given.now rules.now result outputs.old outputs.new streams.old streams.new }
-{
-    let lists = lists_of(alloc, given, folder);
-    match key_of(&lists, given, &mut streams.input) {
-        Ok(Some(key)) => {
-            let key = key.as_slice();
-            place_by_key(alloc, given, rules, key, folder, outputs, streams)
-        }
-        Ok(None) => place_loaded(alloc, given, rules, None, folder, outputs, streams),
-        Err(failure) => Err(failure),
-    }
-}
-
-/// Replaces each file by these rules and this key, and answers whether all were replaced. Where forms are asked for, each form has the
-/// pseudonym of its secret.
-fn place_by_key<'a, F: Folder, O: Outputs, I: Read, E: Sink>(
-    alloc: Global,
-    given: &[Item<'a>],
-    rules: &[Rule],
-    key: &[u8],
-    folder: &F,
-    outputs: &mut O,
-    streams: &mut Streams<'_, I, O::File, E>,
-) -> Result<bool, Failure<'a>>
-    requires some { HaveNoEmpty (secrets_of rules.now) }
-    ensures outcome { KeyedPlaces O.File.Write E.Sink F.Folder O.Outputs
-        folder.now given.now rules.now key.now result outputs.old outputs.new streams.old streams.new }
-{
-    if !has(given, Word::Forms) {
-        return place_loaded(alloc, given, rules, Some(key), folder, outputs, streams);
-    }
-    let named = named_rules(alloc, rules, name_key(given, key))?;
-    place_loaded(
-        alloc,
-        given,
-        named.as_slice(),
-        None,
-        folder,
-        outputs,
-        streams,
-    )
-}
-
-/// Tells of doubtful patterns of lists, or refuses the first, replaces each file by these rules, and answers whether all were
-/// replaced.
+/// Replaces each file by what was loaded, and answers whether all were replaced.
 fn place_loaded<'a, F: Folder, O: Outputs, I: Read, E: Sink>(
     alloc: Global,
     given: &[Item<'a>],
-    rules: &[Rule],
-    key: Option<&[u8]>,
+    secrets: &Secrets,
     folder: &F,
     outputs: &mut O,
     streams: &mut Streams<'_, I, O::File, E>,
 ) -> Result<bool, Failure<'a>>
-    requires some { HaveNoEmpty (secrets_of rules.now) }
+    requires some { HaveNoEmpty (secrets_of secrets.now.rules.items) }
     ensures outcome { LoadedPlaces O.File.Write E.Sink F.Folder O.Outputs
-        folder.now given.now rules.now key.entry result outputs.old outputs.new streams.old streams.new }
+        folder.now given.now (loaded_in secrets.now) result outputs.old outputs.new streams.old streams.new }
 {
-    let strict = has(given, Word::Strict);
-    match warn_of_lists(&mut streams.errors, given, rules, strict) {
-        Ok(()) => place_counted(alloc, given, rules, key, folder, outputs, streams),
+    match prepare(alloc, given, secrets, &mut streams.errors) {
+        Ok(ready) => place_ready(alloc, given, secrets, &ready, folder, outputs, streams),
         Err(failure) => Err(failure),
     }
 }
 
-/// Replaces each file by these rules, tells the counts where they are asked for, and answers whether all were replaced.
-fn place_counted<'a, F: Folder, O: Outputs, I: Read, E: Sink>(
+/// Replaces each file by what is ready, tells the counts where they are asked for, and answers whether all were replaced.
+fn place_ready<'a, F: Folder, O: Outputs, I: Read, E: Sink>(
     alloc: Global,
     given: &[Item<'_>],
-    rules: &[Rule],
-    key: Option<&[u8]>,
+    secrets: &Secrets,
+    ready: &Ready<'_>,
     folder: &F,
     outputs: &mut O,
     streams: &mut Streams<'_, I, O::File, E>,
 ) -> Result<bool, Failure<'a>>
-    requires some { HaveNoEmpty (secrets_of rules.now) }
-    ensures outcome { DoubtedPlaces O.File.Write E.Sink F.Folder O.Outputs
-        folder.now given.now rules.now key.entry result outputs.old outputs.new streams.old streams.new }
+    requires some { HaveNoEmpty (secrets_of secrets.now.rules.items) }
+    requires ready { IsReadyFor (all_given given.now) (secrets_of secrets.now.rules.items) ready.now }
+    ensures outcome { ReadyPlaces O.File.Write E.Sink F.Folder O.Outputs
+        folder.now given.now (loaded_in secrets.now) result outputs.old outputs.new streams.old streams.new }
 {
-    let counted = counts(given);
-    let mut tally = counts_of(alloc, rules, counted)?;
-    place_telling(
-        alloc,
-        given,
-        rules,
-        key,
-        folder,
-        tally.as_mut_slice(),
-        outputs,
-        streams,
-    )
-}
-
-/// Replaces each file by these rules, tells what was added to the counts, where they are asked for, and answers whether all were
-/// replaced.
-fn place_telling<'a, F: Folder, O: Outputs, I: Read, E: Sink>(
-    alloc: Global,
-    given: &[Item<'_>],
-    rules: &[Rule],
-    key: Option<&[u8]>,
-    folder: &F,
-    tally: &mut [u64],
-    outputs: &mut O,
-    streams: &mut Streams<'_, I, O::File, E>,
-) -> Result<bool, Failure<'a>>
-    requires some { HaveNoEmpty (secrets_of rules.now) }
-    requires none { tally.old ≡ zeros (counts_given given.now) rules.now }
-    ensures outcome { DoubtedPlaces O.File.Write E.Sink F.Folder O.Outputs
-        folder.now given.now rules.now key.entry result outputs.old outputs.new streams.old streams.new }
-{
+    let rules = secrets.rules.as_slice();
+    let mut counted = counts_of(alloc, rules, counts(given))?;
+    let tally = counted.as_mut_slice();
     let mut volume = Volume { files: 0, bytes: 0 };
-    // Not by `?`: this error may hold names.
-    match place_all(
-        alloc,
-        given,
-        rules,
-        key,
-        folder,
-        tally,
-        &mut volume,
-        outputs,
-        streams,
-    ) {
-        Ok(all) => tell_counted(alloc, all, given, rules, tally, volume, &mut streams.errors),
-        Err(failure) => Err(failure),
-    }
-}
-
-/// Replaces each file by these rules, and answers whether all were replaced.
-fn place_all<'a, F: Folder, O: Outputs, I: Read, E: Sink>(
-    alloc: Global,
-    given: &[Item<'_>],
-    rules: &[Rule],
-    key: Option<&[u8]>,
-    folder: &F,
-    counts: &mut [u64],
-    volume: &mut Volume,
-    outputs: &mut O,
-    streams: &mut Streams<'_, I, O::File, E>,
-) -> Result<bool, Failure<'a>>
-    requires some { HaveNoEmpty (secrets_of rules.now) }
-    ensures outcome { CallPlaces O.File.Write E.Sink F.Folder O.Outputs
-        folder.now given.now rules.now key.entry result outputs.old outputs.new streams.old streams.new }
-    ensures counted { CallCounts F.Folder
-        folder.now given.now rules.now key.entry result streams.old streams.new counts.old counts.new }
-    ensures read { result ≡ Ok true → ReadsAsked (F.holds folder.now) (all_given given.now)
-        volume.old volume.new streams.old streams.new }
-{
-    let patterns = patterns_of(alloc, rules)?;
-    let text = text_of(given);
-    let replacements = replacements_of(alloc, rules, text)?;
-    let names = names(alloc, given)?;
-    let words = patterns.as_slice();
-    let nfa = build(alloc, given, words)?;
-    let ignore_case = has(given, Word::IgnoreCase);
-    let only_words = has(given, Word::AsWord);
-    let rows = rows_of(alloc, &nfa, ignore_case, words)?;
-    let back = back_of(alloc, given, words, &nfa)?;
-    let job = Job {
-        alloc,
-        folder,
-        names: names.as_slice(),
-        replacements: replacements.as_slice(),
-        key: key_by(key, ignore_case),
-        covers: covers(given),
-        words: only_words,
-    };
-    let judge = Judge {
-        words,
-        ignore_case,
-        rules,
-        usual: text,
-    };
-    let strict = has(given, Word::Strict);
-    place_warned(
-        &nfa,
-        rows.as_ref(),
-        back.as_ref(),
-        &job,
-        &judge,
-        strict,
-        counts,
-        volume,
-        outputs,
-        streams,
-    )
-}
-
-/// Tells of a piece that is not clean, where a cover is asked for, or refuses it, and replaces each file.
-fn place_warned<
-    'a,
-    A: Automaton,
-    B: Automaton,
-    C: Automaton,
-    F: Folder,
-    O: Outputs,
-    I: Read,
-    E: Sink,
->(
-    automaton: &A,
-    rows: Option<&B>,
-    back: Option<&Backward<C>>,
-    job: &Job<'_, '_, F>,
-    judge: &Judge<'_, '_>,
-    strict: bool,
-    counts: &mut [u64],
-    volume: &mut Volume,
-    outputs: &mut O,
-    streams: &mut Streams<'_, I, O::File, E>,
-) -> Result<bool, Failure<'a>>
-    requires ready { CanDo A.Automaton automaton.now job.now }
-    requires rows { IfSome rows (λ rows. CanDo B.Automaton rows.now job.now) }
-    requires back { AreBoth A.Automaton C.Automaton automaton.now back }
-    requires words { length judge.now.rules.now ≡ length judge.now.words.now }
-    ensures outcome { IfOfAll A.Automaton B.Automaton automaton.now rows.entry judge.now
-        (λ p. IfBackIs C.Automaton back.entry p
-        (WarnsPlaces O.File.Write E.Sink F.Folder O.Outputs
-        strict job.now judge.now result outputs.old outputs.new streams.old streams.new p)) }
-    ensures counted { IfOfAll A.Automaton B.Automaton automaton.now rows.entry judge.now
-        (λ p. IfBackIs C.Automaton back.entry p
-        (JobCounts F.Folder job.now result streams.old streams.new counts.old counts.new p)) }
-    ensures read { JobVolume F.Folder job.now result volume.old volume.new streams.old streams.new }
-{
-    let unclean = unclean_of(automaton, judge, job.covers, job.key.is_some());
-    // Not by `?`: this error may hold names.
-    match warn(&mut streams.errors, unclean, strict) {
-        Ok(()) => Ok(place_each(automaton, rows, back, job, counts, volume, outputs, streams)?),
-        Err(failure) => Err(failure),
-    }
+    let job = job_of(alloc, given, secrets, ready, folder);
+    let all = place_each(&ready.searcher, &job, tally, &mut volume, outputs, streams)?;
+    tell_counted(alloc, all, given, rules, tally, volume, &mut streams.errors)
 }
 
 /// Replaces each file, and answers whether all were replaced.
-fn place_each<A: Automaton, B: Automaton, C: Automaton, F: Folder, O: Outputs, I: Read, E: Sink>(
-    automaton: &A,
-    rows: Option<&B>,
-    back: Option<&Backward<C>>,
+fn place_each<F: Folder, O: Outputs, I: Read, E: Sink>(
+    searcher: &AhoCorasick,
     job: &Job<'_, '_, F>,
     counts: &mut [u64],
     volume: &mut Volume,
     outputs: &mut O,
     streams: &mut Streams<'_, I, O::File, E>,
 ) -> Result<bool, StreamError>
-    requires ready { CanDo A.Automaton automaton.now job.now }
-    requires rows { IfSome rows (λ rows. CanDo B.Automaton rows.now job.now) }
-    requires back { AreBoth A.Automaton C.Automaton automaton.now back }
-    ensures outcome { IfOf A.Automaton automaton.now (λ p. IfSome rows.entry (λ rows. B.is_of rows.now p)
-        → IfBackIs C.Automaton back.entry p (PlacesJob O.File.Write E.Sink F.Folder O.Outputs
-        job.now result outputs.old outputs.new streams.old streams.new p)) }
-    ensures counted { IfOf A.Automaton automaton.now (λ p. IfSome rows.entry (λ rows. B.is_of rows.now p)
-        → IfBackIs C.Automaton back.entry p
-        (JobCounts F.Folder job.now result streams.old streams.new counts.old counts.new p)) }
+    requires ready { CanDo ⟦<AhoCorasick as Automaton>⟧ searcher.now job.now }
+    ensures outcome { ForItsPatterns searcher.now (PlacesJob O.File.Write E.Sink F.Folder O.Outputs
+        job.now result outputs.old outputs.new streams.old streams.new) }
+    ensures counted { ForItsPatterns searcher.now (JobCounts F.Folder job.now
+        result streams.old streams.new counts.old counts.new) }
     ensures read { JobVolume F.Folder job.now result volume.old volume.new streams.old streams.new }
 {
     let mut all = true;
     let mut rest = job.names;
     while !rest.is_empty() {
-        let whole = place_one(
-            automaton, rows, back, job, rest[0], counts, volume, outputs, streams,
-        )?;
+        let whole = place_one(searcher, job, rest[0], counts, volume, outputs, streams)?;
         all = both(all, whole);
         rest = &rest[1..];
     }
@@ -421,10 +202,8 @@ fn place_each<A: Automaton, B: Automaton, C: Automaton, F: Folder, O: Outputs, I
 }
 
 /// Replaces a file, and answers whether it was replaced. One that was not is told.
-fn place_one<A: Automaton, B: Automaton, C: Automaton, F: Folder, O: Outputs, I: Read, E: Sink>(
-    automaton: &A,
-    rows: Option<&B>,
-    back: Option<&Backward<C>>,
+fn place_one<F: Folder, O: Outputs, I: Read, E: Sink>(
+    searcher: &AhoCorasick,
     job: &Job<'_, '_, F>,
     name: &str,
     counts: &mut [u64],
@@ -432,15 +211,11 @@ fn place_one<A: Automaton, B: Automaton, C: Automaton, F: Folder, O: Outputs, I:
     outputs: &mut O,
     streams: &mut Streams<'_, I, O::File, E>,
 ) -> Result<bool, StreamError>
-    requires ready { CanDo A.Automaton automaton.now job.now }
-    requires rows { IfSome rows (λ rows. CanDo B.Automaton rows.now job.now) }
-    requires back { AreBoth A.Automaton C.Automaton automaton.now back }
-    ensures outcome { IfOf A.Automaton automaton.now (λ p. IfSome rows.entry (λ rows. B.is_of rows.now p)
-        → IfBackIs C.Automaton back.entry p (PlaceJob O.File.Write E.Sink F.Folder O.Outputs
-        job.now name.now result outputs.old outputs.new streams.old streams.new p)) }
-    ensures counted { IfOf A.Automaton automaton.now (λ p. IfSome rows.entry (λ rows. B.is_of rows.now p)
-        → IfBackIs C.Automaton back.entry p (NameCounts F.Folder
-        job.now name.now result streams.old streams.new counts.old counts.new p)) }
+    requires ready { CanDo ⟦<AhoCorasick as Automaton>⟧ searcher.now job.now }
+    ensures outcome { ForItsPatterns searcher.now (PlaceJob O.File.Write E.Sink F.Folder O.Outputs
+        job.now name.now result outputs.old outputs.new streams.old streams.new) }
+    ensures counted { ForItsPatterns searcher.now (NameCounts F.Folder
+        job.now name.now result streams.old streams.new counts.old counts.new) }
     ensures read { NameVolume F.Folder job.now name.now result volume.old volume.new streams.old streams.new }
 {
     if is_input(name) {
@@ -455,7 +230,7 @@ fn place_one<A: Automaton, B: Automaton, C: Automaton, F: Folder, O: Outputs, I:
                 names: &names,
                 ..*job
             };
-            let done = redact_by(automaton, rows, back, &one, counts, volume, streams);
+            let done = redact_by(searcher, &one, counts, volume, streams);
             settle(outputs, name, done, streams)
         }
         Err(reason) => {

@@ -1,15 +1,18 @@
 //! A call with rules: each line is redacted by what rules mark in it, and by the patterns that occur in it.
 
-ghost use Rattle.std.specs.Prelude.{◌≡◌, ◌⊎◌, ◌++◌, ◌∷◌, [], IfOk, IsOk, OnOk, map, replicate, true};
+ghost use Rattle.std.specs.Prelude.{◌≡◌, ◌⊎◌, ◌++◌, ◌∷◌, [], IfOk, OnOk, map, replicate, true};
 ghost use Rattle.aho_core.specs.Replacement.{pieces_of};
 ghost use Rattle.aho_core.specs.declared.search.Anchored.TheVariants.{No};
+ghost use Rattle.chromesquid.specs.Searcher.{Answers, IsBuiltFrom};
+ghost use Rattle.secret_rules.specs.OpenLines.{CanSearch};
+ghost use Rattle.tool_parts.specs.Names.{name_bytes};
 ghost use Rattle.tool_parts.specs.Telling.{TellsBytes};
 ghost use Rattle.acredact.specs.LongLines.{long_told};
 ghost use Rattle.acredact.specs.Doubts.{last_of};
 ghost use Rattle.acredact.specs.Arguments.{all_given};
-ghost use Rattle.acredact.specs.Builds.{build_settings};
+ghost use Rattle.acredact.specs.Calls.{names_asked};
 ghost use Rattle.acredact.specs.Ruled.{AreTextsAsked, AskedRuled, KeyedRuled, KeylessRuled, LoadedRuled, SaysOfRules, UndoubtedRuled, UnruledOutcome, lent_rule, named_count, own_text, patterns_by_case};
-ghost use Rattle.acredact.specs.Tables.{HaveNoEmpty, secrets_of};
+ghost use Rattle.acredact.specs.Tables.{HaveNoEmpty, patterns_in, secrets_of};
 
 use crate::arguments::{Item, Word, has};
 use crate::doubts::warn_of_lists;
@@ -19,16 +22,18 @@ use crate::line_size::most_of;
 use crate::load::{key_of, lists_of, rules};
 use crate::named::named_rules;
 use crate::patterns::{Rule, patterns_of, replacements_of, split_at};
+use crate::prepare::{key_by, names, text_of};
 use crate::ruled_failure::{RuledFailure, tell_long, tell_ruled};
 use crate::ruled_files::{cover_files, lined_of};
-use crate::run::{FAILED, key_by, name_key, names, text_of};
+use crate::run::FAILED;
 use crate::run_counts::tell_runs;
 use crate::run_pieces::RunPieces;
+use crate::searcher::searcher_of;
+use crate::secrets::name_key;
 use crate::streams::Streams;
 use crate::summary::Volume;
 use chromesquid::any::Pieces;
-use chromesquid::noncontiguous::{Builder, NFA};
-use chromesquid::{Automaton, BuildError, MatchKind, Sink};
+use chromesquid::{AhoCorasick, Automaton, BuildError, MatchKind, Sink};
 use secret_rules::{Rule as LineRule, Rules};
 use std::alloc::{AllocError, Global};
 use std::io::{Read, Write};
@@ -184,16 +189,83 @@ fn redact_ruled<'a, F: Folder, I: Read, W: Write, E: Sink>(
         return Err(RuledFailure::LineEnd(number));
     }
     let patterns = patterns_of(alloc, secrets)?;
-    let texts = texts_of(alloc, given, secrets, rules.as_slice())?;
     let names = names(alloc, given)?;
-    let nfa = build_lined(alloc, given, patterns.as_slice())?;
+    let searcher = lined_searcher(alloc, given, patterns.as_slice())?;
+    let names = names.as_slice();
+    redact_by(
+        alloc, given, secrets, rules, key, folder, &searcher, names, streams,
+    )
+}
+
+/// Redacts all files by the automaton that the searcher of these patterns holds.
+fn redact_by<'a, F: Folder, I: Read, W: Write, E: Sink>(
+    alloc: Global,
+    given: &[Item<'_>],
+    secrets: &[Rule],
+    rules: &Rules,
+    key: Option<&[u8]>,
+    folder: &F,
+    searcher: &AhoCorasick,
+    names: &[&str],
+    streams: &mut Streams<'_, I, W, E>,
+) -> Result<bool, RuledFailure<'a>>
+    requires can { CanSearch ⟦<AhoCorasick as Automaton>⟧ searcher.now }
+    requires of { IsBuiltFrom searcher.now (patterns_by_case (all_given given.now) (patterns_in (secrets_of secrets.now))) }
+    requires names { name_bytes names.now ≡ names_asked (all_given given.now) }
+    ensures outcome { LoadedRuled W.Write E.Sink F.Folder folder.now given.now secrets.now rules.now key.entry
+        result streams.old streams.new }
+    ensures flushed { OnOk result (streams.new.output.device.flushed ≡ true) }
+{
+    if let Some(rows) = searcher.rows() {
+        return redact_lines(
+            alloc, given, secrets, rules, key, folder, rows, names, streams,
+        );
+    }
+    match searcher.levels() {
+        Some(levels) => redact_lines(
+            alloc, given, secrets, rules, key, folder, levels, names, streams,
+        ),
+        None => redact_lines(
+            alloc,
+            given,
+            secrets,
+            rules,
+            key,
+            folder,
+            searcher.itself(),
+            names,
+            streams,
+        ),
+    }
+}
+
+/// Redacts all files by an automaton of these patterns, tells how many lines were too long and the counts and the summary that are asked
+/// for, and answers whether all were read.
+fn redact_lines<'a, A: Automaton, F: Folder, I: Read, W: Write, E: Sink>(
+    alloc: Global,
+    given: &[Item<'_>],
+    secrets: &[Rule],
+    rules: &Rules,
+    key: Option<&[u8]>,
+    folder: &F,
+    automaton: &A,
+    names: &[&str],
+    streams: &mut Streams<'_, I, W, E>,
+) -> Result<bool, RuledFailure<'a>>
+    requires can { CanSearch A.Automaton automaton.now }
+    requires of { A.is_of automaton.now (patterns_by_case (all_given given.now) (patterns_in (secrets_of secrets.now))) }
+    requires names { name_bytes names.now ≡ names_asked (all_given given.now) }
+    ensures outcome { LoadedRuled W.Write E.Sink F.Folder folder.now given.now secrets.now rules.now key.entry
+        result streams.old streams.new }
+    ensures flushed { OnOk result (streams.new.output.device.flushed ≡ true) }
+{
+    let texts = texts_of(alloc, given, secrets, rules.as_slice())?;
     let most = most_of(given);
     let texts = texts.as_slice();
     let mut counts = counts_for(alloc, texts.len())?;
     let words = has(given, Word::AsWord);
     let pieces = pieces_by(given, texts, key, secrets.len());
-    let mut lined = lined_of(alloc, &nfa, rules, pieces, words, most)?;
-    let names = names.as_slice();
+    let mut lined = lined_of(alloc, automaton, rules, pieces, words, most)?;
     let tally = counts.as_mut_slice();
     let mut volume = Volume { files: 0, bytes: 0 };
     let done = cover_files(&mut lined, folder, names, tally, &mut volume, streams);
@@ -230,24 +302,17 @@ pub fn line_end_in(secrets: &[Rule]) -> Option<usize> {
     None
 }
 
-/// The automaton of these patterns, by the case rule that is given.
-pub fn build_lined(alloc: Global, given: &[Item<'_>], patterns: &[&[u8]]) -> Result<NFA, BuildError>
-    ensures of { IfOk result (λ nfa. ⟦<NFA as Automaton>⟧.is_of nfa
-        (patterns_by_case (all_given given.now) (pieces_of patterns.now))) }
-    ensures starts { IfOk result (λ nfa. IsOk (⟦<NFA as Automaton>⟧.start nfa No)) }
+/// The searcher of these patterns, by the case rule that is given: all that occurs counts.
+pub fn lined_searcher(
+    alloc: Global,
+    given: &[Item<'_>],
+    patterns: &[&[u8]],
+) -> Result<AhoCorasick, BuildError>
+    ensures of { IfOk result (λ built. IsBuiltFrom built (patterns_by_case (all_given given.now) (pieces_of patterns.now))) }
+    ensures answers { IfOk result (λ built. Answers built No) }
 {
-    builder_lined(given).build(alloc, patterns.iter().copied())
-}
-
-/// How the automaton is built: all that occurs counts.
-fn builder_lined(given: &[Item<'_>]) -> Builder
-    ensures settings { result ≡ build_settings (patterns_by_case (all_given given.now) []) }
-{
-    let mut builder = NFA::builder();
-    builder
-        .match_kind(MatchKind::Standard)
-        .ascii_case_insensitive(has(given, Word::IgnoreCase));
-    builder
+    let ignore_case = has(given, Word::IgnoreCase);
+    searcher_of(alloc, MatchKind::Standard, ignore_case, false, patterns)
 }
 
 /// What is written for each pattern, then for each rule, and then for lines that are too long.

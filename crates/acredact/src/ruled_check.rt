@@ -1,10 +1,15 @@
 //! A check by rules: whether something would be redacted in a line of a file, and, where that is asked for, by which rule in which line.
 
 ghost use Rattle.std.specs.Prelude.{◌≡◌, ◌<◌, ◌≤◌, OnOk, false, true};
+ghost use Rattle.chromesquid.specs.Searcher.{IsBuiltFrom};
+ghost use Rattle.secret_rules.specs.OpenLines.{CanSearch};
 ghost use Rattle.secret_rules.specs.Ready.{CanCoverLines};
+ghost use Rattle.tool_parts.specs.Names.{name_bytes};
 ghost use Rattle.acredact.specs.Arguments.{all_given, has};
+ghost use Rattle.acredact.specs.Calls.{names_asked};
+ghost use Rattle.acredact.specs.Ruled.{patterns_by_case};
 ghost use Rattle.acredact.specs.RuledChecks.{AskedCheck, SeesTo, IfCovers, LoadedCheck, SaysOfRulesCheck, UndoubtedCheck, UnruledCheck};
-ghost use Rattle.acredact.specs.Tables.{HaveNoEmpty, secrets_of};
+ghost use Rattle.acredact.specs.Tables.{HaveNoEmpty, patterns_in, secrets_of};
 ghost use Rattle.acredact.specs.declared.arguments.Word.TheVariants.{Summary};
 
 use crate::arguments::{Item, Word, has};
@@ -18,12 +23,13 @@ use crate::line_size::most_of;
 use crate::load::{lists_of, rules};
 use crate::look::Verdict;
 use crate::patterns::{Rule, patterns_of};
-use crate::ruled::{build_lined, line_end_in};
+use crate::prepare::names;
+use crate::ruled::{line_end_in, lined_searcher};
 use crate::ruled_failure::{RuledFailure, tell_ruled};
 use crate::ruled_files::line_cover;
-use crate::run::{FAILED, names};
+use crate::run::FAILED;
 use crate::streams::Streams;
-use chromesquid::{Automaton, Nowhere, Sink};
+use chromesquid::{AhoCorasick, Automaton, Nowhere, Sink};
 use secret_rules::{LineCover, LineError, Rules};
 use std::alloc::Global;
 use std::io::{Read, Write};
@@ -138,12 +144,78 @@ fn check_lines<'a, F: Folder, I: Read, W: Write, E: Sink>(
     }
     let patterns = patterns_of(alloc, secrets)?;
     let names = names(alloc, given)?;
-    let nfa = build_lined(alloc, given, patterns.as_slice())?;
+    let searcher = lined_searcher(alloc, given, patterns.as_slice())?;
+    let names = names.as_slice();
+    check_by(
+        alloc, given, secrets, line_rules, folder, &searcher, names, streams,
+    )
+}
+
+/// Looks at all files by the automaton that the searcher of these patterns holds.
+fn check_by<'a, F: Folder, I: Read, W: Write, E: Sink>(
+    alloc: Global,
+    given: &[Item<'_>],
+    secrets: &[Rule],
+    rules: &Rules,
+    folder: &F,
+    searcher: &AhoCorasick,
+    names: &[&str],
+    streams: &mut Streams<'_, I, W, E>,
+) -> Result<Verdict, RuledFailure<'a>>
+    requires can { CanSearch ⟦<AhoCorasick as Automaton>⟧ searcher.now }
+    requires of { IsBuiltFrom searcher.now (patterns_by_case (all_given given.now) (patterns_in (secrets_of secrets.now))) }
+    requires names { name_bytes names.now ≡ names_asked (all_given given.now) }
+    ensures outcome { LoadedCheck W.Write E.Sink F.Folder folder.now given.now secrets.now rules.now
+        result streams.old streams.new }
+    ensures unwritten { has Summary (all_given given.now) ≡ false
+        → streams.new.output ≡ streams.old.output }
+    ensures flushed { has Summary (all_given given.now) ≡ true
+        → OnOk result (streams.new.output.device.flushed ≡ true) }
+{
+    if let Some(rows) = searcher.rows() {
+        return check_cover(alloc, given, secrets, rules, folder, rows, names, streams);
+    }
+    match searcher.levels() {
+        Some(levels) => check_cover(alloc, given, secrets, rules, folder, levels, names, streams),
+        None => check_cover(
+            alloc,
+            given,
+            secrets,
+            rules,
+            folder,
+            searcher.itself(),
+            names,
+            streams,
+        ),
+    }
+}
+
+/// Looks at all files by an automaton of these patterns.
+fn check_cover<'a, A: Automaton, F: Folder, I: Read, W: Write, E: Sink>(
+    alloc: Global,
+    given: &[Item<'_>],
+    secrets: &[Rule],
+    rules: &Rules,
+    folder: &F,
+    automaton: &A,
+    names: &[&str],
+    streams: &mut Streams<'_, I, W, E>,
+) -> Result<Verdict, RuledFailure<'a>>
+    requires can { CanSearch A.Automaton automaton.now }
+    requires of { A.is_of automaton.now (patterns_by_case (all_given given.now) (patterns_in (secrets_of secrets.now))) }
+    requires names { name_bytes names.now ≡ names_asked (all_given given.now) }
+    ensures outcome { LoadedCheck W.Write E.Sink F.Folder folder.now given.now secrets.now rules.now
+        result streams.old streams.new }
+    ensures unwritten { has Summary (all_given given.now) ≡ false
+        → streams.new.output ≡ streams.old.output }
+    ensures flushed { has Summary (all_given given.now) ≡ true
+        → OnOk result (streams.new.output.device.flushed ≡ true) }
+{
     let most = most_of(given);
     let words = has(given, Word::AsWord);
     let tells = has(given, Word::Summary);
-    let mut cover = line_cover(alloc, &nfa, line_rules, words, most)?;
-    let rules = line_rules.as_slice();
+    let mut cover = line_cover(alloc, automaton, rules, words, most)?;
+    let rules = rules.as_slice();
     let legend = Legend {
         secrets,
         rules,
@@ -155,7 +227,7 @@ fn check_lines<'a, F: Folder, I: Read, W: Write, E: Sink>(
         legend,
         tells,
     };
-    match check_to(&mut cover, &checked, names.as_slice(), streams) {
+    match check_to(&mut cover, &checked, names, streams) {
         Ok(verdict) => Ok(verdict),
         Err(error) => Err(failure_in(alloc, rules, error)),
     }

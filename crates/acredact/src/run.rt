@@ -1,67 +1,52 @@
 //! A call of the program over its arguments, files and streams.
 
-ghost use Rattle.std.specs.Prelude.{◌≡◌, ◌++◌, ◌⊎◌, ◌<◌, ◌≤◌, ℕ, List, IfErr, IfOk, IfSome, Ok, OnErr, OnOk, Some, false, length, option_map, true};
-ghost use Rattle.aho_core.specs.Replacement.{pieces_of};
+ghost use Rattle.std.specs.Prelude.{◌≡◌, ◌⊎◌, ◌<◌, ◌≤◌, ℕ, List, IfErr, IfOk, OnErr, OnOk, false, true};
+ghost use Rattle.chromesquid.specs.Searcher.{ForItsPatterns};
 ghost use Rattle.tool_parts.specs.Arguments.{texts};
-ghost use Rattle.tool_parts.specs.Names.{name_bytes};
-ghost use Rattle.tool_parts.specs.Streams.{WritesBytes, bytes_left};
+ghost use Rattle.tool_parts.specs.Streams.{WritesBytes};
 ghost use Rattle.tool_parts.specs.Telling.{Tells, TellsBytes, TellsSome};
 ghost use Rattle.acredact.specs.Arguments.{AreMistaken, AsksToRedact, GivesNoPattern, IfAsked, IfChecking, IfNoCheck, IfRuled, IfRulesCheck, IsCheck, RefusesUnclean, all_given, any_check_asked, counts_asked, counts_given, has};
-ghost use Rattle.acredact.specs.Back.{AreBoth, FilesJob, IfBackIs, RowsCounts, RowsOutcome};
+ghost use Rattle.acredact.specs.Back.{FilesJob};
 ghost use Rattle.acredact.specs.Bounds.{JobNumbers};
-ghost use Rattle.acredact.specs.Calls.{AskedOutcome, BeginsAsked, CountsAsked, DoubtedOutcome, HidesAsked, IsCountsFailure, IsCountsLine, IsPrintFailure, IsRefusedLine, IsWrongLine, KeyedOutcome, KeylessOutcome, LeavesNoneAsked, LoadOutcome, NumbersAsked, NumbersToldAsked, OutputFails, ReadsAsked, RedactsAsked, TellsAsked, TellsAnyCounts, WarnedJob, WarnedOutcome, WarnsAsked, call_of, gives_pattern, gives_value, keyed_as, names_asked, text_asked, work_by};
+ghost use Rattle.acredact.specs.Calls.{AskedOutcome, BeginsAsked, CountsAsked, HidesAsked, IsCountsFailure, IsCountsLine, IsPrintFailure, IsRefusedLine, IsWrongLine, LeavesNoneAsked, LoadOutcome, NumbersToldAsked, OutputFails, ReadyOutcome, RedactsAsked, TellsAsked, TellsAnyCounts, WarnsAsked, gives_pattern, gives_value};
 ghost use Rattle.acredact.specs.Checks.{MatchedAsked, SaysOfCheck, TellsListsAsked, TellsUncheckedAsked, UnmatchedAsked};
-ghost use Rattle.acredact.specs.Counts.{PutsText, lines_of_rules, secret_lines, zeros};
+ghost use Rattle.acredact.specs.Counts.{PutsText, lines_of_rules, secret_lines};
 ghost use Rattle.acredact.specs.Failures.{IsFailureLine};
-ghost use Rattle.acredact.specs.Files.{CanDo, keyed_of};
-ghost use Rattle.acredact.specs.Loading.{key_lent, loaded_as};
-ghost use Rattle.acredact.specs.Pieces.{IfOfAll, TellsUnclean, pieces_by};
+ghost use Rattle.acredact.specs.Files.{CanDo};
+ghost use Rattle.acredact.specs.Loading.{loaded_in};
+ghost use Rattle.acredact.specs.Ready.{IsReadyFor};
 ghost use Rattle.acredact.specs.RuledChecks.{RuledFindingsBegin, RuledFound, RuledClean, SaysOfRulesCheck, ListsByRules};
 ghost use Rattle.acredact.specs.Ruled.{NotesAsked, RuledAsked, RuledBegins, RuledCountsAsked, RuledTells, SaysOfRules};
-ghost use Rattle.acredact.specs.Secrets.{IfOf};
 ghost use Rattle.acredact.specs.Statuses.{IsIdle, SaysOfRedaction};
 ghost use Rattle.acredact.specs.Sums.{sums_of};
 ghost use Rattle.acredact.specs.Tables.{HaveNoEmpty, secrets_of};
 ghost use Rattle.acredact.specs.Summaries.{counts_told_by, summary_told_by, totals_text};
-ghost use Rattle.acredact.specs.Totals.{CountsWork, JobCounts};
+ghost use Rattle.acredact.specs.Totals.{JobCounts};
 ghost use Rattle.acredact.specs.Volumes.{JobVolume};
-ghost use Rattle.acredact.specs.declared.clean.Unclean.{Unclean};
-ghost use Rattle.acredact.specs.declared.failure.Failure.TheVariants.{Unclean as UncleanPiece};
-ghost use Rattle.acredact.specs.declared.arguments.Word.TheVariants.{Forms, IgnoreCase, Strict, Summary};
+ghost use Rattle.acredact.specs.declared.arguments.Word.TheVariants.{Forms, Summary};
 
 use crate::arguments::{
-    Item, Mistake, Word, asks_rules, checks, checks_by_rules, counts, covers, has, is_same, items,
-    last_value,
+    Item, Mistake, Word, asks_rules, checks, checks_by_rules, counts, has, items,
 };
-use crate::back::back_of;
 use crate::check::check;
-use crate::clean::{Judge, Unclean, unclean_of};
 use crate::counts::{counts_of, put_counts};
-use crate::doubts::warn_of_lists;
-use crate::failure::{Failure, tell_failure, tell_unclean};
+use crate::failure::{Failure, tell_failure};
 use crate::files::{Job, back_files, redact_files};
 use crate::folder::Folder;
 use crate::help::{HELP, VERSION};
-use crate::load::{key_of, lists_of, rules};
-use crate::named::named_rules;
-use crate::patterns::{Rule, patterns_of, replacements_of};
-use crate::rows::build;
+use crate::patterns::Rule;
+use crate::prepare::{Ready, job_of, prepare};
 use crate::ruled::redact_by_rules;
 use crate::ruled_check::check_by_rules;
+use crate::secrets::{Secrets, load};
 use crate::streams::Streams;
 use crate::summary::{Volume, put_summary};
 use crate::sums::sums_of;
-use crate::ways::Key;
-use aho_backward::backward::Backward;
-use chromesquid::{Automaton, FromWrite, Sink, StreamError, write_whole};
+use chromesquid::{AhoCorasick, Automaton, FromWrite, Sink, StreamError, write_whole};
 use std::alloc::{AllocError, Global};
 use std::io::{Read, Write};
 use tool_parts::errors::Errors;
 use tool_parts::failure;
-use tool_parts::rows::rows_of;
-
-/// What is written in the place of a match, where nothing else is given.
-const REDACTED: &[u8] = b"[redacted]";
 
 /// The exit status where not all was done.
 pub const FAILED: u8 = 2;
@@ -274,7 +259,10 @@ fn redact_asked<'a, F: Folder, I: Read, W: Write, E: Sink>(
     if !gives_pattern(given) {
         return Err(Failure::Arguments(Mistake::NoPattern));
     }
-    load(alloc, given, folder, streams)
+    match load(alloc, given, folder, &mut streams.input) {
+        Ok(secrets) => redact_loaded(alloc, given, &secrets, folder, streams),
+        Err(failure) => Err(failure),
+    }
 }
 
 /// Whether an option gives patterns.
@@ -306,158 +294,47 @@ fn print<'a, W: Write>(output: &mut FromWrite<W>, text: &[u8]) -> Result<bool, F
     Ok(true)
 }
 
-/// Loads all patterns, redacts all files by them, and answers whether all were read.
-fn load<'a, F: Folder, I: Read, W: Write, E: Sink>(
-    alloc: Global,
-    given: &[Item<'a>],
-    folder: &F,
-    streams: &mut Streams<'_, I, W, E>,
-) -> Result<bool, Failure<'a>>
-    ensures outcome { AskedOutcome W.Write E.Sink
-        F.Folder folder.now (all_given given.now) result streams.old streams.new }
-    ensures flushed { OnOk result (streams.new.output.device.flushed ≡ true) }
-{
-    let lists = lists_of(alloc, given, folder);
-    match rules(&lists, given, &mut streams.input) {
-        Ok(rules) => load_key(alloc, given, rules.as_slice(), folder, streams),
-        Err(failure) => Err(failure),
-    }
-}
-
-/// Loads the key of pseudonyms, where they are asked for, redacts all files by it and these rules, and answers whether all were read.
-fn load_key<'a, F: Folder, I: Read, W: Write, E: Sink>(
-    alloc: Global,
-    given: &[Item<'a>],
-    rules: &[Rule],
-    folder: &F,
-    streams: &mut Streams<'_, I, W, E>,
-) -> Result<bool, Failure<'a>>
-    requires some { HaveNoEmpty (secrets_of rules.now) }
-    ensures outcome { KeylessOutcome W.Write E.Sink F.Folder
-        folder.now (all_given given.now) rules.now result streams.old streams.new }
-    ensures flushed { OnOk result (streams.new.output.device.flushed ≡ true) }
-{
-    let lists = lists_of(alloc, given, folder);
-    match key_of(&lists, given, &mut streams.input) {
-        Ok(Some(key)) => redact_by_key(alloc, given, rules, key.as_slice(), folder, streams),
-        Ok(None) => redact_loaded(alloc, given, rules, None, folder, streams),
-        Err(failure) => Err(failure),
-    }
-}
-
-/// Redacts all files by these rules and this key, and answers whether all were read. Where forms are asked for, each form has the
-/// pseudonym of its secret.
-fn redact_by_key<'a, F: Folder, I: Read, W: Write, E: Sink>(
-    alloc: Global,
-    given: &[Item<'a>],
-    rules: &[Rule],
-    key: &[u8],
-    folder: &F,
-    streams: &mut Streams<'_, I, W, E>,
-) -> Result<bool, Failure<'a>>
-    requires some { HaveNoEmpty (secrets_of rules.now) }
-    ensures outcome { KeyedOutcome W.Write E.Sink F.Folder
-        folder.now (all_given given.now) rules.now key.now result streams.old streams.new }
-    ensures flushed { OnOk result (streams.new.output.device.flushed ≡ true) }
-{
-    if !has(given, Word::Forms) {
-        return redact_loaded(alloc, given, rules, Some(key), folder, streams);
-    }
-    let named = named_rules(alloc, rules, name_key(given, key))?;
-    redact_loaded(alloc, given, named.as_slice(), None, folder, streams)
-}
-
-/// A key, by the case rule that is given.
-pub fn name_key<'k>(given: &[Item<'_>], bytes: &'k [u8]) -> Key<'k>
-    ensures case { result.ignore_case ≡ has IgnoreCase (all_given given.now) }
-    ensures bytes { result.bytes.now ≡ bytes.entry.now }
-{
-    Key {
-        bytes,
-        ignore_case: has(given, Word::IgnoreCase),
-    }
-}
-
-/// Tells of doubtful patterns of lists, or refuses the first, redacts all files by these rules, and answers whether all were read.
+/// Redacts all files by what was loaded, and answers whether all were read.
 fn redact_loaded<'a, F: Folder, I: Read, W: Write, E: Sink>(
     alloc: Global,
     given: &[Item<'a>],
-    rules: &[Rule],
-    key: Option<&[u8]>,
+    secrets: &Secrets,
     folder: &F,
     streams: &mut Streams<'_, I, W, E>,
 ) -> Result<bool, Failure<'a>>
-    requires some { HaveNoEmpty (secrets_of rules.now) }
-    ensures outcome { LoadOutcome W.Write E.Sink F.Folder
-        folder.now (all_given given.now) rules.now key.entry result streams.old streams.new }
+    requires some { HaveNoEmpty (secrets_of secrets.now.rules.items) }
+    ensures outcome { LoadOutcome W.Write E.Sink F.Folder folder.now (all_given given.now)
+        (loaded_in secrets.now) result streams.old streams.new }
     ensures flushed { OnOk result (streams.new.output.device.flushed ≡ true) }
 {
-    let strict = has(given, Word::Strict);
-    match warn_of_lists(&mut streams.errors, given, rules, strict) {
-        Ok(()) => redact_counted(alloc, given, rules, key, folder, streams),
+    match prepare(alloc, given, secrets, &mut streams.errors) {
+        Ok(ready) => redact_ready(alloc, given, secrets, &ready, folder, streams),
         Err(failure) => Err(failure),
     }
 }
 
-/// Redacts all files by these rules, tells the counts where they are asked for, and answers whether all files were read.
-fn redact_counted<'a, F: Folder, I: Read, W: Write, E: Sink>(
+/// Redacts all files by what is ready, tells the counts where they are asked for, and answers whether all files were read.
+fn redact_ready<'a, F: Folder, I: Read, W: Write, E: Sink>(
     alloc: Global,
     given: &[Item<'_>],
-    rules: &[Rule],
-    key: Option<&[u8]>,
+    secrets: &Secrets,
+    ready: &Ready<'_>,
     folder: &F,
     streams: &mut Streams<'_, I, W, E>,
 ) -> Result<bool, Failure<'a>>
-    requires some { HaveNoEmpty (secrets_of rules.now) }
-    ensures outcome { DoubtedOutcome W.Write E.Sink F.Folder
-        folder.now (all_given given.now) rules.now key.entry result streams.old streams.new }
+    requires some { HaveNoEmpty (secrets_of secrets.now.rules.items) }
+    requires ready { IsReadyFor (all_given given.now) (secrets_of secrets.now.rules.items) ready.now }
+    ensures outcome { ReadyOutcome W.Write E.Sink F.Folder folder.now (all_given given.now)
+        (loaded_in secrets.now) result streams.old streams.new }
     ensures flushed { OnOk result (streams.new.output.device.flushed ≡ true) }
 {
-    let counted = counts(given);
-    let mut tally = counts_of(alloc, rules, counted)?;
-    redact_telling(
-        alloc,
-        given,
-        rules,
-        key,
-        folder,
-        tally.as_mut_slice(),
-        streams,
-    )
-}
-
-/// Redacts all files by these rules, tells what was added to the counts, where they are asked for, and answers whether all files were
-/// read.
-fn redact_telling<'a, F: Folder, I: Read, W: Write, E: Sink>(
-    alloc: Global,
-    given: &[Item<'_>],
-    rules: &[Rule],
-    key: Option<&[u8]>,
-    folder: &F,
-    tally: &mut [u64],
-    streams: &mut Streams<'_, I, W, E>,
-) -> Result<bool, Failure<'a>>
-    requires some { HaveNoEmpty (secrets_of rules.now) }
-    requires none { tally.old ≡ zeros (counts_given given.now) rules.now }
-    ensures outcome { DoubtedOutcome W.Write E.Sink F.Folder
-        folder.now (all_given given.now) rules.now key.entry result streams.old streams.new }
-    ensures flushed { OnOk result (streams.new.output.device.flushed ≡ true) }
-{
+    let rules = secrets.rules.as_slice();
+    let mut counted = counts_of(alloc, rules, counts(given))?;
+    let tally = counted.as_mut_slice();
     let mut volume = Volume { files: 0, bytes: 0 };
-    // Not by `?`: this error may hold names.
-    match redact_all(
-        alloc,
-        given,
-        rules,
-        key,
-        folder,
-        tally,
-        &mut volume,
-        streams,
-    ) {
-        Ok(all) => tell_counted(alloc, all, given, rules, tally, volume, &mut streams.errors),
-        Err(failure) => Err(failure),
-    }
+    let job = job_of(alloc, given, secrets, ready, folder);
+    let all = redact_by(&ready.searcher, &job, tally, &mut volume, streams)?;
+    tell_counted(alloc, all, given, rules, tally, volume, &mut streams.errors)
 }
 
 /// Tells the counts, where they are asked for, and answers whether all files were read.
@@ -549,227 +426,53 @@ fn put_asked_summary(
     Ok(())
 }
 
-/// What is written for a pattern that has no replacement of its own.
-pub fn text_of<'a>(given: &[Item<'a>]) -> &'a [u8]
-    ensures text { result.now ≡ text_asked (all_given given.now) }
-{
-    match last_value(given, Word::With) {
-        Some(text) => text.as_bytes(),
-        None => REDACTED,
-    }
-}
-
-/// A key, by the case rule of the patterns.
-pub fn key_by(bytes: Option<&[u8]>, ignore_case: bool) -> Option<Key<'_>>
-    ensures key { option_map keyed_of result ≡ option_map (keyed_as ignore_case) (key_lent bytes.entry) }
-{
-    match bytes {
-        Some(bytes) => Some(Key { bytes, ignore_case }),
-        None => None,
-    }
-}
-
-/// Redacts all files by these rules, and answers whether all were read.
-fn redact_all<'a, F: Folder, I: Read, W: Write, E: Sink>(
-    alloc: Global,
-    given: &[Item<'_>],
-    rules: &[Rule],
-    key: Option<&[u8]>,
-    folder: &F,
-    counts: &mut [u64],
-    volume: &mut Volume,
-    streams: &mut Streams<'_, I, W, E>,
-) -> Result<bool, Failure<'a>>
-    requires some { HaveNoEmpty (secrets_of rules.now) }
-    ensures outcome { WarnedOutcome W.Write E.Sink (has Strict (all_given given.now))
-        (work_by (call_of F.Folder folder.now (all_given given.now)) (loaded_as rules.now (key_lent key.entry)))
-        result streams.old streams.new }
-    ensures counted { CountsWork
-        (work_by (call_of F.Folder folder.now (all_given given.now)) (loaded_as rules.now (key_lent key.entry)))
-        result streams.old streams.new counts.old counts.new }
-    ensures read { result ≡ Ok true → ReadsAsked (F.holds folder.now) (all_given given.now)
-        volume.old volume.new streams.old streams.new }
-    ensures most { OnOk result (NumbersAsked (F.holds folder.now) (all_given given.now)
-        counts.old counts.new volume.old volume.new streams.old streams.new) }
-    ensures flushed { OnOk result (streams.new.output.device.flushed ≡ true) }
-{
-    let patterns = patterns_of(alloc, rules)?;
-    let text = text_of(given);
-    let replacements = replacements_of(alloc, rules, text)?;
-    let names = names(alloc, given)?;
-    let words = patterns.as_slice();
-    let nfa = build(alloc, given, words)?;
-    let ignore_case = has(given, Word::IgnoreCase);
-    let only_words = has(given, Word::AsWord);
-    let rows = rows_of(alloc, &nfa, ignore_case, words)?;
-    let back = back_of(alloc, given, words, &nfa)?;
-    let job = Job {
-        alloc,
-        folder,
-        names: names.as_slice(),
-        replacements: replacements.as_slice(),
-        key: key_by(key, ignore_case),
-        covers: covers(given),
-        words: only_words,
-    };
-    let judge = Judge {
-        words,
-        ignore_case,
-        rules,
-        usual: text,
-    };
-    let strict = has(given, Word::Strict);
-    redact_warned(
-        &nfa,
-        rows.as_ref(),
-        back.as_ref(),
-        &job,
-        &judge,
-        strict,
-        counts,
-        volume,
-        streams,
-    )
-}
-
-/// Tells of a piece that is not clean, where a cover is asked for, or refuses it, and redacts all files.
-fn redact_warned<
-    'a,
-    A: Automaton,
-    B: Automaton,
-    C: Automaton,
-    F: Folder,
-    I: Read,
-    W: Write,
-    E: Sink,
->(
-    automaton: &A,
-    rows: Option<&B>,
-    back: Option<&Backward<C>>,
-    job: &Job<'_, '_, F>,
-    judge: &Judge<'_, '_>,
-    strict: bool,
-    counts: &mut [u64],
-    volume: &mut Volume,
-    streams: &mut Streams<'_, I, W, E>,
-) -> Result<bool, Failure<'a>>
-    requires ready { CanDo A.Automaton automaton.now job.now }
-    requires rows { IfSome rows (λ rows. CanDo B.Automaton rows.now job.now) }
-    requires back { AreBoth A.Automaton C.Automaton automaton.now back }
-    requires words { length judge.now.rules.now ≡ length judge.now.words.now }
-    requires pieces { pieces_of job.now.replacements.now ≡ pieces_by judge.now }
-    ensures outcome { IfOfAll A.Automaton B.Automaton automaton.now rows.entry judge.now
-        (λ p. IfBackIs C.Automaton back.entry p
-        (WarnedJob W.Write E.Sink F.Folder strict job.now p result streams.old streams.new)) }
-    ensures counted { IfOfAll A.Automaton B.Automaton automaton.now rows.entry judge.now
-        (λ p. IfBackIs C.Automaton back.entry p
-        (JobCounts F.Folder job.now result streams.old streams.new counts.old counts.new p)) }
-    ensures read { JobVolume F.Folder job.now result volume.old volume.new streams.old streams.new }
-    ensures most { OnOk result (JobNumbers F.Folder job.now counts.old counts.new
-        volume.old volume.new streams.old streams.new) }
-    ensures flushed { OnOk result (streams.new.output.device.flushed ≡ true) }
-{
-    let unclean = unclean_of(automaton, judge, job.covers, job.key.is_some());
-    // Not by `?`: this error may hold names.
-    match warn(&mut streams.errors, unclean, strict) {
-        Ok(()) => Ok(redact_by(automaton, rows, back, job, counts, volume, streams)?),
-        Err(failure) => Err(failure),
-    }
-}
-
-/// Tells of a piece that is not clean, or refuses it.
-pub fn warn<'a, E: Sink>(
-    errors: &mut Errors<'_, E>,
-    unclean: Option<Unclean>,
-    strict: bool,
-) -> Result<(), Failure<'a>>
-    ensures told { OnOk result (TellsUnclean E.Sink strict unclean errors.old errors.new) }
-    ensures refused { IfErr result (λ failure. (piece : Unclean) × (unclean ≡ Some piece)
-        × (failure ≡ UncleanPiece piece) × (strict ≡ true)) }
-    ensures untold { OnErr result (errors.new ≡ errors.old) }
-{
-    match unclean {
-        None => Ok(()),
-        Some(piece) => {
-            if strict {
-                return Err(Failure::Unclean(piece));
-            }
-            tell_unclean(errors, piece);
-            Ok(())
-        }
-    }
-}
-
-/// Redacts all files by a walk backward, if there is a searcher for that, and else by the automaton with rows, if there is one.
-pub fn redact_by<A: Automaton, B: Automaton, C: Automaton, F: Folder, I: Read, W: Write, E: Sink>(
-    automaton: &A,
-    rows: Option<&B>,
-    back: Option<&Backward<C>>,
+/// Redacts all files by the walk backward that the searcher holds, if it holds one, and else forward.
+pub fn redact_by<F: Folder, I: Read, W: Write, E: Sink>(
+    searcher: &AhoCorasick,
     job: &Job<'_, '_, F>,
     counts: &mut [u64],
     volume: &mut Volume,
     streams: &mut Streams<'_, I, W, E>,
 ) -> Result<bool, StreamError>
-    requires ready { CanDo A.Automaton automaton.now job.now }
-    requires rows { IfSome rows (λ rows. CanDo B.Automaton rows.now job.now) }
-    requires back { AreBoth A.Automaton C.Automaton automaton.now back }
-    ensures outcome { IfOf A.Automaton automaton.now (λ p. IfSome rows.entry (λ rows. B.is_of rows.now p)
-        → IfBackIs C.Automaton back.entry p
-        (FilesJob F.Folder job.now W.Write E.Sink result streams.old streams.new p)) }
-    ensures counted { IfOf A.Automaton automaton.now (λ p. IfSome rows.entry (λ rows. B.is_of rows.now p)
-        → IfBackIs C.Automaton back.entry p
-        (JobCounts F.Folder job.now result streams.old streams.new counts.old counts.new p)) }
+    requires ready { CanDo ⟦<AhoCorasick as Automaton>⟧ searcher.now job.now }
+    ensures outcome { ForItsPatterns searcher.now (FilesJob F.Folder job.now W.Write E.Sink
+        result streams.old streams.new) }
+    ensures counted { ForItsPatterns searcher.now (JobCounts F.Folder job.now
+        result streams.old streams.new counts.old counts.new) }
     ensures read { JobVolume F.Folder job.now result volume.old volume.new streams.old streams.new }
     ensures most { OnOk result (JobNumbers F.Folder job.now counts.old counts.new
         volume.old volume.new streams.old streams.new) }
     ensures flushed { OnOk result (streams.new.output.device.flushed ≡ true) }
 {
-    match back {
-        Some(searcher) => back_files(automaton, searcher, job, counts, volume, streams),
-        None => redact_forward(automaton, rows, job, counts, volume, streams),
+    match searcher.backward() {
+        Some(back) => back_files(searcher.itself(), back, job, counts, volume, streams),
+        None => redact_forward(searcher, job, counts, volume, streams),
     }
 }
 
-/// Redacts all files by the automaton with rows, if there is one.
-fn redact_forward<A: Automaton, B: Automaton, F: Folder, I: Read, W: Write, E: Sink>(
-    automaton: &A,
-    rows: Option<&B>,
+/// Redacts all files by the automaton that the searcher holds.
+fn redact_forward<F: Folder, I: Read, W: Write, E: Sink>(
+    searcher: &AhoCorasick,
     job: &Job<'_, '_, F>,
     counts: &mut [u64],
     volume: &mut Volume,
     streams: &mut Streams<'_, I, W, E>,
 ) -> Result<bool, StreamError>
-    requires ready { CanDo A.Automaton automaton.now job.now }
-    requires rows { IfSome rows (λ rows. CanDo B.Automaton rows.now job.now) }
-    ensures outcome { RowsOutcome W.Write E.Sink A.Automaton B.Automaton F.Folder
-        automaton.now rows.entry job.now result streams.old streams.new }
-    ensures counted { RowsCounts A.Automaton B.Automaton F.Folder automaton.now rows.entry job.now
-        result streams.old streams.new counts.old counts.new }
+    requires ready { CanDo ⟦<AhoCorasick as Automaton>⟧ searcher.now job.now }
+    ensures outcome { ForItsPatterns searcher.now (FilesJob F.Folder job.now W.Write E.Sink
+        result streams.old streams.new) }
+    ensures counted { ForItsPatterns searcher.now (JobCounts F.Folder job.now
+        result streams.old streams.new counts.old counts.new) }
     ensures read { JobVolume F.Folder job.now result volume.old volume.new streams.old streams.new }
     ensures most { OnOk result (JobNumbers F.Folder job.now counts.old counts.new
         volume.old volume.new streams.old streams.new) }
     ensures flushed { OnOk result (streams.new.output.device.flushed ≡ true) }
 {
-    match rows {
-        Some(automaton) => redact_files(automaton, job, counts, volume, streams),
-        None => redact_files(automaton, job, counts, volume, streams),
+    if let Some(rows) = searcher.rows() {
+        return redact_files(rows, job, counts, volume, streams);
     }
-}
-
-/// The names of the files that are read: standard input where none is given.
-pub fn names<'a>(alloc: Global, given: &[Item<'a>]) -> Result<Vec<&'a str>, AllocError>
-    ensures names { IfOk result (λ files. name_bytes files.items ≡ names_asked (all_given given.now)) }
-{
-    let mut files = Vec::new(alloc);
-    let mut rest = given;
-    while !rest.is_empty() {
-        if is_same(Word::File, rest[0].word) {
-            files.push(rest[0].value)?;
-        }
-        rest = &rest[1..];
+    match searcher.levels() {
+        Some(levels) => redact_files(levels, job, counts, volume, streams),
+        None => redact_files(searcher.itself(), job, counts, volume, streams),
     }
-    if files.is_empty() {
-        files.push("-")?;
-    }
-    Ok(files)
 }

@@ -1,7 +1,6 @@
 pub mod Beginnings
 pub mod Calls
 pub mod Counted
-pub mod Lent
 pub mod Matches
 pub mod Pairs
 pub mod Replacings

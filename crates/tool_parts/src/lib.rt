@@ -14,7 +14,6 @@ pub mod parts;
 pub mod print;
 pub mod reason;
 mod replace;
-pub mod rows;
 pub mod run;
 mod searcher;
 pub mod unopened;

@@ -14,18 +14,18 @@ pub returns-then-is_input : goal.returns-then-is_input
 returns-then-is_input g c =
     let named : is_input c.args.name.now ≡ true = search rules in
     record {
-      outcome = λ p of rows back.
+      outcome = λ p of.
           place_told g.O.File.Write g.E.Sink g.O.Outputs (work_of g.F.Folder c.args.job.now (redactor_of c.args.job.now p)) _ _ _ _ _ _ (inr (inr (named, refl))) (inl (named, refl)) c.tell_no_file.ensures.told;
-      counted = λ p of rows back (is : Ok false ≡ Ok true). absurd (cc);
+      counted = λ p of (is : Ok false ≡ Ok true). absurd (cc);
       read = λ (is : Ok false ≡ Ok true). absurd (cc);
     }
 
 pub returns-in-Err : goal.returns-in-Err
 returns-in-Err g c = record {
-  outcome = λ p of rows back.
+  outcome = λ p of.
       place_told g.O.File.Write g.E.Sink g.O.Outputs (work_of g.F.Folder c.args.job.now (redactor_of c.args.job.now p)) _ _ _ _ _ _ (inl (c.in-Err.reason, refl)) (inr (inl (c.in-Err.reason, c.in-Err.ensures.made)))
       c.tell_unread.ensures.told;
-  counted = λ p of rows back (is : Ok false ≡ Ok true). absurd (cc);
+  counted = λ p of (is : Ok false ≡ Ok true). absurd (cc);
   read = λ (is : Ok false ≡ Ok true). absurd (cc);
 }
 
@@ -34,9 +34,9 @@ returns-in-Ok g c =
     let named : is_input c.args.name.now ≡ false = search rules in
     let settled = c.settle.ensures in
     record {
-      outcome = λ p of rows back.
+      outcome = λ p of.
           let work = work_of g.F.Folder c.args.job.now (redactor_of c.args.job.now p) in
-          let files = c.redact_by-done.ensures.outcome p of rows back in
+          let files = c.redact_by-done.ensures.outcome p of in
           place_settled g.O.File.Write g.E.Sink g.O.Outputs work c.args.name.now c.args.outputs.now c.settle.new.outputs c.args.streams.now.errors c.redact_by-done.new.streams.errors c.settle.new.streams.errors
           c.redact_by-done.result c.settle.result (told_of_one g.O.File.Write g.E.Sink _ c.args.name.now refl c.redact_by-done.result _ _ files)
           settled.done settled.quiet settled.untold settled.told settled.memory
@@ -54,10 +54,10 @@ returns-in-Ok g c =
             puts = settled.puts is;
           })
           (λ not. inr (inr (record { held = _; meanwhile = c.make.new.self; made = c.in-Ok.ensures.made; kept = settled.kept not })));
-      counted = λ p of rows back is.
+      counted = λ p of is.
           let work = work_of g.F.Folder c.args.job.now (redactor_of c.args.job.now p) in
           subst (λ input. CountsOfName (bytes_left c.args.streams.now.input) (bytes_left input) c.args.counts.now c.redact_by-done.new.counts work c.args.name.now) (sym settled.input)
-          (one_counts work c.args.name.now _ _ _ _ (c.redact_by-done.ensures.counted p of rows back (settled.done is)));
+          (one_counts work c.args.name.now _ _ _ _ (c.redact_by-done.ensures.counted p of (settled.done is)));
       read = λ is.
           subst (λ input. ReadsVolume (g.F.Folder.holds c.args.job.now.folder.now) (c.args.name.now ∷ []) c.args.volume.now c.redact_by-done.new.volume (bytes_left c.args.streams.now.input) (bytes_left input)) (sym settled.input)
           (c.redact_by-done.ensures.read (settled.done is));

@@ -1,26 +1,16 @@
--- Of doubtful patterns it is told before anything else, or the first is refused.
-use Rattle.std.proofs.Common.{inr, subst, sym}
-use Rattle.std.specs.Prelude.{Bool, Err}
-use Rattle.tool_parts.specs.Streams.{bytes_left}
-use Rattle.tool_parts.specs.declared.errors.Errors.{Errors}
-use Rattle.acredact.specs.Arguments.{all_given, has}
-use Rattle.acredact.specs.Calls.{CallOutcome, call_of}
-use Rattle.acredact.specs.Doubts.{IsDoubtFailure, TellsDoubts}
-use Rattle.acredact.specs.Loading.{key_lent, loaded_as}
-use Rattle.acredact.specs.Tables.{secrets_of}
-use Rattle.acredact.proofs.Calls.{call_refused}
+-- What comes of the files comes behind what is told of patterns of lists and of pieces.
+use Rattle.acredact.specs.Arguments.{all_given}
+use Rattle.acredact.specs.Calls.{call_of}
+use Rattle.acredact.specs.Loading.{loaded_in}
+use Rattle.acredact.proofs.Warned.{call_unready, call_warned}
 use Rattle.acredact.proofs.run.redact_loaded.Goals as goal
 
 pub returns-in-Ok-clause-outcome : goal.returns-in-Ok-clause-outcome
 returns-in-Ok-clause-outcome g c = λ left loaded.
-    c.redact_counted.ensures.outcome c.args.streams.now.errors
-    (subst (λ (b : Bool). TellsDoubts g.E.Sink b (all_given c.args.given.now) (secrets_of c.args.rules.now) c.args.streams.now.errors c.warn_of_lists.new.errors) c.has-strict.ensures.has c.in-Ok.ensures.told)
-    left loaded
+    let (mid, doubts, pieces) = c.in-Ok.ensures.told in
+    call_warned g.W.Write g.E.Sink (call_of g.F.Folder c.args.folder.now (all_given c.args.given.now)) left (loaded_in c.args.secrets.now) (record c.args.streams.now { errors = mid }) loaded c.args.streams.now.errors doubts
+    c.redact_ready.new.streams c.prepare.new.errors c.redact_ready.result pieces (c.redact_ready.ensures.outcome left loaded)
 
 pub returns-in-Err-clause-outcome : goal.returns-in-Err-clause-outcome
 returns-in-Err-clause-outcome g c = λ left loaded.
-    let call = call_of g.F.Folder c.args.folder.now (all_given c.args.given.now) in
-    let load = loaded_as c.args.rules.now (key_lent c.args.key) in
-    let doubted = subst (λ (b : Bool). IsDoubtFailure b (all_given c.args.given.now) (secrets_of c.args.rules.now) c.in-Err.failure) c.has-strict.ensures.has c.in-Err.ensures.refused in
-    subst (λ (e : Errors _). CallOutcome g.W.Write g.E.Sink call left (Err c.in-Err.failure) c.args.streams.now (record c.args.streams.now { errors = e })) (sym c.in-Err.ensures.untold)
-    (call_refused g.W.Write g.E.Sink call left c.args.streams.now.input c.args.streams.now c.in-Err.failure (inr (inr (inr (inr (inr (inr (load, left, bytes_left c.args.streams.now.input, loaded, doubted))))))))
+    call_unready g.W.Write g.E.Sink (call_of g.F.Folder c.args.folder.now (all_given c.args.given.now)) left (loaded_in c.args.secrets.now) c.args.streams.now loaded c.prepare.new.errors c.in-Err.failure c.in-Err.ensures.fails c.in-Err.ensures.untold

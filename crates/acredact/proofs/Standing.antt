@@ -1,0 +1,40 @@
+-- What stands for a searcher can do what the searcher can.
+use Rattle.std.proofs.Common.{◌≤◌, ◌∙◌, ℕ, Bool, List, ap, length, subst, sym}
+use Rattle.std.specs.Prelude.{IsOk}
+use Rattle.std.specs.Borrow.{Bor}
+use Rattle.aho_core.specs.Laws.{shortest}
+use Rattle.aho_automaton.specs.declared.automaton.Automaton.{Ghosts as Automata}
+use Rattle.chromesquid.specs.Searcher.{Searcher, StandsFor}
+use Rattle.chromesquid.specs.contracts.automaton.AhoCorasickAutomaton.TheImpl.{ghosts as of_searcher}
+use Rattle.secret_rules.specs.OpenLines.{CanSearch}
+use Rattle.acredact.specs.Looks.{CanLook}
+use Rattle.acredact.specs.Secrets.{CanRedact}
+
+module _ {A : Type 0} (G : Automata A) (automaton : A) (searcher : Searcher) (stands : StandsFor G automaton searcher) where
+  -- it redacts
+  pub redact_as : (covers : Bool) (replacements : List (Bor (List ℕ))) → CanRedact of_searcher searcher covers replacements → CanRedact G automaton covers replacements
+  redact_as covers replacements can = record {
+    patterns = can.patterns;
+    of = stands.of can.patterns can.of;
+    begins = (can.begins.0, subst (λ (ns : List ℕ). 1 ≤ shortest ns) (sym stands.lengths) can.begins.1, stands.start ∙ can.begins.2);
+    standard = λ is. stands.kind ∙ can.standard is;
+    one_each = can.one_each ∙ ap length (sym stands.lengths);
+  }
+
+  -- it looks for what counts
+  pub look_as : (words : Bool) → CanLook of_searcher searcher words → CanLook G automaton words
+  look_as words can = record {
+    patterns = can.patterns;
+    of = stands.of can.patterns can.of;
+    begins = (can.begins.0, subst (λ (ns : List ℕ). 1 ≤ shortest ns) (sym stands.lengths) can.begins.1, stands.start ∙ can.begins.2);
+    standard = λ is. stands.kind ∙ can.standard is;
+  }
+
+  -- it searches lines
+  pub search_as : CanSearch of_searcher searcher → CanSearch G automaton
+  search_as can = record {
+    of = (can.of.0, stands.of can.of.0 can.of.1);
+    standard = stands.kind ∙ can.standard;
+    starts = subst IsOk (sym stands.start) can.starts;
+    full = subst (λ (ns : List ℕ). 1 ≤ shortest ns) (sym stands.lengths) can.full;
+  }

@@ -1,0 +1,71 @@
+-- The files' outcome, and then the counts.
+use Rattle.std.proofs.Common.{rules, ◌≡◌, ◌∙◌, List, ℕ, ap, refl, subst, sym}
+use Rattle.std.specs.Prelude.{Bool, Err, Ok, Result}
+use Rattle.tool_parts.specs.Failures.{failure_of_stream}
+use Rattle.tool_parts.specs.Streams.{bytes_left}
+use Rattle.tool_parts.specs.declared.failure.Failure.TheVariants.{OutOfMemory}
+use Rattle.acredact.specs.Arguments.{all_given, counts_asked}
+use Rattle.acredact.specs.Bounds.{NumbersOfAll}
+use Rattle.acredact.specs.Calls.{RestOutcome, call_of, names_asked, reading_by, work_by}
+use Rattle.acredact.specs.Counts.{zeros}
+use Rattle.acredact.specs.Files.{FilesOutcome, Work}
+use Rattle.acredact.specs.Loading.{AreLoaded, key_in, loaded_as, loaded_in}
+use Rattle.acredact.specs.Summaries.{no_volume}
+use Rattle.acredact.specs.Totals.{CountsOfNames}
+use Rattle.acredact.specs.Volumes.{ReadsVolume}
+use Rattle.acredact.specs.declared.failure.Failure.{Failure}
+use Rattle.acredact.specs.declared.failure.Failure.TheVariants.{Other}
+use Rattle.acredact.specs.declared.patterns.Rule.{Rule}
+use Rattle.acredact.proofs.Calls.{job_does, rest_cut, rest_told, run_done, run_fails, run_memory}
+use Rattle.acredact.proofs.Limits.{bounded_from}
+use Rattle.acredact.proofs.run.redact_ready.Goals as goal
+
+pub redact_by-all-requires : goal.redact_by-all-requires
+redact_by-all-requires g c = record { ready = c.job_of-job.ensures.can c.requires.some c.requires.ready }
+
+pub returns-in_err-counted-clause-outcome : goal.returns-in_err-counted-clause-outcome
+returns-in_err-counted-clause-outcome g c = λ left loaded.
+    let call = call_of g.F.Folder c.args.folder.now (all_given c.args.given.now) in
+    let load = loaded_in c.args.secrets.now in
+    let is : c.from_residual.result ≡ Err (Other OutOfMemory) = search rules in
+    subst (λ (r : Result Bool Failure). RestOutcome g.W.Write g.E.Sink call load r c.args.streams.now c.args.streams.now) (sym is)
+    (rest_cut g.W.Write g.E.Sink call load c.args.streams.now c.args.streams.now (Other OutOfMemory) (run_memory g.W.Write g.E.Sink (work_by call load) c.args.streams.now))
+
+pub returns-in_err-all-clause-outcome : goal.returns-in_err-all-clause-outcome
+returns-in_err-all-clause-outcome g c = λ left loaded.
+    let call = call_of g.F.Folder c.args.folder.now (all_given c.args.given.now) in
+    let load = loaded_in c.args.secrets.now in
+    let is : c.from_residual-in_err-all.result ≡ Err (Other (failure_of_stream c.in_err-all.field-0.0)) = search rules in
+    let files = job_does g.F.Folder c.args.folder.now call.given load c.job_of-job.result (c.job_of-job.ensures.job c.requires.ready)
+    (λ (w : Work). FilesOutcome g.W.Write g.E.Sink w (Err c.in_err-all.field-0.0) c.args.streams.now c.redact_by-all.new.streams) (c.in_err-all.ensures.outcome _ c.requires.ready.of) in
+    subst (λ (r : Result Bool Failure). RestOutcome g.W.Write g.E.Sink call load r c.args.streams.now c.redact_by-all.new.streams) (sym is)
+    (rest_cut g.W.Write g.E.Sink call load c.args.streams.now c.redact_by-all.new.streams _ (run_fails g.W.Write g.E.Sink (work_by call load) _ _ _ files))
+
+pub returns-clause-outcome : goal.returns-clause-outcome
+returns-clause-outcome g c = λ left loaded.
+    let call = call_of g.F.Folder c.args.folder.now (all_given c.args.given.now) in
+    let key = key_in c.args.secrets.now.key in
+    let value : c.as_slice-rules.result.now ≡ c.args.secrets.now.rules.items = c.as_slice-rules.ensures.value in
+    let work = work_by call (loaded_as c.as_slice-rules.result.now key) in
+    let as_asked = λ (P : Work → Type 0) (done : P _). subst (λ (l : List Rule). P (work_by call (loaded_as l key))) (sym value)
+    (job_does g.F.Folder c.args.folder.now call.given (loaded_in c.args.secrets.now) c.job_of-job.result (c.job_of-job.ensures.job c.requires.ready) P done) in
+    let old = bytes_left c.args.streams.now.input in
+    let new = bytes_left c.redact_by-all.new.streams.input in
+    let counts = c.redact_by-all.new.counts in
+    let volume = c.redact_by-all.new.volume in
+    let none : c.as_mut_slice-tally.result.now ≡ zeros (counts_asked call.given) c.as_slice-rules.result.now =
+    c.as_mut_slice-tally.ensures.value ∙ c.in_ok-counted.ensures.counts ∙ ap (λ (b : Bool). zeros b c.as_slice-rules.result.now) c.counts.ensures.counts in
+    let files = as_asked (λ w. FilesOutcome g.W.Write g.E.Sink w (Ok c.in_ok-all.all) c.args.streams.now c.redact_by-all.new.streams) (c.in_ok-all.ensures.outcome _ c.requires.ready.of) in
+    let numbers = as_asked (λ w. NumbersOfAll w.holds w.names c.as_mut_slice-tally.result.now counts no_volume volume old new) c.in_ok-all.ensures.most in
+    subst (λ (l : List Rule). RestOutcome g.W.Write g.E.Sink call (loaded_as l key) c.tell_counted.result c.args.streams.now (record c.redact_by-all.new.streams { errors = c.tell_counted.new.errors })) value
+    (rest_told g.W.Write g.E.Sink call c.as_slice-rules.result.now key left old (subst (λ (l : List Rule). AreLoaded (reading_by call) call.given (loaded_as l key) left old) (sym value) loaded) counts volume
+    c.args.streams.now c.redact_by-all.new.streams c.in_ok-all.all (counts_asked call.given) c.tell_counted.result c.tell_counted.new.errors refl (run_done g.W.Write g.E.Sink work _ _ _ files)
+    (λ whole. (
+      subst (λ (l : List ℕ). CountsOfNames old new l counts work work.names) none
+          (as_asked (λ w. CountsOfNames old new c.as_mut_slice-tally.result.now counts w w.names) (c.in_ok-all.ensures.counted _ c.requires.ready.of (ap Ok whole))),
+      as_asked (λ w. ReadsVolume w.holds w.names no_volume volume old new) (c.in_ok-all.ensures.read (ap Ok whole)),
+    ))
+    c.tell_counted.ensures.all c.tell_counted.ensures.told c.tell_counted.ensures.fails c.tell_counted.ensures.lines
+    (bounded_from call.holds (names_asked call.given) (counts_asked call.given) c.as_slice-rules.result.now counts volume _ _
+    (subst (λ (l : List ℕ). NumbersOfAll call.holds (names_asked call.given) l counts no_volume volume old new) none numbers))
+    c.tell_counted.ensures.these)

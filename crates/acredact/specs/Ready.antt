@@ -1,0 +1,41 @@
+-- What is ready before any file is read, and why it is not.
+use Rattle.std.specs.Prelude.{◌≡◌, ◌⊎◌, List}
+use Rattle.aho_core.specs.Replacement.{pieces_of}
+use Rattle.aho_core.specs.declared.search.Anchored.TheVariants.{No}
+use Rattle.chromesquid.specs.Searcher.{Answers, IsBuiltFrom}
+use Rattle.tool_parts.specs.Names.{name_bytes}
+use Rattle.acredact.specs.Arguments.{Given, has}
+use Rattle.acredact.specs.Builds.{patterns_by_given}
+use Rattle.acredact.specs.Calls.{IsStrictFailure, names_asked, pieces_asked, redactor_by_given}
+use Rattle.acredact.specs.Checks.{IsBuildFailure}
+use Rattle.acredact.specs.Doubts.{IsDoubtFailure}
+use Rattle.acredact.specs.Files.{redactor_of}
+use Rattle.acredact.specs.Loading.{Loaded}
+use Rattle.acredact.specs.Tables.{Secret, patterns_in}
+use Rattle.acredact.specs.declared.arguments.Word.TheVariants.{Strict}
+use Rattle.acredact.specs.declared.failure.Failure.{Failure}
+use Rattle.acredact.specs.declared.files.Job.{Job}
+use Rattle.acredact.specs.declared.prepare.Ready.{Ready}
+
+-- it is what these options ask for, where these secrets were loaded
+pub record IsReadyFor (given : List Given) (secrets : List Secret) (ready : Ready) : Type 0 where
+  pub patterns : pieces_of ready.patterns.items ≡ patterns_in secrets
+  pub pieces : pieces_of ready.replacements.items ≡ pieces_asked given secrets
+  pub names : name_bytes ready.names.items ≡ names_asked given
+  pub of : IsBuiltFrom ready.searcher (patterns_by_given given (patterns_in secrets))
+  pub answers : Answers ready.searcher No
+
+-- what is done to files is what they ask for
+pub record IsJobFor {F : Type 0} (folder : F) (given : List Given) (load : Loaded) (job : Job F) : Type 0 where
+  pub opens : job.folder.now ≡ folder
+  pub names : name_bytes job.names.now ≡ names_asked given
+  pub redactor : redactor_of job (patterns_by_given given (patterns_in load.secrets)) ≡ redactor_by_given given load
+
+-- why it is not ready: a piece is refused, or the library refuses the patterns, or memory runs out
+abbrev pub CannotJudge : List Given → Loaded → Failure → Type 0
+CannotJudge given load failure =
+    IsStrictFailure (has Strict given) (redactor_by_given given load) failure ⊎ IsBuildFailure (patterns_by_given given (patterns_in load.secrets)) failure
+
+-- or a pattern of a list that may be meant otherwise
+abbrev pub CannotPrepare : List Given → Loaded → Failure → Type 0
+CannotPrepare given load failure = IsDoubtFailure (has Strict given) given load.secrets failure ⊎ CannotJudge given load failure

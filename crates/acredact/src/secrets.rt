@@ -1,0 +1,114 @@
+//! What is loaded before any file is read: the rules of all patterns, and the key of pseudonyms.
+
+ghost use Rattle.std.specs.Prelude.{◌≡◌, ℕ, List, Option, IfErr, IfOk};
+ghost use Rattle.tool_parts.specs.Streams.{bytes_left};
+ghost use Rattle.acredact.specs.Arguments.{all_given, has};
+ghost use Rattle.acredact.specs.Calls.{CannotLoadCall, call_of, reading_by};
+ghost use Rattle.acredact.specs.Loading.{AreGiven, AreLoaded, LoadsByKey, loaded_in, key_in, key_lent};
+ghost use Rattle.acredact.specs.Tables.{HaveNoEmpty, secrets_of};
+ghost use Rattle.acredact.specs.declared.arguments.Word.TheVariants.{IgnoreCase};
+
+use crate::arguments::{Item, Word, has};
+use crate::failure::Failure;
+use crate::folder::Folder;
+use crate::load::{key_of, lists_of, rules};
+use crate::named::named_rules;
+use crate::patterns::Rule;
+use crate::ways::Key;
+use chromesquid::FromRead;
+use std::alloc::{AllocError, Global};
+use std::io::Read;
+
+/// What was loaded.
+#[derive(Drop)]
+pub struct Secrets {
+    /// The rules of all patterns.
+    pub rules: Vec<Rule>,
+    /// The key that names each run, where there is one.
+    pub key: Option<Vec<u8>>,
+}
+
+/// Loads all patterns, and the key of pseudonyms, where they are asked for.
+pub fn load<'a, F: Folder, I: Read>(
+    alloc: Global,
+    given: &[Item<'a>],
+    folder: &F,
+    input: &mut FromRead<I>,
+) -> Result<Secrets, Failure<'a>>
+    ensures loaded { IfOk result (λ secrets. AreLoaded (reading_by (call_of F.Folder folder.now (all_given given.now)))
+        (all_given given.now) (loaded_in secrets) (bytes_left input.old) (bytes_left input.new)) }
+    ensures some { IfOk result (λ secrets. HaveNoEmpty (secrets_of secrets.rules.items)) }
+    ensures fails { IfErr result (CannotLoadCall (call_of F.Folder folder.now (all_given given.now))) }
+{
+    let lists = lists_of(alloc, given, folder);
+    match rules(&lists, given, input) {
+        Ok(rules) => load_key(alloc, given, rules, folder, input),
+        Err(failure) => Err(failure),
+    }
+}
+
+/// Loads the key of pseudonyms, where they are asked for, beside these rules.
+fn load_key<'a, F: Folder, I: Read>(
+    alloc: Global,
+    given: &[Item<'a>],
+    rules: Vec<Rule>,
+    folder: &F,
+    input: &mut FromRead<I>,
+) -> Result<Secrets, Failure<'a>>
+    ensures loaded { (left : Option (List ℕ))
+        → AreGiven (reading_by (call_of F.Folder folder.now (all_given given.now))) (all_given given.now)
+        (secrets_of rules.items) left (bytes_left input.old)
+        → IfOk result (λ secrets. AreLoaded (reading_by (call_of F.Folder folder.now (all_given given.now)))
+        (all_given given.now) (loaded_in secrets) left (bytes_left input.new)) }
+    ensures fails { IfErr result (CannotLoadCall (call_of F.Folder folder.now (all_given given.now))) }
+{
+    let lists = lists_of(alloc, given, folder);
+    match key_of(&lists, given, input) {
+        Ok(Some(key)) => Ok(with_key(alloc, given, rules, key)?),
+        Ok(None) => Ok(Secrets { rules, key: None }),
+        Err(failure) => Err(failure),
+    }
+}
+
+/// These rules with this key. Where forms are asked for, each form has the pseudonym of its secret for its text, and the key names no run.
+fn with_key(
+    alloc: Global,
+    given: &[Item<'_>],
+    rules: Vec<Rule>,
+    key: Vec<u8>,
+) -> Result<Secrets, AllocError>
+    ensures loaded { IfOk result (LoadsByKey (all_given given.now) (secrets_of rules.items) key.items) }
+{
+    if !has(given, Word::Forms) {
+        return Ok(Secrets {
+            rules,
+            key: Some(key),
+        });
+    }
+    let named = named_rules(alloc, rules.as_slice(), name_key(given, key.as_slice()))?;
+    Ok(Secrets {
+        rules: named,
+        key: None,
+    })
+}
+
+/// A key, by the case rule that is given.
+pub fn name_key<'k>(given: &[Item<'_>], bytes: &'k [u8]) -> Key<'k>
+    ensures case { result.ignore_case ≡ has IgnoreCase (all_given given.now) }
+    ensures bytes { result.bytes.now ≡ bytes.entry.now }
+{
+    Key {
+        bytes,
+        ignore_case: has(given, Word::IgnoreCase),
+    }
+}
+
+/// The bytes of the key, where there is one.
+pub fn key_bytes(secrets: &Secrets) -> Option<&[u8]>
+    ensures key { key_lent result ≡ key_in secrets.now.key }
+{
+    match &secrets.key {
+        Some(key) => Some(key.as_slice()),
+        None => None,
+    }
+}
