@@ -8,12 +8,10 @@ use Rattle.aho_core.specs.Patterns.{Patterns}
 use Rattle.tool_parts.specs.Names.{is_input}
 use Rattle.acgrep.specs.Binary.{TellsGuarded, is_guarded, lines_by, lines_sought, takes_text}
 use Rattle.acgrep.specs.Contexts.{IsBegin, SearchesIn, TellsFile, TellsIn, around_by, around_of, walk_of}
-use Rattle.acgrep.specs.Files.{EndsFile, IfSearched, IsNamed, IsRead, SearchesFile, SearchesName, SearchesReader, TellsBy, TellsSearched, count_if, known_of, shown_name, total_if}
+use Rattle.acgrep.specs.Files.{EndsFile, IsNamed, IsRead, SearchesFile, SearchesName, SearchesReader, TellsBy, TellsSearched, count_if, known_of, shown_name, total_if}
 use Rattle.acgrep.specs.Lines.{lines}
 use Rattle.acgrep.specs.Printed.{file_line}
 use Rattle.acgrep.specs.Written.{EachLine, IsAny, IsPassedOver, IsSelected, IsSettled, ShowsBy, ShowsLine, SomeLine, TellsOfLines, is_full, needs_one, one_more}
-use Rattle.acgrep.specs.declared.files.Outcome.{Outcome}
-use Rattle.acgrep.specs.declared.files.Outcome.TheVariants.{Searched, Unread, Stopped}
 use Rattle.acgrep.specs.declared.options.Context.{Context}
 use Rattle.acgrep.specs.declared.options.Shown.{Shown}
 use Rattle.acgrep.specs.declared.options.Shown.TheVariants.{Lines, Matches, Objects, Count, Names, Lacking, Nothing}
@@ -301,12 +299,6 @@ module _ (p : Patterns) (job : Job) where
   pub left_none : (state : State) (held meanwhile : Option (List ℕ)) (text : List ℕ) (told : TextTold (around_of job) state held meanwhile text)
       → (lines job.style.ending told.left ≡ []) ⊎ IsSettled job state
   left_none state held meanwhile text told = elim told.ends [ inl whole ↦ inl (ap (lines job.style.ending) whole) | inr settled ↦ inr settled ]
-
--- what follows where a file was searched
-pub if_searched : (outcome : Outcome) (P Q : Bool → Type 0) → ((any : Bool) → P any → Q any) → IfSearched outcome P → IfSearched outcome Q
-if_searched (Searched any) P Q follows is = follows any is
-if_searched Unread P Q follows is = tt
-if_searched Stopped P Q follows is = tt
 
 -- standard input is the file of its name
 pub input_searched : (p : Patterns) (job named : Job) (follows : Bool) (holds : List ℕ → Option (List ℕ)) (name : List ℕ) (left left' held held' : Option (List ℕ)) → is_input name ≡ true

@@ -19,7 +19,7 @@ use Rattle.tool_parts.specs.declared.errors.Errors.{Errors}
 use Rattle.tool_parts.specs.declared.reason.Reason.{Reason}
 use Rattle.tool_parts.proofs.Lines.{some-one, some-tells, some-then, some-weaker, tells-none, tells-weaker, then-some}
 use Rattle.acgrep.specs.Arguments.{Said, origin_of}
-use Rattle.acgrep.specs.Files.{is_enough, seen_after, shown_name, status_by}
+use Rattle.acgrep.specs.Files.{shown_name}
 use Rattle.acgrep.specs.Folders.{Known}
 use Rattle.acgrep.specs.Runs.{origins_of}
 use Rattle.acgrep.specs.Told.{IsMessage, IsToldCause, IsUnopened, MayName, MaySaid, MayTell, TellsIf, TellsOutcome, TellsStatus, files_told, loop_text, no_text_text, output_text, names_said, shown_names, source_names, unopened_line, unusable_text, zero_text}
@@ -28,8 +28,9 @@ use Rattle.acgrep.specs.declared.arguments.Source.TheVariants.{File}
 use Rattle.acgrep.specs.declared.files.Seen.{Seen}
 use Rattle.acgrep.specs.declared.options.Shown.{Shown}
 use Rattle.acgrep.specs.declared.options.Shown.TheVariants.{Lines, Matches, Objects, Count, Names, Lacking, Nothing}
-use Rattle.acgrep.proofs.NamesSearched.{enough_only}
+use Rattle.acgrep.proofs.InTurn.{enough_only}
 use Rattle.acgrep.specs.declared.files.Outcome.{Outcome}
+use Rattle.acgrep.specs.InTurn.{is_enough, seen_after, status_by}
 use Rattle.acgrep.specs.declared.files.Outcome.TheVariants.{Searched, Unread, Stopped}
 
 -- a name is among more names

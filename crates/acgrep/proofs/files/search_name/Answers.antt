@@ -5,8 +5,9 @@ use Rattle.acgrep.specs.Files.{SearchesFile, SearchesName, SearchesReader, shown
 use Rattle.acgrep.specs.Selected.{HoldNoEnding}
 use Rattle.acgrep.specs.Told.{IsMessage, TellsOutcome}
 use Rattle.acgrep.specs.declared.select.Job.{Job}
-use Rattle.acgrep.proofs.FileTellings.{file_searched, if_searched, input_searched}
-use Rattle.acgrep.proofs.FilesBegun.{file_begun, if_broken, input_begun}
+use Rattle.acgrep.proofs.FileTellings.{file_searched, input_searched}
+use Rattle.acgrep.proofs.FilesBegun.{file_begun, input_begun}
+use Rattle.acgrep.proofs.InTurn.{if_broken, if_searched}
 use Rattle.acgrep.proofs.files.search_name.Goals as goal
 
 pub returns-then-is_input-clause-told : goal.returns-then-is_input-clause-told
