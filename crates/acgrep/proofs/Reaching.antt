@@ -14,12 +14,23 @@ use Rattle.acgrep.specs.Runs.{AreReached, status_reached}
 use Rattle.acgrep.specs.Told.{IsMessage, MaySay, TellsOfFile, TellsStatus, files_told, names_told, shown_names, source_names}
 use Rattle.acgrep.specs.declared.options.Flags.{Flags}
 use Rattle.acgrep.specs.declared.options.Shown.TheVariants.{Nothing}
-use Rattle.acgrep.proofs.Told.{AreWithin, among-first, among-later, message-more, status-weaker, within-cut}
+use Rattle.acgrep.proofs.Told.{AreWithin, among-first, among-later, message-more, status-some, status-weaker, within-cut}
 
 -- a message of sources of patterns may be told of a search
-pub may-sources : (tree : Tree) (given : Said) (sources : List Origin) (names : List (List ℕ)) (line : List ℕ) → IsMessage (source_names sources) line → MaySay tree given sources names line
+may-sources : (tree : Tree) (given : Said) (sources : List Origin) (names : List (List ℕ)) (line : List ℕ) → IsMessage (source_names sources) line → MaySay tree given sources names line
 may-sources tree given sources names line is =
     inl (inl (message-more (source_names sources) (names_told given.flags.no_messages given.label sources names) (λ name is. among-first name (source_names sources) (files_told given.flags.no_messages given.label (or_input names)) is) line is))
+
+-- where one is told, and nothing before, a search failed
+pub some-sources : {E : Type 0} (K : SinkGhosts E) (tree : Tree) (given : Said) (sources : List Origin) (names : List (List ℕ)) (old new : Errors E) → TellsSome K (IsMessage (source_names sources)) old new
+    → TellsSome K (MaySay tree given sources names) old new
+some-sources K tree given sources names old new told = some-weaker K (IsMessage (source_names sources)) (MaySay tree given sources names) old new (may-sources tree given sources names) told
+
+pub sources-told : {E : Type 0} (K : SinkGhosts E) (tree : Tree) (given : Said) (sources : List Origin) (names : List (List ℕ)) (old mid new : Errors E) → mid ≡ old
+    → TellsSome K (IsMessage (source_names sources)) mid new → TellsStatus K (MaySay tree given sources names) given.flags.no_messages (shown_by given.flags) 2 old new
+sources-told K tree given sources names old mid new silent told =
+    status-some K (MaySay tree given sources names) given.flags.no_messages (shown_by given.flags) old new
+    (subst (λ (e : Errors _). TellsSome K (MaySay tree given sources names) e new) silent (some-sources K tree given sources names mid new told))
 
 -- and what may be told of its files
 pub may-behind : (tree : Tree) (given : Said) (sources : List Origin) (names : List (List ℕ)) (line : List ℕ) → MaySay tree given [] names line → MaySay tree given sources names line
