@@ -15,6 +15,7 @@ use Rattle.acgrep.specs.declared.files.Outcome.TheVariants.{Searched, Unread, St
 use Rattle.acgrep.specs.declared.files.Seen.{Seen}
 use Rattle.acgrep.specs.declared.options.Shown.{Shown}
 use Rattle.acgrep.specs.declared.options.Shown.TheVariants.{Lines, Matches, Objects, Count, Names, Lacking, Nothing}
+use Rattle.acgrep.proofs.Bools.{either_way}
 
 -- what follows where a file was searched
 pub if_searched : (outcome : Outcome) (P Q : Bool → Type 0) → ((any : Bool) → P any → Q any) → IfSearched outcome P → IfSearched outcome Q
@@ -155,14 +156,8 @@ module _ {S : Type 0} (work : FileWork S) (shown : Shown) where
       meanwhile,
       first,
       one,
-      elim (cases_Bool (is_enough shown first)) [
-        | inl enough ↦
-            let (unread, same, is) = rw enough at more in
-            rw enough (unread, Keeps-trans meanwhile held' held'' same kept, is)
-        | inr not ↦
-            let (others, are, is) = rw not at more in
-            rw not (others, done_kept names (follows || first) between left' meanwhile others are, is)
-      ],
+      either_way (is_enough shown first) (λ is. (is.0, Keeps-trans meanwhile held' held'' is.1 kept, is.2))
+          (λ is. (is.0, done_kept names (follows || first) between left' meanwhile is.0 is.1, is.2)) more,
     )
 
     pub or_kept : (names : List (List ℕ)) (left left' : S) (held : Option (List ℕ)) (status : ℕ) → AreDoneOr work shown names left left' held held' status

@@ -4,6 +4,7 @@ pub mod Beginnings
 pub mod Begun
 pub mod BinaryLines
 pub mod BinaryTold
+pub mod Bools
 pub mod Choosing
 pub mod ColorParts
 pub mod Coloring

@@ -7,13 +7,14 @@ use Rattle.std.proofs.lemmas.Bool.{and_parts, cases_Bool, cases_lt, ltb-true, tr
 use Rattle.std.proofs.lemmas.List.{drop_all, drop-drop, length-drop}
 use Rattle.aho_core.specs.Patterns.{Patterns}
 use Rattle.aho_core.specs.Occurrence.{Occurrence}
+use Rattle.acgrep.proofs.Bools.{where_false, where_true}
 use Rattle.acgrep.proofs.LineLists.{ends_drop}
 use Rattle.acgrep.specs.Alone.{asks_alone}
 use Rattle.acgrep.specs.Lines.{EndsLine, lines}
 use Rattle.acgrep.specs.Matches.{WritesColored, WritesMatches}
 use Rattle.acgrep.specs.Objects.{objects_by}
 use Rattle.acgrep.specs.Printed.{colored_from, colored_line_by, head_of, match_by, matches_by, line_number_at, match_code, offset_at, painted, part_of}
-use Rattle.acgrep.specs.Written.{EachLine, HasNone, IsMatched, IsPassedOver, IsSelected, IsSettled, LineOf, DoesMatch, DoesNotMatch, MatchesOf, ObjectsOf, SamePlace, SearchesTo, ShowsBy, ShowsLine, TellsOfLines, TellsLines, WritesLine, WritesNext, after_line, after_lines, is_full, is_numbered, next_count, one_more, place_behind, selects}
+use Rattle.acgrep.specs.Written.{EachLine, HasNone, IsMatched, IsPassedOver, IsSelected, IsSettled, LineOf, DoesMatch, DoesNotMatch, SamePlace, SearchesTo, ShowsBy, ShowsLine, TellsOfLines, TellsLines, WritesLine, WritesNext, after_line, after_lines, is_full, is_numbered, next_count, one_more, place_behind, selects}
 use Rattle.acgrep.specs.declared.matches.Shape.TheVariants.{AsFields, OnLines}
 use Rattle.acgrep.specs.declared.options.Fit.{Fit}
 use Rattle.acgrep.specs.declared.options.Fit.TheVariants.{AnyPart, WholeWord, WholeLine}
@@ -76,16 +77,6 @@ colored_shows p job place old new line whole colored writes =
       writes.written,
     )
 
--- what is written where no line is turned round
-unless_inverted : (invert : Bool) (A B : Type 0) → invert ≡ false → B → MatchBool invert A B
-unless_inverted false A B plain b = b
-unless_inverted true A B plain b = absurd (true≢false plain)
-
--- and where one is
-where_inverted : (invert : Bool) (A B : Type 0) → invert ≡ true → A → MatchBool invert A B
-where_inverted true A B turned a = a
-where_inverted false A B turned a = absurd (true≢false (sym turned))
-
 -- the matches are what is written of a line where they are asked for
 pub matches_shows : (p : Patterns) (job : Job) (place : Place) (old new : Option (List ℕ)) (line : List ℕ) → job.shown ≡ Matches → job.invert ≡ false
     → WritesMatches old new p OnLines (asks_alone job.fit) job.style place line → WritesLine p job place old new line
@@ -93,7 +84,7 @@ matches_shows p job place old new line whole plain writes =
     let bytes = matches_by job.style place line writes.matches in (
       bytes,
       subst (λ (shown : Shown). ShowsBy p shown (asks_alone job.fit) job.invert job.style place line bytes) (sym whole)
-          (unless_inverted job.invert (bytes ≡ []) (MatchesOf p (asks_alone job.fit) job.style place line bytes) plain (writes.matches, writes.found, refl)),
+          (where_false job.invert plain (writes.matches, writes.found, refl)),
       writes.written,
     )
 
@@ -104,7 +95,7 @@ objects_shows p job place old new line whole plain writes =
     let bytes = objects_by job.style place line writes.matches in (
       bytes,
       subst (λ (shown : Shown). ShowsBy p shown (asks_alone job.fit) job.invert job.style place line bytes) (sym whole)
-          (unless_inverted job.invert (bytes ≡ []) (ObjectsOf p (asks_alone job.fit) job.style place line bytes) plain (writes.matches, writes.found, refl)),
+          (where_false job.invert plain (writes.matches, writes.found, refl)),
       writes.written,
     )
 
@@ -112,13 +103,13 @@ objects_shows p job place old new line whole plain writes =
 pub nothing_of_matches : (p : Patterns) (job : Job) (place : Place) (line : List ℕ) → job.shown ≡ Matches → job.invert ≡ true → ShowsLine p job place line []
 nothing_of_matches p job place line whole turned =
     subst (λ (shown : Shown). ShowsBy p shown (asks_alone job.fit) job.invert job.style place line []) (sym whole)
-    (where_inverted job.invert ([] ≡ []) (MatchesOf p (asks_alone job.fit) job.style place line []) turned refl)
+    (where_true job.invert turned refl)
 
 -- and no object
 pub nothing_of_objects : (p : Patterns) (job : Job) (place : Place) (line : List ℕ) → job.shown ≡ Objects → job.invert ≡ true → ShowsLine p job place line []
 nothing_of_objects p job place line whole turned =
     subst (λ (shown : Shown). ShowsBy p shown (asks_alone job.fit) job.invert job.style place line []) (sym whole)
-    (where_inverted job.invert ([] ≡ []) (ObjectsOf p (asks_alone job.fit) job.style place line []) turned refl)
+    (where_true job.invert turned refl)
 
 -- where neither lines nor matches nor objects are asked for nothing is written
 pub nothing_else : (p : Patterns) (shown : Shown) (alone invert : Bool) (style : Style) (place : Place) (line : List ℕ) → (shown ≡ Lines → ⊥) → (shown ≡ Matches → ⊥)

@@ -47,10 +47,10 @@ returns-in-Ok g c =
     let unsaid : found ≡ 2 → new ≡ mid = λ two. c.finish.ensures.told_before (omega (arith, two)) in
     let told : IsByPatterns (Some mine) → TellsStatus g.E.Sink (MaySaid known left (Some mine)) flags.no_messages (shown_by flags) c.finish.result old new =
     λ by. finished g.E.Sink names (MaySaid known left (Some mine)) (λ line is. inl (inl is)) flags.no_messages (shown_by flags) found c.finish.result old mid new
-        c.answer-status.ensures.bound bound c.finish.ensures.status (c.answer-status.ensures.told by) c.finish.ensures.silent c.finish.ensures.told_before (λ low two. c.finish.ensures.told low two names) in
+    c.answer-status.ensures.bound bound c.finish.ensures.status (c.answer-status.ensures.told by) c.finish.ensures.silent c.finish.ensures.told_before (λ low two. c.finish.ensures.told low two names) in
     let marked : AsksByRules mine → TellsStatus g.E.Sink IsMarkTold flags.no_messages Nothing c.finish.result old new =
     λ asks. finished g.E.Sink [] IsMarkTold (λ line is. inl ([], is)) flags.no_messages Nothing found c.finish.result old mid new
-        c.answer-status.ensures.bound bound c.finish.ensures.status (c.answer-status.ensures.told_marks asks) c.finish.ensures.silent c.finish.ensures.told_before (λ low two. c.finish.ensures.told low two []) in
+    c.answer-status.ensures.bound bound c.finish.ensures.status (c.answer-status.ensures.told_marks asks) c.finish.ensures.silent c.finish.ensures.told_before (λ low two. c.finish.ensures.told low two []) in
     record {
       bound = bound;
       usage = λ none. absurd (cc c.in-Ok.ensures.read);
@@ -114,7 +114,7 @@ returns-in-Err g c =
     (some-weaker g.E.Sink (MayTell (names_said given)) (MaySaid known left given) old mid (told-said known left given) (c.tell_refused.ensures.told (names_said given))) in
     let memory = λ (g' : Said) (is : given ≡ Some g'). refused-memory g.E.Sink given g' c.in-Err.refusal old mid is c.in-Err.ensures.refused c.tell_refused.ensures.exact in
     let marked = λ (g' : Said) (is : given ≡ Some g').
-        subst (TellsSome g.E.Sink IsMarkTold old) (sym same) (some-told g.E.Sink [] old mid (tells-memory g.E.Sink [] old mid NoMemory (memory g' is))) in
+    subst (TellsSome g.E.Sink IsMarkTold old) (sym same) (some-told g.E.Sink [] old mid (tells-memory g.E.Sink [] old mid NoMemory (memory g' is))) in
     record {
       bound = omega (arith, two);
       usage = λ none. two;
