@@ -21,12 +21,6 @@ pub record AreSoFar (tree : Tree) (rules : List RuleSaid) (ways : Ways) (all res
   pub none : missed_of found.unread.items ≡ []
 
 module _ (tree : Tree) (rules : List RuleSaid) (ways : Ways) (all : List (List ℕ)) where
-  pub chosen-start : (found : Found) → listed_bytes found.names.items ≡ [] → missed_of found.unread.items ≡ [] → AreSoFar tree rules ways all all found
-  chosen-start found clean none = record {
-    leads = λ others are. subst (λ (l : List (List ℕ)). AreChosen tree rules ways all (l ++ others)) (sym clean) are;
-    none = none;
-  }
-
   pub chosen-more : (rest : List (Bor (List ℕ))) (d : Bor (List ℕ)) (old new : Found) → 0 < length rest → AreSoFar tree rules ways all (name_bytes rest) old
       → Chooses tree rules ways (get_or rest 0 d).now old new → AreSoFar tree rules ways all (name_bytes (take (length rest - 1) (drop 1 rest))) new
   chosen-more [] d old new some so_far step = absurd (omega (arith, some))

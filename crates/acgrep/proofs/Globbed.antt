@@ -3,7 +3,7 @@ use Rattle.std.proofs.Common.{◌≡◌, inl, inr, ◌⊎◌, ℕ, zero, suc, �
 use Rattle.std.specs.Prelude.{◌||◌}
 use Rattle.std.proofs.Math.Seq.{drop-nil}
 use Rattle.std.proofs.lemmas.Bool.{and_parts, ne_eqb, or_right}
-use Rattle.acgrep.specs.Globs.{IsCut, any_suffix, closes_at, closing, fits, has_behind, item_len, one_fits, part_len, stands_for}
+use Rattle.acgrep.specs.Globs.{IsCut, any_suffix, closes_at, closing, fits, item_len, one_fits, part_len, stands_for}
 use Rattle.acgrep.proofs.LineLists.{drop_zero}
 
 -- what belongs to a part before is passed
@@ -12,12 +12,6 @@ fits_skip zero [] name = refl
 fits_skip zero (first ∷ behind) name = refl
 fits_skip (suc k) [] name = refl
 fits_skip (suc k) (first ∷ behind) name = fits_skip k behind name
-
-pub has_skip : (k : ℕ) (items : List ℕ) (byte : ℕ) → has_behind k items byte ≡ has_behind 0 (drop k items) byte
-has_skip zero [] byte = refl
-has_skip zero (first ∷ behind) byte = refl
-has_skip (suc k) [] byte = refl
-has_skip (suc k) (first ∷ behind) byte = has_skip k behind byte
 
 pub closes_skip : (k passed : ℕ) (items : List ℕ) → closes_at passed k items ≡ closes_at (passed + k) 0 (drop k items)
 closes_skip zero passed [] = refl
@@ -88,16 +82,6 @@ pub record IsRead (glob name rest left : List ℕ) : Type 0 where
   pub back : fits 0 rest left ≡ true → fits 0 glob name ≡ true
   pub on : (word : List ℕ) → fits 0 glob word ≡ true → fits 0 rest (drop count word) ≡ true
 
-pub read_none : (glob name : List ℕ) → IsRead glob name glob name
-read_none glob name = record {
-  count = 0;
-  cut = sym (drop_zero name);
-  shorter = omega arith;
-  within = omega arith;
-  back = λ is. is;
-  on = λ word is. ap (fits 0 glob) (drop_zero word) ∙ is;
-}
-
 one_behind : (stands : ℕ → Bool) (others : List ℕ → Bool) (word : List ℕ) → one_fits stands others word ≡ true → others (drop 1 word) ≡ true
 one_behind stands others [] is = absurd (cc)
 one_behind stands others (byte ∷ rest) is = ap others (drop_zero rest) ∙ (and_parts (stands byte) (others rest) is).1
@@ -122,20 +106,6 @@ read_more glob name first behind byte other unlike stands read = let plain = ne_
     less zero (x ∷ l) = omega arith
     less (suc k) [] = omega arith
     less (suc k) (x ∷ l) = omega (arith, less k l)
-
-pub read_star : (glob name behind left : List ℕ) → IsRead glob name (42 ∷ behind) left → IsCut glob name behind left
-read_star glob name behind left read = record {
-  count = read.count;
-  cut = read.cut;
-  shorter = omega (arith, read.shorter);
-  within = read.within;
-  back = read.back;
-  on = read.on;
-}
-
--- where the rest does not fit the whole does not
-pub read_not : (glob name rest left : List ℕ) → IsRead glob name rest left → fits 0 rest left ≡ false → fits 0 glob name ≡ false
-read_not glob name rest left read not = both_ways (fits 0 glob name) false (λ is. sym not ∙ ap (fits 0 rest) read.cut ∙ read.on name is) (λ is. absurd (cc))
 
 -- what stands behind so many bytes of a slice
 pub behind_slice : (k : ℕ) (bytes : List ℕ) → take (length bytes - k) (drop k bytes) ≡ drop k bytes

@@ -50,10 +50,6 @@ unmarked_all [] i = refl
 unmarked_all (line ∷ rest) zero = refl
 unmarked_all (line ∷ rest) (suc i) = unmarked_all rest i
 
-none_short : (ls : List (List ℕ)) → length ls ≤ 0 → ls ≡ []
-none_short [] short = refl
-none_short (line ∷ rest) short = absurd (omega (arith, short))
-
 first_more : (place first : Place) (ls : List (List ℕ)) (line : List ℕ) → first_in place first (ls ++ (line ∷ [])) ≡ first
 first_more place first [] line = refl
 first_more place first (other ∷ rest) line = refl

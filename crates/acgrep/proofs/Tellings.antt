@@ -39,9 +39,6 @@ same_place job place = record { bytes = refl; lines = λ _. refl }
 pub same_trans : (job : Job) (a b c : Place) → SamePlace job a b → SamePlace job b c → SamePlace job a c
 same_trans job a b c one other = record { bytes = one.bytes ∙ other.bytes; lines = λ asked. one.lines asked ∙ other.lines asked }
 
-pub same_sym : (job : Job) (a b : Place) → SamePlace job a b → SamePlace job b a
-same_sym job a b same = record { bytes = sym same.bytes; lines = λ asked. sym (same.lines asked) }
-
 pub same_line : (job : Job) (a b : Place) (line : List ℕ) → SamePlace job a b → SamePlace job (after_line a line) (after_line b line)
 same_line job a b line same = record {
   bytes = ap (λ (n : ℕ). (n + (length line + 1)) % 2 ^ 64) same.bytes;
@@ -418,6 +415,3 @@ pub passing_end : (p : Patterns) (job : Job) (a b : State) (x y : Option (List �
 passing_end p job a b x y text rest none so_far =
     let all : lines job.style.ending text ≡ so_far.searched = so_far.cut ∙ ap (λ (l : List ℕ). so_far.searched ++ lines job.style.ending l) none ∙ append-nil so_far.searched in
     subst (TellsLines p job a b x y) (sym all) so_far.tells
-
-pub passing_start : (p : Patterns) (job : Job) (a : State) (x : Option (List ℕ)) (text : List ℕ) → EachLine (HasNone p) (lines job.style.ending text) → Passing p job a a x x text text
-passing_start p job a x text each = record { searched = []; cut = refl; tells = tells_none p job a x; placed = refl; each = each }
