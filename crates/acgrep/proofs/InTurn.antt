@@ -1,6 +1,6 @@
 -- Files that are searched one after another.
 use Rattle.std.proofs.Common.{◌≡◌, inl, inr, ◌⊎◌, ℕ, ◌-◌, ◌<◌, Bool, true, false, List, [], ◌∷◌, Option, length, take, drop, refl, sym, ◌∙◌, ap, subst, arith}
-use Rattle.std.specs.Prelude.{◌||◌, Vec, if◌then◌else◌}
+use Rattle.std.specs.Prelude.{◌||◌, Vec, map, if◌then◌else◌}
 use Rattle.std.specs.Io.KnownBytes.{Keeps}
 use Rattle.std.proofs.KnownBytes.{Keeps-refl, Keeps-trans}
 use Rattle.std.proofs.Math.Bool.{or-false, or-true, or_assoc}
@@ -174,12 +174,12 @@ module _ {S : Type 0} (work : FileWork S) (shown : Shown) where
         inr (between, meanwhile, leaves, inr (begins, begun_kept names follows between meanwhile more))
 
 -- the first of some names, and those behind it
-pub names_cut : {Z : Type 0} (names : List (Vec ℕ Z)) (first : Vec ℕ Z) (name : List ℕ) → 0 < length names → first ≡ get_or names 0 first → name ≡ first.items
-    → listed_bytes names ≡ name ∷ listed_bytes (take (length names - 1) (drop 1 names))
-names_cut [] first name some is same = absurd (omega (arith, some))
-names_cut (other ∷ names) first name some is same =
-    ap (λ (v : Vec ℕ _). v.items ∷ listed_bytes names) (sym is) ∙ ap (λ (n : List ℕ). n ∷ listed_bytes names) (sym same)
-    ∙ ap (λ (l : List (Vec ℕ _)). name ∷ listed_bytes l) (sym (take_all (length (other ∷ names) - 1) names (omega arith)))
+pub names_cut : {X : Type 0} (f : X → List ℕ) (names : List X) (first d : X) (name : List ℕ) → 0 < length names → first ≡ get_or names 0 d → name ≡ f first
+    → map f names ≡ name ∷ map f (take (length names - 1) (drop 1 names))
+names_cut f [] first d name some is same = absurd (omega (arith, some))
+names_cut f (other ∷ names) first d name some is same =
+    ap (λ (x : _). f x ∷ map f names) (sym is) ∙ ap (λ (n : List ℕ). n ∷ map f names) (sym same)
+    ∙ ap (λ (l : List _). name ∷ map f l) (sym (take_all (length (other ∷ names) - 1) names (omega arith)))
 
 -- where no name is left, none of their bytes are
 pub ends_by : {Z : Type 0} (rest : List (Vec ℕ Z)) (seen : Seen) → (rest ≡ []) ⊎ (seen.ended ≡ true) → (listed_bytes rest ≡ []) ⊎ (seen.ended ≡ true)

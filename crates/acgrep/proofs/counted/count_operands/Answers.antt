@@ -5,7 +5,7 @@ use Rattle.aho_core.specs.Replacement.{pieces_of}
 use Rattle.aho_devices.specs.Counts.{AppendsBeginning}
 use Rattle.tool_parts.specs.Names.{name_bytes}
 use Rattle.acgrep.specs.Arguments.{said, shown_by}
-use Rattle.acgrep.specs.Folders.{known_by, tree_of}
+use Rattle.acgrep.specs.Folders.{known_by}
 use Rattle.acgrep.specs.Runs.{BeginsOrKeeps, SearchesReached}
 use Rattle.acgrep.specs.Tallies.{counts_table}
 use Rattle.acgrep.specs.Told.{MaySay, names_told}

@@ -1,5 +1,5 @@
 -- What was put together is written, or a beginning of it.
-use Rattle.std.proofs.Common.{◌≡◌, List, ℕ, subst}
+use Rattle.std.proofs.Common.{◌≡◌, subst}
 use Rattle.tool_parts.proofs.Beginnings.{beginning-whole}
 use Rattle.std.specs.Io.KnownBytes.{Appends}
 use Rattle.std.proofs.KnownBytes.{Keeps-refl}

@@ -39,7 +39,7 @@ loop-rest-preserved g c =
     let more = listed_bytes (take (length rest - 1) (drop 1 rest)) in
     let seen = c.loop-rest.seen in
     let outcome = c.search_name-outcome.result in
-    let cut : listed_bytes rest ≡ name ∷ more = names_cut rest c.index-rest-0.result name (c.goes_on.ensures.some c.loop-rest-test.true) c.index-rest-0.is c.as_slice.ensures.value in
+    let cut : listed_bytes rest ≡ name ∷ more = names_cut (λ n. n.items) rest c.index-rest-0.result c.index-rest-0.result name (c.goes_on.ensures.some c.loop-rest-test.true) c.index-rest-0.is c.as_slice.ensures.value in
     let all = files_told job.hushed job.label.now names in
     let within = told-cut job.hushed job.label.now name more (listed_bytes rest) all (ap (files_told job.hushed job.label.now) cut) c.loop-rest.invariant.within in
     record {

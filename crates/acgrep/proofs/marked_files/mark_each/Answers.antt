@@ -46,7 +46,7 @@ loop-rest-preserved g c =
     let more = listed_bytes (take (length rest - 1) (drop 1 rest)) in
     let seen = c.loop-rest.seen in
     let outcome = c.mark_name-outcome.result in
-    let cut : listed_bytes rest ≡ name ∷ more = names_cut rest c.index-rest-0.result name (c.goes_on.ensures.some c.loop-rest-test.true) c.index-rest-0.is c.as_slice.ensures.value in
+    let cut : listed_bytes rest ≡ name ∷ more = names_cut (λ n. n.items) rest c.index-rest-0.result c.index-rest-0.result name (c.goes_on.ensures.some c.loop-rest-test.true) c.index-rest-0.is c.as_slice.ensures.value in
     let read = c.loop-rest.marking.input_read in
     let read' = c.mark_name-outcome.new.marking.input_read in
     record {

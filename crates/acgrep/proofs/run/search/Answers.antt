@@ -1,5 +1,5 @@
 -- The searcher was built from the lines that were read.
-use Rattle.std.proofs.Common.{◌≡◌, ◌∙◌, ◌<◌, arith, List, [], ℕ, false, true, ap, inl, inr, refl, subst, sym}
+use Rattle.std.proofs.Common.{◌≡◌, ◌∙◌, arith, List, [], ℕ, false, true, ap, inl, inr, refl, subst, sym}
 use Rattle.std.proofs.KnownBytes.{Keeps-refl}
 use Rattle.std.proofs.lemmas.Bool.{and_parts}
 use Rattle.aho_core.specs.Replacement.{pieces_of}
