@@ -174,12 +174,13 @@ module _ {S : Type 0} (work : FileWork S) (shown : Shown) where
         inr (between, meanwhile, leaves, inr (begins, begun_kept names follows between meanwhile more))
 
 -- the first of some names, and those behind it
-pub names_cut : {X : Type 0} (f : X → List ℕ) (names : List X) (first d : X) (name : List ℕ) → 0 < length names → first ≡ get_or names 0 d → name ≡ f first
-    → map f names ≡ name ∷ map f (take (length names - 1) (drop 1 names))
-names_cut f [] first d name some is same = absurd (omega (arith, some))
-names_cut f (other ∷ names) first d name some is same =
-    ap (λ (x : _). f x ∷ map f names) (sym is) ∙ ap (λ (n : List ℕ). n ∷ map f names) (sym same)
-    ∙ ap (λ (l : List _). name ∷ map f l) (sym (take_all (length (other ∷ names) - 1) names (omega arith)))
+module _ {X : Type 0} (f : X → List ℕ) where
+  pub names_cut : (names : List X) (first d : X) (name : List ℕ) → 0 < length names → first ≡ get_or names 0 d → name ≡ f first
+      → map f names ≡ name ∷ map f (take (length names - 1) (drop 1 names))
+  names_cut [] first d name some is same = absurd (omega (arith, some))
+  names_cut (other ∷ names) first d name some is same =
+      ap (λ (x : X). f x ∷ map f names) (sym is) ∙ ap (λ (n : List ℕ). n ∷ map f names) (sym same)
+      ∙ ap (λ (l : List X). name ∷ map f l) (sym (take_all (length (other ∷ names) - 1) names (omega arith)))
 
 -- where no name is left, none of their bytes are
 pub ends_by : {Z : Type 0} (rest : List (Vec ℕ Z)) (seen : Seen) → (rest ≡ []) ⊎ (seen.ended ≡ true) → (listed_bytes rest ≡ []) ⊎ (seen.ended ≡ true)

@@ -81,7 +81,7 @@ matches_shows p job place old new line whole plain writes =
     let bytes = matches_by job.style place line writes.matches in (
       bytes,
       subst (λ (shown : Shown). ShowsBy p shown (asks_alone job.fit) job.invert job.style place line bytes) (sym whole)
-          (where_false job.invert plain (writes.matches, writes.found, refl)),
+          (where_false _ job.invert plain (writes.matches, writes.found, refl)),
       writes.written,
     )
 
@@ -92,7 +92,7 @@ objects_shows p job place old new line whole plain writes =
     let bytes = objects_by job.style place line writes.matches in (
       bytes,
       subst (λ (shown : Shown). ShowsBy p shown (asks_alone job.fit) job.invert job.style place line bytes) (sym whole)
-          (where_false job.invert plain (writes.matches, writes.found, refl)),
+          (where_false _ job.invert plain (writes.matches, writes.found, refl)),
       writes.written,
     )
 
@@ -100,13 +100,13 @@ objects_shows p job place old new line whole plain writes =
 pub nothing_of_matches : (p : Patterns) (job : Job) (place : Place) (line : List ℕ) → job.shown ≡ Matches → job.invert ≡ true → ShowsLine p job place line []
 nothing_of_matches p job place line whole turned =
     subst (λ (shown : Shown). ShowsBy p shown (asks_alone job.fit) job.invert job.style place line []) (sym whole)
-    (where_true job.invert turned refl)
+    (where_true _ job.invert turned refl)
 
 -- and no object
 pub nothing_of_objects : (p : Patterns) (job : Job) (place : Place) (line : List ℕ) → job.shown ≡ Objects → job.invert ≡ true → ShowsLine p job place line []
 nothing_of_objects p job place line whole turned =
     subst (λ (shown : Shown). ShowsBy p shown (asks_alone job.fit) job.invert job.style place line []) (sym whole)
-    (where_true job.invert turned refl)
+    (where_true _ job.invert turned refl)
 
 -- where neither lines nor matches nor objects are asked for nothing is written
 pub nothing_else : (p : Patterns) (shown : Shown) (alone invert : Bool) (style : Style) (place : Place) (line : List ℕ) → (shown ≡ Lines → ⊥) → (shown ≡ Matches → ⊥)
