@@ -1,6 +1,5 @@
 -- What is written of a file that is not searched to its end.
 use Rattle.std.proofs.Common.{arith, ◌≡◌, inl, inr, ◌⊎◌, ℕ, Bool, true, false, List, [], ◌++◌, ◌==◌, Option, None, Some, IfSome, drop, take, take-append-drop, refl, sym, ◌∙◌, ap, subst, append-nil}
-use Rattle.tool_parts.specs.Names.{is_input}
 use Rattle.std.specs.Prelude.{MatchBool, not, ◌&&◌, ◌||◌}
 use Rattle.std.specs.Io.KnownBytes.{Appends, Keeps}
 use Rattle.std.proofs.KnownBytes.{Appends-trans}
@@ -9,7 +8,7 @@ use Rattle.aho_core.specs.Patterns.{Patterns}
 use Rattle.aho_devices.specs.Counts.{AppendsBeginning}
 use Rattle.acgrep.specs.Binary.{TellsBinary, binary_by, is_guarded, lines_by, takes_text, writes_lines}
 use Rattle.acgrep.specs.Contexts.{IsBegin, TellsFrom, TellsIn, around_by, around_of, walk_of}
-use Rattle.acgrep.specs.Files.{BeginsFile, BeginsName, BeginsTotal, IsNamed, IsTail, SearchesFile, TellsFirst, known_of, shown_name, total_if}
+use Rattle.acgrep.specs.Files.{BeginsFile, BeginsTotal, IsTail, SearchesFile, TellsFirst, total_if}
 use Rattle.acgrep.specs.Guarded.{SearchesFront}
 use Rattle.acgrep.specs.Streamed.{BeginsBehind, course}
 use Rattle.acgrep.specs.Written.{ShowsBy}
@@ -191,27 +190,3 @@ file_read p job known known' held held' any keeps all = record {
   tells = all.tells;
   written = all.written;
 }
-
--- standard input is the file of its name
-pub input_begun : (p : Patterns) (job named : Job) (follows : Bool) (holds : List ℕ → Option (List ℕ)) (name : List ℕ) (left held held' : Option (List ℕ)) → is_input name ≡ true
-    → IsNamed job job.label.now follows named → BeginsFile p named left held held' → BeginsName p job follows holds name left held held'
-input_begun p job named follows holds name left held held' input is begins =
-    let shown : shown_name job.label.now name ≡ job.label.now = rw input refl in
-    let known : known_of holds name left ≡ left = rw input refl in
-    record {
-      named = named;
-      is_named = subst (λ (n : List ℕ). IsNamed job n follows named) (sym shown) is;
-      file = subst (λ (bytes : Option (List ℕ)). BeginsFile p named bytes held held') (sym known) begins;
-    }
-
--- and any other name is that of a file which is held
-pub file_begun : (p : Patterns) (job named : Job) (follows : Bool) (holds : List ℕ → Option (List ℕ)) (name : List ℕ) (left held held' : Option (List ℕ)) → is_input name ≡ false
-    → IsNamed job name follows named → BeginsFile p named (holds name) held held' → BeginsName p job follows holds name left held held'
-file_begun p job named follows holds name left held held' other is begins =
-    let shown : shown_name job.label.now name ≡ name = rw other refl in
-    let known : known_of holds name left ≡ holds name = rw other refl in
-    record {
-      named = named;
-      is_named = subst (λ (n : List ℕ). IsNamed job n follows named) (sym shown) is;
-      file = subst (λ (bytes : Option (List ℕ)). BeginsFile p named bytes held held') (sym known) begins;
-    }

@@ -34,6 +34,7 @@ use Rattle.acgrep.specs.declared.select.Job.{Job}
 use Rattle.acgrep.proofs.InTurn.{if_broken, if_searched}
 use Rattle.acgrep.proofs.FilesBegun.{of_kept, total_none}
 use Rattle.acgrep.specs.InTurn.{IfBroken, IfSearched}
+use Rattle.acgrep.proofs.NamesSearched.{at_file, at_input}
 use Rattle.acgrep.proofs.Streams.{keeps_nil}
 
 -- a stream that has seen no end before is at its end where it sees one
@@ -257,40 +258,36 @@ input_first job covering true known held held' outcome is comes = absurd (cc)
 input_first job covering false known held held' outcome is comes = record { searched = comes.searched; begun = comes.begun }
 
 -- what comes of the file of a name: of standard input, or of another
-pub name_input : (job named : Job) (covering : Covering) (holds : List ℕ → Option (List ℕ)) (left : Option (List ℕ)) (read : Bool) (name : List ℕ) (held held' : Option (List ℕ)) (outcome : Outcome) → is_input name ≡ true
-    → IsNamed job job.label.now false named → ComesInput named covering read left held held' outcome → ComesName job covering holds left read name held held' outcome
-name_input job named covering holds left read name held held' outcome is is_named comes =
-    let again : (read && is_input name) ≡ read = ap (λ (b : Bool). read && b) is ∙ and-true read in
-    let called : shown_name job.label.now name ≡ job.label.now = rw is refl in
-    let known : known_of holds name left ≡ left = rw is refl in
-    record {
-      searched = if_searched outcome _ _ (λ any file. record {
-        named = named;
-        is_named = subst (λ (n : List ℕ). IsNamed job n false named) (sym called) is_named;
-        file = subst (λ (b : Bool). MarksInput named covering b (known_of holds name left) held held' any) (sym again) (subst (λ (k : Option (List ℕ)). MarksInput named covering read k held held' any) (sym known) file);
-      }) comes.searched;
-      begun = if_broken outcome (λ file. record {
-        named = named;
-        is_named = subst (λ (n : List ℕ). IsNamed job n false named) (sym called) is_named;
-        file = subst (λ (b : Bool). BeginsInput named covering b (known_of holds name left) held held') (sym again) (subst (λ (k : Option (List ℕ)). BeginsInput named covering read k held held') (sym known) file);
-      }) comes.begun;
-    }
+module _ (job named : Job) (covering : Covering) (holds : List ℕ → Option (List ℕ)) (left : Option (List ℕ)) (read : Bool) (name : List ℕ) (held held' : Option (List ℕ)) (outcome : Outcome)
+    (is_named : IsNamed job (shown_name job.label.now name) false named) where
+  pub name_input : is_input name ≡ true → ComesInput named covering read left held held' outcome → ComesName job covering holds left read name held held' outcome
+  name_input is comes =
+      let again : (read && is_input name) ≡ read = ap (λ (b : Bool). read && b) is ∙ and-true read in
+      record {
+        searched = if_searched outcome _ _ (λ any file. record {
+          named = named;
+          is_named = is_named;
+          file = subst (λ (b : Bool). MarksInput named covering b (known_of holds name left) held held' any) (sym again) (at_input (λ k. MarksInput named covering read k held held' any) holds name left is file);
+        }) comes.searched;
+        begun = if_broken outcome (λ file. record {
+          named = named;
+          is_named = is_named;
+          file = subst (λ (b : Bool). BeginsInput named covering b (known_of holds name left) held held') (sym again) (at_input (λ k. BeginsInput named covering read k held held') holds name left is file);
+        }) comes.begun;
+      }
 
-pub name_file : (job named : Job) (covering : Covering) (holds : List ℕ → Option (List ℕ)) (left : Option (List ℕ)) (read : Bool) (name : List ℕ) (held held' : Option (List ℕ)) (outcome : Outcome) → is_input name ≡ false
-    → IsNamed job name false named → ComesMarked named covering (holds name) held held' outcome → ComesName job covering holds left read name held held' outcome
-name_file job named covering holds left read name held held' outcome is is_named comes =
-    let again : (read && is_input name) ≡ false = ap (λ (b : Bool). read && b) is ∙ and-false read in
-    let called : shown_name job.label.now name ≡ name = rw is refl in
-    let known : known_of holds name left ≡ holds name = rw is refl in
-    record {
-      searched = if_searched outcome _ _ (λ any file. record {
-        named = named;
-        is_named = subst (λ (n : List ℕ). IsNamed job n false named) (sym called) is_named;
-        file = subst (λ (b : Bool). MarksInput named covering b (known_of holds name left) held held' any) (sym again) (subst (λ (k : Option (List ℕ)). MarksFile named covering k held held' any) (sym known) file);
-      }) comes.searched;
-      begun = if_broken outcome (λ file. record {
-        named = named;
-        is_named = subst (λ (n : List ℕ). IsNamed job n false named) (sym called) is_named;
-        file = subst (λ (b : Bool). BeginsInput named covering b (known_of holds name left) held held') (sym again) (subst (λ (k : Option (List ℕ)). BeginsMarks named covering k held held') (sym known) file);
-      }) comes.begun;
-    }
+  pub name_file : is_input name ≡ false → ComesMarked named covering (holds name) held held' outcome → ComesName job covering holds left read name held held' outcome
+  name_file is comes =
+      let again : (read && is_input name) ≡ false = ap (λ (b : Bool). read && b) is ∙ and-false read in
+      record {
+        searched = if_searched outcome _ _ (λ any file. record {
+          named = named;
+          is_named = is_named;
+          file = subst (λ (b : Bool). MarksInput named covering b (known_of holds name left) held held' any) (sym again) (at_file (λ k. MarksFile named covering k held held' any) holds name left is file);
+        }) comes.searched;
+        begun = if_broken outcome (λ file. record {
+          named = named;
+          is_named = is_named;
+          file = subst (λ (b : Bool). BeginsInput named covering b (known_of holds name left) held held') (sym again) (at_file (λ k. BeginsMarks named covering k held held') holds name left is file);
+        }) comes.begun;
+      }

@@ -1,6 +1,7 @@
 -- What the file of a name has that was searched.
-use Rattle.std.proofs.Common.{ℕ, Bool, true, List, Option, refl, ap, subst}
+use Rattle.std.proofs.Common.{◌≡◌, ℕ, Bool, true, false, List, Option, refl, sym, ap, subst}
 use Rattle.aho_core.specs.Patterns.{Patterns}
+use Rattle.tool_parts.specs.Names.{is_input}
 use Rattle.acgrep.specs.Binary.{is_guarded, lines_sought}
 use Rattle.acgrep.specs.Files.{HasSelected, SearchesName, known_of}
 use Rattle.acgrep.specs.Written.{IsSelected, SomeLine}
@@ -19,3 +20,11 @@ name_has p job holds follows name left left' held held' searched = (
       (subst (λ (fit : Fit). SomeLine (IsSelected p fit searched.named.invert) (lines_sought searched.named searched.file.text)) (ap (λ (j : Job). j.fit) searched.is_named.is)
       (either_some p searched.named searched.file.text searched.file.bytes (is_guarded searched.named) refl searched.file.tells))),
 )
+
+-- the bytes of standard input are what is left of it, and those of any other file what is held under its name
+module _ (P : Option (List ℕ) → Type 0) (holds : List ℕ → Option (List ℕ)) (name : List ℕ) (left : Option (List ℕ)) where
+  pub at_input : is_input name ≡ true → P left → P (known_of holds name left)
+  at_input input is = let known : known_of holds name left ≡ left = rw input refl in subst P (sym known) is
+
+  pub at_file : is_input name ≡ false → P (holds name) → P (known_of holds name left)
+  at_file other is = let known : known_of holds name left ≡ holds name = rw other refl in subst P (sym known) is

@@ -250,13 +250,12 @@ fn search_name<F: Open, R: Read, W: Sink, E: Sink>(
     ensures told { TellsOfOutcome E.Sink job.now.hushed (shown_name job.now.label.now name.now) result
         errors.old errors.new }
 {
+    let named = job_for(job, shown_name(job, name), follows);
     if is_input(name) {
-        let named = job_for(job, job.label, follows);
         return search_input(
             searcher, &named, files, buffer, input, state, page, output, errors,
         );
     }
-    let named = job_for(job, name, follows);
     search_named(
         searcher, &named, files, name, buffer, state, page, output, errors,
     )
@@ -472,4 +471,11 @@ pub fn job_for<'a>(job: &Job<'a>, name: &'a [u8], follows: bool) -> Job<'a>
     named.style = style;
     named.follows = follows;
     named
+}
+
+/// How a file is called in what is written.
+pub fn shown_name<'a>(job: &Job<'a>, name: &'a [u8]) -> &'a [u8]
+    ensures { result.now ≡ shown_name job.now.label.now name.now }
+{
+    if is_input(name) { job.label } else { name }
 }

@@ -10,7 +10,7 @@ ghost use Rattle.acgrep.specs.Told.{TellsIf, TellsOfEnd, TellsOfOutcome, TellsOu
 ghost use Rattle.acgrep.specs.ToldByRules.{IsMarkTold};
 
 use crate::failure::Stop;
-use crate::files::{Outcome, Seen, break_off, end_file, goes_on, job_for, writes_into};
+use crate::files::{Outcome, Seen, break_off, end_file, goes_on, job_for, shown_name, writes_into};
 use crate::keys::{is_input, open_named};
 use crate::marked::Task;
 use crate::marked_lines::{End, end_of, mark_source};
@@ -125,13 +125,12 @@ fn mark_name<A: Automaton, F: Open, R: Read, W: Sink, E: Sink>(
     ensures same { SameMarking marking.old marking.new }
     ensures ready { IsMarking A.Automaton marking.new }
 {
+    let named = job_for(job, shown_name(job, name), false);
     if is_input(name) {
         let again = marking.input_read;
         marking.input_read = true;
-        let named = job_for(job, job.label, false);
         return mark_input(marking, &named, files, again, input, output, errors);
     }
-    let named = job_for(job, name, false);
     mark_named(marking, &named, files, name, output, errors)
 }
 
