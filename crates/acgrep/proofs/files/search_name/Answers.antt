@@ -28,10 +28,10 @@ returns-then-is_input g c =
     let free = λ (p : Patterns) (plain : HoldNoEnding job.style.ending p). subst (λ (n : ℕ). HoldNoEnding n p) (sym (ap (λ (j : Job). j.style.ending) is.is)) plain in
     record {
       searched = λ p by plain. if_searched outcome (SearchesReader p named left left' held held') (SearchesName p job follows holds name left left' held held')
-          (λ any done. record { named = named; is_named = is; file = at_input (λ l. SearchesFile p named l held held' any) holds name left input done.file; reads = where_true (is_input name) input done.reads })
+          (λ any done. record { named = named; is_named = is; file = at_input (λ l. SearchesFile p named l held held' any) holds name left input done.file; reads = where_true _ (is_input name) input done.reads })
           (c.search_input.ensures.searched p by (free p plain));
       begun = λ p by plain. if_broken outcome (λ begins. record { named = named; is_named = is; file = at_input (λ l. BeginsFile p named l held held') holds name left input begins }) (c.search_input.ensures.begun p by (free p plain));
-      leaves = where_true (is_input name) input c.search_input.ensures.reads;
+      leaves = where_true _ (is_input name) input c.search_input.ensures.reads;
       told = told-named g.E.Sink job named (shown_name job.label.now name) follows is outcome c.args.errors.now c.search_input.new.errors c.search_input.ensures.told;
     }
 
@@ -51,9 +51,9 @@ returns g c =
     let free = λ (p : Patterns) (plain : HoldNoEnding job.style.ending p). subst (λ (n : ℕ). HoldNoEnding n p) (sym (ap (λ (j : Job). j.style.ending) is.is)) plain in
     record {
       searched = λ p by plain. if_searched outcome (SearchesFile p named (holds name) held held') (SearchesName p job follows holds name left left held held')
-          (λ any done. record { named = named; is_named = is; file = at_file (λ l. SearchesFile p named l held held' any) holds name left other done; reads = where_false (is_input name) other refl })
+          (λ any done. record { named = named; is_named = is; file = at_file (λ l. SearchesFile p named l held held' any) holds name left other done; reads = where_false _ (is_input name) other refl })
           (c.search_named.ensures.searched p by (free p plain));
       begun = λ p by plain. if_broken outcome (λ begins. record { named = named; is_named = is; file = at_file (λ l. BeginsFile p named l held held') holds name left other begins }) (c.search_named.ensures.begun p by (free p plain));
-      leaves = where_false (is_input name) other refl;
+      leaves = where_false _ (is_input name) other refl;
       told = told-named g.E.Sink job named (shown_name job.label.now name) follows is outcome c.args.errors.now c.search_named.new.errors c.search_named.ensures.told;
     }
