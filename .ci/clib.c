@@ -34,6 +34,11 @@ static cs_searcher built(uint32_t match_kind, uint32_t start_kind) {
     return it;
 }
 
+static void rebuild(cs_searcher *it, uint32_t match_kind, uint32_t start_kind) {
+    cs_free(it);
+    *it = built(match_kind, start_kind);
+}
+
 /* What a handle without a searcher answers, and that it writes nothing. */
 static void none(void) {
     cs_searcher it = CS_SEARCHER_INIT, other = CS_SEARCHER_INIT;
@@ -103,6 +108,16 @@ static bool is_error(cs_error it, uint32_t status, uint32_t option, size_t patte
     return it.status == status && it.option == option && it.pattern == pattern && it.requested == requested && it.max == max;
 }
 
+/* Whether both builds are refused so, the searcher that was there stays, and the error has this text, if one is asked for. */
+static bool refuses(const cs_options *options, uint32_t status, uint32_t option, size_t pattern, uint64_t requested, uint64_t max, const char *text) {
+    cs_searcher it = built(CS_STANDARD, CS_UNANCHORED);
+    cs_error error = { 1, 2, 3, 4, 5 };
+    bool is_so = cs_try_build(names, 4, options, &it, &error) == status && is_error(error, status, option, pattern, requested, max) && it.full
+        && cs_build(names, 4, options, &it) == status && it.full && cs_is_match(&it, BYTES("sam")) == CS_FOUND;
+    cs_free(&it);
+    return is_so && (!text || tells_error(error, text));
+}
+
 static void errors(void) {
     cs_searcher it = CS_SEARCHER_INIT;
     cs_options options = CS_OPTIONS_INIT;
@@ -111,50 +126,35 @@ static void errors(void) {
     HAS(cs_try_build(names, 4, &options, &it, &error) == CS_DONE && is_error(error, 1, 2, 3, 4, 5));
     HAS(cs_is_match(&it, BYTES("sam")) == CS_FOUND && tells_error(error, ""));
     options.match_kind = 3, options.start_kind = 4, options.automaton = 5;
-    HAS(cs_try_build(names, 4, &options, &it, &error) == CS_NO_OPTION && is_error(error, CS_NO_OPTION, CS_MATCH_KIND, 0, 3, 0));
-    HAS(it.full && tells_error(error, "match kind 3 means nothing"));
+    HAS(refuses(&options, CS_NO_OPTION, CS_MATCH_KIND, 0, 3, 0, "match kind 3 means nothing"));
     options.match_kind = CS_STANDARD;
-    HAS(cs_try_build(names, 4, &options, &it, &error) == CS_NO_OPTION && is_error(error, CS_NO_OPTION, CS_START_KIND, 0, 4, 0));
-    HAS(tells_error(error, "start kind 4 means nothing"));
+    HAS(refuses(&options, CS_NO_OPTION, CS_START_KIND, 0, 4, 0, "start kind 4 means nothing"));
     options.start_kind = CS_UNANCHORED;
-    HAS(cs_try_build(names, 4, &options, &it, &error) == CS_NO_OPTION && is_error(error, CS_NO_OPTION, CS_AUTOMATON, 0, 5, 0));
-    HAS(cs_build(names, 4, &options, &it) == CS_NO_OPTION && it.full && tells_error(error, "automaton 5 means nothing"));
-    options.size = 0; /* it is told before the others */
-    HAS(cs_try_build(names, 4, &options, &it, &error) == CS_NO_OPTION && is_error(error, CS_NO_OPTION, CS_SIZE, 0, 0, 0));
-    options.automaton = CS_BY_RULE;
-    for (options.size = 0; options.size < 100; options.size++) {
-        if (options.size == CS_OPTIONS_SIZE)
-            continue;
-        HAS(cs_try_build(names, 4, &options, &it, &error) == CS_NO_OPTION && is_error(error, CS_NO_OPTION, CS_SIZE, 0, options.size, 0));
-        HAS(cs_build(names, 4, &options, &it) == CS_NO_OPTION && it.full);
-    }
-    HAS(tells_error(error, "size 99 means nothing"));
+    HAS(refuses(&options, CS_NO_OPTION, CS_AUTOMATON, 0, 5, 0, "automaton 5 means nothing"));
+    for (options.size = 0; options.size < 100; options.size++) /* it is told before the others */
+        HAS(options.size == CS_OPTIONS_SIZE || refuses(&options, CS_NO_OPTION, CS_SIZE, 0, options.size, 0, NULL));
+    options.automaton = CS_BY_RULE, options.size = 99;
+    HAS(refuses(&options, CS_NO_OPTION, CS_SIZE, 0, 99, 0, "size 99 means nothing"));
     options.size = CS_OPTIONS_SIZE;
     uint64_t *places[] = { &options.later_a, &options.later_b, &options.later_c, &options.later_d };
     for (int at = 0; at < 4; at++) {
-        uint64_t *later = places[at];
-        *later = UINT64_MAX - 6; /* it is told before the others but the size */
-        options.match_kind = 3;
-        HAS(cs_try_build(names, 4, &options, &it, &error) == CS_NO_OPTION && is_error(error, CS_NO_OPTION, CS_LATER, 0, *later, 0));
-        HAS(cs_build(names, 4, &options, &it) == CS_NO_OPTION && it.full);
-        options.match_kind = CS_STANDARD;
-        HAS(cs_build(names, 4, &options, &it) == CS_NO_OPTION && it.full);
-        *later = 0;
+        *places[at] = UINT64_MAX - 6; /* it is told before the others but the size */
+        for (options.match_kind = CS_STANDARD; options.match_kind < 4; options.match_kind += 3)
+            HAS(refuses(&options, CS_NO_OPTION, CS_LATER, 0, *places[at], 0, "later option 18446744073709551609 means nothing"));
+        *places[at] = 0;
     }
-    HAS(tells_error(error, "later option 18446744073709551609 means nothing"));
+    options.match_kind = CS_STANDARD;
     HAS(cs_build(names, 4, &options, &it) == CS_DONE && it.full);
     options.max_len = 6;
-    HAS(cs_try_build(names, 4, &options, &it, &error) == CS_TOO_LONG && is_error(error, CS_TOO_LONG, 0, 0, 7, 6));
-    HAS(it.full && tells_error(error, "pattern 0 with length 7 exceeds the maximum pattern length of 6"));
+    HAS(refuses(&options, CS_TOO_LONG, 0, 0, 7, 6, "pattern 0 with length 7 exceeds the maximum pattern length of 6"));
     options.max_len = 7;
     options.max_pattern = 2;
-    HAS(cs_build(names, 4, &options, &it) == CS_TOO_MANY_PATTERNS && cs_build(names, 3, &options, &it) == CS_DONE);
-    HAS(cs_try_build(names, 4, &options, &it, &error) == CS_TOO_MANY_PATTERNS && is_error(error, CS_TOO_MANY_PATTERNS, 0, 3, 3, 2));
-    HAS(tells_error(error, "pattern identifier overflow: failed to create pattern ID from 3, which exceeds the max of 2"));
+    const char *many = "pattern identifier overflow: failed to create pattern ID from 3, which exceeds the max of 2";
+    HAS(cs_build(names, 3, &options, &it) == CS_DONE && refuses(&options, CS_TOO_MANY_PATTERNS, 0, 3, 3, 2, many));
     options.max_pattern = SIZE_MAX;
     options.max_index = 700;
-    HAS(cs_try_build(names, 4, &options, &it, &error) == CS_TOO_MANY_STATES && is_error(error, CS_TOO_MANY_STATES, 0, 0, 701, 700));
-    HAS(tells_error(error, "state identifier overflow: failed to create state ID from 701, which exceeds the max of 700"));
+    const char *long_states = "state identifier overflow: failed to create state ID from 701, which exceeds the max of 700";
+    HAS(refuses(&options, CS_TOO_MANY_STATES, 0, 0, 701, 700, long_states));
     HAS(tells_error((cs_error){ CS_NO_MEMORY, 0, 0, 0, 0 }, "out of memory"));
     cs_free(&it);
 }
@@ -169,12 +169,10 @@ static void finds(void) {
     HAS(cs_find(&it, BYTES("x"), &m) == CS_DONE && is(m, 7, 8, 9));
     HAS(cs_find(&it, NULL, 0, &m) == CS_DONE && is(m, 7, 8, 9));
     HAS(cs_is_match(&it, BYTES("xsx")) == CS_FOUND && cs_is_match(&it, BYTES("x")) == CS_DONE);
-    cs_free(&it);
-    it = built(CS_LEFTMOST_FIRST, CS_UNANCHORED);
+    rebuild(&it, CS_LEFTMOST_FIRST, CS_UNANCHORED);
     HAS(cs_find(&it, BYTES("a samwise"), &m) == CS_FOUND && is(m, 0, 2, 9));
     HAS(cs_find(&it, BYTES("a samw"), &m) == CS_FOUND && is(m, 1, 2, 5));
-    cs_free(&it);
-    it = built(CS_LEFTMOST_LONGEST, CS_UNANCHORED);
+    rebuild(&it, CS_LEFTMOST_LONGEST, CS_UNANCHORED);
     HAS(cs_find(&it, BYTES("a samwise"), &m) == CS_FOUND && is(m, 0, 2, 9));
     cs_free(&it);
 }
@@ -195,8 +193,7 @@ static void searches(void) {
     HAS(cs_search(&it, BYTES("a samwise"), 3, 2, false, false, &m) == CS_NO_SPAN);
     HAS(cs_search(&it, BYTES("a samwise"), 0, 10, false, false, &m) == CS_NO_SPAN);
     HAS(cs_search(&it, BYTES("a samwise"), SIZE_MAX, SIZE_MAX, false, false, &m) == CS_NO_SPAN);
-    cs_free(&it);
-    it = built(CS_STANDARD, CS_UNANCHORED);
+    rebuild(&it, CS_STANDARD, CS_UNANCHORED);
     HAS(cs_search(&it, BYTES("sam"), 0, 3, true, false, &m) == CS_REFUSED);
     cs_free(&it);
     HAS(is(m, 7, 8, 9));
@@ -233,8 +230,7 @@ static void lists(void) {
     HAS(cs_find_all(&it, BYTES("ssssss"), room, 3, &count) == CS_DONE && count == 6);
     HAS(is(room[2], 3, 2, 3) && is(room[3], 0, 0, 0));
     HAS(cs_find_all(&it, NULL, 0, room, ROOM, &count) == CS_DONE && count == 0);
-    cs_free(&it);
-    it = built(CS_LEFTMOST_FIRST, CS_UNANCHORED);
+    rebuild(&it, CS_LEFTMOST_FIRST, CS_UNANCHORED);
     HAS(cs_find_all(&it, BYTES("samwise sam"), room, ROOM, &count) == CS_DONE && count == 2);
     HAS(is(room[0], 0, 0, 7) && is(room[1], 1, 8, 11));
     count = 5;
@@ -296,11 +292,9 @@ static void states(void) {
         if (told[at].start == 0) room[count++] = told[at];
     HAS(count == 3 && is(room[0], 3, 0, 1) && is(room[1], 1, 0, 3) && is(room[2], 0, 0, 7));
     HAS(walked(&it, true, BYTES("xsam"), told) == 0);
-    cs_free(&it);
-    it = built(CS_STANDARD, CS_UNANCHORED);
+    rebuild(&it, CS_STANDARD, CS_UNANCHORED);
     HAS(cs_start_state(&it, true, &state) == CS_REFUSED && state == 8);
-    cs_free(&it);
-    it = built(CS_STANDARD, CS_ANCHORED);
+    rebuild(&it, CS_STANDARD, CS_ANCHORED);
     HAS(cs_start_state(&it, false, &state) == CS_REFUSED && state == 8);
     HAS(cs_start_state(&it, true, &state) == CS_DONE);
     cs_free(&it);
@@ -340,8 +334,7 @@ static void covers(void) {
     HAS(cs_cover_all(&it, NULL, 0, marks, 5, room, 64, &len) == CS_DONE && len == 0);
     len = 5;
     HAS(cs_cover_all(&it, BYTES("sam"), marks, 4, room, 64, &len) == CS_NOT_ONE_EACH && len == 5);
-    cs_free(&it);
-    it = built(CS_LEFTMOST_LONGEST, CS_UNANCHORED);
+    rebuild(&it, CS_LEFTMOST_LONGEST, CS_UNANCHORED);
     HAS(cs_cover_all(&it, BYTES("sam"), others, 4, room, 64, &len) == CS_REFUSED && len == 5);
     const cs_slice empty[] = { SLICE("sam"), { NULL, 0 } };
     options.start_kind = CS_ANCHORED;
@@ -490,8 +483,7 @@ static void replaced_streams(void) {
     HAS(to - all == 20 && !memcmp(all, "[redacted] and , fro", 20));
     len = 5;
     HAS(cs_stream_replace(&stream, marks, PATTERNS, room, sizeof room, &len) == CS_DONE && len == 5);
-    cs_free(&it);
-    it = built(CS_STANDARD, CS_UNANCHORED);
+    rebuild(&it, CS_STANDARD, CS_UNANCHORED);
     HAS(cs_stream_new(&it, &stream) == CS_DONE);
     marks[3] = (cs_slice)SLICE("twice");
     to = replaced(&stream, marks, long_text, sizeof long_text, all);

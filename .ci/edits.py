@@ -58,8 +58,6 @@ def type_of(line):
 
 
 @functools.cache
-
-
 def declared_in(folder):
     """By name, the files of a crate that declare such a type."""
     found = {}

@@ -72,21 +72,31 @@ def end_of(child, seconds, given=None):
         return None
 
 
-def with_part(page, command, lines):
-    """A page with these lines between the marks that name the command which writes them."""
-    return re.sub(PART.format(re.escape(command)), lambda it: it[1] + "\n".join(lines) + "\n" + it[2], page, count=1, flags=re.S)
-
-
 def write_part(command, lines):
     """Writes these lines into docs/SPEED.md, between the marks that name the command."""
-    write(os.path.join(TOP, "docs", "SPEED.md"), with_part(read("docs/SPEED.md"), command, lines))
+    page = re.sub(PART.format(re.escape(command)), lambda it: it[1] + "\n".join(lines) + "\n" + it[2], read("docs/SPEED.md"), count=1, flags=re.S)
+    write(os.path.join(TOP, "docs", "SPEED.md"), page)
 
 
-def help_or_usage(words, told, usage, *known):
-    """Ends where a script is asked for help, by what is told of it, or where its words are none of the known ones, by its usage."""
+def helps(words, told):
+    """Ends where a script is asked for help, by what is told of it."""
     if words in (["-h"], ["--help"]):
         print(told)
         sys.exit(0)
-    if words not in known:
-        print(f"usage: {usage}", file=sys.stderr)
-        sys.exit(2)
+
+
+def makes(script, words, told, files, source):
+    """The work of a script that makes files: it writes these, by their paths from the top on, or with --check tells of each that is not what the
+    source gives. The answer is its status."""
+    helps(words, told)
+    if words not in ([], ["--check"]):
+        print(f"usage: {script} [--check]", file=sys.stderr)
+        return 2
+    status = 0
+    for path, text in files.items():
+        if not words:
+            write(os.path.join(TOP, path), text)
+        elif not os.path.isfile(os.path.join(TOP, path)) or read(path) != text:
+            print(f"{os.path.basename(script)}: {path} is not what {source} gives: run {script}", file=sys.stderr)
+            status = 1
+    return status

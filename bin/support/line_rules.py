@@ -1,25 +1,35 @@
 """A slow model of rules for secrets, over Python's expressions, and random rules: for the scripts that compare what programs do by them."""
-import json, os, re
+import json, os, re, subprocess
+
+LONGEST = 1048576  # bytes of the longest line that is searched, where no option says otherwise
 
 # Expressions that mean the same to Python and to the program.
 EXPRESSIONS = ["a+", "b(a*)c", "(a)|(b)", "x*", r"\bab\b", "a(b)?(c)?", "(?i)AB", "ab*$", "^a", "c.", "[ab]{2}", "(b)a*", r"[\w-]{3,}", r"\s(\S+)", "a|ab|abc", "(a*)(b*)", r"\x61.{2}"]
+
+
+def rule(name, regex, **more):
+    """A rule that marks by its expression alone, but for what more is said."""
+    return {"id": name, "regex": regex, "expression": re.compile(regex.encode()), "keywords": [], "group": 0, "until": None, "with": None, **more}
 
 
 def some_rules(dice, letters, ids=()):
     """Rules as a file of TOML has them: their names, of these or of their own, expressions and keys."""
     rules = []
     for number in range(dice.randint(0, 3)):
+        text = lambda: bytes(dice.choices(letters, k=dice.randint(1, 2)))  # noqa: E731
         regex = dice.choice(EXPRESSIONS)
-        expression = re.compile(regex.encode())
-        text = lambda most: bytes(dice.choices(letters, k=dice.randint(1, most)))  # noqa: E731
-        rules.append({
-            "id": dice.choice(ids or [f"r{number}"]), "regex": regex, "expression": expression,
-            "keywords": [text(2) for _ in range(dice.choice([0, 0, 1, 2]))],
-            "group": dice.randint(0, expression.groups) if dice.random() < 0.5 else 0,
-            "until": text(2) if dice.random() < 0.3 else None,
-            "with": dice.choice([b"", b"<>", b"a"]) if dice.random() < 0.3 else None,
-        })  # fmt: skip
+        name, keywords = dice.choice(ids or [f"r{number}"]), [text() for _ in range(dice.choice([0, 0, 1, 2]))]
+        group = dice.randint(0, re.compile(regex).groups) if dice.random() < 0.5 else 0
+        until = text() if dice.random() < 0.3 else None
+        own = dice.choice([b"", b"<>", b"a"]) if dice.random() < 0.3 else None
+        rules.append(rule(name, regex, keywords=keywords, group=group, until=until, **{"with": own}))
     return rules
+
+
+def some_files(dice):
+    """Letters, and files of these: two, and standard input."""
+    letters = dice.choice([b"ab", b"abc", b"abcx ", b"ab_C =", b'aAbB:"'])
+    return letters, {name: bytes(dice.choices(letters + b"\n", k=dice.randint(0, dice.choice([8, 40, 90])))) for name in ("one", "two", "-")}
 
 
 def in_toml(rules):
@@ -106,3 +116,11 @@ def in_parts(dice, text):
         at += count
     os.close(writes)
     return reads
+
+
+def end_of(dice, program, call, folder, given):
+    """The status of a call that reads this text, what it writes, and the lines that it tells."""
+    pipe = in_parts(dice, given)
+    ran = subprocess.run([program, *call], cwd=folder, stdin=pipe, capture_output=True, timeout=60)
+    os.close(pipe)
+    return ran.returncode, ran.stdout, os.fsdecode(ran.stderr).split("\n")[:-1]

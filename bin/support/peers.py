@@ -1,8 +1,8 @@
-"""What `bin/speeds --page` measures beside ours: programs over the Rust crate and over Hyperscan as Debian has them, which are written
+"""What bin/speeds and bin/compare-bindings measure beside ours: programs over the Rust crate and over Hyperscan as Debian has them, which are written
 and built in a temporary folder, and the versions of the tools. `PEER KIND CASE PREFILTER DEPTH TIMES PATTERNS TEXT` prints what
 crates/speeds prints; before these the one over the Rust crate takes n or d, its NFA or its DFA."""
 from . import write
-import glob, os, re, shutil, subprocess
+import collections, glob, os, re, shutil, subprocess, sys
 
 TOOLS = [
     ("GNU grep", "grep", r"GNU grep\) (\S+)"),
@@ -114,6 +114,19 @@ int main(int argc, char **words) {
     return printf("%.9f %.9f %llu 0 %zu\n", built, least, matches, used) < 0;
 }
 """
+
+
+Figures = collections.namedtuple("Figures", "built searched memory")
+
+
+def measured(start, *asked):
+    """The figures of a build and of a search by a call that begins so, in seconds and bytes, and what was seen."""
+    words = [*start, *map(str, asked)]
+    ran = subprocess.run(words, stdout=subprocess.PIPE, text=True)
+    said = ran.stdout.split()
+    if ran.returncode or len(said) != 5:
+        sys.exit(f"{os.path.basename(sys.argv[0])}: {' '.join(words)} ended with status {ran.returncode}")
+    return Figures(float(said[0]), float(said[1]), int(said[4])), (int(said[2]), said[3])
 
 
 def rust_peer(room):

@@ -1,8 +1,9 @@
 """Random texts in which words are sought. One seed makes one text, whatever machine it is on."""
 from . import write
-import os
+import os, string
 
 SEED = 20261123  # of the texts that are timed
+SECRET = (string.ascii_letters + string.digits).encode()  # of which secrets are made
 BLOCK_LEN = 8 << 20  # of which texts are made that are searched by programs
 BLOCKS = 8  # in such a text
 EACH = 1000  # bytes of a text behind which a word stands
@@ -65,14 +66,7 @@ def sown(dice, words, text, each=EACH, around=b""):
     return bytes(text)
 
 
-def put_words_and_text(dice, folder, count, block, blocks):
-    """Writes so many words, and a text in which they stand."""
-    words = unlike(dice, count)
-    piece = sown(dice, words, block, around=b" ")
-    return write(os.path.join(folder, "words"), b"\n".join(words) + b"\n"), write_blocks(folder, piece, blocks)
-
-
-def write_blocks(folder, piece, blocks):
+def write_blocks(folder, piece, blocks=BLOCKS):
     """Writes a text that is so often this piece."""
     with open(os.path.join(folder, "text"), "wb") as file:
         for _ in range(blocks):

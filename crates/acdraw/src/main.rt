@@ -18,12 +18,12 @@ ghost use Rattle.tool_parts.specs.Streams.{output_bytes};
 ghost use Rattle.acdraw.specs.Calls.{Draws, drawing_by};
 
 use aho_devices::adapters::FromWrite;
-use tool_parts::arguments::arguments;
-use tool_parts::failure::Failure;
 use run::{run, tell};
 use std::alloc::Global;
 use std::io::Write;
 use std::process::ExitCode;
+use tool_parts::arguments::arguments;
+use tool_parts::failure::Failure;
 
 fn main(rt: HostRuntime) -> ExitCode {
     exit_code(

@@ -12,12 +12,12 @@ ghost use Rattle.acdraw.specs.Calls.{Draws, LeavesDrawing, drawing_by, draws_anc
 use crate::dot::dot_of;
 use crate::picture::picture_of;
 use aho_devices::adapters::FromWrite;
+use std::alloc::Global;
+use std::io::Write;
 use tool_parts::command::{Request, parse_find};
 use tool_parts::failure::Failure;
 use tool_parts::print::write_whole;
 use tool_parts::run::{build, report};
-use std::alloc::Global;
-use std::io::Write;
 
 /// What is told where the arguments are wrong.
 const USAGE: &[u8] = b"usage: acdraw [-u] KIND [-i] PATTERN..\n";

@@ -1,6 +1,5 @@
 -- What stands alone in a line: the longest of what begins together is tried first, and then the shorter ones.
-use Rattle.std.proofs.Common.{◌≡◌, inl, inr, ◌⊎◌, ℕ, ◌+◌, ◌-◌, ◌≤◌, ◌<◌, true, false, List, [], ◌∷◌, ◌++◌, Option, Some, None, length, refl, sym, ◌∙◌, subst, arith, ap, append_assoc, append-nil}
-use Rattle.std.specs.Prelude.{IfSome}
+use Rattle.std.proofs.Common.{◌≡◌, inl, inr, ◌⊎◌, ℕ, ◌+◌, ◌≤◌, ◌<◌, true, false, List, [], ◌∷◌, ◌++◌, Some, None, length, sym, ◌∙◌, subst, arith, ap, append_assoc, append-nil}
 use Rattle.std.proofs.lemmas.Bool.{cases_lt, true≢false}
 use Rattle.aho_core.specs.Answer.{IsAnswer}
 use Rattle.aho_core.specs.Best.{IsBestOrNone}
@@ -20,12 +19,6 @@ pub record LiesIn (start end : ℕ) (m : Occurrence) : Type 0 where
   pub behind : start ≤ m.start
   pub ordered : m.start ≤ m.end
   pub within : m.end ≤ end
-
-pub answer_lies : (p : Patterns) (line : List ℕ) (start end : ℕ) (found : Option Occurrence) → IsAnswer p (span_search line start end) found → IfSome found (LiesIn start end)
-answer_lies p line start end None best = tt
-answer_lies p line start end (Some m) best =
-    let occurs : OccursIn p (span_search line start end) m = best.0 in
-    record { behind = occurs.after_start; ordered = omega (arith, occurs.sized); within = occurs.before_end }
 
 -- what begins at a place is before what begins behind it; of two that begin together the longer is before the shorter
 same_or_shorter : (m other : Occurrence) → other.start ≡ m.start → (other ≡ m) ⊎ IsBefore LeftmostLongest m other → (other.end ≡ m.end) ⊎ (other.end < m.end)
@@ -56,49 +49,11 @@ module _ (p : Patterns) (line : List ℕ) (kind : p.kind ≡ LeftmostLongest) wh
   in_line : (start end : ℕ) (m : Occurrence) → end ≤ length line → OccursIn p (span_search line start end) m → OccursIn p (plain_search line) m
   in_line start end m within occurs = Occurs-in p line start end 0 (length line) m (omega arith) (omega (arith, within, occurs.before_end)) occurs
 
-  -- of what begins with m and is shorter the longest is what a search finds that ends before m, if it begins there
-  pub shorter_found : (m other : Occurrence) → m.start < m.end → m.end ≤ length line → other.start ≡ m.start
-      → IsAnswer p (span_search line m.start (m.end - 1)) (Some other) → IsBestOrNone LeftmostLongest (IsShorter p line m) (Some other)
-  shorter_found m other some within begins best =
-      let occurs : OccursIn p (span_search line m.start (m.end - 1)) other = best.0 in (
-        record {
-          occurs = in_line m.start (m.end - 1) other (omega (arith, within)) occurs;
-          begins = begins;
-          shorter = omega (arith, occurs.before_end, some);
-        },
-        λ third is. best_of m.start (m.end - 1) other best third (in_range m.start (m.end - 1) third (omega (arith, is.begins)) (omega (arith, is.shorter)) is.occurs),
-      )
-
-  pub shorter_later : (m other : Occurrence) → (other.start ≡ m.start → ⊥)
-      → IsAnswer p (span_search line m.start (m.end - 1)) (Some other) → IsBestOrNone LeftmostLongest (IsShorter p line m) None
-  shorter_later m other later best = λ third is.
-      let occurs : OccursIn p (span_search line m.start (m.end - 1)) other = best.0 in
-      let low : other.start ≤ third.start =
-      begins_later other third (best_of m.start (m.end - 1) other best third (in_range m.start (m.end - 1) third (omega (arith, is.begins)) (omega (arith, is.shorter)) is.occurs)) in
-      later (omega (arith, low, is.begins, occurs.after_start))
-
-  pub shorter_none : (m : Occurrence) → IsAnswer p (span_search line m.start (m.end - 1)) None → IsBestOrNone LeftmostLongest (IsShorter p line m) None
-  shorter_none m none = λ third is. none third (in_range m.start (m.end - 1) third (omega (arith, is.begins)) (omega (arith, is.shorter)) is.occurs)
-
-  -- nothing is shorter than what is empty
-  pub shorter_empty : (m : Occurrence) → m.start ≡ m.end → IsBestOrNone LeftmostLongest (IsShorter p line m) None
-  shorter_empty m empty = λ third is.
-      let occurs : OccursIn p (plain_search line) third = is.occurs in
-      absurd (omega (arith, occurs.sized, is.begins, is.shorter, empty))
-
   -- m occurs, and what begins with it and stands alone is m or is tried behind it
   pub record IsTried (start : ℕ) (m : Occurrence) : Type 0 where
     pub occurs : OccursIn p (plain_search line) m
     pub at : m.start ≡ start
     pub others : (other : Occurrence) → IsAloneAt p line start other → (other ≡ m) ⊎ IsBefore LeftmostLongest m other
-
-  -- the longest is tried first
-  pub tried_first : (m : Occurrence) → IsLongestThere p line m → IsTried m.start m
-  tried_first m longest = record {
-    occurs = longest.occurs;
-    at = refl;
-    others = λ other is. longest.longest other is.is.occurs is.at;
-  }
 
   -- where m does not stand alone what begins with it and does is shorter
   tried_shorter : (start : ℕ) (m other : Occurrence) → IsTried start m → ends_alone line m.end ≡ false → IsAloneAt p line start other → IsShorter p line m other
@@ -141,10 +96,6 @@ module _ (p : Patterns) (line : List ℕ) (kind : p.kind ≡ LeftmostLongest) wh
     },
     tried.others,
   )
-
-  -- nothing stands alone that begins behind a letter
-  pub refused_there : (start : ℕ) → begins_alone line start ≡ false → IsBestOrNone LeftmostLongest (IsAloneAt p line start) None
-  refused_there start refused = λ other is. true≢false (sym is.is.begins ∙ ap (begins_alone line) is.at ∙ refused)
 
   -- what begins at a place or behind it and stands alone begins here or behind here
   abbrev pub BeginsBehind : (at here : ℕ) → Type 0
@@ -211,9 +162,6 @@ module _ (p : Patterns) (line : List ℕ) (kind : p.kind ≡ LeftmostLongest) wh
 -- these came so far, and the next begin at a place or behind it
 pub record AloneSoFar (p : Patterns) (line : List ℕ) (from : ℕ) (ms : List Occurrence) : Type 0 where
   pub goes_on : (rest : List Occurrence) → AreAloneFrom p line from rest → AreAloneFrom p line 0 (ms ++ rest)
-
-pub alone_start : (p : Patterns) (line : List ℕ) → AloneSoFar p line 0 []
-alone_start p line = record { goes_on = λ rest are. are }
 
 pub alone_step : (p : Patterns) (line : List ℕ) (from behind : ℕ) (ms : List Occurrence) (m : Occurrence) → behind ≡ behind_alone m → IsNextAlone p line from (Some m) → AloneSoFar p line from ms
     → AloneSoFar p line behind (ms ++ (m ∷ []))

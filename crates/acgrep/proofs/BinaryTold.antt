@@ -3,7 +3,8 @@ use Rattle.std.proofs.Common.{◌≡◌, ◌⊎◌, inl, inr, ℕ, ◌<◌, ◌=
 use Rattle.std.specs.Prelude.{MatchBool, if◌then◌else◌, nat_lt, not, ◌&&◌, ◌||◌}
 use Rattle.std.specs.Io.KnownBytes.{Appends, Consumes}
 use Rattle.std.proofs.KnownBytes.{Appends-trans, Consumes-trans, Keeps-refl}
-use Rattle.std.proofs.lemmas.Bool.{and_parts, lt-ltb, not-true, true≢false}
+use Rattle.std.proofs.lemmas.Bool.{and_parts, lt-ltb, not-true, true≢false, or_right}
+use Rattle.std.proofs.Math.Bool.{or-false}
 use Rattle.aho_core.specs.Patterns.{Patterns}
 use Rattle.aho_devices.specs.Counts.{AppendsBeginning}
 use Rattle.acgrep.specs.Begun.{BeginsOf}
@@ -29,10 +30,6 @@ use Rattle.acgrep.proofs.Tellings.{settled_some, tells_full}
 
 pub appends_none : (x : Option (List ℕ)) → Appends x x []
 appends_none x = keeps_nil x x (Keeps-refl x)
-
-pub or_false : (b : Bool) → b ≡ (b || false)
-or_false true = refl
-or_false false = refl
 
 pub some_behind : (P : List ℕ → Type 0) (ls ms : List (List ℕ)) → SomeLine P ms → SomeLine P (ls ++ ms)
 some_behind P [] ms some = some
@@ -232,7 +229,7 @@ module _ (p : Patterns) (job : Job) where
                 file = file_told left held meanwhile meanwhile text (lines job.style.ending searched) [] state.selected false (nat_lt 0 state.selected) known
                     (ap text_lines same ∙ text_behind job.style.ending searched [] (past.text refl) ∙ append-nil (lines job.style.ending searched))
                     (ap binary_lines same ∙ binary_behind job.style.ending searched [] (past.text refl))
-                    (told_all several before state held meanwhile searched begin behind.searches) (match_none (is_full job.most state.selected)) (appends_none meanwhile) (or_false (nat_lt 0 state.selected));
+                    (told_all several before state held meanwhile searched begin behind.searches) (match_none (is_full job.most state.selected)) (appends_none meanwhile) (sym (or-false (nat_lt 0 state.selected)));
                 reads = record { bytes = behind.came; read = behind.consumed; ended = inl end };
               }
           | inr (whole, settled) ↦
@@ -247,7 +244,7 @@ module _ (p : Patterns) (job : Job) where
                     (ap text_lines same ∙ text_behind job.style.ending searched others (past.text refl))
                     (ap binary_lines same ∙ binary_behind job.style.ending searched others (past.text refl))
                     (told_full before state held meanwhile searched (text_lines others) begin behind.searches full)
-                    (subst (λ (b : Bool). MatchBool b (false ≡ false) (IsAny p job.fit job.invert (binary_lines others) false)) (sym full.0) refl) (appends_none meanwhile) (or_false (nat_lt 0 state.selected));
+                    (subst (λ (b : Bool). MatchBool b (false ≡ false) (IsAny p job.fit job.invert (binary_lines others) false)) (sym full.0) refl) (appends_none meanwhile) (sym (or-false (nat_lt 0 state.selected)));
                 reads = record {
                   bytes = behind.came;
                   read = behind.consumed;
@@ -292,7 +289,7 @@ module _ (p : Patterns) (job : Job) where
           record {
             file = file_told left held meanwhile meanwhile (came ++ more) (lines job.style.ending front.some.searched) (lines job.style.ending (kept ++ more)) state.selected false (nat_lt 0 state.selected) known
                 (front_first more) (front_others more) front_told
-                (subst (λ (b : Bool). MatchBool b (false ≡ false) (IsAny p job.fit job.invert (lines job.style.ending (kept ++ more)) false)) (sym full) refl) (appends_none meanwhile) (or_false (nat_lt 0 state.selected));
+                (subst (λ (b : Bool). MatchBool b (false ≡ false) (IsAny p job.fit job.invert (lines job.style.ending (kept ++ more)) false)) (sym full) refl) (appends_none meanwhile) (sym (or-false (nat_lt 0 state.selected)));
             reads = record {
               bytes = came;
               read = front.some.consumed;
@@ -331,17 +328,13 @@ module _ (p : Patterns) (job : Job) where
                   | inl end ↦ inl end
                   | inr seen ↦ inr (inr (inr (inl (
                     guarded,
-                    is ∙ or_true (nat_lt 0 state.selected) found seen,
+                    is ∙ or_right (nat_lt 0 state.selected) found seen,
                     subst (SomeLine (λ (line : List ℕ). is_text line ≡ false)) (sym (front_cut finds.came))
                         (some_behind (λ (line : List ℕ). is_text line ≡ false) (lines job.style.ending front.some.searched) (lines job.style.ending (kept ++ finds.came)) (first_some (lines job.style.ending (kept ++ finds.came)) (front_binary finds.came))),
                   ))))
                 ];
               };
             }
-          where
-            or_true : (b found : Bool) → found ≡ true → (b || found) ≡ true
-            or_true true found holds = refl
-            or_true false found holds = holds
 
         -- or a beginning of that is written
         pub begins_found : (held' : Option (List ℕ)) → FindsSelected p job kept left' last meanwhile between true → AppendsBeginning between held' (binary_by job.style) → BeginsFile p job left held held'

@@ -1,11 +1,17 @@
 -- Which of the operands are searched.
-use Rattle.std.proofs.Common.{◌≡◌, ℕ, ◌-◌, ◌<◌, List, [], ◌∷◌, ◌++◌, length, take, drop, refl, sym, ◌∙◌, ap, subst, arith, append_assoc, append-nil, take_all}
+use Rattle.std.proofs.Common.{◌≡◌, ◌⊎◌, inl, inr, Bool, true, false, Option, None, Some, ℕ, ◌-◌, ◌<◌, List, [], ◌∷◌, ◌++◌, length, take, drop, refl, sym, ◌∙◌, ap, subst, arith, append_assoc, append-nil, take_all}
+use Rattle.std.specs.Prelude.{◌||◌, IfSome, not, unwrap_or}
 use Rattle.std.specs.Borrow.{Bor}
+use Rattle.std.proofs.lemmas.Bool.{cases_Bool, or_parts}
 use Rattle.std.proofs.Math.ListN.{get_or}
-use Rattle.tool_parts.specs.Names.{name_bytes}
-use Rattle.acgrep.specs.Folders.{AreChosen, Chooses, Tree, kept_of, missed_of}
+use Rattle.tool_parts.specs.Names.{is_input, name_bytes, or_input}
+use Rattle.acgrep.specs.Arguments.{Said, ways_by}
+use Rattle.acgrep.specs.Folders.{AreChosen, Chooses, IsKept, IsUnknown, Tree, is_folder, is_passed, kept_of, missed_of, passes}
 use Rattle.acgrep.specs.Listed.{listed_bytes}
-use Rattle.acgrep.specs.Rules.{RuleSaid}
+use Rattle.acgrep.specs.Rules.{RuleSaid, is_left_out}
+use Rattle.acgrep.specs.Runs.{AreReached, chooses, has_rules}
+use Rattle.acgrep.specs.declared.folders.Kind.{Kind}
+use Rattle.acgrep.specs.declared.folders.Kind.TheVariants.{File, Folder, Link, Device}
 use Rattle.acgrep.specs.declared.walk.Found.{Found}
 use Rattle.acgrep.specs.declared.walk.Ways.{Ways}
 
@@ -15,12 +21,6 @@ pub record AreSoFar (tree : Tree) (rules : List RuleSaid) (ways : Ways) (all res
   pub none : missed_of found.unread.items ≡ []
 
 module _ (tree : Tree) (rules : List RuleSaid) (ways : Ways) (all : List (List ℕ)) where
-  pub chosen-start : (found : Found) → listed_bytes found.names.items ≡ [] → missed_of found.unread.items ≡ [] → AreSoFar tree rules ways all all found
-  chosen-start found clean none = record {
-    leads = λ others are. subst (λ (l : List (List ℕ)). AreChosen tree rules ways all (l ++ others)) (sym clean) are;
-    none = none;
-  }
-
   pub chosen-more : (rest : List (Bor (List ℕ))) (d : Bor (List ℕ)) (old new : Found) → 0 < length rest → AreSoFar tree rules ways all (name_bytes rest) old
       → Chooses tree rules ways (get_or rest 0 d).now old new → AreSoFar tree rules ways all (name_bytes (take (length rest - 1) (drop 1 rest))) new
   chosen-more [] d old new some so_far step = absurd (omega (arith, some))
@@ -38,3 +38,51 @@ module _ (tree : Tree) (rules : List RuleSaid) (ways : Ways) (all : List (List �
   pub chosen-end : (rest : List (Bor (List ℕ))) (found : Found) → length rest ≡ 0 → AreSoFar tree rules ways all (name_bytes rest) found → AreChosen tree rules ways all (listed_bytes found.names.items)
   chosen-end [] found gone so_far = subst (λ (l : List (List ℕ)). AreChosen tree rules ways all l) (append-nil (listed_bytes found.names.items)) (so_far.leads [] refl)
   chosen-end (name ∷ names) found gone so_far = absurd (omega (arith, gone))
+
+-- where there are no rules, and none is passed over for what it is, all are searched
+kinds_free : (ways : Ways) (kind : Kind) → passes ways ≡ false → is_passed ways kind ≡ false
+kinds_free ways File none = refl
+kinds_free ways Folder none = (or_parts ways.skips_folders (not (unwrap_or ways.devices true)) none).0
+kinds_free ways Link none = refl
+kinds_free ways Device none = (or_parts ways.skips_folders (not (unwrap_or ways.devices true)) none).1
+
+rules_free : (rules : List RuleSaid) (is_folder : Bool) (name : List ℕ) → has_rules rules ≡ false → is_left_out rules is_folder true name ≡ false
+rules_free [] true name none = refl
+rules_free [] false name none = refl
+rules_free (rule ∷ rules) is_folder name none = absurd (cc)
+
+module _ (tree : Tree) (rules : List RuleSaid) (ways : Ways) (none : chooses rules ways ≡ false) where
+  none_left : (kind : Kind) (name : List ℕ) → not (is_passed ways kind || is_left_out rules (is_folder kind) true name) ≡ true
+  none_left kind name =
+      let (ruleless, wayless) = or_parts (has_rules rules) (passes ways) none in
+      rw (kinds_free ways kind wayless) (rw (rules_free rules (is_folder kind) name ruleless) refl)
+
+  is_chosen : (name : List ℕ) (kept : Bool) → IsKept tree rules ways name kept → kept ≡ true
+  is_chosen name kept is = elim (cases_Bool (is_input name)) [
+    | inl input ↦ rw input at is
+    | inr other ↦
+        let looked = rw other at is in
+        elim looked [ inl lost ↦ lost.1 | inr (kind, known, same) ↦ same ∙ none_left kind name ]
+  ]
+
+  -- so none has to be looked at
+  pub all_kept : (name : List ℕ) → IsKept tree rules ways name true
+  all_kept name = elim (cases_Bool (is_input name)) [ inl input ↦ rw input refl | inr other ↦ rw other (looked (tree.kinds true name) refl) ]
+    where
+      looked : (known : Option Kind) → tree.kinds true name ≡ known
+          → (IsUnknown tree true name × (true ≡ true)) ⊎ ((kind : Kind) × IfSome (tree.kinds true name) (λ known. kind ≡ known) × (true ≡ not (is_passed ways kind || is_left_out rules (is_folder kind) true name)))
+      looked None is = inl (inl is, refl)
+      looked (Some kind) is = inr (kind, rw is refl, sym (none_left kind name))
+
+  all_chosen : (names files : List (List ℕ)) → AreChosen tree rules ways names files → files ≡ names
+  all_chosen [] files is = is
+  all_chosen (name ∷ names) files (kept, others, is, more, same) =
+      same ∙ ap (λ (b : Bool). kept_of name b ++ others) (is_chosen name kept is) ∙ ap (λ (l : List (List ℕ)). name ∷ l) (all_chosen names others more)
+
+-- those that were chosen are the files of a search that enters no folder
+pub reached-chosen : (tree : Tree) (given : Said) (names files unread : List (List ℕ)) → given.flags.recursive ≡ false → AreChosen tree given.rules (ways_by given.flags) (or_input names) files
+    → unread ≡ [] → AreReached tree given names files unread
+reached-chosen tree given names files unread plain chosen whole = elim (cases_Bool (chooses given.rules (ways_by given.flags))) [
+  | inl some ↦ rw plain (rw some chosen, whole)
+  | inr none ↦ rw plain (rw none (all_chosen tree given.rules (ways_by given.flags) none (or_input names) files chosen), whole)
+]

@@ -5,15 +5,12 @@ use Rattle.std.specs.Io.KnownBytes.{Appends, Consumes, IsAtEnd}
 use Rattle.std.proofs.KnownBytes.{Appends-trans}
 use Rattle.std.proofs.lemmas.Bool.{cases_Bool, lt-ltb, ltb-false, ltb-true}
 use Rattle.aho_core.specs.Patterns.{Patterns}
-use Rattle.tool_parts.specs.Names.{is_input}
 use Rattle.acgrep.specs.Binary.{TellsGuarded, is_guarded, lines_by, lines_sought, takes_text}
 use Rattle.acgrep.specs.Contexts.{IsBegin, SearchesIn, TellsFile, TellsIn, around_by, around_of, walk_of}
-use Rattle.acgrep.specs.Files.{EndsFile, IfSearched, IsNamed, IsRead, SearchesFile, SearchesName, SearchesReader, TellsBy, TellsSearched, count_if, known_of, shown_name, total_if}
+use Rattle.acgrep.specs.Files.{EndsFile, IsRead, SearchesFile, TellsBy, TellsSearched, count_if, total_if}
 use Rattle.acgrep.specs.Lines.{lines}
 use Rattle.acgrep.specs.Printed.{file_line}
 use Rattle.acgrep.specs.Written.{EachLine, IsAny, IsPassedOver, IsSelected, IsSettled, ShowsBy, ShowsLine, SomeLine, TellsOfLines, is_full, needs_one, one_more}
-use Rattle.acgrep.specs.declared.files.Outcome.{Outcome}
-use Rattle.acgrep.specs.declared.files.Outcome.TheVariants.{Searched, Unread, Stopped}
 use Rattle.acgrep.specs.declared.options.Context.{Context}
 use Rattle.acgrep.specs.declared.options.Shown.{Shown}
 use Rattle.acgrep.specs.declared.options.Shown.TheVariants.{Lines, Matches, Objects, Count, Names, Lacking, Nothing}
@@ -301,35 +298,3 @@ module _ (p : Patterns) (job : Job) where
   pub left_none : (state : State) (held meanwhile : Option (List ℕ)) (text : List ℕ) (told : TextTold (around_of job) state held meanwhile text)
       → (lines job.style.ending told.left ≡ []) ⊎ IsSettled job state
   left_none state held meanwhile text told = elim told.ends [ inl whole ↦ inl (ap (lines job.style.ending) whole) | inr settled ↦ inr settled ]
-
--- what follows where a file was searched
-pub if_searched : (outcome : Outcome) (P Q : Bool → Type 0) → ((any : Bool) → P any → Q any) → IfSearched outcome P → IfSearched outcome Q
-if_searched (Searched any) P Q follows is = follows any is
-if_searched Unread P Q follows is = tt
-if_searched Stopped P Q follows is = tt
-
--- standard input is the file of its name
-pub input_searched : (p : Patterns) (job named : Job) (follows : Bool) (holds : List ℕ → Option (List ℕ)) (name : List ℕ) (left left' held held' : Option (List ℕ)) → is_input name ≡ true
-    → IsNamed job job.label.now follows named → (any : Bool) → SearchesReader p named left left' held held' any → SearchesName p job follows holds name left left' held held' any
-input_searched p job named follows holds name left left' held held' input is any done =
-    let shown : shown_name job.label.now name ≡ job.label.now = rw input refl in
-    let known : known_of holds name left ≡ left = rw input refl in
-    record {
-      named = named;
-      is_named = subst (λ (n : List ℕ). IsNamed job n follows named) (sym shown) is;
-      file = subst (λ (bytes : Option (List ℕ)). SearchesFile p named bytes held held' any) (sym known) done.file;
-      reads = subst (λ (b : Bool). MatchBool b (IsRead p named left left' any) (left' ≡ left)) (sym input) done.reads;
-    }
-
--- and any other name is that of a file which is held
-pub file_searched : (p : Patterns) (job named : Job) (follows : Bool) (holds : List ℕ → Option (List ℕ)) (name : List ℕ) (left held held' : Option (List ℕ)) → is_input name ≡ false
-    → IsNamed job name follows named → (any : Bool) → SearchesFile p named (holds name) held held' any → SearchesName p job follows holds name left left held held' any
-file_searched p job named follows holds name left held held' other is any done =
-    let shown : shown_name job.label.now name ≡ name = rw other refl in
-    let known : known_of holds name left ≡ holds name = rw other refl in
-    record {
-      named = named;
-      is_named = subst (λ (n : List ℕ). IsNamed job n follows named) (sym shown) is;
-      file = subst (λ (bytes : Option (List ℕ)). SearchesFile p named bytes held held' any) (sym known) done;
-      reads = subst (λ (b : Bool). MatchBool b (IsRead p named left left any) (left ≡ left)) (sym other) refl;
-    }

@@ -1,20 +1,17 @@
 -- What is written of a file that is not searched to its end.
-use Rattle.std.proofs.Common.{arith, ◌≡◌, inl, inr, ◌⊎◌, ℕ, Bool, true, false, List, [], ◌∷◌, ◌++◌, ◌==◌, Option, None, Some, IfSome, drop, take, take-append-drop, refl, sym, ◌∙◌, ap, subst, append-nil}
-use Rattle.tool_parts.specs.Names.{is_input}
+use Rattle.std.proofs.Common.{arith, ◌≡◌, inl, inr, ◌⊎◌, ℕ, Bool, true, false, List, [], ◌++◌, ◌==◌, Option, None, Some, IfSome, drop, take, take-append-drop, refl, sym, ◌∙◌, ap, subst, append-nil}
 use Rattle.std.specs.Prelude.{MatchBool, not, ◌&&◌, ◌||◌}
 use Rattle.std.specs.Io.KnownBytes.{Appends, Keeps}
-use Rattle.std.proofs.KnownBytes.{Appends-trans, Keeps-trans}
+use Rattle.std.proofs.KnownBytes.{Appends-trans}
 use Rattle.std.proofs.lemmas.Bool.{and_parts}
 use Rattle.aho_core.specs.Patterns.{Patterns}
 use Rattle.aho_devices.specs.Counts.{AppendsBeginning}
 use Rattle.acgrep.specs.Binary.{TellsBinary, binary_by, is_guarded, lines_by, takes_text, writes_lines}
 use Rattle.acgrep.specs.Contexts.{IsBegin, TellsFrom, TellsIn, around_by, around_of, walk_of}
-use Rattle.acgrep.specs.Files.{AreFilesBegun, BeginsFile, BeginsName, BeginsTotal, IfBroken, IsNamed, IsTail, SearchesFile, TellsFirst, known_of, shown_name, total_if}
+use Rattle.acgrep.specs.Files.{BeginsFile, BeginsTotal, IsTail, SearchesFile, TellsFirst, total_if}
 use Rattle.acgrep.specs.Guarded.{SearchesFront}
 use Rattle.acgrep.specs.Streamed.{BeginsBehind, course}
 use Rattle.acgrep.specs.Written.{ShowsBy}
-use Rattle.acgrep.specs.declared.files.Outcome.{Outcome}
-use Rattle.acgrep.specs.declared.files.Outcome.TheVariants.{Searched, Unread, Stopped}
 use Rattle.acgrep.specs.declared.options.Context.{Context}
 use Rattle.acgrep.specs.declared.options.Shown.{Shown}
 use Rattle.acgrep.specs.declared.options.Shown.TheVariants.{Lines, Matches, Objects, Count, Names, Lacking, Nothing}
@@ -27,17 +24,6 @@ use Rattle.acgrep.proofs.FileTellings.{from_begin, tells_none}
 use Rattle.acgrep.proofs.Grouped.{told_around}
 use Rattle.acgrep.proofs.Streams.{keeps_nil}
 use Rattle.acgrep.proofs.StreamsBegun.{behind_stop, text_from}
-
--- what holds whatever the outcome
-pub on_broken : {P : Type 0} (outcome : Outcome) → P → IfBroken outcome P
-on_broken (Searched any) holds = tt
-on_broken Unread holds = holds
-on_broken Stopped holds = holds
-
-pub if_broken : {P Q : Type 0} (outcome : Outcome) → (P → Q) → IfBroken outcome P → IfBroken outcome Q
-if_broken (Searched any) follows broken = tt
-if_broken Unread follows broken = follows broken
-if_broken Stopped follows broken = follows broken
 
 -- nothing of the total is written
 pub total_none : (job : Job) (count : ℕ) (x y : Option (List ℕ)) → Keeps x y → BeginsTotal job count x y
@@ -185,7 +171,7 @@ module _ (p : Patterns) (job : Job) where
       let told : Tells [] total = record { told = []; count = 0; tells = tells_nothing (around_of job); tail = total; behind = tail_total text [] 0; is = refl } in
       record { text = text; of = of; begins = begins_nothing Tells (lines_by (is_guarded job || takes_text job) job.style.ending text) held held' total told (keeps_nil held held' keeps) }
 
-of_kept : (known known' : Option (List ℕ)) (text : List ℕ) → Keeps known known' → IfSome known' (λ (bytes : List ℕ). text ≡ bytes) → IfSome known (λ (bytes : List ℕ). text ≡ bytes)
+pub of_kept : (known known' : Option (List ℕ)) (text : List ℕ) → Keeps known known' → IfSome known' (λ (bytes : List ℕ). text ≡ bytes) → IfSome known (λ (bytes : List ℕ). text ≡ bytes)
 of_kept None known' text keeps of = tt
 of_kept (Some xs) None text keeps of = absurd keeps
 of_kept (Some xs) (Some ys) text keeps of = of ∙ keeps
@@ -204,43 +190,3 @@ file_read p job known known' held held' any keeps all = record {
   tells = all.tells;
   written = all.written;
 }
-
-module _ (p : Patterns) (job : Job) (holds : List ℕ → Option (List ℕ)) where
-  -- nothing is written
-  pub begun_none : (follows : Bool) (names : List (List ℕ)) (left held held' : Option (List ℕ)) → Keeps held held' → AreFilesBegun p job follows holds names left held held'
-  begun_none follows [] left held held' keeps = keeps
-  begun_none follows (name ∷ names) left held held' keeps = inl keeps
-
-  -- the output keeps what it holds
-  pub begun_kept : (held' held'' : Option (List ℕ)) → Keeps held' held'' → (names : List (List ℕ)) (follows : Bool) (left held : Option (List ℕ)) → AreFilesBegun p job follows holds names left held held'
-      → AreFilesBegun p job follows holds names left held held''
-  begun_kept held' held'' kept [] follows left held begun = Keeps-trans held held' held'' begun kept
-  begun_kept held' held'' kept (name ∷ names) follows left held (inl keeps) = inl (Keeps-trans held held' held'' keeps kept)
-  begun_kept held' held'' kept (name ∷ names) follows left held (inr (between, meanwhile, leaves, inl (any, searched, more))) =
-      inr (between, meanwhile, leaves, inl (any, searched, begun_kept held' held'' kept names (follows || any) between meanwhile more))
-  begun_kept held' held'' kept (name ∷ names) follows left held (inr (between, meanwhile, leaves, inr (broken, more))) =
-      inr (between, meanwhile, leaves, inr (broken, begun_kept held' held'' kept names follows between meanwhile more))
-
--- standard input is the file of its name
-pub input_begun : (p : Patterns) (job named : Job) (follows : Bool) (holds : List ℕ → Option (List ℕ)) (name : List ℕ) (left held held' : Option (List ℕ)) → is_input name ≡ true
-    → IsNamed job job.label.now follows named → BeginsFile p named left held held' → BeginsName p job follows holds name left held held'
-input_begun p job named follows holds name left held held' input is begins =
-    let shown : shown_name job.label.now name ≡ job.label.now = rw input refl in
-    let known : known_of holds name left ≡ left = rw input refl in
-    record {
-      named = named;
-      is_named = subst (λ (n : List ℕ). IsNamed job n follows named) (sym shown) is;
-      file = subst (λ (bytes : Option (List ℕ)). BeginsFile p named bytes held held') (sym known) begins;
-    }
-
--- and any other name is that of a file which is held
-pub file_begun : (p : Patterns) (job named : Job) (follows : Bool) (holds : List ℕ → Option (List ℕ)) (name : List ℕ) (left held held' : Option (List ℕ)) → is_input name ≡ false
-    → IsNamed job name follows named → BeginsFile p named (holds name) held held' → BeginsName p job follows holds name left held held'
-file_begun p job named follows holds name left held held' other is begins =
-    let shown : shown_name job.label.now name ≡ name = rw other refl in
-    let known : known_of holds name left ≡ holds name = rw other refl in
-    record {
-      named = named;
-      is_named = subst (λ (n : List ℕ). IsNamed job n follows named) (sym shown) is;
-      file = subst (λ (bytes : Option (List ℕ)). BeginsFile p named bytes held held') (sym known) begins;
-    }

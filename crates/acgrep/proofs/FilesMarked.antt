@@ -1,9 +1,10 @@
 -- What is written of files whose lines rules mark.
 use Rattle.std.proofs.Common.{◌≡◌, ◌⊎◌, inl, inr, ℕ, Bool, true, false, List, [], ◌∷◌, ◌++◌, Option, Some, None, length, take, refl, sym, ap, subst, ◌∙◌, append-nil, arith}
-use Rattle.std.specs.Prelude.{◌≢◌, ◌==◌, ◌&&◌, ◌||◌, nat_lt, IfSome, Ok, Err, Result, if◌then◌else◌}
+use Rattle.std.specs.Prelude.{◌≢◌, ◌==◌, ◌&&◌, ◌||◌, nat_lt, Ok, Err, Result, if◌then◌else◌}
 use Rattle.std.specs.Io.{StartsWith}
 use Rattle.std.specs.Io.KnownBytes.{Appends, Consumes, IsAtEnd, Keeps}
 use Rattle.std.proofs.KnownBytes.{Appends-trans, Consumes-whole}
+use Rattle.std.proofs.Math.Bool.{and-false, and-true}
 use Rattle.aho_core.specs.Occurrence.{Occurrence}
 use Rattle.aho_devices.specs.Counts.{counted}
 use Rattle.aho_automaton.specs.declared.automaton.Automaton.{Ghosts as Automata}
@@ -18,20 +19,22 @@ use Rattle.secret_rules.specs.declared.error.LineError.{LineError}
 use Rattle.secret_rules.specs.declared.line_cover.LineCover.{LineCover}
 use Rattle.secret_rules.specs.declared.rule.Rule.{Rule}
 use Rattle.tool_parts.specs.Names.{is_input}
-use Rattle.acgrep.specs.Files.{BeginsTotal, EndsFile, IfBroken, IfSearched, IsNamed, known_of, shown_name, total_if}
+use Rattle.acgrep.specs.Files.{BeginsTotal, EndsFile, IsNamed, known_of, shown_name, total_if}
 use Rattle.acgrep.specs.Marked.{FileAsked, marked_shown, marked_line, marked_lines, pass_behind}
 use Rattle.acgrep.specs.MarkedFiles.{AreFirstGiven, BeginsWalk, BeginsInput, BeginsMarks, ComesInput, ComesMarked, ComesName, HasFirst, HasToldAll, MarksBy, MarksFile, MarksInput, MarksText, TellsAll, WalksGiven, WalksLines, file_asked, file_marked, file_selected, pass_from, seen_lines}
 use Rattle.acgrep.specs.Written.{needs_one}
 use Rattle.acgrep.specs.declared.files.Outcome.{Outcome}
-use Rattle.acgrep.specs.declared.files.Outcome.TheVariants.{Searched, Unread, Stopped}
+use Rattle.acgrep.specs.declared.files.Outcome.TheVariants.{Unread}
 use Rattle.acgrep.specs.declared.marked.Pass.{Pass}
 use Rattle.acgrep.specs.declared.options.Shown.{Shown}
 use Rattle.acgrep.specs.declared.options.Shown.TheVariants.{Lines, Matches, Objects, Count, Names, Lacking, Nothing}
 use Rattle.acgrep.specs.declared.print.Place.{Place}
 use Rattle.acgrep.specs.declared.print.Style.{Style}
 use Rattle.acgrep.specs.declared.select.Job.{Job}
-use Rattle.acgrep.proofs.FileTellings.{if_searched}
-use Rattle.acgrep.proofs.FilesBegun.{if_broken, total_none}
+use Rattle.acgrep.proofs.InTurn.{if_broken, if_searched}
+use Rattle.acgrep.proofs.FilesBegun.{of_kept, total_none}
+use Rattle.acgrep.specs.InTurn.{IfBroken, IfSearched}
+use Rattle.acgrep.proofs.NamesSearched.{at_file, at_input}
 use Rattle.acgrep.proofs.Streams.{keeps_nil}
 
 -- a stream that has seen no end before is at its end where it sees one
@@ -174,12 +177,6 @@ still_marks G old new covering can same is = record {
       ∙ ap (λ m. covering_by (words_of new) (rules_of new) m covering.patterns) (sym same.most);
 }
 
--- what is so whether a file was searched or not
-pub broken_of : {P : Type 0} (outcome : Outcome) → P → IfBroken outcome P
-broken_of (Searched any) is = tt
-broken_of Unread is = is
-broken_of Stopped is = is
-
 -- nothing is written of a file that is not read
 pub marks_none : (job : Job) (covering : Covering) (known held held' : Option (List ℕ)) → Keeps held held' → BeginsMarks job covering known held held'
 marks_none job covering known held held' kept = record {
@@ -204,15 +201,10 @@ has_known covering None left lines runs kept has = record { text = has.text; of 
 has_known covering (Some all) None lines runs kept has = absurd kept
 has_known covering (Some all) (Some rest) lines runs kept has = record { text = has.text; of = has.of ∙ kept; first = has.first; are = has.are }
 
-text_known : (known left : Option (List ℕ)) (text : List ℕ) → Keeps known left → IfSome left (λ bytes. text ≡ bytes) → IfSome known (λ bytes. text ≡ bytes)
-text_known None left text kept of = tt
-text_known (Some all) None text kept of = absurd kept
-text_known (Some all) (Some rest) text kept of = of ∙ kept
-
 file_known : (job : Job) (covering : Covering) (known left held held' : Option (List ℕ)) → Keeps known left → (any : Bool) → MarksFile job covering left held held' any → MarksFile job covering known held held' any
 file_known job covering known left held held' kept any (inl whole) = inl (record {
   text = whole.text;
-  of = text_known known left whole.text kept whole.of;
+  of = of_kept known left whole.text kept whole.of;
   runs = whole.runs;
   are = whole.are;
   any_is = whole.any_is;
@@ -265,49 +257,37 @@ pub input_first : (job : Job) (covering : Covering) (again : Bool) (known held h
 input_first job covering true known held held' outcome is comes = absurd (cc)
 input_first job covering false known held held' outcome is comes = record { searched = comes.searched; begun = comes.begun }
 
-and_true : (a : Bool) → (a && true) ≡ a
-and_true true = refl
-and_true false = refl
-
-and_false : (a : Bool) → (a && false) ≡ false
-and_false true = refl
-and_false false = refl
-
 -- what comes of the file of a name: of standard input, or of another
-pub name_input : (job named : Job) (covering : Covering) (holds : List ℕ → Option (List ℕ)) (left : Option (List ℕ)) (read : Bool) (name : List ℕ) (held held' : Option (List ℕ)) (outcome : Outcome) → is_input name ≡ true
-    → IsNamed job job.label.now false named → ComesInput named covering read left held held' outcome → ComesName job covering holds left read name held held' outcome
-name_input job named covering holds left read name held held' outcome is is_named comes =
-    let again : (read && is_input name) ≡ read = ap (λ (b : Bool). read && b) is ∙ and_true read in
-    let called : shown_name job.label.now name ≡ job.label.now = rw is refl in
-    let known : known_of holds name left ≡ left = rw is refl in
-    record {
-      searched = if_searched outcome _ _ (λ any file. record {
-        named = named;
-        is_named = subst (λ (n : List ℕ). IsNamed job n false named) (sym called) is_named;
-        file = subst (λ (b : Bool). MarksInput named covering b (known_of holds name left) held held' any) (sym again) (subst (λ (k : Option (List ℕ)). MarksInput named covering read k held held' any) (sym known) file);
-      }) comes.searched;
-      begun = if_broken outcome (λ file. record {
-        named = named;
-        is_named = subst (λ (n : List ℕ). IsNamed job n false named) (sym called) is_named;
-        file = subst (λ (b : Bool). BeginsInput named covering b (known_of holds name left) held held') (sym again) (subst (λ (k : Option (List ℕ)). BeginsInput named covering read k held held') (sym known) file);
-      }) comes.begun;
-    }
+module _ (job named : Job) (covering : Covering) (holds : List ℕ → Option (List ℕ)) (left : Option (List ℕ)) (read : Bool) (name : List ℕ) (held held' : Option (List ℕ)) (outcome : Outcome)
+    (is_named : IsNamed job (shown_name job.label.now name) false named) where
+  pub name_input : is_input name ≡ true → ComesInput named covering read left held held' outcome → ComesName job covering holds left read name held held' outcome
+  name_input is comes =
+      let again : (read && is_input name) ≡ read = ap (λ (b : Bool). read && b) is ∙ and-true read in
+      record {
+        searched = if_searched outcome _ _ (λ any file. record {
+          named = named;
+          is_named = is_named;
+          file = subst (λ (b : Bool). MarksInput named covering b (known_of holds name left) held held' any) (sym again) (at_input (λ k. MarksInput named covering read k held held' any) holds name left is file);
+        }) comes.searched;
+        begun = if_broken outcome (λ file. record {
+          named = named;
+          is_named = is_named;
+          file = subst (λ (b : Bool). BeginsInput named covering b (known_of holds name left) held held') (sym again) (at_input (λ k. BeginsInput named covering read k held held') holds name left is file);
+        }) comes.begun;
+      }
 
-pub name_file : (job named : Job) (covering : Covering) (holds : List ℕ → Option (List ℕ)) (left : Option (List ℕ)) (read : Bool) (name : List ℕ) (held held' : Option (List ℕ)) (outcome : Outcome) → is_input name ≡ false
-    → IsNamed job name false named → ComesMarked named covering (holds name) held held' outcome → ComesName job covering holds left read name held held' outcome
-name_file job named covering holds left read name held held' outcome is is_named comes =
-    let again : (read && is_input name) ≡ false = ap (λ (b : Bool). read && b) is ∙ and_false read in
-    let called : shown_name job.label.now name ≡ name = rw is refl in
-    let known : known_of holds name left ≡ holds name = rw is refl in
-    record {
-      searched = if_searched outcome _ _ (λ any file. record {
-        named = named;
-        is_named = subst (λ (n : List ℕ). IsNamed job n false named) (sym called) is_named;
-        file = subst (λ (b : Bool). MarksInput named covering b (known_of holds name left) held held' any) (sym again) (subst (λ (k : Option (List ℕ)). MarksFile named covering k held held' any) (sym known) file);
-      }) comes.searched;
-      begun = if_broken outcome (λ file. record {
-        named = named;
-        is_named = subst (λ (n : List ℕ). IsNamed job n false named) (sym called) is_named;
-        file = subst (λ (b : Bool). BeginsInput named covering b (known_of holds name left) held held') (sym again) (subst (λ (k : Option (List ℕ)). BeginsMarks named covering k held held') (sym known) file);
-      }) comes.begun;
-    }
+  pub name_file : is_input name ≡ false → ComesMarked named covering (holds name) held held' outcome → ComesName job covering holds left read name held held' outcome
+  name_file is comes =
+      let again : (read && is_input name) ≡ false = ap (λ (b : Bool). read && b) is ∙ and-false read in
+      record {
+        searched = if_searched outcome _ _ (λ any file. record {
+          named = named;
+          is_named = is_named;
+          file = subst (λ (b : Bool). MarksInput named covering b (known_of holds name left) held held' any) (sym again) (at_file (λ k. MarksFile named covering k held held' any) holds name left is file);
+        }) comes.searched;
+        begun = if_broken outcome (λ file. record {
+          named = named;
+          is_named = is_named;
+          file = subst (λ (b : Bool). BeginsInput named covering b (known_of holds name left) held held') (sym again) (at_file (λ k. BeginsMarks named covering k held held') holds name left is file);
+        }) comes.begun;
+      }

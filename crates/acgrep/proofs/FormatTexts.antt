@@ -9,6 +9,7 @@ use Rattle.acgrep.specs.Formats.{format_text, front_at, front_by, piece_text, pi
 use Rattle.acgrep.specs.declared.format.Front.{Front}
 use Rattle.acgrep.specs.declared.format.Piece.{Piece}
 use Rattle.acgrep.specs.declared.format.Piece.TheVariants.{Byte, Path, LineNumber, Start, End, PatternNumber, Found}
+use Rattle.acgrep.proofs.LineLists.{drop_zero}
 
 -- a piece stands at the front of a format, and takes as many bytes
 abbrev IsTaken : List ℕ → Front → Type 0
@@ -39,12 +40,8 @@ plain_taken byte rest front is =
           let some : front_at (Byte byte) 1 ≡ Some front = subst (λ (b : Bool). (if b then None else front_at (Byte byte) 1) ≡ Some front) plain is in
           let same : of (Byte byte) 1 ≡ front = cc in
           let text : piece_text (Byte byte) ≡ byte ∷ [] = rw plain refl in
-          subst (λ (f : Front). IsTaken (byte ∷ rest) f) same (ap (λ (l : List ℕ). l ++ drop 1 (byte ∷ rest)) text ∙ ap (λ (l : List ℕ). byte ∷ l) (drop_none rest), omega arith)
+          subst (λ (f : Front). IsTaken (byte ∷ rest) f) same (ap (λ (l : List ℕ). l ++ drop 1 (byte ∷ rest)) text ∙ ap (λ (l : List ℕ). byte ∷ l) (drop_zero rest), omega arith)
     ]
-  where
-    drop_none : (l : List ℕ) → drop 0 l ≡ l
-    drop_none [] = refl
-    drop_none (first ∷ others) = refl
 
 front_taken : (byte : ℕ) (rest : List ℕ) (front : Front) → front_by (byte ∷ rest) ≡ Some front → IsTaken (byte ∷ rest) front
 front_taken byte rest front is =

@@ -1,10 +1,9 @@
 -- A format, one piece after another; and base64, one group after another.
-use Rattle.std.proofs.Common.{◌≡◌, ℕ, zero, suc, ◌+◌, ◌<◌, ◌-◌, ◌==◌, false, List, [], ◌∷◌, ◌++◌, Option, Some, None, ◌∙◌, ap, refl, sym, subst, inl, inr, drop, take, length, slice_index, arith, append_assoc, append-nil}
+use Rattle.std.proofs.Common.{◌≡◌, ℕ, zero, suc, ◌+◌, ◌<◌, ◌-◌, ◌==◌, false, List, [], ◌∷◌, ◌++◌, Option, Some, None, ◌∙◌, ap, refl, sym, subst, inl, inr, drop, take, length, arith, append_assoc, append-nil}
 use Rattle.std.specs.Prelude.{option_map}
 use Rattle.std.proofs.lemmas.Bool.{cases_Bool}
 use Rattle.std.proofs.lemmas.List.{length-drop, take_all}
 use Rattle.memchr.specs.Find.{Nowhere, Passes, is_byte}
-use Rattle.acgrep.specs.Base64.{base64_of, four_of}
 use Rattle.acgrep.specs.Formats.{front_by, pieces_behind, format_pieces, unknown_behind, unknown_in, up_to_brace}
 use Rattle.acgrep.specs.declared.format.Front.{Front}
 use Rattle.acgrep.specs.declared.format.Piece.{Piece}
@@ -42,15 +41,6 @@ pub unknown_step : (format : List ℕ) (front : Front) → 0 < length format →
 unknown_step [] front some long is = absurd (omega (arith, some))
 unknown_step (byte ∷ rest) front some long is =
     rw is (unknown_skip (front.len - 1) rest ∙ ap unknown_in (sym (drop_piece front.len byte rest long)))
-
--- where there is no first piece the format is none, and that is told
-pub pieces_none : (format : List ℕ) → 0 < length format → front_by format ≡ None → format_pieces format ≡ None
-pieces_none [] some is = absurd (omega (arith, some))
-pieces_none (byte ∷ rest) some is = rw is refl
-
-pub unknown_none : (format : List ℕ) → 0 < length format → front_by format ≡ None → unknown_in format ≡ up_to_brace format
-unknown_none [] some is = absurd (omega (arith, some))
-unknown_none (byte ∷ rest) some is = rw is refl
 
 -- a piece more
 pub pieces_more : (items : List Piece) (piece : Piece) (others : Option (List Piece))
@@ -95,12 +85,3 @@ up_to_first (suc end) (byte ∷ rest) within none is =
     let same : take (suc (end + 1)) (byte ∷ rest) ≡ up_to_brace (byte ∷ rest) =
     rw other (ap (λ (l : List ℕ). byte ∷ l) (up_to_first end rest (omega (arith, within)) (none_behind byte rest end none) is)) in
     subst (λ (n : ℕ). take n (byte ∷ rest) ≡ up_to_brace (byte ∷ rest)) (sym longer) same
-
--- three bytes, and what is behind them
-pub base64_step : (bytes : List ℕ) → 2 < length bytes
-    → base64_of bytes ≡ four_of (slice_index bytes 0) (slice_index bytes 1) (slice_index bytes 2) ++ base64_of (drop 3 bytes)
-base64_step [] some = absurd (omega (arith, some))
-base64_step (a ∷ []) some = absurd (omega (arith, some))
-base64_step (a ∷ b ∷ []) some = absurd (omega (arith, some))
-base64_step (a ∷ b ∷ c ∷ []) some = refl
-base64_step (a ∷ b ∷ c ∷ d ∷ rest) some = refl

@@ -2,8 +2,9 @@
 use Rattle.std.proofs.Common.{◌≡◌, inl, inr, ◌⊎◌, ℕ, zero, suc, ◌+◌, ◌-◌, ◌≤◌, Bool, true, false, List, [], ◌∷◌, length, drop, take, take_all, refl, sym, ◌∙◌, ap, subst, arith}
 use Rattle.std.specs.Prelude.{◌||◌}
 use Rattle.std.proofs.Math.Seq.{drop-nil}
-use Rattle.std.proofs.lemmas.Bool.{and_parts, ne_eqb}
-use Rattle.acgrep.specs.Globs.{IsCut, any_suffix, closes_at, closing, fits, has_behind, item_len, one_fits, part_len, stands_for}
+use Rattle.std.proofs.lemmas.Bool.{and_parts, ne_eqb, or_right}
+use Rattle.acgrep.specs.Globs.{IsCut, any_suffix, closes_at, closing, fits, item_len, one_fits, part_len, stands_for}
+use Rattle.acgrep.proofs.LineLists.{drop_zero}
 
 -- what belongs to a part before is passed
 pub fits_skip : (k : ℕ) (glob name : List ℕ) → fits k glob name ≡ fits 0 (drop k glob) name
@@ -11,12 +12,6 @@ fits_skip zero [] name = refl
 fits_skip zero (first ∷ behind) name = refl
 fits_skip (suc k) [] name = refl
 fits_skip (suc k) (first ∷ behind) name = fits_skip k behind name
-
-pub has_skip : (k : ℕ) (items : List ℕ) (byte : ℕ) → has_behind k items byte ≡ has_behind 0 (drop k items) byte
-has_skip zero [] byte = refl
-has_skip zero (first ∷ behind) byte = refl
-has_skip (suc k) [] byte = refl
-has_skip (suc k) (first ∷ behind) byte = has_skip k behind byte
 
 pub closes_skip : (k passed : ℕ) (items : List ℕ) → closes_at passed k items ≡ closes_at (passed + k) 0 (drop k items)
 closes_skip zero passed [] = refl
@@ -31,10 +26,6 @@ pub any_here : (holds : List ℕ → Bool) (word : List ℕ) → holds word ≡ 
 any_here holds [] is = is
 any_here holds (byte ∷ rest) is = rw is refl
 
-or_later : (a b : Bool) → b ≡ true → (a || b) ≡ true
-or_later true b is = refl
-or_later false b is = is
-
 or_either : (a b : Bool) → (a || b) ≡ true → (a ≡ true) ⊎ (b ≡ true)
 or_either true b is = inl refl
 or_either false b is = inr is
@@ -43,7 +34,7 @@ pub any_later : (holds : List ℕ → Bool) (k : ℕ) (word : List ℕ) → any_
 any_later holds zero [] is = is
 any_later holds zero (byte ∷ rest) is = is
 any_later holds (suc k) [] is = is
-any_later holds (suc k) (byte ∷ rest) is = or_later (holds (byte ∷ rest)) (any_suffix holds rest) (any_later holds k rest is)
+any_later holds (suc k) (byte ∷ rest) is = or_right (holds (byte ∷ rest)) (any_suffix holds rest) (any_later holds k rest is)
 
 pub any_where : (holds : List ℕ → Bool) (word : List ℕ) → any_suffix holds word ≡ true → (k : ℕ) × (holds (drop k word) ≡ true)
 any_where holds [] is = (0, is)
@@ -57,18 +48,14 @@ both_ways true b one other = sym (one refl)
 both_ways false true one other = other refl
 both_ways false false one other = refl
 
-drop_none : (word : List ℕ) → drop 0 word ≡ word
-drop_none [] = refl
-drop_none (byte ∷ rest) = refl
-
 drop_more : (i j : ℕ) (word : List ℕ) → drop (suc i) (drop j word) ≡ drop i (drop (suc j) word)
 drop_more i zero [] = sym (drop-nil i)
 drop_more i (suc j) [] = sym (drop-nil i)
-drop_more i zero (byte ∷ rest) = ap (drop i) (sym (drop_none rest))
+drop_more i zero (byte ∷ rest) = ap (drop i) (sym (drop_zero rest))
 drop_more i (suc j) (byte ∷ rest) = drop_more i j rest
 
 drop_drop : (i j : ℕ) (word : List ℕ) → drop i (drop j word) ≡ drop j (drop i word)
-drop_drop zero j word = drop_none (drop j word) ∙ ap (drop j) (sym (drop_none word))
+drop_drop zero j word = drop_zero (drop j word) ∙ ap (drop j) (sym (drop_zero word))
 drop_drop (suc i) j [] = ap (drop (suc i)) (drop-nil j) ∙ sym (drop-nil j)
 drop_drop (suc i) j (byte ∷ rest) = drop_more i j (byte ∷ rest) ∙ drop_drop i j rest
 
@@ -95,32 +82,22 @@ pub record IsRead (glob name rest left : List ℕ) : Type 0 where
   pub back : fits 0 rest left ≡ true → fits 0 glob name ≡ true
   pub on : (word : List ℕ) → fits 0 glob word ≡ true → fits 0 rest (drop count word) ≡ true
 
-pub read_none : (glob name : List ℕ) → IsRead glob name glob name
-read_none glob name = record {
-  count = 0;
-  cut = sym (drop_none name);
-  shorter = omega arith;
-  within = omega arith;
-  back = λ is. is;
-  on = λ word is. ap (fits 0 glob) (drop_none word) ∙ is;
-}
-
 one_behind : (stands : ℕ → Bool) (others : List ℕ → Bool) (word : List ℕ) → one_fits stands others word ≡ true → others (drop 1 word) ≡ true
 one_behind stands others [] is = absurd (cc)
-one_behind stands others (byte ∷ rest) is = ap others (drop_none rest) ∙ (and_parts (stands byte) (others rest) is).1
+one_behind stands others (byte ∷ rest) is = ap others (drop_zero rest) ∙ (and_parts (stands byte) (others rest) is).1
 
 -- a part more
 pub read_more : (glob name : List ℕ) (first : ℕ) (behind : List ℕ) (byte : ℕ) (other : List ℕ) → (first ≡ 42 → ⊥) → stands_for first behind byte ≡ true
     → IsRead glob name (first ∷ behind) (byte ∷ other) → IsRead glob name (drop (part_len first behind) behind) other
 read_more glob name first behind byte other unlike stands read = let plain = ne_eqb first 42 unlike in record {
   count = suc read.count;
-  cut = sym (drop_none other) ∙ ap (drop 1) read.cut ∙ drop_more 0 read.count name ∙ drop_none (drop (suc read.count) name);
+  cut = sym (drop_zero other) ∙ ap (drop 1) read.cut ∙ drop_more 0 read.count name ∙ drop_zero (drop (suc read.count) name);
   shorter = omega (arith, read.shorter, less (part_len first behind) behind);
   within = omega (arith, read.within);
   back = λ is. read.back (rw plain (rw stands (fits_skip (part_len first behind) behind other ∙ is)));
   on = λ word is.
       let here : one_fits (stands_for first behind) (fits (part_len first behind) behind) (drop read.count word) ≡ true = rw plain at (read.on word is) in
-      ap (fits 0 (drop (part_len first behind) behind)) (sym (drop_more 0 read.count word ∙ drop_none (drop (suc read.count) word)))
+      ap (fits 0 (drop (part_len first behind) behind)) (sym (drop_more 0 read.count word ∙ drop_zero (drop (suc read.count) word)))
       ∙ sym (fits_skip (part_len first behind) behind (drop 1 (drop read.count word))) ∙ one_behind (stands_for first behind) (fits (part_len first behind) behind) (drop read.count word) here;
 }
   where
@@ -129,20 +106,6 @@ read_more glob name first behind byte other unlike stands read = let plain = ne_
     less zero (x ∷ l) = omega arith
     less (suc k) [] = omega arith
     less (suc k) (x ∷ l) = omega (arith, less k l)
-
-pub read_star : (glob name behind left : List ℕ) → IsRead glob name (42 ∷ behind) left → IsCut glob name behind left
-read_star glob name behind left read = record {
-  count = read.count;
-  cut = read.cut;
-  shorter = omega (arith, read.shorter);
-  within = read.within;
-  back = read.back;
-  on = read.on;
-}
-
--- where the rest does not fit the whole does not
-pub read_not : (glob name rest left : List ℕ) → IsRead glob name rest left → fits 0 rest left ≡ false → fits 0 glob name ≡ false
-read_not glob name rest left read not = both_ways (fits 0 glob name) false (λ is. sym not ∙ ap (fits 0 rest) read.cut ∙ read.on name is) (λ is. absurd (cc))
 
 -- what stands behind so many bytes of a slice
 pub behind_slice : (k : ℕ) (bytes : List ℕ) → take (length bytes - k) (drop k bytes) ≡ drop k bytes

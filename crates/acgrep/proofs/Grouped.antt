@@ -3,6 +3,7 @@ use Rattle.std.proofs.Common.{◌≡◌, ◌⊎◌, inl, inr, ℕ, suc, zero, �
 use Rattle.std.specs.Prelude.{nat_le, nat_lt, ◌&&◌}
 use Rattle.std.proofs.Math.ListN.{get_or}
 use Rattle.std.proofs.lemmas.Bool.{cases_Bool, cases_lt, eqb-true, leb-false, leb-true, lt-leb, ltb-false, ltb-true, true≢false}
+use Rattle.std.proofs.Math.Bool.{and-false}
 use Rattle.aho_core.specs.Patterns.{Patterns}
 use Rattle.acgrep.specs.Contexts.{AreChosen, IsNearChosen, IsNotChosen, PassesBy, ShowsEach, ShowsGroup, TellsAround, TellsWritten, Walk, WalksOver, behind_passed, beside, first_in, separator_if}
 use Rattle.acgrep.specs.Written.{IsSelected, ShowsLine, after_line, after_lines, is_full, one_more}
@@ -49,10 +50,6 @@ unmarked_all [] i = refl
 unmarked_all (line ∷ rest) zero = refl
 unmarked_all (line ∷ rest) (suc i) = unmarked_all rest i
 
-none_short : (ls : List (List ℕ)) → length ls ≤ 0 → ls ≡ []
-none_short [] short = refl
-none_short (line ∷ rest) short = absurd (omega (arith, short))
-
 first_more : (place first : Place) (ls : List (List ℕ)) (line : List ℕ) → first_in place first (ls ++ (line ∷ [])) ≡ first
 first_more place first [] line = refl
 first_more place first (other ∷ rest) line = refl
@@ -68,10 +65,6 @@ no_room (suc n) some = lt-leb (suc n) 0 (omega arith)
 some_more : (n : ℕ) → (n == 0) ≡ false → 0 < n
 some_more zero some = absurd (true≢false some)
 some_more (suc n) some = omega arith
-
-and_none : (b : Bool) → (b && false) ≡ false
-and_none true = refl
-and_none false = refl
 
 -- where so many lines are due, a line is near too where it is among the first of them
 pub record AreWrittenFrom (context : Context) (due : ℕ) (chosen written : List Bool) : Type 0 where
@@ -220,7 +213,7 @@ module _ (p : Patterns) (job : Job) (context : Context) where
   tells_group [] place some apart before shown more line rest chosen written none shows tells =
       (shown, more, shows, tells, ap (λ (l : List ℕ). separator_if (context.parted && (some && apart)) job.style ++ (l ++ (shown ++ more))) none)
   tells_group (first ∷ others) place some apart before shown more line rest chosen written (one, next, is_shown, each, is) shows tells =
-      let unparted : separator_if (context.parted && (true && false)) job.style ≡ [] = ap (λ (b : Bool). separator_if b job.style) (and_none context.parted) in
+      let unparted : separator_if (context.parted && (true && false)) job.style ≡ [] = ap (λ (b : Bool). separator_if b job.style) (and-false context.parted) in
       let IH = tells_group others (after_line place first) true false next shown more line rest chosen written each shows tells in (
         one,
         next ++ (shown ++ more),
@@ -312,8 +305,8 @@ module _ (p : Patterns) (job : Job) (context : Context) where
       subst (λ (b : Bool). TellsWritten p job context next true b rest IH.chosen IH.written more) is_joined
       (subst (λ (b : Bool). TellsWritten p job context next b apart rest IH.chosen IH.written more) is_some told) in
       let unparted : separator_if (context.parted && (some && apart)) job.style ≡ [] =
-      ap (λ (b : Bool). separator_if (context.parted && (some && b)) job.style) is_joined ∙ ap (λ (b : Bool). separator_if (context.parted && b) job.style) (and_none some)
-      ∙ ap (λ (b : Bool). separator_if b job.style) (and_none context.parted) in
+      ap (λ (b : Bool). separator_if (context.parted && (some && b)) job.style) is_joined ∙ ap (λ (b : Bool). separator_if (context.parted && b) job.style) (and-false some)
+      ∙ ap (λ (b : Bool). separator_if b job.style) (and-false context.parted) in
       record {
         chosen = false ∷ IH.chosen;
         written = true ∷ IH.written;

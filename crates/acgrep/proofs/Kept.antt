@@ -1,69 +1,35 @@
 -- What was done is as it was where the output keeps its bytes.
-use Rattle.std.proofs.Common.{false, ◌≡◌, inl, inr, ℕ, Bool, List, [], ◌∷◌, Option, Some, ◌∙◌, subst, sym}
-use Rattle.std.specs.Prelude.{MatchBool}
+use Rattle.std.proofs.Common.{false, ◌≡◌, inl, inr, ℕ, List, Option, Some, ◌∙◌, sym}
 use Rattle.std.specs.Io.KnownBytes.{Keeps}
 use Rattle.std.proofs.KnownBytes.{Keeps-trans}
-use Rattle.std.proofs.lemmas.Bool.{cases_Bool}
 use Rattle.aho_core.specs.Patterns.{Patterns}
-use Rattle.std.specs.Prelude.{◌||◌}
-use Rattle.acgrep.specs.Arguments.{Origin, Said, fit_by}
-use Rattle.acgrep.specs.Files.{AreFilesSearched, AreSearchedOr, is_enough}
+use Rattle.acgrep.specs.Arguments.{Origin, Said}
+use Rattle.acgrep.specs.Files.{search_work}
 use Rattle.acgrep.specs.Folders.{Known}
-use Rattle.acgrep.specs.Runs.{AreSought, BeginsFor, BeginsOrKeeps, BeginsSearch, SelectsNoLine, SearchesFor, SearchesReached, SearchesRuled, inverts, kind_sought, knows_none, names_by, ruled, sources_by, words_sought}
+use Rattle.acgrep.specs.Runs.{AreSought, BeginsFor, BeginsOrKeeps, BeginsSearch, SearchesFor, SearchesRuled, kind_sought, knows_none, names_by, ruled, sources_by, words_sought}
 use Rattle.acgrep.specs.Searchers.{patterns_asked}
 use Rattle.acgrep.specs.declared.colors.Screen.{Screen}
-use Rattle.acgrep.specs.declared.select.Job.{Job}
-use Rattle.acgrep.proofs.FilesBegun.{begun_kept}
+use Rattle.acgrep.proofs.Bools.{either_way}
+use Rattle.acgrep.proofs.InTurn.{begun_kept, or_kept}
 use Rattle.acgrep.proofs.OrCounted.{begins-counts-kept, counts-kept}
 
 module _ (held' held'' : Option (List ℕ)) (kept : Keeps held' held'') where
-  searched_kept : (p : Patterns) (job : Job) (holds : List ℕ → Option (List ℕ)) (names : List (List ℕ)) (follows : Bool) (left left' held : Option (List ℕ)) (any : Bool)
-      → AreFilesSearched p job follows holds names left left' held held' any → AreFilesSearched p job follows holds names left left' held held'' any
-  searched_kept p job holds [] follows left left' held any are = (are.0, Keeps-trans held held' held'' are.1 kept, are.2)
-  searched_kept p job holds (name ∷ names) follows left left' held any (between, meanwhile, first, one, more) = (
-    between,
-    meanwhile,
-    first,
-    one,
-    elim (cases_Bool (is_enough job.shown first)) [
-      | inl enough ↦
-          let (unread, same, is) = rw enough at more in
-          rw enough (unread, Keeps-trans meanwhile held' held'' same kept, is)
-      | inr not ↦
-          let (others, are, is) = rw not at more in
-          rw not (others, searched_kept p job holds names (follows || first) between left' meanwhile others are, is)
-    ],
-  )
-
-  or_kept : (p : Patterns) (job : Job) (holds : List ℕ → Option (List ℕ)) (names : List (List ℕ)) (left left' held : Option (List ℕ)) (status : ℕ)
-      → AreSearchedOr p job holds names left left' held held' status → AreSearchedOr p job holds names left left' held held'' status
-  or_kept p job holds names left left' held status (inl (any, are, is)) = inl (any, searched_kept p job holds names false left left' held any are, is)
-  or_kept p job holds names left left' held status (inr one) = inr one
-
   -- what was searched for
   sought_kept : (known : Known) (screen : Screen) (given : Said) (sought names : List (List ℕ)) (left left' held : Option (List ℕ)) (status : ℕ)
       → AreSought known screen given sought names left left' held held' status → AreSought known screen given sought names left left' held held'' status
   sought_kept known screen given sought names left left' held status done =
-      let p = patterns_asked (kind_sought given.flags) given.flags.ignore_case sought in
-      let Passed = SelectsNoLine p (fit_by given.flags) (inverts given.flags) left left' held held' status in
-      let Found = SearchesReached known screen given p names left left' held held' status in
-      elim (cases_Bool (knows_none given.flags sought)) [
-        | inl none ↦
-            let found : Passed = subst (λ (b : Bool). MatchBool b Passed Found) none done in
-            rw none (record { passed = found.passed; unread = found.unread; unwritten = Keeps-trans held held' held'' found.unwritten kept; none = found.none })
-        | inr some ↦
-            let found : Found = subst (λ (b : Bool). MatchBool b Passed Found) some done in
-            rw some (record {
-              files = found.files;
-              unread = found.unread;
-              reached = found.reached;
-              job = found.job;
-              is_job = found.is_job;
-              found = found.found;
-              searched = or_kept p found.job known.holds found.files left left' held found.found found.searched;
-              told = found.told;
-            })
-      ]
+      either_way (knows_none given.flags sought)
+      (λ none. record { passed = none.passed; unread = none.unread; unwritten = Keeps-trans held held' held'' none.unwritten kept; none = none.none })
+      (λ found. record {
+        files = found.files;
+        unread = found.unread;
+        reached = found.reached;
+        job = found.job;
+        is_job = found.is_job;
+        found = found.found;
+        searched = or_kept (search_work (patterns_asked (kind_sought given.flags) given.flags.ignore_case sought) found.job known.holds) found.job.shown held' held'' kept found.files left left' held found.found found.searched;
+        told = found.told;
+      }) done
 
   -- what was done of a search
   pub searches_kept : (known : Known) (screen : Screen) (given : Said) (sources : List Origin) (names : List (List ℕ)) (left left' held : Option (List ℕ)) (status : ℕ)
@@ -88,7 +54,7 @@ module _ (held' held'' : Option (List ℕ)) (kept : Keeps held' held'') where
     reached = begun.reached;
     job = begun.job;
     is_job = begun.is_job;
-    begun = begun_kept p begun.job known.holds held' held'' kept begun.files false left held begun.begun;
+    begun = begun_kept (search_work p begun.job known.holds) begun.job.shown held' held'' kept begun.files false left held begun.begun;
   })
 
   -- what was begun

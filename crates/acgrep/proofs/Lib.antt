@@ -4,9 +4,10 @@ pub mod Beginnings
 pub mod Begun
 pub mod BinaryLines
 pub mod BinaryTold
+pub mod Bools
 pub mod Choosing
-pub mod Coloring
 pub mod ColorParts
+pub mod Coloring
 pub mod Digits
 pub mod FileTellings
 pub mod FilesBegun
@@ -20,6 +21,7 @@ pub mod Fronts
 pub mod Globbed
 pub mod Grouped
 pub mod HeldLines
+pub mod InTurn
 pub mod Kept
 pub mod LineLists
 pub mod LongNames
@@ -46,10 +48,10 @@ pub mod StreamsBegun
 pub mod Tallied
 pub mod Tellings
 pub mod TextAlone
+mod Told
 pub mod Unfitting
 pub mod Unselected
 pub mod Walked
 pub mod Walking
 pub mod Whole
 pub mod WordLists
-mod Told

@@ -1,42 +1,16 @@
 -- A call by rules, where the output keeps what it holds.
-use Rattle.std.proofs.Common.{inl, inr, ℕ, Bool, true, false, List, [], ◌∷◌, Option}
-use Rattle.std.specs.Prelude.{◌||◌, MatchBool}
+use Rattle.std.proofs.Common.{inl, inr, ℕ, false, List, Option}
 use Rattle.std.specs.Io.KnownBytes.{Keeps}
 use Rattle.std.proofs.KnownBytes.{Keeps-trans}
 use Rattle.secret_rules.specs.Covering.{Covering}
-use Rattle.tool_parts.specs.Names.{is_input}
 use Rattle.acgrep.specs.Arguments.{Said}
-use Rattle.acgrep.specs.Files.{is_enough}
 use Rattle.acgrep.specs.Folders.{Known}
-use Rattle.acgrep.specs.MarkedFiles.{AreFilesMarked, AreMarkedOr, AreMarksBegun}
+use Rattle.acgrep.specs.MarkedFiles.{mark_work}
+use Rattle.acgrep.proofs.InTurn.{begun_kept, or_kept}
 use Rattle.acgrep.specs.RunsByRules.{BeginsByRules, MarksAsked, MayBeginAsked, MayReachMarked, ReachesMarked, SearchesByRules}
 use Rattle.acgrep.specs.declared.colors.Screen.{Screen}
-use Rattle.acgrep.specs.declared.select.Job.{Job}
-
-either_way : {A B C D : Type 0} (b : Bool) → (A → C) → (B → D) → MatchBool b A B → MatchBool b C D
-either_way true one other is = one is
-either_way false one other is = other is
 
 module _ (held' held'' : Option (List ℕ)) (kept : Keeps held' held'') where
-  module _ (job : Job) (covering : Covering) (holds : List ℕ → Option (List ℕ)) (left : Option (List ℕ)) where
-    files_kept : (names : List (List ℕ)) (read : Bool) (held : Option (List ℕ)) (any : Bool) → AreFilesMarked job covering holds left read names held held' any → AreFilesMarked job covering holds left read names held held'' any
-    files_kept [] read held any (keeps, none) = (Keeps-trans held held' held'' keeps kept, none)
-    files_kept (name ∷ names) read held any (meanwhile, first, marks, rest) = (
-      meanwhile,
-      first,
-      marks,
-      either_way (is_enough job.shown first) (λ is. (Keeps-trans meanwhile held' held'' is.0 kept, is.1)) (λ is. (is.0, files_kept names (read || is_input name) meanwhile is.0 is.1, is.2)) rest,
-    )
-
-    marked_kept : (names : List (List ℕ)) (held : Option (List ℕ)) (status : ℕ) → AreMarkedOr job covering holds left names held held' status → AreMarkedOr job covering holds left names held held'' status
-    marked_kept names held status (inl (any, are, told)) = inl (any, files_kept names false held any are, told)
-    marked_kept names held status (inr found) = inr found
-
-    begun_kept : (names : List (List ℕ)) (read : Bool) (held : Option (List ℕ)) → AreMarksBegun job covering holds left read names held held' → AreMarksBegun job covering holds left read names held held''
-    begun_kept [] read held keeps = Keeps-trans held held' held'' keeps kept
-    begun_kept (name ∷ names) read held (inl keeps) = inl (Keeps-trans held held' held'' keeps kept)
-    begun_kept (name ∷ names) read held (inr (meanwhile, one, more)) = inr (meanwhile, one, begun_kept names (read || is_input name) meanwhile more)
-
   module _ (known : Known) (screen : Screen) (given : Said) where
     reached_kept : (covering : Covering) (names : List (List ℕ)) (left held : Option (List ℕ)) (status : ℕ) → ReachesMarked known screen given covering names left held held' status → ReachesMarked known screen given covering names left held held'' status
     reached_kept covering names left held status done = record {
@@ -46,7 +20,7 @@ module _ (held' held'' : Option (List ℕ)) (kept : Keeps held' held'') where
       job = done.job;
       is_job = done.is_job;
       found = done.found;
-      searched = marked_kept done.job covering known.holds left done.files held done.found done.searched;
+      searched = (done.searched.0, or_kept (mark_work done.job covering known.holds left) done.job.shown held' held'' kept done.files false done.searched.0 held done.found done.searched.1);
       told = done.told;
     }
 
@@ -58,7 +32,7 @@ module _ (held' held'' : Option (List ℕ)) (kept : Keeps held' held'') where
       reached = begun.reached;
       job = begun.job;
       is_job = begun.is_job;
-      begun = begun_kept begun.job covering known.holds left begun.files false held begun.begun;
+      begun = begun_kept (mark_work begun.job covering known.holds left) begun.job.shown held' held'' kept begun.files false false held begun.begun;
     })
 
     asked_kept : (left held : Option (List ℕ)) (status : ℕ) → MarksAsked known screen given left held held' status → MarksAsked known screen given left held held'' status

@@ -1,28 +1,36 @@
 -- What may be told of the files that operands name.
-use Rattle.std.proofs.Common.{◌≡◌, inl, inr, ℕ, ◌<◌, ◌≤◌, Bool, true, false, List, [], ◌∷◌, ◌++◌, length, ap, refl, subst, sym, ◌∙◌, arith}
-use Rattle.std.specs.Prelude.{◌&&◌, ◌||◌, ◌==◌, nat_lt, if◌then◌else◌}
-use Rattle.std.specs.Borrow.{Bor}
-use Rattle.std.proofs.lemmas.List.{length-map}
+use Rattle.std.proofs.Common.{◌≡◌, inl, inr, ℕ, ◌<◌, ◌≤◌, Bool, true, false, List, [], ◌∷◌, ◌++◌, length, ap, refl, subst, sym, arith}
+use Rattle.std.specs.Prelude.{◌&&◌, ◌==◌, if◌then◌else◌}
 use Rattle.std.proofs.lemmas.Bool.{and_parts, cases_Bool}
 use Rattle.aho_devices.specs.declared.device.Sink.{Ghosts as SinkGhosts}
-use Rattle.tool_parts.specs.Names.{IsOneOf, name_bytes, or_input}
+use Rattle.tool_parts.specs.Names.{IsOneOf, or_input}
 use Rattle.tool_parts.specs.Telling.{Tells, TellsSome}
 use Rattle.tool_parts.specs.declared.errors.Errors.{Errors}
 use Rattle.tool_parts.proofs.Lines.{some-tells, some-then, some-weaker, then-some, tells-none, tells-then, tells-weaker}
-use Rattle.acgrep.specs.Arguments.{Origin, Said, shown_by, ways_by}
-use Rattle.acgrep.specs.Folders.{AreChosen, Tree}
+use Rattle.acgrep.specs.Arguments.{Origin, Said, shown_by}
+use Rattle.acgrep.specs.Folders.{Tree}
 use Rattle.acgrep.specs.Reached.{TellsMissed}
-use Rattle.acgrep.specs.Runs.{AreReached, are_several, asks_to_look, chooses, status_reached}
-use Rattle.acgrep.specs.Told.{IsMessage, MaySay, TellsOfFile, TellsOfFiles, TellsStatus, files_told, names_told, shown_names, source_names}
+use Rattle.acgrep.specs.Runs.{AreReached, status_reached}
+use Rattle.acgrep.specs.Told.{IsMessage, MaySay, TellsOfFile, TellsStatus, files_told, names_told, shown_names, source_names}
 use Rattle.acgrep.specs.declared.options.Flags.{Flags}
-use Rattle.acgrep.specs.declared.options.Shown.{Shown}
 use Rattle.acgrep.specs.declared.options.Shown.TheVariants.{Nothing}
-use Rattle.acgrep.proofs.Told.{AreWithin, among-first, among-later, message-more, status-weaker, within-cut}
+use Rattle.acgrep.proofs.Told.{AreWithin, among-first, among-later, message-more, status-some, status-weaker, within-cut}
 
 -- a message of sources of patterns may be told of a search
-pub may-sources : (tree : Tree) (given : Said) (sources : List Origin) (names : List (List ℕ)) (line : List ℕ) → IsMessage (source_names sources) line → MaySay tree given sources names line
+may-sources : (tree : Tree) (given : Said) (sources : List Origin) (names : List (List ℕ)) (line : List ℕ) → IsMessage (source_names sources) line → MaySay tree given sources names line
 may-sources tree given sources names line is =
     inl (inl (message-more (source_names sources) (names_told given.flags.no_messages given.label sources names) (λ name is. among-first name (source_names sources) (files_told given.flags.no_messages given.label (or_input names)) is) line is))
+
+-- where one is told, and nothing before, a search failed
+pub some-sources : {E : Type 0} (K : SinkGhosts E) (tree : Tree) (given : Said) (sources : List Origin) (names : List (List ℕ)) (old new : Errors E) → TellsSome K (IsMessage (source_names sources)) old new
+    → TellsSome K (MaySay tree given sources names) old new
+some-sources K tree given sources names old new told = some-weaker K (IsMessage (source_names sources)) (MaySay tree given sources names) old new (may-sources tree given sources names) told
+
+pub sources-told : {E : Type 0} (K : SinkGhosts E) (tree : Tree) (given : Said) (sources : List Origin) (names : List (List ℕ)) (old mid new : Errors E) → mid ≡ old
+    → TellsSome K (IsMessage (source_names sources)) mid new → TellsStatus K (MaySay tree given sources names) given.flags.no_messages (shown_by given.flags) 2 old new
+sources-told K tree given sources names old mid new silent told =
+    status-some K (MaySay tree given sources names) given.flags.no_messages (shown_by given.flags) old new
+    (subst (λ (e : Errors _). TellsSome K (MaySay tree given sources names) e new) silent (some-sources K tree given sources names mid new told))
 
 -- and what may be told of its files
 pub may-behind : (tree : Tree) (given : Said) (sources : List Origin) (names : List (List ℕ)) (line : List ℕ) → MaySay tree given [] names line → MaySay tree given sources names line
@@ -30,11 +38,6 @@ may-behind tree given sources names line (inl (inl message)) =
     inl (inl (message-more (files_told given.flags.no_messages given.label (or_input names)) (names_told given.flags.no_messages given.label sources names) (λ name is. among-later name (source_names sources) (files_told given.flags.no_messages given.label (or_input names)) is) line message))
 may-behind tree given sources names line (inl (inr usage)) = inl (inr usage)
 may-behind tree given sources names line (inr reached) = inr reached
-
--- where names are given standard input is not searched for want of them
-pub or-none : (names : List (List ℕ)) → 0 < length names → or_input names ≡ names
-or-none [] some = absurd (omega (arith, some))
-or-none (name ∷ names) some = refl
 
 -- a status that tells of no error is that of the search
 pub reached-low : (flags : Flags) (unread : List (List ℕ)) (found : ℕ) → status_reached flags unread found < 2 → found < 2
@@ -153,37 +156,3 @@ module _ {E : Type 0} (K : SinkGhosts E) (all : List (List ℕ)) where
     none = λ which. refl;
     some = λ asked. absurd (cc);
   }
-
--- whether names stand before lines, by whether a search is recursive
-pub several-plain : (flags : Flags) (names : List (Bor (List ℕ))) (files : List (List ℕ)) → flags.recursive ≡ false → nat_lt 1 (length names) ≡ are_several flags (name_bytes names) files
-several-plain flags names files plain = rw plain (ap (nat_lt 1) (sym (length-map names (λ name. name.now))))
-
-or-neither : (a b : Bool) → (a || b) ≡ false → (a ≡ false) × (b ≡ false)
-or-neither true b none = absurd (cc)
-or-neither false b none = (refl, none)
-
--- where operands are not looked at they are not entered, and there is no rule
-pub looks-not : (given : Said) → asks_to_look given ≡ false → (given.flags.recursive ≡ false) × (chooses given.rules (ways_by given.flags) ≡ false)
-looks-not given none = or-neither given.flags.recursive (chooses given.rules (ways_by given.flags)) none
-
-pub reached-plain : (tree : Tree) (given : Said) (names : List (List ℕ)) → asks_to_look given ≡ false → AreReached tree given names (or_input names) []
-reached-plain tree given names none =
-    let (plain, free) = looks-not given none in
-    rw plain (rw free refl, refl)
-
--- where they are, and not entered, there are rules
-pub looks-ruled : (given : Said) → asks_to_look given ≡ true → given.flags.recursive ≡ false → chooses given.rules (ways_by given.flags) ≡ true
-looks-ruled given looks plain = ap (λ (b : Bool). b || chooses given.rules (ways_by given.flags)) (sym plain) ∙ looks
-
-pub reached-chosen : (tree : Tree) (given : Said) (names files unread : List (List ℕ)) → asks_to_look given ≡ true → given.flags.recursive ≡ false
-    → AreChosen tree given.rules (ways_by given.flags) (or_input names) files → unread ≡ [] → AreReached tree given names files unread
-reached-chosen tree given names files unread looks plain chosen none = rw plain (rw (looks-ruled given looks plain) chosen, none)
-
--- what a search tells of files is told of those that it may name
-pub told-plain : {E : Type 0} (K : SinkGhosts E) (tree : Tree) (given : Said) (names : List (List ℕ)) (hushed : Bool) (label : List ℕ) (shown : Shown) (status : ℕ) (old new : Errors E) → hushed ≡ given.flags.no_messages → label ≡ given.label → shown ≡ shown_by given.flags
-    → TellsOfFiles K hushed label (or_input names) shown status old new → TellsStatus K (MaySay tree given [] names) given.flags.no_messages (shown_by given.flags) status old new
-told-plain K tree given names hushed label shown status old new same named alike told =
-    status-weaker K (IsMessage (files_told given.flags.no_messages given.label (or_input names))) (MaySay tree given [] names) given.flags.no_messages (shown_by given.flags) status old new (λ line is. inl (inl is))
-    (subst (λ (s : Shown). TellsStatus K (IsMessage (files_told given.flags.no_messages given.label (or_input names))) given.flags.no_messages s status old new) alike
-    (subst (λ (l : List ℕ). TellsStatus K (IsMessage (files_told given.flags.no_messages l (or_input names))) given.flags.no_messages shown status old new) named
-    (subst (λ (b : Bool). TellsStatus K (IsMessage (files_told b label (or_input names))) b shown status old new) same told)))

@@ -3,9 +3,9 @@ use Rattle.std.proofs.Common.{◌≡◌, inl, inr, ℕ, ◌-◌, ◌≤◌, ◌<
 use Rattle.std.specs.Prelude.{MatchBool}
 use Rattle.std.proofs.Math.ListN.{get_or}
 use Rattle.std.proofs.lemmas.Bool.{cases_Bool}
-use Rattle.std.proofs.lemmas.List.{map-append, take_all}
+use Rattle.std.proofs.lemmas.List.{take_all}
 use Rattle.tool_parts.specs.Names.{IsOneOf}
-use Rattle.acgrep.specs.Loading.{AddsText, AreTexts, IsTextOfRule}
+use Rattle.acgrep.specs.Loading.{AreTexts, IsTextOfRule}
 use Rattle.acgrep.specs.Rules.{RuleSaid, expanded, is_from_file, is_space, glob_before, rule_before, rule_said, rules_by, rules_said, glob_of_line}
 use Rattle.acgrep.specs.Runs.{AreRules, AreRulesOf, IsTextOf}
 use Rattle.acgrep.specs.Told.{rule_files}
@@ -13,16 +13,6 @@ use Rattle.acgrep.specs.declared.rules.Rule.{Rule}
 use Rattle.acgrep.proofs.Told.{AreWithin}
 
 module _ (holds : List ℕ → Option (List ℕ)) where
-  -- the text that was read of a file
-  pub text_of_file : (rule : RuleSaid) (left left' : Option (List ℕ)) (old new : List ℕ) → old ≡ [] → is_from_file rule.sense ≡ true → AddsText holds rule.glob left left' old new
-      → IsTextOfRule holds rule left left' new
-  text_of_file rule left left' old new none file added =
-      rw file (subst (IsTextOf holds rule.glob left left') (sym (added.grown ∙ ap (λ (l : List ℕ). l ++ added.text) none)) added.is)
-
-  -- and none of a glob
-  pub text_of_glob : (rule : RuleSaid) (left : Option (List ℕ)) (text : List ℕ) → text ≡ [] → is_from_file rule.sense ≡ false → IsTextOfRule holds rule left left text
-  text_of_glob rule left text none glob = rw glob (refl, none)
-
   -- the rules of a text
   rules_of_text : (rule : RuleSaid) (left left' : Option (List ℕ)) (text : List ℕ) → IsTextOfRule holds rule left left' text → AreRulesOf holds rule left left' (rules_by rule text)
   rules_of_text rule left left' text is =
@@ -101,22 +91,10 @@ rules_cut (rule ∷ rules) other all some within =
     let both = files_cut (rule_said rule) (rules_said rules) all within in
     (both.0, subst (λ (l : List Rule). AreWithin (rule_files (rules_said l)) all) (sym rest) both.1)
 
--- the first of some rules with the first of some texts, and then the others
-pub expanded_next : (rules : List Rule) (other : Rule) (text : List ℕ) (texts : List (List ℕ)) → 0 < length rules
-    → expanded (rules_said rules) (text ∷ texts) ≡ rules_by (rule_said (get_or rules 0 other)) text ++ expanded (rules_said (take (length rules - 1) (drop 1 rules))) texts
-expanded_next [] other text texts some = absurd (omega (arith, some))
-expanded_next (rule ∷ rules) other text texts some =
-    let rest : take (length (rule ∷ rules) - 1) rules ≡ rules = take_all (length (rule ∷ rules) - 1) rules (omega arith) in
-    ap (λ (l : List Rule). rules_by (rule_said rule) text ++ expanded (rules_said l) texts) (sym rest)
-
 -- no rule is left, or no text
 pub expanded_none : (rules : List RuleSaid) → expanded rules [] ≡ []
 expanded_none [] = refl
 expanded_none (rule ∷ rules) = refl
-
--- a rule stands behind others
-pub said_more : (rules : List Rule) (rule : Rule) → rules_said (rules ++ (rule ∷ [])) ≡ rules_said rules ++ (rule_said rule ∷ [])
-said_more rules rule = map-append rule_said rules (rule ∷ [])
 
 -- that of a glob stands before others
 pub rule_front : (glob : List ℕ) (rules : List RuleSaid) → rule_before glob rules ≡ rule_before glob [] ++ rules

@@ -3,18 +3,17 @@ use Rattle.std.proofs.Common.{◌≡◌, inl, inr, ℕ, ◌<◌, Bool, true, fal
 use Rattle.std.specs.Prelude.{nat_lt, ◌&&◌}
 use Rattle.std.specs.Io.KnownBytes.{Appends}
 use Rattle.std.proofs.KnownBytes.{Appends-nil, Appends-trans}
-use Rattle.std.proofs.lemmas.Bool.{cases_Bool, lt-ltb}
+use Rattle.std.proofs.lemmas.Bool.{lt-ltb}
 use Rattle.aho_core.specs.Patterns.{Patterns}
 use Rattle.aho_devices.specs.Counts.{AppendsBeginning}
 use Rattle.acgrep.specs.Contexts.{IsChosenBy, IsNotChosen, PassesBy, ShowsEach, ShowsGroup, Steps, Walk, WalksBegun, WalksLines, WalksSome, behind_chosen, behind_due, behind_passed, beside, separator_if}
 use Rattle.acgrep.specs.Lines.{lines}
-use Rattle.acgrep.specs.Written.{IsMatched, ShowsLine, WritesLine, after_line, is_full, selects}
+use Rattle.acgrep.specs.Written.{ShowsLine, WritesLine, after_line}
 use Rattle.acgrep.specs.declared.options.Context.{Context}
 use Rattle.acgrep.specs.declared.print.Place.{Place}
 use Rattle.acgrep.specs.declared.select.Job.{Job}
 use Rattle.acgrep.proofs.Begun.{begins_more, begins_some}
 use Rattle.acgrep.proofs.Grouped.{walk}
-use Rattle.acgrep.proofs.Tellings.{passed_by, selected_by}
 use Rattle.acgrep.proofs.Walked.{begun_behind, lines_join, lines_none, walks_one}
 
 -- two walks are the same where their parts are
@@ -29,14 +28,6 @@ walk_same a b place selected due some apart first held =
     ∙ ap (λ (h : List (List ℕ)). walk b.place b.selected b.due b.some b.apart b.first h) held
 
 module _ (p : Patterns) (job : Job) where
-  -- a line is chosen by whether it matches
-  pub chosen_by : (count : ℕ) (line : List ℕ) (matched : Bool) → is_full job.most count ≡ false → IsMatched p job.fit line matched → IsChosenBy p job count line (selects matched job.invert)
-  chosen_by count line matched goes is =
-      elim (cases_Bool (selects matched job.invert)) [
-        | inl yes_selected ↦ subst (IsChosenBy p job count line) (sym yes_selected) (goes, selected_by p job.fit job.invert matched line is yes_selected)
-        | inr not_selected ↦ subst (IsChosenBy p job count line) (sym not_selected) (inr (passed_by p job.fit job.invert matched line is not_selected))
-      ]
-
   module _ (context : Context) where
     -- a selected line and those held before it are written
     pub takes_lines : (w w' : Walk) (line bytes : List ℕ) (x y : Option (List ℕ)) → IsChosenBy p job w.selected line true → ShowsGroup p job context w line bytes → w' ≡ behind_chosen context w line
@@ -115,9 +106,6 @@ module _ (p : Patterns) (job : Job) where
   pub record ShowsTo (first place : Place) (x y : Option (List ℕ)) (ls rest : List (List ℕ)) : Type 0 where
     pub follow : (bytes : List ℕ) (z : Option (List ℕ)) → ShowsEach p job place rest bytes → Appends y z bytes
         → (all : List ℕ) × ShowsEach p job first ls all × Appends x z all
-
-  pub shows_start : (first : Place) (x : Option (List ℕ)) (ls : List (List ℕ)) → ShowsTo first first x x ls ls
-  shows_start first x ls = record { follow = λ bytes z each written. (bytes, each, written) }
 
   pub shows_step : (first place : Place) (x y z : Option (List ℕ)) (ls rest : List (List ℕ)) (line : List ℕ) (left : List (List ℕ)) → rest ≡ line ∷ left → ShowsTo first place x y ls rest
       → WritesLine p job place y z line → ShowsTo first (after_line place line) x z ls left

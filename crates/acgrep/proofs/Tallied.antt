@@ -1,11 +1,9 @@
 -- Lines that are counted, some after others, and what is told of their counts.
-use Rattle.std.proofs.Common.{◌≡◌, ℕ, suc, zero, ◌+◌, ◌-◌, ◌<◌, ◌^◌, min, Bool, true, false, inl, inr, List, [], ◌∷◌, ◌++◌, Some, None, length, refl, sym, ◌∙◌, ap, subst, arith, append-nil, append_assoc, length-set}
-use Rattle.std.specs.Prelude.{filter, if◌then◌else◌, slice_index, slice_set}
-use Rattle.std.proofs.lemmas.Bool.{cases_eq, eq-eqb, ne_eqb}
-use Rattle.std.proofs.lemmas.List.{get_or-set_same, get_or-set_other, length-map}
-use Rattle.acgrep.specs.Arguments.{number_by}
+use Rattle.std.proofs.Common.{◌≡◌, ℕ, suc, zero, ◌+◌, ◌-◌, ◌<◌, ◌^◌, min, Bool, true, false, List, [], ◌∷◌, ◌++◌, length, refl, sym, ◌∙◌, ap, subst, arith, append-nil, append_assoc}
+use Rattle.std.specs.Prelude.{filter, if◌then◌else◌, slice_index}
+use Rattle.std.proofs.lemmas.List.{length-map}
 use Rattle.acgrep.specs.Lines.{lines}
-use Rattle.acgrep.specs.Tallies.{CountsLines, CountsNumber, count_of, count_with, counts_table, is_that, rows_counted, rows_from, writes, zeros_of}
+use Rattle.acgrep.specs.Tallies.{CountsLines, count_of, counts_table, rows_counted, rows_from, writes, zeros_of}
 
 -- the lines of two lists, one after the other
 count-both : (number : ℕ) (some more : List (List ℕ)) → count_of number (some ++ more) ≡ count_of number some + count_of number more
@@ -28,50 +26,6 @@ lines-then some more one two three first second = record {
   as_many = second.as_many ∙ first.as_many;
   grown = λ number within.
       omega (arith, count-both number some more, first.grown number within, second.grown number (omega (arith, first.as_many, within)));
-}
-
--- whether a line is counted
-count-one : (number : ℕ) (line : List ℕ) (b : Bool) → writes number line ≡ b → count_of number (line ∷ []) ≡ (if b then 1 else 0)
-count-one number line b is = ap (λ (b : Bool). length (if b then line ∷ [] else [])) is ∙ by_test b
-  where
-    by_test : (b : Bool) → length (if b then line ∷ [] else []) ≡ (if b then 1 else 0)
-    by_test true = refl
-    by_test false = refl
-
--- a line that writes no number is not
-pub line-none : (line : List ℕ) (counts : List ℕ) → number_by line ≡ None → CountsLines (line ∷ []) counts counts
-line-none line counts none = record {
-  as_many = refl;
-  grown = λ number within. omega (arith, count-one number line false (ap (is_that number) none));
-}
-
--- one that writes another number is not
-other-number : (number other : ℕ) (line : List ℕ) → number_by line ≡ Some other → (number ≡ other → ⊥) → count_of number (line ∷ []) ≡ 0
-other-number number other line is not = count-one number line false (ap (is_that number) is ∙ ne_eqb other number (λ e. not (sym e)))
-
--- its count is set anew
-pub number-set : (number : ℕ) (counts : List ℕ) (count : ℕ) → number < length counts → count ≡ count_with (slice_index counts number) 1 → CountsNumber number counts (slice_set counts number count)
-number-set own counts count within is line writes_own = record {
-  as_many = length-set counts own count;
-  grown = λ number below. elim (cases_eq number own) [
-    | inl same ↦
-        let one : count_of own (line ∷ []) ≡ 1 = count-one own line true (ap (is_that own) writes_own ∙ eq-eqb own own refl) in
-        ap (slice_index (slice_set counts own count)) same
-        ∙ get_or-set_same counts own count 0 within
-        ∙ is
-        ∙ ap (count_with (slice_index counts own)) (sym one)
-        ∙ ap (λ (n : ℕ). count_with (slice_index counts n) (count_of n (line ∷ []))) (sym same)
-    | inr other ↦
-        omega (arith, get_or-set_other counts own number count 0 other, other-number number own line writes_own other)
-  ];
-}
-
--- or there is none
-pub number-past : (number : ℕ) (counts : List ℕ) → (number < length counts → ⊥) → CountsNumber number counts counts
-number-past own counts past line writes_own = record {
-  as_many = refl;
-  grown = λ number below.
-      omega (arith, other-number number own line writes_own (λ same. past (subst (λ (n : ℕ). n < length counts) same below)));
 }
 
 -- the lines of a text up to what is left of it were counted

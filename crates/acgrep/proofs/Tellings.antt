@@ -7,13 +7,14 @@ use Rattle.std.proofs.lemmas.Bool.{and_parts, cases_Bool, cases_lt, ltb-true, tr
 use Rattle.std.proofs.lemmas.List.{drop_all, drop-drop, length-drop}
 use Rattle.aho_core.specs.Patterns.{Patterns}
 use Rattle.aho_core.specs.Occurrence.{Occurrence}
+use Rattle.acgrep.proofs.Bools.{where_false, where_true}
 use Rattle.acgrep.proofs.LineLists.{ends_drop}
 use Rattle.acgrep.specs.Alone.{asks_alone}
 use Rattle.acgrep.specs.Lines.{EndsLine, lines}
 use Rattle.acgrep.specs.Matches.{WritesColored, WritesMatches}
 use Rattle.acgrep.specs.Objects.{objects_by}
 use Rattle.acgrep.specs.Printed.{colored_from, colored_line_by, head_of, match_by, matches_by, line_number_at, match_code, offset_at, painted, part_of}
-use Rattle.acgrep.specs.Written.{EachLine, HasNone, IsMatched, IsPassedOver, IsSelected, IsSettled, LineOf, DoesMatch, DoesNotMatch, MatchesOf, ObjectsOf, SamePlace, SearchesTo, ShowsBy, ShowsLine, TellsOfLines, TellsLines, WritesLine, WritesNext, after_line, after_lines, is_full, is_numbered, next_count, one_more, place_behind, selects}
+use Rattle.acgrep.specs.Written.{EachLine, HasNone, IsMatched, IsPassedOver, IsSelected, IsSettled, LineOf, DoesMatch, DoesNotMatch, SamePlace, SearchesTo, ShowsBy, ShowsLine, TellsOfLines, TellsLines, WritesLine, WritesNext, after_line, after_lines, is_full, is_numbered, next_count, one_more, place_behind, selects}
 use Rattle.acgrep.specs.declared.matches.Shape.TheVariants.{AsFields, OnLines}
 use Rattle.acgrep.specs.declared.options.Fit.{Fit}
 use Rattle.acgrep.specs.declared.options.Fit.TheVariants.{AnyPart, WholeWord, WholeLine}
@@ -37,9 +38,6 @@ same_place job place = record { bytes = refl; lines = λ _. refl }
 
 pub same_trans : (job : Job) (a b c : Place) → SamePlace job a b → SamePlace job b c → SamePlace job a c
 same_trans job a b c one other = record { bytes = one.bytes ∙ other.bytes; lines = λ asked. one.lines asked ∙ other.lines asked }
-
-pub same_sym : (job : Job) (a b : Place) → SamePlace job a b → SamePlace job b a
-same_sym job a b same = record { bytes = sym same.bytes; lines = λ asked. sym (same.lines asked) }
 
 pub same_line : (job : Job) (a b : Place) (line : List ℕ) → SamePlace job a b → SamePlace job (after_line a line) (after_line b line)
 same_line job a b line same = record {
@@ -76,16 +74,6 @@ colored_shows p job place old new line whole colored writes =
       writes.written,
     )
 
--- what is written where no line is turned round
-unless_inverted : (invert : Bool) (A B : Type 0) → invert ≡ false → B → MatchBool invert A B
-unless_inverted false A B plain b = b
-unless_inverted true A B plain b = absurd (true≢false plain)
-
--- and where one is
-where_inverted : (invert : Bool) (A B : Type 0) → invert ≡ true → A → MatchBool invert A B
-where_inverted true A B turned a = a
-where_inverted false A B turned a = absurd (true≢false (sym turned))
-
 -- the matches are what is written of a line where they are asked for
 pub matches_shows : (p : Patterns) (job : Job) (place : Place) (old new : Option (List ℕ)) (line : List ℕ) → job.shown ≡ Matches → job.invert ≡ false
     → WritesMatches old new p OnLines (asks_alone job.fit) job.style place line → WritesLine p job place old new line
@@ -93,7 +81,7 @@ matches_shows p job place old new line whole plain writes =
     let bytes = matches_by job.style place line writes.matches in (
       bytes,
       subst (λ (shown : Shown). ShowsBy p shown (asks_alone job.fit) job.invert job.style place line bytes) (sym whole)
-          (unless_inverted job.invert (bytes ≡ []) (MatchesOf p (asks_alone job.fit) job.style place line bytes) plain (writes.matches, writes.found, refl)),
+          (where_false _ job.invert plain (writes.matches, writes.found, refl)),
       writes.written,
     )
 
@@ -104,7 +92,7 @@ objects_shows p job place old new line whole plain writes =
     let bytes = objects_by job.style place line writes.matches in (
       bytes,
       subst (λ (shown : Shown). ShowsBy p shown (asks_alone job.fit) job.invert job.style place line bytes) (sym whole)
-          (unless_inverted job.invert (bytes ≡ []) (ObjectsOf p (asks_alone job.fit) job.style place line bytes) plain (writes.matches, writes.found, refl)),
+          (where_false _ job.invert plain (writes.matches, writes.found, refl)),
       writes.written,
     )
 
@@ -112,13 +100,13 @@ objects_shows p job place old new line whole plain writes =
 pub nothing_of_matches : (p : Patterns) (job : Job) (place : Place) (line : List ℕ) → job.shown ≡ Matches → job.invert ≡ true → ShowsLine p job place line []
 nothing_of_matches p job place line whole turned =
     subst (λ (shown : Shown). ShowsBy p shown (asks_alone job.fit) job.invert job.style place line []) (sym whole)
-    (where_inverted job.invert ([] ≡ []) (MatchesOf p (asks_alone job.fit) job.style place line []) turned refl)
+    (where_true _ job.invert turned refl)
 
 -- and no object
 pub nothing_of_objects : (p : Patterns) (job : Job) (place : Place) (line : List ℕ) → job.shown ≡ Objects → job.invert ≡ true → ShowsLine p job place line []
 nothing_of_objects p job place line whole turned =
     subst (λ (shown : Shown). ShowsBy p shown (asks_alone job.fit) job.invert job.style place line []) (sym whole)
-    (where_inverted job.invert ([] ≡ []) (ObjectsOf p (asks_alone job.fit) job.style place line []) turned refl)
+    (where_true _ job.invert turned refl)
 
 -- where neither lines nor matches nor objects are asked for nothing is written
 pub nothing_else : (p : Patterns) (shown : Shown) (alone invert : Bool) (style : Style) (place : Place) (line : List ℕ) → (shown ≡ Lines → ⊥) → (shown ≡ Matches → ⊥)
@@ -427,6 +415,3 @@ pub passing_end : (p : Patterns) (job : Job) (a b : State) (x y : Option (List �
 passing_end p job a b x y text rest none so_far =
     let all : lines job.style.ending text ≡ so_far.searched = so_far.cut ∙ ap (λ (l : List ℕ). so_far.searched ++ lines job.style.ending l) none ∙ append-nil so_far.searched in
     subst (TellsLines p job a b x y) (sym all) so_far.tells
-
-pub passing_start : (p : Patterns) (job : Job) (a : State) (x : Option (List ℕ)) (text : List ℕ) → EachLine (HasNone p) (lines job.style.ending text) → Passing p job a a x x text text
-passing_start p job a x text each = record { searched = []; cut = refl; tells = tells_none p job a x; placed = refl; each = each }

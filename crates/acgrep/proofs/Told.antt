@@ -19,17 +19,19 @@ use Rattle.tool_parts.specs.declared.errors.Errors.{Errors}
 use Rattle.tool_parts.specs.declared.reason.Reason.{Reason}
 use Rattle.tool_parts.proofs.Lines.{some-one, some-tells, some-then, some-weaker, tells-none, tells-weaker, then-some}
 use Rattle.acgrep.specs.Arguments.{Said, origin_of}
-use Rattle.acgrep.specs.Files.{is_enough, seen_after, shown_name, status_by}
+use Rattle.acgrep.specs.Files.{IsNamed, shown_name}
 use Rattle.acgrep.specs.Folders.{Known}
 use Rattle.acgrep.specs.Runs.{origins_of}
-use Rattle.acgrep.specs.Told.{IsMessage, IsToldCause, IsUnopened, MayName, MaySaid, MayTell, TellsIf, TellsOutcome, TellsStatus, files_told, loop_text, no_text_text, output_text, names_said, shown_names, source_names, unopened_line, unusable_text, zero_text}
+use Rattle.acgrep.specs.Told.{IsMessage, IsToldCause, IsUnopened, MayName, MaySaid, MayTell, TellsIf, TellsOfOutcome, TellsOutcome, TellsStatus, files_told, loop_text, no_text_text, output_text, names_said, shown_names, source_names, unopened_line, unusable_text, zero_text}
 use Rattle.acgrep.specs.declared.arguments.Source.{Source}
 use Rattle.acgrep.specs.declared.arguments.Source.TheVariants.{File}
 use Rattle.acgrep.specs.declared.files.Seen.{Seen}
 use Rattle.acgrep.specs.declared.options.Shown.{Shown}
+use Rattle.acgrep.specs.declared.select.Job.{Job}
 use Rattle.acgrep.specs.declared.options.Shown.TheVariants.{Lines, Matches, Objects, Count, Names, Lacking, Nothing}
-use Rattle.acgrep.proofs.NamesSearched.{enough_only}
+use Rattle.acgrep.proofs.InTurn.{enough_only}
 use Rattle.acgrep.specs.declared.files.Outcome.{Outcome}
+use Rattle.acgrep.specs.InTurn.{is_enough, seen_after, status_by}
 use Rattle.acgrep.specs.declared.files.Outcome.TheVariants.{Searched, Unread, Stopped}
 
 -- a name is among more names
@@ -226,6 +228,14 @@ module _ {E : Type 0} (K : SinkGhosts E) (P : List ℕ → Type 0) where
     silent = told.silent;
     some = λ asked two. some-weaker K P Q old new may (told.some asked two);
   }
+
+-- what is told of a file that is called so
+pub told-named : {E : Type 0} (K : SinkGhosts E) (job named : Job) (name : List ℕ) (follows : Bool) → IsNamed job name follows named → (outcome : Outcome) (old new : Errors E)
+    → TellsOfOutcome K named.hushed named.style.name.now outcome old new → TellsOfOutcome K job.hushed name outcome old new
+told-named K job named name follows is outcome old new told = λ names within.
+    let hushed = ap (λ (j : Job). j.hushed) is.is in
+    let called : name ≡ named.style.name.now = sym is.of ∙ sym (ap (λ (j : Job). j.style.name.now) is.is) in
+    subst (λ (b : Bool). TellsOutcome K (IsMessage names) b outcome old new) hushed (told names (λ asked. subst (λ (n : List ℕ). IsOneOf n names) called (within (sym hushed ∙ asked))))
 
 -- each of these names is among others
 abbrev pub AreWithin : List (List ℕ) → List (List ℕ) → Type 0

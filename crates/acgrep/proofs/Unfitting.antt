@@ -1,5 +1,5 @@
 -- Options that do not go together.
-use Rattle.std.proofs.Common.{◌≡◌, ℕ, List, Option, None, Some, subst, sym}
+use Rattle.std.proofs.Common.{◌≡◌, ℕ, List, Option, None, Some, subst}
 use Rattle.std.specs.Prelude.{IfSome}
 use Rattle.acgrep.specs.Beside.{unfit_line}
 use Rattle.acgrep.specs.declared.beside.Unfit.{Unfit}
@@ -7,10 +7,6 @@ use Rattle.acgrep.specs.declared.beside.Unfit.{Unfit}
 pub some_all : {X : Type 0} (known : Option X) (P : Type 0) → P → IfSome known (λ x. P)
 some_all None P is = tt
 some_all (Some x) P is = is
-
--- where they do, nothing is told of them
-pub none_unfit : (said : Option (List ℕ)) (P : List ℕ → Type 0) → said ≡ None → IfSome said P
-none_unfit said P none = subst (λ (o : Option (List ℕ)). IfSome o P) (sym none) tt
 
 pub some_unfit : (unfit : Unfit) (said : Option (List ℕ)) (P : List ℕ → Type 0) → Some (unfit_line unfit) ≡ said → P (unfit_line unfit) → IfSome said P
 some_unfit unfit said P is told = subst (λ (o : Option (List ℕ)). IfSome o P) is told

@@ -1,11 +1,10 @@
 -- The patterns of sources, one after another, as the lines of one text.
-use Rattle.std.proofs.Common.{◌≡◌, inl, inr, ℕ, suc, ◌+◌, ◌-◌, ◌≤◌, ◌<◌, ◌==◌, true, false, List, [], ◌∷◌, ◌++◌, Option, None, Some, length, take, drop, refl, sym, ◌∙◌, ap, subst, arith, append-nil, append_assoc, length-append}
+use Rattle.std.proofs.Common.{◌≡◌, inl, inr, ℕ, suc, ◌-◌, ◌≤◌, ◌<◌, ◌==◌, true, false, List, [], ◌∷◌, ◌++◌, Option, None, Some, length, take, drop, refl, sym, ◌∙◌, ap, subst, arith, append-nil, append_assoc}
 use Rattle.std.specs.Prelude.{IfSome, codes}
 use Rattle.std.specs.Io.{StartsWith}
 use Rattle.std.specs.Io.KnownBytes.{Consumes, IsAtEnd, Keeps}
 use Rattle.std.proofs.KnownBytes.{starts_with_rest}
 use Rattle.std.proofs.Math.ListN.{get_or}
-use Rattle.std.proofs.Math.Seq.{drop-append_seam}
 use Rattle.std.proofs.lemmas.Bool.{cases_Bool}
 use Rattle.std.proofs.lemmas.List.{take_all}
 use Rattle.memchr.specs.Find.{Nowhere}
@@ -15,17 +14,8 @@ use Rattle.acgrep.specs.Lines.{EndsLine, IsEnding, joined_to, lines}
 use Rattle.acgrep.specs.Loading.{AddsText, AddsWords}
 use Rattle.acgrep.specs.Runs.{AreWords, origins_of}
 use Rattle.acgrep.specs.declared.arguments.Source.{Source}
-use Rattle.acgrep.proofs.Around.{newline_behind}
 use Rattle.acgrep.proofs.FirstLines.{lines_joined}
 use Rattle.acgrep.proofs.LineLists.{lines_append}
-
--- a text with a newline behind it ends in one
-pub ends_newline : (text : List ℕ) → EndsLine 10 (text ++ codes "\n")
-ends_newline text some =
-    let seam : IsEnding 10 (drop (length text) (text ++ codes "\n")) 0 = subst (λ (l : List ℕ). IsEnding 10 l 0) (sym (drop-append_seam text (codes "\n"))) refl in
-    let long : length (text ++ codes "\n") ≡ length text + 1 = length-append text (codes "\n") in
-    let place : length text + 0 ≡ length (text ++ codes "\n") - 1 = omega (arith, long) in
-    subst (IsEnding 10 (text ++ codes "\n")) place (newline_behind 10 (text ++ codes "\n") (length text) 0 seam)
 
 -- a newline behind a text that ends in none makes no further line
 lines_closed : (text : List ℕ) → 0 < length text → (IsEnding 10 text (length text - 1) → ⊥) → lines 10 (text ++ codes "\n") ≡ lines 10 text
@@ -49,12 +39,6 @@ lines_closed (byte ∷ next ∷ rest) some bare =
 -- what follows the last newline is not empty: a newline behind it ends the last line
 pub lines_ended : (text : List ℕ) (start : ℕ) → start < length text → Nowhere (IsEnding 10 text) start (length text) → lines 10 (text ++ codes "\n") ≡ lines 10 text
 lines_ended text start some none = lines_closed text (omega (arith, some)) (none (length text - 1) (omega (arith, some)) (omega (arith, some)))
-
--- it is empty: the text ends in a newline
-pub ends_there : (text : List ℕ) (start : ℕ) → start ≤ length text → length text ≤ start → (0 < start → IsEnding 10 text (start - 1)) → EndsLine 10 text
-ends_there text start within behind newline some =
-    let same : start ≡ length text = omega (arith, within, behind) in
-    subst (λ (n : ℕ). IsEnding 10 text (n - 1)) same (newline (omega (arith, same, some)))
 
 module _ (holds : List ℕ → Option (List ℕ)) where
   -- all that a reader has of a file that is known
@@ -124,7 +108,3 @@ module _ (holds : List ℕ → Option (List ℕ)) where
     pub words_end : (sources : List Source) (left : Option (List ℕ)) (words : List (List ℕ)) → length sources ≡ 0 → AreWordsWith (origins_of sources) left words → AreWords holds all begin left words
     words_end [] left words none before = subst (AreWords holds all begin left) (append-nil words) (before left [] (refl, refl))
     words_end (source ∷ sources) left words none before = absurd (omega (arith, none))
-
--- before the first source
-pub words_start : (holds : List ℕ → Option (List ℕ)) (all : List Origin) (begin : Option (List ℕ)) → AreWordsWith holds all begin all begin []
-words_start holds all begin left' more are = are

@@ -1,29 +1,21 @@
 -- What is written of files, one after another.
-use Rattle.tool_parts.specs.Answers.{status_of}
-use Rattle.tool_parts.specs.Names.{is_input, name_bytes, or_input}
-use Rattle.std.specs.Prelude.{◌≡◌, ◌⊎◌, ℕ, ◌||◌, nat_lt, Bool, true, false, List, [], ◌∷◌, ◌++◌, Option, IfSome, MatchBool, if◌then◌else◌}
+use Rattle.tool_parts.specs.Names.{is_input}
+use Rattle.std.specs.Prelude.{◌≡◌, ◌⊎◌, ℕ, ◌||◌, nat_lt, Bool, true, false, List, [], ◌++◌, Option, IfSome, MatchBool, if◌then◌else◌}
 use Rattle.std.specs.Borrow.{Bor}
-use Rattle.std.specs.Io.KnownBytes.{Appends, Consumes, IsAtEnd, Keeps}
+use Rattle.std.specs.Io.KnownBytes.{Appends, Consumes, IsAtEnd}
 use Rattle.aho_core.specs.Patterns.{Patterns}
 use Rattle.acgrep.specs.Begun.{BeginsOf}
 use Rattle.acgrep.specs.Binary.{TellsBinary, TellsGuarded, binary_by, is_guarded, is_text, lines_by, lines_sought, takes_text}
 use Rattle.acgrep.specs.Contexts.{TellsFile}
 use Rattle.acgrep.specs.Filled.{ReadsOn}
+use Rattle.acgrep.specs.InTurn.{AreBegun, AreDoneOr, FileWork}
 use Rattle.acgrep.specs.Lines.{lines}
 use Rattle.acgrep.specs.Printed.{count_by, file_line}
 use Rattle.acgrep.specs.Written.{IsAny, IsSelected, SomeLine, TellsOfLines, is_full, needs_one}
-use Rattle.acgrep.specs.declared.files.Files.{Files}
-use Rattle.acgrep.specs.declared.files.Outcome.{Outcome}
-use Rattle.acgrep.specs.declared.files.Outcome.TheVariants.{Searched, Unread, Stopped}
-use Rattle.acgrep.specs.declared.files.Seen.{Seen}
 use Rattle.acgrep.specs.declared.options.Shown.{Shown}
 use Rattle.acgrep.specs.declared.options.Shown.TheVariants.{Lines, Matches, Objects, Count, Names, Lacking, Nothing}
 use Rattle.acgrep.specs.declared.print.Style.{Style}
 use Rattle.acgrep.specs.declared.select.Job.{Job}
-
--- the names of a call's files: that of standard input where none is given
-abbrev pub files_named : {F : Type 0} → Files F → List (List ℕ)
-files_named files = or_input (name_bytes files.names.now)
 
 -- behind the lines of a file stands their count where it is asked for
 abbrev pub count_if : Shown → Style → ℕ → List ℕ
@@ -117,26 +109,6 @@ pub record SearchesName (p : Patterns) (job : Job) (follows : Bool) (holds : Lis
   pub file : SearchesFile p named (known_of holds name left) held held' any
   pub reads : MatchBool (is_input name) (IsRead p named left left' any) (left' ≡ left)
 
--- under `-q` one selected line of any file is enough
-abbrev pub is_enough : Shown → Bool → Bool
-is_enough Lines any = false
-is_enough Matches any = false
-is_enough Objects any = false
-is_enough Count any = false
-is_enough Names any = false
-is_enough Lacking any = false
-is_enough Nothing any = any
-
--- the files of these names were searched, one after another; `any` says whether a line is selected, and `follows` whether one of a
--- file before is
-abbrev pub AreFilesSearched : Patterns → Job → Bool → (List ℕ → Option (List ℕ)) → List (List ℕ) → (left left' held held' : Option (List ℕ)) → Bool → Type 0
-AreFilesSearched p job follows holds [] left left' held held' any = (left' ≡ left) × Keeps held held' × (any ≡ false)
-AreFilesSearched p job follows holds (name ∷ names) left left' held held' any =
-    (between : Option (List ℕ)) × (meanwhile : Option (List ℕ)) × (first : Bool) × SearchesName p job follows holds name left between held meanwhile first
-    × MatchBool (is_enough job.shown first)
-    ((left' ≡ between) × Keeps meanwhile held' × (any ≡ true))
-    ((others : Bool) × AreFilesSearched p job (follows || first) holds names between left' meanwhile held' others × (any ≡ (first || others)))
-
 -- a file of these bytes, where they are known, has a selected line
 abbrev pub HasSelected : Patterns → Job → Option (List ℕ) → Type 0
 HasSelected p job known = (text : List ℕ) × IfSome known (λ bytes. text ≡ bytes) × SomeLine (IsSelected p job.fit job.invert) (lines_sought job text)
@@ -145,48 +117,10 @@ HasSelected p job known = (text : List ℕ) × IfSome known (λ bytes. text ≡ 
 abbrev pub LeavesInput : List ℕ → (left left' : Option (List ℕ)) → Type 0
 LeavesInput name left left' = MatchBool (is_input name) (ReadsOn left left') (left' ≡ left)
 
--- one of these files has a selected line, whether those before it could be read or not
-abbrev pub OneIsSelected : Patterns → Job → (List ℕ → Option (List ℕ)) → List (List ℕ) → Option (List ℕ) → Type 0
-OneIsSelected p job holds [] left = ⊥
-OneIsSelected p job holds (name ∷ names) left =
-    HasSelected p job (known_of holds name left) ⊎ ((between : Option (List ℕ)) × LeavesInput name left between × OneIsSelected p job holds names between)
-
--- before any file was searched
-abbrev pub nothing_seen : Seen
-nothing_seen = record { selected = false; failed = false; ended = false }
-
--- what was seen, and then came of a file
-abbrev pub seen_after : Shown → Seen → Outcome → Seen
-seen_after shown seen (Searched any) = record { selected = seen.selected || any; failed = seen.failed; ended = seen.ended || is_enough shown any }
-seen_after shown seen Unread = record { selected = seen.selected; failed = true; ended = seen.ended }
-seen_after shown seen Stopped = record { selected = seen.selected; failed = true; ended = true }
-
--- what is so where a file was searched
-abbrev pub IfSearched : Outcome → (Bool → Type 0) → Type 0
-IfSearched (Searched any) P = P any
-IfSearched Unread P = Unit {0}
-IfSearched Stopped P = Unit {0}
-
--- where an error was told it goes before all but a selected line under `-q`
-abbrev pub status_by : Shown → Seen → ℕ
-status_by shown seen =
-    if is_enough shown seen.selected then 0 else (if seen.failed then 2 else (if seen.selected then 0 else 1))
-
--- the files of these names were searched, and the status tells it; under `-q` that is all, even where others cannot be read
-abbrev pub AreSearchedOr : Patterns → Job → (List ℕ → Option (List ℕ)) → List (List ℕ) → (left left' held held' : Option (List ℕ)) → ℕ → Type 0
-AreSearchedOr p job holds names left left' held held' status =
-    ((any : Bool) × AreFilesSearched p job false holds names left left' held held' any × (status ≡ status_of any))
-    ⊎ ((job.shown ≡ Nothing) × (status ≡ 0) × OneIsSelected p job holds names left)
-
 -- what is asked of a file as a whole was written
 pub record EndsFile (job : Job) (count : ℕ) (held held' : Option (List ℕ)) (any : Bool) : Type 0 where
   pub is_any : any ≡ nat_lt 0 count
   pub written : Appends held held' (total_if job.shown job.style count)
-
--- what was seen is so: where no error was told all were searched, and one selected line that is enough was seen in one of them
-pub record SearchesNames (p : Patterns) (job : Job) (holds : List ℕ → Option (List ℕ)) (names : List (List ℕ)) (left left' held held' : Option (List ℕ)) (seen : Seen) : Type 0 where
-  pub searched : seen.failed ≡ false → AreFilesSearched p job false holds names left left' held held' seen.selected
-  pub found : job.shown ≡ Nothing → seen.selected ≡ true → OneIsSelected p job holds names left
 
 -- a beginning of what is asked of a file as a whole is written, of which so many lines were selected
 pub record BeginsTotal (job : Job) (count : ℕ) (held held' : Option (List ℕ)) : Type 0 where
@@ -217,24 +151,25 @@ pub record BeginsFile (p : Patterns) (job : Job) (known held held' : Option (Lis
   pub of : IfSome known (λ bytes. text ≡ bytes)
   pub begins : BeginsOf (TellsFirst p job text) (lines_by (is_guarded job || takes_text job) job.style.ending text) held held'
 
--- what is so where a file was not searched
-abbrev pub IfBroken : Outcome → Type 0 → Type 0
-IfBroken (Searched any) P = Unit {0}
-IfBroken Unread P = P
-IfBroken Stopped P = P
-
 -- that of the file of a name
 pub record BeginsName (p : Patterns) (job : Job) (follows : Bool) (holds : List ℕ → Option (List ℕ)) (name : List ℕ) (left held held' : Option (List ℕ)) : Type 0 where
   pub named : Job
   pub is_named : IsNamed job (shown_name job.label.now name) follows named
   pub file : BeginsFile p named (known_of holds name left) held held'
 
--- of some first ones of the files of these names, one after another, all that is asked is written, or a beginning of it; and
--- nothing else
-abbrev pub AreFilesBegun : Patterns → Job → Bool → (List ℕ → Option (List ℕ)) → List (List ℕ) → (left held held' : Option (List ℕ)) → Type 0
-AreFilesBegun p job follows holds [] left held held' = Keeps held held'
-AreFilesBegun p job follows holds (name ∷ names) left held held' =
-    Keeps held held'
-    ⊎ ((between : Option (List ℕ)) × (meanwhile : Option (List ℕ)) × LeavesInput name left between
-    × (((any : Bool) × SearchesName p job follows holds name left between held meanwhile any × AreFilesBegun p job (follows || any) holds names between meanwhile held')
-    ⊎ (BeginsName p job follows holds name left held meanwhile × AreFilesBegun p job follows holds names between meanwhile held')))
+-- what is searched of files for patterns, where what stands under a name is held so
+abbrev pub search_work : Patterns → Job → (List ℕ → Option (List ℕ)) → FileWork (Option (List ℕ))
+search_work p job holds = record {
+  Does = λ follows name left left' held held' any. SearchesName p job follows holds name left left' held held' any;
+  Begins = λ follows name left held held'. BeginsName p job follows holds name left held held';
+  Leaves = λ name left left'. LeavesInput name left left';
+  Has = λ name left. HasSelected p job (known_of holds name left);
+}
+
+-- the files of these names were searched, and the status tells it
+abbrev pub AreSearchedOr : Patterns → Job → (List ℕ → Option (List ℕ)) → List (List ℕ) → (left left' held held' : Option (List ℕ)) → ℕ → Type 0
+AreSearchedOr p job holds names left left' held held' status = AreDoneOr (search_work p job holds) job.shown names left left' held held' status
+
+-- of some first ones of them all that is asked is written, or a beginning of it
+abbrev pub AreFilesBegun : Patterns → Job → (List ℕ → Option (List ℕ)) → List (List ℕ) → (left held held' : Option (List ℕ)) → Type 0
+AreFilesBegun p job holds names left held held' = AreBegun (search_work p job holds) false names left held held'

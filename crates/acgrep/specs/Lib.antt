@@ -14,6 +14,7 @@ pub mod Folders
 pub mod Formats
 pub mod Globs
 pub mod Guarded
+pub mod InTurn
 pub mod Lines
 pub mod Listed
 pub mod Loading

@@ -1,8 +1,7 @@
 -- What is written of files whose lines rules mark, one after another.
-use Rattle.tool_parts.specs.Answers.{status_of}
 use Rattle.tool_parts.specs.Names.{is_input}
-use Rattle.std.specs.Prelude.{◌≡◌, ◌⊎◌, ℕ, ◌&&◌, ◌||◌, nat_lt, Bool, MatchBool, true, false, List, [], ◌∷◌, ◌++◌, Option, IfSome, OnOk, Result, map}
-use Rattle.std.specs.Io.KnownBytes.{Appends, Keeps}
+use Rattle.std.specs.Prelude.{◌≡◌, ◌⊎◌, ℕ, ◌&&◌, ◌||◌, nat_lt, Bool, MatchBool, true, false, List, [], ◌++◌, Option, IfSome, OnOk, Result, map}
+use Rattle.std.specs.Io.KnownBytes.{Appends}
 use Rattle.std.specs.Io.{StartsWith}
 use Rattle.aho_core.specs.Occurrence.{Occurrence}
 use Rattle.aho_devices.specs.declared.device.Sink.{Ghosts as SinkGhosts}
@@ -17,15 +16,14 @@ use Rattle.secret_rules.specs.Visits.{AreFirstLines}
 use Rattle.secret_rules.specs.declared.error.LineError.{LineError}
 use Rattle.secret_rules.specs.declared.line_cover.LineCover.{LineCover}
 use Rattle.secret_rules.specs.declared.rule.Rule.{Rule}
-use Rattle.acgrep.specs.Files.{BeginsTotal, EndsFile, IfBroken, IfSearched, IsNamed, is_enough, known_of, shown_name, total_if}
+use Rattle.acgrep.specs.Files.{BeginsTotal, EndsFile, IsNamed, known_of, shown_name, total_if}
+use Rattle.acgrep.specs.InTurn.{AreBegun, AreDoneOr, FileWork, IfBroken, IfSearched}
 use Rattle.acgrep.specs.Marked.{FileAsked, marked_lines, pass_after}
 use Rattle.acgrep.specs.Written.{needs_one}
 use Rattle.acgrep.specs.declared.files.Outcome.{Outcome}
-use Rattle.acgrep.specs.declared.files.Seen.{Seen}
 use Rattle.acgrep.specs.declared.marked.Pass.{Pass}
 use Rattle.acgrep.specs.declared.marked_files.Marking.{Marking}
 use Rattle.acgrep.specs.declared.options.Shown.{Shown}
-use Rattle.acgrep.specs.declared.options.Shown.TheVariants.{Nothing}
 use Rattle.acgrep.specs.declared.print.Place.{Place}
 use Rattle.acgrep.specs.declared.select.Job.{Job}
 
@@ -138,41 +136,23 @@ pub record ComesName (job : Job) (covering : Covering) (holds : List ℕ → Opt
   pub searched : IfSearched outcome (MarksName job covering holds left read name held held')
   pub begun : IfBroken outcome (BeginsMarksName job covering holds left read name held held')
 
--- the files of these names were searched, one after another; `any` says whether a line is selected
-abbrev pub AreFilesMarked : Job → Covering → (List ℕ → Option (List ℕ)) → (left : Option (List ℕ)) → (read : Bool) → List (List ℕ) → (held held' : Option (List ℕ)) → Bool → Type 0
-AreFilesMarked job covering holds left read [] held held' any = Keeps held held' × (any ≡ false)
-AreFilesMarked job covering holds left read (name ∷ names) held held' any =
-    (meanwhile : Option (List ℕ)) × (first : Bool) × MarksName job covering holds left read name held meanwhile first
-    × MatchBool (is_enough job.shown first)
-    (Keeps meanwhile held' × (any ≡ true))
-    ((others : Bool) × AreFilesMarked job covering holds left (read || is_input name) names meanwhile held' others × (any ≡ (first || others)))
+-- what is searched of files by rules, where what stands under a name is held so and the input has this left at first: what is left of
+-- it then is whether it was read
+abbrev pub mark_work : Job → Covering → (List ℕ → Option (List ℕ)) → (left : Option (List ℕ)) → FileWork Bool
+mark_work job covering holds left = record {
+  Does = λ follows name read read' held held' any. (read' ≡ (read || is_input name)) × MarksName job covering holds left read name held held' any;
+  Begins = λ follows name read held held'. BeginsMarksName job covering holds left read name held held';
+  Leaves = λ name read read'. read' ≡ (read || is_input name);
+  Has = λ name read. (named : Job) × IsNamed job (shown_name job.label.now name) false named × HasMarkedLine named covering (known_of holds name left);
+}
 
--- one of these files has a selected line, whether those before it could be read or not
-abbrev pub OneIsMarked : Job → Covering → (List ℕ → Option (List ℕ)) → (left : Option (List ℕ)) → List (List ℕ) → Type 0
-OneIsMarked job covering holds left [] = ⊥
-OneIsMarked job covering holds left (name ∷ names) =
-    ((named : Job) × IsNamed job (shown_name job.label.now name) false named × HasMarkedLine named covering (known_of holds name left))
-    ⊎ OneIsMarked job covering holds left names
-
--- the files of these names were searched, and the status tells it; under `-q` that is all, even where others cannot be read
+-- the files of these names were searched, and the status tells it
 abbrev pub AreMarkedOr : Job → Covering → (List ℕ → Option (List ℕ)) → (left : Option (List ℕ)) → List (List ℕ) → (held held' : Option (List ℕ)) → ℕ → Type 0
-AreMarkedOr job covering holds left names held held' status =
-    ((any : Bool) × AreFilesMarked job covering holds left false names held held' any × (status ≡ status_of any))
-    ⊎ ((job.shown ≡ Nothing) × (status ≡ 0) × OneIsMarked job covering holds left names)
+AreMarkedOr job covering holds left names held held' status = (read : Bool) × AreDoneOr (mark_work job covering holds left) job.shown names false read held held' status
 
--- of some first ones of the files of these names all that is asked is written, or a beginning of it; and nothing else
-abbrev pub AreMarksBegun : Job → Covering → (List ℕ → Option (List ℕ)) → (left : Option (List ℕ)) → (read : Bool) → List (List ℕ) → (held held' : Option (List ℕ)) → Type 0
-AreMarksBegun job covering holds left read [] held held' = Keeps held held'
-AreMarksBegun job covering holds left read (name ∷ names) held held' =
-    Keeps held held'
-    ⊎ ((meanwhile : Option (List ℕ)) × (((any : Bool) × MarksName job covering holds left read name held meanwhile any) ⊎ BeginsMarksName job covering holds left read name held meanwhile)
-    × AreMarksBegun job covering holds left (read || is_input name) names meanwhile held')
-
--- what was seen is so
-pub record MarksNames (job : Job) (covering : Covering) (holds : List ℕ → Option (List ℕ)) (left : Option (List ℕ)) (names : List (List ℕ)) (held held' : Option (List ℕ)) (seen : Seen) : Type 0 where
-  pub searched : seen.failed ≡ false → AreFilesMarked job covering holds left false names held held' seen.selected
-  pub found : job.shown ≡ Nothing → seen.selected ≡ true → OneIsMarked job covering holds left names
-  pub begun : AreMarksBegun job covering holds left false names held held'
+-- of some first ones of them all that is asked is written, or a beginning of it
+abbrev pub AreMarksBegun : Job → Covering → (List ℕ → Option (List ℕ)) → (left : Option (List ℕ)) → List (List ℕ) → (held held' : Option (List ℕ)) → Type 0
+AreMarksBegun job covering holds left names held held' = AreBegun (mark_work job covering holds left) false names false held held'
 
 -- a marking can begin a file: its rules are those by which it covers lines
 pub record IsMarking {A : Type 0} (G : Automata A) (marking : Marking A) : Type 0 where

@@ -269,10 +269,6 @@ abbrev pub AreReached : Tree → Said → (names files unread : List (List ℕ))
 AreReached tree given names files unread =
     MatchBool given.flags.recursive (AreBelow tree given.rules (ways_by given.flags) names files unread) (AreNamed tree given.rules (ways_by given.flags) names files × (unread ≡ []))
 
--- whether operands are looked at before they are searched
-abbrev pub asks_to_look : Said → Bool
-asks_to_look given = given.flags.recursive || chooses given.rules (ways_by given.flags)
-
 -- whether the only operand is the only file
 abbrev pub is_alone : (names files : List (List ℕ)) → Bool
 is_alone [] files = false
@@ -308,7 +304,7 @@ pub record BeginsReached (known : Known) (screen : Screen) (given : Said) (p : P
   pub reached : AreReached known.tree given names files unread
   pub job : Job
   pub is_job : IsJob given screen (are_several given.flags names files) job
-  pub begun : AreFilesBegun p job false known.holds files left held held'
+  pub begun : AreFilesBegun p job known.holds files left held held'
 
 -- or nothing is
 abbrev pub BeginsOrKeeps : Known → Screen → Said → Patterns → List (List ℕ) → (left held held' : Option (List ℕ)) → Type 0

@@ -83,7 +83,7 @@ pub record BeginsReachedMarks (known : Known) (screen : Screen) (given : Said) (
   pub reached : AreReached known.tree given names files unread
   pub job : Job
   pub is_job : IsJob given screen (are_several given.flags names files) job
-  pub begun : AreMarksBegun job covering known.holds left false files held held'
+  pub begun : AreMarksBegun job covering known.holds left files held held'
 
 -- or nothing was
 abbrev pub MayReachMarked : Known → Screen → Said → Covering → List (List ℕ) → (left held held' : Option (List ℕ)) → Type 0

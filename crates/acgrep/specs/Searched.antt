@@ -7,9 +7,9 @@ use Rattle.std.specs.declared.io.traits.Write.{Ghosts as Writers}
 use Rattle.aho_core.specs.Patterns.{Patterns}
 use Rattle.aho_devices.specs.declared.device.Sink.{Ghosts as SinkGhosts}
 use Rattle.chromesquid.specs.Searcher.{IsBuiltFrom, Searcher}
-use Rattle.tool_parts.specs.Names.{name_bytes}
 use Rattle.acgrep.specs.Contexts.{BeginsLines, BeginsSearched, IsChosenBy, SearchesText, ShowsEach, ShowsGroup, WalksBegun, WalksLines, WalksText, walk_of}
-use Rattle.acgrep.specs.Files.{AreFilesBegun, BeginsFile, IfBroken, IfSearched, SearchesFile, SearchesReader}
+use Rattle.acgrep.specs.Files.{BeginsFile, SearchesFile, SearchesReader}
+use Rattle.acgrep.specs.InTurn.{IfBroken, IfSearched}
 use Rattle.acgrep.specs.Filled.{bytes_buffered}
 use Rattle.acgrep.specs.Guarded.{FindsSelected}
 use Rattle.acgrep.specs.Lines.{lines}
@@ -19,7 +19,6 @@ use Rattle.acgrep.specs.Written.{EachLine, HasMatch, HasNone, IsMatched, IsSelec
 use Rattle.acgrep.specs.declared.buffer.Buffer.{Buffer}
 use Rattle.acgrep.specs.declared.files.Outcome.{Outcome}
 use Rattle.acgrep.specs.declared.options.Context.{Context}
-use Rattle.acgrep.specs.declared.open.Open.{Ghosts as Openers}
 use Rattle.acgrep.specs.declared.print.Place.{Place}
 use Rattle.acgrep.specs.declared.select.Job.{Job}
 use Rattle.acgrep.specs.declared.select.State.{State}
@@ -165,11 +164,6 @@ module _ {R W : Type 0} (readers : Readers R) (sinks : SinkGhosts W) (searcher :
   abbrev pub FindsBy : {E : Type 0} → Buffer → R → R → W → W → Result Bool E → Type 0
   FindsBy buffer reader reader' old new result = ForLines job.style.ending (IsBuiltFrom searcher)
       (λ p. IfOk result (FindsSelected p job (bytes_buffered buffer) (readers.remaining reader) (readers.remaining reader') (sinks.taken old) (sinks.taken new)))
-
--- of some first ones of the files of these names all that is asked is written, or a beginning of it
-abbrev pub BeginsFilesBy : {F X R W : Type 0} → Openers F X → Readers R → SinkGhosts W → Searcher → Job → F → List (Bor (List ℕ)) → R → W → W → Type 0
-BeginsFilesBy openers readers sinks searcher job files names input old new = ForLines job.style.ending (IsBuiltFrom searcher)
-    (λ p. AreFilesBegun p job false (openers.holds files) (name_bytes names) (readers.remaining input) (sinks.taken old) (sinks.taken new))
 
 -- what is asked of lines around a selected one is written, from a place on
 abbrev pub ShowsEachBy : {W : Type 0} → Writers W → Searcher → Job → Place → List (List ℕ) → W → W → {T E : Type 0} → Result T E → Type 0

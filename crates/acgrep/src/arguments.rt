@@ -18,11 +18,11 @@ use crate::format::{Piece, read_format};
 use crate::long::{Long, Valued, option_of};
 use crate::options::{Color, Flags, switch_of};
 use crate::rules::{Rule, Sense, without_slashes};
-use tool_parts::options::argument::{Argument, argument_of};
-use tool_parts::options::found::NotFound;
 use chromesquid::MatchKind;
 use std::alloc::{AllocError, Global};
 use std::str;
+use tool_parts::options::argument::{Argument, argument_of};
+use tool_parts::options::found::NotFound;
 
 /// The names of the match kinds.
 const STANDARD: &[u8] = b"standard";

@@ -5,6 +5,7 @@ ghost use Rattle.tool_parts.specs.Names.{name_bytes, or_input};
 ghost use Rattle.acgrep.specs.Folders.{AreChosen, Chooses, IsKept, is_passed, missed_of, tree_of};
 ghost use Rattle.acgrep.specs.Listed.{listed_bytes};
 ghost use Rattle.acgrep.specs.Rules.{rules_said};
+ghost use Rattle.acgrep.specs.Runs.{chooses};
 
 use crate::folders::{Folders, Kind};
 use crate::keys::is_input;
@@ -80,11 +81,22 @@ fn is_passed(ways: Ways, kind: Kind) -> bool
     }
 }
 
+/// Whether operands are chosen: there are rules, or those of some kind are passed over.
+fn chooses(rules: &[Rule<'_>], ways: Ways) -> bool
+    ensures { result ≡ chooses (rules_said rules.now) ways }
+{
+    !rules.is_empty() || ways.passes()
+}
+
 /// Whether an operand is not left out. One that cannot be looked at is searched, so that it is told.
 fn is_kept<F: Folders>(files: &F, rules: &[Rule<'_>], ways: Ways, name: &[u8]) -> bool
     ensures kept { IsKept (tree_of F.Folders files.now) (rules_said rules.now) ways name.now result }
 {
     if is_input(name) {
+        return true;
+    }
+    // Where none is left out it is not looked at.
+    if !chooses(rules, ways) {
         return true;
     }
     match look_at(files, name, true) {

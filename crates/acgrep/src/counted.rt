@@ -22,9 +22,9 @@ use crate::open::Open;
 use crate::tally::{put_rows, tally, zeros};
 use crate::unread::tell_total;
 use chromesquid::{AhoCorasick, FromWrite, Sink, write_whole};
-use tool_parts::errors::Errors;
 use std::alloc::{AllocError, Global};
 use std::io::Read;
+use tool_parts::errors::Errors;
 
 /// Searches the files that these operands name, or counts the matches of each pattern in them.
 pub fn search_or_count<F: Open + Folders, R: Read, W: Sink, E: Sink>(

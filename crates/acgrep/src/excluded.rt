@@ -13,10 +13,10 @@ use crate::open::Open;
 use crate::rules::{Rule, Sense};
 use crate::tell::tell_memory;
 use chromesquid::Sink;
-use tool_parts::errors::Errors;
 use std::alloc::{AllocError, Global};
 use std::io;
 use std::io::Read;
+use tool_parts::errors::Errors;
 
 /// The texts of the files of rules, one for each rule: an empty one for a rule that is a glob. There is none where a file cannot be read,
 /// which is told.

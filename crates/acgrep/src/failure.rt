@@ -1,9 +1,9 @@
 //! Why a search stops.
 
 use chromesquid::{MatchError, StreamError};
-use tool_parts::reason::Reason;
 use std::alloc::AllocError;
 use std::io;
+use tool_parts::reason::Reason;
 
 /// Why a search stops before its end.
 #[derive(Drop)]

@@ -5,17 +5,18 @@ ghost use Rattle.std.specs.Io.KnownBytes.{Appends};
 ghost use Rattle.chromesquid.specs.Searcher.{IsBuiltFrom, IsBuiltFromSome};
 ghost use Rattle.acgrep.specs.Binary.{takes_text};
 ghost use Rattle.acgrep.specs.Filled.{ReadsOn};
-ghost use Rattle.tool_parts.specs.Names.{name_bytes};
+ghost use Rattle.acgrep.specs.Listed.{listed_bytes};
 ghost use Rattle.acgrep.specs.Told.{IsMessage, TellsIf, TellsOfEnd, TellsOfFiles, TellsOfOutcome, files_told};
-ghost use Rattle.acgrep.specs.Files.{AreFilesBegun, AreSearchedOr, BeginsName, BeginsTotal, EndsFile, IfBroken, IfSearched, IsNamed, LeavesInput, SearchesName, SearchesNames, files_named, is_enough, nothing_seen, seen_after, shown_name, status_by, total_if};
+ghost use Rattle.acgrep.specs.Files.{AreFilesBegun, AreSearchedOr, BeginsName, BeginsTotal, EndsFile, IsNamed, LeavesInput, SearchesName, search_work, shown_name, total_if};
+ghost use Rattle.acgrep.specs.InTurn.{AreSeen, IfBroken, IfSearched, is_enough, nothing_seen, seen_after, status_by};
 ghost use Rattle.acgrep.specs.Printed.{Puts};
-ghost use Rattle.acgrep.specs.Searched.{BeginsFileBy, BeginsFilesBy, SearchesFileBy, SearchesReaderBy};
+ghost use Rattle.acgrep.specs.Searched.{BeginsFileBy, SearchesFileBy, SearchesReaderBy};
 ghost use Rattle.acgrep.specs.Selected.{ForJob};
 
 use crate::buffer::Buffer;
 use crate::failure::Stop;
 use crate::guarded::search_guarded;
-use crate::keys::{INPUT, is_input, open_named};
+use crate::keys::{is_input, open_named};
 use crate::open::Open;
 use crate::options::Shown;
 use crate::print::{put_count, put_name};
@@ -24,11 +25,11 @@ use crate::stream::search_front;
 use crate::tell::tell_memory;
 use crate::unread::{tell_closed, tell_same, tell_stop, tell_total, tell_unreadable};
 use chromesquid::{AhoCorasick, Sink, write_whole};
-use tool_parts::errors::Errors;
-use tool_parts::reason::Reason;
 use std::alloc::Global;
 use std::io::{Read, Write};
 use std::{io, str};
+use tool_parts::errors::Errors;
+use tool_parts::reason::Reason;
 
 /// The files of a call.
 #[derive(Clone, Copy)]
@@ -124,11 +125,12 @@ fn is_enough(shown: Shown, any: bool) -> bool
     }
 }
 
-/// Searches all files, and answers the status. A file that cannot be read does not stop the others.
-pub fn search_files<F: Open, R: Read, W: Sink, E: Sink>(
+/// Searches the files of these names, and answers the status. A file that cannot be read does not stop the others.
+pub fn search_names<F: Open, R: Read, W: Sink, E: Sink>(
     searcher: &AhoCorasick,
     job: &Job<'_>,
-    files: &Files<'_, F>,
+    files: &F,
+    names: &[Vec<u8>],
     input: &mut R,
     output: &mut W,
     errors: &mut Errors<'_, E>,
@@ -136,72 +138,25 @@ pub fn search_files<F: Open, R: Read, W: Sink, E: Sink>(
     requires of { IsBuiltFromSome searcher.now }
     ensures bound { result ≤ 2 }
     ensures searched { ForJob job.now (IsBuiltFrom searcher.now) (λ p. result < 2
-        → AreSearchedOr p job.now (F.holds files.now.files.now) (files_named files.now)
+        → AreSearchedOr p job.now (F.holds files.now) (listed_bytes names.now)
         (R.remaining input.old) (R.remaining input.new)
         (W.taken output.old) (W.taken output.new) result) }
 
     // Whatever the status, a beginning of what is asked is written.
     ensures begun { ForJob job.now (IsBuiltFrom searcher.now) (λ p.
-        AreFilesBegun p job.now false (F.holds files.now.files.now) (files_named files.now)
+        AreFilesBegun p job.now (F.holds files.now) (listed_bytes names.now)
         (R.remaining input.old) (W.taken output.old) (W.taken output.new)) }
 
     // What is told tells why a file was not searched; where the status tells of no error, nothing is told.
-    ensures told { TellsOfFiles E.Sink job.now.hushed job.now.label.now (files_named files.now)
+    ensures told { TellsOfFiles E.Sink job.now.hushed job.now.label.now (listed_bytes names.now)
         job.now.shown result errors.old errors.new }
 {
-    if files.names.is_empty() {
-        let names = [INPUT];
-        return search_names(
-            searcher,
-            job,
-            files.alloc,
-            files.files,
-            &names,
-            input,
-            output,
-            errors,
-        );
-    }
-    search_names(
-        searcher,
-        job,
-        files.alloc,
-        files.files,
-        files.names,
-        input,
-        output,
-        errors,
-    )
-}
-
-/// Searches the files of these names, and answers the status.
-fn search_names<F: Open, R: Read, W: Sink, E: Sink>(
-    searcher: &AhoCorasick,
-    job: &Job<'_>,
-    alloc: Global,
-    files: &F,
-    names: &[&[u8]],
-    input: &mut R,
-    output: &mut W,
-    errors: &mut Errors<'_, E>,
-) -> u8
-    requires of { IsBuiltFromSome searcher.now }
-    ensures bound { result ≤ 2 }
-    ensures searched { ForJob job.now (IsBuiltFrom searcher.now) (λ p. result < 2
-        → AreSearchedOr p job.now (F.holds files.now) (name_bytes names.now)
-        (R.remaining input.old) (R.remaining input.new)
-        (W.taken output.old) (W.taken output.new) result) }
-    ensures begun { BeginsFilesBy F.Open R.Read W.Sink searcher.now job.now
-        files.now names.now input.old output.old output.new }
-    ensures told { TellsOfFiles E.Sink job.now.hushed job.now.label.now (name_bytes names.now)
-        job.now.shown result errors.old errors.new }
-{
-    let Ok(mut buffer) = Buffer::new(alloc) else {
+    let Ok(mut buffer) = Buffer::new(job.alloc) else {
         tell_memory(errors);
         return 2;
     };
-    let mut page = Vec::new(alloc);
-    let mut state = State::new(alloc, job.first);
+    let mut page = Vec::new(job.alloc);
+    let mut state = State::new(job.alloc, job.first);
     let seen = search_each(
         searcher,
         job,
@@ -222,7 +177,7 @@ fn search_each<F: Open, R: Read, W: Sink, E: Sink>(
     searcher: &AhoCorasick,
     job: &Job<'_>,
     files: &F,
-    names: &[&[u8]],
+    names: &[Vec<u8>],
     buffer: &mut Buffer,
     input: &mut R,
     state: &mut State,
@@ -231,13 +186,11 @@ fn search_each<F: Open, R: Read, W: Sink, E: Sink>(
     errors: &mut Errors<'_, E>,
 ) -> Seen
     requires of { IsBuiltFromSome searcher.now }
-    ensures searched { ForJob job.now (IsBuiltFrom searcher.now) (λ p.
-        SearchesNames p job.now (F.holds files.now) (name_bytes names.now)
+    ensures seen { ForJob job.now (IsBuiltFrom searcher.now) (λ p.
+        AreSeen (search_work p job.now (F.holds files.now)) job.now.shown (listed_bytes names.now)
         (R.remaining input.old) (R.remaining input.new)
         (W.taken output.old) (W.taken output.new) result) }
-    ensures begun { BeginsFilesBy F.Open R.Read W.Sink searcher.now job.now
-        files.now names.now input.old output.old output.new }
-    ensures told { TellsIf E.Sink (IsMessage (files_told job.now.hushed job.now.label.now (name_bytes names.now)))
+    ensures told { TellsIf E.Sink (IsMessage (files_told job.now.hushed job.now.label.now (listed_bytes names.now)))
         job.now.hushed result.failed errors.old errors.new }
 {
     let mut seen = Seen::new();
@@ -247,7 +200,7 @@ fn search_each<F: Open, R: Read, W: Sink, E: Sink>(
             searcher,
             job,
             files,
-            rest[0],
+            rest[0].as_slice(),
             seen.selected,
             buffer,
             input,
@@ -263,7 +216,7 @@ fn search_each<F: Open, R: Read, W: Sink, E: Sink>(
 }
 
 /// Whether a further file is to be searched.
-pub fn goes_on(rest: &[&[u8]], seen: Seen) -> bool
+pub fn goes_on(rest: &[Vec<u8>], seen: Seen) -> bool
     ensures some { IsTrue result → 0 < length rest.now }
     ensures going { IsTrue result → seen.ended ≡ false }
     ensures stops { result ≡ false → (rest.now ≡ []) ⊎ (seen.ended ≡ true) }
@@ -297,13 +250,12 @@ fn search_name<F: Open, R: Read, W: Sink, E: Sink>(
     ensures told { TellsOfOutcome E.Sink job.now.hushed (shown_name job.now.label.now name.now) result
         errors.old errors.new }
 {
+    let named = job_for(job, shown_name(job, name), follows);
     if is_input(name) {
-        let named = job_for(job, job.label, follows);
         return search_input(
             searcher, &named, files, buffer, input, state, page, output, errors,
         );
     }
-    let named = job_for(job, name, follows);
     search_named(
         searcher, &named, files, name, buffer, state, page, output, errors,
     )
@@ -428,33 +380,30 @@ fn search_one<R: Read, W: Sink, E: Sink>(
     if job.is_guarded() {
         return match search_guarded(searcher, job, buffer, reader, state, page, output) {
             Ok(any) => Outcome::Searched(any),
-            Err(stop) => break_off(job, state, &stop, page, output, errors),
+            Err(stop) => break_off(job, state.selected, &stop, output, errors),
         };
     }
     state.begin(job);
     let alone = job.takes_text();
     match search_front(searcher, job, alone, buffer, reader, state, page, output) {
-        Ok(_) => end_file(job, state, page, output, errors),
-        Err(stop) => break_off(job, state, &stop, page, output, errors),
+        Ok(_) => end_file(job, state.selected, output, errors),
+        Err(stop) => break_off(job, state.selected, &stop, output, errors),
     }
 }
 
-/// Writes what is asked of a file that was searched.
-fn end_file<W: Sink, E: Sink>(
+/// Writes what is asked of a file that was searched, of which this many lines were selected.
+pub fn end_file<W: Sink, E: Sink>(
     job: &Job<'_>,
-    state: &State,
-    page: &mut Vec<u8>,
+    selected: u64,
     output: &mut W,
     errors: &mut Errors<'_, E>,
 ) -> Outcome
-    ensures ended { IfSearched result (EndsFile job.now state.now.selected
-        (W.taken output.old) (W.taken output.new)) }
-    ensures begun { IfBroken result (BeginsTotal job.now state.now.selected
-        (W.taken output.old) (W.taken output.new)) }
+    ensures ended { IfSearched result (EndsFile job.now selected (W.taken output.old) (W.taken output.new)) }
+    ensures begun { IfBroken result (BeginsTotal job.now selected (W.taken output.old) (W.taken output.new)) }
     ensures told { TellsOfEnd E.Sink job.now.hushed result errors.old errors.new }
 {
-    match put_total(job, state.selected, page, output) {
-        Ok(()) => Outcome::Searched(state.selected > 0),
+    match put_total(job, selected, output) {
+        Ok(()) => Outcome::Searched(selected > 0),
         Err(stop) => {
             tell_total(&stop, errors);
             Outcome::Stopped
@@ -463,16 +412,15 @@ fn end_file<W: Sink, E: Sink>(
 }
 
 /// Tells why a search stopped. Of a file that cannot be read to its end is written what is asked of it so far.
-fn break_off<W: Sink, E: Sink>(
+pub fn break_off<W: Sink, E: Sink>(
     job: &Job<'_>,
-    state: &State,
+    selected: u64,
     stop: &Stop,
-    page: &mut Vec<u8>,
     output: &mut W,
     errors: &mut Errors<'_, E>,
 ) -> Outcome
     ensures unsearched { IfSearched result (λ any. ⊥) }
-    ensures begun { BeginsTotal job.now state.now.selected (W.taken output.old) (W.taken output.new) }
+    ensures begun { BeginsTotal job.now selected (W.taken output.old) (W.taken output.new) }
     ensures told { TellsOfOutcome E.Sink job.now.hushed job.now.style.name.now result
         errors.old errors.new }
 {
@@ -480,7 +428,7 @@ fn break_off<W: Sink, E: Sink>(
     if tell_stop(job, stop, errors) {
         return Outcome::Stopped;
     }
-    match put_total(job, state.selected, page, output) {
+    match put_total(job, selected, output) {
         Ok(()) => Outcome::Unread,
         Err(stop) => {
             tell_total(&stop, errors);
@@ -490,18 +438,13 @@ fn break_off<W: Sink, E: Sink>(
 }
 
 /// Writes what is asked of a file as a whole, of which this many lines were selected. It is put together first.
-pub fn put_total<W: Sink>(
-    job: &Job<'_>,
-    selected: u64,
-    page: &mut Vec<u8>,
-    output: &mut W,
-) -> Result<(), Stop>
+fn put_total<W: Sink>(job: &Job<'_>, selected: u64, output: &mut W) -> Result<(), Stop>
     ensures written { OnOk result (Appends (W.taken output.old) (W.taken output.new)
         (total_if job.now.shown job.now.style selected)) }
     ensures begun { BeginsTotal job.now selected (W.taken output.old) (W.taken output.new) }
 {
-    page.clear();
-    put_asked(job, selected, page)?;
+    let mut page = Vec::new(job.alloc);
+    put_asked(job, selected, &mut page)?;
     Ok(write_whole(output, page.as_slice())?)
 }
 
@@ -528,4 +471,11 @@ pub fn job_for<'a>(job: &Job<'a>, name: &'a [u8], follows: bool) -> Job<'a>
     named.style = style;
     named.follows = follows;
     named
+}
+
+/// How a file is called in what is written.
+pub fn shown_name<'a>(job: &Job<'a>, name: &'a [u8]) -> &'a [u8]
+    ensures { result.now ≡ shown_name job.now.label.now name.now }
+{
+    if is_input(name) { job.label } else { name }
 }

@@ -17,11 +17,11 @@ use crate::patterns::Keys;
 use crate::tell::{tell_build, tell_input, tell_memory, tell_unopened, tell_zero};
 use chromesquid::{BuildError, Sink};
 use memchr::memchr_iter;
-use tool_parts::errors::Errors;
-use tool_parts::reason::Reason;
 use std::alloc::Global;
 use std::io::{ErrorKind, Read};
 use std::{io, str};
+use tool_parts::errors::Errors;
+use tool_parts::reason::Reason;
 
 /// The name of standard input among the arguments.
 pub const INPUT: &[u8] = b"-";

@@ -57,16 +57,16 @@ use bytes::{arguments, variable};
 use chromesquid::FromWrite;
 use colors::Screen;
 use open::System;
-use tool_parts::closed::{Noted, Quiet};
-use tool_parts::errors::Errors;
-use tool_parts::reason::Reason;
-use tool_parts::unopened::{DEVICE, fill_closed};
 use run::{refuse, run};
 use std::cell::Cell;
 use std::env;
 use std::io::{BufWriter, IsTerminal};
 use std::process::ExitCode;
 use tell::tell_fault;
+use tool_parts::closed::{Noted, Quiet};
+use tool_parts::errors::Errors;
+use tool_parts::reason::Reason;
+use tool_parts::unopened::{DEVICE, fill_closed};
 
 /// How many bytes of output are kept before they are written.
 const OUTPUT_CAPACITY: usize = 64 * 1024;

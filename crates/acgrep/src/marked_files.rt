@@ -1,31 +1,32 @@
 //! Searching the files of a call by rules, one after another.
 
 ghost use Rattle.std.specs.Prelude.{◌≡◌, ◌<◌, ◌≤◌, ◌||◌, false};
-ghost use Rattle.tool_parts.specs.Names.{is_input, name_bytes, or_input};
+ghost use Rattle.tool_parts.specs.Names.{is_input};
 ghost use Rattle.tool_parts.specs.Telling.{TellsSome};
-ghost use Rattle.acgrep.specs.Files.{BeginsTotal, EndsFile, IfBroken, IfSearched};
-ghost use Rattle.acgrep.specs.MarkedFiles.{AreMarkedOr, AreMarksBegun, ComesName, IfMarks, IsMarking, MarksAgain, MarksBytes, MarksNames, SameMarking};
+ghost use Rattle.acgrep.specs.InTurn.{AreSeen};
+ghost use Rattle.acgrep.specs.Listed.{listed_bytes};
+ghost use Rattle.acgrep.specs.MarkedFiles.{AreMarkedOr, AreMarksBegun, ComesName, IfMarks, IsMarking, MarksAgain, MarksBytes, SameMarking, mark_work};
 ghost use Rattle.acgrep.specs.Told.{TellsIf, TellsOfEnd, TellsOfOutcome, TellsOutcome, TellsStatus};
 ghost use Rattle.acgrep.specs.ToldByRules.{IsMarkTold};
 
 use crate::failure::Stop;
-use crate::files::{Files, Outcome, Seen, goes_on, job_for, put_total, writes_into};
-use crate::keys::{INPUT, is_input, open_named};
+use crate::files::{Outcome, Seen, break_off, end_file, goes_on, job_for, shown_name, writes_into};
+use crate::keys::{is_input, open_named};
 use crate::marked::Task;
 use crate::marked_lines::{End, end_of, mark_source};
 use crate::noting::Noting;
 use crate::open::Open;
 use crate::select::Job;
 use crate::tell::{PROGRAM, tell_memory};
-use crate::unread::{tell_closed, tell_same, tell_stop, tell_total, tell_unread, tell_unreadable};
+use crate::unread::{tell_closed, tell_same, tell_unreadable};
 use chromesquid::{Automaton, FromRead, Sink};
-use tool_parts::errors::Errors;
-use tool_parts::reason::Reason;
 use rule_files::{RuleFlaw, bad_rule, tell_rule};
 use secret_rules::{LineCover, Rule};
 use std::alloc::Global;
 use std::cell::Cell;
 use std::io::Read;
+use tool_parts::errors::Errors;
+use tool_parts::reason::Reason;
 
 /// What stands for a file in messages about a rule that cannot be used.
 const RULES: &[u8] = b"--rules";
@@ -43,47 +44,12 @@ pub struct Marking<'r, 'a, A> {
     pub long: u64,
 }
 
-/// Searches all files, and answers the status. A file that cannot be read does not stop the others.
-pub fn mark_files<A: Automaton, F: Open, R: Read, W: Sink, E: Sink>(
-    marking: &mut Marking<'_, '_, A>,
-    job: &Job<'_>,
-    files: &Files<'_, F>,
-    input: &mut R,
-    output: &mut W,
-    errors: &mut Errors<'_, E>,
-) -> u8
-    requires ready { IsMarking A.Automaton marking.old }
-    requires unread { marking.old.input_read ≡ false }
-    ensures bound { result ≤ 2 }
-    ensures searched { IfMarks A.Automaton marking.old.cover (λ covering. result < 2
-        → AreMarkedOr job.now covering (F.holds files.now.files.now) (R.remaining input.old)
-        (or_input (name_bytes files.now.names.now)) (W.taken output.old) (W.taken output.new) result) }
-    ensures begun { IfMarks A.Automaton marking.old.cover (λ covering.
-        AreMarksBegun job.now covering (F.holds files.now.files.now) (R.remaining input.old) false
-        (or_input (name_bytes files.now.names.now)) (W.taken output.old) (W.taken output.new)) }
-    ensures told { TellsStatus E.Sink IsMarkTold job.now.hushed job.now.shown result errors.old errors.new }
-{
-    if files.names.is_empty() {
-        let names = [INPUT];
-        return mark_names(marking, job, files.files, &names, input, output, errors);
-    }
-    mark_names(
-        marking,
-        job,
-        files.files,
-        files.names,
-        input,
-        output,
-        errors,
-    )
-}
-
-/// Searches the files of these names, one after another, and answers the status.
+/// Searches the files of these names, one after another, and answers the status. A file that cannot be read does not stop the others.
 pub fn mark_names<A: Automaton, F: Open, R: Read, W: Sink, E: Sink>(
     marking: &mut Marking<'_, '_, A>,
     job: &Job<'_>,
     files: &F,
-    names: &[&[u8]],
+    names: &[Vec<u8>],
     input: &mut R,
     output: &mut W,
     errors: &mut Errors<'_, E>,
@@ -93,10 +59,10 @@ pub fn mark_names<A: Automaton, F: Open, R: Read, W: Sink, E: Sink>(
     ensures bound { result ≤ 2 }
     ensures searched { IfMarks A.Automaton marking.old.cover (λ covering. result < 2
         → AreMarkedOr job.now covering (F.holds files.now) (R.remaining input.old)
-        (name_bytes names.now) (W.taken output.old) (W.taken output.new) result) }
+        (listed_bytes names.now) (W.taken output.old) (W.taken output.new) result) }
     ensures begun { IfMarks A.Automaton marking.old.cover (λ covering.
-        AreMarksBegun job.now covering (F.holds files.now) (R.remaining input.old) false
-        (name_bytes names.now) (W.taken output.old) (W.taken output.new)) }
+        AreMarksBegun job.now covering (F.holds files.now) (R.remaining input.old)
+        (listed_bytes names.now) (W.taken output.old) (W.taken output.new)) }
     ensures told { TellsStatus E.Sink IsMarkTold job.now.hushed job.now.shown result errors.old errors.new }
 {
     let seen = mark_each(marking, job, files, names, input, output, errors);
@@ -108,7 +74,7 @@ fn mark_each<A: Automaton, F: Open, R: Read, W: Sink, E: Sink>(
     marking: &mut Marking<'_, '_, A>,
     job: &Job<'_>,
     files: &F,
-    names: &[&[u8]],
+    names: &[Vec<u8>],
     input: &mut R,
     output: &mut W,
     errors: &mut Errors<'_, E>,
@@ -116,14 +82,23 @@ fn mark_each<A: Automaton, F: Open, R: Read, W: Sink, E: Sink>(
     requires ready { IsMarking A.Automaton marking.old }
     requires unread { marking.old.input_read ≡ false }
     ensures seen { IfMarks A.Automaton marking.old.cover (λ covering.
-        MarksNames job.now covering (F.holds files.now) (R.remaining input.old)
-        (name_bytes names.now) (W.taken output.old) (W.taken output.new) result) }
+        AreSeen (mark_work job.now covering (F.holds files.now) (R.remaining input.old)) job.now.shown
+        (listed_bytes names.now) false marking.new.input_read
+        (W.taken output.old) (W.taken output.new) result) }
     ensures told { TellsIf E.Sink IsMarkTold job.now.hushed result.failed errors.old errors.new }
 {
     let mut seen = Seen::new();
     let mut rest = names;
     while goes_on(rest, seen) {
-        let outcome = mark_name(marking, job, files, rest[0], input, output, errors);
+        let outcome = mark_name(
+            marking,
+            job,
+            files,
+            rest[0].as_slice(),
+            input,
+            output,
+            errors,
+        );
         seen = seen.after(job.shown, outcome);
         rest = &rest[1..];
     }
@@ -150,13 +125,12 @@ fn mark_name<A: Automaton, F: Open, R: Read, W: Sink, E: Sink>(
     ensures same { SameMarking marking.old marking.new }
     ensures ready { IsMarking A.Automaton marking.new }
 {
+    let named = job_for(job, shown_name(job, name), false);
     if is_input(name) {
         let again = marking.input_read;
         marking.input_read = true;
-        let named = job_for(job, job.label, false);
         return mark_input(marking, &named, files, again, input, output, errors);
     }
-    let named = job_for(job, name, false);
     mark_named(marking, &named, files, name, output, errors)
 }
 
@@ -221,7 +195,7 @@ fn mark_input<A: Automaton, F: Open, R: Read, W: Sink, E: Sink>(
         return Outcome::Unread;
     }
     if again {
-        return end_marked(job, 0, output, errors);
+        return end_file(job, 0, output, errors);
     }
     mark_reader(marking, job, input, output, errors)
 }
@@ -254,13 +228,13 @@ fn mark_reader<A: Automaton, R: Read + Drop, W: Sink, E: Sink>(
     marking.long = marking.long.saturating_add(came.pass.long);
     let selected = came.pass.selected;
     match end_of(came, reason.get(), job.shown) {
-        None => end_marked(job, selected, output, errors),
+        None => end_file(job, selected, output, errors),
         Some(End::Rule(number)) => {
             let _ = output.flush();
             tell_too_big(job.alloc, marking.rules, number, errors);
             Outcome::Stopped
         }
-        Some(End::Stop(stop)) => break_marked(job, selected, &stop, output, errors),
+        Some(End::Stop(stop)) => break_off(job, selected, &stop, output, errors),
     }
 }
 
@@ -274,52 +248,5 @@ fn tell_too_big<E: Sink>(alloc: Global, rules: &[Rule], number: usize, errors: &
     match bad_rule(alloc, number.saturating_add(1), rule, RuleFlaw::TooBig) {
         Ok(bad) => tell_rule(errors, PROGRAM, RULES, &bad),
         Err(_) => tell_memory(errors),
-    }
-}
-
-/// Writes what is asked of a file that was searched, of which so many lines are selected.
-fn end_marked<W: Sink, E: Sink>(
-    job: &Job<'_>,
-    selected: u64,
-    output: &mut W,
-    errors: &mut Errors<'_, E>,
-) -> Outcome
-    ensures ended { IfSearched result (EndsFile job.now selected (W.taken output.old) (W.taken output.new)) }
-    ensures begun { IfBroken result (BeginsTotal job.now selected (W.taken output.old) (W.taken output.new)) }
-    ensures told { TellsOfEnd E.Sink job.now.hushed result errors.old errors.new }
-{
-    let mut page = Vec::new(job.alloc);
-    match put_total(job, selected, &mut page, output) {
-        Ok(()) => Outcome::Searched(selected > 0),
-        Err(stop) => {
-            tell_total(&stop, errors);
-            Outcome::Stopped
-        }
-    }
-}
-
-/// Tells why a search stopped. Of a file that cannot be read to its end is written what is asked of it so far.
-fn break_marked<W: Sink, E: Sink>(
-    job: &Job<'_>,
-    selected: u64,
-    stop: &Stop,
-    output: &mut W,
-    errors: &mut Errors<'_, E>,
-) -> Outcome
-    ensures unsearched { IfSearched result (λ any. ⊥) }
-    ensures begun { BeginsTotal job.now selected (W.taken output.old) (W.taken output.new) }
-    ensures told { TellsOfOutcome E.Sink job.now.hushed job.now.style.name.now result errors.old errors.new }
-{
-    let _ = output.flush();
-    if tell_stop(job, stop, errors) {
-        return Outcome::Stopped;
-    }
-    let mut page = Vec::new(job.alloc);
-    match put_total(job, selected, &mut page, output) {
-        Ok(()) => Outcome::Unread,
-        Err(stop) => {
-            tell_total(&stop, errors);
-            Outcome::Stopped
-        }
     }
 }

@@ -10,8 +10,8 @@ use crate::marked::{Marked, Pass, Task, needs_one};
 use crate::options::Shown;
 use crate::print::Place;
 use chromesquid::{Automaton, Sink, Source, StreamError};
-use tool_parts::reason::Reason;
 use secret_rules::{LineCover, LineError, MarkError, visit_lines};
+use tool_parts::reason::Reason;
 
 /// What comes of the lines of a source.
 #[derive(Clone, Copy)]

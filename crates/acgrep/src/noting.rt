@@ -2,10 +2,10 @@
 
 ghost use Rattle.std.specs.Prelude.{◌≡◌};
 
-use tool_parts::reason::Reason;
 use std::cell::Cell;
 use std::io;
 use std::io::Read;
+use tool_parts::reason::Reason;
 
 /// A reader that notes why its last read failed that did.
 #[derive(Drop)]

@@ -13,11 +13,11 @@ use crate::keys::{read_text, tell_source};
 use crate::open::Open;
 use crate::tell::{PROGRAM, tell_memory};
 use chromesquid::{BuildError, Sink};
-use tool_parts::errors::Errors;
 use rule_files::{TextFault, rules_in, tell_fault};
 use secret_rules::{BUILTIN, Rule, Rules, RulesError};
 use std::alloc::{AllocError, Global};
 use std::io::Read;
+use tool_parts::errors::Errors;
 
 /// The name that stands for the rules of the program.
 const OWN: &[u8] = b"builtin";

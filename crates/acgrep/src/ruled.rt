@@ -7,19 +7,18 @@ ghost use Rattle.secret_rules.specs.Ready.{CanCoverLines, rules_of};
 ghost use Rattle.acgrep.specs.Arguments.{said, shown_by};
 ghost use Rattle.acgrep.specs.Folders.{known_by};
 ghost use Rattle.acgrep.specs.MarkedFiles.{IsMarking, MarksBy};
-ghost use Rattle.acgrep.specs.Runs.{asks_to_look};
 ghost use Rattle.acgrep.specs.Told.{TellsStatus};
 ghost use Rattle.acgrep.specs.ToldByRules.{IsMarkTold};
 ghost use Rattle.acgrep.specs.declared.options.Shown.TheVariants.{Nothing};
 ghost use Rattle.acgrep.specs.RunsByRules.{BeginsByRules, BeginsMarking, MarksAsked, MarksReached, MarksRuled, MayBeginAsked, MayBeginMarks, SearchesMarking, unwritten_line, long_message, most_said, no_patterns};
 
 use crate::arguments::Given;
-use crate::below::{are_several, asks_to_look, reach, slices_of, status_below, tell_each};
+use crate::below::{are_several, reach, status_below};
 use crate::colors::Screen;
 use crate::excluded::{expanded, read_globs};
 use crate::files::Files;
 use crate::folders::Folders;
-use crate::marked_files::{Marking, mark_files, mark_names};
+use crate::marked_files::{Marking, mark_names};
 use crate::open::Open;
 use crate::options::Flags;
 use crate::rule_lists::{read_rules, tell_all};
@@ -27,11 +26,11 @@ use crate::run::{job_of, with_rules};
 use crate::tell::{PROGRAM, tell_memory};
 use chromesquid::noncontiguous::NFA;
 use chromesquid::{Automaton, BuildError, Sink};
-use tool_parts::errors::Errors;
 use rule_files::{MAX_DIGITS, digits_of};
 use secret_rules::{LineCover, Rules};
 use std::alloc::Global;
 use std::io::Read;
+use tool_parts::errors::Errors;
 
 /// How many bytes a line may have, where nothing else is said.
 const USUAL_MOST: u64 = 1024 * 1024;
@@ -193,55 +192,14 @@ fn mark_operands<A: Automaton, F: Open + Folders, R: Read, W: Sink, E: Sink>(
     ensures told { TellsStatus E.Sink IsMarkTold given.now.flags.no_messages (shown_by given.now.flags)
         result errors.old errors.new }
 {
-    if asks_to_look(given) {
-        return mark_below(marking, given, screen, operands, input, output, errors);
-    }
-    let job = job_of(operands.alloc, given, screen, operands.names.len() > 1);
-    mark_files(marking, &job, operands, input, output, errors)
-}
-
-/// Searches those that globs do not leave out, and the files below folders where that is asked for.
-fn mark_below<A: Automaton, F: Open + Folders, R: Read, W: Sink, E: Sink>(
-    marking: &mut Marking<'_, '_, A>,
-    given: &Given<'_>,
-    screen: &Screen<'_>,
-    operands: &Files<'_, F>,
-    input: &mut R,
-    output: &mut W,
-    errors: &mut Errors<'_, E>,
-) -> u8
-    requires ready { IsMarking A.Automaton marking.old }
-    requires unread { marking.old.input_read ≡ false }
-    requires looks { asks_to_look (said given.now) ≡ true }
-    ensures bound { result ≤ 2 }
-    ensures searched { SearchesMarking F.Open F.Folders R.Read W.Sink A.Automaton operands.now.files.now
-        marking.old screen.now (said given.now) operands.now.names.now input.old output.old output.new result }
-    ensures begun { BeginsMarking F.Open F.Folders R.Read W.Sink A.Automaton operands.now.files.now
-        marking.old screen.now (said given.now) operands.now.names.now input.old output.old output.new }
-    ensures told { TellsStatus E.Sink IsMarkTold given.now.flags.no_messages (shown_by given.now.flags)
-        result errors.old errors.new }
-{
-    let Ok(found) = reach(operands.alloc, operands.files, given, operands.names) else {
-        tell_memory(errors);
+    let Some(found) = reach(given, operands, errors) else {
         return 2;
     };
-    let Ok(names) = slices_of(operands.alloc, found.names.as_slice()) else {
-        tell_memory(errors);
-        return 2;
-    };
-    let several = are_several(&given.flags, operands.names, names.as_slice());
+    let names = found.names.as_slice();
+    let several = are_several(&given.flags, operands.names, names);
     let job = job_of(operands.alloc, given, screen, several);
-    tell_each(given.flags.no_messages, found.unread.as_slice(), errors);
     let files = operands.files;
-    let status = mark_names(
-        marking,
-        &job,
-        files,
-        names.as_slice(),
-        input,
-        output,
-        errors,
-    );
+    let status = mark_names(marking, &job, files, names, input, output, errors);
     status_below(&given.flags, found.unread.as_slice(), status)
 }
 

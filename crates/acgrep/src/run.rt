@@ -37,9 +37,9 @@ use crate::searcher::searcher_of;
 use crate::select::Job;
 use crate::tell::{tell_memory, tell_write, tell_wrong};
 use chromesquid::{MatchKind, Sink, write_whole};
-use tool_parts::errors::Errors;
 use std::alloc::Global;
 use std::io::Read;
+use tool_parts::errors::Errors;
 
 /// What stands for a match that is counted: the number of its pattern.
 const NUMBER: &[Piece] = &[Piece::PatternNumber];

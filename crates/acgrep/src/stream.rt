@@ -17,8 +17,8 @@ use crate::lines::line_start;
 use crate::select::{Job, State, search_text};
 use chromesquid::{AhoCorasick, Sink};
 use memchr::memchr;
-use tool_parts::reason::Reason;
 use std::io::Read;
+use tool_parts::reason::Reason;
 
 /// What a read gave.
 #[derive(Clone, Copy)]

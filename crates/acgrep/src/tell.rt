@@ -11,9 +11,9 @@ use crate::failure::Unusable;
 use crate::help::USAGE;
 use crate::json::is_text;
 use crate::long::Valued;
-use tool_parts::options::misuse::Misuse;
 use chromesquid::{BuildError, MatchError, Sink};
 use tool_parts::errors::Errors;
+use tool_parts::options::misuse::Misuse;
 use tool_parts::reason::Reason;
 
 /// What is told of a folder that stands in itself.

@@ -12,11 +12,11 @@ use crate::folders::{Folders, Kind};
 use crate::keys::is_input;
 use crate::open::Identity;
 use crate::rules::{Rule, is_left_out, without_slashes};
-use tool_parts::reason::Reason;
 use std::alloc::{AllocError, Global};
 use std::collections::VecDeque;
 use std::io::ErrorKind;
 use std::{io, str};
+use tool_parts::reason::Reason;
 
 /// The working folder.
 const HERE: &[u8] = b".";

@@ -1,6 +1,6 @@
 -- Each occurrence of a pattern shares a byte with a find, where no pattern is empty.
 use Rattle.std.proofs.Common.{◌≡◌, inl, inr, ℕ, ◌+◌, ◌≤◌, ◌<◌, Bool, false, List, [], ◌∷◌, length, map, Option, Some, None, refl, sym, subst, ap, arith, le_refl}
-use Rattle.std.specs.Prelude.{nat_eq, ◌&&◌, slice_index_or, zero, suc}
+use Rattle.std.specs.Prelude.{nat_eq, ◌&&◌}
 use Rattle.std.proofs.lemmas.Bool.{MatchBool-at_false, cases_lt, ne_eqb}
 use Rattle.aho_core.specs.Answer.{IsAnswer}
 use Rattle.aho_core.specs.Iteration.{AreFinds, IsNextFind, repeats_end}
@@ -14,6 +14,7 @@ use Rattle.aho_core.specs.declared.search.Anchored.TheVariants.{No}
 use Rattle.aho_core.specs.declared.search.MatchKind.{MatchKind}
 use Rattle.aho_core.specs.declared.search.MatchKind.TheVariants.{LeftmostFirst, LeftmostLongest, Standard}
 use Rattle.aho_stream.specs.After.{search_from}
+use Rattle.aho_stream.proofs.PatternLengths.{shortest_bounds}
 use Rattle.acredact.specs.Secrets.{IsTouched, NoneIsWhole}
 
 -- what is before another does not start after the other ends: both have a byte
@@ -33,11 +34,6 @@ not_after LeftmostLongest m o some_m some_o before =
       | inl less ↦ omega (arith, less, some_o)
       | inr tie ↦ omega (arith, tie.0, some_o)
     ]
-
-shortest_bounds : (words : List (List ℕ)) (k : ℕ) → k < length words → shortest (map length words) ≤ length (slice_index_or words k [])
-shortest_bounds [] k within = absurd (omega (arith, within))
-shortest_bounds (w ∷ ws) zero within = omega arith
-shortest_bounds (w ∷ ws) (suc k) within = omega (arith, shortest_bounds ws k (omega arith))
 
 module _ (p : Patterns) (no_empty : 1 ≤ shortest (map length p.words)) (bytes : List ℕ) where
   -- what occurs has a byte

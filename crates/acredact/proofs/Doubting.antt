@@ -4,14 +4,13 @@ use Rattle.std.specs.Prelude.{None, codes, nat_lt, slice_index_or}
 use Rattle.std.proofs.lemmas.Grind.{common_steps}
 use Rattle.std.specs.List.{concat}
 use Rattle.std.proofs.lemmas.List.Elements.{All-append, All-cons, All-nil}
-use Rattle.std.proofs.lemmas.List.{get_or-map, length-map}
+use Rattle.std.proofs.lemmas.List.{get_or-map, length-map, take_rest}
 use Rattle.acredact.specs.Arguments.{Given, all_given, given_of}
 use Rattle.acredact.specs.Doubts.{AreUndoubted, list_doubt_lines, doubt_lines, doubt_of, list_name}
 use Rattle.acredact.specs.Tables.{Secret, secret_of, secrets_of}
 use Rattle.acredact.specs.declared.arguments.Item.{Item}
 use Rattle.acredact.specs.declared.patterns.Rule.{Rule}
 use Rattle.acredact.proofs.Done.{concat_both}
-use Rattle.acredact.proofs.ShownNames.{rest_of}
 
 -- one more
 pub doubts_next : (given : List Given) (text done : List ℕ) (rules : List Rule) (other : Rule) → 1 ≤ length rules → text ≡ done ++ concat (list_doubt_lines given (secrets_of rules))
@@ -20,14 +19,14 @@ doubts_next given text done [] other some is = absurd (omega (arith, some))
 doubts_next given text done (rule ∷ rules) other some is =
     is ∙ ap (λ l. done ++ l) (concat_both (doubt_lines given (secret_of rule)) (list_doubt_lines given (secrets_of rules)))
     ∙ sym (append_assoc done (concat (doubt_lines given (secret_of rule))) (concat (list_doubt_lines given (secrets_of rules))))
-    ∙ ap (λ l. (done ++ concat (doubt_lines given (secret_of rule))) ++ concat (list_doubt_lines given (secrets_of l))) (sym (rest_of rule rules))
+    ∙ ap (λ l. (done ++ concat (doubt_lines given (secret_of rule))) ++ concat (list_doubt_lines given (secrets_of l))) (sym (take_rest (rule ∷ rules) 1))
 
 -- one more of which there is none
 pub undoubted_next : (all front : List Secret) (rules : List Rule) (other : Rule) → 1 ≤ length rules → (all ≡ front ++ secrets_of rules) × AreUndoubted front → doubt_of (secret_of (get_or rules 0 other)) ≡ None
     → (all ≡ (front ++ (secret_of (get_or rules 0 other) ∷ [])) ++ secrets_of (take (length rules - 1) (drop 1 rules))) × AreUndoubted (front ++ (secret_of (get_or rules 0 other) ∷ []))
 undoubted_next all front [] other some so none = absurd (omega (arith, some))
 undoubted_next all front (rule ∷ rules) other some (is, before) none = (
-  is ∙ sym (append_assoc front (secret_of rule ∷ []) (secrets_of rules)) ∙ ap (λ l. (front ++ (secret_of rule ∷ [])) ++ secrets_of l) (sym (rest_of rule rules)),
+  is ∙ sym (append_assoc front (secret_of rule ∷ []) (secrets_of rules)) ∙ ap (λ l. (front ++ (secret_of rule ∷ [])) ++ secrets_of l) (sym (take_rest (rule ∷ rules) 1)),
   All-append (λ secret. doubt_of secret ≡ None) front (secret_of rule ∷ []) before (All-cons (λ secret. doubt_of secret ≡ None) (secret_of rule) [] none (All-nil (λ secret. doubt_of secret ≡ None))),
 )
 

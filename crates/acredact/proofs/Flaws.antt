@@ -1,18 +1,14 @@
 -- Why a piece is not clean, and that it is clean where nothing is found.
-use Rattle.std.proofs.Common.{◌≡◌, inl, inr, ℕ, zero, suc, ◌+◌, ◌-◌, ◌<◌, ◌≤◌, List, [], ◌∷◌, ◌++◌, Option, true, false, length, get_or, set, refl, sym, ap, subst, ◌∙◌, arith, length-append, map}
-use Rattle.std.specs.Prelude.{Bool, IfNone, IfSome, None, Some}
+use Rattle.std.proofs.Common.{◌≡◌, inl, inr, ℕ, zero, suc, ◌+◌, ◌-◌, ◌<◌, ◌≤◌, List, [], ◌∷◌, ◌++◌, true, false, length, get_or, set, refl, sym, ap, subst, ◌∙◌, arith, length-append, map}
+use Rattle.std.specs.Prelude.{Bool}
 use Rattle.std.specs.Borrow.{Bor}
 use Rattle.std.proofs.Math.Seq.{get_or-append_seam}
 use Rattle.std.proofs.lemmas.Bool.{cases_eq}
 use Rattle.std.proofs.lemmas.List.{get_or-map, get_or-set_other, get_or-set_same, length-map}
-use Rattle.aho_core.specs.Answer.{IsAnswer}
 use Rattle.aho_core.specs.Bytes.{folded_by}
 use Rattle.aho_core.specs.Listing.{IsMember}
-use Rattle.aho_core.specs.Occurrence.{Occurrence}
-use Rattle.aho_core.specs.Occurs.{OccursIn}
 use Rattle.aho_core.specs.Patterns.{Patterns, pattern_at}
 use Rattle.aho_core.specs.Replacement.{pieces_of}
-use Rattle.aho_core.specs.Search.{plain_search}
 use Rattle.aho_laws.specs.CoverLaws.{AreClean, IsCleanPiece}
 use Rattle.aho_laws.specs.CutLaws.{NoneHolds}
 use Rattle.tool_parts.specs.Asked.{ArePatterns}
@@ -73,11 +69,11 @@ last_is piece front byte is =
     let count : length piece - 1 ≡ length front = omega (arith, ap length is ∙ length-append front (byte ∷ [])) in
     ap (λ (n : ℕ). get_or piece n 0) count ∙ ap (λ (l : List ℕ). get_or l (length front) 0) is ∙ get_or-append_seam front byte [] 0
 
-first_of : (piece : List ℕ) → 0 < length piece → (rest : List ℕ) × (piece ≡ get_or piece 0 0 ∷ rest)
+pub first_of : (piece : List ℕ) → 0 < length piece → (rest : List ℕ) × (piece ≡ get_or piece 0 0 ∷ rest)
 first_of [] some = absurd (omega (arith, some))
 first_of (x ∷ xs) some = (xs, refl)
 
-last_of : (piece : List ℕ) → 0 < length piece → (front : List ℕ) × (piece ≡ front ++ get_or piece (length piece - 1) 0 ∷ [])
+pub last_of : (piece : List ℕ) → 0 < length piece → (front : List ℕ) × (piece ≡ front ++ get_or piece (length piece - 1) 0 ∷ [])
 last_of piece some =
     let (front, byte, is) = split piece some in
     (front, is ∙ ap (λ (b : ℕ). front ++ b ∷ []) (sym (last_is piece front byte is)))
@@ -123,10 +119,6 @@ module _ (p : Patterns) (ignore_case : Bool) (words : List (List ℕ)) (are : Ar
     none = none;
   }
 
--- a pattern occurs
-pub spells_within : (p : Patterns) (piece : List ℕ) (m : Occurrence) → OccursIn p (plain_search piece) m → IsFlaw p piece (Spells (m.pattern + 1))
-spells_within p piece m occurs = (m.pattern, refl, occurs.numbered, inr (inr (m, occurs, refl)))
-
 -- what has a flaw is not clean
 pub flawed : (p : Patterns) (piece : List ℕ) (flaw : Flaw) → IsFlaw p piece flaw → IsCleanPiece p piece → ⊥
 flawed p piece Empty is clean = absurd (omega (arith, clean.some, ap length is))
@@ -134,15 +126,6 @@ flawed p piece Pseudonym is clean = absurd is
 flawed p piece (Spells told) (number, is, numbered, inl (byte, rest, split, (other, member, same))) clean = clean.first byte rest split number other numbered member same
 flawed p piece (Spells told) (number, is, numbered, inr (inl (byte, front, split, (other, member, same)))) clean = clean.last byte front split number other numbered member same
 flawed p piece (Spells told) (number, is, numbered, inr (inr (m, occurs, named))) clean = clean.none m occurs
-
--- what a search answers of a piece
-pub answer_occurs : (p : Patterns) (piece : List ℕ) (answer : Option Occurrence) → IsAnswer p (plain_search piece) answer → IfSome answer (OccursIn p (plain_search piece))
-answer_occurs p piece None is = tt
-answer_occurs p piece (Some m) is = is.0
-
-pub answer_none : (p : Patterns) (piece : List ℕ) (answer : Option Occurrence) → IsAnswer p (plain_search piece) answer → IfNone answer (NoneOccurs p piece)
-answer_none p piece None is = is
-answer_none p piece (Some m) is = tt
 
 -- the piece at a place
 pub piece_is : (pieces : List (Bor (List ℕ))) (at : ℕ) (d : Bor (List ℕ)) → at < length pieces → get_or (pieces_of pieces) at [] ≡ (get_or pieces at d).now

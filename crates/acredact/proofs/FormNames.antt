@@ -5,6 +5,7 @@ use Rattle.std.specs.List.{list_all, list_any}
 use Rattle.std.proofs.lemmas.List.Elements.{All-head, All-tail}
 use Rattle.std.proofs.lemmas.List.Folds.{list_all-append, list_any-append}
 use Rattle.std.proofs.lemmas.List.Splits.{slice_split_at, slice_split_none}
+use Rattle.std.proofs.Math.Bool.{and-true, or-false}
 use Rattle.acredact.specs.Forms.{form_called, names_in, nested_by, nested_called, split_first}
 use Rattle.acredact.specs.Tables.{IsWithout}
 use Rattle.acredact.specs.declared.forms.Nested.{Nested}
@@ -18,25 +19,17 @@ names_more all front rest name more is parts without =
 pub names_last : (all front : List (List ℕ)) (rest : List ℕ) → all ≡ front ++ names_in rest → IsWithout 44 rest → all ≡ front ++ (rest ∷ [])
 names_last all front rest is without = is ∙ ap (λ l. front ++ l) (slice_split_none (λ b. nat_eq b 44) rest without)
 
-and_true : (b : Bool) → (b && true) ≡ b
-and_true true = refl
-and_true false = refl
-
-or_false : (b : Bool) → (b || false) ≡ b
-or_false true = refl
-or_false false = refl
-
 module _ (p : List ℕ → Bool) (front : List (List ℕ)) (name : List ℕ) where
   -- of all in front it is so, and so of these by the last one
   pub all_by : list_all p front ≡ true → list_all p (front ++ (name ∷ [])) ≡ p name
-  all_by known = list_all-append p front (name ∷ []) ∙ ap (λ b. b && (p name && true)) known ∙ and_true (p name)
+  all_by known = list_all-append p front (name ∷ []) ∙ ap (λ b. b && (p name && true)) known ∙ and-true (p name)
 
   pub all_fails : (more : List (List ℕ)) → list_all p front ≡ true → p name ≡ false → list_all p ((front ++ (name ∷ [])) ++ more) ≡ false
   all_fails more known fails = list_all-append p (front ++ (name ∷ [])) more ∙ ap (λ b. b && list_all p more) (all_by known ∙ fails)
 
   -- of none in front it is so
   pub any_by : list_any p front ≡ false → list_any p (front ++ (name ∷ [])) ≡ p name
-  any_by known = list_any-append p front (name ∷ []) ∙ ap (λ b. b || (p name || false)) known ∙ or_false (p name)
+  any_by known = list_any-append p front (name ∷ []) ∙ ap (λ b. b || (p name || false)) known ∙ or-false (p name)
 
   pub any_found : (more : List (List ℕ)) → list_any p front ≡ false → p name ≡ true → list_any p ((front ++ (name ∷ [])) ++ more) ≡ true
   any_found more known found = list_any-append p (front ++ (name ∷ [])) more ∙ ap (λ b. b || list_any p more) (any_by known ∙ found)

@@ -1,8 +1,7 @@
 -- The forms of rules, one after another.
 use Rattle.std.proofs.Common.{◌≡◌, ◌≤◌, ℕ, ◌+◌, ◌-◌, List, [], ◌∷◌, ◌++◌, length, map, take, drop, get_or, refl, sym, ap, subst, ◌∙◌, append-nil, append_assoc, arith}
 use Rattle.std.specs.Prelude.{Bool, true, false, nat_lt, None, Some, Result, Ok, Err, OnOk, flat_map, is_ok, if◌then◌else◌}
-use Rattle.std.proofs.Math.Seq.{take-length}
-use Rattle.std.proofs.lemmas.List.{map-append}
+use Rattle.std.proofs.lemmas.List.{map-append, take_rest}
 use Rattle.std.proofs.lemmas.List.Elements.{All-cons, All-head, All-nil, filter-append}
 use Rattle.acredact.specs.Forms.{AskedForms, HideSecrets, HaveForms, HidesNestedForm, HidesSecret, HidesTwice, asked_forms, filled, forms_asked, forms_from, forms_named, forms_of, nested_named, once_patterns}
 use Rattle.secret_forms.specs.Forms.{HidesForm}
@@ -12,12 +11,6 @@ use Rattle.acredact.specs.declared.forms.Nested.{Nested}
 use Rattle.acredact.specs.Tables.{Secret, secret_of, secrets_of}
 use Rattle.acredact.specs.declared.patterns.Rule.{Rule}
 
--- what is left behind the first
-behind_first : (rule : Rule) (rest : List Rule) → take (length (rule ∷ rest) - 1) rest ≡ rest
-behind_first rule rest =
-    let count : length (rule ∷ rest) - 1 ≡ length rest = omega arith in
-    ap (λ n. take n rest) count ∙ take-length rest
-
 module _ (wanted : AskedForms) where
   -- the forms of one rule more are added
   pub forms_next : (rest : List Rule) (other : Rule) (number : ℕ) (all old new more : List Secret) → 1 ≤ length rest → all ≡ old ++ forms_from wanted number (secrets_of rest) → new ≡ old ++ more
@@ -25,21 +18,16 @@ module _ (wanted : AskedForms) where
   forms_next [] other number all old new more some is grown are = absurd (omega (arith, some))
   forms_next (rule ∷ rest) other number all old new more some is grown are =
       is ∙ ap (λ l. old ++ (l ++ forms_from wanted (number + 1) (secrets_of rest))) (sym are) ∙ sym (append_assoc old more (forms_from wanted (number + 1) (secrets_of rest)))
-      ∙ ap (λ l. l ++ forms_from wanted (number + 1) (secrets_of rest)) (sym grown) ∙ ap (λ l. new ++ forms_from wanted (number + 1) (secrets_of l)) (sym (behind_first rule rest))
+      ∙ ap (λ l. l ++ forms_from wanted (number + 1) (secrets_of rest)) (sym grown) ∙ ap (λ l. new ++ forms_from wanted (number + 1) (secrets_of l)) (sym (take_rest (rule ∷ rest) 1))
 
   -- and they hide it
   pub hidden_next : (rest all : List Rule) (other : Rule) → 1 ≤ length rest → (HideSecrets wanted (secrets_of rest) → HideSecrets wanted (secrets_of all)) → HidesSecret wanted (secret_of (get_or rest 0 other))
       → HideSecrets wanted (secrets_of (take (length rest - 1) (drop 1 rest))) → HideSecrets wanted (secrets_of all)
   hidden_next [] all other some known one others = absurd (omega (arith, some))
   hidden_next (rule ∷ rest) all other some known one others =
-      known (All-cons (HidesSecret wanted) (secret_of rule) (secrets_of rest) one (subst (λ (l : List Rule). HideSecrets wanted (secrets_of l)) (behind_first rule rest) others))
+      known (All-cons (HidesSecret wanted) (secret_of rule) (secrets_of rest) one (subst (λ (l : List Rule). HideSecrets wanted (secrets_of l)) (take_rest (rule ∷ rest) 1) others))
 
 -- those of one form of a form more are added
-rest_of_nested : (one : Nested) (rest : List Nested) → take (length (one ∷ rest) - 1) rest ≡ rest
-rest_of_nested one rest =
-    let count : length (one ∷ rest) - 1 ≡ length rest = omega arith in
-    ap (λ n. take n rest) count ∙ take-length rest
-
 pub nested_next : (patterns : Nested → List (List ℕ)) (make : List ℕ → Secret) (rest : List Nested) (other : Nested) (all old new more : List Secret) → 1 ≤ length rest
     → old ++ map make (filled (flat_map patterns rest)) ≡ all → new ≡ old ++ more → more ≡ map make (filled (patterns (get_or rest 0 other)))
     → new ++ map make (filled (flat_map patterns (take (length rest - 1) (drop 1 rest)))) ≡ all
@@ -47,7 +35,7 @@ nested_next patterns make [] other all old new more some is grown are = absurd (
 nested_next patterns make (one ∷ rest) other all old new more some is grown are =
     let both : map make (filled (patterns one ++ flat_map patterns rest)) ≡ map make (filled (patterns one)) ++ map make (filled (flat_map patterns rest)) =
     ap (map make) (filter-append (λ pattern. nat_lt 0 (length pattern)) (patterns one) (flat_map patterns rest)) ∙ map-append make (filled (patterns one)) (filled (flat_map patterns rest)) in
-    ap (λ l. new ++ map make (filled (flat_map patterns l))) (rest_of_nested one rest)
+    ap (λ l. new ++ map make (filled (flat_map patterns l))) (take_rest (one ∷ rest) 1)
     ∙ ap (λ l. l ++ map make (filled (flat_map patterns rest))) (grown ∙ ap (λ l. old ++ l) are)
     ∙ append_assoc old (map make (filled (patterns one))) (map make (filled (flat_map patterns rest)))
     ∙ ap (λ l. old ++ l) (sym both) ∙ is
@@ -56,7 +44,7 @@ pub twice_next : (pattern : List ℕ) (rest all : List Nested) (other : Nested) 
     → HidesTwice (get_or rest 0 other ∷ []) pattern → HidesTwice (take (length rest - 1) (drop 1 rest)) pattern → HidesTwice all pattern
 twice_next pattern [] all other some known one others = absurd (omega (arith, some))
 twice_next pattern (first ∷ rest) all other some known one others =
-    known (All-cons (HidesNestedForm pattern) first rest (All-head (HidesNestedForm pattern) first [] one) (subst (λ (l : List Nested). HidesTwice l pattern) (rest_of_nested first rest) others))
+    known (All-cons (HidesNestedForm pattern) first rest (All-head (HidesNestedForm pattern) first [] one) (subst (λ (l : List Nested). HidesTwice l pattern) (take_rest (first ∷ rest) 1) others))
 
 -- behind the last one nothing is left to hide
 pub twice_end : (pattern : List ℕ) (rest all : List Nested) → length rest ≡ 0 → (HidesTwice rest pattern → HidesTwice all pattern) → HidesTwice all pattern
@@ -73,7 +61,7 @@ pub rules_next : (make : Secret → Secret) (rest : List Rule) (other : Rule) (a
 rules_next make [] other all old new more some is grown are = absurd (omega (arith, some))
 rules_next make (rule ∷ rest) other all old new more some is grown are =
     is ∙ ap (λ l. old ++ (l ++ map make (secrets_of rest))) (sym are) ∙ sym (append_assoc old more (map make (secrets_of rest)))
-    ∙ ap (λ l. l ++ map make (secrets_of rest)) (sym grown) ∙ ap (λ l. new ++ map make (secrets_of l)) (sym (behind_first rule rest))
+    ∙ ap (λ l. l ++ map make (secrets_of rest)) (sym grown) ∙ ap (λ l. new ++ map make (secrets_of l)) (sym (take_rest (rule ∷ rest) 1))
 
 -- the forms that a value names, of both kinds
 pub asked_both : (asked : Asked) (value : List ℕ) → asked.forms.now ≡ forms_named value → asked.nested.now ≡ nested_named value → asked_forms asked ≡ forms_asked (Some value)

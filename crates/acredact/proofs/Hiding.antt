@@ -5,7 +5,8 @@ use Rattle.std.specs.declared.io.traits.Read.{Ghosts as Readers}
 use Rattle.std.specs.declared.io.traits.Write.{Ghosts as Writers}
 use Rattle.std.proofs.lemmas.Bool.{lt-ltb, ltb-true}
 use Rattle.std.proofs.lemmas.List.Elements.{All-contains, Contains-append_left, Contains-append_right}
-use Rattle.std.proofs.Math.Seq.{take-append_seam}
+use Rattle.std.proofs.Math.Seq.{drop-append_seam, take-append_seam}
+use Rattle.std.proofs.lemmas.List.{get_or_default, map-append}
 use Rattle.base64.specs.Engines.{standard, standard_no_pad, url_safe, url_safe_no_pad}
 use Rattle.base64.specs.GeneralPurpose.{encode_of}
 use Rattle.hex.specs.Hex.{encode_lower, encode_upper}
@@ -16,6 +17,7 @@ use Rattle.aho_core.specs.Occurrence.{Occurrence}
 use Rattle.aho_core.specs.Occurs.{OccursIn}
 use Rattle.aho_core.specs.Patterns.{Patterns, pattern_at}
 use Rattle.aho_core.specs.Search.{plain_search}
+use Rattle.secret_forms.proofs.EachLaw.{Contains-flat_map}
 use Rattle.secret_forms.specs.Forms.{HidesForm, HidesNested, form_patterns}
 use Rattle.secret_forms.specs.Json.{HidesCharacters, json_spellings, json_ways}
 use Rattle.secret_forms.specs.Law.{HidesBits, HidesEach, IsHidden}
@@ -29,7 +31,6 @@ use Rattle.acredact.specs.Forms.{AskedForms, HideSecrets, HidesNestedForm, Hides
 use Rattle.acredact.specs.Hidden.{AreHidden, HidesForms, NoneShows, NoneShowsOnce, NoneShowsTwice, ShowsBits, SpellsEach, ShowsForm, SpellsForm}
 use Rattle.acredact.specs.Secrets.{NoByteIsKept, NoneIsWhole, Redactor}
 use Rattle.acredact.specs.Tables.{Secret, patterns_in}
-use Rattle.acredact.specs.declared.forms.Nested.{Nested}
 use Rattle.aho_cover.specs.Pieces.{PieceRule}
 use Rattle.aho_cover.specs.Words.{CountsIn}
 use Rattle.acredact.specs.Pseudonyms.{pseudonym_rule}
@@ -70,14 +71,10 @@ module _ (patterns : List (List ℕ)) (secret text : List ℕ) (place : ℕ) whe
   form_hidden Lines law (line, listed, shows) = each_hidden _ line (All-contains (HidesLine patterns) (line_patterns secret) line law listed) shows
 
 -- a pattern that stands in a text occurs there
-drop_seam : (xs ys : List ℕ) → drop (length xs) (xs ++ ys) ≡ ys
-drop_seam [] ys = refl
-drop_seam (x ∷ xs) ys = drop_seam xs ys
-
 range_between : (ahead pattern behind : List ℕ) → slice_range (ahead ++ (pattern ++ behind)) (length ahead) (length ahead + length pattern) ≡ pattern
 range_between ahead pattern behind =
     let count : length ahead + length pattern - length ahead ≡ length pattern = omega arith in
-    ap (λ (n : ℕ). take n (drop (length ahead) (ahead ++ (pattern ++ behind)))) count ∙ ap (take (length pattern)) (drop_seam ahead (pattern ++ behind)) ∙ take-append_seam pattern behind
+    ap (λ (n : ℕ). take n (drop (length ahead) (ahead ++ (pattern ++ behind)))) count ∙ ap (take (length pattern)) (drop-append_seam ahead (pattern ++ behind)) ∙ take-append_seam pattern behind
 
 occurs_there : (p : Patterns) (text : List ℕ) (number : ℕ) (pattern ahead behind : List ℕ) → number < length p.words → pattern_at p number ≡ pattern → text ≡ ahead ++ (pattern ++ behind)
     → OccursIn p (plain_search text) (record { pattern = number; start = length ahead; end = length ahead + length pattern })
@@ -90,18 +87,13 @@ occurs_there p text number pattern ahead behind numbered at is = record {
   admitted = λ yes. absurd (cc);
 }
 
-default_alike : (words : List (List ℕ)) (number : ℕ) (d e : List ℕ) → number < length words → slice_index_or words number d ≡ slice_index_or words number e
-default_alike [] number d e below = absurd (omega (arith, below))
-default_alike (word ∷ words) zero d e below = refl
-default_alike (word ∷ words) (suc number) d e below = default_alike words number d e (omega (arith, below))
-
 -- so what is hidden by some of the patterns that are searched for is covered
 hidden_covered : (p : Patterns) (patterns : List (List ℕ)) (text : List ℕ) (place : ℕ) → ((pattern : List ℕ) → 1 ≤ length pattern → Contains patterns pattern → Contains p.words pattern)
     → IsHidden patterns text place → IsCovered (OccursIn p (plain_search text)) place
 hidden_covered p patterns text place within hidden =
     let (number, below, is) = within hidden.pattern (omega (arith, hidden.after_start, hidden.before_end)) hidden.listed in record {
       found = record { pattern = number; start = length hidden.ahead; end = length hidden.ahead + length hidden.pattern };
-      member = occurs_there p text number hidden.pattern hidden.ahead hidden.behind below (default_alike p.words number [] hidden.pattern below ∙ is) hidden.occurs;
+      member = occurs_there p text number hidden.pattern hidden.ahead hidden.behind below (get_or_default p.words number [] hidden.pattern below ∙ is) hidden.occurs;
       after_start = hidden.after_start;
       before_end = hidden.before_end;
     }
@@ -122,18 +114,8 @@ contains_filled (p ∷ patterns) pattern some (suc k, below, is) = by (nat_lt 0 
     by true listed = contains_tail (filled patterns) p pattern listed
     by false listed = listed
 
--- those of a form of a form are among those of all
-contains_each : (pattern : List ℕ) (nested : List Nested) (one : Nested) (k : ℕ) → k < length nested → slice_index_or nested k one ≡ one
-    → (made : List ℕ) → Contains (twice_patterns pattern one) made → Contains (flat_map (twice_patterns pattern) nested) made
-contains_each pattern [] one k below is made listed = absurd (omega (arith, below))
-contains_each pattern (first ∷ nested) one zero below is made listed =
-    Contains-append_left (twice_patterns pattern first) (flat_map (twice_patterns pattern) nested) made (subst (λ (n : Nested). Contains (twice_patterns pattern n) made) (sym is) listed)
-contains_each pattern (first ∷ nested) one (suc k) below is made listed =
-    Contains-append_right (twice_patterns pattern first) (flat_map (twice_patterns pattern) nested) made (contains_each pattern nested one k (omega (arith, below)) is made listed)
-
-patterns_both : (xs ys : List Secret) → patterns_in (xs ++ ys) ≡ patterns_in xs ++ patterns_in ys
-patterns_both [] ys = refl
-patterns_both (x ∷ xs) ys = ap (λ l. x.pattern ∷ l) (patterns_both xs ys)
+abbrev pattern_of : Secret → List ℕ
+pattern_of secret = secret.pattern
 
 patterns_made : (number : ℕ) (secret : Secret) (patterns : List (List ℕ)) → patterns_in (map (form_secret number secret) patterns) ≡ patterns
 patterns_made number secret [] = refl
@@ -154,17 +136,17 @@ all_within asked number (first ∷ secrets) secret zero below is long pattern li
     let same : first ≡ secret = is in
     let own : Contains (patterns_in (forms_of asked number first)) pattern =
     subst (λ (l : List (List ℕ)). Contains l pattern) (sym (ap (λ s. patterns_in (forms_of asked number s)) same ∙ forms_within asked number secret long)) listed in
-    subst (λ (l : List (List ℕ)). Contains l pattern) (sym (patterns_both (forms_of asked number first) (forms_from asked (number + 1) secrets)))
+    subst (λ (l : List (List ℕ)). Contains l pattern) (sym (map-append pattern_of (forms_of asked number first) (forms_from asked (number + 1) secrets)))
     (Contains-append_left (patterns_in (forms_of asked number first)) (patterns_in (forms_from asked (number + 1) secrets)) pattern own)
 all_within asked number (first ∷ secrets) secret (suc k) below is long pattern listed =
-    subst (λ (l : List (List ℕ)). Contains l pattern) (sym (patterns_both (forms_of asked number first) (forms_from asked (number + 1) secrets)))
+    subst (λ (l : List (List ℕ)). Contains l pattern) (sym (map-append pattern_of (forms_of asked number first) (forms_from asked (number + 1) secrets)))
     (Contains-append_right (patterns_in (forms_of asked number first)) (patterns_in (forms_from asked (number + 1) secrets)) pattern
     (all_within asked (number + 1) secrets secret k (omega (arith, below)) is long pattern listed))
 
 with_within : (asked : AskedForms) (secrets : List Secret) (secret : Secret) → Contains secrets secret → 4 ≤ length secret.pattern
     → (pattern : List ℕ) → 1 ≤ length pattern → Contains (asked_form_patterns asked secret.pattern) pattern → Contains (patterns_in (with_forms asked secrets)) pattern
 with_within asked secrets secret (k, below, is) long pattern some listed =
-    subst (λ (l : List (List ℕ)). Contains l pattern) (sym (patterns_both secrets (forms_from asked 0 secrets)))
+    subst (λ (l : List (List ℕ)). Contains l pattern) (sym (map-append pattern_of secrets (forms_from asked 0 secrets)))
     (Contains-append_right (patterns_in secrets) (patterns_in (forms_from asked 0 secrets)) pattern
     (all_within asked 0 secrets secret k below is long pattern (contains_filled (asked_form_patterns asked secret.pattern) pattern some listed)))
 
@@ -189,13 +171,13 @@ module _ (asked : AskedForms) (secrets : List Secret) (r : Redactor) (covers : r
       (form_hidden patterns secret.pattern text place form law shows)
 
   none_twice : (text : List ℕ) (ranges : List Occurrence) → NoByteIsKept r text ranges → NoneShowsTwice asked.nested secrets text ranges
-  none_twice text ranges kept one secret made place (k, below, is) listed long of shows =
+  none_twice text ranges kept one secret made place nested_there listed long of shows =
       let patterns = twice_patterns secret.pattern one in
       let law : HidesNestedForm secret.pattern one =
-      All-contains (HidesNestedForm secret.pattern) asked.nested one (All-contains (HidesSecret asked) secrets secret laws listed long).1 (k, below, is) in
+      All-contains (HidesNestedForm secret.pattern) asked.nested one (All-contains (HidesSecret asked) secrets secret laws listed long).1 nested_there in
       none_kept text ranges place patterns kept
       (λ pattern some among. asked_within secret listed long pattern some
-      (Contains-append_right (once_patterns asked.forms secret.pattern) (flat_map (twice_patterns secret.pattern) asked.nested) pattern (contains_each secret.pattern asked.nested one k below is pattern among)))
+      (Contains-append_right (once_patterns asked.forms secret.pattern) (flat_map (twice_patterns secret.pattern) asked.nested) pattern (Contains-flat_map (twice_patterns secret.pattern) asked.nested one pattern nested_there among)))
       (form_hidden patterns made text place one.outer (All-contains (HidesNested patterns one.outer) (form_patterns secret.pattern one.inner) made law of) shows)
 
   none_shows : (text : List ℕ) (ranges : List Occurrence) → NoByteIsKept r text ranges → NoneShows asked secrets text ranges

@@ -10,8 +10,7 @@ mod Summing
 mod Runs
 mod PartLines
 mod Valued
--- names in messages, and what is told of doubtful patterns
-mod ShownNames
+-- what is told of doubtful patterns
 mod Doubting
 mod Shortest
 -- what is written is a redaction, or begins one
@@ -59,7 +58,6 @@ mod Ready
 mod Standing
 mod Naming
 -- calls with rules
-mod RulesRead
 mod LongLines
 mod RuledText
 mod RuledFiles

@@ -5,6 +5,7 @@ use Rattle.std.specs.Io.BufRead.{strip_last}
 use Rattle.std.specs.List.{AllZip, slice_split}
 use Rattle.std.proofs.lemmas.Bool.{ne_eqb}
 use Rattle.std.proofs.lemmas.List.Splits.{slice_split_at, slice_split_none}
+use Rattle.std.proofs.lemmas.Slice.Zip.{AllZip-long}
 use Rattle.acredact.specs.LineFaults.{IsLineFaultBy, IsListFault, NamesNone}
 use Rattle.acredact.specs.Tables.{HaveLines, HoldsBy, IsAdded, IsAddedList, IsWithout, Secret, lines_in}
 use Rattle.acredact.specs.declared.patterns.BadLine.{BadLine}
@@ -17,13 +18,6 @@ zip_append R [] ys [] bs h k = k
 zip_append R [] ys (a ∷ us) bs h k = absurd h
 zip_append R (x ∷ xs) ys [] bs h k = absurd h
 zip_append R (x ∷ xs) ys (a ∷ us) bs h k = (h.0, zip_append R xs ys us bs h.1 k)
-
--- such lists are of one length
-zip_length : {A B : Type 0} (R : A → B → Type 0) (xs : List A) (us : List B) → AllZip R xs us → length xs ≡ length us
-zip_length R [] [] h = refl
-zip_length R [] (a ∷ us) h = absurd h
-zip_length R (x ∷ xs) [] h = absurd h
-zip_length R (x ∷ xs) (a ∷ us) h = omega (arith, zip_length R xs us h.1)
 
 -- a secret more is numbered behind the others
 numbered_more : (before : ℕ) (more : List Secret) (secret : Secret) → HaveLines before more → secret.line ≡ min (before + length more + 1) (2 ^ 64 - 1) → HaveLines before (more ++ (secret ∷ []))
@@ -38,7 +32,7 @@ numbered_more before (first ∷ more) secret are at =
 pub added_line : (form : Form) (place : Place) (old mid new : List Secret) (front : List (List ℕ)) (line : List ℕ) → place.line ≡ min (length front + 1) (2 ^ 64 - 1)
     → IsAddedList form old mid front → IsAdded (HoldsBy form line) place mid new → IsAddedList form old new (front ++ (line ∷ []))
 added_line form place old mid new front line at first second =
-    let e : length front + 1 ≡ 0 + length first.more + 1 = omega (arith, zip_length _ front first.more first.held) in
+    let e : length front + 1 ≡ 0 + length first.more + 1 = omega (arith, AllZip-long _ front first.more first.held) in
     record {
       more = first.more ++ (second.secret ∷ []);
       grown = second.grown ∙ ap (λ l. l ++ (second.secret ∷ [])) first.grown ∙ append_assoc old first.more (second.secret ∷ []);
@@ -58,9 +52,9 @@ pub line_last : (all front : List (List ℕ)) (rest : List ℕ) → all ≡ fron
 line_last all front rest is without = is ∙ ap (λ l. front ++ l) (slice_split_none (λ b. nat_eq b 10) rest without)
 
 -- a text that is not empty has lines
-pub lines_some : (text : List ℕ) → 1 ≤ length text → lines_in text ≡ slice_split (λ b. nat_eq b 10) (strip_last 10 text)
-lines_some [] some = absurd (omega (arith, some))
-lines_some (byte ∷ bytes) some = refl
+pub lines_of_some : (text : List ℕ) → 1 ≤ length text → lines_in text ≡ slice_split (λ b. nat_eq b 10) (strip_last 10 text)
+lines_of_some [] some = absurd (omega (arith, some))
+lines_of_some (byte ∷ bytes) some = refl
 
 -- the line behind some others is at fault
 pub fault_at : (form : Form) (lines front rest : List (List ℕ)) (line : List ℕ) (number : ℕ) (bad : BadLine) → lines ≡ front ++ (line ∷ rest) → number ≡ min (length front + 1) (2 ^ 64 - 1)

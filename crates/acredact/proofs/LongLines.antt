@@ -1,6 +1,6 @@
 -- A line that is too long is one run of a number of its own.
-use Rattle.std.proofs.Common.{◌≡◌, inl, inr, ℕ, ◌+◌, ◌<◌, ◌≤◌, List, [], ◌∷◌, ◌++◌, Option, true, false, length, refl, sym, ap, subst, ◌∙◌, arith, length-append}
-use Rattle.std.specs.Prelude.{Bool, MatchBool, Some, filter, nat_eq, nat_lt, if◌then◌else◌, slice_get}
+use Rattle.std.proofs.Common.{◌≡◌, inl, inr, ℕ, ◌+◌, ◌<◌, ◌≤◌, List, [], ◌∷◌, ◌++◌, Option, true, false, length, refl, sym, ap, ◌∙◌, arith, length-append}
+use Rattle.std.specs.Prelude.{Bool, MatchBool, filter, nat_eq, nat_lt, if◌then◌else◌}
 use Rattle.std.proofs.lemmas.Bool.{eq-eqb, ltb-false, ltb-true, ne_eqb}
 use Rattle.std.proofs.lemmas.List.Elements.{filter-append}
 use Rattle.std.proofs.lemmas.Option.{slice_get_within}
@@ -33,12 +33,12 @@ covered_below covering before line m short (inr (fits, inr marked)) =
     let below = slice_get_within covering.rules marked.mark.rule marked.marks.rule marked.marks.numbered in
     omega (arith, below, ap (λ (o : Occurrence). o.pattern) marked.same)
 
-named_none : (number : ℕ) (runs : List Occurrence) → ((run : Occurrence) → IsMember runs run → run.pattern < number) → runs_named number runs ≡ 0
-named_none number [] below = refl
-named_none number (run ∷ runs) below =
+none_numbered : (number : ℕ) (runs : List Occurrence) → ((run : Occurrence) → IsMember runs run → run.pattern < number) → runs_named number runs ≡ 0
+none_numbered number [] below = refl
+none_numbered number (run ∷ runs) below =
     let not : nat_eq run.pattern number ≡ false = ne_eqb run.pattern number (λ (is : run.pattern ≡ number). omega (arith, is, below run (inl refl))) in
     ap (λ (b : Bool). length (if b then run ∷ filter (λ (o : Occurrence). nat_eq o.pattern number) runs else filter (λ (o : Occurrence). nat_eq o.pattern number) runs)) not
-    ∙ named_none number runs (λ other there. below other (inr there))
+    ∙ none_numbered number runs (λ other there. below other (inr there))
 
 named_one : (number : ℕ) (run : Occurrence) → run.pattern ≡ number → runs_named number (run ∷ []) ≡ 1
 named_one number run is =
@@ -56,7 +56,7 @@ long_one covering before line own are = by (nat_lt covering.most (length line)) 
         ∙ named_one (whole_number covering) (whole_line covering line) refl
     by false is =
         let short : length line ≤ covering.most = omega (arith, ltb-false _ _ (sym is)) in
-        named_none (whole_number covering) own
+        none_numbered (whole_number covering) own
         (λ run there. let is_run = (are.members run).0 there in omega (arith, is_run.named, covered_below covering before line is_run.longest short is_run.longest_is.0.0))
 
 named_append : (number : ℕ) (xs ys : List Occurrence) → runs_named number (xs ++ ys) ≡ runs_named number xs + runs_named number ys

@@ -19,16 +19,7 @@ use Rattle.aho_laws.proofs.CoverRuns.{in_order-rest}
 use Rattle.aho_laws.proofs.JoinedPieces.{clear_joined}
 use Rattle.aho_laws.proofs.SpanTexts.{Occurs-left, Occurs-moved, Occurs-right, length_part, moved_back}
 use Rattle.acredact.specs.Secrets.{NoneOccurs}
-
--- a text that is not empty has a last byte
-last-split : (text : List ℕ) → 0 < length text → (byte : ℕ) × (front : List ℕ) × (text ≡ front ++ byte ∷ [])
-last-split [] some = absurd (omega arith)
-last-split (x ∷ []) some = (x, [], refl)
-last-split (x ∷ y ∷ text) some = let rest = last-split (y ∷ text) (omega arith) in (rest.0, x ∷ rest.1, ap (λ (t : List ℕ). x ∷ t) rest.2)
-
-first-split : (text : List ℕ) → 0 < length text → (byte : ℕ) × (rest : List ℕ) × (text ≡ byte ∷ rest)
-first-split [] some = absurd (omega arith)
-first-split (x ∷ text) some = (x, text, refl)
+use Rattle.acredact.proofs.Flaws.{first_of, last_of}
 
 module _ (p : Patterns) where
   -- none lies across the place before a byte that no pattern holds
@@ -82,8 +73,8 @@ module _ (p : Patterns) where
           let piece = piece_in rule haystack run in
           let rest = replaced_from haystack run.end runs (piece_in rule haystack) in
           let here = clean run.pattern (slice_range haystack run.start run.end) (numbered run (inl refl)) in
-          let head = first-split piece here.some in
-          let end = last-split piece here.some in
+          let head = first_of piece here.some in
+          let end = last_of piece here.some in
           let low = behind run (inl refl) in
           let some = ordered.full run (inl refl) in
           let high = ordered.within run (inl refl) in
@@ -103,9 +94,9 @@ module _ (p : Patterns) where
             | inr there ↦ record { found = d.found; member = there; after_start = d.after_start; before_end = d.before_end }
           ]) in
           let opens : IsClear p (front ++ (piece ++ rest)) 0 (length (front ++ (piece ++ rest))) (length front) =
-          subst (λ (text : List ℕ). IsClear p (front ++ (text ++ rest)) 0 (length (front ++ (text ++ rest))) (length front)) (sym head.2)
-          (clear_before head.0 front (head.1 ++ rest) (here.first head.0 head.1 head.2)) in
-          let closes : IsClear p (piece ++ rest) 0 (length (piece ++ rest)) (length piece) = clear_joined p end.0 piece rest (here.last end.0 end.1 end.2) (end.1, end.2) in
+          subst (λ (text : List ℕ). IsClear p (front ++ (text ++ rest)) 0 (length (front ++ (text ++ rest))) (length front)) (sym head.1)
+          (clear_before _ front (head.0 ++ rest) (here.first _ head.0 head.1)) in
+          let closes : IsClear p (piece ++ rest) 0 (length (piece ++ rest)) (length piece) = clear_joined p _ piece rest (here.last _ end.0 end.1) end in
           free-joined front (piece ++ rest) opens before (free-joined piece rest closes here.none later)
 
       -- nothing occurs in the cover

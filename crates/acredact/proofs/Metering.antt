@@ -3,6 +3,7 @@ use Rattle.std.proofs.Common.{◌≡◌, ◌≢◌, ℕ, ◌+◌, ◌≤◌, Boo
 use Rattle.std.specs.Prelude.{◌^◌, ◌-◌, min, None, Some, Result, Ok, Err, IfErr, is_some}
 use Rattle.std.specs.Io.KnownBytes.{Consumes, IsAtEnd, Keeps}
 use Rattle.std.proofs.lemmas.Result.{on_ok_weaker}
+use Rattle.std.proofs.lemmas.Option.{same_Some}
 use Rattle.aho_core.specs.declared.error.stream.StreamError.{StreamError}
 use Rattle.aho_cover.specs.Counting.{grown_count}
 use Rattle.aho_devices.specs.Counts.{counted}
@@ -19,9 +20,6 @@ use Rattle.acredact.specs.Volumes.{AddsBytes, AddsName, AddsNames, AddsStream, R
 use Rattle.acredact.specs.declared.summary.Volume.{Volume}
 use Rattle.acredact.proofs.OneFile.{ends_by, known_read, of_folder, of_input}
 
-some_is : {A : Type 0} (x y : A) → Some x ≡ Some y → x ≡ y
-some_is x y is = cc
-
 -- more was given
 pub metered_more : (whole left left' : Option (List ℕ)) (start bytes : ℕ) (given : List ℕ) → Consumes left left' given → IsMetered whole left start bytes → IsMetered whole left' start (min (bytes + length given) (2 ^ 64 - 1))
 metered_more whole None left' start bytes given read is all known = let clash = (is all known).0 in absurd (cc)
@@ -29,7 +27,7 @@ metered_more whole (Some xs) None start bytes given read is all known = absurd r
 metered_more whole (Some xs) (Some ys) start bytes given read is all known =
     let before = (is all known).1 xs refl in
     let sizes : length xs ≡ length given + length ys = ap length read ∙ length-append given ys in
-    (refl, λ rest same. let size : length ys ≡ length rest = ap length (some_is ys rest same) in (omega (arith, before.0, sizes, size), omega (arith, before.0, before.1, sizes, size)))
+    (refl, λ rest same. let size : length ys ≡ length rest = ap length (same_Some ys rest same) in (omega (arith, before.0, sizes, size), omega (arith, before.0, before.1, sizes, size)))
 
 -- nothing was
 pub metered_still : (whole left left' : Option (List ℕ)) (start bytes : ℕ) → Keeps left left' → IsMetered whole left start bytes → IsMetered whole left' start bytes
@@ -42,7 +40,7 @@ pub metered_first : (whole left : Option (List ℕ)) (start bytes : ℕ) → who
 metered_first whole left start bytes same is within all known =
     let here : left ≡ Some all = sym same ∙ known in (
       ap is_some here,
-      λ rest left_is. let size : length all ≡ length rest = ap length (some_is all rest (sym here ∙ left_is)) in (omega (arith, size), omega (arith, size, is, within)),
+      λ rest left_is. let size : length all ≡ length rest = ap length (same_Some all rest (sym here ∙ left_is)) in (omega (arith, size), omega (arith, size, is, within)),
     )
 
 -- what is told of what is left is so of it

@@ -1,5 +1,5 @@
 -- What a pseudonym can spell, and that nothing occurs in a cover where no pattern is like one.
-use Rattle.std.proofs.Common.{◌≡◌, inl, inr, ℕ, zero, suc, ◌-◌, ◌<◌, ◌/◌, ◌%◌, List, [], ◌∷◌, ◌++◌, Option, true, false, length, take, drop, get_or, refl, sym, ap, subst, ◌∙◌, arith}
+use Rattle.std.proofs.Common.{◌≡◌, inl, inr, ℕ, zero, suc, ◌-◌, ◌<◌, ◌/◌, ◌%◌, List, [], ◌∷◌, ◌++◌, Option, true, false, length, drop, get_or, refl, sym, ap, subst, ◌∙◌, arith}
 use Rattle.std.specs.Prelude.{Bool, None, Some, ◌⊎◌, slice_range}
 use Rattle.std.specs.Int.{bytes_high_first, byte_at}
 use Rattle.std.specs.List.{All}
@@ -13,6 +13,7 @@ use Rattle.aho_core.specs.Patterns.{Patterns, pattern_at}
 use Rattle.aho_laws.specs.CoverLaws.{IsCleanPiece}
 use Rattle.aho_laws.specs.CutLaws.{NoneHolds}
 use Rattle.aho_laws.proofs.Members.{member-map, member-of_map}
+use Rattle.secret_rules.proofs.Members.{member-take}
 use Rattle.tool_parts.specs.Asked.{ArePatterns}
 use Rattle.acredact.specs.Hmac.{hmac_sha256}
 use Rattle.acredact.specs.Pseudonyms.{as_compared, hex_at, hex_digit, piece_of_digest, pseudonym_rule}
@@ -121,12 +122,6 @@ member_drop zero xs x member = member
 member_drop (suc n) [] x member = member
 member_drop (suc n) (y ∷ ys) x member = inr (member_drop n ys x member)
 
-member_take : (n : ℕ) (xs : List ℕ) (x : ℕ) → IsMember (take n xs) x → IsMember xs x
-member_take zero xs x member = absurd member
-member_take (suc n) [] x member = member
-member_take (suc n) (y ∷ ys) x (inl same) = inl same
-member_take (suc n) (y ∷ ys) x (inr there) = inr (member_take n ys x there)
-
 module _ (p : Patterns) (unlike : NoneAreSpelled p.ignore_case p.words) where
   -- nothing occurs in a pseudonym
   none_within : (piece : List ℕ) → AreOfPiece piece → NoneOccurs p piece
@@ -137,7 +132,7 @@ module _ (p : Patterns) (unlike : NoneAreSpelled p.ignore_case p.words) where
       let there : IsMember (folded_word p (slice_range piece m.start m.end)) (folded p byte) =
       subst (λ (bytes : List ℕ). IsMember bytes (folded p byte)) occurs.same (member-map (folded p) word byte member) in
       let (other, in_part, same) = member-of_map (folded p) (slice_range piece m.start m.end) (folded p byte) there in
-      elim (are other (member_drop m.start piece other (member_take (m.end - m.start) (drop m.start piece) other in_part))) [
+      elim (are other (member_drop m.start piece other (member-take (drop m.start piece) (m.end - m.start) other in_part))) [
         | inl first ↦ one.no_first (byte, member, same ∙ ap (folded p) first)
         | inr (inl last) ↦ one.no_last (byte, member, same ∙ ap (folded p) last)
         | inr (inr quiet) ↦ (let clash : false ≡ true = sym outside ∙ ap is_inside same ∙ quiet_by p.ignore_case other quiet in cc)

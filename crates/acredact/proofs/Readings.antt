@@ -1,12 +1,9 @@
 -- How an argument is read: by what it begins with.
-use Rattle.std.proofs.Common.{◌≡◌, ◌⊎◌, inl, inr, ◌==◌, ◌≤◌, ℕ, false, List, [], ◌∷◌, length, refl, sym, ap, ◌∙◌, arith}
-use Rattle.std.specs.Prelude.{◌≢◌, None, Some}
+use Rattle.std.proofs.Common.{◌≡◌, inl, inr, ◌==◌, ◌≤◌, ℕ, false, List, [], ◌∷◌, length, refl, ap, arith}
+use Rattle.std.specs.Prelude.{◌≢◌, None}
 use Rattle.std.proofs.lemmas.Bool.{cases_Bool, eqb-true}
-use Rattle.acredact.specs.Arguments.{Given, by_argument, by_letter, by_letters}
-use Rattle.acredact.specs.Mistakes.{IsMistake, mistake_line, line_of_argument, first_mistake_line, line_from, line_of_letter, line_of_letters, line_or}
-use Rattle.acredact.specs.declared.arguments.Expects.{Expects}
-use Rattle.acredact.specs.declared.arguments.Mistake.{Mistake}
-use Rattle.acredact.specs.declared.arguments.Mistake.TheVariants.{OutOfMemory}
+use Rattle.acredact.specs.Arguments.{Given, by_letter, by_letters}
+use Rattle.acredact.specs.Mistakes.{line_of_letter, line_of_letters}
 
 -- one byte in front of others, or another
 first_not : (wanted first : ℕ) (rest : List ℕ) → ((others : List ℕ) → (first ∷ rest) ≢ wanted ∷ others) → (first == wanted) ≡ false
@@ -40,13 +37,3 @@ no_letter (letter ∷ behind) items some first second third =
     let two = first_not 102 letter behind second in
     let three = first_not 116 letter behind third in
     rw one (rw two (rw three refl))
-
--- the first argument that is wrong is told
-pub step_wrong : (all rest : List (List ℕ)) (argument : List ℕ) (expects : Expects) (items : List Given) (mistake : Mistake)
-    → (mistake ≡ OutOfMemory) ⊎ (by_argument expects argument items ≡ None) → (mistake ≡ OutOfMemory) ⊎ (mistake_line mistake ≡ line_of_argument expects argument)
-    → line_from expects (argument ∷ rest) items ≡ first_mistake_line all → IsMistake all mistake
-step_wrong all rest argument expects items mistake (inl memory) told so = inl memory
-step_wrong all rest argument expects items mistake (inr none) (inl memory) so = inl memory
-step_wrong all rest argument expects items mistake (inr none) (inr line) so =
-    let here : line_from expects (argument ∷ rest) items ≡ Some (line_of_argument expects argument) = ap (line_or (line_of_argument expects argument) (λ read. line_from read.next rest read.items)) none in
-    inr (sym so ∙ here ∙ ap Some (sym line))

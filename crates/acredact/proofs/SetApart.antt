@@ -1,8 +1,9 @@
 -- How arguments are set apart, one after another, and what the status says behind what was told of them.
-use Rattle.std.proofs.Common.{◌≡◌, inl, inr, ℕ, ◌≤◌, List, [], ◌∷◌, ◌++◌, Option, true, false, refl, sym, ap, subst, ◌∙◌, append-nil, append_assoc, arith}
+use Rattle.std.proofs.Common.{◌≡◌, inl, inr, ℕ, List, [], ◌∷◌, ◌++◌, Option, true, false, refl, sym, ap, subst, ◌∙◌, append-nil, append_assoc, arith}
 use Rattle.std.specs.Prelude.{◌⊎◌, ◌==◌, None, Some, Vec, length}
 use Rattle.std.specs.Str.{IsUtf8}
 use Rattle.std.proofs.lemmas.Bool.{ne_eqb}
+use Rattle.std.proofs.lemmas.Option.{same_Some}
 use Rattle.tool_parts.specs.Arguments.{texts}
 use Rattle.acredact.specs.Apart.{AreSetApart, HaveNoName, IsWrong, PutsName, PutsText, has_none, names_file, next_behind, status_behind}
 use Rattle.acredact.specs.Reads.{bytes_of_names}
@@ -12,18 +13,12 @@ use Rattle.acredact.specs.declared.apart.Told.TheVariants.{Nothing, Each, EachAl
 use Rattle.acredact.specs.declared.arguments.Expects.{Expects}
 use Rattle.acredact.specs.declared.arguments.Expects.TheVariants.{Any}
 
-same_some : {A : Type 0} (x y : A) → Some x ≡ Some y → x ≡ y
-same_some x y is = cc
-
 -- some first arguments were set apart: what is so of the others is so of all
 pub record ApartSoFar (given : List (List ℕ)) (expects : Expects) (rest arguments names : List (List ℕ)) : Type 0 where
   pub apart : (more others : List (List ℕ)) → AreSetApart expects rest more others → AreSetApart Any given (arguments ++ more) (names ++ others)
   pub wrong : HaveNoName expects rest → HaveNoName Any given
 
 module _ (given : List (List ℕ)) where
-  pub apart_none : ApartSoFar given Any given [] []
-  apart_none = record { apart = λ more others are. are; wrong = λ is. is }
-
   module _ (expects : Expects) (one : List ℕ) (rest arguments names : List (List ℕ)) (far : ApartSoFar given expects (one ∷ rest) arguments names) where
     pub apart_text : IsUtf8 one → ApartSoFar given (next_behind expects one) rest (arguments ++ (one ∷ [])) names
     apart_text text = record {
@@ -48,13 +43,13 @@ module _ (given : List (List ℕ)) where
       → PutsText expects one answer apart apart' ⊎ (PutsName expects one answer apart apart' ⊎ IsWrong expects one answer) → answer ≡ Some next
       → ApartSoFar given next rest (texts apart'.arguments.items) (bytes_of_names apart'.names.items)
   apart_put expects one rest apart apart' answer next far (inl puts) is =
-      let same : next_behind expects one ≡ next = same_some (next_behind expects one) next (sym puts.next_is ∙ is) in
+      let same : next_behind expects one ≡ next = same_Some (next_behind expects one) next (sym puts.next_is ∙ is) in
       subst (λ (e : Expects). ApartSoFar given e rest (texts apart'.arguments.items) (bytes_of_names apart'.names.items)) same
       (subst (λ (l : List (List ℕ)). ApartSoFar given (next_behind expects one) rest l (bytes_of_names apart'.names.items)) (sym puts.put)
       (subst (λ (l : List (List ℕ)). ApartSoFar given (next_behind expects one) rest (texts apart.arguments.items ++ (one ∷ [])) l) (ap (λ names. bytes_of_names names.items) (sym puts.names))
       (apart_text expects one rest (texts apart.arguments.items) (bytes_of_names apart.names.items) far puts.text)))
   apart_put expects one rest apart apart' answer next far (inr (inl puts)) is =
-      let same : expects ≡ next = same_some expects next (sym puts.next_is ∙ is) in
+      let same : expects ≡ next = same_Some expects next (sym puts.next_is ∙ is) in
       subst (λ (e : Expects). ApartSoFar given e rest (texts apart'.arguments.items) (bytes_of_names apart'.names.items)) same
       (subst (λ (l : List (List ℕ)). ApartSoFar given expects rest (texts apart'.arguments.items) l) (sym puts.put)
       (subst (λ (l : List (List ℕ)). ApartSoFar given expects rest l (bytes_of_names apart.names.items ++ (one ∷ []))) (ap (λ arguments. texts arguments.items) (sym puts.arguments))
@@ -81,11 +76,6 @@ pub behind_two : (told : Told) (status : ℕ) → status ≡ 2 → status_behind
 behind_two Nothing status is = is
 behind_two Each status is = refl
 behind_two EachAlone status is = refl
-
-pub behind_bound : (told : Told) (status : ℕ) → status ≤ 2 → status_behind told status ≤ 2
-behind_bound Nothing status is = is
-behind_bound Each status is = omega arith
-behind_bound EachAlone status is = omega arith
 
 -- there is no name where there are none
 pub none_is : {Z : Type 0} (names : List (Vec ℕ Z)) → (length names == 0) ≡ has_none (bytes_of_names names)

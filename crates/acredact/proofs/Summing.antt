@@ -1,39 +1,12 @@
 -- Counts are added to sums, one after another.
-use Rattle.std.proofs.Common.{◌≡◌, ℕ, ◌+◌, ◌-◌, ◌<◌, ◌≤◌, Bool, true, false, List, [], ◌∷◌, ◌++◌, length, take, drop, get_or, refl, sym, ap, ◌∙◌, append_assoc, arith}
-use Rattle.std.specs.Prelude.{◌^◌, min, is_some, not, replicate, slice_index, if◌then◌else◌}
-use Rattle.std.specs.List.{filter}
-use Rattle.std.proofs.Math.Seq.{take-append_seam, take-length}
-use Rattle.std.proofs.lemmas.List.{ext_get_or, get_or-replicate, length-replicate}
+use Rattle.std.proofs.Common.{◌≡◌, ℕ, ◌+◌, ◌-◌, ◌<◌, ◌≤◌, List, [], ◌∷◌, ◌++◌, length, take, drop, get_or, refl, sym, ap, ◌∙◌, arith}
+use Rattle.std.specs.Prelude.{◌^◌, min, replicate, slice_index}
+use Rattle.std.proofs.Math.Seq.{take-append_seam}
+use Rattle.std.proofs.lemmas.List.{ext_get_or, get_or-replicate, length-replicate, take_rest}
 use Rattle.std.proofs.lemmas.List.FromFn.{get_or-map-range_with_len, length-map-range_with_len}
 use Rattle.acredact.specs.Sums.{HaveGrown, counts_for, given_count, share, sum_for, sums_of}
 use Rattle.acredact.specs.Tables.{Secret, secret_of, secrets_of}
 use Rattle.acredact.specs.declared.patterns.Rule.{Rule}
-
--- what is left behind the first
-pub behind_one : {X : Type 0} (x : X) (rest : List X) → take (length (x ∷ rest) - 1) rest ≡ rest
-behind_one x rest =
-    let count : length (x ∷ rest) - 1 ≡ length rest = omega arith in
-    ap (λ n. take n rest) count ∙ take-length rest
-
-abbrev zeros_many : ℕ → List ℕ
-zeros_many many = replicate many 0
-
-abbrev none_of : List Secret → List ℕ
-none_of secrets = zeros_many (given_count secrets)
-
--- one more zero, if the next was given
-pub zeros_next : (zeros all : List ℕ) (rules : List Rule) (other : Rule) → 1 ≤ length rules → zeros ++ none_of (secrets_of rules) ≡ all
-    → (zeros ++ none_of (secrets_of (get_or rules 0 other ∷ []))) ++ none_of (secrets_of (take (length rules - 1) (drop 1 rules))) ≡ all
-zeros_next zeros all [] other some is = absurd (omega (arith, some))
-zeros_next zeros all (rule ∷ rules) other some is =
-    ap (λ (l : List Rule). (zeros ++ none_of (secrets_of (rule ∷ []))) ++ none_of (secrets_of l)) (behind_one rule rules)
-    ∙ append_assoc zeros (none_of (secrets_of (rule ∷ []))) (none_of (secrets_of rules))
-    ∙ ap (λ l. zeros ++ l) (by_test (is_some (secret_of rule).form_of)) ∙ is
-  where
-    by_test : (b : Bool) → zeros_many (length (if not b then secret_of rule ∷ [] else [])) ++ none_of (secrets_of rules)
-        ≡ zeros_many (length (if not b then secret_of rule ∷ filter (λ (secret : Secret). not (is_some secret.form_of)) (secrets_of rules) else filter (λ (secret : Secret). not (is_some secret.form_of)) (secrets_of rules)))
-    by_test true = refl
-    by_test false = refl
 
 -- what was added, and then more
 pub grown_then : (few more both : ℕ → ℕ) (one two three : List ℕ) → ((number : ℕ) → both number ≡ few number + more number) → HaveGrown few one two → HaveGrown more two three → HaveGrown both one three
@@ -59,8 +32,8 @@ sum_next number place own [] counts other count some more is = absurd (omega (ar
 sum_next number place own (rule ∷ rules) [] other count some more is = absurd (omega (arith, more))
 sum_next number place own (rule ∷ rules) (first ∷ counts) other count some more is =
     ap (λ (n : ℕ). share n number first + sum_for number (place + 1) (secrets_of rules) counts) (sym is)
-    ∙ ap (λ (l : List Rule). share own number first + sum_for number (place + 1) (secrets_of l) counts) (sym (behind_one rule rules))
-    ∙ ap (λ (l : List ℕ). share own number first + sum_for number (place + 1) (secrets_of (take (length (rule ∷ rules) - 1) rules)) l) (sym (behind_one first counts))
+    ∙ ap (λ (l : List Rule). share own number first + sum_for number (place + 1) (secrets_of l) counts) (sym (take_rest (rule ∷ rules) 1))
+    ∙ ap (λ (l : List ℕ). share own number first + sum_for number (place + 1) (secrets_of (take (length (rule ∷ rules) - 1) rules)) l) (sym (take_rest (first ∷ counts) 1))
 
 -- sums that began at zero
 pub sums_are : (secrets : List Secret) (counts zeros sums : List ℕ) → zeros ≡ replicate (given_count secrets) 0 → HaveGrown (λ number. sum_for number 0 secrets counts) zeros sums → sums ≡ sums_of secrets counts

@@ -1,25 +1,28 @@
 -- What is told of lines, one after another, by what a visitor of them leaves.
-use Rattle.std.proofs.Common.{◌≡◌, ◌≢◌, inl, inr, ℕ, zero, suc, List, [], ◌∷◌, ◌++◌, Option, true, false, length, take, refl, sym, ap, subst, ◌∙◌, append_assoc, append-nil, arith}
+use Rattle.std.proofs.Common.{◌++◌, ◌∙◌, ◌∷◌, ◌≡◌, ◌≢◌, List, Option, [], ap, append-nil, append_assoc, drop, false, inl, inr, refl, subst, sym, take, true, ℕ}
 use Rattle.std.specs.Prelude.{Bool, ◌||◌, Result, Ok, Err, IfOk}
 use Rattle.std.specs.Borrow.{MutBor}
 use Rattle.std.specs.Io.{StartsWith}
 use Rattle.std.specs.Io.KnownBytes.{Appends, Consumes, IsAtEnd}
 use Rattle.std.proofs.KnownBytes.{Appends-nil, Appends-trans}
+use Rattle.std.proofs.Math.Bool.{or-false, or_assoc}
+use Rattle.std.proofs.Math.Seq.{take-length}
+use Rattle.std.proofs.lemmas.List.{take-append-drop}
 use Rattle.aho_core.specs.Occurrence.{Occurrence}
 use Rattle.aho_core.specs.Patterns.{Patterns}
 use Rattle.aho_core.specs.declared.error.stream.StreamError.{StreamError}
 use Rattle.aho_core.specs.declared.error.stream.StreamError.TheVariants.{Match, Read, Write, WriteZero, Memory, PositionLimit}
 use Rattle.aho_devices.specs.declared.device.Sink.{Ghosts as SinkGhosts}
 use Rattle.aho_devices.specs.declared.device.Source.{Ghosts as SourceGhosts}
-use Rattle.aho_stream.specs.Replacing.{MayBe}
+use Rattle.aho_cover.proofs.Copied.{begins_with}
 use Rattle.secret_rules.specs.Covering.{Covering, covering_by}
 use Rattle.secret_rules.specs.Lines.{Line, stream_lines}
-use Rattle.secret_rules.specs.Visits.{AreFirstLines, BeginsVisiting, LeavesVisited, StopsWithin, VisitsEach, VisitsLines, taken_line}
+use Rattle.secret_rules.specs.Visits.{BeginsVisiting, LeavesVisited, StopsWithin, VisitsEach, VisitsLines, taken_line}
 use Rattle.secret_rules.specs.declared.error.LineError.{LineError}
 use Rattle.secret_rules.specs.declared.error.LineError.TheVariants.{Mark, Stream}
 use Rattle.secret_rules.specs.declared.rule.Rule.{Rule}
 use Rattle.secret_rules.specs.declared.visitor.LineVisitor.{Ghosts as VisitorGhosts}
-use Rattle.acredact.specs.RuledChecks.{BeginsGiven, BeginsTelling, IfLooked, IsAtFirst, LookedText, SeesText, StopsTelling, TellsGiven, TellsLine, SaysLines, findings_behind, findings_of, found_of, is_some_line, is_some_run, labels_of, lines_findings, look_of_lines}
+use Rattle.acredact.specs.RuledChecks.{BeginsGiven, IfLooked, IsAtFirst, LookedText, SeesText, StopsTelling, TellsGiven, TellsLine, SaysLines, findings_behind, findings_of, found_of, is_some_line, is_some_run, labels_of, lines_findings, look_of_lines}
 use Rattle.acredact.specs.declared.findings.Findings.{Findings}
 use Rattle.acredact.proofs.OneFile.{ends_by}
 
@@ -31,16 +34,8 @@ all_behind findings (runs ∷ more) = all_behind (findings_behind findings runs)
 abbrev pub all_findings : Findings → List (List Occurrence) → List ℕ
 all_findings findings runs = lines_findings (labels_of findings.legend) findings.name.now findings.line runs
 
-or_assoc : (a b c : Bool) → ((a || b) || c) ≡ (a || (b || c))
-or_assoc true b c = refl
-or_assoc false b c = refl
-
-or_none : (a : Bool) → a ≡ (a || false)
-or_none true = refl
-or_none false = refl
-
 found_behind : (findings : Findings) (runs : List (List Occurrence)) → (all_behind findings runs).found ≡ (findings.found || is_some_line runs)
-found_behind findings [] = or_none findings.found
+found_behind findings [] = sym (or-false findings.found)
 found_behind findings (own ∷ more) = found_behind (findings_behind findings own) more ∙ or_assoc findings.found (is_some_run own) (is_some_line more)
 
 findings_append : (findings : Findings) (first more : List (List Occurrence)) → all_findings findings (first ++ more) ≡ all_findings findings first ++ all_findings (all_behind findings first) more
@@ -50,18 +45,8 @@ findings_append findings (own ∷ first) more =
     ap (λ l. findings_of findings own ++ l) (findings_append next first more)
     ∙ sym (append_assoc (findings_of findings own) (all_findings next first) (all_findings (all_behind next first) more))
 
--- a text starts with itself, and with its first bytes
-starts_taken : (text : List ℕ) (count : ℕ) → StartsWith text (take count text)
-starts_taken [] zero = refl
-starts_taken [] (suc count) = refl
-starts_taken (byte ∷ text) zero = refl
-starts_taken (byte ∷ text) (suc count) = ap (λ l. byte ∷ l) (starts_taken text count)
-
-starts_all : (text : List ℕ) → StartsWith text text
-starts_all [] = refl
-starts_all (byte ∷ text) = ap (λ l. byte ∷ l) (starts_all text)
-
-starts_behind : (front all first : List ℕ) → StartsWith all first → StartsWith (front ++ all) (front ++ first)
+-- what starts with some bytes does so behind others
+pub starts_behind : (front all first : List ℕ) → StartsWith all first → StartsWith (front ++ all) (front ++ first)
 starts_behind [] all first is = is
 starts_behind (byte ∷ front) all first is = ap (λ l. byte ∷ l) (starts_behind front all first is)
 
@@ -100,7 +85,7 @@ module _ {V W : Type 0} (L : VisitorGhosts V) (K : SinkGhosts W) (most : ℕ) (o
   stops_told : (visitor visitor' : V) (lines : List Line) (runs : List (List Occurrence)) (error : LineError) → StopsWithin L most visitor visitor' lines runs error → StopsEach visitor visitor' runs
   stops_told visitor visitor' lines runs error (inl is) =
       let each = each_told visitor visitor' lines runs is.0 in
-      record { same = each.same; part = all_findings (found_in visitor) runs; begins = starts_all (all_findings (found_in visitor) runs); written = each.told }
+      record { same = each.same; part = all_findings (found_in visitor) runs; begins = take-length (all_findings (found_in visitor) runs); written = each.told }
   stops_told visitor visitor' lines runs error (inr last) =
       let each = each_told visitor last.between last.first last.more last.visits in
       let stop = stops last.between visitor' (taken_line most last.line) last.own last.cause last.stops in
@@ -113,7 +98,7 @@ module _ {V W : Type 0} (L : VisitorGhosts V) (K : SinkGhosts W) (most : ℕ) (o
       record {
         same = stop.same ∙ each.same;
         part = front ++ take stop.begun.0 mine;
-        begins = subst (λ l. StartsWith l (front ++ take stop.begun.0 mine)) (sym all) (starts_behind front mine (take stop.begun.0 mine) (starts_taken mine stop.begun.0));
+        begins = subst (λ l. StartsWith l (front ++ take stop.begun.0 mine)) (sym all) (starts_behind front mine (take stop.begun.0 mine) (subst (λ l. StartsWith l (take stop.begun.0 mine)) (take-append-drop stop.begun.0 mine) (begins_with (take stop.begun.0 mine) (drop stop.begun.0 mine))));
         written = Appends-trans (K.taken (output_of visitor).now) (K.taken (output_of last.between).now) (K.taken (output_of visitor').now) front (take stop.begun.0 mine) each.told stop.begun.2;
       }
 
@@ -137,7 +122,7 @@ module _ {V W : Type 0} (L : VisitorGhosts V) (K : SinkGhosts W) (most : ℕ) (o
           are = whole.runs_are p sought;
           first = λ bytes may. ([], ap stream_lines (may.1 ∙ ap (λ l. whole.given ++ l) may.2 ∙ append-nil whole.given) ∙ sym (append-nil (stream_lines whole.given)));
           part = told;
-          begins = starts_all told;
+          begins = take-length told;
           written = subst (Appends (K.taken (output_of visitor).now) (K.taken (output_of visitor').now)) (from_first whole.runs) each.told;
         }
 

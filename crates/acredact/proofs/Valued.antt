@@ -3,10 +3,9 @@ use Rattle.std.proofs.Common.{◌≡◌, ℕ, ◌+◌, ◌-◌, ◌^◌, ◌<◌
 use Rattle.std.specs.Prelude.{Some, None, if◌then◌else◌, min, nat_eq, nat_lt, slice_index_or}
 use Rattle.std.specs.List.{cons_option, slice_split}
 use Rattle.std.proofs.lemmas.Grind.{common_steps}
-use Rattle.std.proofs.lemmas.List.{get_or-map, length-map}
+use Rattle.std.proofs.lemmas.List.{get_or-map, length-map, take_rest}
 use Rattle.std.proofs.lemmas.List.Elements.{All-head, All-tail}
 use Rattle.std.proofs.lemmas.List.Splits.{slice_split_at, slice_split_none}
-use Rattle.std.proofs.Math.Seq.{take-length}
 use Rattle.std.specs.Borrow.{Bor}
 use Rattle.aho_core.specs.Replacement.{pieces_of}
 use Rattle.acredact.specs.Parts.{IsAddedSome}
@@ -92,9 +91,7 @@ pub valued_next : (parts : Bool) (all : List (List ℕ)) (rest : List (Bor (List
     → IsAddedSome (GivesValue parts (get_or rest 0 other).now) mid new → ValuedSoFar parts all (pieces_of (take (length rest - 1) (drop 1 rest))) old new
 valued_next parts all [] other old mid new some far added = absurd (omega (arith, some))
 valued_next parts all (value ∷ rest) other old mid new some far added =
-    let count : length (value ∷ rest) - 1 ≡ length rest = omega arith in
-    let left : take (length (value ∷ rest) - 1) rest ≡ rest = ap (λ n. take n rest) count ∙ take-length rest in
-    subst (λ (l : List (Bor (List ℕ))). ValuedSoFar parts all (pieces_of l) old new) (sym left) (valued_more parts all (pieces_of rest) value.now old mid new far added)
+    subst (λ (l : List (Bor (List ℕ))). ValuedSoFar parts all (pieces_of l) old new) (sym (take_rest (value ∷ rest) 1)) (valued_more parts all (pieces_of rest) value.now old mid new far added)
 
 valued_all : (parts : Bool) (all : List (List ℕ)) (old new : List Secret) → ValuedSoFar parts all [] old new → IsAddedSome (GiveEach parts all) old new
 valued_all parts all old new far = record { more = far.so; grown = far.grown; of = subst (GiveEach parts all) (append-nil far.so) (far.given [] refl) }

@@ -47,18 +47,7 @@ takes_value Rules = true
 takes_value After = true
 takes_value MaxLine = true
 takes_value Output = true
-takes_value IgnoreCase = false
-takes_value AsWord = false
-takes_value InPlace = false
-takes_value Count = false
-takes_value Summary = false
-takes_value Crlf = false
-takes_value AllowEmpty = false
-takes_value Strict = false
-takes_value Check = false
-takes_value Help = false
-takes_value Version = false
-takes_value File = false
+takes_value other = false
 
 -- the kind that covers each byte of each match
 abbrev pub is_cover : List ℕ → Bool
@@ -69,29 +58,8 @@ abbrev pub is_value_of : Word → List ℕ → Bool
 is_value_of Kind value = is_cover value || is_some (kind_by value)
 is_value_of Forms value = are_forms value
 is_value_of Env value = is_variable_name value
-is_value_of IgnoreCase value = true
-is_value_of AsWord value = true
-is_value_of Pattern value = true
-is_value_of Patterns value = true
-is_value_of Table value = true
-is_value_of EnvFile value = true
-is_value_of Whole value = true
-is_value_of With value = true
-is_value_of Pseudonym value = true
-is_value_of Rules value = true
-is_value_of After value = true
 is_value_of MaxLine value = is_size value
-is_value_of Output value = true
-is_value_of InPlace value = true
-is_value_of Count value = true
-is_value_of Summary value = true
-is_value_of Crlf value = true
-is_value_of AllowEmpty value = true
-is_value_of Strict value = true
-is_value_of Check value = true
-is_value_of Help value = true
-is_value_of Version value = true
-is_value_of File value = true
+is_value_of other value = true
 
 -- what was read, and what is expected of the next argument
 pub record ItemsSoFar : Type 0 where
@@ -246,18 +214,7 @@ option_name Rules = codes "--rules"
 option_name After = codes "--after"
 option_name MaxLine = codes "--max-line"
 option_name Output = codes "--output"
-option_name IgnoreCase = codes "-e"
-option_name AsWord = codes "-e"
-option_name InPlace = codes "-e"
-option_name Count = codes "-e"
-option_name Summary = codes "-e"
-option_name Crlf = codes "-e"
-option_name AllowEmpty = codes "-e"
-option_name Strict = codes "-e"
-option_name Check = codes "-e"
-option_name Help = codes "-e"
-option_name Version = codes "-e"
-option_name File = codes "-e"
+option_name other = codes "-e"
 
 -- the file that is written in the place of standard output, where one is asked for; help and the version go to that
 abbrev pub output_asked : List Given → Option (List ℕ)

@@ -1,12 +1,12 @@
 -- Why a call ends early, and how that is told.
-use Rattle.std.specs.Prelude.{◌≡◌, ◌⊎◌, ℕ, Bool, true, false, List, ◌++◌, Some, codes, decimal}
+use Rattle.std.specs.Prelude.{◌≡◌, ◌⊎◌, ℕ, Bool, true, false, List, Some, codes}
 use Rattle.tool_parts.specs.Failures.{failure_text}
 use Rattle.tool_parts.specs.Messages.{Message, reason_text}
 use Rattle.tool_parts.specs.declared.failure.Failure.{Failure as OtherFailure}
-use Rattle.tool_parts.specs.declared.failure.Failure.TheVariants.{Usage, Build, Search, OutOfMemory, PositionLimit, Read, Write, WriteZero}
+use Rattle.tool_parts.specs.declared.failure.Failure.TheVariants.{Write, WriteZero}
 use Rattle.acredact.specs.LineFaults.{line_fault_text}
 use Rattle.tool_parts.specs.declared.reason.Reason.{Reason}
-use Rattle.acredact.specs.Messages.{about, alone, line_about, message_about, told_line, unclean_line}
+use Rattle.acredact.specs.Messages.{about, alone, line_about, message_about, numbered_line, told_line, unclean_line}
 use Rattle.acredact.specs.Mistakes.{mistake_line}
 use Rattle.acredact.specs.declared.failure.Failure.{Failure}
 use Rattle.acredact.specs.declared.failure.Failure.TheVariants.{NotText, Arguments, Pattern, Unread, Empty, NoValue, ShortKey, Line, Short, Unclean, Counts, Other}
@@ -14,14 +14,9 @@ use Rattle.acredact.specs.declared.patterns.BadLine.{BadLine}
 
 -- the output failed, or took nothing
 abbrev pub is_of_output : OtherFailure → Bool
-is_of_output Usage = false
-is_of_output (Build error) = false
-is_of_output (Search error) = false
-is_of_output OutOfMemory = false
-is_of_output PositionLimit = false
-is_of_output Read = false
 is_of_output Write = true
 is_of_output WriteZero = true
+is_of_output other = false
 
 -- the line that tells a failure of the library
 abbrev pub IsOtherLine : OtherFailure → List ℕ → Type 0
@@ -35,7 +30,7 @@ bad_line name bad = message_about name (Some bad.number) (line_fault_text bad.fa
 
 -- the line that tells the number of a pattern that is too short for forms
 abbrev pub short_line : ℕ → List ℕ
-short_line number = codes "acredact" ++ (codes ": pattern " ++ (decimal number ++ codes " has fewer than four bytes: its forms are not redacted\n"))
+short_line number = numbered_line (codes ": pattern ") number (codes " has fewer than four bytes: its forms are not redacted\n")
 
 -- the line that tells a failure: of what, and why. Of a pattern it holds nothing, and of a file its name
 abbrev pub IsFailureLine : Failure → List ℕ → Type 0

@@ -15,19 +15,9 @@ NamesNone (byte ∷ bytes) = (nat_eq byte 116 ≡ false) × (nat_eq byte 110 ≡
 
 -- a text begins with what stands for no byte in a table: a TAB, or else a line end or a backslash that names no byte
 abbrev pub IsBadStart : List ℕ → LineFault → Type 0
-IsBadStart text EmptyPattern = ⊥
-IsBadStart text NoTab = ⊥
 IsBadStart text SecondTab = (rest : List ℕ) × (text ≡ 9 ∷ rest)
 IsBadStart text BadEscape = (rest : List ℕ) × ((text ≡ 10 ∷ rest) ⊎ ((text ≡ 92 ∷ rest) × NamesNone rest))
-IsBadStart text CarriageReturn = ⊥
-IsBadStart text ByteOrderMark = ⊥
-IsBadStart text Utf16 = ⊥
-IsBadStart text ZeroByte = ⊥
-IsBadStart text Blank = ⊥
-IsBadStart text Quotes = ⊥
-IsBadStart text NoEquals = ⊥
-IsBadStart text EmptyValue = ⊥
-IsBadStart text OutOfMemory = ⊥
+IsBadStart text other = ⊥
 
 -- that is so of a text behind some bytes, or memory runs out
 abbrev pub IsTextFault : List ℕ → LineFault → Type 0

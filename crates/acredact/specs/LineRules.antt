@@ -1,5 +1,5 @@
 -- The rules that options give, and how long a line may be by them.
-use Rattle.std.specs.Prelude.{◌≡◌, ℕ, Bool, MatchBool, List, [], ◌∷◌, ◌++◌, Option, Vec, codes, option_and_then, string_bytes, unwrap_or, None}
+use Rattle.std.specs.Prelude.{◌≡◌, ℕ, Bool, MatchBool, List, [], ◌∷◌, Option, Vec, codes, option_and_then, string_bytes, unwrap_or, None}
 use Rattle.std.specs.Str.{bytes_eq}
 use Rattle.std.specs.declared.io.traits.Read.{Ghosts as Readers}
 use Rattle.aho_devices.specs.declared.adapters.FromRead.{FromRead}
@@ -10,10 +10,11 @@ use Rattle.secret_rules.specs.Tables.{TellsRules}
 use Rattle.secret_rules.specs.declared.rule.Rule.{Rule}
 use Rattle.acredact.specs.Arguments.{Given, last_value}
 use Rattle.acredact.specs.LineSizes.{size_in}
-use Rattle.acredact.specs.Loading.{Reading, reading_of_lists}
+use Rattle.acredact.specs.Loading.{EachGives, Reading, reading_of_lists}
+use Rattle.acredact.specs.Parts.{IsAddedSome}
 use Rattle.acredact.specs.Reads.{OfName, ReadsText}
 use Rattle.acredact.specs.declared.arguments.Word.{Word}
-use Rattle.acredact.specs.declared.arguments.Word.TheVariants.{IgnoreCase, Kind, Pattern, Patterns, Table, Env, EnvFile, Whole, With, Pseudonym, Forms, AsWord, Rules, After, MaxLine, Output, InPlace, Count, Summary, Crlf, AllowEmpty, Strict, Check, Help, Version, File}
+use Rattle.acredact.specs.declared.arguments.Word.TheVariants.{Rules, After, MaxLine}
 use Rattle.acredact.specs.declared.folder.Folder.{Ghosts as Folders}
 use Rattle.acredact.specs.declared.load.Lists.{Lists}
 
@@ -59,55 +60,24 @@ GivesNoRules rules left left' = (rules ≡ []) × (left' ≡ left)
 abbrev pub OptionGivesRules : Reading → Word → List ℕ → List Rule → (left left' : Option (List ℕ)) → Type 0
 OptionGivesRules reading Rules value rules left left' = GivesNamedRules reading value rules left left'
 OptionGivesRules reading After value rules left left' = GivesBehind value rules × (left' ≡ left)
-OptionGivesRules reading Pattern value rules left left' = GivesNoRules rules left left'
-OptionGivesRules reading Patterns value rules left left' = GivesNoRules rules left left'
-OptionGivesRules reading Table value rules left left' = GivesNoRules rules left left'
-OptionGivesRules reading Env value rules left left' = GivesNoRules rules left left'
-OptionGivesRules reading EnvFile value rules left left' = GivesNoRules rules left left'
-OptionGivesRules reading Whole value rules left left' = GivesNoRules rules left left'
-OptionGivesRules reading IgnoreCase value rules left left' = GivesNoRules rules left left'
-OptionGivesRules reading AsWord value rules left left' = GivesNoRules rules left left'
-OptionGivesRules reading Kind value rules left left' = GivesNoRules rules left left'
-OptionGivesRules reading With value rules left left' = GivesNoRules rules left left'
-OptionGivesRules reading Pseudonym value rules left left' = GivesNoRules rules left left'
-OptionGivesRules reading Forms value rules left left' = GivesNoRules rules left left'
-OptionGivesRules reading MaxLine value rules left left' = GivesNoRules rules left left'
-OptionGivesRules reading Output value rules left left' = GivesNoRules rules left left'
-OptionGivesRules reading Count value rules left left' = GivesNoRules rules left left'
-OptionGivesRules reading Summary value rules left left' = GivesNoRules rules left left'
-OptionGivesRules reading Crlf value rules left left' = GivesNoRules rules left left'
-OptionGivesRules reading InPlace value rules left left' = GivesNoRules rules left left'
-OptionGivesRules reading AllowEmpty value rules left left' = GivesNoRules rules left left'
-OptionGivesRules reading Strict value rules left left' = GivesNoRules rules left left'
-OptionGivesRules reading Check value rules left left' = GivesNoRules rules left left'
-OptionGivesRules reading Help value rules left left' = GivesNoRules rules left left'
-OptionGivesRules reading Version value rules left left' = GivesNoRules rules left left'
-OptionGivesRules reading File value rules left left' = GivesNoRules rules left left'
+OptionGivesRules reading other value rules left left' = GivesNoRules rules left left'
 
 -- those that all options give, in order
 abbrev pub AreRulesRead : Reading → List Given → List Rule → (left left' : Option (List ℕ)) → Type 0
-AreRulesRead reading [] rules left left' = GivesNoRules rules left left'
-AreRulesRead reading (item ∷ items) rules left left' = (first : List Rule) × (rest : List Rule) × (rules ≡ first ++ rest)
-    × (between : Option (List ℕ)) × OptionGivesRules reading item.word item.value first left between × AreRulesRead reading items rest between left'
+AreRulesRead reading given rules left left' = EachGives (λ item. OptionGivesRules reading item.word item.value) given rules left left'
 
--- what an option gives is added
-pub record IsAddedRules (Gives : List Rule → (left left' : Option (List ℕ)) → Type 0) (old new : List Rule) (left left' : Option (List ℕ)) : Type 0 where
-  pub more : List Rule
-  pub grown : new ≡ old ++ more
-  pub of : Gives more left left'
-
--- the same where the input stays as it is
+-- some rules are added
 abbrev pub AddsThese : {Z : Type 0} → (List Rule → Type 0) → (rules rules' : Vec Rule Z) → Type 0
-AddsThese Gives rules rules' = (more : List Rule) × (rules'.items ≡ rules.items ++ more) × Gives more
+AddsThese Gives rules rules' = IsAddedSome Gives rules.items rules'.items
 
 module _ {F X R : Type 0} {Reads : Readers R} (D : Folders F X) (lists : Lists F) where
   abbrev pub AddsNamed : {Z : Type 0} → List ℕ → (rules rules' : Vec Rule Z) → (input input' : FromRead R Reads) → Type 0
   AddsNamed name rules rules' input input' =
-      IsAddedRules (GivesNamedRules (reading_of_lists D lists) name) rules.items rules'.items (bytes_left input) (bytes_left input')
+      AddsThese (λ more. GivesNamedRules (reading_of_lists D lists) name more (bytes_left input) (bytes_left input')) rules rules'
 
   abbrev pub AddsOption : {Z : Type 0} → Given → (rules rules' : Vec Rule Z) → (input input' : FromRead R Reads) → Type 0
   AddsOption item rules rules' input input' =
-      IsAddedRules (OptionGivesRules (reading_of_lists D lists) item.word item.value) rules.items rules'.items (bytes_left input) (bytes_left input')
+      AddsThese (λ more. OptionGivesRules (reading_of_lists D lists) item.word item.value more (bytes_left input) (bytes_left input')) rules rules'
 
 -- the rules of all options were read
 abbrev pub ReadsLineRules : {F X R : Type 0} {Reads : Readers R} → Folders F X → Lists F → List Given → List Rule → (input input' : FromRead R Reads) → Type 0

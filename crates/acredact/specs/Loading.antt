@@ -1,5 +1,5 @@
 -- What the options give, one after another, and why they do not.
-use Rattle.std.specs.Prelude.{◌≡◌, ◌⊎◌, ℕ, ◌<◌, ◌≤◌, Bool, true, false, List, [], ◌∷◌, ◌++◌, Option, Some, None, IfSome, Result, Ok, Err, if◌then◌else◌, length, option_map, Vec}
+use Rattle.std.specs.Prelude.{◌≡◌, ◌⊎◌, ℕ, ◌<◌, ◌≤◌, Bool, true, false, List, [], ◌∷◌, ◌++◌, Option, Some, None, IfSome, Result, Err, if◌then◌else◌, length, option_map, Vec}
 use Rattle.std.specs.Borrow.{Bor}
 use Rattle.std.specs.List.{AllZip, filter_map}
 use Rattle.std.specs.declared.io.traits.Read.{Ghosts as Readers}
@@ -9,7 +9,7 @@ use Rattle.tool_parts.specs.Names.{is_input}
 use Rattle.tool_parts.specs.Streams.{bytes_left}
 use Rattle.tool_parts.specs.declared.failure.Failure.TheVariants.{OutOfMemory as NoMemory}
 use Rattle.tool_parts.specs.declared.reason.Reason.{Reason}
-use Rattle.tool_parts.specs.declared.reason.Reason.TheVariants.{NotFound, Denied, Directory, Irregular, NoDirectory, Links, LongName, Invalid, Full, TooLarge, Quota, Interrupted, Unavailable, Locked, NoLock, Changed, Owner, Closed, OutOfMemory, PositionLimit, ReadFault, Fault}
+use Rattle.tool_parts.specs.declared.reason.Reason.TheVariants.{OutOfMemory, ReadFault}
 use Rattle.acredact.specs.Arguments.{Given, all_given, has, last_value}
 use Rattle.acredact.specs.Forms.{AskedForms, HideSecrets, forms_asked, with_forms}
 use Rattle.acredact.specs.LineFaults.{IsLineFault, IsListFault, mark_in}
@@ -20,9 +20,9 @@ use Rattle.acredact.specs.Tables.{HaveLines, HaveNoEmpty, HoldsBy, Secret, lines
 use Rattle.acredact.specs.Values.{GiveEach, are_refused, first_fault, value_in_line, value_of_entry, whole_in}
 use Rattle.acredact.specs.declared.arguments.Item.{Item}
 use Rattle.acredact.specs.declared.arguments.Word.{Word}
-use Rattle.acredact.specs.declared.arguments.Word.TheVariants.{IgnoreCase, Kind, Pattern, Patterns, Table, Env, EnvFile, Whole, With, Pseudonym, Forms, AsWord, Rules as RulesFile, After, MaxLine, Output, InPlace, Count, Summary, Crlf, AllowEmpty, Strict, Check, Help, Version, File}
+use Rattle.acredact.specs.declared.arguments.Word.TheVariants.{IgnoreCase, Pattern, Patterns, Table, Env, EnvFile, Whole, Pseudonym, Forms}
 use Rattle.acredact.specs.declared.failure.Failure.{Failure}
-use Rattle.acredact.specs.declared.failure.Failure.TheVariants.{NotText, Arguments, Pattern as BadPattern, Unread, Empty, NoValue, ShortKey, Line, Short, Unclean, Counts, Other}
+use Rattle.acredact.specs.declared.failure.Failure.TheVariants.{Pattern as BadPattern, Unread, Empty, NoValue, ShortKey, Line, Other}
 use Rattle.acredact.specs.declared.folder.Folder.{Ghosts as Folders}
 use Rattle.acredact.specs.declared.load.Listed.{Listed}
 use Rattle.acredact.specs.declared.load.Listed.TheVariants.{Plain, Rows, Variables, Whole as WholeFile}
@@ -107,32 +107,17 @@ OptionGives reading Table value secrets left left' = GivesSecrets reading Rows v
 OptionGives reading Env value secrets left left' = GivesEnvironment reading value secrets × (left' ≡ left)
 OptionGives reading EnvFile value secrets left left' = GivesSecrets reading Variables value secrets left left'
 OptionGives reading Whole value secrets left left' = GivesSecrets reading WholeFile value secrets left left'
-OptionGives reading IgnoreCase value secrets left left' = (secrets ≡ []) × (left' ≡ left)
-OptionGives reading AsWord value secrets left left' = (secrets ≡ []) × (left' ≡ left)
-OptionGives reading Kind value secrets left left' = (secrets ≡ []) × (left' ≡ left)
-OptionGives reading With value secrets left left' = (secrets ≡ []) × (left' ≡ left)
-OptionGives reading Pseudonym value secrets left left' = (secrets ≡ []) × (left' ≡ left)
-OptionGives reading Forms value secrets left left' = (secrets ≡ []) × (left' ≡ left)
-OptionGives reading RulesFile value secrets left left' = (secrets ≡ []) × (left' ≡ left)
-OptionGives reading After value secrets left left' = (secrets ≡ []) × (left' ≡ left)
-OptionGives reading MaxLine value secrets left left' = (secrets ≡ []) × (left' ≡ left)
-OptionGives reading Output value secrets left left' = (secrets ≡ []) × (left' ≡ left)
-OptionGives reading Count value secrets left left' = (secrets ≡ []) × (left' ≡ left)
-OptionGives reading Summary value secrets left left' = (secrets ≡ []) × (left' ≡ left)
-OptionGives reading Crlf value secrets left left' = (secrets ≡ []) × (left' ≡ left)
-OptionGives reading InPlace value secrets left left' = (secrets ≡ []) × (left' ≡ left)
-OptionGives reading AllowEmpty value secrets left left' = (secrets ≡ []) × (left' ≡ left)
-OptionGives reading Strict value secrets left left' = (secrets ≡ []) × (left' ≡ left)
-OptionGives reading Check value secrets left left' = (secrets ≡ []) × (left' ≡ left)
-OptionGives reading Help value secrets left left' = (secrets ≡ []) × (left' ≡ left)
-OptionGives reading Version value secrets left left' = (secrets ≡ []) × (left' ≡ left)
-OptionGives reading File value secrets left left' = (secrets ≡ []) × (left' ≡ left)
+OptionGives reading other value secrets left left' = (secrets ≡ []) × (left' ≡ left)
 
--- the secrets that all options give, in order
+-- what all options give, in order, where each gives what this says
+abbrev pub EachGives : {X : Type 0} → (Gives : Given → List X → (left left' : Option (List ℕ)) → Type 0) → List Given → List X → (left left' : Option (List ℕ)) → Type 0
+EachGives Gives [] all left left' = (all ≡ []) × (left' ≡ left)
+EachGives {X} Gives (item ∷ items) all left left' = (first : List X) × (rest : List X) × (all ≡ first ++ rest)
+    × (between : Option (List ℕ)) × Gives item first left between × EachGives Gives items rest between left'
+
+-- the secrets that they give
 abbrev pub AreRead : Reading → List Given → List Secret → (left left' : Option (List ℕ)) → Type 0
-AreRead reading [] secrets left left' = (secrets ≡ []) × (left' ≡ left)
-AreRead reading (item ∷ items) secrets left left' = (first : List Secret) × (rest : List Secret) × (secrets ≡ first ++ rest)
-    × (between : Option (List ℕ)) × OptionGives reading item.word item.value first left between × AreRead reading items rest between left'
+AreRead reading given secrets left left' = EachGives (λ item. OptionGives reading item.word item.value) given secrets left left'
 
 -- and behind them those of their forms, outside of which the forms show no character that holds a bit of a secret
 pub record AreGiven (reading : Reading) (given : List Given) (secrets : List Secret) (left left' : Option (List ℕ)) : Type 0 where
@@ -194,30 +179,18 @@ AreSome made = HaveNoEmpty (secrets_of made.rules.items)
 abbrev pub LoadsByKey : List Item → List Rule → (key : List ℕ) → Secrets → Type 0
 LoadsByKey items rules key made = loaded_in made ≡ loaded_by (all_given items) (secrets_of rules) (Some key)
 
--- what a file holds is added
-pub record IsAddedFile (reading : Reading) (listed : Listed) (name : List ℕ) (old new : List Secret) (left left' : Option (List ℕ)) : Type 0 where
-  pub more : List Secret
-  pub grown : new ≡ old ++ more
-  pub held : GivesSecrets reading listed name more left left'
-
--- what an option gives is added
-pub record IsAddedItem (reading : Reading) (item : Given) (old new : List Secret) (left left' : Option (List ℕ)) : Type 0 where
-  pub more : List Secret
-  pub grown : new ≡ old ++ more
-  pub of : OptionGives reading item.word item.value more left left'
-
--- the same, of the rules and of the input before and after
+-- what a file holds, or what an option gives, is added, of the rules and of the input before and after
 abbrev pub AddsList : {F Z : Type 0} → Lists F → Listed → List ℕ → (rules rules' : Vec Rule Z) → Type 0
 AddsList lists listed text rules rules' = AddsSome (HoldsListed (rules_for lists) listed text) rules rules'
 
 module _ {F X R Z : Type 0} {Reads : Readers R} (D : Folders F X) (lists : Lists F) where
   abbrev pub AddsFile : Listed → List ℕ → (rules rules' : Vec Rule Z) → (input input' : FromRead R Reads) → Type 0
   AddsFile listed name rules rules' input input' =
-      IsAddedFile (reading_of_lists D lists) listed name (secrets_of rules.items) (secrets_of rules'.items) (bytes_left input) (bytes_left input')
+      AddsSome (λ more. GivesSecrets (reading_of_lists D lists) listed name more (bytes_left input) (bytes_left input')) rules rules'
 
   abbrev pub AddsItem : Given → (rules rules' : Vec Rule Z) → (input input' : FromRead R Reads) → Type 0
   AddsItem item rules rules' input input' =
-      IsAddedItem (reading_of_lists D lists) item (secrets_of rules.items) (secrets_of rules'.items) (bytes_left input) (bytes_left input')
+      AddsSome (λ more. OptionGives (reading_of_lists D lists) item.word item.value more (bytes_left input) (bytes_left input')) rules rules'
 
   -- the rules hold what all options give
   abbrev pub GivesRules : List Given → (rules : Vec Rule Z) → (input input' : FromRead R Reads) → Type 0
@@ -245,29 +218,8 @@ IsTextReason reason = (reason ≡ ReadFault) ⊎ (reason ≡ OutOfMemory)
 
 -- a read failed
 abbrev pub is_failed_text : {A : Type 0} → Result A Reason → Bool
-is_failed_text (Ok text) = false
-is_failed_text (Err NotFound) = false
-is_failed_text (Err Denied) = false
-is_failed_text (Err Directory) = false
-is_failed_text (Err Irregular) = false
-is_failed_text (Err NoDirectory) = false
-is_failed_text (Err Links) = false
-is_failed_text (Err LongName) = false
-is_failed_text (Err Invalid) = false
-is_failed_text (Err Full) = false
-is_failed_text (Err TooLarge) = false
-is_failed_text (Err Quota) = false
-is_failed_text (Err Interrupted) = false
-is_failed_text (Err Unavailable) = false
-is_failed_text (Err Locked) = false
-is_failed_text (Err NoLock) = false
-is_failed_text (Err Changed) = false
-is_failed_text (Err Owner) = false
-is_failed_text (Err Closed) = false
-is_failed_text (Err OutOfMemory) = false
-is_failed_text (Err PositionLimit) = false
 is_failed_text (Err ReadFault) = true
-is_failed_text (Err Fault) = false
+is_failed_text other = false
 
 -- the list of a name cannot be read for this reason
 abbrev pub CannotRead : Reading → List ℕ → Reason → Type 0
@@ -275,34 +227,15 @@ CannotRead reading name reason = IsTextReason reason ⊎ reading.refuses name re
 
 -- a pattern among the arguments holds no secret
 abbrev pub IsPatternFailure : List ℕ → Failure → Type 0
-IsPatternFailure value NotText = ⊥
-IsPatternFailure value (Arguments mistake) = ⊥
 IsPatternFailure value (BadPattern fault) = IsLineFault false value fault
-IsPatternFailure value (Unread name reason) = ⊥
-IsPatternFailure value (Empty name) = ⊥
-IsPatternFailure value (NoValue name) = ⊥
-IsPatternFailure value (ShortKey name) = ⊥
-IsPatternFailure value (Line name bad) = ⊥
-IsPatternFailure value (Short number) = ⊥
-IsPatternFailure value (Unclean unclean) = ⊥
-IsPatternFailure value Counts = ⊥
-IsPatternFailure value (Other failure) = ⊥
+IsPatternFailure value other = ⊥
 
 -- the text of the list of a name holds none
 abbrev pub IsTextFailure : Rules → Bool → List ℕ → List ℕ → Failure → Type 0
-IsTextFailure rules table file text NotText = ⊥
-IsTextFailure rules table file text (Arguments mistake) = ⊥
-IsTextFailure rules table file text (BadPattern fault) = ⊥
-IsTextFailure rules table file text (Unread name reason) = ⊥
 IsTextFailure rules table file text (Empty name) = (name.now ≡ file) × (text ≡ []) × (rules.allow_empty ≡ false)
-IsTextFailure rules table file text (NoValue name) = ⊥
-IsTextFailure rules table file text (ShortKey name) = ⊥
 IsTextFailure rules table file text (Line name bad) =
     (name.now ≡ file) × (((bad.number ≡ 1) × (mark_in text ≡ Some bad.fault)) ⊎ IsListFault (form_by rules table) (lines_in text) bad)
-IsTextFailure rules table file text (Short number) = ⊥
-IsTextFailure rules table file text (Unclean unclean) = ⊥
-IsTextFailure rules table file text Counts = ⊥
-IsTextFailure rules table file text (Other failure) = ⊥
+IsTextFailure rules table file text other = ⊥
 
 -- there is no value of what has this name, or an empty one; or memory runs out
 abbrev pub IsValuesFailure : Rules → List ℕ → List (List ℕ) → Failure → Type 0

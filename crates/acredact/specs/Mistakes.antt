@@ -8,7 +8,8 @@ use Rattle.tool_parts.specs.declared.options.misuse.Misuse.{Misuse}
 use Rattle.tool_parts.specs.declared.options.misuse.Misuse.TheVariants.{UnknownLetter as NoLetter, NotFound as NoName, NoArgument, TakesNone as Argued}
 use Rattle.acredact.specs.Arguments.{Given, ItemsSoFar, all_given, by_argument, given_by, is_same, mixture_of, option_name, takes_value}
 use Rattle.acredact.specs.Long.{found_of_name, word_by_name}
-use Rattle.acredact.specs.Messages.{alone, shown, told_line}
+use Rattle.acredact.specs.Messages.{alone, told_line}
+use Rattle.rule_files.specs.Messages.{as_shown}
 use Rattle.acredact.specs.declared.arguments.Expects.{Expects}
 use Rattle.acredact.specs.declared.arguments.Expects.TheVariants.{Any, Value, Name}
 use Rattle.acredact.specs.declared.arguments.Item.{Item}
@@ -40,7 +41,7 @@ mixture_text CountCheck = codes "--count and --check do not go together: a check
 
 -- the line that tells what is wrong with something that was given
 abbrev pub named_line : (before name behind : List ℕ) → List ℕ
-named_line before name behind = codes "acredact" ++ (codes ": " ++ (before ++ (shown name ++ (behind ++ codes "\n"))))
+named_line before name behind = codes "acredact" ++ (codes ": " ++ (before ++ (as_shown name ++ (behind ++ codes "\n"))))
 
 -- an option that is called so is misused, or one of this letter or long name
 abbrev pub misuse_line : Misuse → List ℕ → List ℕ

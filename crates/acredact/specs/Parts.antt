@@ -36,9 +36,9 @@ pub record GivesPattern (wanted : Bool) (value : List ℕ) (secrets : List Secre
   pub line : secret.line ≡ 0
   pub lines : ArePartsBy wanted secret.list value parts
 
--- secrets of which this is so are added
-pub record IsAddedSome (Are : List Secret → Type 0) (old new : List Secret) : Type 0 where
-  pub more : List Secret
+-- secrets or rules of which this is so are added
+pub record IsAddedSome {X : Type 0} (Are : List X → Type 0) (old new : List X) : Type 0 where
+  pub more : List X
   pub grown : new ≡ old ++ more
   pub of : Are more
 

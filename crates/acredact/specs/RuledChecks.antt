@@ -33,9 +33,9 @@ use Rattle.acredact.specs.Counts.{counted_more}
 use Rattle.acredact.specs.Doubts.{TellsDoubts}
 use Rattle.acredact.specs.LineRules.{most_asked}
 use Rattle.acredact.specs.Loading.{AreGiven}
-use Rattle.acredact.specs.Messages.{shown}
+use Rattle.rule_files.specs.Messages.{as_shown}
 use Rattle.acredact.specs.Reads.{OfName, ReadsText}
-use Rattle.acredact.specs.RuleLines.{named_or}
+use Rattle.rule_files.specs.Flaws.{name_or_number}
 use Rattle.acredact.specs.Ruled.{AreRulesGiven, Between, IsRuledTold, ruling_by}
 use Rattle.acredact.specs.Sums.{counts_for}
 use Rattle.acredact.specs.Tables.{Secret, secrets_of}
@@ -71,7 +71,7 @@ given_label number = codes "pattern " ++ decimal (counted_more number)
 
 -- a rule by its name, or by its number where that is empty
 abbrev pub rule_label : List ℕ → ℕ → List ℕ
-rule_label id number = named_or (Some id) (counted_more number)
+rule_label id number = name_or_number (Some id) (counted_more number)
 
 abbrev pub long_label : ℕ → List ℕ
 long_label most = codes "line of more than " ++ (decimal most ++ codes " bytes")
@@ -98,7 +98,7 @@ told_for labels number = told_by number (slice_get labels.secrets number)
 
 -- the line that tells of a run: of which file, of which line of it, and what marks it or occurs there
 abbrev pub finding_line : Labels → (name : List ℕ) → (line number : ℕ) → List ℕ
-finding_line labels name line number = shown name ++ (58 ∷ (decimal line ++ (codes ": " ++ (label_of labels number ++ codes "\n"))))
+finding_line labels name line number = as_shown name ++ (58 ∷ (decimal line ++ (codes ": " ++ (label_of labels number ++ codes "\n"))))
 
 -- a number of which it was not noted that it came
 abbrev pub is_new : List Bool → ℕ → Bool

@@ -11,7 +11,7 @@ use Rattle.secret_rules.specs.Lines.{stream_lines}
 use Rattle.secret_rules.specs.declared.rule.Rule.{Rule}
 use Rattle.acredact.specs.Arguments.{Given, all_given, counts_asked, counts_given, has}
 use Rattle.acredact.specs.Counts.{counts_text, secret_lines}
-use Rattle.acredact.specs.Messages.{shown}
+use Rattle.rule_files.specs.Messages.{as_shown}
 use Rattle.acredact.specs.Reads.{OfName, ReadsText}
 use Rattle.acredact.specs.RunSummaries.{run_summary_text}
 use Rattle.acredact.specs.Sums.{sums_of}
@@ -50,7 +50,7 @@ CountsAllRuns holds covering names left left' counts counts' =
 
 -- the line that tells of a rule: a number and its name, and nothing of what it marks
 abbrev pub rule_count_line : ℕ → Rule → List ℕ
-rule_count_line count rule = decimal count ++ (codes "\t" ++ (shown (string_bytes rule.id) ++ codes "\n"))
+rule_count_line count rule = decimal count ++ (codes "\t" ++ (as_shown (string_bytes rule.id) ++ codes "\n"))
 
 abbrev pub rule_counts_text : List Rule → (counts : List ℕ) → List ℕ
 rule_counts_text [] counts = []

@@ -11,10 +11,10 @@ ghost use Rattle.acredact.specs.Calls.{IsWrongFailure};
 ghost use Rattle.acredact.specs.declared.arguments.Expects.TheVariants.{Any};
 
 use crate::arguments::{Expects, Item, Mistake, Word, has, items, read};
-use crate::failure::Failure;
+use crate::failure::{Failure, PROGRAM};
 use crate::run::{FAILED, gives_pattern};
-use crate::shown::tell_shown;
 use chromesquid::Sink;
+use rule_files::tell_shown;
 use std::alloc::{Alloc, AllocError, Global};
 use std::env::{Env, FillError};
 use tool_parts::errors::Errors;
@@ -233,7 +233,7 @@ fn tell_names<E: Sink>(errors: &mut Errors<'_, E>, names: &[Vec<u8>])
 {
     let mut rest = names;
     while let Some((name, behind)) = rest.split_first() {
-        tell_shown(errors, name.as_slice(), None, NO_TEXT);
+        tell_shown(errors, PROGRAM, name.as_slice(), None, NO_TEXT);
         rest = behind;
     }
 }

@@ -1,17 +1,13 @@
 //! How many matches of each pattern were replaced.
 
-ghost use Rattle.std.specs.Prelude.{◌≡◌, IfOk, OnErr, OnOk, decimal};
+ghost use Rattle.std.specs.Prelude.{◌≡◌, IfOk, OnOk, decimal};
 ghost use Rattle.acredact.specs.Counts.{PutsText, count_line, counts_told, place_told, zeros};
-ghost use Rattle.tool_parts.specs.Telling.{TellsBytes};
 
 use crate::patterns::Rule;
 use chromesquid::Sink;
-use itoa::write_digits;
+use rule_files::{MAX_DIGITS, digits_of};
 use std::alloc::{AllocError, Global};
 use tool_parts::errors::Errors;
-
-/// The most digits that a number has.
-const MAX_DIGITS: usize = 20;
 
 /// A count for each rule where they are counted, and else none.
 pub fn counts_of(alloc: Global, rules: &[Rule], counted: bool) -> Result<Vec<u64>, AllocError>
@@ -76,8 +72,7 @@ fn put_origin(text: &mut Vec<u8>, line: usize) -> Result<(), AllocError>
 pub fn put_number(text: &mut Vec<u8>, number: u64) -> Result<(), AllocError>
     ensures put { OnOk result (PutsText text.old text.new (decimal number)) }
 {
-    let mut digits = [0; MAX_DIGITS];
-    let start = write_digits(number, &mut digits, MAX_DIGITS);
-    text.extend_from_slice(&digits[start..])?;
+    let mut room = [0; MAX_DIGITS];
+    text.extend_from_slice(digits_of(number, &mut room))?;
     Ok(())
 }

@@ -1,24 +1,26 @@
 //! Why a call ends early, and how that is told.
 
-ghost use Rattle.std.specs.Prelude.{◌≡◌, ℕ, List, decimal};
+ghost use Rattle.std.specs.Prelude.{◌≡◌, ◌++◌, ℕ, List, decimal};
 ghost use Rattle.tool_parts.specs.Messages.{reason_text};
 ghost use Rattle.tool_parts.specs.Telling.{TellsBytes};
 ghost use Rattle.acredact.specs.Failures.{IsFailureLine, IsOtherLine, bad_line, is_of_output, short_line};
 ghost use Rattle.acredact.specs.LineFaults.{line_fault_text};
-ghost use Rattle.acredact.specs.Messages.{alone, flaw_text, line_about, no_file_line, no_output_line, output_line, piece_line, told_line, unclean_line};
+ghost use Rattle.acredact.specs.Messages.{alone, line_about, no_file_line, no_output_line, numbered_line, output_line, told_line, unclean_line};
 ghost use Rattle.acredact.specs.Mistakes.{mistake_line, misuse_line, mixture_text, named_line};
-ghost use Rattle.acredact.specs.declared.clean.Flaw.TheVariants.{Empty, Pseudonym, Spells};
 
 use crate::arguments::{Mistake, Mixture, name_of};
 use crate::clean::{Flaw, Unclean};
 use crate::patterns::{BadLine, LineFault};
-use crate::shown::{MAX_DIGITS, PROGRAM, digits_of, is_plain, tell_shown, write_shown};
 use chromesquid::{BuildError, Sink, StreamError};
+use rule_files::{MAX_DIGITS, digits_of, is_plain, tell_shown, write_shown};
 use std::alloc::AllocError;
 use tool_parts::errors::Errors;
 use tool_parts::failure;
 use tool_parts::options::misuse::Misuse;
 use tool_parts::reason::Reason;
+
+/// The name that stands before each message.
+pub const PROGRAM: &[u8] = b"acredact";
 
 /// Why a call ends early.
 #[derive(Drop)]
@@ -128,7 +130,7 @@ pub fn tell_no_output<E: Sink>(errors: &mut Errors<'_, E>, name: &str)
 fn tell_about<E: Sink>(errors: &mut Errors<'_, E>, name: &str, cause: &str)
     ensures told { TellsBytes E.Sink errors.old errors.new (line_about name.now cause.now) }
 {
-    tell_shown(errors, name.as_bytes(), None, cause.as_bytes());
+    tell_shown(errors, PROGRAM, name.as_bytes(), None, cause.as_bytes());
 }
 
 /// Tells a cause as a line.
@@ -167,78 +169,75 @@ pub fn tell_failure<E: Sink>(errors: &mut Errors<'_, E>, failure: &Failure<'_>)
     }
 }
 
+/// Tells as a line something of what has this number.
+pub fn tell_numbered<E: Sink>(
+    errors: &mut Errors<'_, E>,
+    what: &'static [u8],
+    number: usize,
+    why: &'static [u8],
+)
+    ensures told { TellsBytes E.Sink errors.old errors.new (numbered_line what.now number why.now) }
+{
+    let mut room = [0; MAX_DIGITS];
+    errors.write(&[PROGRAM, what, digits_of(number as u64, &mut room), why]);
+}
+
+/// Tells as such a line of another number, too.
+pub fn tell_with_other<E: Sink>(
+    errors: &mut Errors<'_, E>,
+    what: &'static [u8],
+    number: usize,
+    between: &'static [u8],
+    other: u64,
+    why: &'static [u8],
+)
+    ensures told { TellsBytes E.Sink errors.old errors.new
+        (numbered_line what.now number (between.now ++ (decimal other ++ why.now))) }
+{
+    let mut room = [0; MAX_DIGITS];
+    let mut other_room = [0; MAX_DIGITS];
+    let digits = digits_of(number as u64, &mut room);
+    let other_digits = digits_of(other, &mut other_room);
+    errors.write(&[PROGRAM, what, digits, between, other_digits, why]);
+}
+
 /// Tells as a line which pattern is too short for forms.
 pub fn tell_short<E: Sink>(errors: &mut Errors<'_, E>, number: usize)
     ensures told { TellsBytes E.Sink errors.old errors.new (short_line number) }
 {
-    let mut room = [0; MAX_DIGITS];
-    let digits = digits_of(number as u64, &mut room);
-    errors.write(&[
-        PROGRAM,
-        b": pattern ",
-        digits,
-        b" has fewer than four bytes: its forms are not redacted\n",
-    ]);
+    let why = b" has fewer than four bytes: its forms are not redacted\n";
+    tell_numbered(errors, b": pattern ", number, why);
 }
+
+/// What stands in a message before the number of the pattern whose piece is not clean.
+const UNCLEAN: &[u8] = b": the replacement of pattern ";
 
 /// Tells as a line of which pattern the piece is not clean, and why.
 pub fn tell_unclean<E: Sink>(errors: &mut Errors<'_, E>, unclean: Unclean)
     ensures told { TellsBytes E.Sink errors.old errors.new (unclean_line unclean) }
 {
+    let number = unclean.number;
     match unclean.flaw {
-        Flaw::Empty => tell_empty(errors, unclean.number),
-        Flaw::Spells(pattern) => tell_spelled(errors, unclean.number, pattern),
-        Flaw::Pseudonym => tell_pseudonym(errors, unclean.number),
+        Flaw::Empty => {
+            let why = b" is empty: what stands beside it can spell a pattern\n";
+            tell_numbered(errors, UNCLEAN, number, why);
+        }
+        Flaw::Spells(pattern) => {
+            let why = b" with what stands beside it\n";
+            tell_with_other(
+                errors,
+                UNCLEAN,
+                number,
+                b" can spell pattern ",
+                pattern as u64,
+                why,
+            );
+        }
+        Flaw::Pseudonym => {
+            let why = b" is a pseudonym: it can spell this pattern with what stands beside it\n";
+            tell_numbered(errors, UNCLEAN, number, why);
+        }
     }
-}
-
-/// Tells that the piece of a pattern is empty.
-fn tell_empty<E: Sink>(errors: &mut Errors<'_, E>, number: usize)
-    ensures told { TellsBytes E.Sink errors.old errors.new
-        (piece_line (decimal number) (flaw_text Empty)) }
-{
-    let mut room = [0; MAX_DIGITS];
-    let digits = digits_of(number as u64, &mut room);
-    errors.write(&[
-        PROGRAM,
-        b": the replacement of pattern ",
-        digits,
-        b" is empty: what stands beside it can spell a pattern\n",
-    ]);
-}
-
-/// Tells that the piece of a pattern can spell this one.
-fn tell_spelled<E: Sink>(errors: &mut Errors<'_, E>, number: usize, pattern: usize)
-    ensures told { TellsBytes E.Sink errors.old errors.new
-        (piece_line (decimal number) (flaw_text (Spells pattern))) }
-{
-    let mut room = [0; MAX_DIGITS];
-    let mut other_room = [0; MAX_DIGITS];
-    let digits = digits_of(number as u64, &mut room);
-    let other_digits = digits_of(pattern as u64, &mut other_room);
-    errors.write(&[
-        PROGRAM,
-        b": the replacement of pattern ",
-        digits,
-        b" can spell pattern ",
-        other_digits,
-        b" with what stands beside it\n",
-    ]);
-}
-
-/// Tells that pseudonyms can spell a pattern.
-fn tell_pseudonym<E: Sink>(errors: &mut Errors<'_, E>, number: usize)
-    ensures told { TellsBytes E.Sink errors.old errors.new
-        (piece_line (decimal number) (flaw_text Pseudonym)) }
-{
-    let mut room = [0; MAX_DIGITS];
-    let digits = digits_of(number as u64, &mut room);
-    errors.write(&[
-        PROGRAM,
-        b": the replacement of pattern ",
-        digits,
-        b" is a pseudonym: it can spell this pattern with what stands beside it\n",
-    ]);
 }
 
 /// Tells as a line what is wrong with the arguments.
@@ -349,6 +348,7 @@ pub fn tell_line<E: Sink>(errors: &mut Errors<'_, E>, name: &str, bad: BadLine)
 {
     tell_shown(
         errors,
+        PROGRAM,
         name.as_bytes(),
         Some(bad.number as u64),
         text_of(bad.fault).as_bytes(),

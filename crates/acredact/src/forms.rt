@@ -2,7 +2,7 @@
 
 ghost use Rattle.std.specs.Prelude.{◌≡◌, ◌∷◌, ◌++◌, ◌≤◌, [], IfOk, OnOk, Some, flat_map, length, map};
 ghost use Rattle.std.specs.List.{filter, filter_map, list_all};
-ghost use Rattle.acredact.specs.Forms.{HaveForms, HideSecrets, HidesOnce, HidesSecret, HidesTwice, all_forms, are_forms, asked_forms, asks_for, filled, form_called, form_secret, forms_asked, forms_from, forms_named, forms_of, is_all, is_asked, is_called, name_of, names_form, names_in, nested_by, nested_called, nested_named, once_patterns, twice_patterns};
+ghost use Rattle.acredact.specs.Forms.{HaveForms, HideSecrets, HidesOnce, HidesSecret, HidesTwice, are_forms, asked_forms, asks_for, filled, form_called, form_secret, forms_asked, forms_from, forms_named, forms_of, is_all, is_asked, is_called, name_of, names_form, names_in, nested_by, nested_called, nested_named, once_patterns, twice_patterns};
 ghost use Rattle.acredact.specs.Parts.{AddsSome};
 ghost use Rattle.acredact.specs.Tables.{secret_of, secrets_of};
 ghost use Rattle.secret_forms.specs.Patterns.{pattern_bytes};

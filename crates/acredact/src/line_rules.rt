@@ -7,17 +7,13 @@ ghost use Rattle.acredact.specs.Arguments.{all_given, given_of};
 ghost use Rattle.acredact.specs.LineRules.{AddsNamed, AddsOption, AddsThese, GivesBehind, ReadsLineRules, is_builtin};
 
 use crate::arguments::{Item, Word};
-use crate::bad_rule::{BadRule, RuleFlaw};
 use crate::failure::Failure;
 use crate::folder::Folder;
 use crate::load::{Lists, read_list};
-use crate::patterns::{BadLine, mark_of, split_at};
 use crate::ruled_failure::RuledFailure;
 use chromesquid::FromRead;
-use secret_rules::{
-    BUILTIN, LineError, MarkError, ParseError, Rule as LineRule, RuleFault, Rules, RulesError,
-    parse,
-};
+use rule_files::{RuleFlaw, TextFault, bad_rule, flaw_of, rules_in};
+use secret_rules::{BUILTIN, LineError, MarkError, Rule as LineRule, Rules, RulesError};
 use std::alloc::{AllocError, Global};
 use std::io::Read;
 use tool_parts::failure;
@@ -95,7 +91,7 @@ fn add_after<'a>(
     let rule = LineRule::after(alloc, keyword)?;
     match flaw_of(alloc, &rule)? {
         None => Ok(push_rule(rules, rule)?),
-        Some(flaw) => Err(bad_rule(alloc, AFTER, 1, &rule, flaw)),
+        Some(flaw) => Err(no_rule(alloc, AFTER, 1, &rule, flaw)),
     }
 }
 
@@ -110,7 +106,7 @@ fn add_named<'a, F: Folder, I: Read>(
         rules.old rules.new input.old input.new) }
 {
     if is_builtin(name) {
-        return add_parsed(lists, rules, name, BUILTIN);
+        return add_text(lists, rules, name, BUILTIN.as_bytes());
     }
     match read_list(lists, name, input) {
         Ok(text) => add_text(lists, rules, name, text.as_slice()),
@@ -125,7 +121,7 @@ fn is_builtin(name: &str) -> bool
     name == "builtin"
 }
 
-/// Adds the rules of the bytes of a file.
+/// Adds the rules of the bytes of a file. There may be none only where that is allowed.
 fn add_text<'a, F>(
     lists: &Lists<'_, '_, F>,
     rules: &mut Vec<LineRule>,
@@ -134,78 +130,10 @@ fn add_text<'a, F>(
 ) -> Result<(), RuledFailure<'a>>
     ensures added { OnOk result (AddsThese (TellsRules text.now) rules.old rules.new) }
 {
-    if let Some(fault) = mark_of(text) {
-        let bad = BadLine { number: 1, fault };
-        return Err(RuledFailure::Plain(Failure::Line(name, bad)));
+    match rules_in(lists.alloc, text, lists.allow_empty) {
+        Ok(more) => Ok(append_rules(rules, more)?),
+        Err(fault) => Err(RuledFailure::Text(name, fault)),
     }
-    match str::from_utf8(text) {
-        Ok(text) => add_parsed(lists, rules, name, text),
-        Err(error) => Err(RuledFailure::NotText(name, line_at(text, error.valid_up_to()))),
-    }
-}
-
-/// The number, from 1 on, of the line in which a place lies.
-fn line_at(text: &[u8], place: usize) -> usize {
-    let mut number: usize = 1;
-    let mut at = 0;
-    while at < place && at < text.len() {
-        if text[at] == b'\n' {
-            number = number.saturating_add(1);
-        }
-        at += 1;
-    }
-    number
-}
-
-/// Adds the rules of a text of TOML.
-fn add_parsed<'a, F>(
-    lists: &Lists<'_, '_, F>,
-    rules: &mut Vec<LineRule>,
-    name: &'a str,
-    text: &str,
-) -> Result<(), RuledFailure<'a>>
-    ensures added { OnOk result (AddsThese (TellsRules text.now) rules.old rules.new) }
-{
-    match parse(lists.alloc, text) {
-        Ok(parsed) => add_some(lists, rules, name, parsed),
-        Err(error) => Err(failure_of(name, text, error)),
-    }
-}
-
-/// Adds these rules of a file. There may be none only where that is allowed.
-fn add_some<'a, F>(
-    lists: &Lists<'_, '_, F>,
-    rules: &mut Vec<LineRule>,
-    name: &'a str,
-    parsed: Vec<LineRule>,
-) -> Result<(), RuledFailure<'a>>
-    ensures added { OnOk result (rules.new.items ≡ rules.old.items ++ parsed.items) }
-{
-    if parsed.is_empty() && !lists.allow_empty {
-        return Err(RuledFailure::NoRule(name));
-    }
-    match look_at_each(lists.alloc, name, parsed.as_slice()) {
-        Ok(()) => Ok(append_rules(rules, parsed)?),
-        Err(failure) => Err(failure),
-    }
-}
-
-/// Looks at each of these rules, which stand in a file in this order, and refuses the first with which something is wrong.
-fn look_at_each<'a>(
-    alloc: Global,
-    name: &'a str,
-    rules: &[LineRule],
-) -> Result<(), RuledFailure<'a>> {
-    let mut number: usize = 1;
-    let mut rest = rules;
-    while !rest.is_empty() {
-        if let Some(flaw) = flaw_of(alloc, &rest[0])? {
-            return Err(bad_rule(alloc, name, number, &rest[0], flaw));
-        }
-        number = number.saturating_add(1);
-        rest = &rest[1..];
-    }
-    Ok(())
 }
 
 /// Adds these rules.
@@ -225,82 +153,23 @@ fn push_rule(rules: &mut Vec<LineRule>, rule: LineRule) -> Result<(), AllocError
     Ok(())
 }
 
-/// Why a text of TOML gives no rules.
-fn failure_of<'a>(name: &'a str, text: &str, error: ParseError) -> RuledFailure<'a> {
-    match error {
-        ParseError::Toml(error) => {
-            let place = match error.span() {
-                Some(span) => span.start,
-                None => 0,
-            };
-            RuledFailure::Toml(name, line_at(text.as_bytes(), place), error)
-        }
-        ParseError::NoRules => RuledFailure::NoRule(name),
-        ParseError::Missing(number, key) => without_id(name, number, RuleFlaw::Missing(key)),
-        ParseError::WrongType(number, key) => without_id(name, number, RuleFlaw::WrongType(key)),
-        ParseError::OutOfMemory => no_memory(),
-    }
-}
-
 /// Memory runs out.
 fn no_memory<'a>() -> RuledFailure<'a> {
     RuledFailure::Plain(Failure::Other(failure::Failure::OutOfMemory))
 }
 
-/// What is wrong with the rule of a number, from 0 on in its file, that has no name.
-fn without_id<'a>(name: &'a str, number: usize, flaw: RuleFlaw) -> RuledFailure<'a> {
-    let bad = BadRule {
-        number: number.saturating_add(1),
-        id: None,
-        flaw,
-    };
-    RuledFailure::Rule(name, bad)
-}
-
-/// What is wrong with a rule that has a name.
-fn bad_rule<'a>(
+/// What is wrong with the rule of this number, from 1 on, of a file or an option.
+fn no_rule<'a>(
     alloc: Global,
     name: &'a str,
     number: usize,
     rule: &LineRule,
     flaw: RuleFlaw,
 ) -> RuledFailure<'a> {
-    match String::from_str(alloc, rule.id.as_str()) {
-        Ok(id) => {
-            let bad = BadRule {
-                number,
-                id: Some(id),
-                flaw,
-            };
-            RuledFailure::Rule(name, bad)
-        }
+    match bad_rule(alloc, number, rule, flaw) {
+        Ok(bad) => RuledFailure::Text(name, TextFault::Rule(bad)),
         Err(_) => no_memory(),
     }
-}
-
-/// What is wrong with a rule, if something is: it is none, or a keyword holds a line end.
-fn flaw_of(alloc: Global, rule: &LineRule) -> Result<Option<RuleFlaw>, AllocError> {
-    if has_line_end(rule.keywords.as_slice()) {
-        return Ok(Some(RuleFlaw::LineEnd));
-    }
-    match rule.fault(alloc)? {
-        None => Ok(None),
-        Some(RuleFault::EmptyKeyword) => Ok(Some(RuleFlaw::EmptyKeyword)),
-        Some(RuleFault::Regex(error)) => Ok(Some(RuleFlaw::Regex(error))),
-        Some(RuleFault::UnknownGroup) => Ok(Some(RuleFlaw::UnknownGroup)),
-    }
-}
-
-/// Whether a keyword holds a line end, so that it stands in no line.
-fn has_line_end(keywords: &[String]) -> bool {
-    let mut rest = keywords;
-    while !rest.is_empty() {
-        if split_at(rest[0].as_bytes(), b'\n').is_some() {
-            return true;
-        }
-        rest = &rest[1..];
-    }
-    false
 }
 
 /// These rules, by which lines can be covered. Each expression is compiled when a line first needs it.
@@ -339,7 +208,7 @@ fn too_big<'a>(alloc: Global, rules: &[LineRule], number: usize) -> RuledFailure
     match rules.get(number) {
         Some(rule) => {
             let number = number.saturating_add(1);
-            bad_rule(alloc, "--rules", number, rule, RuleFlaw::TooBig)
+            no_rule(alloc, "--rules", number, rule, RuleFlaw::TooBig)
         }
         None => no_memory(),
     }

@@ -11,7 +11,6 @@
 mod apart;
 mod arguments;
 mod back;
-mod bad_rule;
 mod beside;
 mod check;
 mod checked_files;

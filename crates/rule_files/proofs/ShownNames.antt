@@ -1,25 +1,14 @@
 -- Names as they stand in messages, byte after byte, and messages part after part.
 use Rattle.std.proofs.Common.{◌≡◌, ℕ, ◌-◌, ◌≤◌, Bool, true, false, List, [], ◌∷◌, ◌++◌, length, take, drop, refl, sym, ap, ◌∙◌, append-nil, append_assoc, arith}
 use Rattle.std.specs.Prelude.{◌/◌, ◌%◌, if◌then◌else◌, codes, slice_index}
-use Rattle.std.proofs.Math.Seq.{take-length}
+use Rattle.std.proofs.lemmas.List.{take_rest}
 use Rattle.rule_files.specs.Messages.{upper_hex, shown_byte, is_unshown, as_shown}
-
--- a list of no length is empty
-pub nil_of : {X : Type 0} (xs : List X) → length xs ≡ 0 → xs ≡ []
-nil_of [] none = refl
-nil_of (x ∷ xs) none = absurd (omega (arith, none))
-
--- all but the first of some
-pub rest_of : {X : Type 0} (x : X) (xs : List X) → take (length (x ∷ xs) - 1) xs ≡ xs
-rest_of x xs =
-    let count : length (x ∷ xs) - 1 ≡ length xs = omega arith in
-    ap (λ n. take n xs) count ∙ take-length xs
 
 -- one byte more
 pub shown_next : (all done rest : List ℕ) → 1 ≤ length rest → all ≡ done ++ as_shown rest → all ≡ (done ++ shown_byte (slice_index rest 0)) ++ as_shown (take (length rest - 1) (drop 1 rest))
 shown_next all done [] some is = absurd (omega (arith, some))
 shown_next all done (b ∷ rest) some is =
-    is ∙ sym (append_assoc done (shown_byte b) (as_shown rest)) ∙ ap (λ l. (done ++ shown_byte b) ++ as_shown l) (sym (rest_of b rest))
+    is ∙ sym (append_assoc done (shown_byte b) (as_shown rest)) ∙ ap (λ l. (done ++ shown_byte b) ++ as_shown l) (sym (take_rest (b ∷ rest) 1))
 
 -- a byte that is none is as_shown as it is
 plain_byte : (byte : ℕ) → is_unshown byte ≡ false → shown_byte byte ≡ byte ∷ []
@@ -33,8 +22,8 @@ pub plain_next : (all name done rest : List ℕ) → 1 ≤ length rest → (name
     → (name ≡ (done ++ (slice_index rest 0 ∷ [])) ++ take (length rest - 1) (drop 1 rest)) × (all ≡ (done ++ (slice_index rest 0 ∷ [])) ++ as_shown (take (length rest - 1) (drop 1 rest)))
 plain_next all name done [] some both none = absurd (omega (arith, some))
 plain_next all name done (b ∷ rest) some (is, shows) none = (
-  is ∙ sym (append_assoc done (b ∷ []) rest) ∙ ap (λ l. (done ++ (b ∷ [])) ++ l) (sym (rest_of b rest)),
-  shows ∙ ap (λ l. done ++ (l ++ as_shown rest)) (plain_byte b none) ∙ sym (append_assoc done (b ∷ []) (as_shown rest)) ∙ ap (λ l. (done ++ (b ∷ [])) ++ as_shown l) (sym (rest_of b rest)),
+  is ∙ sym (append_assoc done (b ∷ []) rest) ∙ ap (λ l. (done ++ (b ∷ [])) ++ l) (sym (take_rest (b ∷ rest) 1)),
+  shows ∙ ap (λ l. done ++ (l ++ as_shown rest)) (plain_byte b none) ∙ sym (append_assoc done (b ∷ []) (as_shown rest)) ∙ ap (λ l. (done ++ (b ∷ [])) ++ as_shown l) (sym (take_rest (b ∷ rest) 1)),
 )
 
 -- a message that is written in five parts

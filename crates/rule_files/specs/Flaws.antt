@@ -3,7 +3,7 @@ use Rattle.std.specs.Prelude.{◌≡◌, ℕ, ◌+◌, ◌-◌, ◌^◌, min, Li
 use Rattle.tool_parts.specs.Messages.{message_of}
 use Rattle.secret_rules.specs.Tables.{key_name}
 use Rattle.secret_rules.specs.declared.parsing.Key.{Key}
-use Rattle.secret_rules.specs.declared.parsing.Key.TheVariants.{Id, Regex as RegexKey, Keywords as KeywordsKey, SecretGroup, Until, With}
+use Rattle.secret_rules.specs.declared.parsing.Key.TheVariants.{Keywords as KeywordsKey, SecretGroup}
 use Rattle.secret_rules.specs.declared.rule.Rule.{Rule as LineRule}
 use Rattle.rule_files.specs.Messages.{as_shown, shown_line}
 use Rattle.rule_files.specs.declared.fault.TextFault.{TextFault}
@@ -23,12 +23,9 @@ name_of_bad bad = name_or_number (option_map string_bytes bad.id) bad.number
 
 -- what belongs at a key
 abbrev pub wanted_text : Key → List ℕ
-wanted_text Id = codes ": a string belongs there"
-wanted_text RegexKey = codes ": a string belongs there"
 wanted_text KeywordsKey = codes ": an array of strings belongs there"
 wanted_text SecretGroup = codes ": a whole number from 0 on belongs there"
-wanted_text Until = codes ": a string belongs there"
-wanted_text With = codes ": a string belongs there"
+wanted_text other = codes ": a string belongs there"
 
 -- why a rule is none. Of an expression it is the place in it, and what the reader of expressions says
 abbrev pub IsWhyFlawed : RuleFlaw → List ℕ → Type 0

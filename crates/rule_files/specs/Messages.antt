@@ -11,9 +11,13 @@ is_unshown byte = nat_lt byte 32 || byte == 127
 abbrev pub upper_hex : ℕ → ℕ
 upper_hex digit = if nat_lt digit 10 then 48 + digit else 65 + (digit - 10)
 
+-- the two of a byte
+abbrev pub digits_in : ℕ → List ℕ
+digits_in byte = upper_hex (byte / 16) ∷ upper_hex (byte % 16) ∷ []
+
 -- a byte as it stands in a message: a control character as '\x' and two digits
 abbrev pub shown_byte : ℕ → List ℕ
-shown_byte byte = if is_unshown byte then codes "\\x" ++ (upper_hex (byte / 16) ∷ upper_hex (byte % 16) ∷ []) else byte ∷ []
+shown_byte byte = if is_unshown byte then codes "\\x" ++ digits_in byte else byte ∷ []
 
 -- and a name, so that a message is one line
 abbrev pub as_shown : List ℕ → List ℕ

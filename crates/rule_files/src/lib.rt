@@ -11,4 +11,4 @@ mod shown;
 pub use fault::{TextFault, tell_fault};
 pub use flaw::{BadRule, RuleFlaw, tell_rule};
 pub use reading::{bad_rule, flaw_of, rules_in};
-pub use shown::{MAX_DIGITS, digits_of, write_shown};
+pub use shown::{MAX_DIGITS, digit_of, digits_of, is_control, is_plain, tell_shown, write_shown};

@@ -21,7 +21,7 @@ pub fn digits_of(number: u64, room: &mut [u8; MAX_DIGITS]) -> &[u8]
 }
 
 /// Tells as a line what is wrong with something, of which line of it, and why.
-pub(crate) fn tell_shown<E: Sink>(
+pub fn tell_shown<E: Sink>(
     errors: &mut Errors<'_, E>,
     program: &[u8],
     name: &[u8],
@@ -75,7 +75,7 @@ fn write_byte<E: Sink>(errors: &mut Errors<'_, E>, byte: u8)
 }
 
 /// Whether no byte of a name is a control character.
-fn is_plain(name: &[u8]) -> bool
+pub fn is_plain(name: &[u8]) -> bool
     ensures plain { result ≡ true → as_shown name.now ≡ name.now }
 {
     let mut rest = name;
@@ -89,14 +89,14 @@ fn is_plain(name: &[u8]) -> bool
 }
 
 /// Whether a byte is a control character of ASCII.
-fn is_control(byte: u8) -> bool
+pub fn is_control(byte: u8) -> bool
     ensures control { result ≡ is_unshown byte }
 {
     byte < 32 || byte == 127
 }
 
 /// A hexadecimal digit.
-fn digit_of(digit: u8) -> u8
+pub fn digit_of(digit: u8) -> u8
     requires small { digit < 16 }
     ensures digit { result ≡ upper_hex digit }
 {

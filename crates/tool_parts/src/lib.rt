@@ -1,8 +1,7 @@
-//! What the programs `acfind` and `acdraw` do, over any reader and writers. Each program gives it the arguments and the
-//! streams of its process.
+//! What the tools share, over any reader and writers. Each tool gives it the arguments and the streams of its process.
 //!
-//! Both take their arguments, their failures, the build of an automaton and the writing of whole pieces from here. The call
-//! of `acfind` is here too, so that tests can run it. The drawing is a part of `acdraw`.
+//! `acfind` and `acdraw` take their arguments, their failures and the writing of whole pieces from here, `acgrep` and `acredact`
+//! the reading of options and what is told of files. The call of `acfind` is here too, so that tests can run it.
 #![tactic(auto)]
 
 pub mod arguments;

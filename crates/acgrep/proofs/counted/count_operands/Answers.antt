@@ -5,60 +5,50 @@ use Rattle.aho_core.specs.Replacement.{pieces_of}
 use Rattle.aho_devices.specs.Counts.{AppendsBeginning}
 use Rattle.tool_parts.specs.Names.{name_bytes}
 use Rattle.acgrep.specs.Arguments.{said, shown_by}
-use Rattle.acgrep.specs.Folders.{known_by, tree_of}
+use Rattle.acgrep.specs.Folders.{known_by}
 use Rattle.acgrep.specs.Runs.{BeginsOrKeeps, SearchesReached}
 use Rattle.acgrep.specs.Tallies.{counts_table}
 use Rattle.acgrep.specs.Told.{MaySay, names_told}
 use Rattle.acgrep.proofs.Told.{finished}
 use Rattle.acgrep.proofs.counted.count_operands.Goals as goal
 
-pub returns-clause-bound : goal.returns-clause-bound
-returns-clause-bound g c = elim c.end_counts.ensures.status [ inl same ↦ omega (arith, same, c.search_operands-status.ensures.bound) | inr two ↦ omega (arith, two) ]
-
-pub returns-clause-searched : goal.returns-clause-searched
-returns-clause-searched g c = λ p is plain low.
+pub returns : goal.returns
+returns g c =
     let known = known_by g.F.Open g.F.Folders c.args.operands.now.files.now in
-    let given = said c.args.given.now in
-    let names = name_bytes c.args.operands.now.names.now in
-    let left = g.R.Read.remaining c.args.input.now in
-    let left' = g.R.Read.remaining c.search_operands-status.new.input in
-    let same : c.end_counts.result ≡ c.search_operands-status.result = elim c.end_counts.ensures.status [ inl same ↦ same | inr two ↦ absurd (omega (arith, low, two)) ] in
-    let before = c.new-found.ensures.taken ∙ ap Some c.new.ensures.items in
-    let after = sym c.into_inner-numbers.ensures.taken ∙ ap Some (sym c.as_slice.ensures.value) in
-    let found = c.search_operands-status.ensures.searched p is plain (subst (λ (n : ℕ). n < 2) same low) in (
-      c.as_slice.result.now,
-      subst (λ (n : ℕ). SearchesReached known c.args.screen.now given p names left left' (Some []) (Some c.as_slice.result.now) n) (sym same)
-          (subst (λ (new : Option (List ℕ)). SearchesReached known c.args.screen.now given p names left left' (Some []) new c.search_operands-status.result) after
-          (subst (λ (old : Option (List ℕ)). SearchesReached known c.args.screen.now given p names left left' old (Some c.search_operands-status.new.output.device.writer.items) c.search_operands-status.result) before found)),
-      subst (λ (n : ℕ). Appends (g.W.Sink.taken c.args.output.now) (g.W.Sink.taken c.end_counts.new.output) (counts_table n (pieces_of c.args.patterns.now) c.as_slice.result.now)) c.ending.ensures.ending
-          (c.end_counts.ensures.written low),
-    )
-
-pub returns-clause-begun : goal.returns-clause-begun
-returns-clause-begun g c = λ p is plain.
-    let known = known_by g.F.Open g.F.Folders c.args.operands.now.files.now in
-    let given = said c.args.given.now in
-    let names = name_bytes c.args.operands.now.names.now in
-    let left = g.R.Read.remaining c.args.input.now in
-    let before = c.new-found.ensures.taken ∙ ap Some c.new.ensures.items in
-    let after = sym c.into_inner-numbers.ensures.taken ∙ ap Some (sym c.as_slice.ensures.value) in (
-      c.as_slice.result.now,
-      subst (λ (new : Option (List ℕ)). BeginsOrKeeps known c.args.screen.now given p names left (Some []) new) after
-          (subst (λ (old : Option (List ℕ)). BeginsOrKeeps known c.args.screen.now given p names left old (Some c.search_operands-status.new.output.device.writer.items)) before
-          (c.search_operands-status.ensures.begun p is plain)),
-      subst (λ (n : ℕ). AppendsBeginning (g.W.Sink.taken c.args.output.now) (g.W.Sink.taken c.end_counts.new.output) (counts_table n (pieces_of c.args.patterns.now) c.as_slice.result.now)) c.ending.ensures.ending
-          c.end_counts.ensures.begun,
-    )
-
-pub returns-clause-told : goal.returns-clause-told
-returns-clause-told g c =
+    let screen = c.args.screen.now in
     let given = said c.args.given.now in
     let flags = given.flags in
-    let tree = tree_of g.F.Folders c.args.operands.now.files.now in
     let names = name_bytes c.args.operands.now.names.now in
+    let patterns = pieces_of c.args.patterns.now in
+    let left = g.R.Read.remaining c.args.input.now in
+    let left' = g.R.Read.remaining c.search_operands-status.new.input in
+    let held = g.W.Sink.taken c.args.output.now in
+    let held' = g.W.Sink.taken c.end_counts.new.output in
     let all = names_told flags.no_messages given.label [] names in
     let status = c.search_operands-status.result in
+    let numbers = c.as_slice.result.now in
+    let put = Some c.search_operands-status.new.output.device.writer.items in
+    let before = c.new-found.ensures.taken ∙ ap Some c.new.ensures.items in
+    let after = sym c.into_inner-numbers.ensures.taken ∙ ap Some (sym c.as_slice.ensures.value) in
     let bound : c.end_counts.result ≤ 2 = elim c.end_counts.ensures.status [ inl same ↦ omega (arith, same, c.search_operands-status.ensures.bound) | inr two ↦ omega (arith, two) ] in
-    finished g.E.Sink all (MaySay tree given [] names) (λ line is. inl (inl is)) flags.no_messages (shown_by flags) status c.end_counts.result
-    c.args.errors.now c.search_operands-status.new.errors c.end_counts.new.errors c.search_operands-status.ensures.bound bound c.end_counts.ensures.status c.search_operands-status.ensures.told
-    c.end_counts.ensures.silent c.end_counts.ensures.told_before (λ low two. c.end_counts.ensures.told low two all)
+    record {
+      bound = bound;
+      searched = λ p is plain low.
+          let same : c.end_counts.result ≡ status = elim c.end_counts.ensures.status [ inl same ↦ same | inr two ↦ absurd (omega (arith, low, two)) ] in
+          let found = c.search_operands-status.ensures.searched p is plain (subst (λ (n : ℕ). n < 2) same low) in (
+            numbers,
+            subst (λ (n : ℕ). SearchesReached known screen given p names left left' (Some []) (Some numbers) n) (sym same)
+                (subst (λ (new : Option (List ℕ)). SearchesReached known screen given p names left left' (Some []) new status) after
+                (subst (λ (old : Option (List ℕ)). SearchesReached known screen given p names left left' old put status) before found)),
+            subst (λ (n : ℕ). Appends held held' (counts_table n patterns numbers)) c.ending.ensures.ending (c.end_counts.ensures.written low),
+          );
+      begun = λ p is plain. (
+        numbers,
+        subst (λ (new : Option (List ℕ)). BeginsOrKeeps known screen given p names left (Some []) new) after
+            (subst (λ (old : Option (List ℕ)). BeginsOrKeeps known screen given p names left old put) before (c.search_operands-status.ensures.begun p is plain)),
+        subst (λ (n : ℕ). AppendsBeginning held held' (counts_table n patterns numbers)) c.ending.ensures.ending c.end_counts.ensures.begun,
+      );
+      told = finished g.E.Sink all (MaySay known.tree given [] names) (λ line is. inl (inl is)) flags.no_messages (shown_by flags) status c.end_counts.result
+          c.args.errors.now c.search_operands-status.new.errors c.end_counts.new.errors c.search_operands-status.ensures.bound bound c.end_counts.ensures.status c.search_operands-status.ensures.told
+          c.end_counts.ensures.silent c.end_counts.ensures.told_before (λ low two. c.end_counts.ensures.told low two all);
+    }

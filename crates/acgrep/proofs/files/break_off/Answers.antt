@@ -7,16 +7,16 @@ use Rattle.acgrep.proofs.files.break_off.Goals as goal
 
 pub returns-then-tell_stop-clause-begun : goal.returns-then-tell_stop-clause-begun
 returns-then-tell_stop-clause-begun g c =
-    total_none c.args.job.now c.args.state.now.selected (g.W.Sink.taken c.args.output.now) (g.W.Sink.taken c.flush.new.self) c.flush.ensures.kept
+    total_none c.args.job.now c.args.selected (g.W.Sink.taken c.args.output.now) (g.W.Sink.taken c.flush.new.self) c.flush.ensures.kept
 
 pub returns-in-Ok-clause-begun : goal.returns-in-Ok-clause-begun
 returns-in-Ok-clause-begun g c =
-    total_kept c.args.job.now c.args.state.now.selected (g.W.Sink.taken c.args.output.now) (g.W.Sink.taken c.flush.new.self) (g.W.Sink.taken c.put_total.new.output)
+    total_kept c.args.job.now c.args.selected (g.W.Sink.taken c.args.output.now) (g.W.Sink.taken c.flush.new.self) (g.W.Sink.taken c.put_total.new.output)
     c.flush.ensures.kept c.put_total.ensures.begun
 
 pub returns-in-Err-clause-begun : goal.returns-in-Err-clause-begun
 returns-in-Err-clause-begun g c =
-    total_kept c.args.job.now c.args.state.now.selected (g.W.Sink.taken c.args.output.now) (g.W.Sink.taken c.flush.new.self) (g.W.Sink.taken c.put_total.new.output)
+    total_kept c.args.job.now c.args.selected (g.W.Sink.taken c.args.output.now) (g.W.Sink.taken c.flush.new.self) (g.W.Sink.taken c.put_total.new.output)
     c.flush.ensures.kept c.put_total.ensures.begun
 
 pub returns-then-tell_stop-clause-told : goal.returns-then-tell_stop-clause-told

@@ -1,5 +1,5 @@
 -- What was put together is written, or a beginning of it.
-use Rattle.std.proofs.Common.{◌≡◌, List, ℕ, subst}
+use Rattle.std.proofs.Common.{◌≡◌, subst}
 use Rattle.tool_parts.proofs.Beginnings.{beginning-whole}
 use Rattle.std.specs.Io.KnownBytes.{Appends}
 use Rattle.std.proofs.KnownBytes.{Keeps-refl}
@@ -15,19 +15,18 @@ returns-in_err-put_asked-clause-begun g c =
 pub returns-in_err-write_whole-clause-begun : goal.returns-in_err-write_whole-clause-begun
 returns-in_err-write_whole-clause-begun g c =
     total_begins c.args.job.now c.args.selected (g.W.Sink.taken c.args.output.now) (g.W.Sink.taken c.write_whole.new.sink)
-    c.clear.new.self.items c.put_asked.new.output.items c.as_slice.result.now c.clear.ensures.items c.as_slice.ensures.value c.in_ok-put_asked.ensures.written c.in_err-write_whole.ensures.beginning
+    c.new-page.result.items c.put_asked.new.output.items c.as_slice.result.now c.new-page.ensures.items c.as_slice.ensures.value c.in_ok-put_asked.ensures.written c.in_err-write_whole.ensures.beginning
 
-pub returns-clause-begun : goal.returns-clause-begun
-returns-clause-begun g c =
+pub returns : goal.returns
+returns g c =
     let held = g.W.Sink.taken c.args.output.now in
     let held' = g.W.Sink.taken c.write_whole.new.sink in
-    total_begins c.args.job.now c.args.selected held held'
-    c.clear.new.self.items c.put_asked.new.output.items c.as_slice.result.now c.clear.ensures.items c.as_slice.ensures.value c.in_ok-put_asked.ensures.written
-    (beginning-whole held held' c.as_slice.result.now c.in_ok-write_whole.ensures.whole)
-
-pub returns-clause-written : goal.returns-clause-written
-returns-clause-written g c =
     let total = total_if c.args.job.now.shown c.args.job.now.style c.args.selected in
-    let same : c.as_slice.result.now ≡ total = total_bytes c.clear.new.self.items c.put_asked.new.output.items c.as_slice.result.now total
-    c.clear.ensures.items c.as_slice.ensures.value c.in_ok-put_asked.ensures.written in
-    subst (λ (l : List ℕ). Appends (g.W.Sink.taken c.args.output.now) (g.W.Sink.taken c.write_whole.new.sink) l) same c.in_ok-write_whole.ensures.whole
+    let same : c.as_slice.result.now ≡ total = total_bytes c.new-page.result.items c.put_asked.new.output.items c.as_slice.result.now total
+    c.new-page.ensures.items c.as_slice.ensures.value c.in_ok-put_asked.ensures.written in
+    record {
+      written = subst (Appends held held') same c.in_ok-write_whole.ensures.whole;
+      begun = total_begins c.args.job.now c.args.selected held held'
+          c.new-page.result.items c.put_asked.new.output.items c.as_slice.result.now c.new-page.ensures.items c.as_slice.ensures.value c.in_ok-put_asked.ensures.written
+          (beginning-whole held held' c.as_slice.result.now c.in_ok-write_whole.ensures.whole);
+    }

@@ -1,21 +1,22 @@
 -- The files so far were searched.
 use Rattle.std.proofs.Common.{length}
 use Rattle.aho_core.specs.Patterns.{Patterns}
-use Rattle.tool_parts.specs.Names.{name_bytes}
 use Rattle.chromesquid.specs.Searcher.{IsBuiltFrom}
+use Rattle.acgrep.specs.Files.{search_work}
+use Rattle.acgrep.specs.Listed.{listed_bytes}
 use Rattle.acgrep.specs.Selected.{HoldNoEnding}
 use Rattle.acgrep.specs.Told.{IsMessage, TellsIf, files_told}
-use Rattle.acgrep.proofs.NamesSearched.{SoFar}
+use Rattle.acgrep.proofs.InTurn.{SoFar}
 use Rattle.acgrep.proofs.Told.{AreWithin}
 use Rattle.acgrep.proofs.files.search_each.Given as goal
 
 abbrev pub invariant-loop-rest : goal.invariant-loop-rest
 invariant-loop-rest g l = record {
   so_far : (p : Patterns) → IsBuiltFrom l.fn.searcher p → HoldNoEnding l.fn.job.style.ending p
-      → SoFar p l.fn.job (g.F.Open.holds l.fn.files) (name_bytes l.fn.names) (g.R.Read.remaining l.initial.input) (g.W.Sink.taken l.initial.output)
-      (name_bytes l.rest) (g.R.Read.remaining l.input) (g.W.Sink.taken l.output) l.seen;
-  told : TellsIf g.E.Sink (IsMessage (files_told l.fn.job.hushed l.fn.job.label.now (name_bytes l.fn.names))) l.fn.job.hushed l.seen.failed l.initial.errors l.errors;
-  within : AreWithin (files_told l.fn.job.hushed l.fn.job.label.now (name_bytes l.rest)) (files_told l.fn.job.hushed l.fn.job.label.now (name_bytes l.fn.names));
+      → SoFar (search_work p l.fn.job (g.F.Open.holds l.fn.files)) l.fn.job.shown (listed_bytes l.fn.names) (g.R.Read.remaining l.initial.input) (g.W.Sink.taken l.initial.output)
+      (listed_bytes l.rest) (g.R.Read.remaining l.input) (g.W.Sink.taken l.output) l.seen;
+  told : TellsIf g.E.Sink (IsMessage (files_told l.fn.job.hushed l.fn.job.label.now (listed_bytes l.fn.names))) l.fn.job.hushed l.seen.failed l.initial.errors l.errors;
+  within : AreWithin (files_told l.fn.job.hushed l.fn.job.label.now (listed_bytes l.rest)) (files_told l.fn.job.hushed l.fn.job.label.now (listed_bytes l.fn.names));
 }
 
 abbrev pub decreases-loop-rest : goal.decreases-loop-rest

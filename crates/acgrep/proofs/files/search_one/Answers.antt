@@ -3,8 +3,8 @@ use Rattle.std.proofs.Common.{Bool, ap, sym, take, ◌∙◌}
 use Rattle.std.specs.Prelude.{◌||◌}
 use Rattle.acgrep.specs.Binary.{takes_text}
 use Rattle.acgrep.specs.Files.{EndsFile, SearchesReader}
-use Rattle.acgrep.proofs.FileTellings.{if_searched}
-use Rattle.acgrep.proofs.FilesBegun.{file_begins, file_grown, if_broken, on_broken}
+use Rattle.acgrep.proofs.InTurn.{if_broken, if_searched, on_broken}
+use Rattle.acgrep.proofs.FilesBegun.{file_begins, file_grown}
 use Rattle.acgrep.proofs.TextAlone.{ends_begun, ends_searched}
 use Rattle.acgrep.proofs.files.search_one.Goals as goal
 

@@ -3,13 +3,14 @@ use Rattle.std.proofs.Common.{◌≡◌, Bool, [], ap, false, refl, subst, sym, 
 use Rattle.std.specs.Prelude.{nat_lt, ◌||◌}
 use Rattle.std.proofs.KnownBytes.{Keeps-refl}
 use Rattle.std.proofs.lemmas.Bool.{or_right}
+use Rattle.std.proofs.Math.Bool.{or-false}
 use Rattle.acgrep.specs.Binary.{takes_text}
 use Rattle.acgrep.specs.Files.{total_if}
 use Rattle.acgrep.specs.Guarded.{EndsFront, FindsSelected}
 use Rattle.acgrep.specs.Streamed.{course}
 use Rattle.acgrep.specs.Written.{is_full}
 use Rattle.acgrep.proofs.Beginnings.{on_err}
-use Rattle.acgrep.proofs.BinaryTold.{appends_none, begins_found, or_false, reader_found, reader_full, reader_past}
+use Rattle.acgrep.proofs.BinaryTold.{appends_none, begins_found, reader_found, reader_full, reader_past}
 use Rattle.acgrep.proofs.FilesBegun.{file_begins, front_begins, total_none}
 use Rattle.acgrep.proofs.Streams.{reads_both}
 use Rattle.acgrep.proofs.guarded.search_guarded.Goals as goal
@@ -126,7 +127,7 @@ returns-clause-searched g c = λ p is plain.
     let between = g.W.Sink.taken c.finds.new.output in
     let finds : FindsSelected p job kept left' last meanwhile between false = subst (FindsSelected p job kept left' last meanwhile between) c.if-branch.false (c.in_ok-finds.ensures.found p is plain) in
     reader_found p job c.requires.guarded before state left left' held meanwhile kept c.begin.ensures.begin front binary last between unfilled between false (nat_lt 0 state.selected) finds
-    (appends_none between) (or_false (nat_lt 0 state.selected))
+    (appends_none between) (sym (or-false (nat_lt 0 state.selected)))
 
 pub returns-clause-reads : goal.returns-clause-reads
 returns-clause-reads g c =

@@ -14,8 +14,8 @@ returns-in-Some-clause-comes g c = λ covering by.
 
 pub returns-then-again-clause-comes : goal.returns-then-again-clause-comes
 returns-then-again-clause-comes g c = λ covering by.
-    input_again c.args.job.now covering c.args.again (g.R.Read.remaining c.args.input.now) (g.W.Sink.taken c.args.output.now) (g.W.Sink.taken c.end_marked.new.output) c.end_marked.result c.if-again.true
-    c.end_marked.ensures.ended c.end_marked.ensures.begun
+    input_again c.args.job.now covering c.args.again (g.R.Read.remaining c.args.input.now) (g.W.Sink.taken c.args.output.now) (g.W.Sink.taken c.end_file.new.output) c.end_file.result c.if-again.true
+    c.end_file.ensures.ended c.end_file.ensures.begun
 
 pub returns-clause-comes : goal.returns-clause-comes
 returns-clause-comes g c = λ covering by.
@@ -29,4 +29,4 @@ pub returns-in-Some-clause-told : goal.returns-in-Some-clause-told
 returns-in-Some-clause-told g c = outcome-told g.E.Sink c.args.job.now.hushed c.args.job.now.style.name.now Unread c.args.errors.now c.tell_unreadable.new.errors c.tell_unreadable.ensures.told
 
 pub returns-then-again-clause-told : goal.returns-then-again-clause-told
-returns-then-again-clause-told g c = end-told g.E.Sink c.args.job.now.hushed c.end_marked.result c.args.errors.now c.end_marked.new.errors c.end_marked.ensures.told
+returns-then-again-clause-told g c = end-told g.E.Sink c.args.job.now.hushed c.end_file.result c.args.errors.now c.end_file.new.errors c.end_file.ensures.told

@@ -2,10 +2,10 @@
 use Rattle.std.proofs.Common.{◌≢◌, ◌∙◌, ap, refl, sym}
 use Rattle.tool_parts.proofs.Ends.{at_end}
 use Rattle.acgrep.specs.MarkedFiles.{file_asked}
-use Rattle.acgrep.proofs.FileTellings.{if_searched}
-use Rattle.acgrep.proofs.FilesBegun.{if_broken, total_none}
-use Rattle.acgrep.proofs.FilesMarked.{broken_of, covering_rules, file_part, file_searched}
+use Rattle.acgrep.proofs.FilesBegun.{total_none}
+use Rattle.acgrep.proofs.FilesMarked.{covering_rules, file_part, file_searched}
 use Rattle.acgrep.proofs.MarksTold.{end-told, outcome-told}
+use Rattle.acgrep.proofs.InTurn.{if_broken, if_searched, on_broken}
 use Rattle.acgrep.proofs.marked_files.mark_reader.Goals as goal
 
 pub returns-in-None-clause-comes : goal.returns-in-None-clause-comes
@@ -16,10 +16,10 @@ returns-in-None-clause-comes g c = λ covering by.
     let left = c.new-source.ensures.remaining ∙ ap g.R.Read.remaining c.new.ensures.reader in
     let ends = λ (some : c.mark_source-came.new.source.empty_reads ≢ 0). at_end _ (λ bytes known. c.mark_source-came.new.source.ended bytes some known) in
     record {
-      searched = if_searched c.end_marked.result _ _ (λ any is. file_searched _ g.W.Sink c.args.job.now covering _ _ _ _ _ came.pass _ left c.new-source.ensures.empty_reads ends _ asked came.done walks (c.in-None.ensures.none refl) any is)
-          c.end_marked.ensures.ended;
-      begun = if_broken c.end_marked.result (λ total. file_part _ g.W.Sink c.args.job.now covering _ _ _ _ _ came.pass _ left c.new-source.ensures.empty_reads ends _ asked walks.begun came.pass.selected total)
-          c.end_marked.ensures.begun;
+      searched = if_searched c.end_file.result _ _ (λ any is. file_searched _ g.W.Sink c.args.job.now covering _ _ _ _ _ came.pass _ left c.new-source.ensures.empty_reads ends _ asked came.done walks (c.in-None.ensures.none refl) any is)
+          c.end_file.ensures.ended;
+      begun = if_broken c.end_file.result (λ total. file_part _ g.W.Sink c.args.job.now covering _ _ _ _ _ came.pass _ left c.new-source.ensures.empty_reads ends _ asked walks.begun came.pass.selected total)
+          c.end_file.ensures.begun;
     }
 
 pub returns-in-Some-Rule-clause-comes : goal.returns-in-Some-Rule-clause-comes
@@ -43,12 +43,12 @@ returns-clause-comes g c = λ covering by.
     let left = c.new-source.ensures.remaining ∙ ap g.R.Read.remaining c.new.ensures.reader in
     let ends = λ (some : c.mark_source-came.new.source.empty_reads ≢ 0). at_end _ (λ bytes known. c.mark_source-came.new.source.ended bytes some known) in
     record {
-      searched = if_searched c.break_marked.result _ _ (λ any none. absurd none) c.break_marked.ensures.unsearched;
-      begun = broken_of c.break_marked.result (file_part _ g.W.Sink c.args.job.now covering _ _ _ _ _ came.pass _ left c.new-source.ensures.empty_reads ends _ asked walks.begun came.pass.selected c.break_marked.ensures.begun);
+      searched = if_searched c.break_off.result _ _ (λ any none. absurd none) c.break_off.ensures.unsearched;
+      begun = on_broken c.break_off.result (file_part _ g.W.Sink c.args.job.now covering _ _ _ _ _ came.pass _ left c.new-source.ensures.empty_reads ends _ asked walks.begun came.pass.selected c.break_off.ensures.begun);
     }
 
 pub returns-in-None-clause-told : goal.returns-in-None-clause-told
-returns-in-None-clause-told g c = end-told g.E.Sink c.args.job.now.hushed c.end_marked.result c.args.errors.now c.end_marked.new.errors c.end_marked.ensures.told
+returns-in-None-clause-told g c = end-told g.E.Sink c.args.job.now.hushed c.end_file.result c.args.errors.now c.end_file.new.errors c.end_file.ensures.told
 
 pub returns-clause-told : goal.returns-clause-told
-returns-clause-told g c = outcome-told g.E.Sink c.args.job.now.hushed c.args.job.now.style.name.now c.break_marked.result c.args.errors.now c.break_marked.new.errors c.break_marked.ensures.told
+returns-clause-told g c = outcome-told g.E.Sink c.args.job.now.hushed c.args.job.now.style.name.now c.break_off.result c.args.errors.now c.break_off.new.errors c.break_off.ensures.told

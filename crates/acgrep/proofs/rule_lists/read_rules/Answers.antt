@@ -8,7 +8,7 @@ use Rattle.std.proofs.Math.ListN.{get_or}
 use Rattle.tool_parts.specs.Names.{name_bytes}
 use Rattle.secret_rules.specs.declared.rule.Rule.{Rule}
 use Rattle.acgrep.specs.RunsByRules.{AreAllRules}
-use Rattle.acgrep.proofs.NamesSearched.{names_cut}
+use Rattle.acgrep.proofs.InTurn.{names_cut}
 use Rattle.acgrep.proofs.RulesGiven.{AllSoFar, all_end, all_next, all_none, names_end}
 use Rattle.acgrep.proofs.rule_lists.read_rules.Goals as goal
 
@@ -24,7 +24,7 @@ loop-rest-preserved g c =
     let rest = c.loop-rest.rest.now in
     let d : Bor (List ℕ) = record { ref_ptr = (0, 0); now = [] } in
     let some : 0 < length rest = grind (arith, common_steps, c.is_empty.ensures, c.loop-rest-test.true) in
-    let so_far = subst (λ (l : List (List ℕ)). AllSoFar holds (name_bytes c.args.names.now) (g.R.Read.remaining c.args.input.now) l (g.R.Read.remaining c.loop-rest.input) c.loop-rest.rules.items) (names_cut rest d some) c.loop-rest.invariant.so_far in
+    let so_far = subst (λ (l : List (List ℕ)). AllSoFar holds (name_bytes c.args.names.now) (g.R.Read.remaining c.args.input.now) l (g.R.Read.remaining c.loop-rest.input) c.loop-rest.rules.items) (names_cut (λ n. n.now) rest (get_or rest 0 d) d (get_or rest 0 d).now some refl refl) c.loop-rest.invariant.so_far in
     record {
       told = c.add_rules.ensures.silent c.if-not-add_rules.false ∙ c.loop-rest.invariant.told;
       so_far = all_next holds (name_bytes c.args.names.now) (g.R.Read.remaining c.args.input.now) (get_or rest 0 d).now (name_bytes (take (length rest - 1) (drop 1 rest))) (g.R.Read.remaining c.loop-rest.input) (g.R.Read.remaining c.add_rules.new.input)

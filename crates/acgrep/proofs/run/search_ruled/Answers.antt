@@ -53,59 +53,37 @@ returns-in_default-expanded-clause-told g c =
     (status-some g.E.Sink May given.flags.no_messages (shown_by given.flags) c.read_globs.new.errors c.tell_memory.new.errors
     (some-weaker g.E.Sink (IsMessage names) May c.read_globs.new.errors c.tell_memory.new.errors (λ line is. inl (inl is)) (c.tell_memory.ensures.told names)))
 
-pub returns-clause-searches : goal.returns-clause-searches
-returns-clause-searches g c = λ low.
+pub returns : goal.returns
+returns g c =
     let given = said c.args.given in
+    let flags = given.flags in
     let known = known_by g.F.Open g.F.Folders c.args.files.now in
+    let screen = c.args.screen.now in
     let left = g.R.Read.remaining c.args.input.now in
     let between = g.R.Read.remaining c.read_globs.new.input in
     let left' = g.R.Read.remaining c.search_asked.new.input in
     let held = g.W.Sink.taken c.args.output.now in
     let held' = g.W.Sink.taken c.search_asked.new.output in
+    let status = c.search_asked.result in
+    let mid = c.read_globs.new.errors in
+    let new = c.search_asked.new.errors in
     let rules = rules_said c.in-Ok.all.items in
     let read : AreRules known.holds given.rules left between rules =
     rules_read known.holds given.rules (rules_said c.as_slice-rules.result.now) rules (listed_bytes c.in-Some.texts.items) (listed_bytes c.as_slice.result.now) left between
     (ap rules_said c.as_slice-rules.ensures.value) (ap listed_bytes c.as_slice.ensures.value) c.in-Some.ensures.texts c.in-Ok.ensures.expanded in
+    let is = c.with_rules-ruled.ensures.ruled in
     record {
-      rules = rules;
-      between = between;
-      read = read;
-      searched = subst (λ (s : Said). SearchesSaid known c.args.screen.now s between left' held held' c.search_asked.result) c.with_rules-ruled.ensures.ruled (c.search_asked.ensures.searches low);
+      bound = c.search_asked.ensures.bound;
+      patternless = λ none. absurd (c.gives_none.ensures.some c.if-gives_none.false none);
+      lacking = λ none. absurd (c.gives_none.ensures.some c.if-gives_none.false none);
+      searches = λ low. record {
+        rules = rules;
+        between = between;
+        read = read;
+        searched = subst (λ (s : Said). SearchesSaid known screen s between left' held held' status) is (c.search_asked.ensures.searches low);
+      };
+      begins = inr (record { rules = rules; between = between; read = read; begun = subst (λ (s : Said). BeginsSaid known screen s between held held') is c.search_asked.ensures.begins });
+      told = subst (λ (e : Errors g.row.E.Denot). TellsStatus g.E.Sink (MaySaid known left (Some given)) flags.no_messages (shown_by flags) status e new) (c.in-Some.ensures.silent refl)
+          (status-weaker g.E.Sink (MaySay known.tree (ruled given rules) (sources_by given.sources given.operands) (names_by given.sources given.operands)) (MaySaid known left (Some given)) flags.no_messages (shown_by flags) status mid new
+          (may-ruled known left between given rules read) (subst (λ (s : Said). TellsOfSaid g.E.Sink known.tree s status mid new) is c.search_asked.ensures.told));
     }
-
-pub returns-clause-begins : goal.returns-clause-begins
-returns-clause-begins g c =
-    let given = said c.args.given in
-    let known = known_by g.F.Open g.F.Folders c.args.files.now in
-    let left = g.R.Read.remaining c.args.input.now in
-    let between = g.R.Read.remaining c.read_globs.new.input in
-    let held = g.W.Sink.taken c.args.output.now in
-    let held' = g.W.Sink.taken c.search_asked.new.output in
-    let rules = rules_said c.in-Ok.all.items in
-    let read : AreRules known.holds given.rules left between rules =
-    rules_read known.holds given.rules (rules_said c.as_slice-rules.result.now) rules (listed_bytes c.in-Some.texts.items) (listed_bytes c.as_slice.result.now) left between
-    (ap rules_said c.as_slice-rules.ensures.value) (ap listed_bytes c.as_slice.ensures.value) c.in-Some.ensures.texts c.in-Ok.ensures.expanded in
-    inr (record {
-      rules = rules;
-      between = between;
-      read = read;
-      begun = subst (λ (s : Said). BeginsSaid known c.args.screen.now s between held held') c.with_rules-ruled.ensures.ruled c.search_asked.ensures.begins;
-    })
-
-pub returns-clause-told : goal.returns-clause-told
-returns-clause-told g c =
-    let given = said c.args.given in
-    let flags = given.flags in
-    let known = known_by g.F.Open g.F.Folders c.args.files.now in
-    let left = g.R.Read.remaining c.args.input.now in
-    let between = g.R.Read.remaining c.read_globs.new.input in
-    let rules = rules_said c.in-Ok.all.items in
-    let read : AreRules known.holds given.rules left between rules =
-    rules_read known.holds given.rules (rules_said c.as_slice-rules.result.now) rules (listed_bytes c.in-Some.texts.items) (listed_bytes c.as_slice.result.now) left between
-    (ap rules_said c.as_slice-rules.ensures.value) (ap listed_bytes c.as_slice.ensures.value) c.in-Some.ensures.texts c.in-Ok.ensures.expanded in
-    let May = MaySay known.tree (ruled given rules) (sources_by given.sources given.operands) (names_by given.sources given.operands) in
-    let told : TellsOfSaid g.E.Sink known.tree (ruled given rules) c.search_asked.result c.read_globs.new.errors c.search_asked.new.errors =
-    subst (λ (s : Said). TellsOfSaid g.E.Sink known.tree s c.search_asked.result c.read_globs.new.errors c.search_asked.new.errors) c.with_rules-ruled.ensures.ruled c.search_asked.ensures.told in
-    subst (λ (e : Errors g.row.E.Denot). TellsStatus g.E.Sink (MaySaid known left (Some given)) flags.no_messages (shown_by flags) c.search_asked.result e c.search_asked.new.errors) (c.in-Some.ensures.silent refl)
-    (status-weaker g.E.Sink May (MaySaid known left (Some given)) flags.no_messages (shown_by flags) c.search_asked.result c.read_globs.new.errors c.search_asked.new.errors
-    (may-ruled known left between given rules read) told)

@@ -4,8 +4,8 @@ use Rattle.tool_parts.specs.Arguments.{texts}
 use Rattle.acredact.specs.Apart.{IsWrong, PutsName, PutsText}
 use Rattle.acredact.specs.Reads.{bytes_of_names}
 use Rattle.std.specs.Prelude.{◌⊎◌}
+use Rattle.std.proofs.lemmas.List.{nil_from_length}
 use Rattle.acredact.proofs.SetApart.{ApartSoFar, apart_all, apart_put}
-use Rattle.acredact.proofs.ShownNames.{nil_of}
 use Rattle.acredact.proofs.apart.set_apart.Goals as goal
 
 pub loop-argument-preserved : goal.loop-argument-preserved
@@ -22,4 +22,4 @@ returns-clause-set c =
     let given = bytes_of_names c.args.given.now in
     let none : length c.loop-argument.rest.now ≡ 0 = search rules in
     apart_all given c.loop-argument.expects (texts c.loop-argument.apart.arguments.items) (bytes_of_names c.loop-argument.apart.names.items)
-    (subst (λ (l : List _). ApartSoFar given c.loop-argument.expects (bytes_of_names l) (texts c.loop-argument.apart.arguments.items) (bytes_of_names c.loop-argument.apart.names.items)) (nil_of c.loop-argument.rest.now none) c.loop-argument.invariant)
+    (subst (λ (l : List _). ApartSoFar given c.loop-argument.expects (bytes_of_names l) (texts c.loop-argument.apart.arguments.items) (bytes_of_names c.loop-argument.apart.names.items)) (nil_from_length c.loop-argument.rest.now none) c.loop-argument.invariant)

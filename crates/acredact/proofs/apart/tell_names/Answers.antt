@@ -1,11 +1,11 @@
 -- Of one more it is told.
 use Rattle.std.proofs.Common.{rules, ◌≡◌, ℕ, List, [], ◌++◌, length, refl, sym, ap, subst, ◌∙◌, append-nil, append_assoc}
+use Rattle.std.proofs.lemmas.List.{nil_from_length}
 use Rattle.tool_parts.specs.Telling.{TellsBytes}
 use Rattle.tool_parts.proofs.Tellings.{tells-later}
 use Rattle.acredact.specs.Apart.{unnamed_line, unnamed_lines}
 use Rattle.acredact.specs.Reads.{bytes_of_names}
 use Rattle.acredact.proofs.Done.{tells_none}
-use Rattle.acredact.proofs.ShownNames.{nil_of}
 use Rattle.acredact.proofs.apart.tell_names.Goals as goal
 
 pub loop-name-init : goal.loop-name-init
@@ -25,4 +25,4 @@ pub returns : goal.returns
 returns g c =
     let (done, is, told) = c.loop-name.invariant in
     let none : length c.loop-name.rest.now ≡ 0 = search rules in
-    record { told = subst (TellsBytes g.E.Sink _ _) (sym (is ∙ ap (λ l. done ++ unnamed_lines (bytes_of_names l)) (nil_of c.loop-name.rest.now none) ∙ append-nil done)) told }
+    record { told = subst (TellsBytes g.E.Sink _ _) (sym (is ∙ ap (λ l. done ++ unnamed_lines (bytes_of_names l)) (nil_from_length c.loop-name.rest.now none) ∙ append-nil done)) told }

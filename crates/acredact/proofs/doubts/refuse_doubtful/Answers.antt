@@ -3,12 +3,12 @@ use Rattle.std.proofs.Common.{rules, arith, ◌≡◌, ◌≤◌, [], ◌∷◌,
 use Rattle.std.specs.Prelude.{None}
 use Rattle.std.proofs.lemmas.List.Elements.{All-nil}
 use Rattle.std.proofs.lemmas.Grind.{common_steps}
+use Rattle.std.proofs.lemmas.List.{nil_from_length}
 use Rattle.acredact.specs.Arguments.{all_given}
 use Rattle.acredact.specs.Doubts.{AreUndoubted, RefusesDoubt, doubt_of}
 use Rattle.acredact.specs.Tables.{secret_of, secrets_of}
 use Rattle.acredact.specs.declared.patterns.Rule.{Rule}
 use Rattle.acredact.proofs.Doubting.{first_rule, undoubted_next}
-use Rattle.acredact.proofs.ShownNames.{nil_of}
 use Rattle.acredact.proofs.doubts.refuse_doubtful.Goals as goal
 
 pub loop-rest-init : goal.loop-rest-init
@@ -41,4 +41,4 @@ pub returns : goal.returns
 returns c =
     let (front, is, before) = c.loop-rest.invariant in
     let none : length c.loop-rest.rest.now ≡ 0 = search rules in
-    record { none = subst AreUndoubted (sym (is ∙ ap (λ l. front ++ secrets_of l) (nil_of c.loop-rest.rest.now none) ∙ append-nil front)) before; refused = tt }
+    record { none = subst AreUndoubted (sym (is ∙ ap (λ l. front ++ secrets_of l) (nil_from_length c.loop-rest.rest.now none) ∙ append-nil front)) before; refused = tt }

@@ -1,6 +1,7 @@
 -- Of one more it is told.
 use Rattle.std.proofs.Common.{rules, ◌≡◌, ◌≤◌, [], ◌++◌, length, refl, sym, ap, subst, ◌∙◌, append-nil}
 use Rattle.std.specs.List.{concat}
+use Rattle.std.proofs.lemmas.List.{nil_from_length}
 use Rattle.tool_parts.specs.Telling.{TellsBytes}
 use Rattle.tool_parts.proofs.Tellings.{tells-later}
 use Rattle.acredact.specs.Arguments.{all_given}
@@ -9,7 +10,6 @@ use Rattle.acredact.specs.Tables.{secret_of, secrets_of}
 use Rattle.acredact.specs.declared.patterns.Rule.{Rule}
 use Rattle.acredact.proofs.Done.{tells_none}
 use Rattle.acredact.proofs.Doubting.{doubts_next}
-use Rattle.acredact.proofs.ShownNames.{nil_of}
 use Rattle.acredact.proofs.doubts.tell_doubtful.Goals as goal
 
 pub loop-rest-init : goal.loop-rest-init
@@ -29,4 +29,4 @@ pub returns : goal.returns
 returns g c =
     let (done, is, told) = c.loop-rest.invariant in
     let none : length c.loop-rest.rest.now ≡ 0 = search rules in
-    record { told = subst (TellsBytes g.E.Sink _ _) (sym (is ∙ ap (λ l. done ++ concat (list_doubt_lines (all_given c.args.given.now) (secrets_of l))) (nil_of c.loop-rest.rest.now none) ∙ append-nil done)) told }
+    record { told = subst (TellsBytes g.E.Sink _ _) (sym (is ∙ ap (λ l. done ++ concat (list_doubt_lines (all_given c.args.given.now) (secrets_of l))) (nil_from_length c.loop-rest.rest.now none) ∙ append-nil done)) told }

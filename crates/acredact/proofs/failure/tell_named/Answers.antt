@@ -1,10 +1,15 @@
 -- A message in one part, or in three.
-use Rattle.std.proofs.Common.{rules, ◌≡◌, ℕ, List, ◌++◌, sym, subst, true, codes}
+use Rattle.std.proofs.Common.{◌++◌, ◌∙◌, ◌≡◌, List, [], ap, append-nil, append_assoc, codes, rules, subst, sym, true, ℕ}
 use Rattle.tool_parts.specs.Telling.{TellsBytes}
 use Rattle.tool_parts.proofs.Tellings.{tells-later}
-use Rattle.acredact.specs.Messages.{shown}
-use Rattle.acredact.proofs.ShownNames.{three_parts}
+use Rattle.rule_files.specs.Messages.{as_shown}
 use Rattle.acredact.proofs.failure.tell_named.Goals as goal
+
+three_parts : (p s b n e end : List ℕ) → (((p ++ (s ++ (b ++ []))) ++ n) ++ (e ++ (end ++ []))) ≡ p ++ (s ++ (b ++ (n ++ (e ++ end))))
+three_parts p s b n e end =
+    ap (λ x. ((p ++ (s ++ x)) ++ n) ++ (e ++ (end ++ []))) (append-nil b)
+    ∙ ap (λ x. ((p ++ (s ++ b)) ++ n) ++ (e ++ x)) (append-nil end)
+    ∙ append_assoc (p ++ (s ++ b)) n (e ++ end) ∙ append_assoc p (s ++ b) (n ++ (e ++ end)) ∙ ap (λ x. p ++ x) (append_assoc s b (n ++ (e ++ end)))
 
 pub returns-then-is_plain : goal.returns-then-is_plain
 returns-then-is_plain g c =
@@ -16,6 +21,6 @@ returns-then-is_plain g c =
 pub returns : goal.returns
 returns g c = record {
   told = subst (TellsBytes g.E.Sink c.args.errors.now c.write-3.new.self)
-      (three_parts (codes "acredact") (codes ": ") c.args.before.now (shown c.args.name.now) c.args.behind.now (codes "\n"))
+      (three_parts (codes "acredact") (codes ": ") c.args.before.now (as_shown c.args.name.now) c.args.behind.now (codes "\n"))
       (tells-later g.E.Sink (tells-later g.E.Sink c.write-2.ensures.told c.write_shown.ensures.told) c.write-3.ensures.told);
 }

@@ -8,9 +8,9 @@ use Rattle.acredact.proofs.FormNames.{names_last, names_more}
 use Rattle.acredact.proofs.forms.nested_named.Goals as goal
 
 -- what the next name gives is added
-nested_next : (old new : List Nested) (front : List (List ℕ)) (name : List ℕ) → old ≡ filter_map nested_called front → new ≡ old ++ filter_map nested_called (name ∷ [])
+called_next : (old new : List Nested) (front : List (List ℕ)) (name : List ℕ) → old ≡ filter_map nested_called front → new ≡ old ++ filter_map nested_called (name ∷ [])
     → new ≡ filter_map nested_called (front ++ (name ∷ []))
-nested_next old new front name known grown =
+called_next old new front name known grown =
     grown ∙ ap (λ l. l ++ filter_map nested_called (name ∷ [])) known ∙ sym (filter_map-append nested_called front (name ∷ []))
 
 pub loop-name-preserved : goal.loop-name-preserved
@@ -18,13 +18,13 @@ loop-name-preserved c =
     let (front, is, known) = c.loop-name.invariant in (
       front ++ (c.in-Some.name.now ∷ []),
       names_more _ front _ c.in-Some.name.now c.in-Some.behind.now is c.in-Some.ensures.split c.in-Some.ensures.first,
-      nested_next _ _ front c.in-Some.name.now known c.in_ok-push_nested.ensures.pushed,
+      called_next _ _ front c.in-Some.name.now known c.in_ok-push_nested.ensures.pushed,
     )
 
 pub returns : goal.returns
 returns c =
     let (front, is, known) = c.loop-name.invariant in
     record {
-      nested = nested_next _ _ front c.loop-name.rest.now known c.in_ok-push_nested-2.ensures.pushed
+      nested = called_next _ _ front c.loop-name.rest.now known c.in_ok-push_nested-2.ensures.pushed
           ∙ sym (ap (filter_map nested_called) (names_last _ front c.loop-name.rest.now is c.in_default.ensures.none));
     }

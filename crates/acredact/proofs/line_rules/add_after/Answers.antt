@@ -6,9 +6,9 @@ pub returns-in-None : goal.returns-in-None
 returns-in-None c =
     let of = c.in_ok-rule.ensures in
     record {
-      added = (
-        c.in_ok-rule.rule ∷ [],
-        c.in_ok-push_rule-in-None.ensures.pushed,
-        (c.in_ok-rule.rule, refl, record { id = of.id; regex = of.regex; keywords = of.keywords; group = of.group; line = of.line; own = of.own }),
-      );
+      added = record {
+        more = c.in_ok-rule.rule ∷ [];
+        grown = c.in_ok-push_rule-in-None.ensures.pushed;
+        of = (c.in_ok-rule.rule, refl, record { id = of.id; regex = of.regex; keywords = of.keywords; group = of.group; line = of.line; own = of.own });
+      };
     }

@@ -2,27 +2,31 @@
 use Rattle.std.proofs.Common.{rules, ◌≡◌, ◌≤◌, List, [], ap, length, subst, sym}
 use Rattle.tool_parts.specs.Streams.{bytes_left}
 use Rattle.acredact.specs.Arguments.{all_given}
-use Rattle.acredact.specs.Loading.{reading_of_lists}
+use Rattle.acredact.specs.Loading.{OptionGives, reading_of_lists}
 use Rattle.acredact.specs.Tables.{Secret, secrets_of}
-use Rattle.acredact.proofs.Loaded.{GivenSoFar, given_end, given_fails, given_next, given_none}
+use Rattle.acredact.proofs.Loaded.{GivenSoFar, fails_here, fails_next, given_end, given_next, given_none}
 use Rattle.acredact.proofs.load.read_rules.Goals as goal
 
 pub loop-rest-init : goal.loop-rest-init
 loop-rest-init g c =
     let none : secrets_of c.new-rules.result.items ≡ [] = ap secrets_of c.new-rules.ensures.items in
-    subst (λ (l : List Secret). GivenSoFar (reading_of_lists g.F.Folder c.args.lists.now) (all_given c.args.items.now) (bytes_left c.args.input.now) (all_given c.args.items.now) l (bytes_left c.args.input.now)) (sym none) (given_none _ _ _)
+    let reading = reading_of_lists g.F.Folder c.args.lists.now in (
+      subst (λ (l : List Secret). GivenSoFar (λ item. OptionGives reading item.word item.value) (all_given c.args.items.now) (bytes_left c.args.input.now) (all_given c.args.items.now) l (bytes_left c.args.input.now)) (sym none) (given_none _ _ _),
+      λ failure fails. fails,
+    )
 
 pub loop-rest-preserved : goal.loop-rest-preserved
 loop-rest-preserved g c =
     let some : 1 ≤ length c.loop-rest.rest.now = search rules in
-    given_next _ _ _ c.loop-rest.rest.now _ _ _ _ _ some c.loop-rest.invariant c.in-Ok.ensures.added
+    let (so, fails) = c.loop-rest.invariant in
+    (given_next _ _ _ c.loop-rest.rest.now _ _ _ _ _ some so c.in-Ok.ensures.added, fails_next (reading_of_lists g.F.Folder c.args.lists.now) _ c.loop-rest.rest.now some fails)
 
 pub returns-in-Err : goal.returns-in-Err
 returns-in-Err g c =
     let some : 1 ≤ length c.loop-rest.rest.now = search rules in
-    record { read = tt; fails = given_fails _ _ _ c.loop-rest.rest.now _ _ _ _ some c.loop-rest.invariant c.in-Err.ensures.fails }
+    record { read = tt; fails = fails_here (reading_of_lists g.F.Folder c.args.lists.now) _ c.loop-rest.rest.now _ _ some c.loop-rest.invariant.1 c.in-Err.ensures.fails }
 
 pub returns : goal.returns
 returns g c =
     let none : length c.loop-rest.rest.now ≡ 0 = search rules in
-    record { read = given_end _ _ _ c.loop-rest.rest.now _ _ none c.loop-rest.invariant; fails = tt }
+    record { read = given_end _ _ _ c.loop-rest.rest.now _ _ none c.loop-rest.invariant.0; fails = tt }

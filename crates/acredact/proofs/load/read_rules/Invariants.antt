@@ -2,13 +2,16 @@
 use Rattle.std.proofs.Common.{length}
 use Rattle.tool_parts.specs.Streams.{bytes_left}
 use Rattle.acredact.specs.Arguments.{all_given}
-use Rattle.acredact.specs.Loading.{reading_of_lists}
+use Rattle.acredact.specs.Loading.{OptionGives, reading_of_lists}
 use Rattle.acredact.specs.Tables.{secrets_of}
-use Rattle.acredact.proofs.Loaded.{GivenSoFar}
+use Rattle.acredact.proofs.Loaded.{FailsAmong, GivenSoFar}
 use Rattle.acredact.proofs.load.read_rules.Given as goal
 
 abbrev pub invariant-loop-rest : goal.invariant-loop-rest
-invariant-loop-rest g l = GivenSoFar (reading_of_lists g.F.Folder l.fn.lists) (all_given l.fn.items) (bytes_left l.initial.input) (all_given l.rest) (secrets_of l.rules.items) (bytes_left l.input)
+invariant-loop-rest g l =
+    let reading = reading_of_lists g.F.Folder l.fn.lists in
+    GivenSoFar (λ item. OptionGives reading item.word item.value) (all_given l.fn.items) (bytes_left l.initial.input) (all_given l.rest) (secrets_of l.rules.items) (bytes_left l.input)
+    × FailsAmong reading (all_given l.fn.items) (all_given l.rest)
 
 abbrev pub decreases-loop-rest : goal.decreases-loop-rest
 decreases-loop-rest g l = length l.rest

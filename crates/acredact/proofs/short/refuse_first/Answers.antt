@@ -2,13 +2,13 @@
 use Rattle.std.proofs.Common.{rules, arith, ◌≡◌, ◌≤◌, ◌+◌, [], ◌∷◌, ◌++◌, length, length-append, drop, get_or, true, false, refl, sym, ap, subst, ◌∙◌, append-nil}
 use Rattle.std.proofs.lemmas.List.Elements.{All-nil}
 use Rattle.std.proofs.lemmas.Grind.{common_steps}
+use Rattle.std.proofs.lemmas.List.{nil_from_length}
 use Rattle.acredact.specs.Short.{AreLong, is_formless}
 use Rattle.acredact.specs.Tables.{secret_of, secrets_of}
 use Rattle.acredact.specs.declared.failure.Failure.TheVariants.{Short}
 use Rattle.acredact.specs.declared.patterns.Rule.{Rule}
 use Rattle.acredact.proofs.Doubting.{first_rule}
 use Rattle.acredact.proofs.Shortest.{long_next}
-use Rattle.acredact.proofs.ShownNames.{nil_of}
 use Rattle.acredact.proofs.short.refuse_first.Goals as goal
 
 pub loop-rest-init : goal.loop-rest-init
@@ -51,4 +51,4 @@ pub returns : goal.returns
 returns c =
     let inv = c.loop-rest.invariant in
     let none : length c.loop-rest.rest.now ≡ 0 = search rules in
-    record { none = subst AreLong (sym (inv.are ∙ ap (λ l. inv.front ++ secrets_of l) (nil_of c.loop-rest.rest.now none) ∙ append-nil inv.front)) inv.before; refused = tt }
+    record { none = subst AreLong (sym (inv.are ∙ ap (λ l. inv.front ++ secrets_of l) (nil_from_length c.loop-rest.rest.now none) ∙ append-nil inv.front)) inv.before; refused = tt }

@@ -1,6 +1,7 @@
 -- Of one more it is told.
 use Rattle.std.proofs.Common.{rules, ◌≡◌, ◌≤◌, [], ◌++◌, length, refl, sym, ap, subst, ◌∙◌, append-nil, arith}
 use Rattle.std.specs.List.{concat}
+use Rattle.std.proofs.lemmas.List.{nil_from_length}
 use Rattle.tool_parts.specs.Telling.{TellsBytes}
 use Rattle.tool_parts.proofs.Tellings.{tells-later}
 use Rattle.acredact.specs.Short.{lines_of_short, short_lines}
@@ -8,7 +9,6 @@ use Rattle.acredact.specs.Tables.{secret_of, secrets_of}
 use Rattle.acredact.specs.declared.patterns.Rule.{Rule}
 use Rattle.acredact.proofs.Done.{tells_none}
 use Rattle.acredact.proofs.Shortest.{short_next}
-use Rattle.acredact.proofs.ShownNames.{nil_of}
 use Rattle.acredact.proofs.short.tell_each.Goals as goal
 
 pub loop-rest-init : goal.loop-rest-init
@@ -30,4 +30,4 @@ pub returns : goal.returns
 returns g c =
     let inv = c.loop-rest.invariant in
     let none : length c.loop-rest.rest.now ≡ 0 = search rules in
-    record { told = subst (TellsBytes g.E.Sink _ _) (sym (inv.are ∙ ap (λ l. inv.done ++ concat (short_lines c.loop-rest.number (secrets_of l))) (nil_of c.loop-rest.rest.now none) ∙ append-nil inv.done)) inv.told }
+    record { told = subst (TellsBytes g.E.Sink _ _) (sym (inv.are ∙ ap (λ l. inv.done ++ concat (short_lines c.loop-rest.number (secrets_of l))) (nil_from_length c.loop-rest.rest.now none) ∙ append-nil inv.done)) inv.told }

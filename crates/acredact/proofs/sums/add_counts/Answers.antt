@@ -1,5 +1,5 @@
 -- One count more.
-use Rattle.std.proofs.Common.{rules, ◌≡◌, ◌≤◌, ◌-◌, get_or, length, refl, subst, arith}
+use Rattle.std.proofs.Common.{rules, ◌≡◌, ◌≤◌, get_or, length, refl, subst, arith}
 use Rattle.std.proofs.lemmas.Grind.{common_steps}
 use Rattle.acredact.specs.Sums.{HaveGrown, counts_for, share}
 use Rattle.acredact.specs.Tables.{secret_of, secrets_of}

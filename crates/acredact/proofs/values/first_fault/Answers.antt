@@ -5,7 +5,7 @@ use Rattle.std.specs.List.{slice_split}
 use Rattle.acredact.specs.Tables.{stripped_by}
 use Rattle.acredact.specs.Values.{bad_or, fault_of_line, first_fault}
 use Rattle.acredact.specs.declared.patterns.LineFault.{LineFault}
-use Rattle.acredact.proofs.Lines.{lines_some}
+use Rattle.acredact.proofs.Lines.{lines_of_some}
 use Rattle.acredact.proofs.Valued.{fault_here, fault_later, line_at, line_end}
 use Rattle.acredact.proofs.values.first_fault.Goals as goal
 
@@ -30,7 +30,7 @@ returns-in-Some-fault_of_line c =
     let fault : fault_of_line c.args.allow_empty (stripped_by c.args.form c.in-Some.line.now) ≡ Some c.in-Some-fault_of_line.fault =
     sym (c.in-Some-fault_of_line.ensures.fault ∙ ap (fault_of_line c.args.allow_empty) c.stripped_by.ensures.line) in
     record {
-      first = sym (ap (first_fault c.args.allow_empty c.args.form 1) (lines_some c.args.text.now some)
+      first = sym (ap (first_fault c.args.allow_empty c.args.form 1) (lines_of_some c.args.text.now some)
           ∙ c.loop-line.invariant
           ∙ ap (first_fault c.args.allow_empty c.args.form number) (line_at _ c.in-Some.line.now c.in-Some.more.now c.in-Some.ensures.split c.in-Some.ensures.first)
           ∙ fault_here c.args.allow_empty c.args.form number c.in-Some.line.now lines _ fault);
@@ -44,7 +44,7 @@ returns c =
     c.fault_of_line-2.ensures.fault ∙ ap (fault_of_line c.args.allow_empty) c.stripped_by-2.ensures.line in
     record {
       first = c.bad_of.ensures.bad ∙ ap (λ (f : Option LineFault). bad_or number f None) fault
-          ∙ sym (ap (first_fault c.args.allow_empty c.args.form 1) (lines_some c.args.text.now some)
+          ∙ sym (ap (first_fault c.args.allow_empty c.args.form 1) (lines_of_some c.args.text.now some)
           ∙ c.loop-line.invariant
           ∙ ap (first_fault c.args.allow_empty c.args.form number) (line_end c.loop-line.rest.now c.in_default.ensures.none));
     }

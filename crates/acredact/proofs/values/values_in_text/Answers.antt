@@ -5,7 +5,7 @@ use Rattle.std.specs.List.{filter_map, slice_split}
 use Rattle.aho_core.specs.Replacement.{pieces_of}
 use Rattle.acredact.specs.Tables.{stripped_by}
 use Rattle.acredact.specs.Values.{lent, value_in_line, values_with}
-use Rattle.acredact.proofs.Lines.{lines_some}
+use Rattle.acredact.proofs.Lines.{lines_of_some}
 use Rattle.acredact.proofs.Valued.{line_at, line_end, values_more}
 use Rattle.acredact.proofs.values.values_in_text.Goals as goal
 
@@ -29,5 +29,5 @@ returns c =
     record {
       values = c.in_ok-push_value-2.ensures.pushed ∙ ap (values_with old) value ∙ sym (append-nil (values_with old (take last)))
           ∙ values_more old [] _ (take last) (ap (λ (l : List (List ℕ)). old ++ filter_map take l) (sym (line_end last c.in_default.ensures.none)) ∙ c.loop-line.invariant)
-          ∙ sym (ap (filter_map take) (lines_some c.args.text.now some));
+          ∙ sym (ap (filter_map take) (lines_of_some c.args.text.now some));
     }

@@ -1,8 +1,9 @@
 -- One byte more is, and at the end all are.
 use Rattle.std.proofs.Common.{rules, ◌≡◌, ◌≤◌, [], ◌∷◌, ◌++◌, length, refl, sym, ap, ◌∙◌, false}
 use Rattle.std.specs.Prelude.{slice_index}
+use Rattle.std.proofs.lemmas.List.{nil_from_length}
 use Rattle.rule_files.specs.Messages.{is_unshown, as_shown}
-use Rattle.rule_files.proofs.ShownNames.{nil_of, plain_next}
+use Rattle.rule_files.proofs.ShownNames.{plain_next}
 use Rattle.rule_files.proofs.shown.is_plain.Goals as goal
 
 pub loop-rest-init : goal.loop-rest-init
@@ -20,4 +21,4 @@ pub returns : goal.returns
 returns c =
     let (done, is, shows) = c.loop-rest.invariant in
     let none : length c.loop-rest.rest.now ≡ 0 = search rules in
-    record { plain = λ plain. shows ∙ ap (λ l. done ++ as_shown l) (nil_of c.loop-rest.rest.now none) ∙ sym (ap (λ l. done ++ l) (nil_of c.loop-rest.rest.now none)) ∙ sym is }
+    record { plain = λ plain. shows ∙ ap (λ l. done ++ as_shown l) (nil_from_length c.loop-rest.rest.now none) ∙ sym (ap (λ l. done ++ l) (nil_from_length c.loop-rest.rest.now none)) ∙ sym is }

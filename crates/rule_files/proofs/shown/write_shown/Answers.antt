@@ -1,10 +1,11 @@
 -- One byte more is written.
 use Rattle.std.proofs.Common.{rules, ◌≡◌, ◌≤◌, [], ◌++◌, length, refl, sym, ap, subst, ◌∙◌, append-nil}
 use Rattle.std.specs.Prelude.{slice_index}
+use Rattle.std.proofs.lemmas.List.{nil_from_length}
 use Rattle.tool_parts.specs.Telling.{TellsBytes}
 use Rattle.tool_parts.proofs.Tellings.{tells-later, tells-nothing}
 use Rattle.rule_files.specs.Messages.{shown_byte, as_shown}
-use Rattle.rule_files.proofs.ShownNames.{nil_of, shown_next}
+use Rattle.rule_files.proofs.ShownNames.{shown_next}
 use Rattle.rule_files.proofs.shown.write_shown.Goals as goal
 
 pub loop-rest-init : goal.loop-rest-init
@@ -20,4 +21,4 @@ pub returns : goal.returns
 returns g c =
     let (done, is, told) = c.loop-rest.invariant in
     let none : length c.loop-rest.rest.now ≡ 0 = search rules in
-    record { told = subst (TellsBytes g.E.Sink _ _) (sym (is ∙ ap (λ l. done ++ as_shown l) (nil_of c.loop-rest.rest.now none) ∙ append-nil done)) told }
+    record { told = subst (TellsBytes g.E.Sink _ _) (sym (is ∙ ap (λ l. done ++ as_shown l) (nil_from_length c.loop-rest.rest.now none) ∙ append-nil done)) told }

@@ -1,0 +1,48 @@
+"""Random calls of a program, compared with what others or a slow model do: for bin/compare-acgrep and bin/compare-acredact."""
+import argparse, collections, os, random, sys, tempfile
+from . import program_of
+
+TOLD = 3  # so many calls that differ are told, and of others how many they are
+
+
+def parser(name, told):
+    """The options that both scripts have; `told` is what a script says of itself."""
+    options = argparse.ArgumentParser(description=told, formatter_class=argparse.RawDescriptionHelpFormatter, usage=argparse.SUPPRESS)
+    options.add_argument("-s", type=int, default=1, metavar="SEED")
+    options.add_argument("-p", default=program_of(name), metavar="PROGRAM")
+    return options
+
+
+def asked(options):
+    """What was asked for, with the whole path of the program, which has to be there."""
+    asked = options.parse_args()
+    if not os.path.exists(asked.p):
+        sys.exit(f"{os.path.basename(sys.argv[0])}: there is no {asked.p}: bin/refresh-programs or bin/unproved builds it")
+    asked.p = os.path.abspath(asked.p)
+    return asked
+
+
+def files_in(folder):
+    """A line for each file of a folder, with how it begins."""
+    for at, _, names in os.walk(folder):
+        for path in (os.path.join(at, name) for name in sorted(names)):
+            if os.path.isfile(path):
+                with open(path, "rb") as file:
+                    yield f"  {os.path.relpath(path, folder)!r}: {file.read(300)!r}"
+
+
+def compared(what, call, program, seed, count):
+    """Makes so many random calls from a seed, and answers how many differ. `call(program, dice, folder)` makes one, in a folder that is the same
+    for all, and answers its status and what differs, or none."""
+    dice, statuses, wrong = random.Random(seed), collections.Counter(), 0
+    with tempfile.TemporaryDirectory() as folder:
+        os.chmod(folder, 0o755)
+        for number in range(count):
+            status, difference = call(program, dice, folder)
+            statuses[status] += 1
+            wrong += difference is not None
+            if difference is not None and wrong <= TOLD:
+                print(f"call {number}: {difference}", *files_in(folder), sep="\n", flush=True)
+    ends = ", ".join(f"{often:,} with {status}" for status, often in sorted(statuses.items()))
+    print(f"{os.path.basename(sys.argv[0])}: {count:,} calls {what}, {wrong} differ; of these end {ends}", flush=True)
+    return wrong

@@ -1,6 +1,0 @@
--- The keywords that are left.
-use Rattle.std.proofs.Common.{length}
-use Rattle.acredact.proofs.line_rules.has_line_end.Given as goal
-
-abbrev pub decreases-loop-rest : goal.decreases-loop-rest
-decreases-loop-rest l = length l.rest
