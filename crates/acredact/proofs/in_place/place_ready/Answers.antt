@@ -25,8 +25,8 @@ use Rattle.acredact.proofs.Calls.{job_does}
 use Rattle.acredact.proofs.PlacedCalls.{places_cut, places_told, places_uncounted}
 use Rattle.acredact.proofs.in_place.place_ready.Goals as goal
 
-pub place_each-all-requires : goal.place_each-all-requires
-place_each-all-requires g c = record { ready = c.job_of-job.ensures.can c.requires.some c.requires.ready }
+pub place_each-requires : goal.place_each-requires
+place_each-requires g c = record { ready = c.job_of-job.ensures.can c.requires.some c.requires.ready }
 
 pub returns-in_err-counted : goal.returns-in_err-counted
 returns-in_err-counted g c = record {
@@ -44,10 +44,10 @@ returns-in_err-all g c = record {
       let load = loaded_in c.args.secrets.now in
       let is : c.from_residual-in_err-all.result ≡ Err (Other (failure_of_stream c.in_err-all.field-0.0)) = search rules in
       let places = job_does g.F.Folder c.args.folder.now call.given load c.job_of-job.result (c.job_of-job.ensures.job c.requires.ready)
-      (λ (w : Work). PlacesOutcome g.O.File.Write g.O.Outputs w g.E.Sink Memory (Err c.in_err-all.field-0.0) c.args.outputs.now c.place_each-all.new.outputs c.args.streams.now.errors c.place_each-all.new.streams.errors) (c.in_err-all.ensures.outcome _ c.requires.ready.of) in
+      (λ (w : Work). PlacesOutcome g.O.File.Write g.O.Outputs w g.E.Sink Memory (Err c.in_err-all.field-0.0) c.args.outputs.now c.place_each.new.outputs c.args.streams.now.errors c.place_each.new.streams.errors) (c.in_err-all.ensures.outcome _ c.requires.ready.of) in
       let (lines, cut, told) = places.cut in
-      subst (λ (r : Result Bool Failure). CalledPlaces g.O.File.Write g.E.Sink g.O.Outputs call left r c.args.outputs.now c.place_each-all.new.outputs first c.place_each-all.new.streams.errors) (sym is)
-      (places_cut g.O.File.Write g.E.Sink g.O.Outputs call left load (bytes_left c.args.streams.now.input) loaded c.args.outputs.now c.place_each-all.new.outputs first c.args.streams.now.errors c.place_each-all.new.streams.errors warnings
+      subst (λ (r : Result Bool Failure). CalledPlaces g.O.File.Write g.E.Sink g.O.Outputs call left r c.args.outputs.now c.place_each.new.outputs first c.place_each.new.streams.errors) (sym is)
+      (places_cut g.O.File.Write g.E.Sink g.O.Outputs call left load (bytes_left c.args.streams.now.input) loaded c.args.outputs.now c.place_each.new.outputs first c.args.streams.now.errors c.place_each.new.streams.errors warnings
       _ (ap (λ (e : StreamError). Other (failure_of_stream e)) places.memory_ends) lines cut told);
 }
 
@@ -61,16 +61,16 @@ returns g c = record {
       let as_asked = λ (P : Work → Type 0) (done : P _). subst (λ (l : List Rule). P (work_by call (loaded_as l key))) (sym value)
       (job_does g.F.Folder c.args.folder.now call.given (loaded_in c.args.secrets.now) c.job_of-job.result (c.job_of-job.ensures.job c.requires.ready) P done) in
       let old = bytes_left c.args.streams.now.input in
-      let new = bytes_left c.place_each-all.new.streams.input in
-      let counts = c.place_each-all.new.counts in
-      let volume = c.place_each-all.new.volume in
+      let new = bytes_left c.place_each.new.streams.input in
+      let counts = c.place_each.new.counts in
+      let volume = c.place_each.new.volume in
       let none : c.as_mut_slice-tally.result.now ≡ zeros (counts_asked call.given) c.as_slice-rules.result.now =
       c.as_mut_slice-tally.ensures.value ∙ c.in_ok-counted.ensures.counts ∙ ap (λ (b : Bool). zeros b c.as_slice-rules.result.now) c.counts.ensures.counts in
       places_told g.O.File.Write g.E.Sink g.O.Outputs call left c.as_slice-rules.result.now key counts volume old new (subst (λ (l : List Rule). AreLoaded (reading_by call) call.given (loaded_as l key) left old) (sym value) loaded)
-      c.args.outputs.now c.place_each-all.new.outputs first c.args.streams.now.errors c.place_each-all.new.streams.errors c.tell_counted.new.errors
+      c.args.outputs.now c.place_each.new.outputs first c.args.streams.now.errors c.place_each.new.streams.errors c.tell_counted.new.errors
       (subst (λ (l : List Rule). TellsWarnings g.E.Sink (has Strict call.given) call.given (secrets_of l) (redactor_by_given call.given (loaded_as l key)) first c.args.streams.now.errors) (sym value) warnings)
       c.in_ok-all.all c.tell_counted.result
-      (as_asked (λ w. PlacesOutcome g.O.File.Write g.O.Outputs w g.E.Sink Memory (Ok c.in_ok-all.all) c.args.outputs.now c.place_each-all.new.outputs c.args.streams.now.errors c.place_each-all.new.streams.errors)
+      (as_asked (λ w. PlacesOutcome g.O.File.Write g.O.Outputs w g.E.Sink Memory (Ok c.in_ok-all.all) c.args.outputs.now c.place_each.new.outputs c.args.streams.now.errors c.place_each.new.streams.errors)
       (c.in_ok-all.ensures.outcome _ c.requires.ready.of))
       (λ whole. (
         subst (λ (l : List ℕ). CountsOfNames old new l counts work work.names) none

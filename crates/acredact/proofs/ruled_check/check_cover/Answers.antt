@@ -1,5 +1,5 @@
 -- The files are looked at by what was loaded.
-use Rattle.std.proofs.Common.{rules, ◌≡◌, ◌∙◌, List, ℕ, sym, subst}
+use Rattle.std.proofs.Common.{rules, ◌≡◌, ◌∙◌, List, ℕ, refl, sym, subst}
 use Rattle.std.specs.Prelude.{Err, Ok, Result}
 use Rattle.tool_parts.specs.Names.{name_bytes}
 use Rattle.tool_parts.specs.Streams.{bytes_left}

@@ -20,8 +20,8 @@ use Rattle.acredact.proofs.Calls.{job_does, rest_cut, rest_told, run_done, run_f
 use Rattle.acredact.proofs.Limits.{bounded_from}
 use Rattle.acredact.proofs.run.redact_ready.Goals as goal
 
-pub redact_by-all-requires : goal.redact_by-all-requires
-redact_by-all-requires g c = record { ready = c.job_of-job.ensures.can c.requires.some c.requires.ready }
+pub redact_by-requires : goal.redact_by-requires
+redact_by-requires g c = record { ready = c.job_of-job.ensures.can c.requires.some c.requires.ready }
 
 pub returns-in_err-counted-clause-outcome : goal.returns-in_err-counted-clause-outcome
 returns-in_err-counted-clause-outcome g c = λ left loaded.
@@ -37,9 +37,9 @@ returns-in_err-all-clause-outcome g c = λ left loaded.
     let load = loaded_in c.args.secrets.now in
     let is : c.from_residual-in_err-all.result ≡ Err (Other (failure_of_stream c.in_err-all.field-0.0)) = search rules in
     let files = job_does g.F.Folder c.args.folder.now call.given load c.job_of-job.result (c.job_of-job.ensures.job c.requires.ready)
-    (λ (w : Work). FilesOutcome g.W.Write g.E.Sink w (Err c.in_err-all.field-0.0) c.args.streams.now c.redact_by-all.new.streams) (c.in_err-all.ensures.outcome _ c.requires.ready.of) in
-    subst (λ (r : Result Bool Failure). RestOutcome g.W.Write g.E.Sink call load r c.args.streams.now c.redact_by-all.new.streams) (sym is)
-    (rest_cut g.W.Write g.E.Sink call load c.args.streams.now c.redact_by-all.new.streams _ (run_fails g.W.Write g.E.Sink (work_by call load) _ _ _ files))
+    (λ (w : Work). FilesOutcome g.W.Write g.E.Sink w (Err c.in_err-all.field-0.0) c.args.streams.now c.redact_by.new.streams) (c.in_err-all.ensures.outcome _ c.requires.ready.of) in
+    subst (λ (r : Result Bool Failure). RestOutcome g.W.Write g.E.Sink call load r c.args.streams.now c.redact_by.new.streams) (sym is)
+    (rest_cut g.W.Write g.E.Sink call load c.args.streams.now c.redact_by.new.streams _ (run_fails g.W.Write g.E.Sink (work_by call load) _ _ _ files))
 
 pub returns-clause-outcome : goal.returns-clause-outcome
 returns-clause-outcome g c = λ left loaded.
@@ -50,16 +50,16 @@ returns-clause-outcome g c = λ left loaded.
     let as_asked = λ (P : Work → Type 0) (done : P _). subst (λ (l : List Rule). P (work_by call (loaded_as l key))) (sym value)
     (job_does g.F.Folder c.args.folder.now call.given (loaded_in c.args.secrets.now) c.job_of-job.result (c.job_of-job.ensures.job c.requires.ready) P done) in
     let old = bytes_left c.args.streams.now.input in
-    let new = bytes_left c.redact_by-all.new.streams.input in
-    let counts = c.redact_by-all.new.counts in
-    let volume = c.redact_by-all.new.volume in
+    let new = bytes_left c.redact_by.new.streams.input in
+    let counts = c.redact_by.new.counts in
+    let volume = c.redact_by.new.volume in
     let none : c.as_mut_slice-tally.result.now ≡ zeros (counts_asked call.given) c.as_slice-rules.result.now =
     c.as_mut_slice-tally.ensures.value ∙ c.in_ok-counted.ensures.counts ∙ ap (λ (b : Bool). zeros b c.as_slice-rules.result.now) c.counts.ensures.counts in
-    let files = as_asked (λ w. FilesOutcome g.W.Write g.E.Sink w (Ok c.in_ok-all.all) c.args.streams.now c.redact_by-all.new.streams) (c.in_ok-all.ensures.outcome _ c.requires.ready.of) in
+    let files = as_asked (λ w. FilesOutcome g.W.Write g.E.Sink w (Ok c.in_ok-all.all) c.args.streams.now c.redact_by.new.streams) (c.in_ok-all.ensures.outcome _ c.requires.ready.of) in
     let numbers = as_asked (λ w. NumbersOfAll w.holds w.names c.as_mut_slice-tally.result.now counts no_volume volume old new) c.in_ok-all.ensures.most in
-    subst (λ (l : List Rule). RestOutcome g.W.Write g.E.Sink call (loaded_as l key) c.tell_counted.result c.args.streams.now (record c.redact_by-all.new.streams { errors = c.tell_counted.new.errors })) value
+    subst (λ (l : List Rule). RestOutcome g.W.Write g.E.Sink call (loaded_as l key) c.tell_counted.result c.args.streams.now (record c.redact_by.new.streams { errors = c.tell_counted.new.errors })) value
     (rest_told g.W.Write g.E.Sink call c.as_slice-rules.result.now key left old (subst (λ (l : List Rule). AreLoaded (reading_by call) call.given (loaded_as l key) left old) (sym value) loaded) counts volume
-    c.args.streams.now c.redact_by-all.new.streams c.in_ok-all.all (counts_asked call.given) c.tell_counted.result c.tell_counted.new.errors refl (run_done g.W.Write g.E.Sink work _ _ _ files)
+    c.args.streams.now c.redact_by.new.streams c.in_ok-all.all (counts_asked call.given) c.tell_counted.result c.tell_counted.new.errors refl (run_done g.W.Write g.E.Sink work _ _ _ files)
     (λ whole. (
       subst (λ (l : List ℕ). CountsOfNames old new l counts work work.names) none
           (as_asked (λ w. CountsOfNames old new c.as_mut_slice-tally.result.now counts w w.names) (c.in_ok-all.ensures.counted _ c.requires.ready.of (ap Ok whole))),
