@@ -1,5 +1,5 @@
 -- The lines before the first that holds a zero byte, and whether one of the others is selected.
-use Rattle.std.proofs.Common.{◌≡◌, Bool, ℕ, List, [], ap, false, refl, sym, take, true, ◌∙◌}
+use Rattle.std.proofs.Common.{Bool, [], ap, false, refl, sym, take, true, ◌∙◌}
 use Rattle.std.specs.Prelude.{nat_lt, ◌||◌}
 use Rattle.std.proofs.KnownBytes.{Keeps-refl}
 use Rattle.std.proofs.lemmas.Bool.{or_right}
@@ -21,10 +21,9 @@ use Rattle.acgrep.proofs.guarded.search_guarded.Goals as goal
 
 pub returns-in_err-binary-clause-begun : goal.returns-in_err-binary-clause-begun
 returns-in_err-binary-clause-begun g c = λ p is plain.
-    let held' = g.W.Sink.taken c.search_front.new.output in
     on_err c.from_residual.result
-    (file_begins p c.args.job.now true (ap (λ (b : Bool). b || takes_text c.args.job.now) c.requires.guarded) c.begin.new.self c.search_front.new.state (g.R.Read.remaining c.args.input.now) (g.W.Sink.taken c.args.output.now) held' held'
-    c.begin.ensures.begin (c.in_err-binary.ensures.begun p is plain) (total_none c.args.job.now c.search_front.new.state.selected held' held' (Keeps-refl held')))
+    (file_begins p c.args.job.now true (ap (λ (b : Bool). b || takes_text c.args.job.now) c.requires.guarded) c.begin.new.self c.search_front.new.state (g.R.Read.remaining c.args.input.now) (g.W.Sink.taken c.args.output.now) _ _
+    c.begin.ensures.begin (c.in_err-binary.ensures.begun p is plain) (total_none c.args.job.now c.search_front.new.state.selected _ _ (Keeps-refl _)))
 
 pub returns-then-not-binary-clause-searched : goal.returns-then-not-binary-clause-searched
 returns-then-not-binary-clause-searched g c = λ p is plain.

@@ -44,29 +44,23 @@ returns-in_ok-pass_others-in-None-clause-written g c = λ p is plain.
 
 pub returns-in_err-line-clause-begun : goal.returns-in_err-line-clause-begun
 returns-in_err-line-clause-begun g c = λ p is plain.
-    let held = g.W.Sink.taken c.args.output.now in
-    on_err c.from_residual.result (begins_nothing (TellsFrom p c.args.job.now None c.args.state.now c.args.state.now.selected) (lines c.args.job.now.style.ending c.args.text.now) held held [] (refl, refl) (Appends-nil held))
+    on_err c.from_residual.result (begins_nothing (TellsFrom p c.args.job.now None c.args.state.now c.args.state.now.selected) (lines c.args.job.now.style.ending c.args.text.now) _ _ [] (refl, refl) (Appends-nil _))
 
 pub returns-in_err-pass_others-in-Some-clause-begun : goal.returns-in_err-pass_others-in-Some-clause-begun
 returns-in_err-pass_others-in-Some-clause-begun g c = λ p is plain.
-    let ending = c.args.job.now.style.ending in
-    let text = c.args.text.now in
     let first = first_of g (goal.at.returns-in_err-pass_others-in-Some-clause-begun g c).After-pass_others p is plain in
     on_err c.from_residual-in_err-pass_others-in-Some.result
-    (begins_front p c.args.job.now c.args.state.now _ _ _ text _ _ (cut_lines ending p plain text c.in-Some.line first c.requires.some)
-    (c.in_err-pass_others-in-Some.ensures.begun p is (front_lines ending p plain text c.in-Some.line first)))
+    (begins_front p c.args.job.now c.args.state.now _ _ _ _ _ _ (cut_lines _ p plain _ c.in-Some.line first c.requires.some)
+    (c.in_err-pass_others-in-Some.ensures.begun p is (front_lines _ p plain _ c.in-Some.line first)))
 
 pub returns-in_err-pass_matched-in-Some-clause-begun : goal.returns-in_err-pass_matched-in-Some-clause-begun
 returns-in_err-pass_matched-in-Some-clause-begun g c = λ p is plain.
-    let ending = c.args.job.now.style.ending in
-    let text = c.args.text.now in
-    let line = c.in-Some.line in
     let first = first_of g (goal.at.returns-in_err-pass_matched-in-Some-clause-begun g c).After-pass_others p is plain in
     let others = c.in_ok-pass_others-in-Some.ensures in
     on_err c.from_residual-in_err-pass_matched-in-Some.result
-    (begins_line p _ _ _ _ _ _ _ text _ _ _ (cut_lines ending p plain text line first c.requires.some)
-    (others.written p is (front_lines ending p plain text line first)) (others.placed (front_ends ending p plain text line first))
-    (c.in_err-pass_matched-in-Some.ensures.begun p is (first_has ending p plain text line first)))
+    (begins_line p _ _ _ _ _ _ _ _ _ _ _ (cut_lines _ p plain _ _ first c.requires.some)
+    (others.written p is (front_lines _ p plain _ _ first)) (others.placed (front_ends _ p plain _ _ first))
+    (c.in_err-pass_matched-in-Some.ensures.begun p is (first_has _ p plain _ _ first)))
 
 pub returns-in_err-pass_others-in-None-clause-begun : goal.returns-in_err-pass_others-in-None-clause-begun
 returns-in_err-pass_others-in-None-clause-begun g c = λ p is plain.
