@@ -24,8 +24,7 @@ use crate::options::Flags;
 use crate::rule_lists::{read_rules, tell_all};
 use crate::run::{job_of, with_rules};
 use crate::tell::{PROGRAM, tell_memory};
-use chromesquid::noncontiguous::NFA;
-use chromesquid::{Automaton, BuildError, Sink};
+use chromesquid::{AhoCorasick, Automaton, BuildError, Sink};
 use rule_files::{MAX_DIGITS, digits_of};
 use secret_rules::{LineCover, Rules};
 use std::alloc::Global;
@@ -153,10 +152,10 @@ fn cover_of<'r, 'a>(
     alloc: Global,
     rules: &'r Rules,
     most: usize,
-) -> Result<LineCover<'r, 'a, NFA>, BuildError>
-    ensures ready { IfOk result (CanCoverLines ⟦<NFA as Automaton>⟧) }
+) -> Result<LineCover<'r, 'a, AhoCorasick>, BuildError>
+    ensures ready { IfOk result (CanCoverLines ⟦<AhoCorasick as Automaton>⟧) }
     ensures rules { IfOk result (λ cover. rules_of cover ≡ rules.entry.now) }
-    ensures marks { IfOk result (λ cover. MarksBy ⟦<NFA as Automaton>⟧ cover
+    ensures marks { IfOk result (λ cover. MarksBy ⟦<AhoCorasick as Automaton>⟧ cover
         (covering_by false rules.entry.now most no_patterns)) }
 {
     let count = rules.as_slice().len();

@@ -12,7 +12,6 @@ pub loop-found-preserved : goal.loop-found-preserved
 loop-found-preserved c =
     let line = c.args.line.now in
     let found = c.loop-found.found in
-    let other = c.in-Some.other in
     let so_far = c.loop-found.invariant in
     let start = subst (λ (o : Option Occurrence). IfSome o (λ (m : Occurrence). m.start ≡ found.start)) c.in-Some.is c.in_ok-other.ensures.start in
     let ordered = subst (λ (o : Option Occurrence). IfSome o (λ (m : Occurrence). m.start ≤ m.end)) c.in-Some.is c.in_ok-other.ensures.ordered in
@@ -23,7 +22,7 @@ loop-found-preserved c =
       ordered = ordered;
       within = omega (arith, shorter, so_far.within);
       tried = λ p is kind longest.
-          tried_next p line kind c.args.longest.start found other (so_far.tried p is kind longest) refused
+          tried_next p line kind c.args.longest.start found _ (so_far.tried p is kind longest) refused
           (subst (IsBestOrNone LeftmostLongest (IsShorter p line found)) c.in-Some.is (c.in_ok-other.ensures.longest p is kind));
     }
 

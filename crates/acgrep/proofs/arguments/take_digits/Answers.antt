@@ -17,9 +17,8 @@ returns-clause-read c =
 
 pub returns-clause-behind : goal.returns-clause-behind
 returns-clause-behind c =
-    let letters = c.args.letters.now in
-    digits_behind letters c.args.count c.requires.digits c.requires.within c.requires.some c.in_ok-number.number c.in_ok-number.ensures.read
-    ∙ ap wrong_letters (sym (slice_back letters c.args.count))
+    digits_behind _ c.args.count c.requires.digits c.requires.within c.requires.some c.in_ok-number.number c.in_ok-number.ensures.read
+    ∙ ap wrong_letters (sym (slice_back _ c.args.count))
 
 pub returns-in_err-number-clause-refused : goal.returns-in_err-number-clause-refused
 returns-in_err-number-clause-refused c =

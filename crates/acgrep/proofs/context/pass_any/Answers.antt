@@ -8,8 +8,7 @@ use Rattle.acgrep.proofs.context.pass_any.Goals as goal
 
 pub returns-in_err-is_chosen-clause-begun : goal.returns-in_err-is_chosen-clause-begun
 returns-in_err-is_chosen-clause-begun g c = λ p is.
-    let held = g.W.Sink.taken c.args.output.now in
-    on_err c.from_residual.result (begins_nothing (WalksSome p c.args.job.now c.args.context.now (walk_of c.args.state.now)) (c.args.line.now ∷ []) held held [] (walk_of c.args.state.now, (refl, refl)) (Appends-nil held))
+    on_err c.from_residual.result (begins_nothing (WalksSome p c.args.job.now c.args.context.now (walk_of c.args.state.now)) (c.args.line.now ∷ []) _ _ [] (walk_of c.args.state.now, (refl, refl)) (Appends-nil _))
 
 pub returns-then-branch-clause-walks : goal.returns-then-branch-clause-walks
 returns-then-branch-clause-walks g c = λ p is.

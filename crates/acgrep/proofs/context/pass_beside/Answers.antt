@@ -16,5 +16,4 @@ returns-clause-walks g c = λ p is passed.
 
 pub returns-in_err-hold-clause-begun : goal.returns-in_err-hold-clause-begun
 returns-in_err-hold-clause-begun g c = λ p is passed.
-    let held = g.W.Sink.taken c.args.output.now in
-    on_err c.from_residual.result (begins_nothing (WalksSome p c.args.job.now c.args.context.now (walk_of c.args.state.now)) (c.args.line.now ∷ []) held held [] (walk_of c.args.state.now, (refl, refl)) (Appends-nil held))
+    on_err c.from_residual.result (begins_nothing (WalksSome p c.args.job.now c.args.context.now (walk_of c.args.state.now)) (c.args.line.now ∷ []) _ _ [] (walk_of c.args.state.now, (refl, refl)) (Appends-nil _))

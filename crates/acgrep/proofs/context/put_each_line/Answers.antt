@@ -13,19 +13,15 @@ loop-index-preserved g c =
     let held = c.args.held.now in
     let sizes = held.sizes.items in
     let index = c.loop-index.index in
-    let size = c.index.result.now in
-    let rest = c.loop-index.rest.now in
-    let line = c.split_at.result.0.now in
-    let left = c.split_at.result.1.now in
     let some : index < length sizes = omega (arith, c.loop-index-test.true, c.len-index-end.ensures) in
     let x = g.W.Write.contents c.args.output.now in
     let z = g.W.Write.contents c.put_shown.new.output in
-    let others = cut_by (drop (index + 1) sizes) left in
+    let others = cut_by (drop (index + 1) sizes) _ in
     record {
-      sized = sum_left sizes index size rest left some c.index.ensures c.loop-index.invariant.sized c.split_at.ensures.back;
+      sized = sum_left sizes index _ _ _ some c.index.ensures c.loop-index.invariant.sized c.split_at.ensures.back;
       shown = λ p is. subst (λ (at : Place). ShowsTo p job c.args.first at x z (held_lines held) others) (sym c.behind_line-place.ensures.place)
-          (shows_step p job c.args.first c.loop-index.place x (g.W.Write.contents c.loop-index.output) z (held_lines held) (cut_by (drop index sizes) rest) line others
-          (cut_left sizes index size rest line left some c.index.ensures c.split_at.ensures.front c.split_at.ensures.back) (c.loop-index.invariant.shown p is) (c.in_ok-put_shown.ensures.shown p is));
+          (shows_step p job c.args.first c.loop-index.place x (g.W.Write.contents c.loop-index.output) z (held_lines held) (cut_by (drop index sizes) _) _ others
+          (cut_left sizes index _ _ _ _ some c.index.ensures c.split_at.ensures.front c.split_at.ensures.back) (c.loop-index.invariant.shown p is) (c.in_ok-put_shown.ensures.shown p is));
     }
 
 pub returns : goal.returns

@@ -9,8 +9,7 @@ use Rattle.acgrep.proofs.files.put_total.Goals as goal
 
 pub returns-in_err-put_asked-clause-begun : goal.returns-in_err-put_asked-clause-begun
 returns-in_err-put_asked-clause-begun g c =
-    let held = g.W.Sink.taken c.args.output.now in
-    total_none c.args.job.now c.args.selected held held (Keeps-refl held)
+    total_none c.args.job.now c.args.selected _ _ (Keeps-refl _)
 
 pub returns-in_err-write_whole-clause-begun : goal.returns-in_err-write_whole-clause-begun
 returns-in_err-write_whole-clause-begun g c =

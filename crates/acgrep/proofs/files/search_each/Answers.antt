@@ -26,7 +26,6 @@ loop-rest-init g c =
 pub loop-rest-preserved : goal.loop-rest-preserved
 loop-rest-preserved g c =
     let job = c.args.job.now in
-    let holds = g.F.Open.holds c.args.files.now in
     let names = listed_bytes c.args.names.now in
     let begin = g.R.Read.remaining c.args.input.now in
     let first = g.W.Sink.taken c.args.output.now in
@@ -38,20 +37,19 @@ loop-rest-preserved g c =
     let name = c.as_slice.result.now in
     let more = listed_bytes (take (length rest - 1) (drop 1 rest)) in
     let seen = c.loop-rest.seen in
-    let outcome = c.search_name-outcome.result in
     let cut : listed_bytes rest ≡ name ∷ more = names_cut (λ n. n.items) rest c.index-rest-0.result c.index-rest-0.result name (c.goes_on.ensures.some c.loop-rest-test.true) c.index-rest-0.is c.as_slice.ensures.value in
     let all = files_told job.hushed job.label.now names in
     let within = told-cut job.hushed job.label.now name more (listed_bytes rest) all (ap (files_told job.hushed job.label.now) cut) c.loop-rest.invariant.within in
     record {
       so_far = λ p is plain.
-          let work = search_work p job holds in
+          let work = search_work p job _ in
           let so_far = subst (λ (l : List (List ℕ)). SoFar work job.shown names begin first l left held seen) cut (c.loop-rest.invariant.so_far p is plain) in
           subst (SoFar work job.shown names begin first more left' held') (sym c.after-seen.ensures)
-          (so_far_step work job.shown names begin first name more left left' held held' seen outcome (c.goes_on.ensures.going c.loop-rest-test.true) so_far
+          (so_far_step work job.shown names begin first name more left left' held held' seen _ (c.goes_on.ensures.going c.loop-rest-test.true) so_far
           c.search_name-outcome.ensures.leaves (c.search_name-outcome.ensures.searched p is plain) (c.search_name-outcome.ensures.begun p is plain)
-          (name_has p job holds seen.selected name left left' held held'));
+          (name_has p job _ seen.selected name left left' held held'));
       told = subst (λ (seen : Seen). TellsIf g.E.Sink (IsMessage all) job.hushed seen.failed c.args.errors.now c.search_name-outcome.new.errors) (sym c.after-seen.ensures)
-          (if-more g.E.Sink (IsMessage all) job.hushed c.args.errors.now c.loop-rest.errors c.search_name-outcome.new.errors outcome job.shown seen
+          (if-more g.E.Sink (IsMessage all) job.hushed c.args.errors.now c.loop-rest.errors c.search_name-outcome.new.errors _ job.shown seen
           c.loop-rest.invariant.told (c.search_name-outcome.ensures.told all within.0));
       within = within.1;
     }

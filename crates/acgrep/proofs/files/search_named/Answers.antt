@@ -21,11 +21,6 @@ returns-in-Err-clause-begun g c = λ p is plain.
 
 pub returns-in-Ok-clause-searched : goal.returns-in-Ok-clause-searched
 returns-in-Ok-clause-searched g c = λ p is plain.
-    let job = c.args.job.now in
     let known = g.F.Open.holds c.args.files.now c.args.name.now in
-    let left = g.F.File.Read.remaining c.in-Ok.file in
-    let left' = g.F.File.Read.remaining c.search_one.new.reader in
-    let held = g.W.Sink.taken c.args.output.now in
-    let held' = g.W.Sink.taken c.search_one.new.output in
-    if_searched c.search_one.result (SearchesReader p job left left' held held') (SearchesFile p job known held held')
-    (λ any all. file_read p job known left held held' any c.in-Ok.ensures.told all.file) (c.search_one.ensures.searched p is plain)
+    if_searched c.search_one.result (SearchesReader p _ _ _ _ _) (SearchesFile p _ known _ _)
+    (λ any all. file_read p _ known _ _ _ any c.in-Ok.ensures.told all.file) (c.search_one.ensures.searched p is plain)

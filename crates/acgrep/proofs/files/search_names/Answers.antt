@@ -25,8 +25,7 @@ returns-clause-begun g c = λ p is plain. (c.search_each-seen.ensures.seen p is 
 
 pub returns-in_default-clause-begun : goal.returns-in_default-clause-begun
 returns-in_default-clause-begun g c = λ p is plain.
-    let held = g.W.Sink.taken c.args.output.now in
-    begun_none (search_work p c.args.job.now (g.F.Open.holds c.args.files.now)) c.args.job.now.shown false (listed_bytes c.args.names.now) (g.R.Read.remaining c.args.input.now) held held (Keeps-refl held)
+    begun_none (search_work p c.args.job.now (g.F.Open.holds c.args.files.now)) c.args.job.now.shown false (listed_bytes c.args.names.now) (g.R.Read.remaining c.args.input.now) _ _ (Keeps-refl _)
 
 pub returns-in_default-clause-told : goal.returns-in_default-clause-told
 returns-in_default-clause-told g c =

@@ -5,21 +5,15 @@ use Rattle.acgrep.proofs.folders.read_names.Goals as goal
 
 pub returns-then-count-eq0 : goal.returns-then-count-eq0
 returns-then-count-eq0 g c =
-    let begin = g.R.Read.remaining c.args.folder.now in
-    let left = g.R.Read.remaining c.loop.folder in
-    let left' = g.R.Read.remaining c.read.new.self in
     let done = c.in_ok-count.ensures in
     let some : 0 < length c.read.new.buf = omega (arith, c.read.auto.buf, c.loop.invariant.room) in
-    record { whole = text_whole begin left left' c.loop.text.items c.read.new.buf c.in_ok-count.count c.if-count-eq0.true c.loop.invariant.read done.bytes.0 (done.bytes.1 c.if-count-eq0.true some) }
+    record { whole = text_whole _ _ _ c.loop.text.items c.read.new.buf c.in_ok-count.count c.if-count-eq0.true c.loop.invariant.read done.bytes.0 (done.bytes.1 c.if-count-eq0.true some) }
 
 pub loop-preserved : goal.loop-preserved
 loop-preserved g c =
-    let begin = g.R.Read.remaining c.args.folder.now in
-    let left = g.R.Read.remaining c.loop.folder in
-    let left' = g.R.Read.remaining c.read.new.self in
     let done = c.in_ok-count.ensures in
     let grown : c.extend_from_slice.new.self.items ≡ c.loop.text.items ++ take c.in_ok-count.count c.read.new.buf = search rules in
     record {
-      read = text_more begin left left' c.loop.text.items c.read.new.buf c.in_ok-count.count c.extend_from_slice.new.self.items c.loop.invariant.read done.bytes.0 grown;
+      read = text_more _ _ _ c.loop.text.items c.read.new.buf c.in_ok-count.count c.extend_from_slice.new.self.items c.loop.invariant.read done.bytes.0 grown;
       room = omega (arith, c.read.auto.buf, c.loop.invariant.room);
     }

@@ -12,14 +12,8 @@ search_behind-requires-clause-text g c = λ asked. absurd (cc)
 
 pub returns-clause-found : goal.returns-clause-found
 returns-clause-found g c = λ p is plain.
-    let job = c.args.job.now in
-    let kept = take c.args.buffer.now.held c.args.buffer.now.room.items in
-    let left = g.R.Read.remaining c.args.input.now in
-    let left' = g.R.Read.remaining c.search_behind.new.input in
-    let held = g.W.Sink.taken c.args.output.now in
-    let held' = g.W.Sink.taken c.search_behind.new.output in
-    finds_sought p job c.seeking-seeking.result c.seeking-seeking.ensures.seeking c.begin.new.self c.search_behind.new.state left left' held held' kept c.begin.ensures.begin
-    (past_all p c.seeking-seeking.result (course c.begin.new.self c.search_behind.new.state held held' left left') kept _ _
+    finds_sought p _ c.seeking-seeking.result c.seeking-seeking.ensures.seeking c.begin.new.self c.search_behind.new.state _ _ _ _ _ c.begin.ensures.begin
+    (past_all p c.seeking-seeking.result (course c.begin.new.self c.search_behind.new.state _ _ _ _) _ _ _
     (c.in_ok-search_behind.ensures.front p is (subst (λ (j : Job). HoldNoEnding j.style.ending p) (sym c.seeking-seeking.ensures.seeking) plain)))
 
 pub returns-in_err-search_behind-clause-unwritten : goal.returns-in_err-search_behind-clause-unwritten

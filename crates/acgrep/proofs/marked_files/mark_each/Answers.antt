@@ -17,14 +17,13 @@ pub loop-rest-init : goal.loop-rest-init
 loop-rest-init g c =
     let job = c.args.job.now in
     let names = listed_bytes c.args.names.now in
-    let left = g.R.Read.remaining c.args.input.now in
     let held = g.W.Sink.taken c.args.output.now in
     record {
       can = c.requires.ready;
       unread = λ unread. refl;
       told = subst (λ (seen : Seen). TellsIf g.E.Sink IsMarkTold job.hushed seen.failed c.args.errors.now c.args.errors.now) (sym c.new-seen.ensures) refl;
       so_far = λ covering by.
-          let work = mark_work job covering (g.F.Open.holds c.args.files.now) left in (
+          let work = mark_work job covering (g.F.Open.holds c.args.files.now) _ in (
             by,
             subst (λ (b : Bool). SoFar work job.shown names false held names b held c.new-seen.result) (sym c.requires.unread)
                 (subst (SoFar work job.shown names false held names false held) (sym c.new-seen.ensures) (so_far_start work job.shown names false held)),
@@ -34,18 +33,14 @@ loop-rest-init g c =
 pub loop-rest-preserved : goal.loop-rest-preserved
 loop-rest-preserved g c =
     let job = c.args.job.now in
-    let holds = g.F.Open.holds c.args.files.now in
     let names = listed_bytes c.args.names.now in
-    let left = g.R.Read.remaining c.args.input.now in
     let first = g.W.Sink.taken c.args.output.now in
-    let now = g.R.Read.remaining c.loop-rest.input in
     let held = g.W.Sink.taken c.loop-rest.output in
     let held' = g.W.Sink.taken c.mark_name-outcome.new.output in
     let rest = c.loop-rest.rest.now in
     let name = c.as_slice.result.now in
     let more = listed_bytes (take (length rest - 1) (drop 1 rest)) in
     let seen = c.loop-rest.seen in
-    let outcome = c.mark_name-outcome.result in
     let cut : listed_bytes rest ≡ name ∷ more = names_cut (λ n. n.items) rest c.index-rest-0.result c.index-rest-0.result name (c.goes_on.ensures.some c.loop-rest-test.true) c.index-rest-0.is c.as_slice.ensures.value in
     let read = c.loop-rest.marking.input_read in
     let read' = c.mark_name-outcome.new.marking.input_read in
@@ -55,17 +50,17 @@ loop-rest-preserved g c =
           let both = or_parts read (is_input name) (sym c.mark_name-outcome.ensures.read ∙ unread) in
           ap g.R.Read.remaining (c.mark_name-outcome.ensures.leaves both.1) ∙ c.loop-rest.invariant.unread both.0;
       told = subst (λ (seen : Seen). TellsIf g.E.Sink IsMarkTold job.hushed seen.failed c.args.errors.now c.mark_name-outcome.new.errors) (sym c.after-seen.ensures)
-          (if-more g.E.Sink IsMarkTold job.hushed c.args.errors.now c.loop-rest.errors c.mark_name-outcome.new.errors outcome job.shown seen c.loop-rest.invariant.told c.mark_name-outcome.ensures.told);
+          (if-more g.E.Sink IsMarkTold job.hushed c.args.errors.now c.loop-rest.errors c.mark_name-outcome.new.errors _ job.shown seen c.loop-rest.invariant.told c.mark_name-outcome.ensures.told);
       so_far = λ covering by.
-          let work = mark_work job covering holds left in
+          let work = mark_work job covering _ _ in
           let before = c.loop-rest.invariant.so_far covering by in
           let so_far = subst (λ (l : List (List ℕ)). SoFar work job.shown names false first l read held seen) cut before.1 in
-          let comes = comes_left job covering holds left now name held held' read outcome c.loop-rest.invariant.unread (c.mark_name-outcome.ensures.comes covering before.0) in
-          let does = if_searched outcome _ (work.Does seen.selected name read read' held held') (λ any marks. (c.mark_name-outcome.ensures.read, marks)) comes.searched in (
+          let comes = comes_left job covering _ _ _ name held held' read _ c.loop-rest.invariant.unread (c.mark_name-outcome.ensures.comes covering before.0) in
+          let does = if_searched _ _ (work.Does seen.selected name read read' held held') (λ any marks. (c.mark_name-outcome.ensures.read, marks)) comes.searched in (
             still_marks g.A.Automaton c.loop-rest.marking.cover c.mark_name-outcome.new.marking.cover covering c.mark_name-outcome.ensures.ready.can c.mark_name-outcome.ensures.same.cover before.0,
             subst (SoFar work job.shown names false first more read' held') (sym c.after-seen.ensures)
-                (so_far_step work job.shown names false first name more read read' held held' seen outcome (c.goes_on.ensures.going c.loop-rest-test.true) so_far
-                c.mark_name-outcome.ensures.read does comes.begun (λ marks. name_has job covering holds left read name held held' marks.1)),
+                (so_far_step work job.shown names false first name more read read' held held' seen _ (c.goes_on.ensures.going c.loop-rest-test.true) so_far
+                c.mark_name-outcome.ensures.read does comes.begun (λ marks. name_has job covering _ _ read name held held' marks.1)),
           );
     }
 

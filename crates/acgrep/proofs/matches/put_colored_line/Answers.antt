@@ -9,16 +9,15 @@ returns g c =
     let held = g.W.Write.contents in
     let style = c.args.job.now.style in
     let place = c.args.place in
-    let line = c.args.line.now in
     record {
       written = λ p is.
           let shown = c.in_ok-put_matches.ensures.written p is in
           record {
             matches = shown.matches;
             found = shown.found;
-            written = Appends-trans (held c.args.output.now) (held c.put_head.new.output) (held c.write_all.new.self) (head_of style (line_number_at place) place.bytes line)
-                (colored_from style line 0 shown.matches ++ (style.ending ∷ [])) c.in_ok-put_head.ensures.written
-                (Appends-trans (held c.put_head.new.output) (held c.put_matches.new.output) (held c.write_all.new.self) (colored_from style line 0 shown.matches) (style.ending ∷ []) shown.written
+            written = Appends-trans (held c.args.output.now) (held c.put_head.new.output) (held c.write_all.new.self) (head_of style (line_number_at place) place.bytes _)
+                (colored_from style _ 0 shown.matches ++ (style.ending ∷ [])) c.in_ok-put_head.ensures.written
+                (Appends-trans (held c.put_head.new.output) (held c.put_matches.new.output) (held c.write_all.new.self) (colored_from style _ 0 shown.matches) (style.ending ∷ []) shown.written
                 c.in_ok-write_all.ensures.bytes);
           };
     }

@@ -1,5 +1,5 @@
 -- A text is written, or a search is made, and its status told.
-use Rattle.std.proofs.Common.{◌<◌, ◌∙◌, ℕ, Some, inl, refl, subst, sym}
+use Rattle.std.proofs.Common.{◌<◌, ◌∙◌, arith, ℕ, Some, inl, refl, subst, sym}
 use Rattle.std.proofs.KnownBytes.{Keeps-refl}
 use Rattle.tool_parts.specs.Telling.{TellsBytes}
 use Rattle.acgrep.specs.Beside.{unfit_said}
@@ -17,17 +17,13 @@ use Rattle.acgrep.proofs.run.answer.Goals as goal
 pub returns-then-given-clause-told : goal.returns-then-given-clause-told
 returns-then-given-clause-told g c = λ by.
     let given = said c.args.given in
-    let known = known_by g.F.Open g.F.Folders c.args.files.now in
-    let left = g.R.Read.remaining c.args.input.now in
-    status-weaker g.E.Sink (MayTell (names_said (Some given))) (MaySaid known left (Some given)) given.flags.no_messages (shown_by given.flags) c.write_text.result c.args.errors.now c.write_text.new.errors
+    status-weaker g.E.Sink (MayTell (names_said (Some given))) (MaySaid _ _ (Some given)) given.flags.no_messages (shown_by given.flags) c.write_text.result c.args.errors.now c.write_text.new.errors
     (λ line is. inl is) (c.write_text.ensures.told given.flags.no_messages (shown_by given.flags) (names_said (Some given)))
 
 pub returns-then-given-2-clause-told : goal.returns-then-given-2-clause-told
 returns-then-given-2-clause-told g c = λ by.
     let given = said c.args.given in
-    let known = known_by g.F.Open g.F.Folders c.args.files.now in
-    let left = g.R.Read.remaining c.args.input.now in
-    status-weaker g.E.Sink (MayTell (names_said (Some given))) (MaySaid known left (Some given)) given.flags.no_messages (shown_by given.flags) c.write_text-then-given-2.result c.args.errors.now c.write_text-then-given-2.new.errors
+    status-weaker g.E.Sink (MayTell (names_said (Some given))) (MaySaid _ _ (Some given)) given.flags.no_messages (shown_by given.flags) c.write_text-then-given-2.result c.args.errors.now c.write_text-then-given-2.new.errors
     (λ line is. inl is) (c.write_text-then-given-2.ensures.told given.flags.no_messages (shown_by given.flags) (names_said (Some given)))
 
 pub returns-then-given-clause-searches : goal.returns-then-given-clause-searches
@@ -55,29 +51,22 @@ returns-clause-told g c = λ by.
     c.args.errors.now c.search_ruled-status.new.errors c.search_ruled-status.ensures.told)
 
 -- options that do not go together are told
-pub returns-in-Some-clause-unfit : goal.returns-in-Some-clause-unfit
-returns-in-Some-clause-unfit g c = λ asks. some_all (unfit_said (said c.args.given)) _ refl
-
-pub returns-in-Some-clause-unfitting : goal.returns-in-Some-clause-unfitting
-returns-in-Some-clause-unfitting g c = λ asks. some_unfit c.in-Some.unfit (unfit_said (said c.args.given)) (TellsBytes g.E.Sink c.args.errors.now c.tell_unfit.new.errors) c.in-Some.ensures.unfit c.tell_unfit.ensures.told
-
-pub returns-in-Some-clause-searches : goal.returns-in-Some-clause-searches
-returns-in-Some-clause-searches g c = λ asks low. unfit_fits c.in-Some.unfit (unfit_said (said c.args.given)) c.in-Some.ensures.unfit asks.fits
-
-pub returns-in-Some-clause-marks : goal.returns-in-Some-clause-marks
-returns-in-Some-clause-marks g c = λ asks low. unfit_fits c.in-Some.unfit (unfit_said (said c.args.given)) c.in-Some.ensures.unfit asks.fits
-
-pub returns-in-Some-clause-begins : goal.returns-in-Some-clause-begins
-returns-in-Some-clause-begins g c = λ asks. inl (Keeps-refl (g.W.Sink.taken c.args.output.now))
-
-pub returns-in-Some-clause-begins_marks : goal.returns-in-Some-clause-begins_marks
-returns-in-Some-clause-begins_marks g c = λ asks. inl (Keeps-refl (g.W.Sink.taken c.args.output.now))
-
-pub returns-in-Some-clause-lacking : goal.returns-in-Some-clause-lacking
-returns-in-Some-clause-lacking g c = λ asks none. unfit_fits c.in-Some.unfit (unfit_said (said c.args.given)) c.in-Some.ensures.unfit asks.fits
-
-pub returns-in-Some-clause-told : goal.returns-in-Some-clause-told
-returns-in-Some-clause-told g c = λ by. unfit_fits c.in-Some.unfit (unfit_said (said c.args.given)) c.in-Some.ensures.unfit by.1
+pub returns-in-Some : goal.returns-in-Some
+returns-in-Some g c =
+    let unfit = unfit_said (said c.args.given) in
+    record {
+      bound = omega arith;
+      patternless = λ asks none. refl;
+      lacking = λ asks none. unfit_fits c.in-Some.unfit unfit c.in-Some.ensures.unfit asks.fits;
+      searches = λ asks low. unfit_fits c.in-Some.unfit unfit c.in-Some.ensures.unfit asks.fits;
+      begins = λ asks. inl (Keeps-refl _);
+      unfit = λ asks. some_all unfit _ refl;
+      unfitting = λ asks. some_unfit c.in-Some.unfit unfit (TellsBytes g.E.Sink c.args.errors.now c.tell_unfit.new.errors) c.in-Some.ensures.unfit c.tell_unfit.ensures.told;
+      marks = λ asks low. unfit_fits c.in-Some.unfit unfit c.in-Some.ensures.unfit asks.fits;
+      begins_marks = λ asks. inl (Keeps-refl _);
+      told_marks = λ asks. unfit_fits c.in-Some.unfit unfit c.in-Some.ensures.unfit asks.fits;
+      told = λ by. unfit_fits c.in-Some.unfit unfit c.in-Some.ensures.unfit by.1;
+    }
 
 -- by rules files are searched so
 pub returns-then-given-3-clause-marks : goal.returns-then-given-3-clause-marks
@@ -104,9 +93,6 @@ returns-then-given-clause-told_marks g c = λ asks. absurd (true≢false (sym c.
 
 pub returns-then-given-2-clause-told_marks : goal.returns-then-given-2-clause-told_marks
 returns-then-given-2-clause-told_marks g c = λ asks. absurd (true≢false (sym c.if-given-2.true ∙ asks.asks.no_help))
-
-pub returns-in-Some-clause-told_marks : goal.returns-in-Some-clause-told_marks
-returns-in-Some-clause-told_marks g c = λ asks. unfit_fits c.in-Some.unfit (unfit_said (said c.args.given)) c.in-Some.ensures.unfit asks.fits
 
 pub returns-then-given-3-clause-told_marks : goal.returns-then-given-3-clause-told_marks
 returns-then-given-3-clause-told_marks g c = λ asks.

@@ -25,7 +25,6 @@ use Rattle.acgrep.proofs.run.run.Goals as goal
 
 pub returns-in-Ok : goal.returns-in-Ok
 returns-in-Ok g c =
-    let arguments = listed_bytes c.args.arguments.now in
     let known = known_by g.F.Open g.F.Folders c.args.files.now in
     let screen = c.args.screen.now in
     let mine = said c.in-Ok.given in
@@ -33,7 +32,6 @@ returns-in-Ok g c =
     let left = g.R.Read.remaining c.args.input.now in
     let left' = g.R.Read.remaining c.answer-status.new.input in
     let held = g.W.Sink.taken c.args.output.now in
-    let held' = g.W.Sink.taken c.answer-status.new.output in
     let held'' = g.W.Sink.taken c.finish.new.output in
     let old = c.args.errors.now in
     let mid = c.answer-status.new.errors in
@@ -41,7 +39,7 @@ returns-in-Ok g c =
     let found = c.answer-status.result in
     let names = names_said (Some mine) in
     let bound : c.finish.result ≤ 2 = elim c.finish.ensures.status [ inl kept ↦ omega (arith, kept, c.answer-status.ensures.bound) | inr two ↦ omega (arith, two) ] in
-    let same = λ (given : Said) (is : said_by arguments ≡ Some given). same_said (said_by arguments) given mine is c.in-Ok.ensures.read in
+    let same = λ (given : Said) (is : said_by _ ≡ Some given). same_said (said_by _) given mine is c.in-Ok.ensures.read in
     let status : c.finish.result < 2 → c.finish.result ≡ found = λ low. elim c.finish.ensures.status [ inl kept ↦ kept | inr two ↦ absurd (omega (arith, low, two)) ] in
     let two : found ≡ 2 → c.finish.result ≡ 2 = λ two. elim c.finish.ensures.status [ inl kept ↦ kept ∙ two | inr failed ↦ failed ] in
     let unsaid : found ≡ 2 → new ≡ mid = λ two. c.finish.ensures.told_before (omega (arith, two)) in
@@ -73,18 +71,18 @@ returns-in-Ok g c =
           inr (subst (TellsNoPattern g.E.Sink old) (sym (unsaid (c.answer-status.ensures.patternless asks' none'))) (c.answer-status.ensures.lacking asks' none'));
       searches = λ given is asks low.
           let done = c.answer-status.ensures.searches (subst AsksToSearch (sym (same given is)) asks) (subst (λ (n : ℕ). n < 2) (status low) low) in
-          let kept : Searches known screen mine left left' held held'' found = (done.0, ruled_kept held' held'' c.finish.ensures.kept known screen mine left left' held done.0 done.1, done.2) in
+          let kept : Searches known screen mine left left' held held'' found = (done.0, ruled_kept _ held'' c.finish.ensures.kept known screen mine left left' held done.0 done.1, done.2) in
           subst (λ (n : ℕ). Searches known screen given left left' held held'' n) (sym (status low)) (subst (λ (s : Said). Searches known screen s left left' held held'' found) (same given is) kept);
       begins = λ given is asks.
           subst (λ (s : Said). BeginsSearch known screen s left held held'') (same given is)
-          (search_held held' held'' c.finish.ensures.kept known screen mine left held (c.answer-status.ensures.begins (subst AsksToSearch (sym (same given is)) asks)));
+          (search_held _ held'' c.finish.ensures.kept known screen mine left held (c.answer-status.ensures.begins (subst AsksToSearch (sym (same given is)) asks)));
       marks = λ given is asks low.
           let done = c.answer-status.ensures.marks (subst AsksByRules (sym (same given is)) asks) (subst (λ (n : ℕ). n < 2) (status low) low) in
           subst (λ (n : ℕ). SearchesByRules known screen given left held held'' n) (sym (status low))
-          (subst (λ (s : Said). SearchesByRules known screen s left held held'' found) (same given is) (by_rules_kept held' held'' c.finish.ensures.kept known screen mine left held found done));
+          (subst (λ (s : Said). SearchesByRules known screen s left held held'' found) (same given is) (by_rules_kept _ held'' c.finish.ensures.kept known screen mine left held found done));
       begins_marks = λ given is asks.
           subst (λ (s : Said). BeginsByRules known screen s left held held'') (same given is)
-          (begun_by_rules held' held'' c.finish.ensures.kept known screen mine left held (c.answer-status.ensures.begins_marks (subst AsksByRules (sym (same given is)) asks)));
+          (begun_by_rules _ held'' c.finish.ensures.kept known screen mine left held (c.answer-status.ensures.begins_marks (subst AsksByRules (sym (same given is)) asks)));
       tells = λ by.
           subst (λ (given : Option Said). Tells g.E.Sink (MaySaid known left given) old new) (sym c.in-Ok.ensures.read) (told (subst IsByPatterns c.in-Ok.ensures.read by)).tells;
       silent = λ given is by loud low.

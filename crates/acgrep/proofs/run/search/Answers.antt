@@ -1,15 +1,15 @@
 -- The searcher was built from the lines that were read.
-use Rattle.std.proofs.Common.{◌≡◌, ◌∙◌, arith, List, [], ℕ, false, true, ap, inl, inr, refl, subst, sym}
+use Rattle.std.proofs.Common.{◌≡◌, ◌∙◌, arith, List, ℕ, false, true, ap, inl, inr, refl, subst, sym}
 use Rattle.std.proofs.KnownBytes.{Keeps-refl}
 use Rattle.std.proofs.lemmas.Bool.{and_parts}
 use Rattle.aho_core.specs.Replacement.{pieces_of}
 use Rattle.chromesquid.specs.Searcher.{IsBuiltFrom}
 use Rattle.tool_parts.specs.Names.{name_bytes}
 use Rattle.tool_parts.specs.declared.errors.Errors.{Errors}
-use Rattle.acgrep.specs.Arguments.{ending_by, fit_by, said, shown_by}
+use Rattle.acgrep.specs.Arguments.{fit_by, said, shown_by}
 use Rattle.acgrep.specs.Folders.{known_by, tree_of}
-use Rattle.acgrep.specs.Lines.{AreFreeOf, lines}
-use Rattle.acgrep.specs.Runs.{AreSought, BeginsNoMatch, BeginsOrCounts, BeginsOrKeeps, ReachesOrCounts, SearchesReached, WritesNoMatch, inverts, kind_sought, knows_none, origins_of, words_sought}
+use Rattle.acgrep.specs.Lines.{lines}
+use Rattle.acgrep.specs.Runs.{AreSought, BeginsNoMatch, BeginsOrKeeps, SearchesReached, WritesNoMatch, inverts, kind_sought, knows_none, origins_of, words_sought}
 use Rattle.acgrep.specs.Searchers.{patterns_asked}
 use Rattle.acgrep.specs.Told.{MaySay, TellsStatus, source_names}
 use Rattle.acgrep.proofs.OrCounted.{counts-of, no-match, no-match-begins, none-told}
@@ -37,13 +37,10 @@ returns-in-Ok-searcher_of g c =
     let sought = words_sought flags text in
     let left = g.R.Read.remaining c.read_keys.new.input in
     let left' = g.R.Read.remaining c.search_or_count.new.input in
-    let held = g.W.Sink.taken c.args.output.now in
-    let held' = g.W.Sink.taken c.search_or_count.new.output in
     let status = c.search_or_count.result in
-    let May = MaySay known.tree given (origins_of c.args.sources.now) names in
     let all : pieces_of c.as_slice-all.result.now ≡ text = ap pieces_of c.as_slice-all.ensures.value ∙ c.in-Ok.ensures.lines ∙ ap (lines 10) c.as_slice.ensures.value in
     let same : pieces_of c.sought-words.result.now ≡ sought = c.sought-words.ensures.words ∙ ap (words_sought flags) all in
-    let free : AreFreeOf (ending_by flags) sought = subst (AreFreeOf (ending_by flags)) same (subst (λ (n : ℕ). AreFreeOf n (pieces_of c.sought-words.result.now)) c.ending.ensures.ending (c.first_holding.ensures.none c.in_default-first_holding.is)) in
+    let free = rw (c.ending.ensures.ending, same) at c.first_holding.ensures.none c.in_default-first_holding.is in
     let asked = patterns_asked (kind_sought flags) flags.ignore_case sought in
     let built : IsBuiltFrom c.in-Ok-searcher_of.searcher asked = rw (c.kind_sought.ensures, same) at c.in-Ok-searcher_of.ensures.of in
     let plain = free_plain flags (kind_sought flags) flags.ignore_case sought free in
@@ -55,18 +52,16 @@ returns-in-Ok-searcher_of g c =
         between = left;
         read = c.in-Some.ensures.words;
         searched = counts-of flags text (λ old new. SearchesReached known screen given asked names left left' old new status)
-            (λ old new. AreSought known screen given sought names left left' old new status) (λ old new found. rw some found) held held'
-            (subst (λ (l : List (List ℕ)). ReachesOrCounts known screen given asked l names left left' held held' status) all (c.search_or_count.ensures.searched asked built plain low));
+            (λ old new. AreSought known screen given sought names left left' old new status) (λ old new found. rw some found) _ _ (rw all at c.search_or_count.ensures.searched _ built plain low);
       };
       begins = inr (record {
         words = text;
         between = left;
         read = c.in-Some.ensures.words;
-        begun = subst (λ (l : List (List ℕ)). BeginsOrCounts known screen given asked l names left held held') all (c.search_or_count.ensures.begun asked built plain);
+        begun = rw all at c.search_or_count.ensures.begun _ built plain;
       });
-      told = subst (λ (e : Errors g.row.E.Denot). TellsStatus g.E.Sink May flags.no_messages (shown_by flags) status e c.search_or_count.new.errors) (c.in-Some.ensures.silent refl)
-          (status-weaker g.E.Sink (MaySay known.tree given [] names) May flags.no_messages (shown_by flags) status c.read_keys.new.errors c.search_or_count.new.errors
-          (may-behind known.tree given (origins_of c.args.sources.now) names) c.search_or_count.ensures.told);
+      told = status-weaker g.E.Sink _ _ flags.no_messages (shown_by flags) _ _ _ (may-behind known.tree given (origins_of c.args.sources.now) names)
+          (rw (c.in-Some.ensures.silent refl) at c.search_or_count.ensures.told);
     }
 
 -- or it is known that no line is selected

@@ -20,9 +20,8 @@ returns-in-None-clause-begins g c = inl (Keeps-refl (g.W.Sink.taken c.args.outpu
 
 pub returns-in-None-clause-told : goal.returns-in-None-clause-told
 returns-in-None-clause-told g c =
-    let tree = tree_of g.F.Folders c.args.files.now in
     let given = said c.args.given.now in
-    let May = MaySay tree given (sources_by given.sources given.operands) (names_by given.sources given.operands) in
+    let May = MaySay _ given (sources_by given.sources given.operands) (names_by given.sources given.operands) in
     status-some g.E.Sink May c.args.given.now.flags.no_messages (shown_by c.args.given.now.flags) c.args.errors.now c.tell_wrong.new.errors
     (some-one g.E.Sink May c.args.errors.now c.tell_wrong.new.errors (concat (wrong_parts NoPattern)) (inl (inr (NoPattern, refl))) c.tell_wrong.ensures.told)
 

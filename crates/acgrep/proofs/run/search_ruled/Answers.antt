@@ -36,12 +36,10 @@ returns-then-gives_none-clause-told g c =
 pub returns-in_default-clause-told : goal.returns-in_default-clause-told
 returns-in_default-clause-told g c =
     let given = said c.args.given in
-    let known = known_by g.F.Open g.F.Folders c.args.files.now in
-    let left = g.R.Read.remaining c.args.input.now in
-    let May = MaySaid known left (Some given) in
+    let May = MaySaid _ _ (Some given) in
     let same : rules_said c.as_slice-rules.result.now ≡ given.rules = ap rules_said c.as_slice-rules.ensures.value in
     status-some g.E.Sink May given.flags.no_messages (shown_by given.flags) c.args.errors.now c.read_globs.new.errors
-    (some-weaker g.E.Sink (IsMessage (rule_files given.rules)) May c.args.errors.now c.read_globs.new.errors (may-rules known left given)
+    (some-weaker g.E.Sink (IsMessage (rule_files given.rules)) May c.args.errors.now c.read_globs.new.errors (may-rules _ _ given)
     (subst (λ (l : List RuleSaid). TellsSome g.E.Sink (IsMessage (rule_files l)) c.args.errors.now c.read_globs.new.errors) same (c.in_default.ensures.told refl)))
 
 pub returns-in_default-expanded-clause-told : goal.returns-in_default-expanded-clause-told

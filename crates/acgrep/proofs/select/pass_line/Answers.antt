@@ -27,8 +27,7 @@ returns-then-selects-clause-begun g c = λ p is matched.
 
 pub returns-clause-written : goal.returns-clause-written
 returns-clause-written g c = λ p is matched.
-    let held = g.W.Sink.taken c.args.output.now in
     let job = c.args.job.now in
     let line = c.args.line.now in
     let passed : IsPassedOver p job.fit job.invert line = passed_by p job.fit job.invert c.args.matched line matched (sym c.selects.ensures.selects ∙ c.if-selects.false) in
-    one_passed p job c.args.state.now _ held held line passed refl refl
+    one_passed p job c.args.state.now _ _ _ line passed refl refl

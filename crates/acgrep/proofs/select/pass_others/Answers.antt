@@ -6,5 +6,4 @@ use Rattle.acgrep.proofs.select.pass_others.Goals as goal
 
 pub returns-clause-written : goal.returns-clause-written
 returns-clause-written g c = λ p is each.
-    let held = g.W.Sink.taken c.args.output.now in
-    all_passed p c.args.job.now c.args.state.now c.skip.new.state held held (lines c.args.job.now.style.ending c.args.text.now) c.if-job.false each c.skip.ensures.selected refl
+    all_passed p c.args.job.now c.args.state.now c.skip.new.state _ _ (lines c.args.job.now.style.ending c.args.text.now) c.if-job.false each c.skip.ensures.selected refl

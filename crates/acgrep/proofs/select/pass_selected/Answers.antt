@@ -35,8 +35,7 @@ returns-clause-shown g c = λ p is.
 
 pub returns-in_err-put_shown-clause-begun : goal.returns-in_err-put_shown-clause-begun
 returns-in_err-put_shown-clause-begun g c = λ p is selected.
-    let held = g.W.Sink.taken c.args.output.now in
-    on_err c.from_residual.result (begins_nothing (TellsFrom p c.args.job.now None c.args.state.now c.args.state.now.selected) (c.args.line.now ∷ []) held held [] (refl, refl) (Appends-nil held))
+    on_err c.from_residual.result (begins_nothing (TellsFrom p c.args.job.now None c.args.state.now c.args.state.now.selected) (c.args.line.now ∷ []) _ _ [] (refl, refl) (Appends-nil _))
 
 pub returns-in_err-write_whole-clause-begun : goal.returns-in_err-write_whole-clause-begun
 returns-in_err-write_whole-clause-begun g c = λ p is selected.

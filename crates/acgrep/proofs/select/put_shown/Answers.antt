@@ -42,15 +42,13 @@ returns-in-Objects g c =
 pub returns-in_default : goal.returns-in_default
 returns-in_default g c =
     let job = c.args.job.now in
-    let place = c.args.place in
-    let line = c.args.line.now in
     let same = Appends-nil (g.W.Write.contents c.args.output.now) in
     record {
       shown = λ p is.
           elim c.in_default.branch [
-            | in_default-via-in-Matches+else-not-job w ↦ ([], nothing_of_matches p job place line w.in-Matches.is w.if-not-job.false, same)
-            | in_default-via-in-Objects+else-not-job-2 w ↦ ([], nothing_of_objects p job place line w.in-Objects.is w.if-not-job-2.false, same)
+            | in_default-via-in-Matches+else-not-job w ↦ ([], nothing_of_matches p job _ _ w.in-Matches.is w.if-not-job.false, same)
+            | in_default-via-in-Objects+else-not-job-2 w ↦ ([], nothing_of_objects p job _ _ w.in-Objects.is w.if-not-job-2.false, same)
             | in_default-via-in_default w ↦
-                ([], nothing_else p job.shown (asks_alone job.fit) job.invert job.style place line w.in_default.not-Lines w.in_default.not-Matches w.in_default.not-Objects, same)
+                ([], nothing_else p job.shown (asks_alone job.fit) job.invert job.style _ _ w.in_default.not-Lines w.in_default.not-Matches w.in_default.not-Objects, same)
           ];
     }

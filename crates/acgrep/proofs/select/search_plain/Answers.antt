@@ -13,7 +13,6 @@ loop-rest-init g c = record {
 
 pub loop-rest-preserved : goal.loop-rest-preserved
 loop-rest-preserved g c =
-    let text = c.args.text.now in
     let done = c.in_ok-rest.ensures in
     record {
       none = λ p is plain invert part zero.
@@ -24,7 +23,7 @@ loop-rest-preserved g c =
           ];
       searched = λ p is plain. searches_join p c.args.job.now c.args.state.now c.loop-rest.state c.search_some.new.state
           (g.W.Sink.taken c.args.output.now) (g.W.Sink.taken c.loop-rest.output) (g.W.Sink.taken c.search_some.new.output)
-          text c.loop-rest.rest.now c.in_ok-rest.rest.now (c.loop-rest.invariant.searched p is plain) (c.goes_on.ensures.some c.loop-rest-test.true) (done.written p is plain);
+          _ c.loop-rest.rest.now c.in_ok-rest.rest.now (c.loop-rest.invariant.searched p is plain) (c.goes_on.ensures.some c.loop-rest-test.true) (done.written p is plain);
     }
 
 pub returns-clause-written : goal.returns-clause-written

@@ -10,11 +10,10 @@ use Rattle.acgrep.proofs.walk.take.Goals as goal
 
 pub returns-then-is_spot_left : goal.returns-then-is_spot_left
 returns-then-is_spot_left g c =
-    let tree = tree_of g.F.Folders c.args.files.now in
     let spot = spot_of c.args.spot in
     let rules = rules_said c.args.rules.now in
     let out : is_spot_left rules (is_folder c.args.kind) spot ≡ true = sym (c.is_spot_left.ensures.left ∙ ap (λ (b : Bool). is_spot_left rules b spot) c.is_folder.ensures) ∙ c.if-is_spot_left.true in
-    record { finds = finds-left tree rules c.args.ways spot (spots_of c.args.pending.now.items) c.args.found.now c.args.found.now c.args.kind c.requires.other c.requires.kind out }
+    record { finds = finds-left _ rules c.args.ways spot (spots_of c.args.pending.now.items) c.args.found.now c.args.found.now c.args.kind c.requires.other c.requires.kind out }
 
 pub returns-then-is_folder : goal.returns-then-is_folder
 returns-then-is_folder g c =
@@ -32,7 +31,6 @@ returns-then-is_folder g c =
 
 pub returns-then-is_searched : goal.returns-then-is_searched
 returns-then-is_searched g c =
-    let tree = tree_of g.F.Folders c.args.files.now in
     let spot = spot_of c.args.spot in
     let rules = rules_said c.args.rules.now in
     let searched : is_searched c.args.kind (reads_devices c.args.ways spot) ≡ true = sym (ap (is_searched c.args.kind) c.reads_devices.ensures) ∙ sym c.is_searched.ensures ∙ c.if-is_searched.true in
@@ -40,20 +38,19 @@ returns-then-is_searched g c =
     let kept : is_spot_left rules false spot ≡ false = sym (c.is_spot_left.ensures.left ∙ ap (λ (b : Bool). is_spot_left rules b spot) (c.is_folder.ensures ∙ plain)) ∙ c.if-is_spot_left.false in
     record {
       finds = on_ok_weaker c.add.result
-          (λ grown. finds-looked tree rules c.args.ways spot (spots_of c.args.pending.now.items) c.args.found.now c.add.new.self c.args.kind c.requires.other c.requires.kind
+          (λ grown. finds-looked _ rules c.args.ways spot (spots_of c.args.pending.now.items) c.args.found.now c.add.new.self c.args.kind c.requires.other c.requires.kind
           plain kept (rw searched grown) c.add.ensures.unread)
           c.add.ensures.names;
     }
 
 pub returns : goal.returns
 returns g c =
-    let tree = tree_of g.F.Folders c.args.files.now in
     let spot = spot_of c.args.spot in
     let rules = rules_said c.args.rules.now in
     let passed : is_searched c.args.kind (reads_devices c.args.ways spot) ≡ false = sym (ap (is_searched c.args.kind) c.reads_devices.ensures) ∙ sym c.is_searched.ensures ∙ c.if-is_searched.false in
     let plain : is_folder c.args.kind ≡ false = sym c.is_folder-2.ensures ∙ c.if-is_folder.false in
     let kept : is_spot_left rules false spot ≡ false = sym (c.is_spot_left.ensures.left ∙ ap (λ (b : Bool). is_spot_left rules b spot) (c.is_folder.ensures ∙ plain)) ∙ c.if-is_spot_left.false in
     record {
-      finds = finds-looked tree rules c.args.ways spot (spots_of c.args.pending.now.items) c.args.found.now c.args.found.now c.args.kind c.requires.other c.requires.kind
+      finds = finds-looked _ rules c.args.ways spot (spots_of c.args.pending.now.items) c.args.found.now c.args.found.now c.args.kind c.requires.other c.requires.kind
           plain kept (rw passed (sym (append-nil (listed_bytes c.args.found.now.names.items)))) refl;
     }
