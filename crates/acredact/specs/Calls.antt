@@ -9,6 +9,7 @@ use Rattle.aho_core.specs.declared.error.BuildError.{BuildError}
 use Rattle.aho_devices.specs.Counts.{counted}
 use Rattle.aho_devices.specs.declared.adapters.FromWrite.{FromWrite}
 use Rattle.aho_devices.specs.declared.device.Sink.{Ghosts as SinkGhosts}
+use Rattle.tool_parts.specs.Building.{RefusesPatterns}
 use Rattle.tool_parts.specs.Names.{IsOneOf, or_input}
 use Rattle.tool_parts.specs.Streams.{output_bytes, bytes_left}
 use Rattle.tool_parts.specs.Telling.{Tells, TellsBytes, TellsSome}
@@ -18,7 +19,7 @@ use Rattle.tool_parts.specs.declared.failure.Failure.TheVariants.{Build, OutOfMe
 use Rattle.tool_parts.specs.declared.reason.Reason.{Reason}
 use Rattle.acredact.specs.Arguments.{Given, GivesNoPattern, RefusesUnclean, all_given, counts_asked, covers_asked, has, is_same, last_value, words_asked}
 use Rattle.acredact.specs.Bounds.{NumbersOfAll, ReadInAll}
-use Rattle.acredact.specs.Builds.{RefusesPatterns, patterns_by_given}
+use Rattle.acredact.specs.Builds.{patterns_by_given}
 use Rattle.acredact.specs.Counts.{secret_lines, lines_of_rules}
 use Rattle.acredact.specs.Doubts.{IsDoubtFailure, TellsWarnings, all_doubt_lines}
 use Rattle.acredact.specs.Failures.{IsFailureLine}

@@ -51,7 +51,6 @@ mod run;
 mod run_counts;
 mod run_pieces;
 mod run_summary;
-mod searcher;
 mod secrets;
 mod seen;
 mod short;

@@ -20,11 +20,11 @@ use crate::failure::{Failure, tell_unclean};
 use crate::files::Job;
 use crate::folder::Folder;
 use crate::patterns::{Rule, patterns_of, replacements_of};
-use crate::searcher::searcher_of;
 use crate::secrets::{Secrets, key_bytes};
 use crate::ways::Key;
 use chromesquid::{AhoCorasick, Automaton, MatchKind, Sink};
 use std::alloc::{AllocError, Global};
+use tool_parts::building::searcher_of;
 use tool_parts::errors::Errors;
 
 /// What is written in the place of a match, where nothing else is given.

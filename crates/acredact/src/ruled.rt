@@ -28,7 +28,6 @@ use crate::ruled_files::{cover_files, lined_of};
 use crate::run::FAILED;
 use crate::run_counts::tell_runs;
 use crate::run_pieces::RunPieces;
-use crate::searcher::searcher_of;
 use crate::secrets::name_key;
 use crate::streams::Streams;
 use crate::summary::Volume;
@@ -37,6 +36,7 @@ use chromesquid::{AhoCorasick, Automaton, BuildError, MatchKind, Sink};
 use secret_rules::{Rule as LineRule, Rules};
 use std::alloc::{AllocError, Global};
 use std::io::{Read, Write};
+use tool_parts::building::searcher_of;
 use tool_parts::errors::Errors;
 
 /// Redacts each file by rules, line by line, and answers the exit status: 0 where all was redacted, and 2 where rules or patterns are

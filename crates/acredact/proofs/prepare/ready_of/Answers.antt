@@ -4,9 +4,10 @@ use Rattle.std.specs.Prelude.{Bool, Err, IfErr}
 use Rattle.aho_core.specs.Replacement.{pieces_of}
 use Rattle.aho_core.specs.declared.search.MatchKind.{MatchKind}
 use Rattle.chromesquid.specs.Searcher.{IsBuiltFrom}
+use Rattle.tool_parts.specs.Building.{RefusesPatterns, patterns_by_kind}
 use Rattle.tool_parts.specs.declared.failure.Failure.TheVariants.{Build}
 use Rattle.acredact.specs.Arguments.{all_given, has}
-use Rattle.acredact.specs.Builds.{RefusesPatterns, patterns_by_kind, patterns_by_given}
+use Rattle.acredact.specs.Builds.{patterns_by_given}
 use Rattle.acredact.specs.Checks.{IsBuildFailure}
 use Rattle.acredact.specs.Tables.{patterns_in, piece_by, secrets_of}
 use Rattle.acredact.specs.declared.arguments.Word.TheVariants.{IgnoreCase}

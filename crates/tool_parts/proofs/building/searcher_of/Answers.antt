@@ -3,7 +3,7 @@ use Rattle.std.proofs.Common.{ap, ◌∙◌}
 use Rattle.aho_core.specs.declared.search.Anchored.TheVariants.{No}
 use Rattle.chromesquid.specs.Searcher.{Building, allows}
 use Rattle.std.proofs.lemmas.Result.{IfOk-weaker}
-use Rattle.acredact.proofs.searcher.searcher_of.Goals as goal
+use Rattle.tool_parts.proofs.building.searcher_of.Goals as goal
 
 pub returns : goal.returns
 returns c = record {

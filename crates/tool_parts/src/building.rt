@@ -1,10 +1,11 @@
-//! The searcher of a call. The builder of `chromesquid` decides by what it searches; no answer depends on that.
+//! The searcher of the patterns of `acgrep` and `acredact`. The builder of `chromesquid` decides by what it searches; no answer depends on
+//! that.
 
 ghost use Rattle.std.specs.Prelude.{◌≡◌, IfErr, IfOk, true};
 ghost use Rattle.aho_core.specs.Replacement.{pieces_of};
 ghost use Rattle.aho_core.specs.declared.search.Anchored.TheVariants.{No};
 ghost use Rattle.chromesquid.specs.Searcher.{Answers, IsBuiltFrom};
-ghost use Rattle.acredact.specs.Builds.{RefusesPatterns, building_of_kind, patterns_by_kind};
+ghost use Rattle.tool_parts.specs.Building.{RefusesPatterns, building_by_kind, patterns_by_kind};
 
 use chromesquid::{AhoCorasick, AhoCorasickBuilder, BuildError, MatchKind};
 use std::alloc::Global;
@@ -32,7 +33,7 @@ pub fn searcher_of(
 
 /// How it is built.
 fn builder_for(kind: MatchKind, ignore_case: bool, finds_all: bool) -> AhoCorasickBuilder
-    ensures asked { result ≡ building_of_kind kind ignore_case finds_all }
+    ensures asked { result ≡ building_by_kind kind ignore_case finds_all }
 {
     AhoCorasickBuilder::new()
         .match_kind(kind)
