@@ -541,6 +541,12 @@ static void shares(void) {
     cs_free(&other);
 }
 
+/* The first of two statuses that tells of no memory, which each of them may alone. */
+static uint32_t first_of(uint32_t status, uint32_t next) {
+    HAS(next == CS_DONE || next == CS_NO_MEMORY);
+    return status == CS_DONE ? next : status;
+}
+
 /* Tells a count of matches for memory that is refused: what was built, or why not. */
 static int refused(void) {
     cs_searcher it = CS_SEARCHER_INIT, other = CS_SEARCHER_INIT;
@@ -558,16 +564,12 @@ static int refused(void) {
     if (status == CS_DONE) {
         status = cs_share(&it, &other);
         HAS(status == CS_DONE ? other.full : status == CS_NO_MEMORY && !other.full);
-        uint32_t replaced = cs_replace_all(&it, BYTES("frodo, samwise"), others, 4, room, 64, &len);
-        HAS(replaced == CS_DONE || replaced == CS_NO_MEMORY);
-        status = status == CS_DONE ? replaced : status;
-        uint32_t covered = cs_cover_all(&it, BYTES("frodo, samwise"), others, 4, room, 64, &len);
-        HAS(covered == CS_DONE || covered == CS_NO_MEMORY);
-        status = status == CS_DONE ? covered : status;
+        status = first_of(status, cs_replace_all(&it, BYTES("frodo, samwise"), others, 4, room, 64, &len));
+        status = first_of(status, cs_cover_all(&it, BYTES("frodo, samwise"), others, 4, room, 64, &len));
         size_t ends[2], count = 0;
         uint32_t formed = cs_forms(BYTES("key/+"), CS_FORM_HEX, room, 64, ends, 2, &len, &count);
-        HAS(formed == CS_DONE ? count == 2 && len == 20 : formed == CS_NO_MEMORY && count == 0);
-        status = status == CS_DONE ? formed : status;
+        HAS(formed == CS_DONE ? count == 2 && len == 20 : count == 0);
+        status = first_of(status, formed);
     }
     cs_stream stream = CS_STREAM_INIT;
     if (status == CS_DONE) {
@@ -618,10 +620,7 @@ static void answers(cs_searcher *it, const cs_slice *words, size_t count, const 
     static cs_match matches[MATCHES];
     static uint8_t room[LARGE];
     uint32_t (*lists[])(cs_searcher *, const uint8_t *, size_t, cs_match *, size_t, size_t *) = { cs_find_all, cs_overlapping };
-    uint32_t (*replaces[])(cs_searcher *, const uint8_t *, size_t, const cs_slice *, size_t, uint8_t *, size_t, size_t *) = {
-        cs_replace_all,
-        cs_cover_all,
-    };
+    uint32_t (*replaces[])(cs_searcher *, const uint8_t *, size_t, const cs_slice *, size_t, uint8_t *, size_t, size_t *) = { cs_replace_all, cs_cover_all };
     cs_stream stream = CS_STREAM_INIT;
     for (int way = 0; way < 2; way++) {
         size_t found = 0, put_there = 0;
@@ -659,19 +658,7 @@ static int random_calls(int calls) {
 int main(int count, char **words) {
     if (count > 1 && !strcmp(words[1], "refused")) return refused();
     if (count > 2 && !strcmp(words[1], "random")) return random_calls(atoi(words[2]));
-    none();
-    builds();
-    errors();
-    finds();
-    searches();
-    lists();
-    states();
-    replaces();
-    covers();
-    forms();
-    streams();
-    replaced_streams();
-    tells();
-    shares();
+    void (*rows[])(void) = { none, builds, errors, finds, searches, lists, states, replaces, covers, forms, streams, replaced_streams, tells, shares };
+    for (size_t at = 0; at < sizeof rows / sizeof *rows; at++) rows[at]();
     return 0;
 }
