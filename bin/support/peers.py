@@ -19,11 +19,7 @@ edition = "2021"
 aho-corasick = "0.7"
 [workspace]
 """
-RUST_REGISTRY = """[source.crates-io]
-replace-with = "debian"
-[source.debian]
-directory = "%s"
-""" % REGISTRY
+RUST_REGISTRY = f"[source.crates-io]\nreplace-with = 'debian'\n[source.debian]\ndirectory = '{REGISTRY}'\n"
 RUST_MAIN = r"""use aho_corasick::{AhoCorasickBuilder, MatchKind};
 extern "C" {
     fn clock() -> i64;
@@ -159,10 +155,6 @@ def made(make, room):
 
 def tools():
     """The versions of the tools that are there, by their names."""
-    seen = {}
-    for name, word, known in TOOLS:
-        said = subprocess.run([word, "--version"], capture_output=True, text=True).stdout if shutil.which(word) else ""
-        found = re.search(known, said)
-        if found:
-            seen[name] = found[1]
-    return seen
+    there = [(name, word, known) for name, word, known in TOOLS if shutil.which(word)]
+    seen = {name: re.search(known, subprocess.run([word, "--version"], capture_output=True, text=True).stdout) for name, word, known in there}
+    return {name: found[1] for name, found in seen.items() if found}
