@@ -47,6 +47,7 @@ mod ruled;
 mod ruled_check;
 mod ruled_failure;
 mod ruled_files;
+mod ruled_load;
 mod run;
 mod run_counts;
 mod run_pieces;
