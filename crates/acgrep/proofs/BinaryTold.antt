@@ -39,11 +39,7 @@ some_behind P (line ∷ ls) ms some = inr (some_behind P ls ms some)
 lines_needed : (shown : Shown) → writes_lines shown ≡ true → needs_one shown ≡ false
 lines_needed Lines is = refl
 lines_needed Matches is = refl
-lines_needed Objects is = absurd (cc)
-lines_needed Count is = absurd (cc)
-lines_needed Names is = absurd (cc)
-lines_needed Lacking is = absurd (cc)
-lines_needed Nothing is = absurd (cc)
+lines_needed _ is = absurd (cc)
 
 -- a line of a text is selected where one of its first lines is, or one of the others
 guarded_some : (p : Patterns) (job : Job) (ls : List (List ℕ)) (some more full : Bool) → IsAny p job.fit job.invert (text_lines ls) some

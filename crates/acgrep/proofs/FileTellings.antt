@@ -25,13 +25,10 @@ use Rattle.acgrep.proofs.Walked.{walks_append, walks_full, walks_tells}
 -- where one selected line tells all nothing is written of it
 shows_none : (p : Patterns) (shown : Shown) (alone invert : Bool) (style : Style) (place : Place) (line bytes : List ℕ) → needs_one shown ≡ true
     → ShowsBy p shown alone invert style place line bytes → bytes ≡ []
-shows_none p Lines alone invert style place line bytes one shows = absurd (cc)
-shows_none p Matches alone invert style place line bytes one shows = absurd (cc)
-shows_none p Objects alone invert style place line bytes one shows = absurd (cc)
-shows_none p Count alone invert style place line bytes one shows = absurd (cc)
 shows_none p Names alone invert style place line bytes one shows = shows
 shows_none p Lacking alone invert style place line bytes one shows = shows
 shows_none p Nothing alone invert style place line bytes one shows = shows
+shows_none p _ alone invert style place line bytes one shows = absurd (cc)
 
 more_positive : (count : ℕ) → 0 < one_more count
 more_positive count = omega arith
@@ -254,11 +251,7 @@ module _ (p : Patterns) (job : Job) where
   one_around : (shown : Shown) (context : Option Context) → needs_one shown ≡ true → around_by shown context ≡ None
   one_around Lines context one = absurd (cc)
   one_around Matches context one = absurd (cc)
-  one_around Objects context one = refl
-  one_around Count context one = refl
-  one_around Names context one = refl
-  one_around Lacking context one = refl
-  one_around Nothing context one = refl
+  one_around _ context one = refl
 
   -- lines that were told, and others behind which nothing more is told
   pub lines_told : (state : State) (held meanwhile held' : Option (List ℕ)) (text : List ℕ) (told : TextTold (around_of job) state held meanwhile text) (ls later : List (List ℕ))

@@ -47,18 +47,11 @@ total_begins job count x y before after bytes none same is (n, within, written) 
   written = written;
 }
 
-pub total_bytes : (before after bytes total : List ℕ) → before ≡ [] → bytes ≡ after → Appends (Some before) (Some after) total → bytes ≡ total
-total_bytes before after bytes total none same is = same ∙ is ∙ ap (λ (l : List ℕ). l ++ total) none
-
 -- what follows from lines or matches being written
 pub lines_total : (shown : Shown) (style : Style) (count : ℕ) → writes_lines shown ≡ true → total_if shown style count ≡ []
 lines_total Lines style count is = refl
 lines_total Matches style count is = refl
-lines_total Objects style count is = absurd (cc)
-lines_total Count style count is = absurd (cc)
-lines_total Names style count is = absurd (cc)
-lines_total Lacking style count is = absurd (cc)
-lines_total Nothing style count is = absurd (cc)
+lines_total _ style count is = absurd (cc)
 
 pub shows_lines : (job : Job) → is_guarded job ≡ true → writes_lines job.shown ≡ true
 shows_lines job guarded = (and_parts (writes_lines job.shown) (job.guards && not (job.style.ending == 0)) guarded).0
@@ -69,21 +62,14 @@ one_none : (p : Patterns) (shown : Shown) → ((style : Style) (count : ℕ) →
 one_none p Lines = inl (λ style count. refl)
 one_none p Matches = inl (λ style count. refl)
 one_none p Objects = inl (λ style count. refl)
-one_none p Count = inr (λ alone invert style place line bytes none. none)
-one_none p Names = inr (λ alone invert style place line bytes none. none)
-one_none p Lacking = inr (λ alone invert style place line bytes none. none)
-one_none p Nothing = inr (λ alone invert style place line bytes none. none)
+one_none p _ = inr (λ alone invert style place line bytes none. none)
 
 module _ (p : Patterns) (job : Job) where
   -- nothing is asked of a file as a whole where lines around selected ones are written
   no_total : (shown : Shown) (asked : Option Context) (context : Context) (style : Style) (count : ℕ) → around_by shown asked ≡ Some context → total_if shown style count ≡ []
   no_total Lines asked context style count is = refl
   no_total Matches asked context style count is = refl
-  no_total Objects asked context style count is = absurd (cc)
-  no_total Count asked context style count is = absurd (cc)
-  no_total Names asked context style count is = absurd (cc)
-  no_total Lacking asked context style count is = absurd (cc)
-  no_total Nothing asked context style count is = absurd (cc)
+  no_total _ asked context style count is = absurd (cc)
 
   -- what was told of first lines from the begin of their file on, or what is asked of it as a whole, is nothing
   told_in : (around : Option Context) → around_of job ≡ around → (before : State) (count : ℕ) (first : List (List ℕ)) (told : List ℕ) → IsBegin job before → TellsFrom p job around before count first told

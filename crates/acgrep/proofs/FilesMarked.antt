@@ -19,6 +19,7 @@ use Rattle.secret_rules.specs.declared.error.LineError.{LineError}
 use Rattle.secret_rules.specs.declared.line_cover.LineCover.{LineCover}
 use Rattle.secret_rules.specs.declared.rule.Rule.{Rule}
 use Rattle.tool_parts.specs.Names.{is_input}
+use Rattle.aho_cover.proofs.Copied.{begins_with}
 use Rattle.acgrep.specs.Files.{BeginsTotal, EndsFile, IsNamed, known_of, shown_name, total_if}
 use Rattle.acgrep.specs.Marked.{FileAsked, marked_shown, marked_line, marked_lines, pass_behind}
 use Rattle.acgrep.specs.MarkedFiles.{AreFirstGiven, BeginsWalk, BeginsInput, BeginsMarks, ComesInput, ComesMarked, ComesName, HasFirst, HasToldAll, MarksBy, MarksFile, MarksInput, MarksText, TellsAll, WalksGiven, WalksLines, file_asked, file_marked, file_selected, pass_from, seen_lines}
@@ -70,13 +71,10 @@ either_none true bytes none = refl
 either_none false bytes none = none
 
 shown_none : (shown : Shown) (style : Style) (rules : List Rule) (place : Place) (line : List ℕ) (runs : List Occurrence) → needs_one shown ≡ true → marked_shown shown style rules place line runs ≡ []
-shown_none Lines style rules place line runs is = absurd (cc)
-shown_none Matches style rules place line runs is = absurd (cc)
-shown_none Objects style rules place line runs is = absurd (cc)
-shown_none Count style rules place line runs is = absurd (cc)
 shown_none Names style rules place line runs is = refl
 shown_none Lacking style rules place line runs is = refl
 shown_none Nothing style rules place line runs is = refl
+shown_none _ style rules place line runs is = absurd (cc)
 
 line_none : (asked : FileAsked) → needs_one asked.shown ≡ true → (place : Place) (line : List ℕ) (runs : List Occurrence) → marked_line asked place line runs ≡ []
 line_none asked needs place line runs =
@@ -92,10 +90,6 @@ starts_nothing : (all part : List ℕ) → all ≡ [] → StartsWith all part �
 starts_nothing all [] none starts = refl
 starts_nothing all (byte ∷ part) none starts =
     let clash : [] ≡ byte ∷ part = subst (λ (l : List ℕ). take (length (byte ∷ part)) l ≡ byte ∷ part) none starts in absurd (cc)
-
-starts_front : (begun missing : List ℕ) → StartsWith (begun ++ missing) begun
-starts_front [] missing = refl
-starts_front (byte ∷ begun) missing = ap (λ l. byte ∷ l) (starts_front begun missing)
 
 module _ {R W : Type 0} (S : SourceGhosts R) (K : SinkGhosts W) (job : Job) (covering : Covering) (source source' : R) (output output' : W) (known : Option (List ℕ)) (pass' : Pass) (held' : Option (List ℕ))
     (left : S.remaining source ≡ known) (none : S.empty_reads source ≡ 0) (ends : S.empty_reads source' ≢ 0 → IsAtEnd (S.remaining source')) where
@@ -151,7 +145,7 @@ module _ {R W : Type 0} (S : SourceGhosts R) (K : SinkGhosts W) (job : Job) (cov
     begins = subst (λ (a : FileAsked). StartsWith (marked_lines a (pass_from job.first) (seen_lines covering.most begun.lines) begun.runs) begun.part) same begun.begins;
     count = count;
     tail = total.begun;
-    ends = subst (λ (l : List ℕ). StartsWith l total.begun) (sym total.cut) (starts_front total.begun total.missing);
+    ends = subst (λ (l : List ℕ). StartsWith l total.begun) (sym total.cut) (begins_with total.begun total.missing);
     written = Appends-trans (K.taken output) (K.taken output') held' begun.part total.begun begun.written total.written;
   }
 

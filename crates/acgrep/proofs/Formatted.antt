@@ -22,7 +22,7 @@ unknown_skip (suc skipped) [] = refl
 unknown_skip (suc skipped) (byte ∷ rest) = unknown_skip skipped rest
 
 -- what a piece takes is dropped
-drop_piece : (len byte : ℕ) (rest : List ℕ) → 0 < len → drop len (byte ∷ rest) ≡ drop (len - 1) rest
+pub drop_piece : (len byte : ℕ) (rest : List ℕ) → 0 < len → drop len (byte ∷ rest) ≡ drop (len - 1) rest
 drop_piece zero byte rest some = absurd (omega (arith, some))
 drop_piece (suc len) byte rest some =
     let same : suc len - 1 ≡ len = omega arith in

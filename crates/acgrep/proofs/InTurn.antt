@@ -36,13 +36,8 @@ if_broken Stopped follows broken = follows broken
 
 -- a selected line is enough only under `-q`
 pub enough_only : (shown : Shown) (any : Bool) → is_enough shown any ≡ true → (shown ≡ Nothing) × (any ≡ true)
-enough_only Lines any is = absurd (cc)
-enough_only Matches any is = absurd (cc)
-enough_only Objects any is = absurd (cc)
-enough_only Count any is = absurd (cc)
-enough_only Names any is = absurd (cc)
-enough_only Lacking any is = absurd (cc)
 enough_only Nothing any is = (refl, is)
+enough_only _ any is = absurd (cc)
 
 status_clean : (shown : Shown) (any : Bool) → (if is_enough shown any then 0 else (if any then 0 else 1)) ≡ status_of any
 status_clean shown true = elim (cases_Bool (is_enough shown true)) [ inl enough ↦ rw enough refl | inr not ↦ rw not refl ]

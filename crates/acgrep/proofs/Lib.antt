@@ -26,7 +26,6 @@ pub mod Kept
 pub mod LineLists
 pub mod LongNames
 pub mod MarkedLines
-pub mod MarksKept
 pub mod MarksTold
 pub mod Mistaken
 pub mod NamesMarked

@@ -1,5 +1,5 @@
 -- What is written of lines, one after another, by what a visitor of them leaves.
-use Rattle.std.proofs.Common.{◌≡◌, inl, inr, ℕ, zero, suc, List, [], ◌∷◌, ◌++◌, true, false, length, take, refl, sym, ap, subst, ◌∙◌, append_assoc, append-nil, arith}
+use Rattle.std.proofs.Common.{◌≡◌, inl, inr, ℕ, zero, suc, List, [], ◌∷◌, ◌++◌, true, false, length, take, drop, take-append-drop, refl, sym, ap, subst, ◌∙◌, append_assoc, append-nil, arith}
 use Rattle.std.specs.Prelude.{Bool, Result, Ok, Err}
 use Rattle.std.specs.Borrow.{MutBor}
 use Rattle.std.specs.Io.{StartsWith}
@@ -18,20 +18,17 @@ use Rattle.secret_rules.specs.declared.error.LineError.{LineError}
 use Rattle.secret_rules.specs.declared.rule.Rule.{Rule}
 use Rattle.secret_rules.specs.declared.visitor.LineVisitor.{Ghosts as VisitorGhosts}
 use Rattle.acgrep.specs.Marked.{FileAsked, StopsMarked, WritesMarked, asked_of, marked_line, marked_lines, pass_after, pass_behind}
+use Rattle.aho_cover.proofs.Copied.{begins_with}
 use Rattle.acgrep.specs.MarkedFiles.{AreFirstGiven, WalksLines, seen_lines}
 use Rattle.acgrep.specs.declared.marked.Pass.{Pass}
 use Rattle.acgrep.specs.declared.marked.Task.{Task}
 
 -- a text starts with itself, and with its first bytes
 pub starts_taken : (text : List ℕ) (count : ℕ) → StartsWith text (take count text)
-starts_taken [] zero = refl
-starts_taken [] (suc count) = refl
-starts_taken (byte ∷ text) zero = refl
-starts_taken (byte ∷ text) (suc count) = ap (λ l. byte ∷ l) (starts_taken text count)
+starts_taken text count = subst (λ (all : List ℕ). StartsWith all (take count text)) (take-append-drop count text) (begins_with (take count text) (drop count text))
 
 pub starts_all : (text : List ℕ) → StartsWith text text
-starts_all [] = refl
-starts_all (byte ∷ text) = ap (λ l. byte ∷ l) (starts_all text)
+starts_all text = subst (λ (all : List ℕ). StartsWith all text) (append-nil text) (begins_with text [])
 
 starts_behind : (front all first : List ℕ) → StartsWith all first → StartsWith (front ++ all) (front ++ first)
 starts_behind [] all first is = is

@@ -17,17 +17,11 @@ mistake-told K arguments OutOfMemory old new is told = inl told
 -- right arguments are refused only where memory ran out
 pub refused-lacking : {E : Type 0} (K : SinkGhosts E) (told : Option Said) (given : Said) (refusal : Refusal) (old new : Errors E) → told ≡ Some given → AreRefused told refusal
     → TellsRefused K refusal old new → TellsLacking K old new
-refused-lacking K told given (Wrong wrong) old new is refused exact = absurd (none-some given (sym refused ∙ is))
-  where
-    none-some : (s : Said) → None ≡ Some s → ⊥
-    none-some s e = cc
+refused-lacking K told given (Wrong wrong) old new is refused exact = absurd (cc)
 refused-lacking K told given OutOfMemory old new is refused exact = inl exact
 
 -- so it is this that is told
 pub refused-memory : {E : Type 0} (K : SinkGhosts E) (told : Option Said) (given : Said) (refusal : Refusal) (old new : Errors E) → told ≡ Some given → AreRefused told refusal
     → TellsRefused K refusal old new → TellsBytes K old new memory_line
-refused-memory K told given (Wrong wrong) old new is refused exact = absurd (none-some given (sym refused ∙ is))
-  where
-    none-some : (s : Said) → None ≡ Some s → ⊥
-    none-some s e = cc
+refused-memory K told given (Wrong wrong) old new is refused exact = absurd (cc)
 refused-memory K told given OutOfMemory old new is refused exact = exact

@@ -41,10 +41,6 @@ module _ (flags : Flags) (patterns : List (List ℕ)) (P : (old new : Option (Li
 pub beginning-none : (held : Option (List ℕ)) (bytes : List ℕ) → AppendsBeginning held held bytes
 beginning-none held bytes = (0, omega arith, Appends-nil held)
 
--- what was put together behind nothing
-pub put-together : (before after bytes text : List ℕ) → before ≡ [] → after ≡ before ++ text → bytes ≡ after → bytes ≡ text
-put-together before after bytes text none put same = same ∙ put ∙ ap (λ (l : List ℕ). l ++ text) none
-
 -- a call of which it is known that no line is selected tells why it failed, if it did
 pub none-told : {E : Type 0} (K : SinkGhosts E) (May : List ℕ → Type 0) (hushed : Bool) (shown : Shown) (status : ℕ) (old new : Errors E) → (status ≡ 1) ⊎ (status ≡ 2)
     → (status < 2 → new ≡ old) → (status ≡ 2 → TellsSome K May old new) → TellsStatus K May hushed shown status old new

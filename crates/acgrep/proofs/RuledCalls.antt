@@ -20,4 +20,4 @@ may-ruled known left between given rules read line (inl (inl message)) =
     let others = names_told given.flags.no_messages given.label (sources_by given.sources given.operands) (names_by given.sources given.operands) in
     inl (inl (message-more others (names_said (Some given)) (λ name among. among-later name (rule_files given.rules) others among) line message))
 may-ruled known left between given rules read line (inl (inr usage)) = inl (inr usage)
-may-ruled known left between given rules read line (inr named) = inr (record { rules = rules; between = between; read = read; named = named })
+may-ruled known left between given rules read line (inr named) = inr (record { what = rules; between = between; read = read; does = named })

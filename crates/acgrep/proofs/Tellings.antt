@@ -55,13 +55,8 @@ after_append (line ∷ rest) ms place = after_append rest ms (after_line place l
 
 -- where the numbers of lines are asked for they are written
 asked_numbered : (shown : Shown) (asked : Bool) → asked ≡ true → is_numbered shown asked ≡ true
-asked_numbered Lines asked is = is
-asked_numbered Matches asked is = is
 asked_numbered Objects asked is = refl
-asked_numbered Count asked is = is
-asked_numbered Names asked is = is
-asked_numbered Lacking asked is = is
-asked_numbered Nothing asked is = is
+asked_numbered _ asked is = is
 
 -- a coloured line is what is written of a line where that is asked for
 pub colored_shows : (p : Patterns) (job : Job) (place : Place) (old new : Option (List ℕ)) (line : List ℕ) → job.shown ≡ Lines → (job.style.color && not job.invert) ≡ true
@@ -114,10 +109,7 @@ pub nothing_else : (p : Patterns) (shown : Shown) (alone invert : Bool) (style :
 nothing_else p Lines alone invert style place line whole matches objects = absurd (whole refl)
 nothing_else p Matches alone invert style place line whole matches objects = absurd (matches refl)
 nothing_else p Objects alone invert style place line whole matches objects = absurd (objects refl)
-nothing_else p Count alone invert style place line whole matches objects = refl
-nothing_else p Names alone invert style place line whole matches objects = refl
-nothing_else p Lacking alone invert style place line whole matches objects = refl
-nothing_else p Nothing alone invert style place line whole matches objects = refl
+nothing_else p _ alone invert style place line whole matches objects = refl
 
 -- what stands before a line is the same
 same_head : (job : Job) (a b : Place) (offset : ℕ) (bytes : List ℕ) → SamePlace job a b → head_of job.style (line_number_at a) offset bytes ≡ head_of job.style (line_number_at b) offset bytes

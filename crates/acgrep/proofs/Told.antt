@@ -12,7 +12,7 @@ use Rattle.aho_core.specs.Texts.{build_error_text, match_error_text}
 use Rattle.aho_core.specs.declared.error.BuildError.{BuildError}
 use Rattle.aho_core.specs.declared.error.MatchErrorKind.{MatchErrorKind}
 use Rattle.aho_devices.specs.declared.device.Sink.{Ghosts as SinkGhosts}
-use Rattle.tool_parts.specs.Messages.{Message, message_by, reason_text}
+use Rattle.tool_parts.specs.Messages.{message_of, reason_text}
 use Rattle.tool_parts.specs.Names.{IsOneOf}
 use Rattle.tool_parts.specs.Telling.{Tells, TellsBytes, TellsSome}
 use Rattle.tool_parts.specs.declared.errors.Errors.{Errors}
@@ -63,76 +63,19 @@ message-more names all more line m = record {
 
 module _ {E : Type 0} (K : SinkGhosts E) (names : List (List ℕ)) where
   -- a message that may be told is one line
-  tells-message : (old new : Errors E) (m : Message) → IfSome m.name (MayName names) → (IsToldCause m.cause ⊎ IsUnopened m.name m.cause) → TellsBytes K old new (message_by (codes "acgrep") m) → TellsSome K (IsMessage names) old new
-  tells-message old new m named caused told =
-      some-one K (IsMessage names) old new (message_by (codes "acgrep") m) (record { message = m; name = named; cause = caused; is = refl }) told
-
-  -- one without a name, or of a name, whose cause is why the system failed
-  pub tells-memory : (old new : Errors E) (reason : Reason) → TellsBytes K old new (message_by (codes "acgrep") (record { name = None; line = None; cause = reason_text reason }))
-      → TellsSome K (IsMessage names) old new
-  tells-memory old new reason told =
-      let m : Message = record { name = None; line = None; cause = reason_text reason } in
-      tells-message old new m tt (inl (inl (reason, refl))) told
-
-  pub tells-fault : (old new : Errors E) (name : List ℕ) (reason : Reason) → MayName names name
-      → TellsBytes K old new (message_by (codes "acgrep") (record { name = Some name; line = None; cause = reason_text reason })) → TellsSome K (IsMessage names) old new
-  tells-fault old new name reason may told =
-      let m : Message = record { name = Some name; line = None; cause = reason_text reason } in
-      tells-message old new m may (inl (inl (reason, refl))) told
-
-  -- one of a folder that stands in itself
-  pub tells-loop : (old new : Errors E) (name : List ℕ) → MayName names name
-      → TellsBytes K old new (message_by (codes "acgrep") (record { name = Some name; line = None; cause = loop_text })) → TellsSome K (IsMessage names) old new
-  tells-loop old new name may told =
-      let m : Message = record { name = Some name; line = None; cause = loop_text } in
-      tells-message old new m may (inl (inr (inr (inr (inl refl))))) told
-
-  -- one of a file to which the output goes
-  pub tells-output : (old new : Errors E) (name : List ℕ) → MayName names name
-      → TellsBytes K old new (message_by (codes "acgrep") (record { name = Some name; line = None; cause = output_text })) → TellsSome K (IsMessage names) old new
-  tells-output old new name may told =
-      let m : Message = record { name = Some name; line = None; cause = output_text } in
-      tells-message old new m may (inl (inr (inr (inr (inr (inl refl)))))) told
-
-  -- one of a pattern that holds a zero byte
-  pub tells-zero : (old new : Errors E) (name : List ℕ) (line : Option ℕ) → MayName names name
-      → TellsBytes K old new (message_by (codes "acgrep") (record { name = Some name; line = line; cause = zero_text })) → TellsSome K (IsMessage names) old new
-  tells-zero old new name line may told =
-      let m : Message = record { name = Some name; line = line; cause = zero_text } in
-      tells-message old new m may (inl (inr (inr (inr (inr (inr (inl refl))))))) told
-
-  -- one of standard input that cannot be used
-  pub tells-unusable : (old new : Errors E) (name : List ℕ) → MayName names name
-      → TellsBytes K old new (message_by (codes "acgrep") (record { name = Some name; line = None; cause = unusable_text })) → TellsSome K (IsMessage names) old new
-  tells-unusable old new name may told =
-      let m : Message = record { name = Some name; line = None; cause = unusable_text } in
-      tells-message old new m may (inl (inr (inr (inr (inr (inr (inr refl))))))) told
+  pub tells-cause : (old new : Errors E) (name : Option (List ℕ)) (line : Option ℕ) (cause : List ℕ) → IfSome name (MayName names) → (IsToldCause cause ⊎ IsUnopened name cause)
+      → TellsBytes K old new (message_of (codes "acgrep") name line cause) → TellsSome K (IsMessage names) old new
+  tells-cause old new name line cause named caused told =
+      some-one K (IsMessage names) old new (message_of (codes "acgrep") name line cause) (record { message = record { name = name; line = line; cause = cause }; name = named; cause = caused; is = refl }) told
 
   -- one of a file that cannot be opened: its name is why where it is not UTF-8
-  pub tells-unopened : (old new : Errors E) (name : List ℕ) (reason : Reason) → MayName names name → TellsBytes K old new (unopened_line name reason)
-      → TellsSome K (IsMessage names) old new
+  pub tells-unopened : (old new : Errors E) (name : List ℕ) (reason : Reason) → MayName names name → TellsBytes K old new (unopened_line name reason) → TellsSome K (IsMessage names) old new
   tells-unopened old new name reason may told =
-      let Line : Bool → Type 0 = λ (b : Bool). TellsBytes K old new (message_by (codes "acgrep") (record { name = Some name; line = None; cause = if b then reason_text reason else no_text_text })) in
+      let Line : Bool → Type 0 = λ (b : Bool). TellsBytes K old new (message_of (codes "acgrep") (Some name) None (if b then reason_text reason else no_text_text)) in
       elim (cases_Bool (is_utf8 name)) [
-        | inl is ↦ tells-fault old new name reason may (subst Line is told)
-        | inr other ↦
-            let m : Message = record { name = Some name; line = None; cause = no_text_text } in
-            tells-message old new m may (inr (other, refl)) (subst Line other told)
+        | inl is ↦ tells-cause old new (Some name) None (reason_text reason) may (inl (inl (reason, refl))) (subst Line is told)
+        | inr other ↦ tells-cause old new (Some name) None no_text_text may (inr (other, refl)) (subst Line other told)
       ]
-
-  -- why the patterns are refused
-  pub tells-build : (old new : Errors E) (name : List ℕ) (line : Option ℕ) (error : BuildError) → MayName names name
-      → TellsBytes K old new (message_by (codes "acgrep") (record { name = Some name; line = line; cause = build_error_text error })) → TellsSome K (IsMessage names) old new
-  tells-build old new name line error may told =
-      let m : Message = record { name = Some name; line = line; cause = build_error_text error } in
-      tells-message old new m may (inl (inr (inl (error, refl)))) told
-
-  -- why the search is
-  pub tells-search : (old new : Errors E) (error : MatchErrorKind)
-      → TellsBytes K old new (message_by (codes "acgrep") (record { name = Some (codes "search"); line = None; cause = match_error_text error })) → TellsSome K (IsMessage names) old new
-  tells-search old new error told =
-      let m : Message = record { name = Some (codes "search"); line = None; cause = match_error_text error } in
-      tells-message old new m (inl (inr (inl refl))) (inl (inr (inr (inl (error, refl))))) told
 
 -- an element of a list is among the names of all
 pub among-at : {X : Type 0} (f : X → List ℕ) (xs : List X) (i : ℕ) (d : X) → i < length xs → IsOneOf (f (get_or xs i d)) (map f xs)

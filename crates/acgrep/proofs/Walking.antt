@@ -173,10 +173,8 @@ listed-as tree given folder names same listed = subst (λ (name : List ℕ). IfS
 
 -- what is a folder is that kind
 pub folder-alone : (tree : Tree) (ways : Ways) (spot : Spot) (kind : Kind) → is_folder kind ≡ true → IsKind tree ways spot kind → IsKind tree ways spot Folder
-folder-alone tree ways spot File is known = absurd (cc)
 folder-alone tree ways spot Folder is known = known
-folder-alone tree ways spot Link is known = absurd (cc)
-folder-alone tree ways spot Device is known = absurd (cc)
+folder-alone tree ways spot _ is known = absurd (cc)
 
 -- an operand more is put down
 pub put-more : (spots : List Spot) (rest : List (Bor (List ℕ))) (d : Bor (List ℕ)) → 0 < length rest

@@ -176,27 +176,14 @@ taken_by is_file (first ∷ rest) s = said_so (with_source is_file (first ∷ re
 
 -- what an option with a number changes
 abbrev pub numbered_in : Valued → ℕ → Flags → Flags
-numbered_in Regexp number flags = flags
-numbered_in PatternFile number flags = flags
-numbered_in Kind number flags = flags
 numbered_in Offset number flags = record flags { first = number }
 numbered_in FirstLine number flags = record flags { first_line = number }
 numbered_in MaxCount number flags = record flags { most = Some number }
 numbered_in After number flags = record flags { after = Some number }
 numbered_in Before number flags = record flags { before = Some number }
 numbered_in Around number flags = record flags { context = Some number }
-numbered_in Separator number flags = flags
-numbered_in Label number flags = flags
-numbered_in Format number flags = flags
-numbered_in Included number flags = flags
-numbered_in Excluded number flags = flags
-numbered_in ExcludedFrom number flags = flags
-numbered_in ExcludedFolder number flags = flags
-numbered_in Folders number flags = flags
-numbered_in Devices number flags = flags
-numbered_in BinaryFiles number flags = flags
-numbered_in RuleFile number flags = flags
 numbered_in LineLimit number flags = record flags { longest = Some number }
+numbered_in _ number flags = flags
 
 abbrev pub with_number : Valued → ℕ → Said → Said
 with_number valued number s = record s { flags = numbered_in valued number s.flags }

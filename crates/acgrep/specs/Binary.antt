@@ -32,11 +32,7 @@ binary_by style = codes "acgrep: " ++ (style.name.now ++ codes ": binary file ma
 abbrev pub writes_lines : Shown → Bool
 writes_lines Lines = true
 writes_lines Matches = true
-writes_lines Objects = false
-writes_lines Count = false
-writes_lines Names = false
-writes_lines Lacking = false
-writes_lines Nothing = false
+writes_lines _ = false
 
 -- then they are kept from the output where that is asked for, and a zero byte does not end a line
 abbrev pub is_guarded : Job → Bool

@@ -20,11 +20,7 @@ use Rattle.acgrep.specs.declared.select.State.{State}
 abbrev pub around_by : Shown → Option Context → Option Context
 around_by Lines context = context
 around_by Matches context = context
-around_by Objects context = None
-around_by Count context = None
-around_by Names context = None
-around_by Lacking context = None
-around_by Nothing context = None
+around_by _ context = None
 
 abbrev pub around_of : Job → Option Context
 around_of job = around_by job.shown job.context

@@ -72,10 +72,8 @@ abbrev pub IsKind : Tree → Ways → Spot → Kind → Type 0
 IsKind tree ways spot kind = IfSome (tree.kinds (is_followed ways spot) spot.name) (λ known. kind ≡ known)
 
 abbrev pub is_folder : Kind → Bool
-is_folder File = false
 is_folder Folder = true
-is_folder Link = false
-is_folder Device = false
+is_folder _ = false
 
 -- devices are read where that is said, and where nothing is said of it those where a link would be followed
 abbrev pub reads_devices : Ways → Spot → Bool

@@ -10,13 +10,8 @@ use Rattle.acgrep.specs.declared.options.Shown.TheVariants.{Lines, Matches, Obje
 
 -- under `-q` one selected line of any file is enough
 abbrev pub is_enough : Shown → Bool → Bool
-is_enough Lines any = false
-is_enough Matches any = false
-is_enough Objects any = false
-is_enough Count any = false
-is_enough Names any = false
-is_enough Lacking any = false
 is_enough Nothing any = any
+is_enough _ any = false
 
 -- before any file was searched
 abbrev pub nothing_seen : Seen

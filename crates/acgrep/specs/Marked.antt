@@ -47,10 +47,7 @@ abbrev pub marked_shown : Shown → Style → List Rule → Place → List ℕ �
 marked_shown Lines style rules place line runs = line_by style place line
 marked_shown Matches style rules place line runs = matches_by style place line runs
 marked_shown Objects style rules place line runs = ruled_objects style rules place line runs
-marked_shown Count style rules place line runs = []
-marked_shown Names style rules place line runs = []
-marked_shown Lacking style rules place line runs = []
-marked_shown Nothing style rules place line runs = []
+marked_shown _ style rules place line runs = []
 
 -- whether a line is selected: rules mark something in it, or it is too long, and then it comes without its bytes and as one run
 abbrev pub is_marked : List Occurrence → Bool

@@ -26,8 +26,6 @@ use Rattle.acgrep.specs.declared.long.Valued.TheVariants.{Regexp, PatternFile, K
 
 -- what is told of an argument that an option cannot have; any is a pattern, a file's name, a separator, a label or a glob
 abbrev pub wrong_value : Valued → List ℕ → List (List ℕ)
-wrong_value Regexp argument = []
-wrong_value PatternFile argument = []
 wrong_value Kind argument = kind_parts argument
 wrong_value Offset argument = number_parts (valued_name Offset) argument
 wrong_value FirstLine argument = number_parts (valued_name FirstLine) argument
@@ -35,18 +33,12 @@ wrong_value MaxCount argument = number_parts (valued_name MaxCount) argument
 wrong_value After argument = number_parts (valued_name After) argument
 wrong_value Before argument = number_parts (valued_name Before) argument
 wrong_value Around argument = number_parts (valued_name Around) argument
-wrong_value Separator argument = []
-wrong_value Label argument = []
 wrong_value Format argument = format_parts argument
-wrong_value Included argument = []
-wrong_value Excluded argument = []
-wrong_value ExcludedFrom argument = []
-wrong_value ExcludedFolder argument = []
 wrong_value Folders argument = folders_parts argument
 wrong_value Devices argument = devices_parts argument
 wrong_value BinaryFiles argument = binary_parts argument
-wrong_value RuleFile argument = []
 wrong_value LineLimit argument = number_parts (valued_name LineLimit) argument
+wrong_value _ argument = []
 
 -- of a long name that means no option
 abbrev pub wrong_found : Result Long NotFound → List ℕ → List (List ℕ)

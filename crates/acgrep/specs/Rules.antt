@@ -23,10 +23,8 @@ abbrev pub name_fits : List ℕ → Bool → List ℕ → Bool
 name_fits glob given name = if given then operand_fits glob name else fits 0 glob (base_name name name)
 
 abbrev pub is_of_folders : Sense → Bool
-is_of_folders Include = false
-is_of_folders Exclude = false
-is_of_folders ExcludeFrom = false
 is_of_folders ExcludeFolder = true
+is_of_folders _ = false
 
 -- a folder is left out that one of its rules fits
 abbrev pub leaves_folder : List RuleSaid → Bool → List ℕ → Bool
@@ -76,10 +74,8 @@ without_slashes (first ∷ rest) = take (kept_len 1 1 rest) (first ∷ rest)
 
 -- whether the globs of a rule stand in a file
 abbrev pub is_from_file : Sense → Bool
-is_from_file Include = false
-is_from_file Exclude = false
 is_from_file ExcludeFrom = true
-is_from_file ExcludeFolder = false
+is_from_file _ = false
 
 -- white space: a tab, a newline, a vertical tab, a form feed, a carriage return or a space
 abbrev pub is_space : ℕ → Bool

@@ -19,7 +19,7 @@ use Rattle.acgrep.specs.Files.{shown_name}
 use Rattle.acgrep.specs.Folders.{Known, Tree}
 use Rattle.acgrep.specs.Formats.{unknown_in}
 use Rattle.acgrep.specs.Rules.{RuleSaid, is_from_file}
-use Rattle.acgrep.specs.Runs.{AreReached, AreRules, IsByPatterns, names_by, origins_of, ruled, sources_by}
+use Rattle.acgrep.specs.Runs.{AfterRules, AreReached, IsByPatterns, names_by, origins_of, sources_by}
 use Rattle.acgrep.specs.declared.arguments.Source.{Source}
 use Rattle.acgrep.specs.declared.arguments.Wrong.{Wrong}
 use Rattle.acgrep.specs.declared.arguments.Wrong.TheVariants.{NoPattern, UnknownLetter, NotFound, NoArgument, TakesNone, UnknownKind, UnknownColor, UnknownFolders, UnknownDevices, UnknownBinary, UnknownField, NoNumber}
@@ -237,11 +237,8 @@ MaySay tree given sources names line =
     MayTell (names_told given.flags.no_messages given.label sources names) line ⊎ NamesReached tree given names line
 
 -- the rules in files were read, and a line names what is so reached; `left` is what the input has left
-pub record NamesRuled (known : Known) (left : Option (List ℕ)) (given : Said) (line : List ℕ) : Type 0 where
-  pub rules : List RuleSaid
-  pub between : Option (List ℕ)
-  pub read : AreRules known.holds given.rules left between rules
-  pub named : NamesReached known.tree (ruled given rules) (names_by given.sources given.operands) line
+abbrev pub NamesRuled : Known → (left : Option (List ℕ)) → Said → List ℕ → Type 0
+NamesRuled known left given line = AfterRules known given left (λ ruled between. NamesReached known.tree ruled (names_by given.sources given.operands) line)
 
 abbrev pub MaySaid : Known → (left : Option (List ℕ)) → Option Said → List ℕ → Type 0
 MaySaid known left None line = MayTell [] line

@@ -42,9 +42,7 @@ returns g c =
         reached = c.in-Some.ensures.reached;
         job = job;
         is_job = is_job;
-        found = found;
-        searched = rw listed at c.search_names-status.ensures.searched p is (free p plain) (reached-low flags unread found (rw status at low));
-        told = status;
+        does = (found, rw listed at c.search_names-status.ensures.searched p is (free p plain) (reached-low flags unread found (rw status at low)), status);
       };
       begun = λ p is plain. inr (record {
         files = files;
@@ -52,7 +50,7 @@ returns g c =
         reached = c.in-Some.ensures.reached;
         job = job;
         is_job = is_job;
-        begun = rw listed at c.search_names-status.ensures.begun p is (free p plain);
+        does = rw listed at c.search_names-status.ensures.begun p is (free p plain);
       });
       told = rw status (reached-told _ given _ files unread c.in-Some.ensures.reached g.E.Sink _ _ _ found c.in-Some.ensures.told told);
     }

@@ -50,8 +50,8 @@ returns g c =
     let is = c.with_rules-ruled.ensures.ruled in
     record {
       bound = c.mark_asked.ensures.bound;
-      searches = λ low. record { globs = rules; between = between; read = read; searched = subst (λ (s : Said). MarksAsked known screen s between held held' status) is (c.mark_asked.ensures.searches low) };
-      begins = inr (record { globs = rules; between = between; read = read; begun = subst (λ (s : Said). MayBeginAsked known screen s between held held') is c.mark_asked.ensures.begins });
+      searches = λ low. record { what = rules; between = between; read = read; does = subst (λ (s : Said). MarksAsked known screen s between held held' status) is (c.mark_asked.ensures.searches low) };
+      begins = inr (record { what = rules; between = between; read = read; does = subst (λ (s : Said). MayBeginAsked known screen s between held held') is c.mark_asked.ensures.begins });
       told = subst (λ (e : Errors g.row.E.Denot). TellsStatus g.E.Sink IsMarkTold c.args.given.flags.no_messages Nothing status e new) (c.in-Some.ensures.silent refl)
           (subst (λ (s : Said). TellsStatus g.E.Sink IsMarkTold s.flags.no_messages Nothing status c.read_globs.new.errors new) is c.mark_asked.ensures.told);
     }

@@ -1,6 +1,7 @@
 -- What was said was done, and a flush keeps what was written.
-use Rattle.std.proofs.Common.{[], false, ◌||◌, ◌≡◌, ◌<◌, ◌≤◌, ◌∙◌, List, Option, Some, ap, ℕ, inl, inr, arith, refl, subst, sym}
+use Rattle.std.proofs.Common.{[], false, ◌||◌, ◌≡◌, ◌<◌, ◌≤◌, ◌∙◌, List, Option, None, Some, ap, ℕ, inl, inr, arith, refl, subst, sym}
 use Rattle.std.specs.Prelude.{IfSome}
+use Rattle.tool_parts.specs.Messages.{reason_text}
 use Rattle.tool_parts.specs.Telling.{Tells, TellsBytes, TellsSome}
 use Rattle.tool_parts.specs.declared.errors.Errors.{Errors}
 use Rattle.tool_parts.specs.declared.reason.Reason.TheVariants.{OutOfMemory as NoMemory}
@@ -15,11 +16,10 @@ use Rattle.acgrep.specs.RunsByRules.{BeginsByRules, SearchesByRules}
 use Rattle.acgrep.specs.Told.{MaySaid, MayTell, TellsStatus, is_hushed, names_said}
 use Rattle.acgrep.specs.ToldByRules.{IsMarkTold}
 use Rattle.acgrep.specs.declared.options.Shown.TheVariants.{Nothing}
-use Rattle.acgrep.proofs.Kept.{ruled_kept, same_said, search_held}
-use Rattle.acgrep.proofs.MarksKept.{begun_by_rules, by_rules_kept}
+use Rattle.acgrep.proofs.Kept.{begun_by_rules, by_rules_kept, ruled_kept, same_said, search_held}
 use Rattle.acgrep.proofs.MarksTold.{some-told}
 use Rattle.acgrep.proofs.Mistaken.{mistake-told, refused-lacking, refused-memory}
-use Rattle.acgrep.proofs.Told.{finished, not-quiet, tells-memory, told-said}
+use Rattle.acgrep.proofs.Told.{finished, not-quiet, tells-cause, told-said}
 use Rattle.acgrep.proofs.Unfitting.{each_all, some_all, some_both, some_more}
 use Rattle.acgrep.proofs.run.run.Goals as goal
 
@@ -112,7 +112,7 @@ returns-in-Err g c =
     (some-weaker g.E.Sink (MayTell (names_said given)) (MaySaid known left given) old mid (told-said known left given) (c.tell_refused.ensures.told (names_said given))) in
     let memory = λ (g' : Said) (is : given ≡ Some g'). refused-memory g.E.Sink given g' c.in-Err.refusal old mid is c.in-Err.ensures.refused c.tell_refused.ensures.exact in
     let marked = λ (g' : Said) (is : given ≡ Some g').
-    subst (TellsSome g.E.Sink IsMarkTold old) (sym same) (some-told g.E.Sink [] old mid (tells-memory g.E.Sink [] old mid NoMemory (memory g' is))) in
+    subst (TellsSome g.E.Sink IsMarkTold old) (sym same) (some-told g.E.Sink [] old mid (tells-cause g.E.Sink [] old mid None None (reason_text NoMemory) tt (inl (inl (NoMemory, refl))) (memory g' is))) in
     record {
       bound = omega (arith, two);
       usage = λ none. two;

@@ -48,17 +48,17 @@ returns-in-Ok-searcher_of g c =
     record {
       bound = c.search_or_count.ensures.bound;
       searches = λ low. record {
-        words = text;
+        what = text;
         between = left;
         read = c.in-Some.ensures.words;
-        searched = counts-of flags text (λ old new. SearchesReached known screen given asked names left left' old new status)
+        does = counts-of flags text (λ old new. SearchesReached known screen given asked names left left' old new status)
             (λ old new. AreSought known screen given sought names left left' old new status) (λ old new found. rw some found) _ _ (rw all at c.search_or_count.ensures.searched _ built plain low);
       };
       begins = inr (record {
-        words = text;
+        what = text;
         between = left;
         read = c.in-Some.ensures.words;
-        begun = rw all at c.search_or_count.ensures.begun _ built plain;
+        does = rw all at c.search_or_count.ensures.begun _ built plain;
       });
       told = status-weaker g.E.Sink _ _ flags.no_messages (shown_by flags) _ _ _ (may-behind known.tree given (origins_of c.args.sources.now) names)
           (rw (c.in-Some.ensures.silent refl) at c.search_or_count.ensures.told);
@@ -91,18 +91,18 @@ returns-then-knows_none g c =
       searches = λ low.
           let one : status ≡ 1 = elim c.end_unsearched.ensures.status [ inl one ↦ one | inr two ↦ absurd (omega (arith, low, two)) ] in
           record {
-            words = text;
+            what = text;
             between = left;
             read = c.in-Some.ensures.words;
-            searched = no-match flags text (λ old new. AreSought known screen given sought names left left old new status) held held'
+            does = no-match flags text (λ old new. AreSought known screen given sought names left left old new status) held held'
                 (λ old new keeps. rw none (record { passed = none_selected asked (fit_by flags) (inverts flags) sought refl (and_parts _ _ none).1; unread = refl; unwritten = keeps; none = one }))
                 (subst (λ (l : List (List ℕ)). WritesNoMatch flags l held held') all (c.end_unsearched.ensures.written low));
           };
       begins = inr (record {
-        words = text;
+        what = text;
         between = left;
         read = c.in-Some.ensures.words;
-        begun = no-match-begins flags text (λ old new. BeginsOrKeeps known screen given asked names left old new) held held' (λ old new keeps. inl keeps)
+        does = no-match-begins flags text (λ old new. BeginsOrKeeps known screen given asked names left old new) held held' (λ old new keeps. inl keeps)
             (subst (λ (l : List (List ℕ)). BeginsNoMatch flags l held held') all c.end_unsearched.ensures.begun);
       });
       told = subst (λ (old : Errors g.row.E.Denot). TellsStatus g.E.Sink May flags.no_messages (shown_by flags) status old e') (c.in-Some.ensures.silent refl)

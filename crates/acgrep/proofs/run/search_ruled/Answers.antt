@@ -75,12 +75,12 @@ returns g c =
       patternless = λ none. absurd (c.gives_none.ensures.some c.if-gives_none.false none);
       lacking = λ none. absurd (c.gives_none.ensures.some c.if-gives_none.false none);
       searches = λ low. record {
-        rules = rules;
+        what = rules;
         between = between;
         read = read;
-        searched = subst (λ (s : Said). SearchesSaid known screen s between left' held held' status) is (c.search_asked.ensures.searches low);
+        does = subst (λ (s : Said). SearchesSaid known screen s between left' held held' status) is (c.search_asked.ensures.searches low);
       };
-      begins = inr (record { rules = rules; between = between; read = read; begun = subst (λ (s : Said). BeginsSaid known screen s between held held') is c.search_asked.ensures.begins });
+      begins = inr (record { what = rules; between = between; read = read; does = subst (λ (s : Said). BeginsSaid known screen s between held held') is c.search_asked.ensures.begins });
       told = subst (λ (e : Errors g.row.E.Denot). TellsStatus g.E.Sink (MaySaid known left (Some given)) flags.no_messages (shown_by flags) status e new) (c.in-Some.ensures.silent refl)
           (status-weaker g.E.Sink (MaySay known.tree (ruled given rules) (sources_by given.sources given.operands) (names_by given.sources given.operands)) (MaySaid known left (Some given)) flags.no_messages (shown_by flags) status mid new
           (may-ruled known left between given rules read) (subst (λ (s : Said). TellsOfSaid g.E.Sink known.tree s status mid new) is c.search_asked.ensures.told));
