@@ -46,9 +46,8 @@ AreAloneFrom p line at (m ∷ ms) = IsNextAlone p line at (Some m) × AreAloneFr
 
 -- whether a match has to stand alone
 abbrev pub asks_alone : Fit → Bool
-asks_alone AnyPart = false
 asks_alone WholeWord = true
-asks_alone WholeLine = false
+asks_alone _ = false
 
 -- the matches of a line that are written: those that stand alone where that is asked for, and else those that iteration finds
 abbrev pub AreShownOf : Patterns → Bool → List ℕ → List Occurrence → Type 0

@@ -257,8 +257,8 @@ valued_letter letter =
 
 -- that argument stands behind its letter too
 abbrev pub behind_by : Valued → List ℕ → Said → Option ReadSoFar
-behind_by valued [] s = Some (record { awaits = Argument valued; said = s })
 behind_by valued (first ∷ rest) s = value_by valued (first ∷ rest) s
+behind_by valued [] s = Some (record { awaits = Argument valued; said = s })
 
 -- so many digits stand at the front of letters, and then none
 pub record AreDigits (letters : List ℕ) (count : ℕ) : Type 0 where
@@ -336,9 +336,8 @@ argument_by Operands argument s = Some (record { awaits = Operands; said = with_
 
 -- no option may wait for its argument at the end
 abbrev pub ended_by : Awaited → Said → Option Said
-ended_by Fresh s = Some s
 ended_by (Argument valued) s = None
-ended_by Operands s = Some s
+ended_by _ s = Some s
 
 -- one argument after another
 abbrev pub arguments_by : Awaited → List (List ℕ) → Said → Option Said

@@ -17,9 +17,8 @@ source_beside (source ∷ sources) = Some (if source.is_file then codes "-f" els
 
 -- one that says how patterns are searched for
 abbrev pub kind_beside : MatchKind → Option (List ℕ)
-kind_beside Standard = Some (codes "--kind")
-kind_beside LeftmostFirst = Some (codes "--kind")
 kind_beside LeftmostLongest = None
+kind_beside _ = Some (codes "--kind")
 
 abbrev pub pattern_beside : Flags → Option (List ℕ)
 pattern_beside flags =
@@ -44,9 +43,8 @@ output_beside given =
 
 -- one that says how lines are coloured, or what is done with those that hold a zero byte
 abbrev pub is_color : Color → Bool
-is_color Auto = true
-is_color Always = true
 is_color Never = false
+is_color _ = true
 
 abbrev pub last_beside : Said → Option (List ℕ)
 last_beside given =

@@ -82,9 +82,8 @@ reads_devices ways spot = unwrap_or ways.devices (is_followed ways spot)
 -- whether it is searched: a file is, and a device where those are read
 abbrev pub is_searched : Kind → Bool → Bool
 is_searched File devices = true
-is_searched Folder devices = false
-is_searched Link devices = false
 is_searched Device devices = devices
+is_searched _ devices = false
 
 abbrev pub files_by : Ways → Kind → Spot → List (List ℕ)
 files_by ways kind spot = if is_searched kind (reads_devices ways spot) then spot.name ∷ [] else []
@@ -191,10 +190,9 @@ Loses rules spot old new =
 
 -- an operand of this kind is passed over
 abbrev pub is_passed : Ways → Kind → Bool
-is_passed ways File = false
 is_passed ways Folder = ways.skips_folders
-is_passed ways Link = false
 is_passed ways Device = not (unwrap_or ways.devices true)
+is_passed ways _ = false
 
 -- operands of some kind are
 abbrev pub passes : Ways → Bool

@@ -26,15 +26,13 @@ IsZeroLine ending bytes (Some start) = (is_text (take start bytes) ≡ true) × 
 
 -- nothing came
 abbrev pub is_end : Came → Bool
-is_end Text = false
-is_end Binary = false
 is_end End = true
+is_end _ = false
 
 -- what is kept of bytes behind those that are searched
 abbrev pub IsKept : (alone : Bool) → Came → (ending : ℕ) → List ℕ → Type 0
-IsKept alone Text ending kept = TextIf alone kept
 IsKept alone Binary ending kept = (alone ≡ true) × BeginsBinary ending kept
-IsKept alone End ending kept = TextIf alone kept
+IsKept alone _ ending kept = TextIf alone kept
 
 -- bytes come behind those that are kept, and the whole lines of both are searched, or those up to the first that holds a zero byte alone
 pub record ReadsFront (p : Patterns) (job : Job) (alone : Bool) (c : Course) (kept_before kept_after : List ℕ) (came : Came) : Type 0 where

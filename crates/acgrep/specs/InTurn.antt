@@ -31,14 +31,12 @@ status_by shown seen =
 -- what is so where a file was searched
 abbrev pub IfSearched : Outcome → (Bool → Type 0) → Type 0
 IfSearched (Searched any) P = P any
-IfSearched Unread P = Unit {0}
-IfSearched Stopped P = Unit {0}
+IfSearched _ P = Unit {0}
 
 -- what is so where a file was not searched
 abbrev pub IfBroken : Outcome → Type 0 → Type 0
 IfBroken (Searched any) P = Unit {0}
-IfBroken Unread P = P
-IfBroken Stopped P = P
+IfBroken _ P = P
 
 -- what is done of the file of a name, from what is left of standard input to what is left then, and from what the output holds to what
 -- it holds then: all that is asked, where the second `Bool` says whether a line is selected and the first whether one of a file before

@@ -22,14 +22,12 @@ found_by AsFields style place line at m = object_by style place line m
 -- up to where it then is
 abbrev pub behind_by : Shape → ℕ → Occurrence → ℕ
 behind_by Colored at m = behind_match at m
-behind_by OnLines at m = at
-behind_by AsFields at m = at
+behind_by _ at m = at
 
 -- what stands behind the last
 abbrev pub rest_behind : Shape → List ℕ → ℕ → List ℕ
 rest_behind Colored line at = part_of line at (length line)
-rest_behind OnLines line at = []
-rest_behind AsFields line at = []
+rest_behind _ line at = []
 
 -- one match after another, from a place of the line on
 abbrev pub shown_from : Shape → Style → Place → List ℕ → ℕ → List Occurrence → List ℕ

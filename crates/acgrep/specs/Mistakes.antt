@@ -96,11 +96,10 @@ wrong_letters letters = wrong_from_digits [] letters
 
 -- of an argument that stands where an option may, by what it is; an operand is never wrong
 abbrev pub wrong_form : Form → List (List ℕ)
-wrong_form no_more = []
 wrong_form (long_name name) = wrong_name name
 wrong_form (long_with name value) = wrong_joined (option_by name) name value
 wrong_form (joined_letters letters) = wrong_letters letters
-wrong_form no_option = []
+wrong_form _ = []
 
 abbrev pub wrong_fresh : List ℕ → List (List ℕ)
 wrong_fresh argument = wrong_form (argument_form argument)
@@ -113,9 +112,8 @@ mistake_at Operands argument = []
 
 -- an option has no argument at the end
 abbrev pub wrong_end : Awaited → Option (List (List ℕ))
-wrong_end Fresh = None
 wrong_end (Argument valued) = Some (misuse_parts NoArgument (valued_name valued))
-wrong_end Operands = None
+wrong_end _ = None
 
 -- what is told of an argument where it is wrong, and else of those behind it
 abbrev pub mistake_or : List (List ℕ) → (ReadSoFar → Option (List (List ℕ))) → Option ReadSoFar → Option (List (List ℕ))

@@ -35,8 +35,7 @@ leaves_folder (rule ∷ rules) given name = (is_of_folders rule.sense && name_fi
 abbrev pub decided_by : Sense → Bool → Bool → Bool
 decided_by Include fit left = if fit then false else left
 decided_by Exclude fit left = if fit then true else left
-decided_by ExcludeFrom fit left = left
-decided_by ExcludeFolder fit left = left
+decided_by _ fit left = left
 
 abbrev pub after_rule : RuleSaid → Bool → List ℕ → Bool → Bool
 after_rule rule given name left = decided_by rule.sense (name_fits rule.glob given name) left
@@ -50,8 +49,7 @@ leaves_file (rule ∷ rules) given name left = leaves_file rules given name (aft
 abbrev pub begins_so : Sense → Bool → Bool
 begins_so Include others = true
 begins_so Exclude others = false
-begins_so ExcludeFrom others = others
-begins_so ExcludeFolder others = others
+begins_so _ others = others
 
 abbrev pub begins_by_including : List RuleSaid → Bool
 begins_by_including [] = false

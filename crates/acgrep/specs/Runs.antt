@@ -139,8 +139,7 @@ are_empty (word ∷ words) = is_none word && are_empty words
 -- whether any match is enough
 abbrev pub takes_any : Fit → Bool
 takes_any AnyPart = true
-takes_any WholeWord = false
-takes_any WholeLine = false
+takes_any _ = false
 
 -- whether no line is selected, whatever it holds: there is no pattern, or under `invert` there are empty ones alone, and they occur in
 -- each line
