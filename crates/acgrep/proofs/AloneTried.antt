@@ -1,18 +1,5 @@
 -- What stands alone in a line: the longest of what begins together is tried first, and then the shorter ones.
-use Rattle.std.proofs.Common.{◌≡◌, inl, inr, ◌⊎◌, ℕ, ◌+◌, ◌≤◌, ◌<◌, true, false, List, [], ◌∷◌, ◌++◌, Some, None, length, sym, ◌∙◌, subst, arith, ap, append_assoc, append-nil}
-use Rattle.std.proofs.lemmas.Bool.{cases_lt, true≢false}
-use Rattle.aho_core.specs.Answer.{IsAnswer}
-use Rattle.aho_core.specs.Best.{IsBestOrNone}
-use Rattle.aho_core.specs.Occurrence.{Occurrence}
-use Rattle.aho_core.specs.Occurs.{OccursIn}
-use Rattle.aho_core.specs.Order.{IsBefore}
-use Rattle.aho_core.specs.Patterns.{Patterns}
-use Rattle.aho_core.specs.Search.{plain_search}
-use Rattle.aho_core.specs.declared.search.MatchKind.{MatchKind}
-use Rattle.aho_core.specs.declared.search.MatchKind.TheVariants.{LeftmostLongest}
-use Rattle.aho_laws.specs.CutLaws.{span_search}
-use Rattle.aho_laws.proofs.ClearCuts.{Occurs-in}
-use Rattle.acgrep.specs.Alone.{AreAloneFrom, IsAloneAt, IsAloneFrom, IsLongestThere, IsNextAlone, IsShorter, begins_alone, behind_alone, ends_alone}
+use Rattle.acgrep.proofs.Words.{AreAloneFrom, IsAloneAt, IsAloneFrom, IsAnswer, IsBefore, IsBestOrNone, IsLongestThere, IsNextAlone, IsShorter, LeftmostLongest, List, MatchKind, None, Occurrence, Occurs-in, OccursIn, Patterns, Some, [], ap, append-nil, append_assoc, arith, begins_alone, behind_alone, cases_lt, ends_alone, false, inl, inr, length, plain_search, span_search, subst, sym, true, true≢false, ℕ, ◌++◌, ◌+◌, ◌<◌, ◌∙◌, ◌∷◌, ◌≡◌, ◌≤◌, ◌⊎◌}
 
 -- what a search of a range of a line finds lies in it
 pub record LiesIn (start end : ℕ) (m : Occurrence) : Type 0 where

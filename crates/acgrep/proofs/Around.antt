@@ -1,22 +1,5 @@
 -- The line around a place, and patterns that hold no newline.
-use Rattle.std.proofs.Common.{◌≡◌, inl, inr, ◌⊎◌, ℕ, ◌+◌, ◌-◌, ◌≤◌, ◌<◌, ◌==◌, true, List, length, take, drop, sym, ◌∙◌, ap, subst, arith}
-use Rattle.std.specs.Prelude.{slice_index, Some}
-use Rattle.std.proofs.Math.ListN.{get_or}
-use Rattle.std.proofs.lemmas.Bool.{cases_lt, eqb-true}
-use Rattle.std.proofs.lemmas.List.{get_or-take, get_or-drop, length-take-le, length-drop}
-use Rattle.memchr.specs.Find.{Nowhere}
-use Rattle.aho_core.specs.Answer.{IsAnswer}
-use Rattle.aho_core.specs.Bytes.{folded}
-use Rattle.aho_core.specs.Occurrence.{Occurrence}
-use Rattle.aho_core.specs.Occurs.{OccursIn}
-use Rattle.aho_core.specs.Order.{IsBefore}
-use Rattle.aho_core.specs.Patterns.{Patterns, pattern_at}
-use Rattle.aho_core.specs.Search.{plain_search}
-use Rattle.aho_core.specs.declared.search.MatchKind.{MatchKind}
-use Rattle.aho_core.specs.declared.search.MatchKind.TheVariants.{Standard, LeftmostFirst, LeftmostLongest}
-use Rattle.aho_core.specs.declared.search.Span.{Span}
-use Rattle.acgrep.specs.Lines.{IsEnding}
-use Rattle.acgrep.specs.Selected.{HoldNoEnding, IsFirstWith, IsLine}
+use Rattle.acgrep.proofs.Words.{HoldNoEnding, IsAnswer, IsBefore, IsEnding, IsFirstWith, IsLine, LeftmostFirst, LeftmostLongest, List, MatchKind, Nowhere, Occurrence, OccursIn, Patterns, Some, Span, Standard, ap, arith, cases_lt, drop, eqb-true, folded, get_or, get_or-drop, get_or-take, inl, inr, length, length-drop, length-take-le, pattern_at, plain_search, slice_index, subst, sym, take, true, ℕ, ◌+◌, ◌-◌, ◌<◌, ◌==◌, ◌∙◌, ◌≡◌, ◌≤◌, ◌⊎◌}
 use Rattle.std.proofs.Math.ListN.{get_or-map}
 
 -- of the others none ends before the best begins

@@ -1,15 +1,5 @@
 -- A beginning of what is told of lines, put together from parts.
-use Rattle.std.proofs.Common.{◌≡◌, inl, inr, ℕ, ◌<◌, Bool, true, false, List, [], ◌∷◌, ◌++◌, Option, None, Some, length, refl, sym, ◌∙◌, ap, subst, append-nil}
-use Rattle.std.specs.Prelude.{MatchBool, Result, Ok, Err, OnErr}
-use Rattle.std.specs.Io.KnownBytes.{Appends}
-use Rattle.aho_core.specs.Patterns.{Patterns}
-use Rattle.aho_devices.specs.Counts.{AppendsBeginning}
-use Rattle.acgrep.specs.Contexts.{BeginsLines, TellsFrom}
-use Rattle.acgrep.specs.Lines.{lines}
-use Rattle.acgrep.specs.Written.{EachLine, HasNone, IsSelected, DoesMatch, DoesNotMatch, SamePlace, SearchesTo, TellsLines, WritesLine, after_lines, is_full, one_more}
-use Rattle.acgrep.specs.declared.print.Place.{Place}
-use Rattle.acgrep.specs.declared.select.Job.{Job}
-use Rattle.acgrep.specs.declared.select.State.{State}
+use Rattle.acgrep.proofs.Words.{Appends, AppendsBeginning, BeginsLines, Bool, DoesMatch, DoesNotMatch, EachLine, Err, HasNone, IsSelected, Job, List, MatchBool, None, Ok, OnErr, Option, Patterns, Place, Result, SamePlace, SearchesTo, Some, State, TellsFrom, TellsLines, WritesLine, [], after_lines, ap, append-nil, false, inl, inr, is_full, length, lines, one_more, refl, subst, sym, true, ℕ, ◌++◌, ◌<◌, ◌∙◌, ◌∷◌, ◌≡◌}
 use Rattle.acgrep.proofs.Begun.{begins_behind, begins_more, begins_some}
 use Rattle.acgrep.proofs.Tellings.{Passing, none_matches, same_place, tells_append, tells_same}
 

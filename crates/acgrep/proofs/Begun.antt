@@ -1,9 +1,5 @@
 -- Beginnings of what is told of lines: a beginning of a part is a beginning of the whole.
-use Rattle.std.proofs.Common.{◌≡◌, ◌⊎◌, inl, inr, ℕ, List, [], ◌∷◌, ◌++◌, Option, take, drop, take-append-drop, refl, sym, ◌∙◌, ap, append_assoc, append-nil}
-use Rattle.std.specs.Io.KnownBytes.{Appends}
-use Rattle.std.proofs.KnownBytes.{Appends-trans}
-use Rattle.aho_devices.specs.Counts.{AppendsBeginning}
-use Rattle.acgrep.specs.Begun.{BeginsOf}
+use Rattle.acgrep.proofs.Words.{Appends, Appends-trans, AppendsBeginning, BeginsOf, List, Option, [], ap, append-nil, append_assoc, drop, inl, inr, refl, sym, take, take-append-drop, ℕ, ◌++◌, ◌∙◌, ◌∷◌, ◌≡◌, ◌⊎◌}
 
 -- bytes of which a front is nothing
 pub nil_front : (xs ys : List ℕ) → [] ≡ xs ++ ys → xs ≡ []

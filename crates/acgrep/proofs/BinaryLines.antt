@@ -1,12 +1,6 @@
 -- Lines up to the first that holds a zero byte, and those from it on.
-use Rattle.std.proofs.Common.{◌≡◌, inl, inr, ℕ, suc, zero, ◌+◌, ◌-◌, ◌≤◌, ◌<◌, ◌==◌, Bool, true, false, List, [], ◌∷◌, ◌++◌, length, take, drop, take-append-drop, take-take, length-drop, refl, sym, ◌∙◌, ap, subst, arith}
-use Rattle.std.specs.Prelude.{Some, if◌then◌else◌, not}
-use Rattle.std.proofs.lemmas.Bool.{and_from, and_parts, and_right, cases_Bool, eq-eqb, eqb-true, false_from_ne_true, not_from_false, true≢false}
-use Rattle.memchr.specs.Find.{Nowhere}
-use Rattle.acgrep.specs.Binary.{binary_lines, is_text, text_lines}
-use Rattle.acgrep.specs.Guarded.{IsFirstBinary, IsZeroLine}
-use Rattle.acgrep.specs.Lines.{IsEnding, joined_to, lines}
-use Rattle.acgrep.specs.Written.{EachLine, SomeLine}
+use Rattle.acgrep.proofs.Words.{Bool, EachLine, IsEnding, IsFirstBinary, IsZeroLine, List, Nowhere, Some, SomeLine, [], and_from, and_parts, and_right, ap, arith, binary_lines, cases_Bool, drop, eq-eqb, eqb-true, false, false_from_ne_true, if◌then◌else◌, inl, inr, is_text, joined_to, length, lines, not, not_from_false, refl, subst, suc, sym, take, take-append-drop, text_lines, true, true≢false, zero, ℕ, ◌++◌, ◌+◌, ◌-◌, ◌<◌, ◌==◌, ◌∙◌, ◌∷◌, ◌≡◌, ◌≤◌}
+use Rattle.std.proofs.Common.{take-take, length-drop}
 use Rattle.acgrep.proofs.Around.{behind_newline, front_newline, newline_behind}
 use Rattle.acgrep.proofs.FirstLines.{lines_joined}
 use Rattle.acgrep.proofs.LineLists.{drop_zero}

@@ -1,25 +1,5 @@
 -- What is told where lines from the first on that holds a zero byte are kept from the output.
-use Rattle.std.proofs.Common.{◌≡◌, ◌⊎◌, inl, inr, ℕ, ◌<◌, ◌==◌, Bool, true, false, List, [], ◌∷◌, ◌++◌, Option, None, Some, IfSome, take, drop, take-append-drop, refl, sym, ◌∙◌, ap, subst, append_assoc, append-nil}
-use Rattle.std.specs.Prelude.{MatchBool, if◌then◌else◌, nat_lt, not, ◌&&◌, ◌||◌}
-use Rattle.std.specs.Io.KnownBytes.{Appends, Consumes}
-use Rattle.std.proofs.KnownBytes.{Appends-trans, Consumes-trans, Keeps-refl}
-use Rattle.std.proofs.lemmas.Bool.{and_parts, lt-ltb, not-true, true≢false, or_right}
-use Rattle.std.proofs.Math.Bool.{or-false}
-use Rattle.aho_core.specs.Patterns.{Patterns}
-use Rattle.aho_devices.specs.Counts.{AppendsBeginning}
-use Rattle.acgrep.specs.Begun.{BeginsOf}
-use Rattle.acgrep.specs.Binary.{TellsBinary, TellsGuarded, binary_by, binary_lines, is_guarded, is_text, lines_by, lines_sought, seeking, takes_text, text_lines, writes_lines}
-use Rattle.acgrep.specs.Contexts.{IsBegin, SearchesText, TellsFile, TellsFrom, around_of}
-use Rattle.acgrep.specs.Files.{BeginsFile, SearchesFile, SearchesReader, TellsSearched, total_if}
-use Rattle.acgrep.specs.Guarded.{BeginsBinary, EndsFront, FindsSelected, IsFirstBinary, SearchesFront, SearchesPast}
-use Rattle.acgrep.specs.Lines.{EndsLine, lines}
-use Rattle.acgrep.specs.Streamed.{BeginsBehind, Course, SearchesBehind, course}
-use Rattle.acgrep.specs.Written.{IsAny, IsSelected, IsSettled, SomeLine, TellsOfLines, is_full, needs_one}
-use Rattle.acgrep.specs.declared.options.Context.{Context}
-use Rattle.acgrep.specs.declared.options.Shown.{Shown}
-use Rattle.acgrep.specs.declared.options.Shown.TheVariants.{Lines, Matches, Objects, Count, Names, Lacking, Nothing}
-use Rattle.acgrep.specs.declared.select.Job.{Job}
-use Rattle.acgrep.specs.declared.select.State.{State}
+use Rattle.acgrep.proofs.Words.{Appends, Appends-trans, AppendsBeginning, BeginsBehind, BeginsBinary, BeginsFile, BeginsOf, Bool, Consumes, Consumes-trans, Context, Count, Course, EndsFront, EndsLine, FindsSelected, IfSome, IsAny, IsBegin, IsFirstBinary, IsSelected, IsSettled, Job, Keeps-refl, Lacking, Lines, List, MatchBool, Matches, Names, None, Nothing, Objects, Option, Patterns, SearchesBehind, SearchesFile, SearchesFront, SearchesPast, SearchesReader, SearchesText, Shown, Some, SomeLine, State, TellsBinary, TellsFile, TellsFrom, TellsGuarded, TellsOfLines, TellsSearched, [], and_parts, ap, append-nil, append_assoc, around_of, binary_by, binary_lines, course, drop, false, if◌then◌else◌, inl, inr, is_full, is_guarded, is_text, lines, lines_by, lines_sought, lt-ltb, nat_lt, needs_one, not, not-true, or-false, or_right, refl, seeking, subst, sym, take, take-append-drop, takes_text, text_lines, total_if, true, true≢false, writes_lines, ℕ, ◌&&◌, ◌++◌, ◌<◌, ◌==◌, ◌||◌, ◌∙◌, ◌∷◌, ◌≡◌, ◌⊎◌}
 use Rattle.acgrep.proofs.BinaryLines.{binary_behind, first_binary, first_some, first_text, some_binary, some_text, text_behind}
 use Rattle.acgrep.proofs.Begun.{nil_front}
 use Rattle.acgrep.proofs.FileTellings.{TextTold, shows_nothing, some_front, sought_all, tells_any, tells_none, text_behind as text_read, text_told}

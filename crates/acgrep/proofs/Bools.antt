@@ -1,6 +1,5 @@
 -- What holds by a test.
-use Rattle.std.proofs.Common.{◌≡◌, Bool, true, false}
-use Rattle.std.specs.Prelude.{MatchBool}
+use Rattle.acgrep.proofs.Words.{Bool, MatchBool, false, true, ◌≡◌}
 
 pub where_true : {A : Type 0} (B : Type 0) (b : Bool) → b ≡ true → A → MatchBool b A B
 where_true B true is a = a

@@ -1,19 +1,6 @@
 -- Which of the operands are searched.
-use Rattle.std.proofs.Common.{◌≡◌, ◌⊎◌, inl, inr, Bool, true, false, Option, None, Some, ℕ, ◌-◌, ◌<◌, List, [], ◌∷◌, ◌++◌, length, take, drop, refl, sym, ◌∙◌, ap, subst, arith, append_assoc, append-nil, take_all}
-use Rattle.std.specs.Prelude.{◌||◌, IfSome, not, unwrap_or}
-use Rattle.std.specs.Borrow.{Bor}
-use Rattle.std.proofs.lemmas.Bool.{cases_Bool, or_parts}
-use Rattle.std.proofs.Math.ListN.{get_or}
-use Rattle.tool_parts.specs.Names.{is_input, name_bytes, or_input}
-use Rattle.acgrep.specs.Arguments.{Said, ways_by}
-use Rattle.acgrep.specs.Folders.{AreChosen, Chooses, IsKept, IsUnknown, Tree, is_folder, is_passed, kept_of, missed_of, passes}
-use Rattle.acgrep.specs.Listed.{listed_bytes}
-use Rattle.acgrep.specs.Rules.{RuleSaid, is_left_out}
-use Rattle.acgrep.specs.Runs.{AreReached, chooses, has_rules}
-use Rattle.acgrep.specs.declared.folders.Kind.{Kind}
-use Rattle.acgrep.specs.declared.folders.Kind.TheVariants.{File, Folder, Link, Device}
-use Rattle.acgrep.specs.declared.walk.Found.{Found}
-use Rattle.acgrep.specs.declared.walk.Ways.{Ways}
+use Rattle.acgrep.proofs.Words.{AreChosen, AreReached, Bool, Bor, Chooses, Device, File, Folder, Found, IfSome, IsKept, IsUnknown, Kind, Link, List, None, Option, RuleSaid, Said, Some, Tree, Ways, [], ap, append-nil, append_assoc, arith, cases_Bool, chooses, drop, false, get_or, has_rules, inl, inr, is_folder, is_input, is_left_out, is_passed, kept_of, length, listed_bytes, missed_of, name_bytes, not, or_input, or_parts, passes, refl, subst, sym, take, true, unwrap_or, ways_by, ℕ, ◌++◌, ◌-◌, ◌<◌, ◌||◌, ◌∙◌, ◌∷◌, ◌≡◌, ◌⊎◌}
+use Rattle.std.proofs.Common.{take_all}
 
 -- those of the names so far were put down: whichever of the others are searched, those behind them are
 pub record AreSoFar (tree : Tree) (rules : List RuleSaid) (ways : Ways) (all rest : List (List ℕ)) (found : Found) : Type 0 where

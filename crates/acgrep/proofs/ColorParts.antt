@@ -1,10 +1,6 @@
 -- The parts between the colons of what GREP_COLORS says.
-use Rattle.std.proofs.Common.{◌≡◌, ℕ, ◌+◌, ◌<◌, false, List, [], ◌∷◌, length, take, drop, arith, subst, sym}
-use Rattle.std.proofs.lemmas.List.Elements.{All-from_get_or}
+use Rattle.acgrep.proofs.Words.{All-from_get_or, List, [], arith, drop, fails_before_first, false, is_colon, length, position_or_len, slice_split, subst, sym, take, ℕ, ◌+◌, ◌<◌, ◌∷◌, ◌≡◌}
 use Rattle.std.proofs.lemmas.List.Splits.{slice_split_first, slice_split_none}
-use Rattle.std.proofs.lemmas.List.Sums.{fails_before_first}
-use Rattle.std.specs.List.{position_or_len, slice_split}
-use Rattle.acgrep.specs.Colors.{is_colon}
 
 -- the first part, and those behind its colon
 pub parts_first : (text : List ℕ) (end : ℕ) → end ≡ position_or_len is_colon text → end < length text

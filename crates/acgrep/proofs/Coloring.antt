@@ -1,16 +1,6 @@
 -- Matches that are written one after another.
-use Rattle.std.proofs.Common.{◌≡◌, ℕ, List, [], ◌∷◌, ◌++◌, Option, refl, sym, ◌∙◌, ap, subst, append_assoc, append-nil}
-use Rattle.std.specs.Io.KnownBytes.{Appends}
-use Rattle.std.specs.Prelude.{Bool, if◌then◌else◌}
-use Rattle.std.proofs.KnownBytes.{Appends-nil, Appends-trans}
-use Rattle.std.proofs.lemmas.Bool.{ne_eqb}
-use Rattle.aho_core.specs.Occurrence.{Occurrence}
-use Rattle.acgrep.specs.Matches.{behind_by, found_by, rest_behind, shown_from}
-use Rattle.acgrep.specs.Printed.{colored_by, match_code, painted, part_of}
+use Rattle.acgrep.proofs.Words.{Appends, Appends-nil, Appends-trans, AsFields, Bool, Colored, List, Occurrence, OnLines, Option, Place, Style, [], ap, append-nil, append_assoc, behind_by, colored_by, found_by, if◌then◌else◌, match_code, ne_eqb, painted, part_of, refl, rest_behind, shown_from, subst, sym, ℕ, ◌++◌, ◌∙◌, ◌∷◌, ◌≡◌}
 use Rattle.acgrep.specs.declared.matches.Shape.{Shape}
-use Rattle.acgrep.specs.declared.matches.Shape.TheVariants.{Colored, OnLines, AsFields}
-use Rattle.acgrep.specs.declared.print.Place.{Place}
-use Rattle.acgrep.specs.declared.print.Style.{Style}
 
 -- what stands before a match that is not empty, and then the match
 pub colored_one : (style : Style) (line front found : List ℕ) (at start end : ℕ) (m : Occurrence) (x y z : Option (List ℕ)) → start ≡ m.start → end ≡ m.end → (end ≡ start → ⊥)

@@ -1,14 +1,5 @@
 -- Digits among joined letters.
-use Rattle.std.proofs.Common.{◌≡◌, ◌==◌, inl, inr, ℕ, suc, zero, ◌≤◌, ◌<◌, true, false, List, [], ◌∷◌, ◌++◌, Option, None, Some, length, take, drop, refl, sym, ◌∙◌, ap, arith, append_assoc, append-nil}
-use Rattle.std.specs.Prelude.{option_and_then, option_map}
-use Rattle.std.specs.Char.{is_ascii_digit}
-use Rattle.std.proofs.lemmas.Bool.{cases_Bool, eqb-true}
-use Rattle.acgrep.specs.Arguments.{AreDigits, AreRefused, ReadSoFar, Said, letter_by, letters_by, letters_from, number_by, valued_letter, said_so, switch_by, switched, with_digits, with_number}
-use Rattle.acgrep.specs.Mistakes.{IsTold, digits_value_of, if_none, wrong_digits, wrong_from_digits, wrong_letter, wrong_letters}
-use Rattle.acgrep.specs.Told.{number_parts, valued_name}
-use Rattle.acgrep.specs.declared.arguments.Refusal.{Refusal}
-use Rattle.acgrep.specs.declared.arguments.Refusal.TheVariants.{Wrong, OutOfMemory}
-use Rattle.acgrep.specs.declared.long.Valued.TheVariants.{Around}
+use Rattle.acgrep.proofs.Words.{AreDigits, AreRefused, Around, IsTold, List, None, Option, OutOfMemory, ReadSoFar, Refusal, Said, Some, Wrong, [], ap, append-nil, append_assoc, arith, cases_Bool, digits_value_of, drop, eqb-true, false, if_none, inl, inr, is_ascii_digit, length, letter_by, letters_by, letters_from, number_by, number_parts, option_and_then, option_map, refl, said_so, suc, switch_by, switched, sym, take, true, valued_letter, valued_name, with_digits, with_number, wrong_digits, wrong_from_digits, wrong_letter, wrong_letters, zero, ℕ, ◌++◌, ◌<◌, ◌==◌, ◌∙◌, ◌∷◌, ◌≡◌, ◌≤◌}
 use Rattle.acgrep.specs.declared.options.Switch.{Switch}
 
 abbrev then_letters : List ℕ → Option Said → Option ReadSoFar

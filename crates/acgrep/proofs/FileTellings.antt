@@ -1,23 +1,5 @@
 -- What is written of a file, from what was searched of its reader.
-use Rattle.std.proofs.Common.{◌≡◌, ◌⊎◌, inl, inr, ℕ, ◌<◌, Bool, true, false, List, [], ◌∷◌, ◌++◌, Option, None, Some, IfSome, refl, sym, ◌∙◌, ap, subst, arith, append-nil}
-use Rattle.std.specs.Prelude.{MatchBool, if◌then◌else◌, nat_lt}
-use Rattle.std.specs.Io.KnownBytes.{Appends, Consumes, IsAtEnd}
-use Rattle.std.proofs.KnownBytes.{Appends-trans}
-use Rattle.std.proofs.lemmas.Bool.{cases_Bool, lt-ltb, ltb-false, ltb-true}
-use Rattle.aho_core.specs.Patterns.{Patterns}
-use Rattle.acgrep.specs.Binary.{TellsGuarded, is_guarded, lines_by, lines_sought, takes_text}
-use Rattle.acgrep.specs.Contexts.{IsBegin, SearchesIn, TellsFile, TellsIn, around_by, around_of, walk_of}
-use Rattle.acgrep.specs.Files.{EndsFile, IsRead, SearchesFile, TellsBy, TellsSearched, count_if, total_if}
-use Rattle.acgrep.specs.Lines.{lines}
-use Rattle.acgrep.specs.Printed.{file_line}
-use Rattle.acgrep.specs.Written.{EachLine, IsAny, IsPassedOver, IsSelected, IsSettled, ShowsBy, ShowsLine, SomeLine, TellsOfLines, is_full, needs_one, one_more}
-use Rattle.acgrep.specs.declared.options.Context.{Context}
-use Rattle.acgrep.specs.declared.options.Shown.{Shown}
-use Rattle.acgrep.specs.declared.options.Shown.TheVariants.{Lines, Matches, Objects, Count, Names, Lacking, Nothing}
-use Rattle.acgrep.specs.declared.print.Place.{Place}
-use Rattle.acgrep.specs.declared.print.Style.{Style}
-use Rattle.acgrep.specs.declared.select.Job.{Job}
-use Rattle.acgrep.specs.declared.select.State.{State}
+use Rattle.acgrep.proofs.Words.{Appends, Appends-trans, Bool, Consumes, Context, Count, EachLine, EndsFile, IfSome, IsAny, IsAtEnd, IsBegin, IsPassedOver, IsRead, IsSelected, IsSettled, Job, Lacking, Lines, List, MatchBool, Matches, Names, None, Nothing, Objects, Option, Patterns, Place, SearchesFile, SearchesIn, Shown, ShowsBy, ShowsLine, Some, SomeLine, State, Style, TellsBy, TellsFile, TellsGuarded, TellsIn, TellsOfLines, TellsSearched, [], ap, append-nil, arith, around_by, around_of, cases_Bool, count_if, false, file_line, if◌then◌else◌, inl, inr, is_full, is_guarded, lines, lines_by, lines_sought, lt-ltb, ltb-false, ltb-true, nat_lt, needs_one, one_more, refl, subst, sym, takes_text, total_if, true, walk_of, ℕ, ◌++◌, ◌<◌, ◌∙◌, ◌∷◌, ◌≡◌, ◌⊎◌}
 use Rattle.acgrep.proofs.Grouped.{told_around}
 use Rattle.acgrep.proofs.Tellings.{full_some, tells_full}
 use Rattle.acgrep.proofs.Walked.{walks_append, walks_full, walks_tells}

@@ -1,24 +1,5 @@
 -- What is written of a file that is not searched to its end.
-use Rattle.std.proofs.Common.{arith, ◌≡◌, inl, inr, ◌⊎◌, ℕ, Bool, true, false, List, [], ◌++◌, ◌==◌, Option, None, Some, IfSome, drop, take, take-append-drop, refl, sym, ◌∙◌, ap, subst, append-nil}
-use Rattle.std.specs.Prelude.{MatchBool, not, ◌&&◌, ◌||◌}
-use Rattle.std.specs.Io.KnownBytes.{Appends, Keeps}
-use Rattle.std.proofs.KnownBytes.{Appends-trans}
-use Rattle.std.proofs.lemmas.Bool.{and_parts}
-use Rattle.aho_core.specs.Patterns.{Patterns}
-use Rattle.aho_devices.specs.Counts.{AppendsBeginning}
-use Rattle.acgrep.specs.Binary.{TellsBinary, binary_by, is_guarded, lines_by, takes_text, writes_lines}
-use Rattle.acgrep.specs.Contexts.{IsBegin, TellsFrom, TellsIn, around_by, around_of, walk_of}
-use Rattle.acgrep.specs.Files.{BeginsFile, BeginsTotal, IsTail, SearchesFile, TellsFirst, total_if}
-use Rattle.acgrep.specs.Guarded.{SearchesFront}
-use Rattle.acgrep.specs.Streamed.{BeginsBehind, course}
-use Rattle.acgrep.specs.Written.{ShowsBy}
-use Rattle.acgrep.specs.declared.options.Context.{Context}
-use Rattle.acgrep.specs.declared.options.Shown.{Shown}
-use Rattle.acgrep.specs.declared.options.Shown.TheVariants.{Lines, Matches, Objects, Count, Names, Lacking, Nothing}
-use Rattle.acgrep.specs.declared.print.Place.{Place}
-use Rattle.acgrep.specs.declared.print.Style.{Style}
-use Rattle.acgrep.specs.declared.select.Job.{Job}
-use Rattle.acgrep.specs.declared.select.State.{State}
+use Rattle.acgrep.proofs.Words.{Appends, Appends-trans, AppendsBeginning, BeginsBehind, BeginsFile, BeginsTotal, Bool, Context, Count, IfSome, IsBegin, IsTail, Job, Keeps, Lacking, Lines, List, MatchBool, Matches, Names, None, Nothing, Objects, Option, Patterns, Place, SearchesFile, SearchesFront, Shown, ShowsBy, Some, State, Style, TellsBinary, TellsFirst, TellsFrom, TellsIn, [], and_parts, ap, append-nil, arith, around_by, around_of, binary_by, course, drop, false, inl, inr, is_guarded, lines_by, not, refl, subst, sym, take, take-append-drop, takes_text, total_if, true, walk_of, writes_lines, ℕ, ◌&&◌, ◌++◌, ◌==◌, ◌||◌, ◌∙◌, ◌≡◌, ◌⊎◌}
 use Rattle.acgrep.proofs.Begun.{begins_both, begins_nothing, begins_on, nil_front}
 use Rattle.acgrep.proofs.FileTellings.{from_begin, tells_none}
 use Rattle.acgrep.proofs.Grouped.{told_around}

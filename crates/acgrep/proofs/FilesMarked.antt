@@ -1,40 +1,12 @@
 -- What is written of files whose lines rules mark.
-use Rattle.std.proofs.Common.{◌≡◌, ◌⊎◌, inl, inr, ℕ, Bool, true, false, List, [], ◌∷◌, ◌++◌, Option, Some, None, length, take, refl, sym, ap, subst, ◌∙◌, append-nil, arith}
-use Rattle.std.specs.Prelude.{◌≢◌, ◌==◌, ◌&&◌, ◌||◌, nat_lt, Ok, Err, Result, if◌then◌else◌}
-use Rattle.std.specs.Io.{StartsWith}
-use Rattle.std.specs.Io.KnownBytes.{Appends, Consumes, IsAtEnd, Keeps}
-use Rattle.std.proofs.KnownBytes.{Appends-trans, Consumes-whole}
-use Rattle.std.proofs.Math.Bool.{and-false, and-true}
-use Rattle.aho_core.specs.Occurrence.{Occurrence}
-use Rattle.aho_devices.specs.Counts.{counted}
+use Rattle.acgrep.proofs.Words.{Appends, Appends-trans, AreFirstGiven, BeginsInput, BeginsMarks, BeginsTotal, BeginsWalk, Bool, ComesInput, ComesMarked, ComesName, Consumes, Consumes-whole, Count, Covering, EndsFile, Err, FileAsked, HasFirst, HasToldAll, IfBroken, IfSearched, IsAtEnd, IsNamed, Job, Keeps, Lacking, Line, LineError, Lines, List, MarksBy, MarksFile, MarksInput, MarksText, Matches, Names, None, Nothing, Objects, Occurrence, Ok, Option, Outcome, Pass, Place, Result, Rule, Shown, SinkGhosts, Some, SourceGhosts, StartsWith, Style, TellsAll, Unread, WalksGiven, WalksLines, [], and-false, and-true, ap, append-nil, arith, begins_with, counted, covering_by, false, file_asked, file_marked, file_selected, if◌then◌else◌, inl, inr, is_input, known_of, length, marked_line, marked_lines, marked_shown, nat_lt, needs_one, pass_behind, pass_from, refl, seen_lines, shown_name, stream_lines, subst, sym, take, total_if, true, ℕ, ◌&&◌, ◌++◌, ◌==◌, ◌||◌, ◌∙◌, ◌∷◌, ◌≡◌, ◌≢◌, ◌⊎◌}
 use Rattle.aho_automaton.specs.declared.automaton.Automaton.{Ghosts as Automata}
-use Rattle.aho_devices.specs.declared.device.Sink.{Ghosts as SinkGhosts}
-use Rattle.aho_devices.specs.declared.device.Source.{Ghosts as SourceGhosts}
 use Rattle.aho_stream.specs.After.{MayFollow}
-use Rattle.secret_rules.specs.Covering.{Covering, covering_by}
 use Rattle.secret_rules.specs.LineCovers.{AreSearchedFor}
-use Rattle.secret_rules.specs.Lines.{Line, stream_lines}
 use Rattle.secret_rules.specs.Ready.{CanCoverLines, CoversTheSame, most_of, rules_of, words_of}
-use Rattle.secret_rules.specs.declared.error.LineError.{LineError}
 use Rattle.secret_rules.specs.declared.line_cover.LineCover.{LineCover}
-use Rattle.secret_rules.specs.declared.rule.Rule.{Rule}
-use Rattle.tool_parts.specs.Names.{is_input}
-use Rattle.aho_cover.proofs.Copied.{begins_with}
-use Rattle.acgrep.specs.Files.{BeginsTotal, EndsFile, IsNamed, known_of, shown_name, total_if}
-use Rattle.acgrep.specs.Marked.{FileAsked, marked_shown, marked_line, marked_lines, pass_behind}
-use Rattle.acgrep.specs.MarkedFiles.{AreFirstGiven, BeginsWalk, BeginsInput, BeginsMarks, ComesInput, ComesMarked, ComesName, HasFirst, HasToldAll, MarksBy, MarksFile, MarksInput, MarksText, TellsAll, WalksGiven, WalksLines, file_asked, file_marked, file_selected, pass_from, seen_lines}
-use Rattle.acgrep.specs.Written.{needs_one}
-use Rattle.acgrep.specs.declared.files.Outcome.{Outcome}
-use Rattle.acgrep.specs.declared.files.Outcome.TheVariants.{Unread}
-use Rattle.acgrep.specs.declared.marked.Pass.{Pass}
-use Rattle.acgrep.specs.declared.options.Shown.{Shown}
-use Rattle.acgrep.specs.declared.options.Shown.TheVariants.{Lines, Matches, Objects, Count, Names, Lacking, Nothing}
-use Rattle.acgrep.specs.declared.print.Place.{Place}
-use Rattle.acgrep.specs.declared.print.Style.{Style}
-use Rattle.acgrep.specs.declared.select.Job.{Job}
 use Rattle.acgrep.proofs.InTurn.{if_broken, if_searched}
 use Rattle.acgrep.proofs.FilesBegun.{of_kept, total_none}
-use Rattle.acgrep.specs.InTurn.{IfBroken, IfSearched}
 use Rattle.acgrep.proofs.NamesSearched.{at_file, at_input}
 use Rattle.acgrep.proofs.Streams.{keeps_nil}
 

@@ -1,9 +1,5 @@
 -- What a read puts into the room behind the bytes that are held.
-use Rattle.std.proofs.Common.{◌≡◌, ℕ, ◌+◌, ◌-◌, ◌≤◌, ◌<◌, List, ◌++◌, Option, length, take, drop, sym, ◌∙◌, ap, arith, append_assoc}
-use Rattle.std.specs.Io.KnownBytes.{Consumes, IsAtEnd}
-use Rattle.std.proofs.Math.Seq.{take-append-add}
-use Rattle.std.proofs.lemmas.List.{length-drop, length-take-le, take-append-le, take-take}
-use Rattle.acgrep.specs.Filled.{FillsBehind}
+use Rattle.acgrep.proofs.Words.{Consumes, FillsBehind, IsAtEnd, List, Option, ap, append_assoc, arith, drop, length, length-drop, length-take-le, sym, take, take-append-add, take-append-le, take-take, ℕ, ◌++◌, ◌+◌, ◌-◌, ◌<◌, ◌∙◌, ◌≡◌, ◌≤◌}
 
 filled : (held count len : ℕ) (items shown read post tail : List ℕ) → shown ≡ items → held ≤ length shown → count ≤ length read → held + count ≤ len
     → take (held + count) (take len ((take held shown ++ (read ++ post)) ++ tail)) ≡ take held items ++ take count read

@@ -1,10 +1,5 @@
 -- The first line of a text and the others.
-use Rattle.std.proofs.Common.{◌≡◌, inl, inr, ℕ, suc, zero, ◌≤◌, ◌<◌, ◌==◌, true, false, List, [], ◌∷◌, ◌++◌, length, take, drop, refl, ◌∙◌, ap, arith}
-use Rattle.std.proofs.lemmas.Bool.{cases_Bool}
-use denote.Ref.{Bor}
-use Rattle.aho_core.specs.Replacement.{pieces_of}
-use Rattle.memchr.specs.Find.{Nowhere}
-use Rattle.acgrep.specs.Lines.{IsEnding, joined_to, lines}
+use Rattle.acgrep.proofs.Words.{Bor, IsEnding, List, Nowhere, [], ap, arith, cases_Bool, drop, false, inl, inr, joined_to, length, lines, pieces_of, refl, suc, take, true, zero, ℕ, ◌++◌, ◌<◌, ◌==◌, ◌∙◌, ◌∷◌, ◌≡◌, ◌≤◌}
 
 module _ (ending : ℕ) where
   -- a byte that is no newline belongs to the first line

@@ -1,8 +1,5 @@
 -- What was read of a reader so far, up to its end.
-use Rattle.std.proofs.Common.{◌≡◌, ℕ, List, [], ◌++◌, Option, take, sym, subst, append-nil}
-use Rattle.std.specs.Prelude.{IfSome}
-use Rattle.std.specs.Io.KnownBytes.{Consumes, IsAtEnd}
-use Rattle.std.proofs.KnownBytes.{Consumes-nil, Consumes-trans, Consumes-whole}
+use Rattle.acgrep.proofs.Words.{Consumes, Consumes-nil, Consumes-trans, Consumes-whole, IfSome, IsAtEnd, List, Option, [], append-nil, subst, sym, take, ℕ, ◌++◌, ◌≡◌}
 
 -- nothing
 pub text_begun : (left : Option (List ℕ)) (text : List ℕ) → text ≡ [] → Consumes left left text

@@ -1,13 +1,6 @@
 -- The pieces of a format, written one after another, are the format.
-use Rattle.std.proofs.Common.{◌≡◌, ℕ, zero, suc, ◌<◌, ◌-◌, ◌==◌, Bool, true, false, List, [], ◌∷◌, ◌++◌, Option, Some, None, ◌∙◌, ap, refl, sym, subst, inl, inr, drop, length, codes, arith}
-use Rattle.std.specs.Prelude.{◌||◌, nat_eq, option_and_then, option_map, if◌then◌else◌}
-use Rattle.std.specs.List.{starts_with}
-use Rattle.std.proofs.lemmas.Bool.{cases_Bool}
-use Rattle.std.proofs.lemmas.Bool.Decides.{Decides-eqb}
+use Rattle.acgrep.proofs.Words.{Bool, Decides-eqb, Front, List, None, Option, Piece, Some, [], ap, arith, cases_Bool, codes, drop, false, format_pieces, format_text, front_at, front_by, if◌then◌else◌, inl, inr, length, nat_eq, option_and_then, option_map, piece_text, pieces_behind, plain_front, refl, starts_with, subst, suc, sym, true, zero, ℕ, ◌++◌, ◌-◌, ◌<◌, ◌==◌, ◌||◌, ◌∙◌, ◌∷◌, ◌≡◌}
 use Rattle.std.proofs.lemmas.Slice.Eq.{starts_is}
-use Rattle.acgrep.specs.Formats.{format_text, front_at, front_by, piece_text, pieces_behind, format_pieces, plain_front}
-use Rattle.acgrep.specs.declared.format.Front.{Front}
-use Rattle.acgrep.specs.declared.format.Piece.{Piece}
 use Rattle.acgrep.specs.declared.format.Piece.TheVariants.{Byte, Path, LineNumber, Start, End, PatternNumber, Found}
 use Rattle.acgrep.proofs.Formatted.{drop_piece}
 use Rattle.acgrep.proofs.LineLists.{drop_zero}

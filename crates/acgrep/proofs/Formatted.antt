@@ -1,12 +1,5 @@
 -- A format, one piece after another; and base64, one group after another.
-use Rattle.std.proofs.Common.{◌≡◌, ℕ, zero, suc, ◌+◌, ◌<◌, ◌-◌, ◌==◌, false, List, [], ◌∷◌, ◌++◌, Option, Some, None, ◌∙◌, ap, refl, sym, subst, inl, inr, drop, take, length, arith, append_assoc, append-nil}
-use Rattle.std.specs.Prelude.{option_map}
-use Rattle.std.proofs.lemmas.Bool.{cases_Bool}
-use Rattle.std.proofs.lemmas.List.{length-drop, take_all}
-use Rattle.memchr.specs.Find.{Nowhere, Passes, is_byte}
-use Rattle.acgrep.specs.Formats.{front_by, pieces_behind, format_pieces, unknown_behind, unknown_in, up_to_brace}
-use Rattle.acgrep.specs.declared.format.Front.{Front}
-use Rattle.acgrep.specs.declared.format.Piece.{Piece}
+use Rattle.acgrep.proofs.Words.{Front, List, None, Nowhere, Option, Passes, Piece, Some, [], ap, append-nil, append_assoc, arith, cases_Bool, drop, false, format_pieces, front_by, inl, inr, is_byte, length, length-drop, option_map, pieces_behind, refl, subst, suc, sym, take, take_all, unknown_behind, unknown_in, up_to_brace, zero, ℕ, ◌++◌, ◌+◌, ◌-◌, ◌<◌, ◌==◌, ◌∙◌, ◌∷◌, ◌≡◌}
 
 -- what belongs to a piece before is passed over
 pub pieces_skip : (skipped : ℕ) (format : List ℕ) → pieces_behind skipped format ≡ format_pieces (drop skipped format)

@@ -1,18 +1,7 @@
 -- The lines before the first that holds a zero byte, put together from reads.
-use Rattle.std.proofs.Common.{◌≡◌, Bool, ℕ, ◌-◌, ◌≤◌, ◌<◌, true, List, [], ◌∷◌, ◌++◌, Option, Some, length, take, drop, refl, sym, ◌∙◌, ap, subst, arith, length-append}
-use Rattle.std.specs.Io.KnownBytes.{Keeps}
-use Rattle.aho_core.specs.Patterns.{Patterns}
-use Rattle.acgrep.specs.Binary.{is_text}
-use Rattle.acgrep.specs.Contexts.{SearchesText}
-use Rattle.acgrep.specs.Filled.{FillsBehind}
-use Rattle.acgrep.specs.Guarded.{IsFirstBinary, IsZeroLine, ReadsFront, SearchesFront, SearchesPast}
-use Rattle.acgrep.specs.Lines.{IsEnding, lines}
-use Rattle.acgrep.specs.Streamed.{SearchesWhole, TextIf, course}
-use Rattle.acgrep.specs.Written.{IsSettled}
+use Rattle.acgrep.proofs.Words.{Bool, FillsBehind, IsEnding, IsFirstBinary, IsSettled, IsZeroLine, Job, Keeps, List, Option, Patterns, ReadsFront, SearchesFront, SearchesPast, SearchesText, SearchesWhole, Some, State, TextIf, [], ap, arith, course, drop, is_text, length, length-append, lines, refl, subst, sym, take, true, ℕ, ◌++◌, ◌-◌, ◌<◌, ◌∙◌, ◌∷◌, ◌≡◌, ◌≤◌}
 use Rattle.acgrep.specs.declared.stream.Came.{Came}
 use Rattle.acgrep.specs.declared.stream.Came.TheVariants.{Text, Binary, End}
-use Rattle.acgrep.specs.declared.select.Job.{Job}
-use Rattle.acgrep.specs.declared.select.State.{State}
 use Rattle.acgrep.proofs.BinaryLines.{text_back, text_front, text_joined}
 use Rattle.acgrep.proofs.Streams.{reads_none, reads_some, stream_done, stream_end, stream_step, stream_stop, stream_whole_lines, whole_searched}
 

@@ -1,9 +1,6 @@
 -- How a name is read along a glob.
-use Rattle.std.proofs.Common.{◌≡◌, inl, inr, ◌⊎◌, ℕ, zero, suc, ◌+◌, ◌-◌, ◌≤◌, Bool, true, false, List, [], ◌∷◌, length, drop, take, take_all, refl, sym, ◌∙◌, ap, subst, arith}
-use Rattle.std.specs.Prelude.{◌||◌}
-use Rattle.std.proofs.Math.Seq.{drop-nil}
-use Rattle.std.proofs.lemmas.Bool.{and_parts, ne_eqb, or_right}
-use Rattle.acgrep.specs.Globs.{IsCut, any_suffix, closes_at, closing, fits, item_len, one_fits, part_len, stands_for}
+use Rattle.acgrep.proofs.Words.{Bool, IsCut, List, [], and_parts, any_suffix, ap, arith, closes_at, closing, drop, drop-nil, false, fits, inl, inr, item_len, length, ne_eqb, one_fits, or_right, part_len, refl, stands_for, subst, suc, sym, take, true, zero, ℕ, ◌+◌, ◌-◌, ◌||◌, ◌∙◌, ◌∷◌, ◌≡◌, ◌≤◌, ◌⊎◌}
+use Rattle.std.proofs.Common.{take_all}
 use Rattle.acgrep.proofs.LineLists.{drop_zero}
 
 -- what belongs to a part before is passed

@@ -1,15 +1,6 @@
 -- A walk from line to line writes the lines that are near selected ones.
-use Rattle.std.proofs.Common.{◌≡◌, ◌⊎◌, inl, inr, ℕ, suc, zero, ◌+◌, ◌-◌, ◌<◌, ◌≤◌, ◌==◌, Bool, true, false, List, [], ◌∷◌, ◌++◌, length, refl, sym, ◌∙◌, ap, subst, arith, append_assoc, append-nil, length-append}
-use Rattle.std.specs.Prelude.{nat_le, nat_lt, ◌&&◌}
-use Rattle.std.proofs.Math.ListN.{get_or}
-use Rattle.std.proofs.lemmas.Bool.{cases_Bool, cases_lt, eqb-true, leb-false, leb-true, lt-leb, ltb-false, ltb-true, true≢false}
-use Rattle.std.proofs.Math.Bool.{and-false}
-use Rattle.aho_core.specs.Patterns.{Patterns}
-use Rattle.acgrep.specs.Contexts.{AreChosen, IsNearChosen, IsNotChosen, PassesBy, ShowsEach, ShowsGroup, TellsAround, TellsWritten, Walk, WalksOver, behind_passed, beside, first_in, separator_if}
-use Rattle.acgrep.specs.Written.{IsSelected, ShowsLine, after_line, after_lines, is_full, one_more}
-use Rattle.acgrep.specs.declared.options.Context.{Context}
-use Rattle.acgrep.specs.declared.print.Place.{Place}
-use Rattle.acgrep.specs.declared.select.Job.{Job}
+use Rattle.acgrep.proofs.Words.{Bool, Context, IsNearChosen, IsNotChosen, IsSelected, Job, List, PassesBy, Patterns, Place, ShowsEach, ShowsGroup, ShowsLine, TellsAround, TellsWritten, Walk, WalksOver, [], after_line, after_lines, and-false, ap, append-nil, append_assoc, arith, behind_passed, beside, cases_Bool, cases_lt, eqb-true, false, first_in, get_or, inl, inr, is_full, leb-false, leb-true, length, length-append, lt-leb, ltb-false, ltb-true, nat_le, nat_lt, one_more, refl, separator_if, subst, suc, sym, true, true≢false, zero, ℕ, ◌&&◌, ◌++◌, ◌+◌, ◌-◌, ◌<◌, ◌==◌, ◌∙◌, ◌∷◌, ◌≡◌, ◌≤◌, ◌⊎◌}
+use Rattle.acgrep.specs.Contexts.{AreChosen}
 use Rattle.acgrep.proofs.Tellings.{after_append}
 
 -- one mark for each of some lines

@@ -1,10 +1,5 @@
 -- Lines that are held, and one more or one less of them.
-use Rattle.std.proofs.Common.{◌≡◌, ℕ, ◌+◌, ◌≤◌, ◌<◌, List, [], ◌∷◌, ◌++◌, length, take, drop, sym, ◌∙◌, ap, arith}
-use Rattle.std.specs.List.{sum}
-use Rattle.std.specs.Prelude.{slice_index_or}
-use Rattle.std.proofs.lemmas.List.Sums.{sum_by-cons, sum_by-drop_more}
-use Rattle.std.proofs.lemmas.List.{at_drop_more, drop-append-le, length-drop, take-append-le, take_all}
-use Rattle.acgrep.specs.Filled.{cut_by}
+use Rattle.acgrep.proofs.Words.{List, [], ap, arith, at_drop_more, cut_by, drop, drop-append-le, length, length-drop, slice_index_or, sum, sum_by-cons, sum_by-drop_more, sym, take, take-append-le, take_all, ℕ, ◌++◌, ◌+◌, ◌<◌, ◌∙◌, ◌∷◌, ◌≡◌, ◌≤◌}
 
 sum_first : (size : ℕ) (sizes : List ℕ) → sum (size ∷ sizes) ≡ size + sum sizes
 sum_first size sizes = sum_by-cons (λ n. n) size sizes

@@ -1,20 +1,6 @@
 -- Files that are searched one after another.
-use Rattle.std.proofs.Common.{◌≡◌, inl, inr, ◌⊎◌, ℕ, ◌-◌, ◌<◌, Bool, true, false, List, [], ◌∷◌, Option, length, take, drop, refl, sym, ◌∙◌, ap, subst, arith}
-use Rattle.std.specs.Prelude.{◌||◌, Vec, map, if◌then◌else◌}
-use Rattle.std.specs.Io.KnownBytes.{Keeps}
-use Rattle.std.proofs.KnownBytes.{Keeps-refl, Keeps-trans}
-use Rattle.std.proofs.Math.Bool.{or-false, or-true, or_assoc}
-use Rattle.std.proofs.Math.ListN.{get_or}
-use Rattle.std.proofs.lemmas.Bool.{cases_Bool}
-use Rattle.std.proofs.lemmas.List.{take_all}
+use Rattle.acgrep.proofs.Words.{AreBegun, AreDone, AreDoneOr, AreSeen, Bool, Count, FileWork, HasOne, IfBroken, IfSearched, Keeps, Keeps-refl, Keeps-trans, Lacking, Lines, List, Matches, Names, Nothing, Objects, Option, Outcome, Searched, Seen, Shown, Stopped, Unread, Vec, [], ap, arith, cases_Bool, drop, false, get_or, if◌then◌else◌, inl, inr, is_enough, length, listed_bytes, map, nothing_seen, or-false, or-true, or_assoc, refl, seen_after, status_by, subst, sym, take, take_all, true, ℕ, ◌-◌, ◌<◌, ◌||◌, ◌∙◌, ◌∷◌, ◌≡◌, ◌⊎◌}
 use Rattle.tool_parts.specs.Answers.{status_of}
-use Rattle.acgrep.specs.InTurn.{AreBegun, AreDone, AreDoneOr, AreSeen, FileWork, HasOne, IfBroken, IfSearched, is_enough, nothing_seen, seen_after, status_by}
-use Rattle.acgrep.specs.Listed.{listed_bytes}
-use Rattle.acgrep.specs.declared.files.Outcome.{Outcome}
-use Rattle.acgrep.specs.declared.files.Outcome.TheVariants.{Searched, Unread, Stopped}
-use Rattle.acgrep.specs.declared.files.Seen.{Seen}
-use Rattle.acgrep.specs.declared.options.Shown.{Shown}
-use Rattle.acgrep.specs.declared.options.Shown.TheVariants.{Lines, Matches, Objects, Count, Names, Lacking, Nothing}
 use Rattle.acgrep.proofs.Bools.{either_way}
 
 -- what follows where a file was searched

@@ -1,17 +1,7 @@
 -- What was done is as it was where the output keeps its bytes.
-use Rattle.std.proofs.Common.{false, ◌≡◌, ◌⊎◌, inl, inr, ℕ, List, Option, Some, ◌∙◌, sym}
-use Rattle.std.specs.Io.KnownBytes.{Keeps}
-use Rattle.std.proofs.KnownBytes.{Keeps-trans}
-use Rattle.aho_core.specs.Patterns.{Patterns}
-use Rattle.tool_parts.specs.Building.{patterns_by_kind}
-use Rattle.acgrep.specs.Arguments.{Origin, Said}
-use Rattle.acgrep.specs.Files.{search_work}
-use Rattle.acgrep.specs.Folders.{Known}
-use Rattle.acgrep.specs.MarkedFiles.{mark_work}
-use Rattle.acgrep.specs.Runs.{After, AreSought, BeginsFor, BeginsOrKeeps, BeginsSearch, Reached, SearchesFor, SearchesRuled, kind_sought, knows_none, names_by, ruled, sources_by, words_sought}
-use Rattle.acgrep.specs.RunsByRules.{BeginsByRules, MarksAsked, MayBeginAsked, SearchesByRules, marking_by}
+use Rattle.acgrep.proofs.Words.{AreSought, BeginsByRules, BeginsFor, BeginsOrKeeps, BeginsSearch, Job, Keeps, Keeps-trans, Known, List, MarksAsked, MayBeginAsked, Option, Origin, Patterns, Reached, Said, SearchesByRules, SearchesFor, SearchesRuled, Some, false, inl, inr, kind_sought, knows_none, mark_work, marking_by, names_by, patterns_by_kind, ruled, search_work, sources_by, sym, words_sought, ℕ, ◌∙◌, ◌≡◌, ◌⊎◌}
+use Rattle.acgrep.specs.Runs.{After}
 use Rattle.acgrep.specs.declared.colors.Screen.{Screen}
-use Rattle.acgrep.specs.declared.select.Job.{Job}
 use Rattle.acgrep.proofs.Bools.{either_way}
 use Rattle.acgrep.proofs.InTurn.{begun_kept, or_kept}
 use Rattle.acgrep.proofs.OrCounted.{begins-counts-kept, counts-kept}

@@ -54,3 +54,4 @@ pub mod Walked
 pub mod Walking
 pub mod Whole
 pub mod WordLists
+pub mod Words

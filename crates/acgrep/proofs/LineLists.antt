@@ -1,21 +1,5 @@
 -- The lines of a text that is cut, and patterns that occur in none of them.
-use Rattle.std.proofs.Common.{◌≡◌, inl, inr, ℕ, suc, ◌+◌, ◌-◌, ◌≤◌, ◌<◌, ◌==◌, true, List, [], ◌∷◌, ◌++◌, length, take, drop, refl, sym, ◌∙◌, ap, subst, arith, take-append-drop}
-use Rattle.std.specs.Prelude.{slice_range}
-use Rattle.std.proofs.lemmas.Bool.{cases_Bool, cases_lt}
-use Rattle.std.proofs.lemmas.List.{length-take-le, length-drop, drop-drop, take_all}
-use Rattle.aho_core.specs.Occurrence.{Occurrence}
-use Rattle.aho_core.specs.Occurs.{Occurs, OccursIn}
-use Rattle.aho_core.specs.Bytes.{IsSameWord}
-use Rattle.aho_core.specs.Patterns.{Patterns, pattern_at}
-use Rattle.aho_core.specs.Search.{plain_search}
-use Rattle.aho_core.specs.declared.search.Anchored.TheVariants.{No}
-use Rattle.aho_core.specs.declared.search.Span.{Span}
-use Rattle.aho_laws.specs.CutLaws.{moved}
-use Rattle.aho_laws.proofs.ClearCuts.{Occurs-in}
-use Rattle.aho_laws.proofs.SpanTexts.{Occurs-moved, Occurs-moved_back, length_part, moved-zero, moved_back}
-use Rattle.acgrep.specs.Lines.{EndsLine, IsEnding, joined_to, lines}
-use Rattle.acgrep.specs.Selected.{HoldNoEnding, IsFirstWith}
-use Rattle.acgrep.specs.Written.{EachLine, HasMatch, HasNone}
+use Rattle.acgrep.proofs.Words.{EachLine, EndsLine, HasMatch, HasNone, HoldNoEnding, IsEnding, IsFirstWith, IsSameWord, List, No, Occurrence, Occurs, Occurs-in, Occurs-moved, Occurs-moved_back, OccursIn, Patterns, Span, [], ap, arith, cases_Bool, cases_lt, drop, drop-drop, inl, inr, joined_to, length, length-drop, length-take-le, length_part, lines, moved, moved-zero, moved_back, pattern_at, plain_search, refl, slice_range, subst, suc, sym, take, take-append-drop, take_all, true, ℕ, ◌++◌, ◌+◌, ◌-◌, ◌<◌, ◌==◌, ◌∙◌, ◌∷◌, ◌≡◌, ◌≤◌}
 use Rattle.acgrep.proofs.Around.{behind_newline, ends_before, front_newline, newline_behind}
 use Rattle.acgrep.proofs.FirstLines.{lines_first, lines_joined}
 

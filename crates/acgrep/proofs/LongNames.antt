@@ -1,9 +1,8 @@
 -- The options of one list after those of another.
-use Rattle.std.proofs.Common.{◌≡◌, ℕ, List}
+use Rattle.acgrep.proofs.Words.{List, then_options, ℕ, ◌≡◌}
 use Rattle.tool_parts.specs.OptionNames.{found_among}
 use Rattle.tool_parts.specs.declared.options.found.Found.{Found}
 use Rattle.tool_parts.specs.declared.options.found.Found.TheVariants.{Unknown}
-use Rattle.tool_parts.proofs.OptionNames.{then_options}
 use Rattle.acgrep.specs.Long.{context_options, file_options, other_options, output_options, pattern_options, shared_by}
 use Rattle.acgrep.specs.declared.long.Long.{Long}
 

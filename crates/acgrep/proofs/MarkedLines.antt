@@ -1,26 +1,8 @@
 -- What is written of lines, one after another, by what a visitor of them leaves.
-use Rattle.std.proofs.Common.{◌≡◌, inl, inr, ℕ, zero, suc, List, [], ◌∷◌, ◌++◌, true, false, length, take, drop, take-append-drop, refl, sym, ap, subst, ◌∙◌, append_assoc, append-nil, arith}
-use Rattle.std.specs.Prelude.{Bool, Result, Ok, Err}
-use Rattle.std.specs.Borrow.{MutBor}
-use Rattle.std.specs.Io.{StartsWith}
-use Rattle.std.specs.Io.KnownBytes.{Appends}
-use Rattle.std.proofs.KnownBytes.{Appends-nil, Appends-trans}
-use Rattle.aho_core.specs.Occurrence.{Occurrence}
-use Rattle.aho_core.specs.Patterns.{Patterns}
+use Rattle.acgrep.proofs.Words.{Appends, Appends-nil, Appends-trans, AreFirstGiven, AreLineRuns, Bool, Covering, Err, FileAsked, Line, LineError, List, MutBor, Occurrence, Ok, Pass, Patterns, Result, Rule, SinkGhosts, SourceGhosts, Standard, StartsWith, StopsMarked, WalksLines, WritesMarked, [], ap, append-nil, append_assoc, arith, asked_of, begins_with, covering_by, drop, false, inl, inr, length, marked_line, marked_lines, pass_after, pass_behind, refl, seen_line, seen_lines, stream_lines, subst, suc, sym, take, take-append-drop, true, zero, ℕ, ◌++◌, ◌∙◌, ◌∷◌, ◌≡◌}
 use Rattle.aho_core.specs.declared.error.stream.StreamError.{StreamError}
-use Rattle.aho_core.specs.declared.search.MatchKind.TheVariants.{Standard}
-use Rattle.aho_devices.specs.declared.device.Sink.{Ghosts as SinkGhosts}
-use Rattle.aho_devices.specs.declared.device.Source.{Ghosts as SourceGhosts}
-use Rattle.secret_rules.specs.Covering.{AreLineRuns, Covering, covering_by, seen_line}
-use Rattle.secret_rules.specs.Lines.{Line, stream_lines}
 use Rattle.secret_rules.specs.Visits.{AreFirstLines, BeginsVisiting, LeavesVisited, StopsWithin, VisitsEach, VisitsLines, taken_line}
-use Rattle.secret_rules.specs.declared.error.LineError.{LineError}
-use Rattle.secret_rules.specs.declared.rule.Rule.{Rule}
 use Rattle.secret_rules.specs.declared.visitor.LineVisitor.{Ghosts as VisitorGhosts}
-use Rattle.acgrep.specs.Marked.{FileAsked, StopsMarked, WritesMarked, asked_of, marked_line, marked_lines, pass_after, pass_behind}
-use Rattle.aho_cover.proofs.Copied.{begins_with}
-use Rattle.acgrep.specs.MarkedFiles.{AreFirstGiven, WalksLines, seen_lines}
-use Rattle.acgrep.specs.declared.marked.Pass.{Pass}
 use Rattle.acgrep.specs.declared.marked.Task.{Task}
 
 -- a text starts with itself, and with its first bytes

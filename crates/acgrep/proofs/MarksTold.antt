@@ -1,22 +1,5 @@
 -- What is told of files whose lines rules mark.
-use Rattle.std.proofs.Common.{◌≡◌, ◌<◌, inl, inr, ℕ, Bool, true, false, List, [], ◌∷◌, refl, sym, ap, subst, length, arith}
-use Rattle.std.specs.Prelude.{◌==◌, if◌then◌else◌}
-use Rattle.std.proofs.lemmas.List.Elements.{All-nil}
-use Rattle.aho_devices.specs.declared.device.Sink.{Ghosts as SinkGhosts}
-use Rattle.tool_parts.specs.Telling.{Tells, TellsBytes, TellsSome}
-use Rattle.tool_parts.specs.declared.errors.Errors.{Errors}
-use Rattle.tool_parts.proofs.Lines.{some-one, some-tells, some-then, some-weaker, tells-then, tells-weaker}
-use Rattle.acgrep.specs.Arguments.{shown_by}
-use Rattle.acgrep.specs.Reached.{TellsMissed}
-use Rattle.acgrep.specs.Runs.{status_reached}
-use Rattle.acgrep.specs.RunsByRules.{long_message, unwritten_line}
-use Rattle.acgrep.specs.Told.{IsMessage, TellsOfEnd, TellsOfOutcome, TellsOutcome, TellsStatus}
-use Rattle.acgrep.specs.ToldByRules.{IsMarkTold}
-use Rattle.acgrep.specs.declared.files.Outcome.{Outcome}
-use Rattle.acgrep.specs.declared.files.Outcome.TheVariants.{Searched, Unread, Stopped}
-use Rattle.acgrep.specs.declared.options.Flags.{Flags}
-use Rattle.acgrep.specs.declared.options.Shown.{Shown}
-use Rattle.acgrep.specs.declared.options.Shown.TheVariants.{Nothing}
+use Rattle.acgrep.proofs.Words.{All-nil, Bool, Errors, Flags, IsMarkTold, IsMessage, List, Nothing, Outcome, Searched, Shown, SinkGhosts, Stopped, Tells, TellsBytes, TellsMissed, TellsOfEnd, TellsOfOutcome, TellsOutcome, TellsSome, TellsStatus, Unread, [], ap, arith, false, if◌then◌else◌, inl, inr, length, long_message, refl, shown_by, some-one, some-tells, some-then, some-weaker, status_reached, subst, sym, tells-then, tells-weaker, true, unwritten_line, ℕ, ◌<◌, ◌==◌, ◌∷◌, ◌≡◌}
 use Rattle.acgrep.proofs.Reaching.{reached-quiet, shown-quiet}
 
 module _ {E : Type 0} (K : SinkGhosts E) where

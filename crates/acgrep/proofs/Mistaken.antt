@@ -1,13 +1,5 @@
 -- What a refusal tells is the first mistake, or that memory ran out.
-use Rattle.std.proofs.Common.{◌≡◌, inl, inr, sym, ◌∙◌, List, ℕ, Option, None, Some}
-use Rattle.aho_devices.specs.declared.device.Sink.{Ghosts as SinkGhosts}
-use Rattle.tool_parts.specs.Telling.{TellsBytes}
-use Rattle.tool_parts.specs.declared.errors.Errors.{Errors}
-use Rattle.acgrep.specs.Arguments.{AreRefused, Said}
-use Rattle.acgrep.specs.Mistakes.{IsFirstMistake, TellsLacking, TellsMistake, TellsRefused, memory_line}
-use Rattle.acgrep.specs.Told.{wrong_parts}
-use Rattle.acgrep.specs.declared.arguments.Refusal.{Refusal}
-use Rattle.acgrep.specs.declared.arguments.Refusal.TheVariants.{Wrong, OutOfMemory}
+use Rattle.acgrep.proofs.Words.{AreRefused, Errors, IsFirstMistake, List, None, Option, OutOfMemory, Refusal, Said, SinkGhosts, Some, TellsBytes, TellsLacking, TellsMistake, TellsRefused, Wrong, inl, inr, memory_line, sym, wrong_parts, ℕ, ◌∙◌, ◌≡◌}
 
 pub mistake-told : {E : Type 0} (K : SinkGhosts E) (arguments : List (List ℕ)) (refusal : Refusal) (old new : Errors E) → IsFirstMistake arguments refusal → TellsRefused K refusal old new
     → TellsMistake K arguments old new

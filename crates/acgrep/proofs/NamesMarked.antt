@@ -1,13 +1,5 @@
 -- What comes of the file of a name whose lines rules mark.
-use Rattle.std.proofs.Common.{◌≡◌, inl, inr, ℕ, Bool, true, false, List, [], Option, refl, sym, subst, append-nil}
-use Rattle.std.specs.Prelude.{◌&&◌, MatchBool, if◌then◌else◌}
-use Rattle.secret_rules.specs.Covering.{Covering}
-use Rattle.secret_rules.specs.Lines.{stream_lines}
-use Rattle.tool_parts.specs.Names.{is_input}
-use Rattle.acgrep.specs.Files.{BeginsTotal, EndsFile, known_of}
-use Rattle.acgrep.specs.MarkedFiles.{BeginsInput, BeginsMarks, ComesName, HasMarkedLine, MarksFile, MarksInput, MarksName, mark_work}
-use Rattle.acgrep.specs.declared.files.Outcome.{Outcome}
-use Rattle.acgrep.specs.declared.select.Job.{Job}
+use Rattle.acgrep.proofs.Words.{BeginsInput, BeginsMarks, BeginsTotal, Bool, ComesName, Covering, EndsFile, HasMarkedLine, Job, List, MarksFile, MarksInput, MarksName, MatchBool, Option, Outcome, [], append-nil, false, if◌then◌else◌, inl, inr, is_input, known_of, mark_work, refl, stream_lines, subst, sym, true, ℕ, ◌&&◌, ◌≡◌}
 use Rattle.acgrep.proofs.InTurn.{if_broken, if_searched}
 
 -- where standard input was read before, what it has left is of no matter

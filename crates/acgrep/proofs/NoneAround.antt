@@ -1,15 +1,5 @@
 -- Where no line of a text was selected nothing occurs in it.
-use Rattle.std.proofs.Common.{◌≡◌, inl, inr, Bool, false, List, ℕ, [], ◌++◌, Option, sym, ◌∙◌, ap, subst, arith, append-nil}
-use Rattle.aho_core.specs.Patterns.{Patterns}
-use Rattle.acgrep.specs.Contexts.{WalksText, walk_of}
-use Rattle.acgrep.specs.Lines.{lines}
-use Rattle.acgrep.specs.Selected.{HoldNoEnding, IsNoneSelected}
-use Rattle.acgrep.specs.Written.{EachLine, HasNone, IsPassedOver}
-use Rattle.acgrep.specs.declared.options.Context.{Context}
-use Rattle.acgrep.specs.declared.options.Fit.{Fit}
-use Rattle.acgrep.specs.declared.options.Fit.TheVariants.{AnyPart}
-use Rattle.acgrep.specs.declared.select.Job.{Job}
-use Rattle.acgrep.specs.declared.select.State.{State}
+use Rattle.acgrep.proofs.Words.{AnyPart, Bool, Context, EachLine, Fit, HasNone, HoldNoEnding, IsNoneSelected, IsPassedOver, Job, List, Option, Patterns, State, WalksText, [], ap, append-nil, arith, false, inl, inr, lines, subst, sym, walk_of, ℕ, ◌++◌, ◌∙◌, ◌≡◌}
 use Rattle.acgrep.proofs.FileTellings.{tells_each}
 use Rattle.acgrep.proofs.NoneInLines.{none_by_lines}
 use Rattle.acgrep.proofs.Tellings.{settled_some}

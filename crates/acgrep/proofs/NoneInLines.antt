@@ -1,20 +1,5 @@
 -- What occurs in no line of a text does not occur in it.
-use Rattle.std.proofs.Common.{◌≡◌, inl, inr, ℕ, suc, zero, ◌+◌, ◌-◌, ◌≤◌, ◌<◌, ◌==◌, false, List, [], ◌∷◌, length, take, drop, sym, ◌∙◌, ap, subst, arith}
-use Rattle.std.specs.Prelude.{slice_range}
-use Rattle.std.proofs.lemmas.Bool.{cases_Bool, cases_lt, true≢false}
-use Rattle.std.proofs.lemmas.List.{length-drop, length-take-le, take_all}
-use Rattle.memchr.specs.Find.{Nowhere}
-use Rattle.aho_core.specs.Bytes.{IsSameWord}
-use Rattle.aho_core.specs.Occurrence.{Occurrence}
-use Rattle.aho_core.specs.Occurs.{Occurs, OccursIn}
-use Rattle.aho_core.specs.Patterns.{Patterns, pattern_at}
-use Rattle.aho_core.specs.Search.{plain_search}
-use Rattle.aho_core.specs.declared.search.Anchored.TheVariants.{No}
-use Rattle.aho_laws.proofs.ClearCuts.{Occurs-in}
-use Rattle.aho_laws.proofs.SpanTexts.{Occurs-moved_back, moved_back}
-use Rattle.acgrep.specs.Lines.{IsEnding, lines}
-use Rattle.acgrep.specs.Selected.{HoldNoEnding}
-use Rattle.acgrep.specs.Written.{EachLine, HasNone}
+use Rattle.acgrep.proofs.Words.{EachLine, HasNone, HoldNoEnding, IsEnding, IsSameWord, List, No, Nowhere, Occurrence, Occurs, Occurs-in, Occurs-moved_back, OccursIn, Patterns, [], ap, arith, cases_Bool, cases_lt, drop, false, inl, inr, length, length-drop, length-take-le, lines, moved_back, pattern_at, plain_search, slice_range, subst, suc, sym, take, take_all, true≢false, zero, ℕ, ◌+◌, ◌-◌, ◌<◌, ◌==◌, ◌∙◌, ◌∷◌, ◌≡◌, ◌≤◌}
 use Rattle.acgrep.proofs.Around.{ends_before}
 use Rattle.acgrep.proofs.FirstLines.{lines_first}
 use Rattle.acgrep.proofs.LineLists.{drop_zero, take_zero}

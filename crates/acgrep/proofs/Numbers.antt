@@ -1,14 +1,7 @@
 -- What `parse` says of digits, by what they mean.
-use Rattle.std.proofs.Common.{◌≡◌, inl, inr, ℕ, ◌<◌, ◌^◌, true, List, Some, None, length, refl, ap}
-use Rattle.std.specs.Prelude.{◌≢◌, ⊤, Ok, Err, nat_lt}
-use Rattle.std.specs.Str.{IsUtf8, all_ascii_digits}
+use Rattle.acgrep.proofs.Words.{Err, IsAscii-from_digits, IsUtf8, IsUtf8-from_ascii, List, None, Ok, Some, all_ascii_digits, and_from, and_parts, ap, cases_Bool, get_or, inl, inr, is_number, length, lt-ltb, ltb-true, nat_lt, number_by, refl, true, ℕ, ⊤, ◌<◌, ◌^◌, ◌≡◌, ◌≢◌}
 use Rattle.std.specs.Str.Parse.{ParsesUnsigned, digits_value}
-use Rattle.std.proofs.Math.ListN.{get_or}
-use Rattle.std.proofs.lemmas.Bool.{and_from, and_parts, cases_Bool, lt-ltb, ltb-true}
-use Rattle.std.proofs.lemmas.Fmt.{IsAscii-from_digits}
-use Rattle.std.proofs.lemmas.Str.{IsUtf8-from_ascii}
 use Rattle.std.proofs.lemmas.Str.Parse.{IsNumeralModel, numerals_by_value, parse_plain, tells_all_ascii_digits}
-use Rattle.acgrep.specs.Arguments.{is_number, number_by}
 
 numerals : IsNumeralModel (λ ds. all_ascii_digits ds ≡ true) (digits_value 10)
 numerals = numerals_by_value (λ ds. all_ascii_digits ds ≡ true) tells_all_ascii_digits

@@ -1,13 +1,7 @@
 -- The place behind a text of whole lines.
-use Rattle.std.proofs.Common.{◌≡◌, ℕ, zero, suc, ◌+◌, ◌-◌, ◌%◌, ◌^◌, ◌<◌, ◌==◌, List, [], ◌∷◌, length, take, inl, inr, refl, sym, ◌∙◌, ap, arith}
-use Rattle.std.proofs.lemmas.Bool.{cases_Bool}
+use Rattle.acgrep.proofs.Words.{EndsLine, Job, List, NumbersLines, Place, SamePlace, [], after_line, after_lines, ap, arith, cases_Bool, inl, inr, is_byte, joined_to, length, lines, places, refl, slice_index, suc, sym, take, zero, ℕ, ◌%◌, ◌+◌, ◌-◌, ◌<◌, ◌==◌, ◌^◌, ◌∙◌, ◌∷◌, ◌≡◌}
 use Rattle.std.proofs.Math.Nat.{mod-add-mod, mod-eq_of_lt, mod-lt}
-use Rattle.std.specs.Prelude.{slice_index}
-use Rattle.memchr.specs.Find.{is_byte, places, places_from}
-use Rattle.acgrep.specs.Lines.{EndsLine, joined_to, lines}
-use Rattle.acgrep.specs.Written.{NumbersLines, SamePlace, after_line, after_lines}
-use Rattle.acgrep.specs.declared.print.Place.{Place}
-use Rattle.acgrep.specs.declared.select.Job.{Job}
+use Rattle.memchr.specs.Find.{places_from}
 use Rattle.acgrep.proofs.FirstLines.{lines_joined}
 use Rattle.acgrep.proofs.LineLists.{ends_one, ends_tail, first_line}
 

@@ -1,14 +1,5 @@
 -- Patterns that hold no byte by which lines end.
-use Rattle.std.proofs.Common.{◌≡◌, ℕ, ◌+◌, ◌<◌, Bool, true, false, List, refl, ◌∙◌, arith}
-use Rattle.std.specs.Prelude.{nat_le, ◌&&◌, if◌then◌else◌}
-use Rattle.std.proofs.lemmas.Bool.{and_parts, eq-eqb, leb-true}
-use Rattle.aho_core.specs.Bytes.{folded_by}
-use Rattle.aho_core.specs.declared.search.MatchKind.{MatchKind}
-use Rattle.tool_parts.specs.Building.{patterns_by_kind}
-use Rattle.acgrep.specs.Arguments.{ending_by}
-use Rattle.acgrep.specs.Lines.{AreFreeOf}
-use Rattle.acgrep.specs.Selected.{HoldNoEnding}
-use Rattle.acgrep.specs.declared.options.Flags.{Flags}
+use Rattle.acgrep.proofs.Words.{AreFreeOf, Bool, Flags, HoldNoEnding, List, MatchKind, and_parts, arith, ending_by, eq-eqb, false, folded_by, if◌then◌else◌, leb-true, nat_le, patterns_by_kind, refl, true, ℕ, ◌&&◌, ◌+◌, ◌<◌, ◌∙◌, ◌≡◌}
 
 raised_low : (upper : Bool) (byte low : ℕ) → (nat_le 65 byte && nat_le byte 90) ≡ upper → low < 65 → (if upper then byte + 32 else byte) ≡ low → byte ≡ low
 raised_low true byte low upper less is = absurd (omega (arith, less, is, leb-true 65 byte (and_parts (nat_le 65 byte) (nat_le byte 90) upper).0))

@@ -1,19 +1,5 @@
 -- What may be told of the files that operands name.
-use Rattle.std.proofs.Common.{◌≡◌, inl, inr, ℕ, ◌<◌, ◌≤◌, Bool, true, false, List, [], ◌∷◌, ◌++◌, length, ap, refl, subst, sym, arith}
-use Rattle.std.specs.Prelude.{◌&&◌, ◌==◌, if◌then◌else◌}
-use Rattle.std.proofs.lemmas.Bool.{and_parts, cases_Bool}
-use Rattle.aho_devices.specs.declared.device.Sink.{Ghosts as SinkGhosts}
-use Rattle.tool_parts.specs.Names.{IsOneOf, or_input}
-use Rattle.tool_parts.specs.Telling.{Tells, TellsSome}
-use Rattle.tool_parts.specs.declared.errors.Errors.{Errors}
-use Rattle.tool_parts.proofs.Lines.{some-tells, some-then, some-weaker, then-some, tells-none, tells-then, tells-weaker}
-use Rattle.acgrep.specs.Arguments.{Origin, Said, shown_by}
-use Rattle.acgrep.specs.Folders.{Tree}
-use Rattle.acgrep.specs.Reached.{TellsMissed}
-use Rattle.acgrep.specs.Runs.{AreReached, status_reached}
-use Rattle.acgrep.specs.Told.{IsMessage, MaySay, TellsOfFile, TellsStatus, files_told, names_told, shown_names, source_names}
-use Rattle.acgrep.specs.declared.options.Flags.{Flags}
-use Rattle.acgrep.specs.declared.options.Shown.TheVariants.{Nothing}
+use Rattle.acgrep.proofs.Words.{AreReached, Bool, Errors, Flags, IsMessage, IsOneOf, List, MaySay, Nothing, Origin, Said, SinkGhosts, Tells, TellsMissed, TellsOfFile, TellsSome, TellsStatus, Tree, [], and_parts, ap, arith, cases_Bool, false, files_told, if◌then◌else◌, inl, inr, length, names_told, or_input, refl, shown_by, shown_names, some-tells, some-then, some-weaker, source_names, status_reached, subst, sym, tells-none, tells-then, tells-weaker, then-some, true, ℕ, ◌&&◌, ◌++◌, ◌<◌, ◌==◌, ◌∷◌, ◌≡◌, ◌≤◌}
 use Rattle.acgrep.proofs.Told.{AreWithin, among-first, among-later, message-more, status-some, status-weaker, within-cut}
 
 -- a message of sources of patterns may be told of a search

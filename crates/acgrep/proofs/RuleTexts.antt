@@ -1,14 +1,5 @@
 -- The texts of the files of rules, one after another, and the rules that they hold.
-use Rattle.std.proofs.Common.{◌≡◌, inl, inr, ℕ, ◌-◌, ◌≤◌, ◌<◌, Bool, true, false, List, [], ◌∷◌, ◌++◌, Option, length, take, drop, refl, sym, ◌∙◌, ap, subst, arith, append-nil, append_assoc}
-use Rattle.std.specs.Prelude.{MatchBool}
-use Rattle.std.proofs.Math.ListN.{get_or}
-use Rattle.std.proofs.lemmas.Bool.{cases_Bool}
-use Rattle.std.proofs.lemmas.List.{take_all}
-use Rattle.tool_parts.specs.Names.{IsOneOf}
-use Rattle.acgrep.specs.Loading.{AreTexts, IsTextOfRule}
-use Rattle.acgrep.specs.Rules.{RuleSaid, expanded, is_from_file, is_space, glob_before, rule_before, rule_said, rules_by, rules_said, glob_of_line}
-use Rattle.acgrep.specs.Runs.{AreRules, AreRulesOf, IsTextOf}
-use Rattle.acgrep.specs.Told.{rule_files}
+use Rattle.acgrep.proofs.Words.{AreRules, AreRulesOf, AreTexts, Bool, IsOneOf, IsTextOf, IsTextOfRule, List, MatchBool, Option, RuleSaid, [], ap, append-nil, append_assoc, arith, cases_Bool, drop, expanded, false, get_or, glob_before, glob_of_line, inl, inr, is_from_file, is_space, length, refl, rule_before, rule_files, rule_said, rules_by, rules_said, subst, sym, take, take_all, true, ℕ, ◌++◌, ◌-◌, ◌<◌, ◌∙◌, ◌∷◌, ◌≡◌, ◌≤◌}
 use Rattle.acgrep.specs.declared.rules.Rule.{Rule}
 use Rattle.acgrep.proofs.Told.{AreWithin}
 

@@ -1,10 +1,5 @@
 -- What is told of a call whose rules were read.
-use Rattle.std.proofs.Common.{inl, inr, ℕ, List, Option, Some}
-use Rattle.acgrep.specs.Arguments.{Said}
-use Rattle.acgrep.specs.Folders.{Known}
-use Rattle.acgrep.specs.Rules.{RuleSaid}
-use Rattle.acgrep.specs.Runs.{AreRules, names_by, ruled, sources_by}
-use Rattle.acgrep.specs.Told.{IsMessage, MaySaid, MaySay, names_said, names_told, rule_files}
+use Rattle.acgrep.proofs.Words.{AreRules, IsMessage, Known, List, MaySaid, MaySay, Option, RuleSaid, Said, Some, inl, inr, names_by, names_said, names_told, rule_files, ruled, sources_by, ℕ}
 use Rattle.acgrep.proofs.Told.{among-first, among-later, message-more}
 
 -- that a file of rules cannot be read

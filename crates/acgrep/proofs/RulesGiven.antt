@@ -1,10 +1,5 @@
 -- The rules that a call names.
-use Rattle.std.proofs.Common.{◌≡◌, ℕ, true, false, List, [], ◌∷◌, ◌++◌, Option, Bor, length, refl, sym, ap, subst, ◌∙◌, append-nil, append_assoc, arith}
-use Rattle.tool_parts.specs.Names.{name_bytes}
-use Rattle.secret_rules.specs.Tables.{TellsRules}
-use Rattle.secret_rules.specs.declared.rule.Rule.{Rule}
-use Rattle.acgrep.specs.Runs.{IsTextOf}
-use Rattle.acgrep.specs.RunsByRules.{AddsRules, AreAllRules, AreNamedRules, is_own}
+use Rattle.acgrep.proofs.Words.{AddsRules, AreAllRules, AreNamedRules, Bor, IsTextOf, List, Option, Rule, TellsRules, [], ap, append-nil, append_assoc, arith, false, is_own, length, name_bytes, refl, subst, sym, true, ℕ, ◌++◌, ◌∙◌, ◌∷◌, ◌≡◌}
 
 -- those of the program are added
 pub own_added : (holds : List ℕ → Option (List ℕ)) (name : List ℕ) (left : Option (List ℕ)) (old new : List Rule) (text : List ℕ) → is_own name ≡ true → AddsRules (TellsRules text) old new

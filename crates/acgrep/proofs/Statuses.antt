@@ -1,12 +1,6 @@
 -- What `--no-match-ok` makes of the status of a search.
-use Rattle.std.proofs.Common.{◌≡◌, ◌<◌, ℕ, Bool, true, false, nat_eq, inl, inr, arith, eqb-true}
-use Rattle.std.proofs.lemmas.Bool.{cases_Bool}
-use Rattle.aho_devices.specs.declared.device.Sink.{Ghosts as SinkGhosts}
-use Rattle.tool_parts.specs.declared.errors.Errors.{Errors}
-use Rattle.acgrep.specs.Runs.{status_told}
-use Rattle.acgrep.specs.Told.{TellsStatus}
-use Rattle.acgrep.specs.declared.options.Shown.{Shown}
-use Rattle.std.specs.Prelude.{List}
+use Rattle.acgrep.proofs.Words.{Bool, Errors, List, Shown, SinkGhosts, TellsStatus, arith, cases_Bool, false, inl, inr, nat_eq, status_told, true, ℕ, ◌<◌, ◌≡◌}
+use Rattle.std.proofs.Common.{eqb-true}
 
 -- an error stays one
 pub told-low : (ok : Bool) (status : ℕ) → status_told ok status < 2 → status < 2

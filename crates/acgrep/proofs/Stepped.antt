@@ -1,17 +1,6 @@
 -- One line of a walk: what is written of it, and where the walk then is.
-use Rattle.std.proofs.Common.{◌≡◌, inl, inr, ℕ, ◌<◌, Bool, true, false, List, [], ◌∷◌, ◌++◌, Option, refl, sym, ◌∙◌, ap, subst, append_assoc}
-use Rattle.std.specs.Prelude.{nat_lt, ◌&&◌}
-use Rattle.std.specs.Io.KnownBytes.{Appends}
-use Rattle.std.proofs.KnownBytes.{Appends-nil, Appends-trans}
-use Rattle.std.proofs.lemmas.Bool.{lt-ltb}
-use Rattle.aho_core.specs.Patterns.{Patterns}
-use Rattle.aho_devices.specs.Counts.{AppendsBeginning}
-use Rattle.acgrep.specs.Contexts.{IsChosenBy, IsNotChosen, PassesBy, ShowsEach, ShowsGroup, Steps, Walk, WalksBegun, WalksLines, WalksSome, behind_chosen, behind_due, behind_passed, beside, separator_if}
-use Rattle.acgrep.specs.Lines.{lines}
-use Rattle.acgrep.specs.Written.{ShowsLine, WritesLine, after_line}
-use Rattle.acgrep.specs.declared.options.Context.{Context}
-use Rattle.acgrep.specs.declared.print.Place.{Place}
-use Rattle.acgrep.specs.declared.select.Job.{Job}
+use Rattle.acgrep.proofs.Words.{Appends, Appends-nil, Appends-trans, AppendsBeginning, Bool, Context, IsChosenBy, IsNotChosen, Job, List, Option, PassesBy, Patterns, Place, ShowsEach, ShowsGroup, ShowsLine, Steps, Walk, WalksBegun, WalksSome, WritesLine, [], after_line, ap, append_assoc, behind_chosen, behind_due, behind_passed, beside, false, inl, inr, lines, lt-ltb, nat_lt, refl, separator_if, subst, sym, true, ℕ, ◌&&◌, ◌++◌, ◌<◌, ◌∙◌, ◌∷◌, ◌≡◌}
+use Rattle.acgrep.specs.Contexts.{WalksLines}
 use Rattle.acgrep.proofs.Begun.{begins_more, begins_some}
 use Rattle.acgrep.proofs.Grouped.{walk}
 use Rattle.acgrep.proofs.Walked.{begun_behind, lines_join, lines_none, walks_one}

@@ -1,19 +1,5 @@
 -- What was searched of a stream, put together from its reads.
-use Rattle.std.proofs.Common.{◌≡◌, inl, inr, ℕ, ◌+◌, ◌-◌, ◌≤◌, ◌<◌, ◌==◌, Bool, true, false, List, [], ◌∷◌, ◌++◌, Option, None, Some, length, take, drop, take-append-drop, refl, sym, ◌∙◌, ap, subst, arith, append_assoc, append-nil, length-append}
-use Rattle.std.specs.Io.KnownBytes.{Appends, IsAtEnd, Keeps}
-use Rattle.std.proofs.KnownBytes.{Appends-trans, Consumes-trans, Consumes-nil}
-use Rattle.std.proofs.Math.Seq.{drop-append_seam, drop-append-add}
-use Rattle.std.proofs.lemmas.List.{get_or-append-add, length-take-le}
-use Rattle.aho_core.specs.Patterns.{Patterns}
-use Rattle.acgrep.specs.Lines.{EndsLine, IsEnding, lines}
-use Rattle.acgrep.specs.Filled.{FillsBehind, ReadsOn}
-use Rattle.acgrep.specs.Streamed.{ReadsSome, SearchesBehind, SearchesWhole, course}
-use Rattle.acgrep.specs.Contexts.{SearchesIn, SearchesText, around_of}
-use Rattle.acgrep.specs.Written.{IsSettled, SamePlace, SearchesPlain, after_lines}
-use Rattle.acgrep.specs.declared.options.Context.{Context}
-use Rattle.acgrep.specs.declared.print.Place.{Place}
-use Rattle.acgrep.specs.declared.select.Job.{Job}
-use Rattle.acgrep.specs.declared.select.State.{State}
+use Rattle.acgrep.proofs.Words.{Appends, Appends-trans, Bool, Consumes-nil, Consumes-trans, Context, EndsLine, FillsBehind, IsAtEnd, IsEnding, IsSettled, Job, Keeps, List, None, Option, Patterns, Place, ReadsOn, ReadsSome, SamePlace, SearchesBehind, SearchesIn, SearchesPlain, SearchesText, SearchesWhole, Some, State, [], after_lines, ap, append-nil, append_assoc, arith, around_of, course, drop, drop-append-add, drop-append_seam, false, get_or-append-add, inl, inr, length, length-append, length-take-le, lines, refl, subst, sym, take, take-append-drop, true, ℕ, ◌++◌, ◌+◌, ◌-◌, ◌<◌, ◌==◌, ◌∙◌, ◌∷◌, ◌≡◌, ◌≤◌}
 use Rattle.acgrep.proofs.Around.{front_newline}
 use Rattle.acgrep.proofs.LineLists.{ends_drop, lines_append}
 use Rattle.acgrep.proofs.Walked.{text_behind_kept, text_join, text_none}

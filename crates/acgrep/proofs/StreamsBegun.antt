@@ -1,17 +1,5 @@
 -- A search of a stream that is broken off, put together from its reads.
-use Rattle.std.proofs.Common.{◌≡◌, inl, inr, ℕ, ◌-◌, ◌≤◌, ◌<◌, Bool, true, false, List, [], ◌++◌, Option, None, Some, IfSome, length, take, drop, take-append-drop, refl, sym, ◌∙◌, ap, subst, append_assoc, append-nil}
-use Rattle.std.specs.Io.KnownBytes.{Consumes, IsAtEnd, Keeps}
-use Rattle.aho_core.specs.Patterns.{Patterns}
-use Rattle.acgrep.specs.Begun.{BeginsOf}
-use Rattle.acgrep.specs.Binary.{is_text, lines_by, text_lines}
-use Rattle.acgrep.specs.Contexts.{BeginsSearched, SearchesIn, SearchesText, TellsFrom, around_of, walk_of}
-use Rattle.acgrep.specs.Filled.{FillsBehind}
-use Rattle.acgrep.specs.Lines.{EndsLine, IsEnding, lines}
-use Rattle.acgrep.specs.Streamed.{BeginsBehind, BeginsWhole, ReadsSome, SearchesBehind, TextIf, course}
-use Rattle.acgrep.specs.Written.{IsSettled}
-use Rattle.acgrep.specs.declared.options.Context.{Context}
-use Rattle.acgrep.specs.declared.select.Job.{Job}
-use Rattle.acgrep.specs.declared.select.State.{State}
+use Rattle.acgrep.proofs.Words.{BeginsBehind, BeginsOf, BeginsSearched, BeginsWhole, Bool, Consumes, Context, EndsLine, FillsBehind, IfSome, IsAtEnd, IsEnding, IsSettled, Job, Keeps, List, None, Option, Patterns, ReadsSome, SearchesBehind, SearchesIn, SearchesText, Some, State, TellsFrom, TextIf, [], ap, append-nil, append_assoc, around_of, course, drop, false, inl, inr, is_text, length, lines, lines_by, refl, subst, sym, take, take-append-drop, text_lines, true, walk_of, ℕ, ◌++◌, ◌-◌, ◌<◌, ◌∙◌, ◌≡◌, ◌≤◌}
 use Rattle.acgrep.proofs.Beginnings.{begins_join}
 use Rattle.acgrep.proofs.Begun.{begins_all, begins_kept, begins_more, begins_nothing}
 use Rattle.acgrep.proofs.BinaryLines.{text_behind, text_front}

@@ -1,9 +1,5 @@
 -- Lines that are counted, some after others, and what is told of their counts.
-use Rattle.std.proofs.Common.{◌≡◌, ℕ, suc, zero, ◌+◌, ◌-◌, ◌<◌, ◌^◌, min, Bool, true, false, List, [], ◌∷◌, ◌++◌, length, refl, sym, ◌∙◌, ap, subst, arith, append-nil, append_assoc}
-use Rattle.std.specs.Prelude.{filter, if◌then◌else◌, slice_index}
-use Rattle.std.proofs.lemmas.List.{length-map}
-use Rattle.acgrep.specs.Lines.{lines}
-use Rattle.acgrep.specs.Tallies.{CountsLines, count_of, counts_table, rows_counted, rows_from, writes, zeros_of}
+use Rattle.acgrep.proofs.Words.{Bool, CountsLines, List, [], ap, append-nil, append_assoc, arith, count_of, counts_table, false, filter, if◌then◌else◌, length, length-map, lines, min, refl, rows_counted, rows_from, slice_index, subst, suc, sym, true, writes, zero, zeros_of, ℕ, ◌++◌, ◌+◌, ◌-◌, ◌<◌, ◌^◌, ◌∙◌, ◌∷◌, ◌≡◌}
 
 -- the lines of two lists, one after the other
 count-both : (number : ℕ) (some more : List (List ℕ)) → count_of number (some ++ more) ≡ count_of number some + count_of number more

@@ -1,29 +1,7 @@
 -- What is told of lines, put together from parts.
-use Rattle.std.proofs.Common.{◌≡◌, inl, inr, ℕ, ◌+◌, ◌-◌, ◌%◌, ◌^◌, ◌≤◌, ◌<◌, ◌==◌, Bool, true, false, List, [], ◌∷◌, ◌++◌, Option, None, Some, length, drop, refl, sym, ◌∙◌, ap, subst, arith, append_assoc, append-nil}
-use Rattle.std.specs.Prelude.{MatchBool, if◌then◌else◌, nat_le, nat_lt, not, ◌&&◌}
-use Rattle.std.specs.Io.KnownBytes.{Appends}
-use Rattle.std.proofs.KnownBytes.{Appends-nil, Appends-trans}
-use Rattle.std.proofs.lemmas.Bool.{and_parts, cases_Bool, cases_lt, ltb-true, true≢false}
-use Rattle.std.proofs.lemmas.List.{drop_all, drop-drop, length-drop}
-use Rattle.aho_core.specs.Patterns.{Patterns}
-use Rattle.aho_core.specs.Occurrence.{Occurrence}
+use Rattle.acgrep.proofs.Words.{AnyPart, Appends, Appends-nil, Appends-trans, AsFields, Bool, Count, DoesMatch, DoesNotMatch, EachLine, EndsLine, Fit, HasNone, IsMatched, IsPassedOver, IsSelected, IsSettled, Job, Lacking, LineOf, Lines, List, MatchBool, Matches, Names, None, Nothing, Objects, Occurrence, OnLines, Option, Patterns, Place, SamePlace, SearchesTo, Shown, ShowsBy, ShowsLine, Some, State, Style, TellsLines, TellsOfLines, WholeLine, WholeWord, WritesColored, WritesLine, WritesMatches, WritesNext, [], after_line, after_lines, and_parts, ap, append-nil, append_assoc, arith, asks_alone, cases_Bool, cases_lt, colored_from, colored_line_by, drop, drop-drop, drop_all, false, head_of, if◌then◌else◌, inl, inr, is_full, is_numbered, length, length-drop, line_number_at, lines, ltb-true, match_by, match_code, matches_by, nat_le, nat_lt, next_count, not, objects_by, offset_at, one_more, painted, part_of, place_behind, refl, selects, subst, sym, true, true≢false, ℕ, ◌%◌, ◌&&◌, ◌++◌, ◌+◌, ◌-◌, ◌<◌, ◌==◌, ◌^◌, ◌∙◌, ◌∷◌, ◌≡◌, ◌≤◌}
 use Rattle.acgrep.proofs.Bools.{where_false, where_true}
 use Rattle.acgrep.proofs.LineLists.{ends_drop}
-use Rattle.acgrep.specs.Alone.{asks_alone}
-use Rattle.acgrep.specs.Lines.{EndsLine, lines}
-use Rattle.acgrep.specs.Matches.{WritesColored, WritesMatches}
-use Rattle.acgrep.specs.Objects.{objects_by}
-use Rattle.acgrep.specs.Printed.{colored_from, colored_line_by, head_of, match_by, matches_by, line_number_at, match_code, offset_at, painted, part_of}
-use Rattle.acgrep.specs.Written.{EachLine, HasNone, IsMatched, IsPassedOver, IsSelected, IsSettled, LineOf, DoesMatch, DoesNotMatch, SamePlace, SearchesTo, ShowsBy, ShowsLine, TellsOfLines, TellsLines, WritesLine, WritesNext, after_line, after_lines, is_full, is_numbered, next_count, one_more, place_behind, selects}
-use Rattle.acgrep.specs.declared.matches.Shape.TheVariants.{AsFields, OnLines}
-use Rattle.acgrep.specs.declared.options.Fit.{Fit}
-use Rattle.acgrep.specs.declared.options.Fit.TheVariants.{AnyPart, WholeWord, WholeLine}
-use Rattle.acgrep.specs.declared.options.Shown.{Shown}
-use Rattle.acgrep.specs.declared.options.Shown.TheVariants.{Lines, Matches, Objects, Count, Names, Lacking, Nothing}
-use Rattle.acgrep.specs.declared.print.Place.{Place}
-use Rattle.acgrep.specs.declared.print.Style.{Style}
-use Rattle.acgrep.specs.declared.select.Job.{Job}
-use Rattle.acgrep.specs.declared.select.State.{State}
 
 -- what follows a place follows one in the text
 drop_within : (n : ℕ) (text : List ℕ) → (at : ℕ) × (at ≤ length text) × (drop n text ≡ drop at text)

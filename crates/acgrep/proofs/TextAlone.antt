@@ -1,17 +1,5 @@
 -- What is told of a reader whose lines are searched, or those before the first that holds a zero byte alone.
-use Rattle.std.proofs.Common.{◌≡◌, inl, inr, ℕ, ◌==◌, Bool, true, false, List, [], ◌++◌, Option, sym, ◌∙◌, ap, subst, append_assoc, append-nil}
-use Rattle.std.specs.Prelude.{not, ◌&&◌}
-use Rattle.std.proofs.lemmas.Bool.{and_parts, not-true}
-use Rattle.aho_core.specs.Patterns.{Patterns}
-use Rattle.acgrep.specs.Binary.{is_guarded, is_text, lines_by, lines_sought, takes_text}
-use Rattle.acgrep.specs.Contexts.{IsBegin, around_of}
-use Rattle.acgrep.specs.Files.{EndsFile, SearchesReader}
-use Rattle.acgrep.specs.Guarded.{BeginsBinary, EndsFront, SearchesFront, SearchesPast}
-use Rattle.acgrep.specs.Lines.{EndsLine, lines}
-use Rattle.acgrep.specs.Streamed.{BeginsBehind, TextIf, course}
-use Rattle.acgrep.specs.Written.{SomeLine}
-use Rattle.acgrep.specs.declared.select.Job.{Job}
-use Rattle.acgrep.specs.declared.select.State.{State}
+use Rattle.acgrep.proofs.Words.{BeginsBehind, BeginsBinary, Bool, EndsFile, EndsFront, EndsLine, IsBegin, Job, List, Option, Patterns, SearchesFront, SearchesPast, SearchesReader, SomeLine, State, TextIf, [], and_parts, ap, append-nil, append_assoc, around_of, course, false, inl, inr, is_guarded, is_text, lines, lines_by, lines_sought, not, not-true, subst, sym, takes_text, true, ℕ, ◌&&◌, ◌++◌, ◌==◌, ◌∙◌, ◌≡◌}
 use Rattle.acgrep.proofs.BinaryLines.{first_some, first_text}
 use Rattle.acgrep.proofs.BinaryTold.{lines_cut, some_behind}
 use Rattle.acgrep.proofs.FileTellings.{file_of, left_none, lines_told, settled_read, text_behind as text_read, text_told}

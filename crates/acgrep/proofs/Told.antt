@@ -1,38 +1,11 @@
 -- What a message tells is one that may be told.
-use Rattle.std.proofs.Common.{◌≡◌, inl, inr, ◌⊎◌, ℕ, ◌-◌, ◌<◌, ◌≤◌, take, drop, Bool, true, false, List, [], ◌∷◌, ◌++◌, Option, Some, None, refl, sym, ap, subst, ◌∙◌, arith, codes}
+use Rattle.acgrep.proofs.Words.{Bool, Bor, Count, Errors, IfSome, IsMessage, IsNamed, IsOneOf, IsToldCause, IsUnopened, Job, Known, Lacking, Lines, List, MatchBool, Matches, MayName, MaySaid, MayTell, Names, None, Nothing, Objects, Option, Outcome, Said, Searched, Seen, Shown, SinkGhosts, Some, Source, Stopped, Tells, TellsBytes, TellsIf, TellsOfOutcome, TellsOutcome, TellsSome, TellsStatus, Unread, [], ap, arith, build_error_text, cases_Bool, cases_lt, codes, common_steps, drop, false, files_told, get_or, if◌then◌else◌, inl, inr, is_enough, is_utf8, length, loop_text, map, match_error_text, message_of, names_said, nat_lt, no_text_text, origin_of, origins_of, output_text, reason_text, refl, seen_after, shown_name, shown_names, slice_index_or, some-one, some-tells, some-then, some-weaker, source_names, status_by, subst, sym, take, take_all, tells-none, tells-weaker, then-some, true, unopened_line, unusable_text, zero_text, ℕ, ◌++◌, ◌-◌, ◌<◌, ◌∙◌, ◌∷◌, ◌≡◌, ◌≤◌, ◌⊎◌}
 use Prim.Native.Nat.{zero, suc}
-use Rattle.std.specs.Prelude.{IfSome, MatchBool, map, length, nat_lt, slice_index_or, if◌then◌else◌}
-use Rattle.std.specs.Borrow.{Bor}
-use Rattle.std.specs.Str.{is_utf8}
-use Rattle.std.proofs.Math.ListN.{get_or}
-use Rattle.std.proofs.lemmas.Grind.{common_steps}
-use Rattle.std.proofs.lemmas.List.{take_all}
-use Rattle.std.proofs.lemmas.Bool.{cases_Bool, cases_lt}
-use Rattle.aho_core.specs.Texts.{build_error_text, match_error_text}
 use Rattle.aho_core.specs.declared.error.BuildError.{BuildError}
 use Rattle.aho_core.specs.declared.error.MatchErrorKind.{MatchErrorKind}
-use Rattle.aho_devices.specs.declared.device.Sink.{Ghosts as SinkGhosts}
-use Rattle.tool_parts.specs.Messages.{message_of, reason_text}
-use Rattle.tool_parts.specs.Names.{IsOneOf}
-use Rattle.tool_parts.specs.Telling.{Tells, TellsBytes, TellsSome}
-use Rattle.tool_parts.specs.declared.errors.Errors.{Errors}
 use Rattle.tool_parts.specs.declared.reason.Reason.{Reason}
-use Rattle.tool_parts.proofs.Lines.{some-one, some-tells, some-then, some-weaker, tells-none, tells-weaker, then-some}
-use Rattle.acgrep.specs.Arguments.{Said, origin_of}
-use Rattle.acgrep.specs.Files.{IsNamed, shown_name}
-use Rattle.acgrep.specs.Folders.{Known}
-use Rattle.acgrep.specs.Runs.{origins_of}
-use Rattle.acgrep.specs.Told.{IsMessage, IsToldCause, IsUnopened, MayName, MaySaid, MayTell, TellsIf, TellsOfOutcome, TellsOutcome, TellsStatus, files_told, loop_text, no_text_text, output_text, names_said, shown_names, source_names, unopened_line, unusable_text, zero_text}
-use Rattle.acgrep.specs.declared.arguments.Source.{Source}
 use Rattle.acgrep.specs.declared.arguments.Source.TheVariants.{File}
-use Rattle.acgrep.specs.declared.files.Seen.{Seen}
-use Rattle.acgrep.specs.declared.options.Shown.{Shown}
-use Rattle.acgrep.specs.declared.select.Job.{Job}
-use Rattle.acgrep.specs.declared.options.Shown.TheVariants.{Lines, Matches, Objects, Count, Names, Lacking, Nothing}
 use Rattle.acgrep.proofs.InTurn.{enough_only}
-use Rattle.acgrep.specs.declared.files.Outcome.{Outcome}
-use Rattle.acgrep.specs.InTurn.{is_enough, seen_after, status_by}
-use Rattle.acgrep.specs.declared.files.Outcome.TheVariants.{Searched, Unread, Stopped}
 
 -- a name is among more names
 pub among-first : (name : List ℕ) (names more : List (List ℕ)) → IsOneOf name names → IsOneOf name (names ++ more)

@@ -1,7 +1,5 @@
 -- Options that do not go together.
-use Rattle.std.proofs.Common.{◌≡◌, ℕ, List, Option, None, Some, subst}
-use Rattle.std.specs.Prelude.{IfSome}
-use Rattle.acgrep.specs.Beside.{unfit_line}
+use Rattle.acgrep.proofs.Words.{IfSome, List, None, Option, Some, subst, unfit_line, ℕ, ◌≡◌}
 use Rattle.acgrep.specs.declared.beside.Unfit.{Unfit}
 
 pub some_all : {X : Type 0} (known : Option X) (P : Type 0) → P → IfSome known (λ x. P)

@@ -1,12 +1,5 @@
 -- Patterns by which no line is selected.
-use Rattle.std.proofs.Common.{◌≡◌, ℕ, Bool, true, false, List, [], ◌∷◌, length, drop, refl, sym, ap, subst, arith}
-use Rattle.std.specs.Prelude.{slice_index_or, slice_range}
-use Rattle.aho_core.specs.Bytes.{IsSameWord}
-use Rattle.aho_core.specs.Patterns.{Patterns, pattern_at}
-use Rattle.acgrep.specs.Runs.{selects_none}
-use Rattle.acgrep.specs.Written.{HasMatch, IsPassedOver}
-use Rattle.acgrep.specs.declared.options.Fit.{Fit}
-use Rattle.acgrep.specs.declared.options.Fit.TheVariants.{AnyPart, WholeWord, WholeLine}
+use Rattle.acgrep.proofs.Words.{AnyPart, Bool, Fit, HasMatch, IsPassedOver, IsSameWord, List, Patterns, WholeLine, WholeWord, [], ap, arith, drop, false, length, pattern_at, refl, selects_none, slice_index_or, slice_range, subst, sym, true, ℕ, ◌∷◌, ◌≡◌}
 use Rattle.acgrep.proofs.LineLists.{take_zero}
 use Rattle.acgrep.proofs.Tellings.{none_matches}
 

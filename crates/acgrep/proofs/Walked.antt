@@ -1,17 +1,6 @@
 -- Walks from line to line, one behind another.
-use Rattle.std.proofs.Common.{◌≡◌, inl, inr, ℕ, Bool, true, false, List, [], ◌∷◌, ◌++◌, Option, refl, sym, ◌∙◌, ap, subst, append_assoc, append-nil}
-use Rattle.std.specs.Prelude.{nat_lt}
-use Rattle.std.specs.Io.KnownBytes.{Appends}
-use Rattle.std.proofs.KnownBytes.{Appends-trans}
-use Rattle.std.proofs.lemmas.Bool.{cases_Bool, true≢false}
-use Rattle.aho_core.specs.Patterns.{Patterns}
-use Rattle.acgrep.specs.Contexts.{PassesBy, PassesLine, Steps, Walk, WalksBegun, WalksLines, WalksSome, WalksOver, WalksText, behind_chosen, behind_passed, walk_of}
-use Rattle.acgrep.specs.Lines.{EndsLine, lines}
-use Rattle.acgrep.specs.Written.{IsPassedOver, IsSettled, TellsOfLines, after_line, is_full}
-use Rattle.acgrep.specs.declared.options.Context.{Context}
-use Rattle.acgrep.specs.declared.print.Place.{Place}
-use Rattle.acgrep.specs.declared.select.Job.{Job}
-use Rattle.acgrep.specs.declared.select.State.{State}
+use Rattle.acgrep.proofs.Words.{Appends, Appends-trans, Bool, Context, EndsLine, IsPassedOver, IsSettled, Job, List, Option, PassesBy, PassesLine, Patterns, Place, State, Steps, TellsOfLines, Walk, WalksBegun, WalksOver, WalksSome, WalksText, [], after_line, ap, append-nil, append_assoc, behind_chosen, behind_passed, cases_Bool, false, inl, inr, is_full, lines, nat_lt, refl, subst, sym, true, true≢false, walk_of, ℕ, ◌++◌, ◌∙◌, ◌∷◌, ◌≡◌}
+use Rattle.acgrep.specs.Contexts.{WalksLines}
 use Rattle.acgrep.proofs.Begun.{begins_behind}
 use Rattle.acgrep.proofs.LineLists.{lines_append}
 

@@ -1,21 +1,7 @@
 -- What a walk through folders finds.
-use Rattle.std.proofs.Common.{◌≡◌, inl, inr, ℕ, ◌+◌, ◌-◌, ◌<◌, Bool, true, false, List, [], ◌∷◌, ◌++◌, length, take, drop, refl, sym, ◌∙◌, ap, subst, arith}
-use Rattle.std.specs.Prelude.{MatchBool, Option, Some, None, IfSome, codes, map}
-use Rattle.std.specs.Borrow.{Bor}
-use Rattle.tool_parts.specs.Names.{name_bytes}
+use Rattle.acgrep.proofs.Words.{AreBelow, AreFiles, Begins, Bool, Bor, Device, Enters, File, FindsFiles, Folder, Found, HoldsNames, IfSome, IsKind, IsLost, IsPermutation-trans, Kind, Link, List, Loses, MatchBool, None, Option, PutsInside, RuleSaid, Some, Spot, Tree, Ways, [], ap, arith, codes, drop, entered, false, files_by, get_or, get_or-map, inl, input, inr, inside, is_folder, is_lost_left, is_spot_left, is_standard, left, length, length-map, listed_bytes, looked, lost, map, map-append, missed, missed_of, name_bytes, nat_cmp, none, operand, refl, slice_cmp, subst, sym, take, take_all, true, unlisted, ℕ, ◌++◌, ◌+◌, ◌-◌, ◌<◌, ◌∙◌, ◌∷◌, ◌≡◌}
 use Rattle.std.specs.List.Sorted.{IsPermutation, IsSorted, IsSortedBy}
-use Rattle.std.specs.Cmp.Lexicographic.{slice_cmp}
-use Rattle.std.specs.Ordering.{nat_cmp}
-use Rattle.std.proofs.Math.ListN.{get_or}
-use Rattle.std.proofs.lemmas.List.{append-nil, append_assoc, get_or-map, length-map, map-append, take_all}
-use Rattle.std.proofs.lemmas.List.Sorted.{IsPermutation-trans}
-use Rattle.acgrep.specs.Folders.{AreBelow, AreFiles, Begins, Enters, FindsFiles, HoldsNames, IsKind, IsLost, Loses, PutsInside, Spot, Tree, files_by, inside, is_folder, is_lost_left, is_spot_left, is_standard, missed_of, none, input, missed, lost, left, looked, unlisted, entered, operand}
-use Rattle.acgrep.specs.Listed.{listed_bytes}
-use Rattle.acgrep.specs.Rules.{RuleSaid}
-use Rattle.acgrep.specs.declared.folders.Kind.{Kind}
-use Rattle.acgrep.specs.declared.folders.Kind.TheVariants.{File, Folder, Link, Device}
-use Rattle.acgrep.specs.declared.walk.Found.{Found}
-use Rattle.acgrep.specs.declared.walk.Ways.{Ways}
+use Rattle.std.proofs.lemmas.List.{append-nil, append_assoc}
 
 -- a folder holds the names that were read, in order
 holds-put : (tree : Tree) (folder : List ℕ) (names ordered : List (List ℕ)) → IfSome (tree.lists folder) (λ known. IsPermutation known names) → IsPermutation names ordered

@@ -1,17 +1,6 @@
 -- Of what occurs in a line the longest that begins first tells whether a pattern is the whole line.
-use Rattle.std.proofs.Common.{◌≡◌, inl, inr, ℕ, ◌==◌, Bool, true, false, List, Some, length, sym, ◌∙◌, subst, arith, eqb-true, ap}
-use Rattle.std.specs.Prelude.{◌&&◌}
-use Rattle.std.proofs.lemmas.Bool.{and_from, and_parts, eq-eqb, true≢false}
-use Rattle.aho_core.specs.Answer.{IsAnswer}
-use Rattle.aho_core.specs.Occurrence.{Occurrence}
-use Rattle.aho_core.specs.Occurs.{OccursIn}
-use Rattle.aho_core.specs.Order.{IsBefore}
-use Rattle.aho_core.specs.Patterns.{Patterns}
-use Rattle.aho_core.specs.Search.{plain_search}
-use Rattle.aho_core.specs.declared.search.MatchKind.{MatchKind}
-use Rattle.aho_core.specs.declared.search.MatchKind.TheVariants.{LeftmostLongest}
-use Rattle.acgrep.specs.Written.{IsMatched}
-use Rattle.acgrep.specs.declared.options.Fit.TheVariants.{WholeLine}
+use Rattle.acgrep.proofs.Words.{Bool, IsAnswer, IsBefore, IsMatched, LeftmostLongest, List, MatchKind, Occurrence, OccursIn, Patterns, Some, WholeLine, and_from, and_parts, ap, arith, eq-eqb, false, inl, inr, length, plain_search, subst, sym, true, true≢false, ℕ, ◌&&◌, ◌==◌, ◌∙◌, ◌≡◌}
+use Rattle.std.proofs.Common.{eqb-true}
 
 module _ (p : Patterns) (line : List ℕ) (m : Occurrence) (kind : p.kind ≡ LeftmostLongest) (best : IsAnswer p (plain_search line) (Some m)) where
   -- what is the whole line begins where the best begins, and ends where it ends

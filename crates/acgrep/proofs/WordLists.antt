@@ -1,19 +1,5 @@
 -- The patterns of sources, one after another, as the lines of one text.
-use Rattle.std.proofs.Common.{◌≡◌, inl, inr, ℕ, suc, ◌-◌, ◌≤◌, ◌<◌, ◌==◌, true, false, List, [], ◌∷◌, ◌++◌, Option, None, Some, length, take, drop, refl, sym, ◌∙◌, ap, subst, arith, append-nil, append_assoc}
-use Rattle.std.specs.Prelude.{IfSome, codes}
-use Rattle.std.specs.Io.{StartsWith}
-use Rattle.std.specs.Io.KnownBytes.{Consumes, IsAtEnd, Keeps}
-use Rattle.std.proofs.KnownBytes.{starts_with_rest}
-use Rattle.std.proofs.Math.ListN.{get_or}
-use Rattle.std.proofs.lemmas.Bool.{cases_Bool}
-use Rattle.std.proofs.lemmas.List.{take_all}
-use Rattle.memchr.specs.Find.{Nowhere}
-use Rattle.acgrep.specs.Arguments.{Origin, origin_of}
-use Rattle.tool_parts.specs.Names.{is_input}
-use Rattle.acgrep.specs.Lines.{EndsLine, IsEnding, joined_to, lines}
-use Rattle.acgrep.specs.Loading.{AddsText, AddsWords}
-use Rattle.acgrep.specs.Runs.{AreWords, origins_of}
-use Rattle.acgrep.specs.declared.arguments.Source.{Source}
+use Rattle.acgrep.proofs.Words.{AddsText, AddsWords, AreWords, Consumes, EndsLine, IfSome, IsAtEnd, IsEnding, Keeps, List, None, Nowhere, Option, Origin, Some, Source, StartsWith, [], ap, append-nil, append_assoc, arith, cases_Bool, codes, drop, false, get_or, inl, inr, is_input, joined_to, length, lines, origin_of, origins_of, refl, starts_with_rest, subst, suc, sym, take, take_all, true, ℕ, ◌++◌, ◌-◌, ◌<◌, ◌==◌, ◌∙◌, ◌∷◌, ◌≡◌, ◌≤◌}
 use Rattle.acgrep.proofs.FirstLines.{lines_joined}
 use Rattle.acgrep.proofs.LineLists.{lines_append}
 

@@ -1,9 +1,5 @@
 -- What the arguments of `--color`, `-d`, `-D` and `--binary-files` name.
-use Rattle.std.specs.Prelude.{ℕ, ◌||◌, Bool, List, [], ◌∷◌, Option, None, Some, codes, if◌then◌else◌}
-use Rattle.std.specs.Result.{result_ok}
-use Rattle.std.specs.Str.{bytes_eq, str_eq_ignore_ascii_case}
-use Rattle.tool_parts.specs.OptionNames.{Named, found_among, meant, named}
-use Rattle.tool_parts.specs.declared.options.found.Found.TheVariants.{Unknown}
+use Rattle.acgrep.specs.Words.{Bool, List, Named, None, Option, Some, Unknown, [], bytes_eq, codes, found_among, if◌then◌else◌, meant, named, result_ok, str_eq_ignore_ascii_case, ℕ, ◌||◌, ◌∷◌}
 use Rattle.acgrep.specs.declared.options.Color.{Color}
 use Rattle.acgrep.specs.declared.options.Color.TheVariants.{Auto, Always, Never}
 use Rattle.acgrep.specs.declared.options.Switch.{Switch}

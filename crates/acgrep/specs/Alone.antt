@@ -1,14 +1,8 @@
 -- What stands alone in a line: no letter, digit or `_` is beside it.
-use Rattle.std.specs.Prelude.{◌≡◌, ℕ, ◌+◌, ◌-◌, ◌==◌, ◌<◌, ◌≤◌, ◌⊎◌, ◌&&◌, ◌||◌, max, nat_lt, Bool, MatchBool, true, false, not, List, [], ◌∷◌, Option, Some, None, length, slice_index}
-use Rattle.std.specs.Char.{is_ascii_alphanumeric}
+use Rattle.acgrep.specs.Words.{Bool, LeftmostLongest, List, MatchBool, None, Occurrence, OccursIn, Option, Patterns, Some, [], false, is_ascii_alphanumeric, length, max, nat_lt, not, plain_search, slice_index, true, ℕ, ◌&&◌, ◌+◌, ◌-◌, ◌<◌, ◌==◌, ◌||◌, ◌∷◌, ◌≡◌, ◌≤◌, ◌⊎◌}
 use Rattle.aho_core.specs.Best.{IsBestOrNone}
 use Rattle.aho_core.specs.Iteration.{AreFinds}
-use Rattle.aho_core.specs.Occurrence.{Occurrence}
-use Rattle.aho_core.specs.Occurs.{OccursIn}
 use Rattle.aho_core.specs.Order.{IsBefore}
-use Rattle.aho_core.specs.Patterns.{Patterns}
-use Rattle.aho_core.specs.Search.{plain_search}
-use Rattle.aho_core.specs.declared.search.MatchKind.TheVariants.{LeftmostLongest}
 use Rattle.acgrep.specs.declared.options.Fit.{Fit}
 use Rattle.acgrep.specs.declared.options.Fit.TheVariants.{AnyPart, WholeWord, WholeLine}
 

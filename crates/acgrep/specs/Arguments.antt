@@ -1,11 +1,7 @@
 -- What the arguments, those after the program's name, say.
+use Rattle.acgrep.specs.Words.{Bool, Form, IfErr, IfOk, LeftmostLongest, List, None, OnOk, Option, Result, Some, [], all_ascii_digits, argument_form, codes, false, if◌then◌else◌, is_ascii_digit, is_some, joined_letters, length, long_name, long_with, map, nat_lt, no_more, no_option, not, option_and_then, option_map, slice_index, true, unwrap_or, ℕ, ◌&&◌, ◌++◌, ◌<◌, ◌==◌, ◌^◌, ◌||◌, ◌∷◌, ◌≡◌}
 use Rattle.tool_parts.specs.Arguments.{kind_by}
-use Rattle.std.specs.Prelude.{◌≡◌, ℕ, ◌==◌, ◌^◌, ◌||◌, ◌&&◌, ◌<◌, nat_lt, slice_index, Bool, true, false, List, [], ◌∷◌, ◌++◌, Option, Some, None, codes, is_some, not, unwrap_or, length, map, Result, IfErr, IfOk, OnOk, option_and_then, option_map, if◌then◌else◌}
-use Rattle.std.specs.Char.{is_ascii_digit}
-use Rattle.std.specs.Str.{all_ascii_digits}
 use Rattle.std.specs.Str.Parse.{digits_value}
-use Rattle.aho_core.specs.declared.search.MatchKind.TheVariants.{LeftmostLongest}
-use Rattle.tool_parts.specs.ArgumentForms.{Form, argument_form, joined_letters, long_name, long_with, no_more, no_option}
 use Rattle.acgrep.specs.declared.arguments.Given.{Given}
 use Rattle.acgrep.specs.Actions.{binary_named, color_named, devices_named, folders_named}
 use Rattle.acgrep.specs.Formats.{format_pieces}

@@ -1,8 +1,5 @@
 -- Which options do not go with rules.
-use Rattle.std.specs.Prelude.{ℕ, ◌==◌, not, Bool, true, false, List, [], ◌∷◌, ◌++◌, Option, None, Some, codes, is_some, if◌then◌else◌}
-use Rattle.std.specs.Str.{bytes_eq}
-use Rattle.aho_core.specs.declared.search.MatchKind.{MatchKind}
-use Rattle.aho_core.specs.declared.search.MatchKind.TheVariants.{Standard, LeftmostFirst, LeftmostLongest}
+use Rattle.acgrep.specs.Words.{Bool, LeftmostFirst, LeftmostLongest, List, MatchKind, None, Option, Some, Standard, [], bytes_eq, codes, false, if◌then◌else◌, is_some, not, true, ℕ, ◌++◌, ◌==◌, ◌∷◌}
 use Rattle.acgrep.specs.Arguments.{Origin, Said}
 use Rattle.acgrep.specs.declared.beside.Unfit.{Unfit}
 use Rattle.acgrep.specs.declared.beside.Unfit.TheVariants.{Beside, Alone}

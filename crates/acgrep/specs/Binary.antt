@@ -1,6 +1,5 @@
 -- Lines that hold a zero byte: from the first of them on a file's lines are kept from a terminal, or not searched.
-use Rattle.std.specs.Prelude.{◌≡◌, ℕ, ◌==◌, ◌&&◌, ◌||◌, not, Bool, MatchBool, true, false, List, [], ◌∷◌, ◌++◌, codes, if◌then◌else◌}
-use Rattle.aho_core.specs.Patterns.{Patterns}
+use Rattle.acgrep.specs.Words.{Bool, List, MatchBool, Patterns, [], codes, false, if◌then◌else◌, not, true, ℕ, ◌&&◌, ◌++◌, ◌==◌, ◌||◌, ◌∷◌, ◌≡◌}
 use Rattle.acgrep.specs.Contexts.{TellsFile}
 use Rattle.acgrep.specs.Lines.{lines}
 use Rattle.acgrep.specs.Written.{IsAny, IsSelected, SomeLine, is_full}

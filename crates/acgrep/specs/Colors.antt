@@ -1,9 +1,5 @@
 -- The colours that GREP_COLORS of the environment gives.
-use Rattle.std.specs.Prelude.{ℕ, ◌==◌, ◌||◌, ◌&&◌, nat_lt, Bool, true, false, List, [], ◌∷◌, codes, length, if◌then◌else◌}
-use Rattle.std.specs.Char.{is_ascii_digit}
-use Rattle.std.specs.List.{after_first, before_first, position_or_len, slice_split}
-use Rattle.std.specs.Str.{bytes_eq}
-use Rattle.tool_parts.specs.ArgumentForms.{is_equals}
+use Rattle.acgrep.specs.Words.{Bool, List, [], after_first, before_first, bytes_eq, codes, false, if◌then◌else◌, is_ascii_digit, is_equals, length, nat_lt, position_or_len, slice_split, true, ℕ, ◌&&◌, ◌==◌, ◌||◌, ◌∷◌}
 use Rattle.acgrep.specs.declared.colors.Colors.{Colors}
 
 -- the code of each colour, and whether the rest of a line is erased where one begins or ends

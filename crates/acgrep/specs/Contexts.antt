@@ -1,7 +1,5 @@
 -- The lines around selected ones: which are written, and what stands between them.
-use Rattle.std.specs.Prelude.{◌≡◌, ◌⊎◌, ℕ, ◌+◌, ◌-◌, ◌<◌, ◌≤◌, ◌==◌, nat_le, nat_lt, Bool, MatchBool, true, false, not, ◌&&◌, List, [], ◌∷◌, ◌++◌, Option, Some, None, length, slice_index_or, if◌then◌else◌}
-use Rattle.std.specs.Io.KnownBytes.{Appends}
-use Rattle.aho_core.specs.Patterns.{Patterns}
+use Rattle.acgrep.specs.Words.{Appends, Bool, List, MatchBool, None, Option, Patterns, Some, [], false, if◌then◌else◌, length, nat_le, nat_lt, not, slice_index_or, true, ℕ, ◌&&◌, ◌++◌, ◌+◌, ◌-◌, ◌<◌, ◌==◌, ◌∷◌, ◌≡◌, ◌≤◌, ◌⊎◌}
 use Rattle.acgrep.specs.Begun.{BeginsOf}
 use Rattle.acgrep.specs.Filled.{held_lines}
 use Rattle.acgrep.specs.Lines.{lines}

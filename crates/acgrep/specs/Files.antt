@@ -1,9 +1,5 @@
 -- What is written of files, one after another.
-use Rattle.tool_parts.specs.Names.{is_input}
-use Rattle.std.specs.Prelude.{◌≡◌, ◌⊎◌, ℕ, ◌||◌, nat_lt, Bool, true, false, List, [], ◌++◌, Option, IfSome, MatchBool, if◌then◌else◌}
-use Rattle.std.specs.Borrow.{Bor}
-use Rattle.std.specs.Io.KnownBytes.{Appends, Consumes, IsAtEnd}
-use Rattle.aho_core.specs.Patterns.{Patterns}
+use Rattle.acgrep.specs.Words.{Appends, Bool, Bor, Consumes, IfSome, IsAtEnd, List, MatchBool, Option, Patterns, [], false, if◌then◌else◌, is_input, nat_lt, true, ℕ, ◌++◌, ◌||◌, ◌≡◌, ◌⊎◌}
 use Rattle.acgrep.specs.Begun.{BeginsOf}
 use Rattle.acgrep.specs.Binary.{TellsBinary, TellsGuarded, binary_by, is_guarded, is_text, lines_by, lines_sought, takes_text}
 use Rattle.acgrep.specs.Contexts.{TellsFile}

@@ -1,11 +1,8 @@
 -- Which files the operands of a recursive search name.
-use Rattle.std.specs.Prelude.{◌≡◌, ◌⊎◌, ℕ, ◌&&◌, ◌||◌, nat_eq, Bool, MatchBool, true, false, List, [], ◌∷◌, ◌++◌, Option, None, IfSome, codes, map, not, unwrap_or, if◌then◌else◌}
-use Rattle.std.specs.List.{ends_with}
-use Rattle.std.specs.Str.{IsUtf8, bytes_eq}
+use Rattle.acgrep.specs.Words.{Bool, IfSome, IsUtf8, List, MatchBool, None, Option, [], bytes_eq, codes, ends_with, false, if◌then◌else◌, is_input, map, nat_eq, not, true, unwrap_or, ℕ, ◌&&◌, ◌++◌, ◌||◌, ◌∷◌, ◌≡◌, ◌⊎◌}
 use Rattle.std.specs.List.Sorted.{IsPermutation, IsSorted}
 use Rattle.std.specs.Cmp.Lexicographic.{slice_cmp}
 use Rattle.std.specs.Ordering.{nat_cmp}
-use Rattle.tool_parts.specs.Names.{is_input}
 use Rattle.acgrep.specs.Listed.{listed_bytes}
 use Rattle.acgrep.specs.Rules.{RuleSaid, is_left_out, without_slashes}
 use Rattle.acgrep.specs.declared.folders.Folders.{Ghosts as FolderGhosts}

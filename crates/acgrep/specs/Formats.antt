@@ -1,6 +1,5 @@
 -- The format by which a match is written: bytes, and fields in braces.
-use Rattle.std.specs.Prelude.{ℕ, zero, suc, ◌-◌, ◌==◌, ◌||◌, nat_eq, List, [], ◌∷◌, Option, Some, None, codes, if◌then◌else◌, option_and_then, option_map}
-use Rattle.std.specs.List.{flat_map, starts_with}
+use Rattle.acgrep.specs.Words.{List, None, Option, Some, [], codes, flat_map, if◌then◌else◌, nat_eq, option_and_then, option_map, starts_with, suc, zero, ℕ, ◌-◌, ◌==◌, ◌||◌, ◌∷◌}
 use Rattle.acgrep.specs.declared.format.Front.{Front}
 use Rattle.acgrep.specs.declared.format.Piece.{Piece}
 use Rattle.acgrep.specs.declared.format.Piece.TheVariants.{Byte, Path, LineNumber, Start, End, PatternNumber, Found}

@@ -1,7 +1,5 @@
 -- How lines are searched up to the first that holds a zero byte, and then those from it on.
-use Rattle.std.specs.Prelude.{◌≡◌, ◌⊎◌, ◌==◌, ℕ, Bool, MatchBool, true, false, List, [], ◌∷◌, ◌++◌, Option, None, Some, drop, take}
-use Rattle.std.specs.Io.KnownBytes.{Appends, Consumes, IsAtEnd}
-use Rattle.aho_core.specs.Patterns.{Patterns}
+use Rattle.acgrep.specs.Words.{Appends, Bool, Consumes, IsAtEnd, List, MatchBool, None, Option, Patterns, Some, [], drop, false, take, true, ℕ, ◌++◌, ◌==◌, ◌∷◌, ◌≡◌, ◌⊎◌}
 use Rattle.acgrep.specs.Binary.{is_text}
 use Rattle.acgrep.specs.Lines.{lines}
 use Rattle.acgrep.specs.Streamed.{Course, ReadsSome, SearchesBehind, TextIf}

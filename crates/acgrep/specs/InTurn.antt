@@ -1,7 +1,6 @@
 -- Files that are searched one after another, whatever is searched for in them.
+use Rattle.acgrep.specs.Words.{Bool, Keeps, List, MatchBool, Option, [], false, if◌then◌else◌, true, ℕ, ◌||◌, ◌∷◌, ◌≡◌, ◌⊎◌}
 use Rattle.tool_parts.specs.Answers.{status_of}
-use Rattle.std.specs.Prelude.{◌≡◌, ◌⊎◌, ℕ, ◌||◌, Bool, true, false, List, [], ◌∷◌, Option, MatchBool, if◌then◌else◌}
-use Rattle.std.specs.Io.KnownBytes.{Keeps}
 use Rattle.acgrep.specs.declared.files.Outcome.{Outcome}
 use Rattle.acgrep.specs.declared.files.Outcome.TheVariants.{Searched, Unread, Stopped}
 use Rattle.acgrep.specs.declared.files.Seen.{Seen}

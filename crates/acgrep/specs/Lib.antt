@@ -37,4 +37,5 @@ pub mod Streamed
 pub mod Tallies
 pub mod Told
 pub mod ToldByRules
+pub mod Words
 pub mod Written

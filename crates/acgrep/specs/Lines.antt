@@ -1,6 +1,5 @@
 -- The lines of a text. One byte ends a line: a newline, or under `-z` a zero byte.
-use Rattle.std.specs.Prelude.{ℕ, ◌<◌, ◌-◌, length, slice_index_or, List, [], ◌∷◌, ◌==◌, if◌then◌else◌}
-use Rattle.memchr.specs.Find.{Nowhere, Passes, is_byte}
+use Rattle.acgrep.specs.Words.{List, Nowhere, Passes, [], if◌then◌else◌, is_byte, length, slice_index_or, ℕ, ◌-◌, ◌<◌, ◌==◌, ◌∷◌}
 
 -- the byte at a place ends a line
 abbrev pub IsEnding : (ending : ℕ) → List ℕ → ℕ → Type 0

@@ -1,6 +1,5 @@
 -- What a source adds to the patterns that were read before.
-use Rattle.std.specs.Prelude.{◌≡◌, ℕ, MatchBool, true, List, [], ◌∷◌, ◌++◌, Option, Vec}
-use Rattle.std.specs.declared.io.traits.Read.{Ghosts as Readers}
+use Rattle.acgrep.specs.Words.{List, MatchBool, Option, Readers, Vec, [], true, ℕ, ◌++◌, ◌∷◌, ◌≡◌}
 use Rattle.acgrep.specs.Arguments.{Origin}
 use Rattle.acgrep.specs.Lines.{lines}
 use Rattle.acgrep.specs.Rules.{RuleSaid, is_from_file, rule_said, rules_said}

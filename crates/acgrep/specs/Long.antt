@@ -1,9 +1,6 @@
 -- The long names of options, and what they mean.
-use Rattle.std.specs.Prelude.{ℕ, List, [], ◌∷◌, Option, codes}
-use Rattle.std.specs.Result.{result_ok}
-use Rattle.tool_parts.specs.OptionNames.{Named, found_among, meant, named, named_either}
+use Rattle.acgrep.specs.Words.{Begun, List, Named, Option, Several, Unknown, Whole, [], codes, found_among, meant, named, named_either, result_ok, ℕ, ◌∷◌}
 use Rattle.tool_parts.specs.declared.options.found.Found.{Found}
-use Rattle.tool_parts.specs.declared.options.found.Found.TheVariants.{Unknown, Begun, Several, Whole}
 use Rattle.acgrep.specs.declared.long.Long.{Long}
 use Rattle.acgrep.specs.declared.long.Long.TheVariants.{Plain, Takes, When}
 use Rattle.acgrep.specs.declared.long.Valued.TheVariants.{Regexp, PatternFile, Kind, Offset, FirstLine, MaxCount, After, Before, Around, Separator, Label, Format, Included, Excluded, ExcludedFrom, ExcludedFolder, Folders, Devices, BinaryFiles, RuleFile, LineLimit}

@@ -1,21 +1,14 @@
 -- What is written of files whose lines rules mark, one after another.
-use Rattle.tool_parts.specs.Names.{is_input}
-use Rattle.std.specs.Prelude.{◌≡◌, ◌⊎◌, ℕ, ◌&&◌, ◌||◌, nat_lt, Bool, MatchBool, true, false, List, [], ◌++◌, Option, IfSome, OnOk, Result, map}
-use Rattle.std.specs.Io.KnownBytes.{Appends}
+use Rattle.acgrep.specs.Words.{Appends, AreLineRuns, Automata, Bool, Covering, IfSome, List, MatchBool, Occurrence, OnOk, Option, Result, Rule, SinkGhosts, [], covering_by, false, is_input, map, nat_lt, seen_line, true, ℕ, ◌&&◌, ◌++◌, ◌||◌, ◌≡◌, ◌⊎◌}
 use Rattle.std.specs.Io.{StartsWith}
-use Rattle.aho_core.specs.Occurrence.{Occurrence}
-use Rattle.aho_devices.specs.declared.device.Sink.{Ghosts as SinkGhosts}
 use Rattle.aho_devices.specs.declared.device.Source.{Ghosts as SourceGhosts}
 use Rattle.aho_stream.specs.Replacing.{MayBe, SourceGave}
-use Rattle.aho_automaton.specs.declared.automaton.Automaton.{Ghosts as Automata}
-use Rattle.secret_rules.specs.Covering.{AreLineRuns, Covering, covering_by, seen_line}
 use Rattle.secret_rules.specs.LineCovers.{AreSearchedFor}
 use Rattle.secret_rules.specs.Lines.{Line, stream_lines}
 use Rattle.secret_rules.specs.Ready.{CanCoverLines, CoversTheSame, most_of, rules_of, searched_automaton, words_of}
 use Rattle.secret_rules.specs.Visits.{AreFirstLines}
 use Rattle.secret_rules.specs.declared.error.LineError.{LineError}
 use Rattle.secret_rules.specs.declared.line_cover.LineCover.{LineCover}
-use Rattle.secret_rules.specs.declared.rule.Rule.{Rule}
 use Rattle.acgrep.specs.Files.{BeginsTotal, EndsFile, IsNamed, known_of, shown_name, total_if}
 use Rattle.acgrep.specs.InTurn.{AreBegun, AreDoneOr, FileWork, IfBroken, IfSearched}
 use Rattle.acgrep.specs.Marked.{FileAsked, marked_lines, pass_after}

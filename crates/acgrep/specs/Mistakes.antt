@@ -1,16 +1,7 @@
 -- Which mistake is told of wrong arguments: the first one, in order.
-use Rattle.tool_parts.specs.Messages.{message_by, reason_text}
-use Rattle.tool_parts.specs.Telling.{TellsBytes}
-use Rattle.tool_parts.specs.declared.errors.Errors.{Errors}
+use Rattle.acgrep.specs.Words.{Err, Errors, Form, IfErr, List, NoArgument, NoName, None, Ok, Option, Result, SinkGhosts, Some, TakesNone, TellsBytes, UnknownLetter, [], argument_form, codes, concat, if◌then◌else◌, is_ascii_digit, joined_letters, long_name, long_with, meant, message_by, no_more, no_option, reason_text, ℕ, ◌++◌, ◌==◌, ◌||◌, ◌∷◌, ◌≡◌, ◌⊎◌}
 use Rattle.tool_parts.specs.declared.reason.Reason.TheVariants.{OutOfMemory as NoMemory}
-use Rattle.aho_devices.specs.declared.device.Sink.{Ghosts as SinkGhosts}
-use Rattle.std.specs.Prelude.{◌≡◌, ◌⊎◌, ℕ, ◌==◌, ◌||◌, List, [], ◌∷◌, ◌++◌, Option, Some, None, Result, Ok, Err, IfErr, codes, if◌then◌else◌}
-use Rattle.std.specs.List.{concat}
-use Rattle.std.specs.Char.{is_ascii_digit}
-use Rattle.tool_parts.specs.ArgumentForms.{Form, argument_form, joined_letters, long_name, long_with, no_more, no_option}
-use Rattle.tool_parts.specs.OptionNames.{meant}
 use Rattle.tool_parts.specs.declared.options.found.NotFound.{NotFound}
-use Rattle.tool_parts.specs.declared.options.misuse.Misuse.TheVariants.{UnknownLetter, NotFound as NoName, NoArgument, TakesNone}
 use Rattle.acgrep.specs.Arguments.{ReadSoFar, Said, argument_by, nothing_said, number_by, switch_by, valued_letter}
 use Rattle.acgrep.specs.Long.{found_by, option_by}
 use Rattle.acgrep.specs.Told.{TellsWrong, binary_parts, color_parts, devices_parts, folders_parts, format_parts, kind_parts, misuse_parts, number_parts, valued_name, wrong_parts}

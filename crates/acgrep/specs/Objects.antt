@@ -1,8 +1,5 @@
 -- What is written of a match with its fields: as a JSON object, or by a format.
-use Rattle.std.specs.Prelude.{ℕ, ◌+◌, ◌/◌, ◌%◌, ◌==◌, nat_lt, List, [], ◌∷◌, ◌++◌, codes, decimal, if◌then◌else◌}
-use Rattle.std.specs.List.{flat_map}
-use Rattle.std.specs.Str.{is_utf8}
-use Rattle.aho_core.specs.Occurrence.{Occurrence}
+use Rattle.acgrep.specs.Words.{List, Occurrence, [], codes, decimal, flat_map, if◌then◌else◌, is_utf8, nat_lt, ℕ, ◌%◌, ◌++◌, ◌+◌, ◌/◌, ◌==◌, ◌∷◌}
 use Rattle.acgrep.specs.Base64.{base64_of}
 use Rattle.acgrep.specs.Printed.{line_number_at, offset_at, part_of}
 use Rattle.acgrep.specs.declared.fields.Fields.{Fields}

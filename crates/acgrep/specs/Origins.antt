@@ -1,7 +1,6 @@
 -- Where a pattern of a call stands among the sources.
-use Rattle.std.specs.Prelude.{◌≡◌, ℕ, ◌+◌, ◌≤◌, ◌<◌, min, List, Option, Some, None, length, slice_index_or, slice_range}
+use Rattle.acgrep.specs.Words.{List, None, Option, Some, is_byte, length, min, places, slice_index_or, slice_range, ℕ, ◌+◌, ◌<◌, ◌≡◌, ◌≤◌}
 use Prim.Native.Nat.{zero, suc}
-use Rattle.memchr.specs.Find.{is_byte, places}
 use Rattle.acgrep.specs.declared.keys.KeyPlace.{KeyPlace}
 use Rattle.acgrep.specs.declared.patterns.Keys.{Keys}
 

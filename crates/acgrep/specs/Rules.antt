@@ -1,6 +1,6 @@
 -- Which files and folders are left out, by the rules of `--include`, `--exclude` and `--exclude-dir`, and those of the files that
 -- `--exclude-from` names.
-use Rattle.std.specs.Prelude.{ℕ, ◌+◌, ◌==◌, ◌&&◌, ◌||◌, Bool, true, false, List, [], ◌∷◌, ◌++◌, map, nat_le, take, if◌then◌else◌}
+use Rattle.acgrep.specs.Words.{Bool, List, [], false, if◌then◌else◌, map, nat_le, take, true, ℕ, ◌&&◌, ◌++◌, ◌+◌, ◌==◌, ◌||◌, ◌∷◌}
 use Rattle.acgrep.specs.Globs.{base_name, fits, operand_fits}
 use Rattle.acgrep.specs.Lines.{lines}
 use Rattle.acgrep.specs.declared.rules.Rule.{Rule}

@@ -1,16 +1,9 @@
 -- What a call searches for and in which files, by what its arguments say.
-use Rattle.std.specs.Prelude.{◌≡◌, ◌⊎◌, ℕ, ◌+◌, ◌-◌, ◌%◌, ◌^◌, ◌==◌, ◌&&◌, ◌||◌, nat_lt, Bool, MatchBool, true, false, not, List, [], ◌∷◌, ◌++◌, Option, None, Some, IfSome, Vec, codes, length, map, unwrap_or, if◌then◌else◌}
-use Rattle.std.specs.Io.KnownBytes.{Appends, Consumes, IsAtEnd, Keeps}
-use Rattle.std.specs.Str.{bytes_eq}
-use Rattle.aho_core.specs.Patterns.{Patterns}
-use Rattle.aho_devices.specs.Counts.{AppendsBeginning}
-use Rattle.aho_core.specs.declared.search.MatchKind.{MatchKind}
-use Rattle.aho_core.specs.declared.search.MatchKind.TheVariants.{LeftmostLongest}
+use Rattle.acgrep.specs.Words.{Appends, AppendsBeginning, Bool, Consumes, IfSome, IsAtEnd, Keeps, LeftmostLongest, List, MatchBool, MatchKind, None, Option, Patterns, Some, Vec, [], bytes_eq, codes, false, if◌then◌else◌, is_input, length, map, nat_lt, not, or_input, true, unwrap_or, ℕ, ◌%◌, ◌&&◌, ◌++◌, ◌+◌, ◌-◌, ◌==◌, ◌^◌, ◌||◌, ◌∷◌, ◌≡◌, ◌⊎◌}
 use Rattle.acgrep.specs.Beside.{unfit_said}
 use Rattle.acgrep.specs.Binary.{is_guarded, takes_text, writes_lines}
 use Rattle.acgrep.specs.Arguments.{Origin, Said, asks_counts, context_by, ending_by, fit_by, origin_of, said_by, shown_by, ways_by}
 use Rattle.tool_parts.specs.Building.{patterns_by_kind}
-use Rattle.tool_parts.specs.Names.{is_input, or_input}
 use Rattle.acgrep.specs.Files.{AreFilesBegun, AreSearchedOr}
 use Rattle.acgrep.specs.Folders.{AreBelow, AreChosen, Known, Tree, passes}
 use Rattle.acgrep.specs.Lines.{lines}

@@ -1,21 +1,10 @@
 -- What a call does by rules, by what its arguments say.
-use Rattle.std.specs.Prelude.{◌≡◌, ◌⊎◌, ◌<◌, ℕ, ◌==◌, Bool, MatchBool, false, List, [], ◌∷◌, ◌++◌, Option, codes, decimal, if◌then◌else◌, unwrap_or}
-use Rattle.std.specs.Borrow.{Bor}
-use Rattle.std.specs.Io.KnownBytes.{Keeps}
-use Rattle.std.specs.declared.io.traits.Read.{Ghosts as Readers}
-use Rattle.aho_automaton.specs.declared.automaton.Automaton.{Ghosts as Automata}
-use Rattle.aho_devices.specs.declared.device.Sink.{Ghosts as SinkGhosts}
-use Rattle.tool_parts.specs.Names.{name_bytes}
+use Rattle.acgrep.specs.Words.{Automata, Bool, Bor, Covering, Keeps, List, MatchBool, Option, Patterns, Readers, Rule, SinkGhosts, Standard, [], bytes_eq, codes, covering_by, decimal, false, if◌then◌else◌, name_bytes, unwrap_or, ℕ, ◌++◌, ◌<◌, ◌==◌, ◌∷◌, ◌≡◌, ◌⊎◌}
 use Rattle.acgrep.specs.declared.folders.Folders.{Ghosts as FolderGhosts}
 use Rattle.acgrep.specs.declared.marked_files.Marking.{Marking}
 use Rattle.acgrep.specs.declared.open.Open.{Ghosts as Openers}
-use Rattle.std.specs.Str.{bytes_eq}
-use Rattle.aho_core.specs.Patterns.{Patterns}
-use Rattle.aho_core.specs.declared.search.MatchKind.TheVariants.{Standard}
-use Rattle.secret_rules.specs.Covering.{Covering, covering_by}
 use Rattle.secret_rules.specs.Rules.{AreSound}
 use Rattle.secret_rules.specs.Tables.{TellsRules}
-use Rattle.secret_rules.specs.declared.rule.Rule.{Rule}
 use Rattle.acgrep.specs.Arguments.{Said}
 use Rattle.acgrep.specs.Folders.{Known, known_by}
 use Rattle.acgrep.specs.MarkedFiles.{AreMarkedOr, AreMarksBegun, IfMarks}

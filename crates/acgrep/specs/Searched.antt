@@ -1,12 +1,5 @@
 -- What searching does, whatever patterns the searcher was built from.
-use Rattle.std.specs.Prelude.{◌≡◌, ℕ, Bool, true, false, List, [], ◌∷◌, Option, Result, IfOk, OnErr, OnOk}
-use Rattle.std.specs.Borrow.{Bor}
-use Rattle.std.specs.Io.KnownBytes.{Appends}
-use Rattle.std.specs.declared.io.traits.Read.{Ghosts as Readers}
-use Rattle.std.specs.declared.io.traits.Write.{Ghosts as Writers}
-use Rattle.aho_core.specs.Patterns.{Patterns}
-use Rattle.aho_devices.specs.declared.device.Sink.{Ghosts as SinkGhosts}
-use Rattle.chromesquid.specs.Searcher.{IsBuiltFrom, Searcher}
+use Rattle.acgrep.specs.Words.{Appends, Bool, Bor, IfOk, IsBuiltFrom, List, OnErr, OnOk, Option, Patterns, Readers, Result, Searcher, SinkGhosts, Writers, [], false, true, ℕ, ◌∷◌, ◌≡◌}
 use Rattle.acgrep.specs.Contexts.{BeginsLines, BeginsSearched, IsChosenBy, SearchesText, ShowsEach, ShowsGroup, WalksBegun, WalksLines, WalksText, walk_of}
 use Rattle.acgrep.specs.Files.{BeginsFile, SearchesFile, SearchesReader}
 use Rattle.acgrep.specs.InTurn.{IfBroken, IfSearched}

@@ -1,13 +1,8 @@
 -- Which lines of a text are selected.
-use Rattle.std.specs.Prelude.{◌≡◌, ◌≢◌, ℕ, ◌-◌, ◌<◌, ◌≤◌, false, List, Option, Some, None, length, slice_index}
+use Rattle.acgrep.specs.Words.{List, None, Nowhere, Occurrence, Occurs, OccursIn, Option, Patterns, Some, false, length, pattern_at, plain_search, slice_index, ℕ, ◌-◌, ◌<◌, ◌≡◌, ◌≢◌, ◌≤◌}
 use Rattle.aho_core.specs.Bytes.{folded}
-use Rattle.aho_core.specs.Occurrence.{Occurrence}
-use Rattle.aho_core.specs.Occurs.{Occurs, OccursIn}
-use Rattle.aho_core.specs.Patterns.{Patterns, pattern_at}
-use Rattle.aho_core.specs.Search.{plain_search}
 use Rattle.aho_core.specs.declared.search.Anchored.TheVariants.{No}
 use Rattle.aho_core.specs.declared.search.Span.{Span}
-use Rattle.memchr.specs.Find.{Nowhere}
 use Rattle.acgrep.specs.Lines.{EndsLine, IsEnding, lines}
 use Rattle.acgrep.specs.Written.{HasNone}
 use Rattle.acgrep.specs.declared.options.Fit.TheVariants.{AnyPart}

@@ -1,19 +1,9 @@
 -- What is told on standard error.
-use Rattle.std.specs.Prelude.{◌≡◌, ◌⊎◌, ℕ, ◌<◌, Bool, MatchBool, true, false, if◌then◌else◌, List, [], ◌∷◌, ◌++◌, Option, Some, None, IfSome, codes, map}
-use Rattle.std.specs.List.{concat}
-use Rattle.std.specs.Str.{is_utf8}
-use Rattle.aho_core.specs.Texts.{build_error_text, match_error_text}
-use Rattle.aho_core.specs.declared.error.BuildError.{BuildError}
+use Rattle.acgrep.specs.Words.{Argued, Bool, BuildError, Errors, IfSome, IsOneOf, List, MatchBool, Message, NoLetter, NoName, None, Option, SinkGhosts, Some, Tells, TellsBytes, TellsSome, Unargued, [], build_error_text, codes, concat, false, if◌then◌else◌, is_utf8, map, match_error_text, message_by, or_input, reason_text, true, ℕ, ◌++◌, ◌<◌, ◌∷◌, ◌≡◌, ◌⊎◌}
 use Rattle.aho_core.specs.declared.error.MatchErrorKind.{MatchErrorKind}
-use Rattle.aho_devices.specs.declared.device.Sink.{Ghosts as SinkGhosts}
-use Rattle.tool_parts.specs.Messages.{Message, message_by, reason_text}
-use Rattle.tool_parts.specs.Names.{IsOneOf, or_input}
-use Rattle.tool_parts.specs.Telling.{Tells, TellsBytes, TellsSome}
-use Rattle.tool_parts.specs.declared.errors.Errors.{Errors}
 use Rattle.tool_parts.specs.declared.reason.Reason.{Reason}
 use Rattle.tool_parts.specs.Misuses.{text_before, text_behind}
 use Rattle.tool_parts.specs.declared.options.misuse.Misuse.{Misuse}
-use Rattle.tool_parts.specs.declared.options.misuse.Misuse.TheVariants.{UnknownLetter as NoLetter, NotFound as NoName, NoArgument as Unargued, TakesNone as Argued}
 use Rattle.acgrep.specs.Arguments.{Origin, Said, shown_by}
 use Rattle.acgrep.specs.Files.{shown_name}
 use Rattle.acgrep.specs.Folders.{Known, Tree}

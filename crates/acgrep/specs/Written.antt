@@ -1,10 +1,5 @@
 -- What is written of the lines of a text, one after another.
-use Rattle.std.specs.Prelude.{◌≡◌, ◌⊎◌, ⊤, ℕ, ◌+◌, ◌-◌, ◌%◌, ◌^◌, ◌<◌, ◌≤◌, min, Bool, true, false, not, ◌&&◌, List, [], ◌∷◌, ◌++◌, Option, None, length, drop, MatchBool, Some, nat_le, nat_lt, if◌then◌else◌}
-use Rattle.std.specs.Io.KnownBytes.{Appends}
-use Rattle.aho_core.specs.Occurrence.{Occurrence}
-use Rattle.aho_core.specs.Occurs.{OccursIn}
-use Rattle.aho_core.specs.Patterns.{Patterns}
-use Rattle.aho_core.specs.Search.{plain_search}
+use Rattle.acgrep.specs.Words.{Appends, Bool, List, MatchBool, None, Occurrence, OccursIn, Option, Patterns, Some, [], drop, false, if◌then◌else◌, length, min, nat_le, nat_lt, not, plain_search, true, ℕ, ⊤, ◌%◌, ◌&&◌, ◌++◌, ◌+◌, ◌-◌, ◌<◌, ◌^◌, ◌∷◌, ◌≡◌, ◌≤◌, ◌⊎◌}
 use Rattle.acgrep.specs.Alone.{AreShownOf, IsAloneFrom, asks_alone}
 use Rattle.acgrep.specs.Lines.{EndsLine, lines}
 use Rattle.acgrep.specs.Objects.{objects_by}

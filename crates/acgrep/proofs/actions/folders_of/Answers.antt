@@ -1,5 +1,5 @@
 -- One option after another.
-use Rattle.tool_parts.proofs.OptionNames.{then_option}
+use Rattle.acgrep.proofs.Words.{then_option}
 use Rattle.acgrep.proofs.actions.folders_of.Goals as goal
 
 pub returns : goal.returns

@@ -1,9 +1,5 @@
 -- What begins there and stands alone is the match that is tried, or is tried behind it.
-use Rattle.std.proofs.Common.{◌≡◌, ◌≤◌, length}
-use Rattle.aho_core.specs.Patterns.{Patterns}
-use Rattle.aho_core.specs.declared.search.MatchKind.TheVariants.{LeftmostLongest}
-use Rattle.chromesquid.specs.Searcher.{IsBuiltFrom}
-use Rattle.acgrep.specs.Alone.{IsLongestThere}
+use Rattle.acgrep.proofs.Words.{IsBuiltFrom, IsLongestThere, LeftmostLongest, Patterns, length, ◌≡◌, ◌≤◌}
 use Rattle.acgrep.proofs.AloneTried.{IsTried}
 use Rattle.acgrep.proofs.alone.alone_at.Given as goal
 

@@ -1,12 +1,5 @@
 -- Nothing that stands alone is passed: what the search finds first is tried, and then what begins behind it.
-use Rattle.std.proofs.Common.{◌≤◌, Option, None, Some, length, subst, arith}
-use Rattle.std.specs.Prelude.{IfSome}
-use Rattle.aho_core.specs.Answer.{IsAnswer}
-use Rattle.aho_core.specs.Best.{IsBestOrNone}
-use Rattle.aho_core.specs.Occurrence.{Occurrence}
-use Rattle.aho_core.specs.declared.search.MatchKind.TheVariants.{LeftmostLongest}
-use Rattle.aho_laws.specs.CutLaws.{span_search}
-use Rattle.acgrep.specs.Alone.{IsAloneAt}
+use Rattle.acgrep.proofs.Words.{IfSome, IsAloneAt, IsAnswer, IsBestOrNone, LeftmostLongest, None, Occurrence, Option, Some, arith, length, span_search, subst, ◌≤◌}
 use Rattle.acgrep.proofs.AloneTried.{alone_found, alone_later, alone_none, begins_at, longest_there}
 use Rattle.acgrep.proofs.alone.longest_alone.Goals as goal
 

@@ -1,7 +1,5 @@
 -- All bytes so far are digits.
-use Rattle.std.proofs.Common.{◌≡◌, ℕ, ◌-◌, ◌≤◌, ◌<◌, true, length}
-use Rattle.std.specs.Prelude.{slice_index}
-use Rattle.std.specs.Char.{is_ascii_digit}
+use Rattle.acgrep.proofs.Words.{is_ascii_digit, length, slice_index, true, ℕ, ◌-◌, ◌<◌, ◌≡◌, ◌≤◌}
 use Rattle.acgrep.proofs.arguments.digits_in.Given as goal
 
 abbrev pub invariant-loop-count : goal.invariant-loop-count

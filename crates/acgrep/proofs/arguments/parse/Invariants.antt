@@ -1,8 +1,5 @@
 -- What is left of the arguments says what all of them do, and its first mistake is theirs.
-use Rattle.std.proofs.Common.{◌≡◌, length}
-use Rattle.acgrep.specs.Arguments.{arguments_by, said, said_by}
-use Rattle.acgrep.specs.Listed.{listed_bytes}
-use Rattle.acgrep.specs.Mistakes.{mistake_by, wrong_from}
+use Rattle.acgrep.proofs.Words.{arguments_by, length, listed_bytes, mistake_by, said, said_by, wrong_from, ◌≡◌}
 use Rattle.acgrep.proofs.arguments.parse.Given as goal
 
 abbrev pub invariant-loop-argument : goal.invariant-loop-argument

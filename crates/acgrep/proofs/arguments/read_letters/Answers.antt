@@ -1,8 +1,5 @@
 -- A letter that is no digit turns something on.
-use Rattle.std.proofs.Common.{rules, ◌≡◌, ◌∙◌, ◌∷◌, List, ℕ, None, Some, ap, arith, subst, sym}
-use Rattle.acgrep.specs.Arguments.{AreDigits, letters_by, said, switch_by, valued_letter}
-use Rattle.acgrep.specs.Mistakes.{wrong_letters}
-use Rattle.acgrep.specs.declared.options.Flags.{Flags}
+use Rattle.acgrep.proofs.Words.{AreDigits, Flags, List, None, Some, ap, arith, letters_by, rules, said, subst, switch_by, sym, valued_letter, wrong_letters, ℕ, ◌∙◌, ◌∷◌, ◌≡◌}
 use Rattle.acgrep.proofs.Digits.{letter_first, letter_switch, wrong_first, wrong_switch}
 use Rattle.acgrep.proofs.arguments.read_letters.Goals as goal
 

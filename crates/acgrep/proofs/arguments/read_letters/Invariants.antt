@@ -1,7 +1,5 @@
 -- What is left of the letters says what all of them do, and the first that no option has is among them.
-use Rattle.std.proofs.Common.{◌≡◌, length}
-use Rattle.acgrep.specs.Arguments.{letters_by, said}
-use Rattle.acgrep.specs.Mistakes.{wrong_letters}
+use Rattle.acgrep.proofs.Words.{length, letters_by, said, wrong_letters, ◌≡◌}
 use Rattle.acgrep.proofs.arguments.read_letters.Given as goal
 
 abbrev pub invariant-loop-letter : goal.invariant-loop-letter

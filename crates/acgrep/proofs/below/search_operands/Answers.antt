@@ -1,14 +1,5 @@
 -- What was found was searched, and what cannot be read was told before.
-use Rattle.std.proofs.Common.{◌≡◌, ◌∙◌, [], ℕ, ap, inl, inr, refl, subst, sym}
-use Rattle.aho_core.specs.Patterns.{Patterns}
-use Rattle.tool_parts.specs.Names.{name_bytes}
-use Rattle.tool_parts.proofs.Lines.{some-weaker}
-use Rattle.acgrep.specs.Arguments.{ending_by, said, shown_by}
-use Rattle.acgrep.specs.Folders.{missed_of}
-use Rattle.acgrep.specs.Listed.{listed_bytes}
-use Rattle.acgrep.specs.Runs.{are_several, status_reached}
-use Rattle.acgrep.specs.Selected.{HoldNoEnding}
-use Rattle.acgrep.specs.Told.{IsMessage, MaySay, names_told}
+use Rattle.acgrep.proofs.Words.{HoldNoEnding, IsMessage, MaySay, Patterns, [], ap, are_several, ending_by, inl, inr, listed_bytes, missed_of, name_bytes, names_told, refl, said, shown_by, some-weaker, status_reached, subst, sym, ℕ, ◌∙◌, ◌≡◌}
 use Rattle.acgrep.proofs.Reaching.{reached-bound, reached-low, reached-told}
 use Rattle.acgrep.proofs.Told.{status-some}
 use Rattle.acgrep.proofs.below.search_operands.Goals as goal

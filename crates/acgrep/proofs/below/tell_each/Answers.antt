@@ -1,8 +1,5 @@
 -- A name more was told.
-use Rattle.std.proofs.Common.{◌≡◌, [], ◌∷◌, Bool, ℕ, List, ap, length, subst, sym}
-use Rattle.acgrep.specs.Folders.{missed_of}
-use Rattle.acgrep.specs.Reached.{TellsMissed}
-use Rattle.acgrep.specs.Told.{TellsOfFile}
+use Rattle.acgrep.proofs.Words.{Bool, List, TellsMissed, TellsOfFile, [], ap, length, missed_of, subst, sym, ℕ, ◌∷◌, ◌≡◌}
 use Rattle.acgrep.proofs.Reaching.{IsTold, told-end, told-hushed, told-more, told-start}
 use Rattle.acgrep.proofs.Walking.{all-gone}
 use Rattle.acgrep.proofs.below.tell_each.Goals as goal

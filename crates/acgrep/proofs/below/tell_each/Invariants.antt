@@ -1,6 +1,5 @@
 -- What was told so far of names that cannot be looked at or read.
-use Rattle.std.proofs.Common.{length}
-use Rattle.acgrep.specs.Folders.{missed_of}
+use Rattle.acgrep.proofs.Words.{length, missed_of}
 use Rattle.acgrep.proofs.Reaching.{IsTold}
 use Rattle.acgrep.proofs.below.tell_each.Given as goal
 

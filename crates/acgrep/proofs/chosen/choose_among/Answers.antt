@@ -1,9 +1,5 @@
 -- A name more was looked at.
-use Rattle.std.proofs.Common.{◌≡◌, [], ◌<◌, ℕ, Bor, List, arith, length}
-use Rattle.std.proofs.lemmas.Grind.{common_steps}
-use Rattle.tool_parts.specs.Names.{name_bytes}
-use Rattle.acgrep.specs.Folders.{tree_of}
-use Rattle.acgrep.specs.Rules.{rules_said}
+use Rattle.acgrep.proofs.Words.{Bor, List, [], arith, common_steps, length, name_bytes, rules_said, tree_of, ℕ, ◌<◌, ◌≡◌}
 use Rattle.acgrep.proofs.Choosing.{chosen-end, chosen-more}
 use Rattle.acgrep.proofs.chosen.choose_among.Goals as goal
 

@@ -1,8 +1,5 @@
 -- What was chosen so far.
-use Rattle.std.proofs.Common.{length}
-use Rattle.tool_parts.specs.Names.{name_bytes}
-use Rattle.acgrep.specs.Folders.{tree_of}
-use Rattle.acgrep.specs.Rules.{rules_said}
+use Rattle.acgrep.proofs.Words.{length, name_bytes, rules_said, tree_of}
 use Rattle.acgrep.proofs.Choosing.{AreSoFar}
 use Rattle.acgrep.proofs.chosen.choose_among.Given as goal
 

@@ -1,7 +1,5 @@
 -- Where none is left out a name is not looked at.
-use Rattle.std.proofs.Common.{sym, ◌∙◌}
-use Rattle.acgrep.specs.Folders.{tree_of}
-use Rattle.acgrep.specs.Rules.{rules_said}
+use Rattle.acgrep.proofs.Words.{rules_said, sym, tree_of, ◌∙◌}
 use Rattle.acgrep.proofs.Choosing.{all_kept}
 use Rattle.acgrep.proofs.chosen.is_kept.Goals as goal
 

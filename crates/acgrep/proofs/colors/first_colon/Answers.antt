@@ -1,7 +1,5 @@
 -- The first colon, or none, was met.
-use Rattle.std.proofs.Common.{ap, arith, sym}
-use Rattle.std.proofs.lemmas.List.Sums.{position_or_len_is}
-use Rattle.acgrep.specs.Colors.{is_colon}
+use Rattle.acgrep.proofs.Words.{ap, arith, is_colon, position_or_len_is, sym}
 use Rattle.acgrep.proofs.colors.first_colon.Goals as goal
 
 pub returns-then-text-at-eq58 : goal.returns-then-text-at-eq58

@@ -1,7 +1,5 @@
 -- No colon so far.
-use Rattle.std.proofs.Common.{◌≡◌, ℕ, ◌-◌, ◌≤◌, ◌<◌, false, length}
-use Rattle.std.proofs.Math.ListN.{get_or}
-use Rattle.acgrep.specs.Colors.{is_colon}
+use Rattle.acgrep.proofs.Words.{false, get_or, is_colon, length, ℕ, ◌-◌, ◌<◌, ◌≡◌, ◌≤◌}
 use Rattle.acgrep.proofs.colors.first_colon.Given as goal
 
 abbrev pub invariant-loop-at : goal.invariant-loop-at

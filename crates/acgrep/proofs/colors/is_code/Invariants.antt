@@ -1,6 +1,5 @@
 -- The bytes so far are those of a code.
-use Rattle.std.proofs.Common.{◌≡◌, length}
-use Rattle.acgrep.specs.Colors.{is_code}
+use Rattle.acgrep.proofs.Words.{is_code, length, ◌≡◌}
 use Rattle.acgrep.proofs.colors.is_code.Given as goal
 
 abbrev pub invariant-loop-rest : goal.invariant-loop-rest

@@ -1,9 +1,5 @@
 -- One part more, or the last.
-use Rattle.std.proofs.Common.{◌≡◌, ℕ, ◌+◌, ◌<◌, Bool, false, true, List, length, drop, take, ap, arith, sym, ◌∙◌}
-use Rattle.std.proofs.lemmas.Grind.{common_steps}
-use Rattle.std.specs.List.{slice_split}
-use Rattle.std.specs.Prelude.{if◌then◌else◌}
-use Rattle.acgrep.specs.Colors.{is_colon, is_right, palette_of, with_part, with_parts}
+use Rattle.acgrep.proofs.Words.{Bool, List, ap, arith, common_steps, drop, false, if◌then◌else◌, is_colon, is_right, length, palette_of, slice_split, sym, take, true, with_part, with_parts, ℕ, ◌+◌, ◌<◌, ◌∙◌, ◌≡◌}
 use Rattle.acgrep.proofs.ColorParts.{parts_first, parts_last}
 use Rattle.acgrep.proofs.colors.read_parts.Goals as goal
 

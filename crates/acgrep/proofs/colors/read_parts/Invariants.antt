@@ -1,7 +1,5 @@
 -- What the parts so far and the rest say is what all say.
-use Rattle.std.proofs.Common.{◌≡◌, length}
-use Rattle.std.specs.List.{position_or_len, slice_split}
-use Rattle.acgrep.specs.Colors.{is_colon, palette_of, with_parts}
+use Rattle.acgrep.proofs.Words.{is_colon, length, palette_of, position_or_len, slice_split, with_parts, ◌≡◌}
 use Rattle.acgrep.proofs.colors.read_parts.Given as goal
 
 abbrev pub invariant-loop-end : goal.invariant-loop-end

@@ -1,7 +1,5 @@
 -- A line is selected or not.
-use Rattle.std.proofs.Common.{[], ◌∷◌, refl, subst}
-use Rattle.std.proofs.KnownBytes.{Appends-nil}
-use Rattle.acgrep.specs.Contexts.{IsChosenBy, WalksSome, walk_of}
+use Rattle.acgrep.proofs.Words.{Appends-nil, IsChosenBy, WalksSome, [], refl, subst, walk_of, ◌∷◌}
 use Rattle.acgrep.proofs.Beginnings.{on_err}
 use Rattle.acgrep.proofs.Begun.{begins_nothing}
 use Rattle.acgrep.proofs.context.pass_any.Goals as goal

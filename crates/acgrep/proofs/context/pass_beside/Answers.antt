@@ -1,7 +1,5 @@
 -- A line that is passed over is held.
-use Rattle.std.proofs.Common.{◌≡◌, [], ◌∷◌, refl, ap, arith}
-use Rattle.std.proofs.KnownBytes.{Appends-nil}
-use Rattle.acgrep.specs.Contexts.{Holding, WalksSome, walk_of}
+use Rattle.acgrep.proofs.Words.{Appends-nil, Holding, WalksSome, [], ap, arith, refl, walk_of, ◌∷◌, ◌≡◌}
 use Rattle.acgrep.proofs.Beginnings.{on_err}
 use Rattle.acgrep.proofs.Begun.{begins_nothing}
 use Rattle.acgrep.proofs.Stepped.{passed_lines, walk_same}

@@ -1,9 +1,5 @@
 -- What was put together of a selected line and those before it is written, or a beginning of it.
-use Rattle.std.proofs.Common.{◌≡◌, [], ◌∷◌, refl, subst}
-use Rattle.std.specs.Io.KnownBytes.{Appends}
-use Rattle.std.proofs.KnownBytes.{Appends-nil}
-use Rattle.aho_devices.specs.Counts.{AppendsBeginning}
-use Rattle.acgrep.specs.Contexts.{WalksSome, walk_of}
+use Rattle.acgrep.proofs.Words.{Appends, Appends-nil, AppendsBeginning, WalksSome, [], refl, subst, walk_of, ◌∷◌, ◌≡◌}
 use Rattle.acgrep.proofs.Beginnings.{on_err, page_bytes}
 use Rattle.acgrep.proofs.Begun.{begins_nothing}
 use Rattle.acgrep.proofs.Stepped.{takes_begun, takes_lines, walk_same}

@@ -1,8 +1,5 @@
 -- One line more is put together.
-use Rattle.std.proofs.Common.{◌≡◌, ◌<◌, ◌+◌, List, ℕ, [], length, drop, sym, ap, subst, arith}
-use Rattle.std.proofs.lemmas.List.{drop_all}
-use Rattle.acgrep.specs.Filled.{cut_by, held_lines}
-use Rattle.acgrep.specs.declared.print.Place.{Place}
+use Rattle.acgrep.proofs.Words.{List, Place, [], ap, arith, cut_by, drop, drop_all, held_lines, length, subst, sym, ℕ, ◌+◌, ◌<◌, ◌≡◌}
 use Rattle.acgrep.proofs.HeldLines.{cut_left, sum_left}
 use Rattle.acgrep.proofs.Stepped.{ShowsTo, shows_end, shows_step}
 use Rattle.acgrep.proofs.context.put_each_line.Goals as goal

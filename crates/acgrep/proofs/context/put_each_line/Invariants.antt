@@ -1,9 +1,5 @@
 -- The lines so far are put together.
-use Rattle.std.proofs.Common.{◌≡◌, drop, length}
-use Rattle.std.specs.List.{sum}
-use Rattle.aho_core.specs.Patterns.{Patterns}
-use Rattle.chromesquid.specs.Searcher.{IsBuiltFrom}
-use Rattle.acgrep.specs.Filled.{cut_by, held_lines}
+use Rattle.acgrep.proofs.Words.{IsBuiltFrom, Patterns, cut_by, drop, held_lines, length, sum, ◌≡◌}
 use Rattle.acgrep.proofs.Stepped.{ShowsTo}
 use Rattle.acgrep.proofs.context.put_each_line.Given as goal
 

@@ -1,7 +1,5 @@
 -- One line more is searched.
-use Rattle.std.proofs.Common.{◌≡◌, List, ℕ, suc, ◌∷◌, take, drop, sym, ◌∙◌, ap, add-one}
-use Rattle.acgrep.specs.Contexts.{walk_of}
-use Rattle.acgrep.specs.Lines.{lines}
+use Rattle.acgrep.proofs.Words.{List, add-one, ap, drop, lines, suc, sym, take, walk_of, ℕ, ◌∙◌, ◌∷◌, ◌≡◌}
 use Rattle.acgrep.proofs.Beginnings.{on_err}
 use Rattle.acgrep.proofs.FirstLines.{lines_first}
 use Rattle.acgrep.proofs.Stepped.{to_begun, to_start, to_step}

@@ -1,14 +1,5 @@
 -- What was put down of the search is counted.
-use Rattle.std.proofs.Common.{◌≡◌, ◌<◌, ◌≤◌, ◌∙◌, inl, inr, ℕ, List, [], Option, Some, ap, sym, subst, arith}
-use Rattle.std.specs.Io.KnownBytes.{Appends}
-use Rattle.aho_core.specs.Replacement.{pieces_of}
-use Rattle.aho_devices.specs.Counts.{AppendsBeginning}
-use Rattle.tool_parts.specs.Names.{name_bytes}
-use Rattle.acgrep.specs.Arguments.{said, shown_by}
-use Rattle.acgrep.specs.Folders.{known_by}
-use Rattle.acgrep.specs.Runs.{BeginsOrKeeps, SearchesReached}
-use Rattle.acgrep.specs.Tallies.{counts_table}
-use Rattle.acgrep.specs.Told.{MaySay, names_told}
+use Rattle.acgrep.proofs.Words.{Appends, AppendsBeginning, BeginsOrKeeps, List, MaySay, Option, SearchesReached, Some, [], ap, arith, counts_table, inl, inr, known_by, name_bytes, names_told, pieces_of, said, shown_by, subst, sym, ℕ, ◌<◌, ◌∙◌, ◌≡◌, ◌≤◌}
 use Rattle.acgrep.proofs.Told.{finished}
 use Rattle.acgrep.proofs.counted.count_operands.Goals as goal
 

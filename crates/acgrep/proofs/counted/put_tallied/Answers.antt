@@ -1,9 +1,5 @@
 -- The rows of the counts are those that are told.
-use Rattle.std.proofs.Common.{◌∙◌, ◌++◌, ℕ, List, ap, subst}
-use Rattle.std.proofs.lemmas.Result.{on_ok_weaker}
-use Rattle.aho_core.specs.Replacement.{pieces_of}
-use Rattle.acgrep.specs.Lines.{lines}
-use Rattle.acgrep.specs.Tallies.{CountsLines, zeros_of}
+use Rattle.acgrep.proofs.Words.{CountsLines, List, ap, lines, on_ok_weaker, pieces_of, subst, zeros_of, ℕ, ◌++◌, ◌∙◌}
 use Rattle.acgrep.proofs.Tallied.{table-told}
 use Rattle.acgrep.proofs.counted.put_tallied.Goals as goal
 

@@ -1,6 +1,5 @@
 -- The matches are counted where that is asked for.
-use Rattle.std.proofs.Common.{◌∙◌, sym}
-use Rattle.acgrep.specs.Arguments.{asks_counts}
+use Rattle.acgrep.proofs.Words.{asks_counts, sym, ◌∙◌}
 use Rattle.acgrep.proofs.Bools.{where_false, where_true}
 use Rattle.acgrep.proofs.counted.search_or_count.Goals as goal
 

@@ -1,8 +1,5 @@
 -- The rule of a line more is added.
-use Rattle.std.proofs.Common.{◌≡◌, suc, ◌<◌, ◌++◌, [], length, take, drop, sym, ◌∙◌, ap, add-one, append_assoc, arith}
-use Rattle.std.proofs.lemmas.Grind.{common_steps}
-use Rattle.acgrep.specs.Lines.{lines}
-use Rattle.acgrep.specs.Rules.{rule_before, rules_in, rules_of_lines, rules_said, glob_of_line}
+use Rattle.acgrep.proofs.Words.{[], add-one, ap, append_assoc, arith, common_steps, drop, glob_of_line, length, lines, rule_before, rules_in, rules_of_lines, rules_said, suc, sym, take, ◌++◌, ◌<◌, ◌∙◌, ◌≡◌}
 use Rattle.acgrep.proofs.FirstLines.{lines_first}
 use Rattle.acgrep.proofs.RuleTexts.{rule_front}
 use Rattle.acgrep.proofs.excluded.add_globs.Goals as goal

@@ -1,7 +1,5 @@
 -- No text is left.
-use Rattle.std.proofs.Common.{◌≡◌, [], ◌++◌, ◌∙◌, ap, append-nil, sym}
-use Rattle.acgrep.specs.Listed.{listed_bytes}
-use Rattle.acgrep.specs.Rules.{expanded, rules_said}
+use Rattle.acgrep.proofs.Words.{[], ap, append-nil, expanded, listed_bytes, rules_said, sym, ◌++◌, ◌∙◌, ◌≡◌}
 use Rattle.acgrep.proofs.RuleTexts.{expanded_none}
 use Rattle.acgrep.proofs.Walking.{all-gone}
 use Rattle.acgrep.proofs.excluded.expanded.Goals as goal

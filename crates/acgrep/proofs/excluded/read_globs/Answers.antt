@@ -1,10 +1,5 @@
 -- The text of a rule more was read.
-use Rattle.std.proofs.Common.{◌≡◌, ◌∙◌, ◌<◌, length, arith, [], subst}
-use Rattle.std.proofs.lemmas.Grind.{common_steps}
-use Rattle.tool_parts.specs.Telling.{TellsSome}
-use Rattle.tool_parts.specs.declared.errors.Errors.{Errors}
-use Rattle.acgrep.specs.Rules.{rules_said}
-use Rattle.acgrep.specs.Told.{IsMessage, rule_files}
+use Rattle.acgrep.proofs.Words.{Errors, IsMessage, TellsSome, [], arith, common_steps, length, rule_files, rules_said, subst, ◌<◌, ◌∙◌, ◌≡◌}
 use Rattle.acgrep.specs.declared.rules.Rule.{Rule}
 use Rattle.acgrep.specs.declared.rules.Sense.TheVariants.{Include}
 use Rattle.acgrep.proofs.RuleTexts.{rules_cut, texts_end, texts_next}

@@ -1,8 +1,5 @@
 -- The texts of the rules so far were read.
-use Rattle.std.proofs.Common.{◌≡◌, length}
-use Rattle.acgrep.specs.Listed.{listed_bytes}
-use Rattle.acgrep.specs.Rules.{rules_said}
-use Rattle.acgrep.specs.Told.{rule_files}
+use Rattle.acgrep.proofs.Words.{length, listed_bytes, rule_files, rules_said, ◌≡◌}
 use Rattle.acgrep.proofs.RuleTexts.{AreTextsWith}
 use Rattle.acgrep.proofs.Told.{AreWithin}
 use Rattle.acgrep.proofs.excluded.read_globs.Given as goal

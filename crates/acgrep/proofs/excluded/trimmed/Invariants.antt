@@ -1,6 +1,5 @@
 -- What is left has the same without white space at its end.
-use Rattle.std.proofs.Common.{◌≡◌, length}
-use Rattle.acgrep.specs.Rules.{glob_of_line}
+use Rattle.acgrep.proofs.Words.{glob_of_line, length, ◌≡◌}
 use Rattle.acgrep.proofs.excluded.trimmed.Given as goal
 
 abbrev pub invariant-loop-last : goal.invariant-loop-last

@@ -1,9 +1,5 @@
 -- What was put together is written, or a beginning of it.
-use Rattle.std.proofs.Common.{◌≡◌, subst}
-use Rattle.tool_parts.proofs.Beginnings.{beginning-whole}
-use Rattle.std.specs.Io.KnownBytes.{Appends}
-use Rattle.std.proofs.KnownBytes.{Keeps-refl}
-use Rattle.acgrep.specs.Files.{total_if}
+use Rattle.acgrep.proofs.Words.{Appends, Keeps-refl, beginning-whole, subst, total_if, ◌≡◌}
 use Rattle.acgrep.proofs.FilesBegun.{total_begins, total_none}
 use Rattle.acgrep.proofs.Beginnings.{page_bytes}
 use Rattle.acgrep.proofs.files.put_total.Goals as goal

@@ -1,11 +1,5 @@
 -- The files so far were searched.
-use Rattle.std.proofs.Common.{length}
-use Rattle.aho_core.specs.Patterns.{Patterns}
-use Rattle.chromesquid.specs.Searcher.{IsBuiltFrom}
-use Rattle.acgrep.specs.Files.{search_work}
-use Rattle.acgrep.specs.Listed.{listed_bytes}
-use Rattle.acgrep.specs.Selected.{HoldNoEnding}
-use Rattle.acgrep.specs.Told.{IsMessage, TellsIf, files_told}
+use Rattle.acgrep.proofs.Words.{HoldNoEnding, IsBuiltFrom, IsMessage, Patterns, TellsIf, files_told, length, listed_bytes, search_work}
 use Rattle.acgrep.proofs.InTurn.{SoFar}
 use Rattle.acgrep.proofs.Told.{AreWithin}
 use Rattle.acgrep.proofs.files.search_each.Given as goal

@@ -1,10 +1,5 @@
 -- The name that is told is that of the file.
-use Rattle.std.proofs.Common.{◌≡◌, ℕ, true, false, refl, sym, ap, subst, ◌∙◌}
-use Rattle.aho_core.specs.Patterns.{Patterns}
-use Rattle.tool_parts.specs.Names.{is_input}
-use Rattle.acgrep.specs.Files.{SearchesFile, SearchesReader, shown_name}
-use Rattle.acgrep.specs.Selected.{HoldNoEnding}
-use Rattle.acgrep.specs.declared.select.Job.{Job}
+use Rattle.acgrep.proofs.Words.{HoldNoEnding, Job, Patterns, SearchesFile, SearchesReader, ap, false, is_input, refl, shown_name, subst, sym, true, ℕ, ◌∙◌, ◌≡◌}
 use Rattle.acgrep.proofs.InTurn.{if_broken, if_searched}
 use Rattle.acgrep.proofs.Told.{told-named}
 use Rattle.acgrep.proofs.files.search_name.Goals as goal

@@ -1,9 +1,5 @@
 -- The status tells what was seen.
-use Rattle.std.proofs.Common.{◌<◌, ℕ, false, subst, sym}
-use Rattle.std.proofs.KnownBytes.{Keeps-refl}
-use Rattle.acgrep.specs.Files.{AreSearchedOr, search_work}
-use Rattle.acgrep.specs.Listed.{listed_bytes}
-use Rattle.acgrep.specs.Told.{IsMessage, TellsStatus, files_told}
+use Rattle.acgrep.proofs.Words.{AreSearchedOr, IsMessage, Keeps-refl, TellsStatus, false, files_told, listed_bytes, search_work, subst, sym, ℕ, ◌<◌}
 use Rattle.acgrep.proofs.InTurn.{begun_none, status_seen}
 use Rattle.acgrep.proofs.Told.{status-seen, status-some}
 use Rattle.acgrep.proofs.files.search_names.Goals as goal

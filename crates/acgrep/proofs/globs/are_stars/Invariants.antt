@@ -1,6 +1,5 @@
 -- What is left decides.
-use Rattle.std.proofs.Common.{◌≡◌, [], length}
-use Rattle.acgrep.specs.Globs.{fits}
+use Rattle.acgrep.proofs.Words.{[], fits, length, ◌≡◌}
 use Rattle.acgrep.proofs.globs.are_stars.Given as goal
 
 abbrev pub invariant-loop-first : goal.invariant-loop-first

@@ -1,6 +1,5 @@
 -- What is left decides.
-use Rattle.std.proofs.Common.{◌≡◌, length}
-use Rattle.acgrep.specs.Globs.{base_name}
+use Rattle.acgrep.proofs.Words.{base_name, length, ◌≡◌}
 use Rattle.acgrep.proofs.globs.base_name.Given as goal
 
 abbrev pub invariant-loop-first : goal.invariant-loop-first

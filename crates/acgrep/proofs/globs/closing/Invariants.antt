@@ -1,6 +1,5 @@
 -- What is left decides.
-use Rattle.std.proofs.Common.{◌≡◌, ◌+◌, length}
-use Rattle.acgrep.specs.Globs.{closes_at, closing}
+use Rattle.acgrep.proofs.Words.{closes_at, closing, length, ◌+◌, ◌≡◌}
 use Rattle.acgrep.proofs.globs.closing.Given as goal
 
 abbrev pub invariant-loop-first : goal.invariant-loop-first

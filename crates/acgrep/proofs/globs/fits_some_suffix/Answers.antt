@@ -1,6 +1,5 @@
 -- The glob fits what is left, or not, or does up to a star.
-use Rattle.std.proofs.Common.{◌∙◌, sym}
-use Rattle.acgrep.specs.Globs.{fits}
+use Rattle.acgrep.proofs.Words.{fits, sym, ◌∙◌}
 use Rattle.acgrep.proofs.Globbed.{any_here, cut_same}
 use Rattle.acgrep.proofs.globs.fits_some_suffix.Goals as goal
 

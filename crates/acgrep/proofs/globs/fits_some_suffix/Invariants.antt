@@ -1,6 +1,5 @@
 -- What is left decides.
-use Rattle.std.proofs.Common.{◌≡◌, ◌+◌, length}
-use Rattle.acgrep.specs.Globs.{any_suffix, fits}
+use Rattle.acgrep.proofs.Words.{any_suffix, fits, length, ◌+◌, ◌≡◌}
 use Rattle.acgrep.proofs.globs.fits_some_suffix.Given as goal
 
 abbrev pub invariant-loop-left : goal.invariant-loop-left

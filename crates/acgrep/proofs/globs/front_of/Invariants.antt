@@ -1,5 +1,5 @@
 -- The glob fits so far.
-use Rattle.std.proofs.Common.{length}
+use Rattle.acgrep.proofs.Words.{length}
 use Rattle.acgrep.proofs.Globbed.{IsRead}
 use Rattle.acgrep.proofs.globs.front_of.Given as goal
 

@@ -1,6 +1,5 @@
 -- What is left decides.
-use Rattle.std.proofs.Common.{◌≡◌, length}
-use Rattle.acgrep.specs.Globs.{has_behind}
+use Rattle.acgrep.proofs.Words.{has_behind, length, ◌≡◌}
 use Rattle.acgrep.proofs.globs.has_behind.Given as goal
 
 abbrev pub invariant-loop-first : goal.invariant-loop-first

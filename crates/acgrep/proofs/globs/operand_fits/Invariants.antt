@@ -1,6 +1,5 @@
 -- What is left decides.
-use Rattle.std.proofs.Common.{◌≡◌, length}
-use Rattle.acgrep.specs.Globs.{operand_fits, tails_fit}
+use Rattle.acgrep.proofs.Words.{length, operand_fits, tails_fit, ◌≡◌}
 use Rattle.acgrep.proofs.globs.operand_fits.Given as goal
 
 abbrev pub invariant-loop-first : goal.invariant-loop-first

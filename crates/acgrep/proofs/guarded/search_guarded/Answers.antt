@@ -1,16 +1,5 @@
 -- The lines before the first that holds a zero byte, and whether one of the others is selected.
-use Rattle.std.proofs.Common.{Bool, [], ap, false, refl, sym, take, true, ◌∙◌}
-use Rattle.std.specs.Prelude.{nat_lt, ◌||◌}
-use Rattle.std.proofs.KnownBytes.{Keeps-refl}
-use Rattle.std.proofs.lemmas.Bool.{or_right}
-use Rattle.std.proofs.Math.Bool.{or-false}
-use Rattle.aho_core.specs.Patterns.{Patterns}
-use Rattle.chromesquid.specs.Searcher.{IsBuiltFrom}
-use Rattle.acgrep.specs.Binary.{takes_text}
-use Rattle.acgrep.specs.Files.{total_if}
-use Rattle.acgrep.specs.Guarded.{EndsFront}
-use Rattle.acgrep.specs.Selected.{HoldNoEnding}
-use Rattle.acgrep.specs.Streamed.{course}
+use Rattle.acgrep.proofs.Words.{Bool, EndsFront, HoldNoEnding, IsBuiltFrom, Keeps-refl, Patterns, [], ap, course, false, nat_lt, or-false, or_right, refl, sym, take, takes_text, total_if, true, ◌||◌, ◌∙◌}
 use Rattle.acgrep.proofs.Beginnings.{on_err}
 use Rattle.acgrep.proofs.BinaryTold.{appends_none, begins_found, reader_found, reader_full, reader_past}
 use Rattle.acgrep.proofs.FilesBegun.{file_begins, front_begins, total_none}

@@ -1,7 +1,5 @@
 -- The bytes that came so far were written.
-use Rattle.std.proofs.Common.{take}
-use Rattle.std.specs.Io.KnownBytes.{Appends}
-use Rattle.acgrep.specs.Objects.{json_escaped}
+use Rattle.acgrep.proofs.Words.{Appends, json_escaped, take}
 use Rattle.acgrep.proofs.json.put_escaped.Given as goal
 
 abbrev pub invariant-loop-byte : goal.invariant-loop-byte

@@ -1,8 +1,6 @@
 -- What the pieces that came so far stand for was written.
-use Rattle.std.proofs.Common.{take}
-use Rattle.std.specs.Io.KnownBytes.{Appends}
-use Rattle.std.specs.List.{flat_map}
-use Rattle.acgrep.specs.Objects.{fields_told, stands_for}
+use Rattle.acgrep.proofs.Words.{Appends, fields_told, flat_map, take}
+use Rattle.acgrep.specs.Objects.{stands_for}
 use Rattle.acgrep.proofs.json.put_formatted.Given as goal
 
 abbrev pub invariant-loop-piece : goal.invariant-loop-piece

@@ -1,11 +1,5 @@
 -- The patterns of a source more were read.
-use Rattle.std.proofs.Common.{rules, ◌≡◌, ◌<◌, length, arith, [], subst}
-use Rattle.std.proofs.lemmas.Grind.{common_steps}
-use Rattle.acgrep.specs.Runs.{origins_of}
-use Rattle.tool_parts.specs.Telling.{TellsSome}
-use Rattle.tool_parts.specs.declared.errors.Errors.{Errors}
-use Rattle.acgrep.specs.Told.{IsMessage, source_names}
-use Rattle.acgrep.specs.declared.arguments.Source.{Source}
+use Rattle.acgrep.proofs.Words.{Errors, IsMessage, Source, TellsSome, [], arith, common_steps, length, origins_of, rules, source_names, subst, ◌<◌, ◌≡◌}
 use Rattle.acgrep.specs.declared.arguments.Source.TheVariants.{Text}
 use Rattle.acgrep.proofs.Told.{sources-cut}
 use Rattle.acgrep.proofs.WordLists.{words_end, words_next}

@@ -1,8 +1,5 @@
 -- The patterns of the sources so far were read.
-use Rattle.std.proofs.Common.{◌≡◌, length}
-use Rattle.acgrep.specs.Lines.{EndsLine, lines}
-use Rattle.acgrep.specs.Runs.{origins_of}
-use Rattle.acgrep.specs.Told.{source_names}
+use Rattle.acgrep.proofs.Words.{EndsLine, length, lines, origins_of, source_names, ◌≡◌}
 use Rattle.acgrep.proofs.Told.{AreWithin}
 use Rattle.acgrep.proofs.WordLists.{AreWordsWith}
 use Rattle.acgrep.proofs.keys.read_keys.Given as goal

@@ -1,9 +1,5 @@
 -- The lines of the text are added.
-use Rattle.std.proofs.Common.{subst, sym}
-use Rattle.acgrep.specs.Arguments.{origin_of}
-use Rattle.acgrep.specs.Lines.{lines}
-use Rattle.acgrep.specs.Loading.{AddsWords}
-use Rattle.acgrep.specs.declared.arguments.Source.{Source}
+use Rattle.acgrep.proofs.Words.{AddsWords, Source, lines, origin_of, subst, sym}
 use Rattle.acgrep.proofs.WordLists.{text_words}
 use Rattle.acgrep.proofs.keys.read_source.Goals as goal
 

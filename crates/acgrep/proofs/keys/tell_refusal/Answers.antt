@@ -1,7 +1,5 @@
 -- A message is told.
-use Rattle.std.proofs.Common.{inl, inr, refl}
-use Rattle.acgrep.specs.Runs.{origins_of}
-use Rattle.acgrep.specs.Told.{source_names}
+use Rattle.acgrep.proofs.Words.{inl, inr, origins_of, refl, source_names}
 use Rattle.acgrep.proofs.keys.tell_refusal.Goals as goal
 
 pub returns-in_default : goal.returns-in_default

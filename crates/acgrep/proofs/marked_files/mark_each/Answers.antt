@@ -1,12 +1,5 @@
 -- A file more was searched.
-use Rattle.std.proofs.Common.{◌≡◌, ◌∷◌, ◌-◌, ◌∙◌, ℕ, Bool, false, List, length, take, drop, refl, subst, sym, ap}
-use Rattle.std.proofs.lemmas.Bool.{or_parts}
-use Rattle.tool_parts.specs.Names.{is_input}
-use Rattle.acgrep.specs.Listed.{listed_bytes}
-use Rattle.acgrep.specs.MarkedFiles.{mark_work}
-use Rattle.acgrep.specs.Told.{TellsIf}
-use Rattle.acgrep.specs.ToldByRules.{IsMarkTold}
-use Rattle.acgrep.specs.declared.files.Seen.{Seen}
+use Rattle.acgrep.proofs.Words.{Bool, IsMarkTold, List, Seen, TellsIf, ap, drop, false, is_input, length, listed_bytes, mark_work, or_parts, refl, subst, sym, take, ℕ, ◌-◌, ◌∙◌, ◌∷◌, ◌≡◌}
 use Rattle.acgrep.proofs.FilesMarked.{still_marks}
 use Rattle.acgrep.proofs.InTurn.{SoFar, ends_by, if_searched, names_cut, so_far_end, so_far_start, so_far_step}
 use Rattle.acgrep.proofs.NamesMarked.{comes_left, name_has}

@@ -1,10 +1,5 @@
 -- The files so far were searched.
-use Rattle.std.proofs.Common.{◌≡◌, false, length}
-use Rattle.secret_rules.specs.Covering.{Covering}
-use Rattle.acgrep.specs.Listed.{listed_bytes}
-use Rattle.acgrep.specs.MarkedFiles.{IsMarking, MarksBy, mark_work}
-use Rattle.acgrep.specs.Told.{TellsIf}
-use Rattle.acgrep.specs.ToldByRules.{IsMarkTold}
+use Rattle.acgrep.proofs.Words.{Covering, IsMarkTold, IsMarking, MarksBy, TellsIf, false, length, listed_bytes, mark_work, ◌≡◌}
 use Rattle.acgrep.proofs.InTurn.{SoFar}
 use Rattle.acgrep.proofs.marked_files.mark_each.Given as goal
 

@@ -1,9 +1,6 @@
 -- What comes of the lines, and then what is asked of the file as a whole.
-use Rattle.std.proofs.Common.{◌≢◌, ◌∙◌, List, Option, ℕ, ap, refl, sym}
+use Rattle.acgrep.proofs.Words.{BeginsMarks, BeginsTotal, Covering, List, MarksBy, Option, ap, file_asked, refl, sym, ℕ, ◌∙◌, ◌≢◌}
 use Rattle.tool_parts.proofs.Ends.{at_end}
-use Rattle.secret_rules.specs.Covering.{Covering}
-use Rattle.acgrep.specs.Files.{BeginsTotal}
-use Rattle.acgrep.specs.MarkedFiles.{BeginsMarks, MarksBy, file_asked}
 use Rattle.acgrep.proofs.FilesBegun.{total_none}
 use Rattle.acgrep.proofs.FilesMarked.{covering_rules, file_part, file_searched}
 use Rattle.acgrep.proofs.MarksTold.{end-told, outcome-told}

@@ -1,7 +1,5 @@
 -- The line names the rule, or tells that memory ran out.
-use Rattle.std.proofs.Common.{inl, inr, []}
-use Rattle.tool_parts.proofs.Lines.{some-one}
-use Rattle.acgrep.specs.ToldByRules.{IsMarkTold}
+use Rattle.acgrep.proofs.Words.{IsMarkTold, [], inl, inr, some-one}
 use Rattle.acgrep.proofs.MarksTold.{some-told}
 use Rattle.acgrep.proofs.marked_files.tell_too_big.Goals as goal
 

@@ -1,8 +1,5 @@
 -- What is written is what the visits of lines leave.
-use Rattle.std.proofs.Common.{sym, subst}
-use Rattle.secret_rules.specs.Covering.{Covering}
-use Rattle.acgrep.specs.Marked.{asked_of}
-use Rattle.acgrep.specs.MarkedFiles.{WalksLines}
+use Rattle.acgrep.proofs.Words.{Covering, WalksLines, asked_of, subst, sym}
 use Rattle.acgrep.proofs.MarkedLines.{walked_lines, walked_same}
 use Rattle.acgrep.proofs.marked_lines.mark_with.Goals as goal
 

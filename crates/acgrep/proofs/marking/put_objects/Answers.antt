@@ -1,12 +1,5 @@
 -- One run more.
-use Rattle.std.proofs.Common.{◌≡◌, ◌<◌, ◌+◌, ◌++◌, ◌∷◌, ℕ, [], List, length, take, sym, subst, ◌∙◌, ap, append-nil, arith}
-use Rattle.std.specs.Io.KnownBytes.{Appends}
-use Rattle.std.specs.List.{flat_map}
-use Rattle.std.proofs.KnownBytes.{Appends-trans}
-use Rattle.std.proofs.lemmas.Grind.{common_steps, flat_map-append}
-use Rattle.std.proofs.lemmas.List.{take_more}
-use Rattle.aho_core.specs.Occurrence.{Occurrence}
-use Rattle.acgrep.specs.Marked.{ruled_object}
+use Rattle.acgrep.proofs.Words.{Appends, Appends-trans, List, Occurrence, [], ap, append-nil, arith, common_steps, flat_map, flat_map-append, length, ruled_object, subst, sym, take, take_more, ℕ, ◌++◌, ◌+◌, ◌<◌, ◌∙◌, ◌∷◌, ◌≡◌}
 use Rattle.acgrep.proofs.marking.put_objects.Goals as goal
 
 pub loop-run-preserved : goal.loop-run-preserved

@@ -1,7 +1,5 @@
 -- The runs that came so far were written as objects.
-use Rattle.std.proofs.Common.{take}
-use Rattle.std.specs.Io.KnownBytes.{Appends}
-use Rattle.acgrep.specs.Marked.{ruled_objects}
+use Rattle.acgrep.proofs.Words.{Appends, ruled_objects, take}
 use Rattle.acgrep.proofs.marking.put_objects.Given as goal
 
 abbrev pub invariant-loop-run : goal.invariant-loop-run

@@ -1,7 +1,5 @@
 -- The runs that came so far were written.
-use Rattle.std.proofs.Common.{take}
-use Rattle.std.specs.Io.KnownBytes.{Appends}
-use Rattle.acgrep.specs.Printed.{matches_by}
+use Rattle.acgrep.proofs.Words.{Appends, matches_by, take}
 use Rattle.acgrep.proofs.marking.put_runs.Given as goal
 
 abbrev pub invariant-loop-run : goal.invariant-loop-run

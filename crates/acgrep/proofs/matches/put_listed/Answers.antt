@@ -1,9 +1,5 @@
 -- One match more, and what follows the last.
-use Rattle.std.proofs.Common.{◌≡◌, ◌<◌, ◌≤◌, ◌+◌, ◌++◌, ◌∷◌, [], List, length, take, sym, subst, ◌∙◌, ap, arith}
-use Rattle.std.proofs.lemmas.Grind.{common_steps}
-use Rattle.std.proofs.lemmas.List.{take_all, take_more}
-use Rattle.std.proofs.lemmas.Result.{on_ok_weaker}
-use Rattle.aho_core.specs.Occurrence.{Occurrence}
+use Rattle.acgrep.proofs.Words.{List, Occurrence, [], ap, arith, common_steps, length, on_ok_weaker, subst, sym, take, take_all, take_more, ◌++◌, ◌+◌, ◌<◌, ◌∙◌, ◌∷◌, ◌≡◌, ◌≤◌}
 use Rattle.acgrep.proofs.Coloring.{PutSoFar, put_end, put_start, put_step}
 use Rattle.acgrep.proofs.matches.put_listed.Goals as goal
 

@@ -1,5 +1,5 @@
 -- The line up to behind the matches so far was written.
-use Rattle.std.proofs.Common.{take}
+use Rattle.acgrep.proofs.Words.{take}
 use Rattle.acgrep.proofs.Coloring.{PutSoFar}
 use Rattle.acgrep.proofs.matches.put_listed.Given as goal
 

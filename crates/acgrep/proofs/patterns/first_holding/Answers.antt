@@ -1,11 +1,5 @@
 -- One pattern more does not hold the byte.
-use Rattle.std.proofs.Common.{◌≡◌, List, ℕ, [], length, inl, inr, arith, subst, sym}
-use Rattle.std.proofs.lemmas.Bool.{cases_lt}
-use Rattle.std.proofs.lemmas.List.{get_or-map}
-use Rattle.std.specs.Prelude.{slice_index_or}
-use Rattle.memchr.specs.Find.{Nowhere}
-use Rattle.acgrep.specs.Lines.{IsEnding}
-use Rattle.aho_core.specs.Replacement.{pieces_of}
+use Rattle.acgrep.proofs.Words.{IsEnding, List, Nowhere, [], arith, cases_lt, get_or-map, inl, inr, length, pieces_of, slice_index_or, subst, sym, ℕ, ◌≡◌}
 use Rattle.acgrep.proofs.patterns.first_holding.Goals as goal
 
 pub loop-number-preserved : goal.loop-number-preserved

@@ -1,9 +1,5 @@
 -- What the loop keeps: no pattern before the number holds the byte.
-use Rattle.std.proofs.Common.{◌<◌, ℕ, [], length}
-use Rattle.std.specs.Prelude.{slice_index_or}
-use Rattle.aho_core.specs.Replacement.{pieces_of}
-use Rattle.memchr.specs.Find.{Nowhere}
-use Rattle.acgrep.specs.Lines.{IsEnding}
+use Rattle.acgrep.proofs.Words.{IsEnding, Nowhere, [], length, pieces_of, slice_index_or, ℕ, ◌<◌}
 use Rattle.acgrep.proofs.patterns.first_holding.Given as goal
 
 abbrev pub invariant-loop-number : goal.invariant-loop-number

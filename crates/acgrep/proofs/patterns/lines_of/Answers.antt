@@ -1,7 +1,4 @@
-use Rattle.std.proofs.Common.{◌≡◌, suc, ◌<◌, ◌∷◌, ◌++◌, length, take, drop, sym, ◌∙◌, ap, add-one, arith}
-use Rattle.std.proofs.lemmas.Grind.{common_steps}
-use Rattle.aho_core.specs.Replacement.{pieces_of}
-use Rattle.acgrep.specs.Lines.{lines}
+use Rattle.acgrep.proofs.Words.{add-one, ap, arith, common_steps, drop, length, lines, pieces_of, suc, sym, take, ◌++◌, ◌<◌, ◌∙◌, ◌∷◌, ◌≡◌}
 use Rattle.acgrep.proofs.FirstLines.{lines_first, pieces_more}
 use Rattle.acgrep.proofs.patterns.lines_of.Goals as goal
 

@@ -1,5 +1,4 @@
-use Rattle.std.proofs.Common.{rules}
-use Rattle.std.proofs.lemmas.Fmt.{length-decimal-le}
+use Rattle.acgrep.proofs.Words.{length-decimal-le, rules}
 use Rattle.acgrep.proofs.print.put_digits.Goals as goal
 
 pub write_digits-requires : goal.write_digits-requires

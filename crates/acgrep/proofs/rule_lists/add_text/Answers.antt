@@ -1,7 +1,5 @@
 -- Why there are none is told.
-use Rattle.std.proofs.Common.{inl, inr}
-use Rattle.tool_parts.proofs.Lines.{some-one}
-use Rattle.acgrep.specs.ToldByRules.{IsMarkTold}
+use Rattle.acgrep.proofs.Words.{IsMarkTold, inl, inr, some-one}
 use Rattle.acgrep.proofs.rule_lists.add_text.Goals as goal
 
 pub returns-in-Err-clause-told : goal.returns-in-Err-clause-told

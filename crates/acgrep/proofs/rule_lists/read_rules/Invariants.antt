@@ -1,6 +1,5 @@
 -- The rules of the names so far were read.
-use Rattle.std.proofs.Common.{◌≡◌, length}
-use Rattle.tool_parts.specs.Names.{name_bytes}
+use Rattle.acgrep.proofs.Words.{length, name_bytes, ◌≡◌}
 use Rattle.acgrep.proofs.RulesGiven.{AllSoFar}
 use Rattle.acgrep.proofs.rule_lists.read_rules.Given as goal
 

@@ -1,10 +1,5 @@
 -- The line tells of all rules.
-use Rattle.std.proofs.Common.{inl, inr, refl, codes}
-use Rattle.std.specs.Prelude.{None, Some}
-use Rattle.aho_core.specs.Texts.{build_error_text}
-use Rattle.tool_parts.specs.Messages.{message_of}
-use Rattle.tool_parts.proofs.Lines.{some-one}
-use Rattle.acgrep.specs.ToldByRules.{IsMarkTold}
+use Rattle.acgrep.proofs.Words.{IsMarkTold, None, Some, build_error_text, codes, inl, inr, message_of, refl, some-one}
 use Rattle.acgrep.proofs.rule_lists.tell_all.Goals as goal
 
 pub returns : goal.returns

@@ -1,5 +1,5 @@
 -- Or memory ran out.
-use Rattle.std.proofs.Common.{[]}
+use Rattle.acgrep.proofs.Words.{[]}
 use Rattle.acgrep.proofs.MarksTold.{some-told}
 use Rattle.acgrep.proofs.rule_lists.tell_refused.Goals as goal
 

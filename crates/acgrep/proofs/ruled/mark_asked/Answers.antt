@@ -1,10 +1,5 @@
 -- The rules were read, and what was said was done by them.
-use Rattle.std.proofs.Common.{refl, subst, inl}
-use Rattle.std.proofs.KnownBytes.{Keeps-refl}
-use Rattle.tool_parts.specs.declared.errors.Errors.{Errors}
-use Rattle.acgrep.specs.Told.{TellsStatus}
-use Rattle.acgrep.specs.ToldByRules.{IsMarkTold}
-use Rattle.acgrep.specs.declared.options.Shown.TheVariants.{Nothing}
+use Rattle.acgrep.proofs.Words.{Errors, IsMarkTold, Keeps-refl, Nothing, TellsStatus, inl, refl, subst}
 use Rattle.acgrep.proofs.Told.{status-some}
 use Rattle.acgrep.proofs.ruled.mark_asked.Goals as goal
 

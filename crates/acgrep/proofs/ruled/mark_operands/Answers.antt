@@ -1,11 +1,5 @@
 -- What was found was searched, and what cannot be read was told before.
-use Rattle.std.proofs.Common.{[], ◌≡◌, ◌∙◌, ap, inr, refl}
-use Rattle.tool_parts.specs.Names.{name_bytes}
-use Rattle.acgrep.specs.Arguments.{shown_by}
-use Rattle.acgrep.specs.Folders.{missed_of}
-use Rattle.acgrep.specs.Listed.{listed_bytes}
-use Rattle.acgrep.specs.Runs.{are_several, status_reached}
-use Rattle.acgrep.specs.ToldByRules.{IsMarkTold}
+use Rattle.acgrep.proofs.Words.{IsMarkTold, [], ap, are_several, inr, listed_bytes, missed_of, name_bytes, refl, shown_by, status_reached, ◌∙◌, ◌≡◌}
 use Rattle.acgrep.proofs.MarksTold.{missed-told, some-told}
 use Rattle.acgrep.proofs.Reaching.{reached-bound, reached-low}
 use Rattle.acgrep.proofs.Told.{status-some}

@@ -1,17 +1,6 @@
 -- The rules in files were read, and what was said was done by them.
-use Rattle.std.proofs.Common.{[], refl, ap, inl, inr, subst}
-use Rattle.std.proofs.KnownBytes.{Keeps-refl}
-use Rattle.acgrep.specs.Arguments.{Said, said}
-use Rattle.acgrep.specs.Folders.{known_by}
-use Rattle.acgrep.specs.Listed.{listed_bytes}
-use Rattle.acgrep.specs.Rules.{rules_said}
-use Rattle.acgrep.specs.Runs.{AreRules}
-use Rattle.acgrep.specs.RunsByRules.{MarksAsked, MayBeginAsked}
+use Rattle.acgrep.proofs.Words.{AreRules, Errors, IsMarkTold, Keeps-refl, MarksAsked, MayBeginAsked, Nothing, Said, TellsStatus, [], ap, inl, inr, known_by, listed_bytes, refl, rule_files, rules_said, said, subst}
 use Rattle.acgrep.proofs.RuleTexts.{rules_read}
-use Rattle.tool_parts.specs.declared.errors.Errors.{Errors}
-use Rattle.acgrep.specs.Told.{TellsStatus, rule_files}
-use Rattle.acgrep.specs.ToldByRules.{IsMarkTold}
-use Rattle.acgrep.specs.declared.options.Shown.TheVariants.{Nothing}
 use Rattle.acgrep.proofs.MarksTold.{some-told}
 use Rattle.acgrep.proofs.Told.{status-some}
 use Rattle.acgrep.proofs.ruled.mark_said.Goals as goal

@@ -1,7 +1,5 @@
 -- The line by its parts.
-use Rattle.std.proofs.Common.{List, ℕ, ◌++◌, subst}
-use Rattle.std.specs.Prelude.{codes, decimal}
-use Rattle.tool_parts.specs.Telling.{TellsBytes}
+use Rattle.acgrep.proofs.Words.{List, TellsBytes, codes, decimal, subst, ℕ, ◌++◌}
 use Rattle.acgrep.proofs.ruled.tell_some_long.Goals as goal
 
 pub returns : goal.returns

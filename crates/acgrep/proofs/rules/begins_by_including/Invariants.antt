@@ -1,6 +1,5 @@
 -- What is left decides.
-use Rattle.std.proofs.Common.{◌≡◌, length}
-use Rattle.acgrep.specs.Rules.{begins_by_including, rules_said}
+use Rattle.acgrep.proofs.Words.{begins_by_including, length, rules_said, ◌≡◌}
 use Rattle.acgrep.proofs.rules.begins_by_including.Given as goal
 
 abbrev pub invariant-loop-rest : goal.invariant-loop-rest

@@ -1,6 +1,5 @@
 -- What is left decides.
-use Rattle.std.proofs.Common.{◌≡◌, ◌≤◌, ◌+◌, length}
-use Rattle.acgrep.specs.Rules.{kept_len}
+use Rattle.acgrep.proofs.Words.{kept_len, length, ◌+◌, ◌≡◌, ◌≤◌}
 use Rattle.acgrep.proofs.rules.kept_len.Given as goal
 
 abbrev pub invariant-loop-first : goal.invariant-loop-first

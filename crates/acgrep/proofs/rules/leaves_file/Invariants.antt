@@ -1,6 +1,5 @@
 -- What is left decides.
-use Rattle.std.proofs.Common.{◌≡◌, length}
-use Rattle.acgrep.specs.Rules.{begins_by_including, leaves_file, rules_said}
+use Rattle.acgrep.proofs.Words.{begins_by_including, leaves_file, length, rules_said, ◌≡◌}
 use Rattle.acgrep.proofs.rules.leaves_file.Given as goal
 
 abbrev pub invariant-loop-rest : goal.invariant-loop-rest

@@ -1,6 +1,5 @@
 -- What is left decides.
-use Rattle.std.proofs.Common.{◌≡◌, length}
-use Rattle.acgrep.specs.Rules.{leaves_folder, rules_said}
+use Rattle.acgrep.proofs.Words.{leaves_folder, length, rules_said, ◌≡◌}
 use Rattle.acgrep.proofs.rules.leaves_folder.Given as goal
 
 abbrev pub invariant-loop-rest : goal.invariant-loop-rest

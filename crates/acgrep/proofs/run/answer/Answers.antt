@@ -1,15 +1,6 @@
 -- A text is written, or a search is made, and its status told.
-use Rattle.std.proofs.Common.{◌<◌, ◌∙◌, arith, ℕ, Some, inl, refl, subst, sym}
-use Rattle.std.proofs.KnownBytes.{Keeps-refl}
-use Rattle.tool_parts.specs.Telling.{TellsBytes}
-use Rattle.acgrep.specs.Beside.{unfit_said}
+use Rattle.acgrep.proofs.Words.{IsMarkTold, Keeps-refl, MaySaid, MayTell, Nothing, Some, TellsBytes, TellsOfCall, TellsStatus, arith, inl, known_by, names_said, refl, said, shown_by, subst, sym, true≢false, unfit_said, ℕ, ◌<◌, ◌∙◌}
 use Rattle.acgrep.proofs.Unfitting.{some_all, some_unfit, unfit_fits}
-use Rattle.std.proofs.lemmas.Bool.{true≢false}
-use Rattle.acgrep.specs.Arguments.{said, shown_by}
-use Rattle.acgrep.specs.Folders.{known_by}
-use Rattle.acgrep.specs.Told.{MaySaid, MayTell, TellsOfCall, names_said, TellsStatus}
-use Rattle.acgrep.specs.ToldByRules.{IsMarkTold}
-use Rattle.acgrep.specs.declared.options.Shown.TheVariants.{Nothing}
 use Rattle.acgrep.proofs.Statuses.{told-low, told-status}
 use Rattle.acgrep.proofs.Told.{status-weaker}
 use Rattle.acgrep.proofs.run.answer.Goals as goal

@@ -1,7 +1,5 @@
 -- The patterns so far are empty.
-use Rattle.std.proofs.Common.{◌≡◌, length}
-use Rattle.aho_core.specs.Replacement.{pieces_of}
-use Rattle.acgrep.specs.Runs.{are_empty}
+use Rattle.acgrep.proofs.Words.{are_empty, length, pieces_of, ◌≡◌}
 use Rattle.acgrep.proofs.run.are_empty.Given as goal
 
 abbrev pub invariant-loop-rest : goal.invariant-loop-rest

@@ -1,7 +1,5 @@
 -- Nothing was found.
-use Rattle.std.proofs.Common.{◌≡◌, ◌∙◌, true, false, sym}
-use Rattle.std.proofs.KnownBytes.{Keeps-refl}
-use Rattle.acgrep.specs.Arguments.{asks_counts}
+use Rattle.acgrep.proofs.Words.{Keeps-refl, asks_counts, false, sym, true, ◌∙◌, ◌≡◌}
 use Rattle.acgrep.proofs.run.end_unsearched.Goals as goal
 
 pub returns-then-asks_counts-clause-written : goal.returns-then-asks_counts-clause-written

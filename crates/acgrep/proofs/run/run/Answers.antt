@@ -1,21 +1,5 @@
 -- What was said was done, and a flush keeps what was written.
-use Rattle.std.proofs.Common.{[], false, ◌||◌, ◌≡◌, ◌<◌, ◌≤◌, ◌∙◌, List, Option, None, Some, ap, ℕ, inl, inr, arith, refl, subst, sym}
-use Rattle.std.specs.Prelude.{IfSome}
-use Rattle.tool_parts.specs.Messages.{reason_text}
-use Rattle.tool_parts.specs.Telling.{Tells, TellsBytes, TellsSome}
-use Rattle.tool_parts.specs.declared.errors.Errors.{Errors}
-use Rattle.tool_parts.specs.declared.reason.Reason.TheVariants.{OutOfMemory as NoMemory}
-use Rattle.tool_parts.proofs.Lines.{some-tells, some-weaker}
-use Rattle.acgrep.specs.Arguments.{Said, said, said_by, shown_by}
-use Rattle.acgrep.specs.Beside.{unfit_said}
-use Rattle.acgrep.specs.Folders.{known_by}
-use Rattle.acgrep.specs.Listed.{listed_bytes}
-use Rattle.acgrep.specs.Mistakes.{TellsLacking, TellsMistake, TellsNoPattern, TellsUnfit, memory_line}
-use Rattle.acgrep.specs.Runs.{AsksAny, AsksByRules, AsksToSearch, BeginsSearch, GivesNone, IsByPatterns, Searches}
-use Rattle.acgrep.specs.RunsByRules.{BeginsByRules, SearchesByRules}
-use Rattle.acgrep.specs.Told.{MaySaid, MayTell, TellsStatus, is_hushed, names_said}
-use Rattle.acgrep.specs.ToldByRules.{IsMarkTold}
-use Rattle.acgrep.specs.declared.options.Shown.TheVariants.{Nothing}
+use Rattle.acgrep.proofs.Words.{AsksAny, AsksByRules, AsksToSearch, BeginsByRules, BeginsSearch, Errors, GivesNone, IfSome, IsByPatterns, IsMarkTold, List, MaySaid, MayTell, NoMemory, None, Nothing, Option, Said, Searches, SearchesByRules, Some, Tells, TellsBytes, TellsLacking, TellsMistake, TellsNoPattern, TellsSome, TellsStatus, TellsUnfit, [], ap, arith, false, inl, inr, is_hushed, known_by, listed_bytes, memory_line, names_said, reason_text, refl, said, said_by, shown_by, some-tells, some-weaker, subst, sym, unfit_said, ℕ, ◌<◌, ◌||◌, ◌∙◌, ◌≡◌, ◌≤◌}
 use Rattle.acgrep.proofs.Kept.{begun_by_rules, by_rules_kept, ruled_kept, same_said, search_held}
 use Rattle.acgrep.proofs.MarksTold.{some-told}
 use Rattle.acgrep.proofs.Mistaken.{mistake-told, refused-lacking, refused-memory}

@@ -1,17 +1,5 @@
 -- The searcher was built from the lines that were read.
-use Rattle.std.proofs.Common.{◌≡◌, ◌∙◌, arith, List, ℕ, false, true, ap, inl, inr, refl, subst, sym}
-use Rattle.std.proofs.KnownBytes.{Keeps-refl}
-use Rattle.std.proofs.lemmas.Bool.{and_parts}
-use Rattle.aho_core.specs.Replacement.{pieces_of}
-use Rattle.chromesquid.specs.Searcher.{IsBuiltFrom}
-use Rattle.tool_parts.specs.Building.{patterns_by_kind}
-use Rattle.tool_parts.specs.Names.{name_bytes}
-use Rattle.tool_parts.specs.declared.errors.Errors.{Errors}
-use Rattle.acgrep.specs.Arguments.{fit_by, said, shown_by}
-use Rattle.acgrep.specs.Folders.{known_by, tree_of}
-use Rattle.acgrep.specs.Lines.{lines}
-use Rattle.acgrep.specs.Runs.{AreSought, BeginsNoMatch, BeginsOrKeeps, SearchesReached, WritesNoMatch, inverts, kind_sought, knows_none, origins_of, words_sought}
-use Rattle.acgrep.specs.Told.{MaySay, TellsStatus, source_names}
+use Rattle.acgrep.proofs.Words.{AreSought, BeginsNoMatch, BeginsOrKeeps, Errors, IsBuiltFrom, Keeps-refl, List, MaySay, SearchesReached, TellsStatus, WritesNoMatch, and_parts, ap, arith, false, fit_by, inl, inr, inverts, kind_sought, known_by, knows_none, lines, name_bytes, origins_of, patterns_by_kind, pieces_of, refl, said, shown_by, source_names, subst, sym, tree_of, true, words_sought, ℕ, ◌∙◌, ◌≡◌}
 use Rattle.acgrep.proofs.OrCounted.{counts-of, no-match, no-match-begins, none-told}
 use Rattle.acgrep.proofs.PlainWords.{free_plain}
 use Rattle.acgrep.proofs.Reaching.{may-behind, some-sources, sources-told}

@@ -1,16 +1,5 @@
 -- Without a pattern nothing is written.
-use Rattle.std.proofs.Common.{◌≡◌, inl, inr, refl, ℕ, ◌<◌, false, List, [], ◌∷◌, Bor, length, subst, sym, ◌∙◌, arith}
-use Rattle.std.proofs.KnownBytes.{Keeps-refl}
-use Rattle.std.proofs.lemmas.Grind.{common_steps}
-use Rattle.std.specs.List.{concat}
-use Rattle.tool_parts.specs.Names.{name_bytes}
-use Rattle.acgrep.specs.Runs.{BeginsFor, SearchesFor, names_by, origins_of, sources_by}
-use Rattle.acgrep.specs.declared.arguments.Source.{Source}
-use Rattle.tool_parts.proofs.Lines.{some-one}
-use Rattle.acgrep.specs.Arguments.{Origin, said, shown_by}
-use Rattle.acgrep.specs.Folders.{known_by, tree_of}
-use Rattle.acgrep.specs.Told.{MaySay, TellsOfSearch, wrong_parts}
-use Rattle.acgrep.specs.declared.arguments.Wrong.TheVariants.{NoPattern}
+use Rattle.acgrep.proofs.Words.{BeginsFor, Bor, Keeps-refl, List, MaySay, NoPattern, Origin, SearchesFor, Source, TellsOfSearch, [], arith, common_steps, concat, false, inl, inr, known_by, length, name_bytes, names_by, origins_of, refl, said, shown_by, some-one, sources_by, subst, sym, tree_of, wrong_parts, ℕ, ◌<◌, ◌∙◌, ◌∷◌, ◌≡◌}
 use Rattle.acgrep.proofs.Told.{status-some}
 use Rattle.acgrep.proofs.Walking.{all-gone}
 use Rattle.acgrep.proofs.run.search_asked.Given.{Over}

@@ -1,17 +1,5 @@
 -- The rules in files were read, and what was said was done by them.
-use Rattle.std.proofs.Common.{◌≡◌, List, Some, ap, inl, inr, refl, subst}
-use Rattle.std.proofs.KnownBytes.{Keeps-refl}
-use Rattle.std.specs.List.{concat}
-use Rattle.tool_parts.specs.Telling.{TellsSome}
-use Rattle.tool_parts.specs.declared.errors.Errors.{Errors}
-use Rattle.tool_parts.proofs.Lines.{some-one, some-weaker}
-use Rattle.acgrep.specs.Arguments.{Said, said, shown_by}
-use Rattle.acgrep.specs.Folders.{known_by}
-use Rattle.acgrep.specs.Listed.{listed_bytes}
-use Rattle.acgrep.specs.Rules.{RuleSaid, rules_said}
-use Rattle.acgrep.specs.Runs.{AreRules, BeginsSaid, SearchesSaid, names_by, ruled, sources_by}
-use Rattle.acgrep.specs.Told.{IsMessage, MaySaid, MaySay, TellsOfSaid, TellsStatus, names_said, rule_files, wrong_parts}
-use Rattle.acgrep.specs.declared.arguments.Wrong.TheVariants.{NoPattern}
+use Rattle.acgrep.proofs.Words.{AreRules, BeginsSaid, Errors, IsMessage, Keeps-refl, List, MaySaid, MaySay, NoPattern, RuleSaid, Said, SearchesSaid, Some, TellsOfSaid, TellsSome, TellsStatus, ap, concat, inl, inr, known_by, listed_bytes, names_by, names_said, refl, rule_files, ruled, rules_said, said, shown_by, some-one, some-weaker, sources_by, subst, wrong_parts, ◌≡◌}
 use Rattle.acgrep.proofs.RuledCalls.{may-ruled, may-rules}
 use Rattle.acgrep.proofs.RuleTexts.{rules_read}
 use Rattle.acgrep.proofs.Told.{status-some, status-weaker}

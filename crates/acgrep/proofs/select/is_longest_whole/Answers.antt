@@ -1,8 +1,5 @@
 -- The longest match that begins first tells whether a pattern is the whole line.
-use Rattle.std.proofs.Common.{subst}
-use Rattle.std.specs.Prelude.{Some, None}
-use Rattle.aho_core.specs.Answer.{IsAnswer}
-use Rattle.aho_core.specs.Search.{plain_search}
+use Rattle.acgrep.proofs.Words.{IsAnswer, None, Some, plain_search, subst}
 use Rattle.acgrep.proofs.Whole.{whole_told}
 use Rattle.acgrep.proofs.select.is_longest_whole.Goals as goal
 

@@ -1,7 +1,4 @@
-use Rattle.std.proofs.Common.{arith, subst}
-use Rattle.std.specs.Prelude.{Some}
-use Rattle.aho_core.specs.Answer.{IsAnswer}
-use Rattle.aho_core.specs.Search.{plain_search}
+use Rattle.acgrep.proofs.Words.{IsAnswer, Some, arith, plain_search, subst}
 use Rattle.acgrep.proofs.Around.{first_around, starts_within}
 use Rattle.acgrep.proofs.select.next_line.Goals as goal
 

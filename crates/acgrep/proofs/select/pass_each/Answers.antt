@@ -1,10 +1,5 @@
 -- One line more was selected.
-use Rattle.std.proofs.Common.{◌≡◌, List, ℕ, suc, ◌<◌, ◌∷◌, length, take, drop, sym, ◌∙◌, ap, add-one, arith}
-use Rattle.std.proofs.lemmas.Grind.{common_steps}
-use Rattle.std.proofs.lemmas.List.{nil_from_length}
-use Rattle.acgrep.specs.Lines.{lines}
-use Rattle.acgrep.specs.Written.{after_lines}
-use Rattle.acgrep.specs.declared.print.Place.{Place}
+use Rattle.acgrep.proofs.Words.{List, Place, add-one, after_lines, ap, arith, common_steps, drop, length, lines, nil_from_length, suc, sym, take, ℕ, ◌<◌, ◌∙◌, ◌∷◌, ◌≡◌}
 use Rattle.acgrep.proofs.Beginnings.{begins_passing, on_err}
 use Rattle.acgrep.proofs.FirstLines.{lines_first}
 use Rattle.acgrep.proofs.Tellings.{passing_end, passing_step}

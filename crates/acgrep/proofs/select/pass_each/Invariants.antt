@@ -1,9 +1,5 @@
 -- The lines so far were selected, and the place is behind them.
-use Rattle.std.proofs.Common.{◌≡◌, true, length}
-use Rattle.aho_core.specs.Patterns.{Patterns}
-use Rattle.chromesquid.specs.Searcher.{IsBuiltFrom}
-use Rattle.acgrep.specs.Lines.{lines}
-use Rattle.acgrep.specs.Written.{EachLine, HasNone, after_lines}
+use Rattle.acgrep.proofs.Words.{EachLine, HasNone, IsBuiltFrom, Patterns, after_lines, length, lines, true, ◌≡◌}
 use Rattle.acgrep.proofs.Tellings.{Passing}
 use Rattle.acgrep.proofs.select.pass_each.Given as goal
 

@@ -1,7 +1,6 @@
 -- A line is selected or not by whether it matches.
-use Rattle.std.proofs.Common.{refl, sym, ◌∙◌}
+use Rattle.acgrep.proofs.Words.{IsPassedOver, IsSelected, refl, sym, ◌∙◌}
 use Rattle.aho_cover.proofs.Written.{if_both}
-use Rattle.acgrep.specs.Written.{IsPassedOver, IsSelected}
 use Rattle.acgrep.proofs.Tellings.{one_passed, one_selected, passed_by, selected_by}
 use Rattle.acgrep.proofs.select.pass_line.Goals as goal
 

@@ -1,7 +1,5 @@
 -- A line in which a pattern occurs matches or not.
-use Rattle.std.proofs.Common.{[], ◌∷◌, None, refl}
-use Rattle.std.proofs.KnownBytes.{Appends-nil}
-use Rattle.acgrep.specs.Contexts.{TellsFrom}
+use Rattle.acgrep.proofs.Words.{Appends-nil, None, TellsFrom, [], refl, ◌∷◌}
 use Rattle.acgrep.proofs.Beginnings.{on_err}
 use Rattle.acgrep.proofs.Begun.{begins_nothing}
 use Rattle.acgrep.proofs.select.pass_matched.Goals as goal

@@ -1,6 +1,5 @@
 -- No line is selected where lines with a match are.
-use Rattle.std.proofs.Common.{refl}
-use Rattle.acgrep.specs.Lines.{lines}
+use Rattle.acgrep.proofs.Words.{lines, refl}
 use Rattle.acgrep.proofs.Tellings.{all_passed}
 use Rattle.acgrep.proofs.select.pass_others.Goals as goal
 

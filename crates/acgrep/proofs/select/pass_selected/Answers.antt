@@ -1,9 +1,5 @@
 -- Of the line a beginning is written, or nothing.
-use Rattle.std.proofs.Common.{rules, ◌≡◌, ℕ, [], ◌∷◌, Bool, None, refl, subst, sym, ap, ◌∙◌}
-use Rattle.std.specs.Prelude.{MatchBool, if◌then◌else◌}
-use Rattle.std.proofs.KnownBytes.{Appends-nil}
-use Rattle.acgrep.specs.Contexts.{BeginsLines, TellsFrom}
-use Rattle.acgrep.specs.Written.{WritesLine, is_full, one_more}
+use Rattle.acgrep.proofs.Words.{Appends-nil, BeginsLines, Bool, MatchBool, None, TellsFrom, WritesLine, [], ap, if◌then◌else◌, is_full, one_more, refl, rules, subst, sym, ℕ, ◌∙◌, ◌∷◌, ◌≡◌}
 use Rattle.acgrep.proofs.Beginnings.{begins_one, on_err, page_writes}
 use Rattle.acgrep.proofs.Begun.{begins_nothing}
 use Rattle.acgrep.proofs.select.pass_selected.Goals as goal

@@ -1,6 +1,5 @@
 -- What is left of the text was not searched yet.
-use Rattle.std.proofs.Common.{inl, inr, length, refl, ap, subst, arith}
-use Rattle.acgrep.specs.Written.{HasNone}
+use Rattle.acgrep.proofs.Words.{HasNone, ap, arith, inl, inr, length, refl, subst}
 use Rattle.acgrep.proofs.Beginnings.{begins_rest, on_err}
 use Rattle.acgrep.proofs.Tellings.{searches_join, searches_start, settled_some}
 use Rattle.acgrep.proofs.select.search_plain.Goals as goal

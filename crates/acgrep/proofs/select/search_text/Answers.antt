@@ -1,11 +1,5 @@
 -- Lines around selected ones are written where they are asked for.
-use Rattle.std.proofs.Common.{◌≡◌, ◌∙◌, Option, None, Some, sym, subst}
-use Rattle.std.specs.Prelude.{OnErr, OnOk}
-use Rattle.std.proofs.lemmas.Result.{on_ok_weaker}
-use Rattle.acgrep.specs.Begun.{BeginsOf}
-use Rattle.acgrep.specs.Contexts.{SearchesIn, TellsFrom, around_of}
-use Rattle.acgrep.specs.Lines.{lines}
-use Rattle.acgrep.specs.declared.options.Context.{Context}
+use Rattle.acgrep.proofs.Words.{BeginsOf, Context, None, OnErr, OnOk, Option, SearchesIn, Some, TellsFrom, around_of, lines, on_ok_weaker, subst, sym, ◌∙◌, ◌≡◌}
 use Rattle.acgrep.proofs.NoneAround.{walks_nothing}
 use Rattle.acgrep.proofs.select.search_text.Goals as goal
 

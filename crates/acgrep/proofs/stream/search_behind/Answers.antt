@@ -1,7 +1,5 @@
 -- A read more, up to the end, a line with a zero byte, or lines behind which nothing more is told.
-use Rattle.std.proofs.Common.{[], refl, subst}
-use Rattle.std.proofs.KnownBytes.{Consumes-nil}
-use Rattle.acgrep.specs.Written.{IsSettled}
+use Rattle.acgrep.proofs.Words.{Consumes-nil, IsSettled, [], refl, subst}
 use Rattle.acgrep.proofs.Beginnings.{on_err}
 use Rattle.acgrep.proofs.Fronts.{front_last, front_start, front_step, front_stop}
 use Rattle.acgrep.proofs.Streams.{not_done, reads_both}

@@ -1,11 +1,5 @@
 -- The whole lines that were read so far are searched, and what follows them is in the buffer.
-use Rattle.std.proofs.Common.{take}
-use Rattle.aho_core.specs.Patterns.{Patterns}
-use Rattle.chromesquid.specs.Searcher.{IsBuiltFrom}
-use Rattle.acgrep.specs.Filled.{ReadsOn}
-use Rattle.acgrep.specs.Guarded.{SearchesFront}
-use Rattle.acgrep.specs.Selected.{HoldNoEnding}
-use Rattle.acgrep.specs.Streamed.{TextIf, course}
+use Rattle.acgrep.proofs.Words.{HoldNoEnding, IsBuiltFrom, Patterns, ReadsOn, SearchesFront, TextIf, course, take}
 use Rattle.acgrep.proofs.stream.search_behind.Given as goal
 
 abbrev pub invariant-loop : goal.invariant-loop

@@ -1,9 +1,5 @@
 -- Nothing is there at first.
-use Rattle.std.proofs.Common.{◌≡◌, ℕ, List, [], take, subst, ◌∙◌, ap}
-use Rattle.std.specs.Prelude.{IfOk, OnErr}
-use Rattle.acgrep.specs.Binary.{is_text}
-use Rattle.acgrep.specs.Guarded.{EndsFront}
-use Rattle.acgrep.specs.Streamed.{BeginsBehind, course}
+use Rattle.acgrep.proofs.Words.{BeginsBehind, EndsFront, IfOk, List, OnErr, [], ap, course, is_text, subst, take, ℕ, ◌∙◌, ◌≡◌}
 use Rattle.acgrep.proofs.LineLists.{take_zero}
 use Rattle.acgrep.proofs.stream.search_front.Goals as goal
 

@@ -1,8 +1,6 @@
 -- The first zero byte stands in the line that begins behind the last end of a line before it.
-use Rattle.std.proofs.Common.{◌≡◌, ℕ, ◌+◌, ◌-◌, ◌≤◌, List, Some, arith, drop, length, length-drop, length-take-le, subst, take, take_all, true}
-use Rattle.memchr.specs.Find.{IsFirst, Nowhere}
-use Rattle.acgrep.specs.Binary.{is_text}
-use Rattle.acgrep.specs.Lines.{IsEnding}
+use Rattle.acgrep.proofs.Words.{IsEnding, IsFirst, List, Nowhere, Some, arith, drop, is_text, length, subst, take, true, ℕ, ◌+◌, ◌-◌, ◌≡◌, ◌≤◌}
+use Rattle.std.proofs.Common.{length-drop, length-take-le, take_all}
 use Rattle.acgrep.proofs.BinaryLines.{zero_none, zero_some}
 use Rattle.acgrep.proofs.stream.zero_line.Goals as goal
 

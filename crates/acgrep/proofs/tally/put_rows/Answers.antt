@@ -1,6 +1,5 @@
 -- Where no count is left no row is.
-use Rattle.std.proofs.Common.{rules, ◌≡◌, ◌-◌, ◌++◌, length, sym, ap, ◌∙◌, append-nil}
-use Rattle.aho_core.specs.Replacement.{pieces_of}
+use Rattle.acgrep.proofs.Words.{ap, append-nil, length, pieces_of, rules, sym, ◌++◌, ◌-◌, ◌∙◌, ◌≡◌}
 use Rattle.acgrep.proofs.Tallied.{rows-end}
 use Rattle.acgrep.proofs.tally.put_rows.Goals as goal
 

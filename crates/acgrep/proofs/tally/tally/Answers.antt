@@ -1,7 +1,5 @@
 -- A line more is counted.
-use Rattle.std.proofs.Common.{◌≡◌, suc, ◌<◌, ◌∷◌, length, take, drop, sym, ◌∙◌, ap, add-one, arith}
-use Rattle.std.proofs.lemmas.Grind.{common_steps}
-use Rattle.acgrep.specs.Lines.{lines}
+use Rattle.acgrep.proofs.Words.{add-one, ap, arith, common_steps, drop, length, lines, suc, sym, take, ◌<◌, ◌∙◌, ◌∷◌, ◌≡◌}
 use Rattle.acgrep.proofs.FirstLines.{lines_first}
 use Rattle.acgrep.proofs.Tallied.{counted-end, counted-start, counted-step}
 use Rattle.acgrep.proofs.Walking.{all-gone}

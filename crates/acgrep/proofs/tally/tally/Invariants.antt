@@ -1,5 +1,5 @@
 -- The lines so far are counted.
-use Rattle.std.proofs.Common.{length}
+use Rattle.acgrep.proofs.Words.{length}
 use Rattle.acgrep.proofs.Tallied.{Counted}
 use Rattle.acgrep.proofs.tally.tally.Given as goal
 

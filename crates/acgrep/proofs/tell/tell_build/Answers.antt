@@ -1,6 +1,5 @@
 -- A message is told.
-use Rattle.std.proofs.Common.{Some, inl, inr, refl}
-use Rattle.aho_core.specs.Texts.{build_error_text}
+use Rattle.acgrep.proofs.Words.{Some, build_error_text, inl, inr, refl}
 use Rattle.acgrep.proofs.Told.{tells-cause}
 use Rattle.acgrep.proofs.tell.tell_build.Goals as goal
 

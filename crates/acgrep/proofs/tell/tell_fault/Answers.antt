@@ -1,6 +1,5 @@
 -- A message is told.
-use Rattle.std.proofs.Common.{None, Some, inl, inr, refl}
-use Rattle.tool_parts.specs.Messages.{reason_text}
+use Rattle.acgrep.proofs.Words.{None, Some, inl, inr, reason_text, refl}
 use Rattle.acgrep.proofs.Told.{tells-cause}
 use Rattle.acgrep.proofs.tell.tell_fault.Goals as goal
 

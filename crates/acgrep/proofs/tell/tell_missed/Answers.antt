@@ -1,6 +1,5 @@
 -- A message is told.
-use Rattle.std.proofs.Common.{None, Some, inl, inr, refl}
-use Rattle.acgrep.specs.Told.{loop_text}
+use Rattle.acgrep.proofs.Words.{None, Some, inl, inr, loop_text, refl}
 use Rattle.acgrep.proofs.Told.{tells-cause}
 use Rattle.acgrep.proofs.tell.tell_missed.Goals as goal
 

@@ -1,6 +1,5 @@
 -- A message is told.
-use Rattle.std.proofs.Common.{None, Some, inl, inr, refl, codes}
-use Rattle.aho_core.specs.Texts.{match_error_text}
+use Rattle.acgrep.proofs.Words.{None, Some, codes, inl, inr, match_error_text, refl}
 use Rattle.acgrep.proofs.Told.{tells-cause}
 use Rattle.acgrep.proofs.tell.tell_search.Goals as goal
 

@@ -1,5 +1,5 @@
 -- A message is told.
-use Rattle.std.proofs.Common.{inr}
+use Rattle.acgrep.proofs.Words.{inr}
 use Rattle.acgrep.proofs.Told.{tells-unopened}
 use Rattle.acgrep.proofs.tell.tell_unopened.Goals as goal
 

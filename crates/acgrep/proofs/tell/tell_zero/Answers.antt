@@ -1,6 +1,5 @@
 -- A message is told.
-use Rattle.std.proofs.Common.{Some, inl, inr, refl}
-use Rattle.acgrep.specs.Told.{zero_text}
+use Rattle.acgrep.proofs.Words.{Some, inl, inr, refl, zero_text}
 use Rattle.acgrep.proofs.Told.{tells-cause}
 use Rattle.acgrep.proofs.tell.tell_zero.Goals as goal
 

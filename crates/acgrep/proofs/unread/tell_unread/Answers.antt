@@ -1,5 +1,5 @@
 -- Nothing is told where that is asked for.
-use Rattle.std.proofs.Common.{refl}
+use Rattle.acgrep.proofs.Words.{refl}
 use Rattle.acgrep.proofs.unread.tell_unread.Goals as goal
 
 pub returns-then-job : goal.returns-then-job

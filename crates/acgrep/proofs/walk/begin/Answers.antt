@@ -1,11 +1,5 @@
 -- A walk begins at the operands, or in the working folder.
-use Rattle.std.proofs.Common.{◌≡◌, ◌∷◌, ◌<◌, [], ◌++◌, ◌∙◌, List, ℕ, length, map, ap, subst, sym, arith}
-use Rattle.std.proofs.lemmas.Grind.{common_steps}
-use Rattle.std.proofs.lemmas.List.{length-map}
-use Rattle.std.proofs.lemmas.Result.{on_ok_weaker}
-use Rattle.tool_parts.specs.Names.{name_bytes}
-use Rattle.acgrep.specs.Folders.{Begins, PutsInside, Spot, missed_of, operand, spots_of, tree_of}
-use Rattle.acgrep.specs.Listed.{listed_bytes}
+use Rattle.acgrep.proofs.Words.{Begins, List, PutsInside, Spot, [], ap, arith, common_steps, length, length-map, listed_bytes, map, missed_of, name_bytes, on_ok_weaker, operand, spots_of, subst, sym, tree_of, ℕ, ◌++◌, ◌<◌, ◌∙◌, ◌∷◌, ◌≡◌}
 use Rattle.acgrep.proofs.Walking.{all-gone, begins-given, begins-here, begins-nowhere}
 use Rattle.acgrep.proofs.walk.begin.Goals as goal
 

@@ -1,8 +1,5 @@
 -- The names of a folder were put down in order.
-use Rattle.std.proofs.Common.{List, ℕ, subst}
-use Rattle.std.proofs.lemmas.Result.{on_ok_weaker}
-use Rattle.acgrep.specs.Folders.{PutsInside, spots_of, tree_of}
-use Rattle.acgrep.specs.Listed.{listed_bytes}
+use Rattle.acgrep.proofs.Words.{List, PutsInside, listed_bytes, on_ok_weaker, spots_of, subst, tree_of, ℕ}
 use Rattle.acgrep.proofs.Walking.{enters-put, listed-as}
 use Rattle.acgrep.proofs.walk.open_folder.Goals as goal
 

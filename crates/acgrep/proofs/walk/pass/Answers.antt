@@ -1,8 +1,5 @@
 -- A name was looked at.
-use Rattle.std.proofs.Common.{◌≡◌, ◌∙◌, Bool, List, ℕ, subst, sym}
-use Rattle.std.proofs.lemmas.Result.{on_ok_weaker}
-use Rattle.acgrep.specs.Folders.{IsUnknown, is_followed, spot_of, spots_of, tree_of}
-use Rattle.acgrep.specs.Rules.{rules_said}
+use Rattle.acgrep.proofs.Words.{Bool, IsUnknown, List, is_followed, on_ok_weaker, rules_said, spot_of, spots_of, subst, sym, tree_of, ℕ, ◌∙◌, ◌≡◌}
 use Rattle.acgrep.proofs.Walking.{finds-input, finds-lost}
 use Rattle.acgrep.proofs.walk.pass.Goals as goal
 

@@ -1,10 +1,5 @@
 -- The names were sorted, and none of them is left.
-use Rattle.std.proofs.Common.{rules, ◌≡◌, [], ◌++◌, ◌∙◌, length, map, ap, sym}
-use Rattle.std.specs.Ordering.{is_lt, nat_cmp}
-use Rattle.std.specs.Cmp.Lexicographic.{slice_cmp}
-use Rattle.std.proofs.lemmas.List.Sorted.{IsPermutation-map}
-use Rattle.acgrep.specs.Folders.{inside, spots_of}
-use Rattle.acgrep.specs.Listed.{listed_bytes}
+use Rattle.acgrep.proofs.Words.{IsPermutation-map, [], ap, inside, is_lt, length, listed_bytes, map, nat_cmp, rules, slice_cmp, spots_of, sym, ◌++◌, ◌∙◌, ◌≡◌}
 use Rattle.acgrep.proofs.Walking.{all-gone, sorted-map}
 use Rattle.acgrep.proofs.walk.put_first.Goals as goal
 

@@ -1,8 +1,5 @@
 -- The names behind those that are left were put down.
-use Rattle.std.proofs.Common.{◌≡◌, ◌++◌, length}
-use Rattle.std.specs.Prelude.{map}
-use Rattle.acgrep.specs.Folders.{inside, spots_of}
-use Rattle.acgrep.specs.Listed.{listed_bytes}
+use Rattle.acgrep.proofs.Words.{inside, length, listed_bytes, map, spots_of, ◌++◌, ◌≡◌}
 use Rattle.acgrep.proofs.walk.put_first.Given as goal
 
 abbrev pub invariant-loop-last : goal.invariant-loop-last

@@ -1,10 +1,5 @@
 -- An operand more was put down.
-use Rattle.std.proofs.Common.{◌≡◌, [], ◌∷◌, ◌++◌, ◌-◌, ◌∙◌, ◌<◌, ℕ, List, Bor, length, take, drop, map, ap, arith}
-use Rattle.std.proofs.Math.ListN.{get_or}
-use Rattle.std.proofs.lemmas.Grind.{common_steps}
-use Rattle.std.proofs.lemmas.List.{map-append}
-use Rattle.tool_parts.specs.Names.{name_bytes}
-use Rattle.acgrep.specs.Folders.{Spot, operand, spot_of, spots_of}
+use Rattle.acgrep.proofs.Words.{Bor, List, Spot, [], ap, arith, common_steps, drop, get_or, length, map, map-append, name_bytes, operand, spot_of, spots_of, take, ℕ, ◌++◌, ◌-◌, ◌<◌, ◌∙◌, ◌∷◌, ◌≡◌}
 use Rattle.acgrep.proofs.Walking.{put-more}
 use Rattle.acgrep.proofs.walk.put_given.Goals as goal
 

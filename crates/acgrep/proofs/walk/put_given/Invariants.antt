@@ -1,8 +1,5 @@
 -- The operands before those that are left were put down.
-use Rattle.std.proofs.Common.{◌≡◌, ◌++◌, length}
-use Rattle.std.specs.Prelude.{map}
-use Rattle.tool_parts.specs.Names.{name_bytes}
-use Rattle.acgrep.specs.Folders.{operand, spots_of}
+use Rattle.acgrep.proofs.Words.{length, map, name_bytes, operand, spots_of, ◌++◌, ◌≡◌}
 use Rattle.acgrep.proofs.walk.put_given.Given as goal
 
 abbrev pub invariant-loop-rest : goal.invariant-loop-rest

@@ -1,5 +1,5 @@
 -- The folders that are left.
-use Rattle.std.proofs.Common.{length}
+use Rattle.acgrep.proofs.Words.{length}
 use Rattle.acgrep.proofs.walk.stands_in.Given as goal
 
 abbrev pub decreases-loop-first : goal.decreases-loop-first

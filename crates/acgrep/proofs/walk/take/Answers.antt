@@ -1,10 +1,6 @@
 -- A folder is entered, and what is searched is found.
-use Rattle.std.proofs.Common.{◌≡◌, ◌∙◌, Bool, true, false, ap, refl, sym}
-use Rattle.std.proofs.lemmas.Result.{on_ok_weaker}
+use Rattle.acgrep.proofs.Words.{Bool, ap, false, is_folder, is_searched, is_spot_left, listed_bytes, on_ok_weaker, reads_devices, refl, rules_said, spot_of, spots_of, sym, tree_of, true, ◌∙◌, ◌≡◌}
 use Rattle.std.proofs.lemmas.List.{append-nil}
-use Rattle.acgrep.specs.Folders.{is_folder, is_searched, is_spot_left, reads_devices, spot_of, spots_of, tree_of}
-use Rattle.acgrep.specs.Listed.{listed_bytes}
-use Rattle.acgrep.specs.Rules.{rules_said}
 use Rattle.acgrep.proofs.Walking.{finds-entered, finds-left, finds-looked, folder-alone}
 use Rattle.acgrep.proofs.walk.take.Goals as goal
 

@@ -1,8 +1,5 @@
 -- A name more was looked at; where none is left the walk is done.
-use Rattle.std.proofs.Common.{rules, length, ◌≡◌, [], ◌∷◌, List, ap, subst}
-use Rattle.tool_parts.specs.Names.{name_bytes}
-use Rattle.acgrep.specs.Folders.{Begins, Spot, spot_of, spots_of, tree_of}
-use Rattle.acgrep.specs.Rules.{rules_said}
+use Rattle.acgrep.proofs.Words.{Begins, List, Spot, [], ap, length, name_bytes, rules, rules_said, spot_of, spots_of, subst, tree_of, ◌∷◌, ◌≡◌}
 use Rattle.acgrep.proofs.Walking.{all-gone, begins-end, begins-then}
 use Rattle.acgrep.proofs.walk.walk.Goals as goal
 

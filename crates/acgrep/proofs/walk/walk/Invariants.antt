@@ -1,7 +1,5 @@
 -- What was found so far.
-use Rattle.tool_parts.specs.Names.{name_bytes}
-use Rattle.acgrep.specs.Folders.{Begins, spots_of, tree_of}
-use Rattle.acgrep.specs.Rules.{rules_said}
+use Rattle.acgrep.proofs.Words.{Begins, name_bytes, rules_said, spots_of, tree_of}
 use Rattle.acgrep.proofs.walk.walk.Given as goal
 
 abbrev pub invariant-loop : goal.invariant-loop

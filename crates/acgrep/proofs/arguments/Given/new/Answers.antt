@@ -1,10 +1,5 @@
 -- No option, no pattern, no operand and no rule is there.
-use Rattle.std.proofs.Common.{◌≡◌, ℕ, Bor, List, [], ◌∙◌, ap, codes, map}
-use Rattle.acgrep.specs.Arguments.{Said, no_flags, nothing_said, origin_of}
-use Rattle.acgrep.specs.Rules.{rules_said}
-use Rattle.acgrep.specs.declared.arguments.Source.{Source}
-use Rattle.acgrep.specs.declared.format.Piece.{Piece}
-use Rattle.acgrep.specs.declared.options.Flags.{Flags}
+use Rattle.acgrep.proofs.Words.{Bor, Flags, List, Piece, Said, Source, [], ap, codes, map, no_flags, nothing_said, origin_of, rules_said, ℕ, ◌∙◌, ◌≡◌}
 use Rattle.acgrep.specs.declared.rules.Rule.{Rule}
 use Rattle.acgrep.proofs.arguments.Given.new.Goals as goal
 

@@ -1,7 +1,5 @@
 -- A newline ends what follows the last one.
-use Rattle.std.proofs.Common.{◌≡◌, ◌<◌, ℕ, List, ◌∙◌, ap, arith, subst, length}
-use Rattle.memchr.specs.Find.{Nowhere}
-use Rattle.acgrep.specs.Lines.{IsEnding, lines}
+use Rattle.acgrep.proofs.Words.{IsEnding, List, Nowhere, ap, arith, length, lines, subst, ℕ, ◌<◌, ◌∙◌, ◌≡◌}
 use Rattle.acgrep.proofs.WordLists.{lines_ended}
 use Rattle.acgrep.proofs.patterns.Keys.end_file.Goals as goal
 
