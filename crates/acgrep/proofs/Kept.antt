@@ -1,5 +1,5 @@
 -- What was done is as it was where the output keeps its bytes.
-use Rattle.acgrep.proofs.Words.{AreSought, BeginsByRules, BeginsFor, BeginsOrKeeps, BeginsSearch, Job, Keeps, Keeps-trans, Known, List, MarksAsked, MayBeginAsked, Option, Origin, Patterns, Reached, Said, SearchesByRules, SearchesFor, SearchesRuled, Some, false, inl, inr, kind_sought, knows_none, mark_work, marking_by, names_by, patterns_by_kind, ruled, search_work, sources_by, sym, words_sought, ℕ, ◌∙◌, ◌≡◌, ◌⊎◌}
+use Rattle.acgrep.proofs.Words.{AreSought, BeginsByRules, BeginsFor, BeginsOrKeeps, BeginsSearch, Job, Keeps, Keeps-trans, Known, List, MarksAsked, MayBeginAsked, Option, Origin, Patterns, Reached, Said, SearchesByRules, SearchesFor, SearchesRuled, Some, false, inl, inr, kind_sought, knows_none, mark_work, marking_by, names_by, patterns_by_kind, ruled, search_work, sources_by, subst, sym, words_sought, ℕ, ◌∙◌, ◌≡◌, ◌⊎◌}
 use Rattle.acgrep.specs.Runs.{After}
 use Rattle.acgrep.specs.declared.colors.Screen.{Screen}
 use Rattle.acgrep.proofs.Bools.{either_way}
@@ -77,5 +77,5 @@ module _ (held' held'' : Option (List ℕ)) (kept : Keeps held' held'') where
     begun_by_rules given left held = nothing_or held (after_more _ _ _ (λ rules between. asking_kept (ruled given rules) between held))
 
 -- what was said is one thing alone
-pub same_said : (told : Option Said) (given mine : Said) → told ≡ Some given → told ≡ Some mine → mine ≡ given
-same_said told given mine first second = cc
+pub said_alone : (P : Said → Type 0) (told : Option Said) (mine : Said) → told ≡ Some mine → P mine → (given : Said) → told ≡ Some given → P given
+said_alone P told mine read is given other = let same : mine ≡ given = cc in subst P same is

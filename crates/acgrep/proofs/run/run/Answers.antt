@@ -1,6 +1,6 @@
 -- What was said was done, and a flush keeps what was written.
 use Rattle.acgrep.proofs.Words.{AsksAny, AsksByRules, AsksToSearch, BeginsByRules, BeginsSearch, Errors, GivesNone, IfSome, IsByPatterns, IsMarkTold, List, MaySaid, MayTell, NoMemory, None, Nothing, Option, Said, Searches, SearchesByRules, Some, Tells, TellsBytes, TellsLacking, TellsMistake, TellsNoPattern, TellsSome, TellsStatus, TellsUnfit, [], ap, arith, false, inl, inr, is_hushed, known_by, listed_bytes, memory_line, names_said, reason_text, refl, said, said_by, shown_by, some-tells, some-weaker, subst, sym, unfit_said, ℕ, ◌<◌, ◌||◌, ◌∙◌, ◌≡◌, ◌≤◌}
-use Rattle.acgrep.proofs.Kept.{begun_by_rules, by_rules_kept, ruled_kept, same_said, search_held}
+use Rattle.acgrep.proofs.Kept.{begun_by_rules, by_rules_kept, ruled_kept, said_alone, search_held}
 use Rattle.acgrep.proofs.MarksTold.{some-told}
 use Rattle.acgrep.proofs.Mistaken.{mistake-told, refused-lacking, refused-memory}
 use Rattle.acgrep.proofs.Told.{finished, not-quiet, tells-cause, told-said}
@@ -10,12 +10,10 @@ use Rattle.acgrep.proofs.run.run.Goals as goal
 pub returns-in-Ok : goal.returns-in-Ok
 returns-in-Ok g c =
     let known = known_by g.F.Open g.F.Folders c.args.files.now in
-    let screen = c.args.screen.now in
     let mine = said c.in-Ok.given in
+    let read = c.in-Ok.ensures.read in
     let flags = c.in-Ok.given.flags in
     let left = g.R.Read.remaining c.args.input.now in
-    let left' = g.R.Read.remaining c.answer-status.new.input in
-    let held = g.W.Sink.taken c.args.output.now in
     let held'' = g.W.Sink.taken c.finish.new.output in
     let old = c.args.errors.now in
     let mid = c.answer-status.new.errors in
@@ -23,7 +21,6 @@ returns-in-Ok g c =
     let found = c.answer-status.result in
     let names = names_said (Some mine) in
     let bound : c.finish.result ≤ 2 = elim c.finish.ensures.status [ inl kept ↦ omega (arith, kept, c.answer-status.ensures.bound) | inr two ↦ omega (arith, two) ] in
-    let same = λ (given : Said) (is : said_by _ ≡ Some given). same_said (said_by _) given mine is c.in-Ok.ensures.read in
     let status : c.finish.result < 2 → c.finish.result ≡ found = λ low. elim c.finish.ensures.status [ inl kept ↦ kept | inr two ↦ absurd (omega (arith, low, two)) ] in
     let two : found ≡ 2 → c.finish.result ≡ 2 = λ two. elim c.finish.ensures.status [ inl kept ↦ kept ∙ two | inr failed ↦ failed ] in
     let unsaid : found ≡ 2 → new ≡ mid = λ two. c.finish.ensures.told_before (omega (arith, two)) in
@@ -35,48 +32,28 @@ returns-in-Ok g c =
     c.answer-status.ensures.bound bound c.finish.ensures.status (c.answer-status.ensures.told_marks asks) c.finish.ensures.silent c.finish.ensures.told_before (λ low two. c.finish.ensures.told low two []) in
     record {
       bound = bound;
-      usage = λ none. absurd (cc c.in-Ok.ensures.read);
-      mistake = λ none. absurd (cc c.in-Ok.ensures.read);
-      unread = λ none. absurd (cc c.in-Ok.ensures.read);
-      unwritten = λ none. absurd (cc c.in-Ok.ensures.read);
-      unfit = λ given is asks.
-          subst (λ (s : Said). IfSome (unfit_said s) (λ (line : List ℕ). c.finish.result ≡ 2)) (same given is)
-          (some_more (unfit_said mine) (λ (line : List ℕ). found ≡ 2) (λ (line : List ℕ). c.finish.result ≡ 2) (λ line is. two is) (c.answer-status.ensures.unfit (subst AsksAny (sym (same given is)) asks)));
-      unfitting = λ given is asks.
-          let asks' = subst AsksAny (sym (same given is)) asks in
-          subst (λ (s : Said). IfSome (unfit_said s) (λ (line : List ℕ). TellsUnfit g.E.Sink line old new)) (same given is)
-          (some_both (unfit_said mine) (λ (line : List ℕ). found ≡ 2) (TellsBytes g.E.Sink old mid) (λ (line : List ℕ). TellsUnfit g.E.Sink line old new)
-          (λ line two told. inr (subst (λ (e : Errors g.row.E.Denot). TellsBytes g.E.Sink old e line) (sym (unsaid two)) told))
-          (c.answer-status.ensures.unfit asks') (c.answer-status.ensures.unfitting asks'));
-      patternless = λ given is asks none. two (c.answer-status.ensures.patternless (subst AsksToSearch (sym (same given is)) asks) (subst GivesNone (sym (same given is)) none));
-      lacking = λ given is asks none.
-          let asks' = subst AsksToSearch (sym (same given is)) asks in
-          let none' = subst GivesNone (sym (same given is)) none in
-          inr (subst (TellsNoPattern g.E.Sink old) (sym (unsaid (c.answer-status.ensures.patternless asks' none'))) (c.answer-status.ensures.lacking asks' none'));
-      searches = λ given is asks low.
-          let done = c.answer-status.ensures.searches (subst AsksToSearch (sym (same given is)) asks) (subst (λ (n : ℕ). n < 2) (status low) low) in
-          let kept : Searches known screen mine left left' held held'' found = (done.0, ruled_kept _ held'' c.finish.ensures.kept known screen mine left left' held done.0 done.1, done.2) in
-          subst (λ (n : ℕ). Searches known screen given left left' held held'' n) (sym (status low)) (subst (λ (s : Said). Searches known screen s left left' held held'' found) (same given is) kept);
-      begins = λ given is asks.
-          subst (λ (s : Said). BeginsSearch known screen s left held held'') (same given is)
-          (search_held _ held'' c.finish.ensures.kept known screen mine left held (c.answer-status.ensures.begins (subst AsksToSearch (sym (same given is)) asks)));
-      marks = λ given is asks low.
-          let done = c.answer-status.ensures.marks (subst AsksByRules (sym (same given is)) asks) (subst (λ (n : ℕ). n < 2) (status low) low) in
-          subst (λ (n : ℕ). SearchesByRules known screen given left held held'' n) (sym (status low))
-          (subst (λ (s : Said). SearchesByRules known screen s left held held'' found) (same given is) (by_rules_kept _ held'' c.finish.ensures.kept known screen mine left held found done));
-      begins_marks = λ given is asks.
-          subst (λ (s : Said). BeginsByRules known screen s left held held'') (same given is)
-          (begun_by_rules _ held'' c.finish.ensures.kept known screen mine left held (c.answer-status.ensures.begins_marks (subst AsksByRules (sym (same given is)) asks)));
-      tells = λ by.
-          subst (λ (given : Option Said). Tells g.E.Sink (MaySaid known left given) old new) (sym c.in-Ok.ensures.read) (told (subst IsByPatterns c.in-Ok.ensures.read by)).tells;
-      silent = λ given is by loud low.
-          (told (subst IsByPatterns (sym is ∙ c.in-Ok.ensures.read) by)).silent low
-          (λ quiet. not-quiet flags.quiet flags.names flags.lacking flags.count (flags.tallied || (flags.json || flags.formatted)) flags.only_matching quiet (ap (λ (s : Said). s.flags.quiet) (same given is) ∙ loud));
-      says_why = λ loud failed.
-          subst (λ (given : Option Said). TellsSome g.E.Sink (MaySaid known left given) old new) (sym c.in-Ok.ensures.read)
-          ((told (subst IsByPatterns c.in-Ok.ensures.read loud.0)).some (subst (λ (given : Option Said). is_hushed given ≡ false) c.in-Ok.ensures.read loud.1) failed);
-      tells_marks = λ given is asks. (marked (subst AsksByRules (sym (same given is)) asks)).tells;
-      says_why_marks = λ given is asks asked failed. (marked (subst AsksByRules (sym (same given is)) asks)).some (ap (λ (s : Said). s.flags.no_messages) (same given is) ∙ asked) failed;
+      usage = λ none. absurd (cc read);
+      mistake = λ none. absurd (cc read);
+      unread = λ none. absurd (cc read);
+      unwritten = λ none. absurd (cc read);
+      unfit = said_alone _ _ mine read (λ asks. some_more (unfit_said mine) _ _ (λ line is. two is) (c.answer-status.ensures.unfit asks));
+      unfitting = said_alone _ _ mine read (λ asks. some_both (unfit_said mine) (λ line. found ≡ 2) (TellsBytes g.E.Sink old mid) (λ line. TellsUnfit g.E.Sink line old new)
+          (λ line two told. inr (subst (λ (e : Errors g.row.E.Denot). TellsBytes g.E.Sink old e line) (sym (unsaid two)) told)) (c.answer-status.ensures.unfit asks) (c.answer-status.ensures.unfitting asks));
+      patternless = said_alone _ _ mine read (λ asks none. two (c.answer-status.ensures.patternless asks none));
+      lacking = said_alone _ _ mine read (λ asks none. inr (subst (TellsNoPattern g.E.Sink old) (sym (unsaid (c.answer-status.ensures.patternless asks none))) (c.answer-status.ensures.lacking asks none)));
+      searches = said_alone _ _ mine read (λ asks low.
+          let done = c.answer-status.ensures.searches asks (subst (λ (n : ℕ). n < 2) (status low) low) in
+          rw (status low) (done.0, ruled_kept _ held'' c.finish.ensures.kept known _ mine left _ _ done.0 done.1, done.2));
+      begins = said_alone _ _ mine read (λ asks. search_held _ held'' c.finish.ensures.kept known _ mine left _ (c.answer-status.ensures.begins asks));
+      marks = said_alone _ _ mine read (λ asks low.
+          rw (status low) (by_rules_kept _ held'' c.finish.ensures.kept known _ mine left _ found (c.answer-status.ensures.marks asks (subst (λ (n : ℕ). n < 2) (status low) low))));
+      begins_marks = said_alone _ _ mine read (λ asks. begun_by_rules _ held'' c.finish.ensures.kept known _ mine left _ (c.answer-status.ensures.begins_marks asks));
+      tells = λ by. rw read (told (subst IsByPatterns read by)).tells;
+      silent = said_alone _ _ mine read (λ by loud low. (told by).silent low
+          (λ quiet. not-quiet flags.quiet flags.names flags.lacking flags.count (flags.tallied || (flags.json || flags.formatted)) flags.only_matching quiet loud));
+      says_why = λ loud failed. rw read ((told (subst IsByPatterns read loud.0)).some (subst (λ (given : Option Said). is_hushed given ≡ false) read loud.1) failed);
+      tells_marks = said_alone _ _ mine read (λ asks. (marked asks).tells);
+      says_why_marks = said_alone _ _ mine read (λ asks asked failed. (marked asks).some asked failed);
       flushed = c.finish.ensures.flushed;
     }
 

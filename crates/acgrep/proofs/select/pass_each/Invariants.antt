@@ -1,12 +1,12 @@
 -- The lines so far were selected, and the place is behind them.
-use Rattle.acgrep.proofs.Words.{EachLine, HasNone, IsBuiltFrom, Patterns, after_lines, length, lines, true, ◌≡◌}
+use Rattle.acgrep.proofs.Words.{EachLine, HasNone, IsBuiltFrom, Patterns, after_lines, length, lines, ◌≡◌}
 use Rattle.acgrep.proofs.Tellings.{Passing}
 use Rattle.acgrep.proofs.select.pass_each.Given as goal
 
 abbrev pub invariant-loop-rest : goal.invariant-loop-rest
 invariant-loop-rest g l = record {
   placed : after_lines l.state.place (lines l.fn.job.style.ending l.rest) ≡ after_lines l.initial.state.place (lines l.fn.job.style.ending l.fn.text);
-  passed : (p : Patterns) → IsBuiltFrom l.fn.searcher p → l.fn.job.invert ≡ true → EachLine (HasNone p) (lines l.fn.job.style.ending l.fn.text)
+  passed : (p : Patterns) → IsBuiltFrom l.fn.searcher p → EachLine (HasNone p) (lines l.fn.job.style.ending l.fn.text)
       → Passing p l.fn.job l.initial.state l.state (g.W.Sink.taken l.initial.output) (g.W.Sink.taken l.output) l.fn.text l.rest;
 }
 
