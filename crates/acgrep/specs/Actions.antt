@@ -1,9 +1,6 @@
 -- What the arguments of `--color`, `-d`, `-D` and `--binary-files` name.
 use Rattle.acgrep.specs.Words.{Bool, List, Named, None, Option, Some, Unknown, [], bytes_eq, codes, found_among, if◌then◌else◌, meant, named, result_ok, str_eq_ignore_ascii_case, ℕ, ◌||◌, ◌∷◌}
-use Rattle.acgrep.specs.declared.options.Color.{Color}
-use Rattle.acgrep.specs.declared.options.Color.TheVariants.{Auto, Always, Never}
-use Rattle.acgrep.specs.declared.options.Switch.{Switch}
-use Rattle.acgrep.specs.declared.options.Switch.TheVariants.{Recursive, ReadFolders, SkipFolders, ReadDevices, SkipDevices, Text, TextAlone, Binary}
+use Rattle.acgrep.specs.Types.{Always, Auto, Binary, Color, Never, ReadDevices, ReadFolders, Recursive, SkipDevices, SkipFolders, Switch, Text, TextAlone}
 
 -- one of three names, in whichever case
 abbrev pub is_one_of : (first second third : List ℕ) → List ℕ → Bool

@@ -2,35 +2,14 @@
 use Rattle.acgrep.specs.Words.{Bool, Form, IfErr, IfOk, LeftmostLongest, List, None, OnOk, Option, Result, Some, [], all_ascii_digits, argument_form, codes, false, if◌then◌else◌, is_ascii_digit, is_some, joined_letters, length, long_name, long_with, map, nat_lt, no_more, no_option, not, option_and_then, option_map, slice_index, true, unwrap_or, ℕ, ◌&&◌, ◌++◌, ◌<◌, ◌==◌, ◌^◌, ◌||◌, ◌∷◌, ◌≡◌}
 use Rattle.tool_parts.specs.Arguments.{kind_by}
 use Rattle.std.specs.Str.Parse.{digits_value}
+use Rattle.acgrep.specs.Types.{After, AnyPart, Argument, Around, Auto, Awaited, Before, Binary, BinaryFiles, Color, Context, Count, Counts, Devices, Exclude, ExcludeFolder, ExcludeFrom, Excluded, ExcludedFolder, ExcludedFrom, FirstLine, Fit, Flags, Folders, Follow, Format, Fresh, Help, IgnoreCase, Include, Included, InitialTab, Invert, Kind, Label, Lacking, LineLimit, Lines, Long, MatchCase, Matches, MaxCount, Names, Never, NoMatchOk, NoMessages, NoName, NoSeparator, Nothing, NullData, NullNames, Numbers, Objects, Offset, Offsets, OnlyLacking, OnlyMatching, OnlyNames, Operands, OutOfMemory, PatternFile, Piece, Plain, Quiet, ReadDevices, ReadFolders, Recursive, Refusal, Regexp, RuleFile, Same, Sense, Separator, Shown, SkipDevices, SkipFolders, Source, Switch, Takes, Tallies, Text, TextAlone, Valued, Version, Ways, When, WholeLine, WholeLines, WholeWord, WholeWords, WithName, Wrong}
 use Rattle.acgrep.specs.declared.arguments.Given.{Given}
 use Rattle.acgrep.specs.Actions.{binary_named, color_named, devices_named, folders_named}
 use Rattle.acgrep.specs.Formats.{format_pieces}
 use Rattle.acgrep.specs.Long.{option_by}
 use Rattle.acgrep.specs.Rules.{RuleSaid, rules_said, without_slashes}
-use Rattle.acgrep.specs.declared.rules.Sense.{Sense}
-use Rattle.acgrep.specs.declared.rules.Sense.TheVariants.{Include, Exclude, ExcludeFrom, ExcludeFolder}
-use Rattle.acgrep.specs.declared.format.Piece.{Piece}
-use Rattle.acgrep.specs.declared.long.Long.{Long}
-use Rattle.acgrep.specs.declared.long.Long.TheVariants.{Plain, Takes, When}
-use Rattle.acgrep.specs.declared.long.Valued.{Valued}
-use Rattle.acgrep.specs.declared.long.Valued.TheVariants.{Regexp, PatternFile, Kind, Offset, FirstLine, MaxCount, After, Before, Around, Separator, Label, Format, Included, Excluded, ExcludedFrom, ExcludedFolder, Folders, Devices, BinaryFiles, RuleFile, LineLimit}
-use Rattle.acgrep.specs.declared.options.Color.{Color}
-use Rattle.acgrep.specs.declared.options.Context.{Context}
-use Rattle.acgrep.specs.declared.options.Switch.{Switch}
-use Rattle.acgrep.specs.declared.options.Switch.TheVariants.{IgnoreCase, MatchCase, Invert, WholeWords, WholeLines, Counts, Tallies, Numbers, OnlyMatching, Offsets, OnlyNames, OnlyLacking, Recursive, Follow, NullNames, NullData, Quiet, NoSeparator, InitialTab, Json, NoName, WithName, NoMatchOk, NoMessages, Help, Version, Text, TextAlone, Binary, ReadFolders, SkipFolders, ReadDevices, SkipDevices, Same}
-use Rattle.acgrep.specs.declared.arguments.Awaited.{Awaited}
-use Rattle.acgrep.specs.declared.arguments.Awaited.TheVariants.{Fresh, Argument, Operands}
-use Rattle.acgrep.specs.declared.arguments.Refusal.{Refusal}
-use Rattle.acgrep.specs.declared.arguments.Refusal.TheVariants.{Wrong, OutOfMemory}
-use Rattle.acgrep.specs.declared.arguments.Source.{Source}
+use Rattle.acgrep.specs.declared.options.Switch.TheVariants.{Json}
 use Rattle.acgrep.specs.declared.arguments.Source.TheVariants.{Text, File}
-use Rattle.acgrep.specs.declared.options.Color.TheVariants.{Auto, Never}
-use Rattle.acgrep.specs.declared.options.Fit.{Fit}
-use Rattle.acgrep.specs.declared.options.Fit.TheVariants.{AnyPart, WholeWord, WholeLine}
-use Rattle.acgrep.specs.declared.options.Flags.{Flags}
-use Rattle.acgrep.specs.declared.options.Shown.{Shown}
-use Rattle.acgrep.specs.declared.walk.Ways.{Ways}
-use Rattle.acgrep.specs.declared.options.Shown.TheVariants.{Lines, Matches, Objects, Count, Names, Lacking, Nothing}
 
 -- where patterns come from: a text, or the file of a name
 pub record Origin : Type 0 where

@@ -1,11 +1,9 @@
 -- Which options do not go with rules.
 use Rattle.acgrep.specs.Words.{Bool, LeftmostFirst, LeftmostLongest, List, MatchKind, None, Option, Some, Standard, [], bytes_eq, codes, false, if◌then◌else◌, is_some, not, true, ℕ, ◌++◌, ◌==◌, ◌∷◌}
 use Rattle.acgrep.specs.Arguments.{Origin, Said}
+use Rattle.acgrep.specs.Types.{Always, Auto, Color, Flags, Never}
 use Rattle.acgrep.specs.declared.beside.Unfit.{Unfit}
 use Rattle.acgrep.specs.declared.beside.Unfit.TheVariants.{Beside, Alone}
-use Rattle.acgrep.specs.declared.options.Color.{Color}
-use Rattle.acgrep.specs.declared.options.Color.TheVariants.{Auto, Always, Never}
-use Rattle.acgrep.specs.declared.options.Flags.{Flags}
 
 -- the option that gives patterns, if one does
 abbrev pub source_beside : List Origin → Option (List ℕ)

@@ -3,10 +3,7 @@ use Rattle.acgrep.specs.Words.{Bool, List, MatchBool, Patterns, [], codes, false
 use Rattle.acgrep.specs.Contexts.{TellsFile}
 use Rattle.acgrep.specs.Lines.{lines}
 use Rattle.acgrep.specs.Written.{IsAny, IsSelected, SomeLine, is_full}
-use Rattle.acgrep.specs.declared.options.Shown.{Shown}
-use Rattle.acgrep.specs.declared.options.Shown.TheVariants.{Lines, Matches, Objects, Count, Names, Lacking, Nothing}
-use Rattle.acgrep.specs.declared.print.Style.{Style}
-use Rattle.acgrep.specs.declared.select.Job.{Job}
+use Rattle.acgrep.specs.Types.{Count, Job, Lacking, Lines, Matches, Names, Nothing, Objects, Shown, Style}
 
 -- whether bytes hold no zero byte
 abbrev pub is_text : List ℕ → Bool

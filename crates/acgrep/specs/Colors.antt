@@ -1,6 +1,6 @@
 -- The colours that GREP_COLORS of the environment gives.
 use Rattle.acgrep.specs.Words.{Bool, List, [], after_first, before_first, bytes_eq, codes, false, if◌then◌else◌, is_ascii_digit, is_equals, length, nat_lt, position_or_len, slice_split, true, ℕ, ◌&&◌, ◌==◌, ◌||◌, ◌∷◌}
-use Rattle.acgrep.specs.declared.colors.Colors.{Colors}
+use Rattle.acgrep.specs.Types.{Colors}
 
 -- the code of each colour, and whether the rest of a line is erased where one begins or ends
 pub record Palette : Type 0 where

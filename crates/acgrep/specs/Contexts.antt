@@ -5,14 +5,8 @@ use Rattle.acgrep.specs.Filled.{held_lines}
 use Rattle.acgrep.specs.Lines.{lines}
 use Rattle.acgrep.specs.Printed.{separator_by}
 use Rattle.acgrep.specs.Written.{IsPassedOver, IsSelected, IsSettled, SearchesPlain, ShowsLine, TellsOfLines, after_line, is_full, one_more}
+use Rattle.acgrep.specs.Types.{Context, Count, Job, Lacking, Lines, Matches, Names, Nothing, Objects, Place, Shown, State, Style}
 use Rattle.acgrep.specs.declared.trail.Trail.{Trail}
-use Rattle.acgrep.specs.declared.options.Context.{Context}
-use Rattle.acgrep.specs.declared.options.Shown.{Shown}
-use Rattle.acgrep.specs.declared.options.Shown.TheVariants.{Lines, Matches, Objects, Count, Names, Lacking, Nothing}
-use Rattle.acgrep.specs.declared.print.Place.{Place}
-use Rattle.acgrep.specs.declared.print.Style.{Style}
-use Rattle.acgrep.specs.declared.select.Job.{Job}
-use Rattle.acgrep.specs.declared.select.State.{State}
 
 -- lines around selected ones are written where lines or matches are
 abbrev pub around_by : Shown → Option Context → Option Context

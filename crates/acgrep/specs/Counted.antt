@@ -5,9 +5,7 @@ use Rattle.acgrep.specs.Arguments.{Said}
 use Rattle.acgrep.specs.Folders.{known_by}
 use Rattle.acgrep.specs.Runs.{BeginsCounted, BeginsOrCounts, CountsReached, ReachesOrCounts}
 use Rattle.acgrep.specs.Searchers.{ForSearcher}
-use Rattle.acgrep.specs.declared.colors.Screen.{Screen}
-use Rattle.acgrep.specs.declared.folders.Folders.{Ghosts as FolderGhosts}
-use Rattle.acgrep.specs.declared.open.Open.{Ghosts as Openers}
+use Rattle.acgrep.specs.Types.{FolderGhosts, Openers, Screen}
 
 -- files are opened and folders listed by one value, standard input is read from another, and a third is written to
 module _ {F X R W : Type 0} (openers : Openers F X) (folders : FolderGhosts F) (readers : Readers R) (sinks : SinkGhosts W) (files : F) (names : List (Bor (List ℕ))) (searcher : Searcher) (screen : Screen) (given : Said) (patterns : List (Bor (List ℕ))) where

@@ -5,14 +5,12 @@ use Rattle.std.specs.Cmp.Lexicographic.{slice_cmp}
 use Rattle.std.specs.Ordering.{nat_cmp}
 use Rattle.acgrep.specs.Listed.{listed_bytes}
 use Rattle.acgrep.specs.Rules.{RuleSaid, is_left_out, without_slashes}
-use Rattle.acgrep.specs.declared.folders.Folders.{Ghosts as FolderGhosts}
+use Rattle.acgrep.specs.Types.{FolderGhosts, Openers, Ways}
 use Rattle.acgrep.specs.declared.folders.Kind.{Kind}
 use Rattle.acgrep.specs.declared.folders.Kind.TheVariants.{File, Folder, Link, Device}
-use Rattle.acgrep.specs.declared.open.Open.{Ghosts as Openers}
 use Rattle.acgrep.specs.declared.walk.Found.{Found}
 use Rattle.acgrep.specs.declared.walk.Pending.{Pending}
 use Rattle.acgrep.specs.declared.walk.Unread.{Unread}
-use Rattle.acgrep.specs.declared.walk.Ways.{Ways}
 
 -- what is known of names and folders
 pub record Tree : Type 0 where

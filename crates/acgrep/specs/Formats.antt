@@ -1,8 +1,7 @@
 -- The format by which a match is written: bytes, and fields in braces.
 use Rattle.acgrep.specs.Words.{List, None, Option, Some, [], codes, flat_map, if◌then◌else◌, nat_eq, option_and_then, option_map, starts_with, suc, zero, ℕ, ◌-◌, ◌==◌, ◌||◌, ◌∷◌}
+use Rattle.acgrep.specs.Types.{Byte, End, Found, LineNumber, Path, PatternNumber, Piece, Start}
 use Rattle.acgrep.specs.declared.format.Front.{Front}
-use Rattle.acgrep.specs.declared.format.Piece.{Piece}
-use Rattle.acgrep.specs.declared.format.Piece.TheVariants.{Byte, Path, LineNumber, Start, End, PatternNumber, Found}
 
 -- a piece, and how many bytes of a format it takes
 abbrev pub front_at : Piece → ℕ → Option Front

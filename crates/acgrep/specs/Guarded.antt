@@ -4,9 +4,9 @@ use Rattle.acgrep.specs.Binary.{is_text}
 use Rattle.acgrep.specs.Lines.{lines}
 use Rattle.acgrep.specs.Streamed.{Course, ReadsSome, SearchesBehind, TextIf}
 use Rattle.acgrep.specs.Written.{IsAny}
+use Rattle.acgrep.specs.Types.{Job}
 use Rattle.acgrep.specs.declared.stream.Came.{Came}
 use Rattle.acgrep.specs.declared.stream.Came.TheVariants.{Text, Binary, End}
-use Rattle.acgrep.specs.declared.select.Job.{Job}
 
 -- the first of some lines holds a zero byte
 abbrev pub IsFirstBinary : List (List ℕ) → Type 0

@@ -1,11 +1,8 @@
 -- Files that are searched one after another, whatever is searched for in them.
 use Rattle.acgrep.specs.Words.{Bool, Keeps, List, MatchBool, Option, [], false, if◌then◌else◌, true, ℕ, ◌||◌, ◌∷◌, ◌≡◌, ◌⊎◌}
 use Rattle.tool_parts.specs.Answers.{status_of}
-use Rattle.acgrep.specs.declared.files.Outcome.{Outcome}
-use Rattle.acgrep.specs.declared.files.Outcome.TheVariants.{Searched, Unread, Stopped}
+use Rattle.acgrep.specs.Types.{Count, Lacking, Lines, Matches, Names, Nothing, Objects, Outcome, Searched, Shown, Stopped, Unread}
 use Rattle.acgrep.specs.declared.files.Seen.{Seen}
-use Rattle.acgrep.specs.declared.options.Shown.{Shown}
-use Rattle.acgrep.specs.declared.options.Shown.TheVariants.{Lines, Matches, Objects, Count, Names, Lacking, Nothing}
 
 -- under `-q` one selected line of any file is enough
 abbrev pub is_enough : Shown → Bool → Bool

@@ -37,5 +37,6 @@ pub mod Streamed
 pub mod Tallies
 pub mod Told
 pub mod ToldByRules
+pub mod Types
 pub mod Words
 pub mod Written

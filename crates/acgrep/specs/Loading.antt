@@ -4,10 +4,7 @@ use Rattle.acgrep.specs.Arguments.{Origin}
 use Rattle.acgrep.specs.Lines.{lines}
 use Rattle.acgrep.specs.Rules.{RuleSaid, is_from_file, rule_said, rules_said}
 use Rattle.acgrep.specs.Runs.{AreOf, AreWords, IsTextOf, origins_of}
-use Rattle.acgrep.specs.declared.arguments.Source.{Source}
-use Rattle.acgrep.specs.declared.open.Open.{Ghosts as Openers}
-use Rattle.acgrep.specs.declared.patterns.Keys.{Keys}
-use Rattle.acgrep.specs.declared.rules.Rule.{Rule}
+use Rattle.acgrep.specs.Types.{Keys, Openers, Rule, Source}
 use Rattle.acgrep.specs.Listed.{listed_bytes}
 
 -- the text of a file is added to bytes

@@ -1,10 +1,8 @@
 -- The long names of options, and what they mean.
 use Rattle.acgrep.specs.Words.{Begun, List, Named, Option, Several, Unknown, Whole, [], codes, found_among, meant, named, named_either, result_ok, ℕ, ◌∷◌}
 use Rattle.tool_parts.specs.declared.options.found.Found.{Found}
-use Rattle.acgrep.specs.declared.long.Long.{Long}
-use Rattle.acgrep.specs.declared.long.Long.TheVariants.{Plain, Takes, When}
-use Rattle.acgrep.specs.declared.long.Valued.TheVariants.{Regexp, PatternFile, Kind, Offset, FirstLine, MaxCount, After, Before, Around, Separator, Label, Format, Included, Excluded, ExcludedFrom, ExcludedFolder, Folders, Devices, BinaryFiles, RuleFile, LineLimit}
-use Rattle.acgrep.specs.declared.options.Switch.TheVariants.{IgnoreCase, MatchCase, Invert, WholeWords, WholeLines, Counts, Tallies, Numbers, OnlyMatching, Offsets, OnlyNames, OnlyLacking, NullNames, NullData, Recursive, Follow, Quiet, NoSeparator, InitialTab, Json, NoName, WithName, NoMatchOk, NoMessages, Help, Version, Text, Same}
+use Rattle.acgrep.specs.Types.{After, Around, Before, BinaryFiles, Counts, Devices, Excluded, ExcludedFolder, ExcludedFrom, FirstLine, Folders, Follow, Format, Help, IgnoreCase, Included, InitialTab, Invert, Kind, Label, LineLimit, Long, MatchCase, MaxCount, NoMatchOk, NoMessages, NoName, NoSeparator, NullData, NullNames, Numbers, Offset, Offsets, OnlyLacking, OnlyMatching, OnlyNames, PatternFile, Plain, Quiet, Recursive, Regexp, RuleFile, Same, Separator, Takes, Tallies, Text, Version, When, WholeLines, WholeWords, WithName}
+use Rattle.acgrep.specs.declared.options.Switch.TheVariants.{Json}
 
 -- the options that grep has too: those that say what is searched for
 abbrev pub pattern_options : List (Named Long)

@@ -3,12 +3,8 @@ use Rattle.acgrep.specs.Words.{Appends, AppendsBeginning, Bool, List, MutBor, No
 use Rattle.acgrep.specs.Objects.{FieldsTold, bytes_named, fields_by, json_escaped, number_named}
 use Rattle.acgrep.specs.Printed.{line_by, matches_by}
 use Rattle.acgrep.specs.Written.{needs_one, one_more}
-use Rattle.acgrep.specs.declared.marked.Pass.{Pass}
+use Rattle.acgrep.specs.Types.{Count, Lacking, Lines, Matches, Names, Nothing, Objects, Pass, Place, Shown, Style}
 use Rattle.acgrep.specs.declared.marked.Task.{Task}
-use Rattle.acgrep.specs.declared.options.Shown.{Shown}
-use Rattle.acgrep.specs.declared.options.Shown.TheVariants.{Lines, Matches, Objects, Count, Names, Lacking, Nothing}
-use Rattle.acgrep.specs.declared.print.Place.{Place}
-use Rattle.acgrep.specs.declared.print.Style.{Style}
 
 -- the name of the rule of a number
 abbrev pub id_or_none : Option Rule → List ℕ

@@ -13,12 +13,7 @@ use Rattle.acgrep.specs.Files.{BeginsTotal, EndsFile, IsNamed, known_of, shown_n
 use Rattle.acgrep.specs.InTurn.{AreBegun, AreDoneOr, FileWork, IfBroken, IfSearched}
 use Rattle.acgrep.specs.Marked.{FileAsked, marked_lines, pass_after}
 use Rattle.acgrep.specs.Written.{needs_one}
-use Rattle.acgrep.specs.declared.files.Outcome.{Outcome}
-use Rattle.acgrep.specs.declared.marked.Pass.{Pass}
-use Rattle.acgrep.specs.declared.marked_files.Marking.{Marking}
-use Rattle.acgrep.specs.declared.options.Shown.{Shown}
-use Rattle.acgrep.specs.declared.print.Place.{Place}
-use Rattle.acgrep.specs.declared.select.Job.{Job}
+use Rattle.acgrep.specs.Types.{Job, Marking, Outcome, Pass, Place, Shown}
 
 -- what is asked of the lines of a file, by these rules
 abbrev pub file_asked : Job → List Rule → FileAsked

@@ -3,10 +3,9 @@ use Rattle.acgrep.specs.Words.{Appends, Bool, IsBuiltFrom, List, Occurrence, OnO
 use Rattle.acgrep.specs.Alone.{AreShownOf}
 use Rattle.acgrep.specs.Objects.{object_by, objects_by}
 use Rattle.acgrep.specs.Printed.{behind_match, colored_by, colored_from, colored_line_by, match_by, matches_by, part_of}
+use Rattle.acgrep.specs.Types.{Place, Style}
 use Rattle.acgrep.specs.declared.matches.Shape.{Shape}
 use Rattle.acgrep.specs.declared.matches.Shape.TheVariants.{Colored, OnLines, AsFields}
-use Rattle.acgrep.specs.declared.print.Place.{Place}
-use Rattle.acgrep.specs.declared.print.Style.{Style}
 
 -- a match of a line that is written up to a place
 abbrev pub found_by : Shape → Style → Place → List ℕ → ℕ → Occurrence → List ℕ

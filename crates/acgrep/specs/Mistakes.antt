@@ -5,15 +5,7 @@ use Rattle.tool_parts.specs.declared.options.found.NotFound.{NotFound}
 use Rattle.acgrep.specs.Arguments.{ReadSoFar, Said, argument_by, nothing_said, number_by, switch_by, valued_letter}
 use Rattle.acgrep.specs.Long.{found_by, option_by}
 use Rattle.acgrep.specs.Told.{TellsWrong, binary_parts, color_parts, devices_parts, folders_parts, format_parts, kind_parts, misuse_parts, number_parts, valued_name, wrong_parts}
-use Rattle.acgrep.specs.declared.arguments.Awaited.{Awaited}
-use Rattle.acgrep.specs.declared.arguments.Awaited.TheVariants.{Fresh, Argument, Operands}
-use Rattle.acgrep.specs.declared.arguments.Refusal.{Refusal}
-use Rattle.acgrep.specs.declared.arguments.Refusal.TheVariants.{Wrong, OutOfMemory}
-use Rattle.acgrep.specs.declared.arguments.Wrong.TheVariants.{NoPattern}
-use Rattle.acgrep.specs.declared.long.Long.{Long}
-use Rattle.acgrep.specs.declared.long.Long.TheVariants.{Plain, Takes, When}
-use Rattle.acgrep.specs.declared.long.Valued.{Valued}
-use Rattle.acgrep.specs.declared.long.Valued.TheVariants.{Regexp, PatternFile, Kind, Offset, FirstLine, MaxCount, After, Before, Around, Separator, Label, Format, Included, Excluded, ExcludedFrom, ExcludedFolder, Folders, Devices, BinaryFiles, RuleFile, LineLimit}
+use Rattle.acgrep.specs.Types.{After, Argument, Around, Awaited, Before, BinaryFiles, Devices, Excluded, ExcludedFolder, ExcludedFrom, FirstLine, Folders, Format, Fresh, Included, Kind, Label, LineLimit, Long, MaxCount, NoPattern, Offset, Operands, OutOfMemory, PatternFile, Plain, Refusal, Regexp, RuleFile, Separator, Takes, Valued, When, Wrong}
 
 -- what is told of an argument that an option cannot have; any is a pattern, a file's name, a separator, a label or a glob
 abbrev pub wrong_value : Valued → List ℕ → List (List ℕ)

@@ -2,13 +2,8 @@
 use Rattle.acgrep.specs.Words.{List, Occurrence, [], codes, decimal, flat_map, if◌then◌else◌, is_utf8, nat_lt, ℕ, ◌%◌, ◌++◌, ◌+◌, ◌/◌, ◌==◌, ◌∷◌}
 use Rattle.acgrep.specs.Base64.{base64_of}
 use Rattle.acgrep.specs.Printed.{line_number_at, offset_at, part_of}
+use Rattle.acgrep.specs.Types.{Byte, End, Form, Found, Json, LineNumber, Path, PatternNumber, Piece, Pieces, Place, Start, Style}
 use Rattle.acgrep.specs.declared.fields.Fields.{Fields}
-use Rattle.acgrep.specs.declared.format.Piece.{Piece}
-use Rattle.acgrep.specs.declared.format.Piece.TheVariants.{Byte, Path, LineNumber, Start, End, PatternNumber, Found}
-use Rattle.acgrep.specs.declared.print.Form.{Form}
-use Rattle.acgrep.specs.declared.print.Form.TheVariants.{Json, Pieces}
-use Rattle.acgrep.specs.declared.print.Place.{Place}
-use Rattle.acgrep.specs.declared.print.Style.{Style}
 
 -- the digit of a number below 16, in lower case
 abbrev pub hex_of : ℕ → ℕ

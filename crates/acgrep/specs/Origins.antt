@@ -1,8 +1,8 @@
 -- Where a pattern of a call stands among the sources.
 use Rattle.acgrep.specs.Words.{List, None, Option, Some, is_byte, length, min, places, slice_index_or, slice_range, ℕ, ◌+◌, ◌<◌, ◌≡◌, ◌≤◌}
 use Prim.Native.Nat.{zero, suc}
+use Rattle.acgrep.specs.Types.{Keys}
 use Rattle.acgrep.specs.declared.keys.KeyPlace.{KeyPlace}
-use Rattle.acgrep.specs.declared.patterns.Keys.{Keys}
 
 -- where the patterns of the source of this number begin, in the text of all patterns: behind the last source that is its end
 abbrev pub begin_of : Keys → ℕ → ℕ

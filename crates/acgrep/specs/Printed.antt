@@ -1,9 +1,7 @@
 -- What is written of a line, with what stands before it.
 use Rattle.acgrep.specs.Words.{Appends, Bool, List, Occurrence, OnOk, Option, Result, Writers, [], codes, decimal, flat_map, if◌then◌else◌, length, nat_le, nat_lt, slice_range, ℕ, ◌%◌, ◌&&◌, ◌++◌, ◌+◌, ◌==◌, ◌^◌, ◌||◌, ◌∷◌}
 use Rattle.std.specs.Iterator.Runs.{WholeRun}
-use Rattle.acgrep.specs.declared.colors.Colors.{Colors}
-use Rattle.acgrep.specs.declared.print.Place.{Place}
-use Rattle.acgrep.specs.declared.print.Style.{Style}
+use Rattle.acgrep.specs.Types.{Colors, Place, Style}
 
 -- what begins a colour of this code, and without one ends each; with it the rest of a line is erased where that is asked for
 abbrev pub escape_by : Colors → List ℕ → List ℕ

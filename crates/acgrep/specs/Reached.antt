@@ -5,9 +5,7 @@ use Rattle.acgrep.specs.Folders.{known_by}
 use Rattle.acgrep.specs.Runs.{SearchesReached}
 use Rattle.acgrep.specs.Searchers.{ForSearcher}
 use Rattle.acgrep.specs.Told.{IsMessage}
-use Rattle.acgrep.specs.declared.colors.Screen.{Screen}
-use Rattle.acgrep.specs.declared.folders.Folders.{Ghosts as FolderGhosts}
-use Rattle.acgrep.specs.declared.open.Open.{Ghosts as Openers}
+use Rattle.acgrep.specs.Types.{FolderGhosts, Openers, Screen}
 
 -- each of these names is told, unless nothing is to be told of them
 pub record TellsMissed {E : Type 0} (K : SinkGhosts E) (hushed : Bool) (unread : List (List ℕ)) (old new : Errors E) : Type 0 where

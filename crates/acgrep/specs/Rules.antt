@@ -3,9 +3,7 @@
 use Rattle.acgrep.specs.Words.{Bool, List, [], false, if◌then◌else◌, map, nat_le, take, true, ℕ, ◌&&◌, ◌++◌, ◌+◌, ◌==◌, ◌||◌, ◌∷◌}
 use Rattle.acgrep.specs.Globs.{base_name, fits, operand_fits}
 use Rattle.acgrep.specs.Lines.{lines}
-use Rattle.acgrep.specs.declared.rules.Rule.{Rule}
-use Rattle.acgrep.specs.declared.rules.Sense.{Sense}
-use Rattle.acgrep.specs.declared.rules.Sense.TheVariants.{Include, Exclude, ExcludeFrom, ExcludeFolder}
+use Rattle.acgrep.specs.Types.{Exclude, ExcludeFolder, ExcludeFrom, Include, Rule, Sense}
 
 -- an option, and its glob, or the name of its file of globs
 pub record RuleSaid : Type 0 where

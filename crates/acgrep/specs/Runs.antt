@@ -11,23 +11,8 @@ use Rattle.acgrep.specs.Listed.{listed_bytes}
 use Rattle.acgrep.specs.Rules.{RuleSaid, is_from_file, rules_in}
 use Rattle.acgrep.specs.Tallies.{counts_table}
 use Rattle.acgrep.specs.Written.{IsPassedOver}
-use Rattle.acgrep.specs.declared.arguments.Source.{Source}
-use Rattle.acgrep.specs.declared.options.Color.{Color}
-use Rattle.acgrep.specs.declared.options.Color.TheVariants.{Auto, Always, Never}
-use Rattle.acgrep.specs.declared.options.Fit.{Fit}
-use Rattle.acgrep.specs.declared.options.Fit.TheVariants.{AnyPart, WholeWord, WholeLine}
-use Rattle.acgrep.specs.declared.options.Flags.{Flags}
-use Rattle.acgrep.specs.declared.options.Shown.{Shown}
-use Rattle.acgrep.specs.declared.options.Shown.TheVariants.{Lines, Matches, Objects, Count, Names, Lacking, Nothing}
+use Rattle.acgrep.specs.Types.{Always, AnyPart, Auto, Color, Count, Fit, Flags, Form, Job, Json, Lacking, Lines, Matches, Names, Never, Nothing, Objects, PatternNumber, Piece, Pieces, Place, Screen, Shown, Source, Ways, WholeLine, WholeWord}
 use Rattle.acgrep.specs.Colors.{colors_by, palette_of}
-use Rattle.acgrep.specs.declared.colors.Screen.{Screen}
-use Rattle.acgrep.specs.declared.format.Piece.{Piece}
-use Rattle.acgrep.specs.declared.format.Piece.TheVariants.{PatternNumber}
-use Rattle.acgrep.specs.declared.print.Form.{Form}
-use Rattle.acgrep.specs.declared.print.Form.TheVariants.{Json, Pieces}
-use Rattle.acgrep.specs.declared.print.Place.{Place}
-use Rattle.acgrep.specs.declared.select.Job.{Job}
-use Rattle.acgrep.specs.declared.walk.Ways.{Ways}
 
 -- what holds of what the arguments say, where they are right
 abbrev pub IfSaid : {Z : Type 0} → List (Vec ℕ Z) → (Said → Type 0) → Type 0

@@ -1,8 +1,6 @@
 -- What a call does by rules, by what its arguments say.
 use Rattle.acgrep.specs.Words.{Automata, Bool, Bor, Covering, Keeps, List, MatchBool, Option, Patterns, Readers, Rule, SinkGhosts, Standard, [], bytes_eq, codes, covering_by, decimal, false, if◌then◌else◌, name_bytes, unwrap_or, ℕ, ◌++◌, ◌<◌, ◌==◌, ◌∷◌, ◌≡◌, ◌⊎◌}
-use Rattle.acgrep.specs.declared.folders.Folders.{Ghosts as FolderGhosts}
-use Rattle.acgrep.specs.declared.marked_files.Marking.{Marking}
-use Rattle.acgrep.specs.declared.open.Open.{Ghosts as Openers}
+use Rattle.acgrep.specs.Types.{Flags, FolderGhosts, Job, Marking, Openers, Screen}
 use Rattle.secret_rules.specs.Rules.{AreSound}
 use Rattle.secret_rules.specs.Tables.{TellsRules}
 use Rattle.acgrep.specs.Arguments.{Said}
@@ -10,9 +8,6 @@ use Rattle.acgrep.specs.Folders.{Known, known_by}
 use Rattle.acgrep.specs.MarkedFiles.{AreMarkedOr, AreMarksBegun, IfMarks}
 use Rattle.acgrep.specs.Rules.{RuleSaid}
 use Rattle.acgrep.specs.Runs.{After, AfterRules, IsTextOf, Reached, ReachesAll, status_told}
-use Rattle.acgrep.specs.declared.colors.Screen.{Screen}
-use Rattle.acgrep.specs.declared.options.Flags.{Flags}
-use Rattle.acgrep.specs.declared.select.Job.{Job}
 
 -- the name that stands for the rules of the program
 abbrev pub is_own : List ℕ → Bool

@@ -2,7 +2,7 @@
 use Rattle.acgrep.specs.Words.{IsBuiltFrom, Patterns, Searcher}
 use Rattle.acgrep.specs.Arguments.{ending_by}
 use Rattle.acgrep.specs.Selected.{ForLines}
-use Rattle.acgrep.specs.declared.options.Flags.{Flags}
+use Rattle.acgrep.specs.Types.{Flags}
 
 -- what holds of its patterns where none holds the byte that ends a line
 abbrev pub ForSearcher : Searcher → Flags → (Patterns → Type 0) → Type 0

@@ -10,15 +10,8 @@ use Rattle.acgrep.specs.Folders.{Known, Tree}
 use Rattle.acgrep.specs.Formats.{unknown_in}
 use Rattle.acgrep.specs.Rules.{RuleSaid, is_from_file}
 use Rattle.acgrep.specs.Runs.{AfterRules, AreReached, IsByPatterns, names_by, origins_of, sources_by}
-use Rattle.acgrep.specs.declared.arguments.Source.{Source}
+use Rattle.acgrep.specs.Types.{After, Around, Before, BinaryFiles, Devices, Excluded, ExcludedFolder, ExcludedFrom, FirstLine, Folders, Format, Included, Kind, Label, LineLimit, MaxCount, NoArgument, NoNumber, NoPattern, NotFound, Nothing, Offset, Outcome, PatternFile, Regexp, RuleFile, Searched, Separator, Shown, Source, Stopped, TakesNone, UnknownBinary, UnknownColor, UnknownDevices, UnknownField, UnknownFolders, UnknownKind, UnknownLetter, Unread, Valued}
 use Rattle.acgrep.specs.declared.arguments.Wrong.{Wrong}
-use Rattle.acgrep.specs.declared.arguments.Wrong.TheVariants.{NoPattern, UnknownLetter, NotFound, NoArgument, TakesNone, UnknownKind, UnknownColor, UnknownFolders, UnknownDevices, UnknownBinary, UnknownField, NoNumber}
-use Rattle.acgrep.specs.declared.files.Outcome.{Outcome}
-use Rattle.acgrep.specs.declared.files.Outcome.TheVariants.{Searched, Unread, Stopped}
-use Rattle.acgrep.specs.declared.long.Valued.{Valued}
-use Rattle.acgrep.specs.declared.long.Valued.TheVariants.{Regexp, PatternFile, Kind, Offset, FirstLine, MaxCount, After, Before, Around, Separator, Label, Format, Included, Excluded, ExcludedFrom, ExcludedFolder, Folders, Devices, BinaryFiles, RuleFile, LineLimit}
-use Rattle.acgrep.specs.declared.options.Shown.{Shown}
-use Rattle.acgrep.specs.declared.options.Shown.TheVariants.{Nothing}
 
 -- what a message may tell of beside a file
 abbrev pub others_told : List (List ℕ)

@@ -6,7 +6,7 @@ use Rattle.rule_files.specs.declared.flaw.BadRule.{BadRule}
 use Rattle.acgrep.specs.Arguments.{Said}
 use Rattle.acgrep.specs.RunsByRules.{unwritten_line}
 use Rattle.acgrep.specs.Told.{IsMessage, TellsStatus}
-use Rattle.acgrep.specs.declared.options.Shown.TheVariants.{Nothing}
+use Rattle.acgrep.specs.Types.{Nothing}
 
 -- a line that tells of rules: why a file gives none, why one cannot be used, or all together, or how many lines are too long
 abbrev pub IsRuleLine : List ℕ → Type 0

@@ -4,14 +4,7 @@ use Rattle.acgrep.specs.Alone.{AreShownOf, IsAloneFrom, asks_alone}
 use Rattle.acgrep.specs.Lines.{EndsLine, lines}
 use Rattle.acgrep.specs.Objects.{objects_by}
 use Rattle.acgrep.specs.Printed.{colored_line_by, line_by, matches_by}
-use Rattle.acgrep.specs.declared.options.Fit.{Fit}
-use Rattle.acgrep.specs.declared.options.Fit.TheVariants.{AnyPart, WholeWord, WholeLine}
-use Rattle.acgrep.specs.declared.options.Shown.{Shown}
-use Rattle.acgrep.specs.declared.options.Shown.TheVariants.{Lines, Matches, Objects, Count, Names, Lacking, Nothing}
-use Rattle.acgrep.specs.declared.print.Place.{Place}
-use Rattle.acgrep.specs.declared.print.Style.{Style}
-use Rattle.acgrep.specs.declared.select.Job.{Job}
-use Rattle.acgrep.specs.declared.select.State.{State}
+use Rattle.acgrep.specs.Types.{AnyPart, Count, Fit, Job, Lacking, Lines, Matches, Names, Nothing, Objects, Place, Shown, State, Style, WholeLine, WholeWord}
 
 -- a pattern occurs in a line
 abbrev pub HasMatch : Patterns → List ℕ → Type 0
