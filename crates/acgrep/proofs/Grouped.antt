@@ -217,6 +217,17 @@ module _ (p : Patterns) (job : Job) (context : Context) where
 abbrev pub walk : Place → (selected due : ℕ) → (some apart : Bool) → Place → List (List ℕ) → Walk
 walk place selected due some apart first held = record { place = place; selected = selected; due = due; some = some; apart = apart; first = first; held = held }
 
+-- two walks are the same where their parts are
+pub walk_same : (a b : Walk) → a.place ≡ b.place → a.selected ≡ b.selected → a.due ≡ b.due → a.some ≡ b.some → a.apart ≡ b.apart → a.first ≡ b.first → a.held ≡ b.held → a ≡ b
+walk_same a b place selected due some apart first held =
+    ap (λ (at : Place). walk at a.selected a.due a.some a.apart a.first a.held) place
+    ∙ ap (λ (n : ℕ). walk b.place n a.due a.some a.apart a.first a.held) selected
+    ∙ ap (λ (n : ℕ). walk b.place b.selected n a.some a.apart a.first a.held) due
+    ∙ ap (λ (t : Bool). walk b.place b.selected b.due t a.apart a.first a.held) some
+    ∙ ap (λ (t : Bool). walk b.place b.selected b.due b.some t a.first a.held) apart
+    ∙ ap (λ (at : Place). walk b.place b.selected b.due b.some b.apart at a.held) first
+    ∙ ap (λ (h : List (List ℕ)). walk b.place b.selected b.due b.some b.apart b.first h) held
+
 -- what a walk keeps: held lines stand before its place, and none is held while some are due
 pub record IsKept (context : Context) (w : Walk) : Type 0 where
   pub within : length w.held ≤ context.before
@@ -232,16 +243,6 @@ pub record Grouped (p : Patterns) (job : Job) (context : Context) (w : Walk) (ls
   pub are_chosen : AreChosen p job w.selected ls chosen total
   pub are_written : AreWrittenFrom context w.due (marks false w.held ++ chosen) written
   pub tells : TellsWritten p job context (first_in w.place w.first w.held) w.some w.apart (w.held ++ ls) (marks false w.held ++ chosen) written bytes
-
--- at the begin of a file
-kept_begin : (context : Context) (place : Place) (selected : ℕ) (some apart : Bool) (first : Place) → IsKept context (walk place selected 0 some apart first [])
-kept_begin context place selected some apart first = record {
-  within = omega arith;
-  most = omega arith;
-  none = λ due. absurd (omega (arith, due));
-  joined = λ due. absurd (omega (arith, due));
-  placed = refl;
-}
 
 -- behind a selected line
 kept_chosen : (context : Context) (place : Place) (selected : ℕ) (first : Place) → IsKept context (walk place selected context.after true false first [])
@@ -504,16 +505,8 @@ module _ (p : Patterns) (job : Job) (context : Context) where
   pub told_around : (ls : List (List ℕ)) (w w' : Walk) (bytes : List ℕ) → w.place ≡ job.first → w.selected ≡ 0 → w.due ≡ 0 → w.some ≡ job.follows → w.apart ≡ true → w.held ≡ []
       → WalksOver p job context w ls bytes w' → TellsAround p job context ls bytes w'.selected
   told_around ls w w' bytes place selected due some apart held walks =
-      let begin = walk job.first 0 0 job.follows true w.first [] in
-      let same : w ≡ begin =
-      ap (λ (at : Place). walk at w.selected w.due w.some w.apart w.first w.held) place
-      ∙ ap (λ (n : ℕ). walk job.first n w.due w.some w.apart w.first w.held) selected
-      ∙ ap (λ (n : ℕ). walk job.first 0 n w.some w.apart w.first w.held) due
-      ∙ ap (λ (b : Bool). walk job.first 0 0 b w.apart w.first w.held) some
-      ∙ ap (λ (b : Bool). walk job.first 0 0 job.follows b w.first w.held) apart
-      ∙ ap (λ (h : List (List ℕ)). walk job.first 0 0 job.follows true w.first h) held in
-      let all = grouped ls job.first 0 0 job.follows true w.first [] w' bytes (kept_begin context job.first 0 job.follows true w.first)
-      (subst (λ (v : Walk). WalksOver p job context v ls bytes w') same walks) in
+      let same = walk_same w (walk job.first 0 0 job.follows true w.first []) place selected due some apart refl held in
+      let all = grouped ls job.first 0 0 job.follows true w.first [] w' bytes (kept_over job.first 0 0 job.follows true w.first refl) (subst (λ (v : Walk). WalksOver p job context v ls bytes w') same walks) in
       record {
         chosen = all.chosen;
         written = all.written;

@@ -2,19 +2,8 @@
 use Rattle.acgrep.proofs.Words.{Appends, Appends-nil, Appends-trans, AppendsBeginning, Bool, Context, IsChosenBy, IsNotChosen, Job, List, Option, PassesBy, Patterns, Place, ShowsEach, ShowsGroup, ShowsLine, Steps, Walk, WalksBegun, WalksSome, WritesLine, [], after_line, ap, append_assoc, behind_chosen, behind_due, behind_passed, beside, false, inl, inr, lines, lt-ltb, nat_lt, refl, separator_if, subst, sym, true, ℕ, ◌&&◌, ◌++◌, ◌<◌, ◌∙◌, ◌∷◌, ◌≡◌}
 use Rattle.acgrep.specs.Contexts.{WalksLines}
 use Rattle.acgrep.proofs.Begun.{begins_more, begins_some}
-use Rattle.acgrep.proofs.Grouped.{walk}
+pub use Rattle.acgrep.proofs.Grouped.{walk_same}
 use Rattle.acgrep.proofs.Walked.{begun_behind, lines_join, lines_none, walks_one}
-
--- two walks are the same where their parts are
-pub walk_same : (a b : Walk) → a.place ≡ b.place → a.selected ≡ b.selected → a.due ≡ b.due → a.some ≡ b.some → a.apart ≡ b.apart → a.first ≡ b.first → a.held ≡ b.held → a ≡ b
-walk_same a b place selected due some apart first held =
-    ap (λ (at : Place). walk at a.selected a.due a.some a.apart a.first a.held) place
-    ∙ ap (λ (n : ℕ). walk b.place n a.due a.some a.apart a.first a.held) selected
-    ∙ ap (λ (n : ℕ). walk b.place b.selected n a.some a.apart a.first a.held) due
-    ∙ ap (λ (t : Bool). walk b.place b.selected b.due t a.apart a.first a.held) some
-    ∙ ap (λ (t : Bool). walk b.place b.selected b.due b.some t a.first a.held) apart
-    ∙ ap (λ (at : Place). walk b.place b.selected b.due b.some b.apart at a.held) first
-    ∙ ap (λ (h : List (List ℕ)). walk b.place b.selected b.due b.some b.apart b.first h) held
 
 module _ (p : Patterns) (job : Job) where
   module _ (context : Context) where
