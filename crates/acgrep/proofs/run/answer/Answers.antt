@@ -1,9 +1,34 @@
 -- A text is written, or a search is made, and its status told.
-use Rattle.acgrep.proofs.Words.{IsMarkTold, Keeps-refl, MaySaid, MayTell, Nothing, Some, TellsBytes, TellsOfCall, TellsStatus, arith, inl, known_by, names_said, refl, said, shown_by, subst, sym, true≢false, unfit_said, ℕ, ◌<◌, ◌∙◌}
+use Rattle.acgrep.proofs.Words.{Bool, Errors, IsMarkTold, Keeps-refl, List, MaySaid, MayTell, Nothing, Shown, SinkGhosts, Some, TellsBytes, TellsOfCall, TellsStatus, arith, cases_Bool, false, inl, inr, known_by, names_said, nat_eq, refl, said, shown_by, status_told, subst, sym, true, true≢false, unfit_said, ℕ, ◌<◌, ◌∙◌, ◌≡◌}
 use Rattle.acgrep.proofs.Unfitting.{some_all, some_unfit, unfit_fits}
-use Rattle.acgrep.proofs.Statuses.{told-low, told-status}
 use Rattle.acgrep.proofs.Told.{status-weaker}
+use Rattle.std.proofs.Common.{eqb-true}
 use Rattle.acgrep.proofs.run.answer.Goals as goal
+
+-- an error stays one
+told-low : (ok : Bool) (status : ℕ) → status_told ok status < 2 → status < 2
+told-low false status low = low
+told-low true status low = elim (cases_Bool (nat_eq status 1)) [
+  | inl one ↦ omega (arith, eqb-true status 1 one)
+  | inr not ↦ rw not at low
+]
+
+-- and none becomes one
+told-two : (ok : Bool) (status : ℕ) → status_told ok status ≡ 2 → status ≡ 2
+told-two false status two = two
+told-two true status two = elim (cases_Bool (nat_eq status 1)) [
+  | inl one ↦ let none = rw one at two in absurd (omega (arith, none))
+  | inr not ↦ rw not at two
+]
+
+-- so what is told is as it was
+told-status : {E : Type 0} (K : SinkGhosts E) (P : List ℕ → Type 0) (hushed : Bool) (shown : Shown) (ok : Bool) (status : ℕ) (old new : Errors E)
+    → TellsStatus K P hushed shown status old new → TellsStatus K P hushed shown (status_told ok status) old new
+told-status K P hushed shown ok status old new told = record {
+  tells = told.tells;
+  silent = λ low loud. told.silent (told-low ok status low) loud;
+  some = λ asked two. told.some asked (told-two ok status two);
+}
 
 pub returns-then-given-clause-told : goal.returns-then-given-clause-told
 returns-then-given-clause-told g c = λ by.

@@ -1,11 +1,27 @@
 -- What was said was done, and a flush keeps what was written.
-use Rattle.acgrep.proofs.Words.{AsksAny, AsksByRules, AsksToSearch, BeginsByRules, BeginsSearch, Errors, GivesNone, IfSome, IsByPatterns, IsMarkTold, List, MaySaid, MayTell, NoMemory, None, Nothing, Option, Said, Searches, SearchesByRules, Some, Tells, TellsBytes, TellsLacking, TellsMistake, TellsNoPattern, TellsSome, TellsStatus, TellsUnfit, [], ap, arith, false, inl, inr, is_hushed, known_by, listed_bytes, memory_line, names_said, reason_text, refl, said, said_by, shown_by, some-tells, some-weaker, subst, sym, unfit_said, ℕ, ◌<◌, ◌||◌, ◌∙◌, ◌≡◌, ◌≤◌}
+use Rattle.acgrep.proofs.Words.{AreRefused, AsksAny, AsksByRules, AsksToSearch, BeginsByRules, BeginsSearch, Errors, GivesNone, IfSome, IsByPatterns, IsFirstMistake, IsMarkTold, List, MaySaid, MayTell, NoMemory, None, Nothing, Option, OutOfMemory, Refusal, Said, Searches, SearchesByRules, SinkGhosts, Some, Tells, TellsBytes, TellsLacking, TellsMistake, TellsNoPattern, TellsRefused, TellsSome, TellsStatus, TellsUnfit, Wrong, [], ap, arith, false, inl, inr, is_hushed, known_by, listed_bytes, memory_line, names_said, reason_text, refl, said, said_by, shown_by, some-tells, some-weaker, subst, sym, unfit_said, wrong_parts, ℕ, ◌<◌, ◌||◌, ◌∙◌, ◌≡◌, ◌≤◌}
 use Rattle.acgrep.proofs.Kept.{begun_by_rules, by_rules_kept, ruled_kept, said_alone, search_held}
 use Rattle.acgrep.proofs.MarksTold.{some-told}
-use Rattle.acgrep.proofs.Mistaken.{mistake-told, refused-lacking, refused-memory}
 use Rattle.acgrep.proofs.Told.{finished, not-quiet, tells-cause, told-said}
 use Rattle.acgrep.proofs.Unfitting.{each_all, some_all, some_both, some_more}
 use Rattle.acgrep.proofs.run.run.Goals as goal
+
+mistake-told : {E : Type 0} (K : SinkGhosts E) (arguments : List (List ℕ)) (refusal : Refusal) (old new : Errors E) → IsFirstMistake arguments refusal → TellsRefused K refusal old new
+    → TellsMistake K arguments old new
+mistake-told K arguments (Wrong wrong) old new is told = inr (wrong_parts wrong, is, told)
+mistake-told K arguments OutOfMemory old new is told = inl told
+
+-- right arguments are refused only where memory ran out
+refused-lacking : {E : Type 0} (K : SinkGhosts E) (told : Option Said) (given : Said) (refusal : Refusal) (old new : Errors E) → told ≡ Some given → AreRefused told refusal
+    → TellsRefused K refusal old new → TellsLacking K old new
+refused-lacking K told given (Wrong wrong) old new is refused exact = absurd (cc)
+refused-lacking K told given OutOfMemory old new is refused exact = inl exact
+
+-- so it is this that is told
+refused-memory : {E : Type 0} (K : SinkGhosts E) (told : Option Said) (given : Said) (refusal : Refusal) (old new : Errors E) → told ≡ Some given → AreRefused told refusal
+    → TellsRefused K refusal old new → TellsBytes K old new memory_line
+refused-memory K told given (Wrong wrong) old new is refused exact = absurd (cc)
+refused-memory K told given OutOfMemory old new is refused exact = exact
 
 pub returns-in-Ok : goal.returns-in-Ok
 returns-in-Ok g c =

@@ -1,11 +1,64 @@
 -- The searcher was built from the lines that were read.
-use Rattle.acgrep.proofs.Words.{AreSought, BeginsNoMatch, BeginsOrKeeps, Errors, IsBuiltFrom, Keeps-refl, List, MaySay, SearchesReached, TellsStatus, WritesNoMatch, and_parts, ap, arith, false, fit_by, inl, inr, inverts, kind_sought, known_by, knows_none, lines, name_bytes, origins_of, patterns_by_kind, pieces_of, refl, said, shown_by, source_names, subst, sym, tree_of, true, words_sought, ℕ, ◌∙◌, ◌≡◌}
+use Rattle.acgrep.proofs.Words.{AnyPart, AreFreeOf, AreSought, BeginsNoMatch, BeginsOrKeeps, Bool, Errors, Fit, Flags, HasMatch, HoldNoEnding, IsBuiltFrom, IsPassedOver, IsSameWord, Keeps-refl, List, MatchKind, MaySay, Patterns, SearchesReached, TellsStatus, WholeLine, WholeWord, WritesNoMatch, [], and_parts, ap, arith, drop, ending_by, eq-eqb, false, fit_by, folded_by, if◌then◌else◌, inl, inr, inverts, kind_sought, known_by, knows_none, leb-true, length, lines, name_bytes, nat_le, origins_of, pattern_at, patterns_by_kind, pieces_of, refl, said, selects_none, shown_by, slice_index_or, slice_range, source_names, subst, sym, tree_of, true, words_sought, ℕ, ◌&&◌, ◌+◌, ◌<◌, ◌∙◌, ◌∷◌, ◌≡◌}
 use Rattle.acgrep.proofs.OrCounted.{counts-of, no-match, no-match-begins, none-told}
-use Rattle.acgrep.proofs.PlainWords.{free_plain}
 use Rattle.acgrep.proofs.Reaching.{may-behind, some-sources, sources-told}
 use Rattle.acgrep.proofs.Told.{status-weaker}
-use Rattle.acgrep.proofs.Unselected.{none_selected}
+use Rattle.acgrep.proofs.LineLists.{take_zero}
+use Rattle.acgrep.proofs.Tellings.{none_matches}
 use Rattle.acgrep.proofs.run.search.Goals as goal
+
+-- an empty pattern occurs in each line
+empty_matches : (p : Patterns) (words : List (List ℕ)) → p.words ≡ [] ∷ words → (line : List ℕ) → HasMatch p line
+empty_matches p words are line =
+    let empty : pattern_at p 0 ≡ [] = ap (λ (l : List (List ℕ)). slice_index_or l 0 []) are in
+    let none : slice_range line 0 0 ≡ [] = take_zero (drop 0 line) in
+    let same : IsSameWord p (pattern_at p 0) (slice_range line 0 0) =
+    subst (λ (word : List ℕ). IsSameWord p word (slice_range line 0 0)) (sym empty) (subst (IsSameWord p []) (sym none) refl) in (
+      record { pattern = 0; start = 0; end = 0 },
+      record {
+        numbered = omega (arith, ap length are);
+        after_start = omega arith;
+        before_end = omega arith;
+        sized = omega (arith, ap length empty);
+        same = same;
+        admitted = λ e. cc;
+      },
+    )
+
+-- where no line is selected each is passed over
+none_selected : (p : Patterns) (fit : Fit) (invert : Bool) (words : List (List ℕ)) → p.words ≡ words → selects_none fit invert words ≡ true → (line : List ℕ) → IsPassedOver p fit invert line
+none_selected p fit false [] are is line = none_matches p fit line (λ m occurs. absurd (omega (arith, occurs.numbered, ap length are)))
+none_selected p fit false (word ∷ words) are is line = absurd (cc)
+none_selected p fit true [] are is line = absurd (cc)
+none_selected p WholeWord true (word ∷ words) are is line = absurd (cc)
+none_selected p WholeLine true (word ∷ words) are is line = absurd (cc)
+none_selected p AnyPart true ([] ∷ words) are is line = empty_matches p words are line
+none_selected p AnyPart true ((byte ∷ bytes) ∷ words) are is line = absurd (cc)
+
+raised_low : (upper : Bool) (byte low : ℕ) → (nat_le 65 byte && nat_le byte 90) ≡ upper → low < 65 → (if upper then byte + 32 else byte) ≡ low → byte ≡ low
+raised_low true byte low upper less is = absurd (omega (arith, less, is, leb-true 65 byte (and_parts (nat_le 65 byte) (nat_le byte 90) upper).0))
+raised_low false byte low upper less is = is
+
+-- by the case rule a byte below the letters is the same as no other byte
+fold_low : (ignore_case : Bool) (byte low : ℕ) → low < 65 → folded_by ignore_case byte ≡ low → byte ≡ low
+fold_low false byte low less is = is
+fold_low true byte low less is = raised_low (nat_le 65 byte && nat_le byte 90) byte low refl less is
+
+fold_zero : (ignore_case : Bool) → folded_by ignore_case 0 ≡ 0
+fold_zero true = refl
+fold_zero false = refl
+
+fold_newline : (ignore_case : Bool) → folded_by ignore_case 10 ≡ 10
+fold_newline true = refl
+fold_newline false = refl
+
+fold_ending : (null_data ignore_case : Bool) (byte : ℕ) → folded_by ignore_case byte ≡ folded_by ignore_case (if null_data then 0 else 10) → byte ≡ (if null_data then 0 else 10)
+fold_ending true ignore_case byte same = fold_low ignore_case byte 0 (omega arith) (same ∙ fold_zero ignore_case)
+fold_ending false ignore_case byte same = fold_low ignore_case byte 10 (omega arith) (same ∙ fold_newline ignore_case)
+
+free_plain : (flags : Flags) (kind : MatchKind) (ignore_case : Bool) (words : List (List ℕ)) → AreFreeOf (ending_by flags) words → HoldNoEnding (ending_by flags) (patterns_by_kind kind ignore_case words)
+free_plain flags kind ignore_case words free number place low within = λ same.
+    free number low place (omega arith) within (eq-eqb _ _ (fold_ending flags.null_data ignore_case _ same))
 
 pub search_or_count-requires : goal.search_or_count-requires
 search_or_count-requires g c =

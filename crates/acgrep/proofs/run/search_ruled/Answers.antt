@@ -1,9 +1,23 @@
 -- The rules in files were read, and what was said was done by them.
-use Rattle.acgrep.proofs.Words.{AreRules, BeginsSaid, Errors, IsMessage, Keeps-refl, List, MaySaid, MaySay, NoPattern, RuleSaid, Said, SearchesSaid, Some, TellsOfSaid, TellsSome, TellsStatus, ap, concat, inl, inr, known_by, listed_bytes, names_by, names_said, refl, rule_files, ruled, rules_said, said, shown_by, some-one, some-weaker, sources_by, subst, wrong_parts, ◌≡◌}
-use Rattle.acgrep.proofs.RuledCalls.{may-ruled, may-rules}
+use Rattle.acgrep.proofs.Words.{AreRules, BeginsSaid, Errors, IsMessage, Keeps-refl, Known, List, MaySaid, MaySay, NoPattern, Option, RuleSaid, Said, SearchesSaid, Some, TellsOfSaid, TellsSome, TellsStatus, ap, concat, inl, inr, known_by, listed_bytes, names_by, names_said, names_told, refl, rule_files, ruled, rules_said, said, shown_by, some-one, some-weaker, sources_by, subst, wrong_parts, ℕ, ◌≡◌}
 use Rattle.acgrep.proofs.RuleTexts.{rules_read}
-use Rattle.acgrep.proofs.Told.{status-some, status-weaker}
+use Rattle.acgrep.proofs.Told.{status-some, status-weaker, among-first, among-later, message-more}
 use Rattle.acgrep.proofs.run.search_ruled.Goals as goal
+
+-- that a file of rules cannot be read
+may-rules : (known : Known) (left : Option (List ℕ)) (given : Said) (line : List ℕ) → IsMessage (rule_files given.rules) line → MaySaid known left (Some given) line
+may-rules known left given line is =
+    let others = names_told given.flags.no_messages given.label (sources_by given.sources given.operands) (names_by given.sources given.operands) in
+    inl (inl (message-more (rule_files given.rules) (names_said (Some given)) (λ name among. among-first name (rule_files given.rules) others among) line is))
+
+-- what is told by rules that were read
+may-ruled : (known : Known) (left between : Option (List ℕ)) (given : Said) (rules : List RuleSaid) → AreRules known.holds given.rules left between rules → (line : List ℕ)
+    → MaySay known.tree (ruled given rules) (sources_by given.sources given.operands) (names_by given.sources given.operands) line → MaySaid known left (Some given) line
+may-ruled known left between given rules read line (inl (inl message)) =
+    let others = names_told given.flags.no_messages given.label (sources_by given.sources given.operands) (names_by given.sources given.operands) in
+    inl (inl (message-more others (names_said (Some given)) (λ name among. among-later name (rule_files given.rules) others among) line message))
+may-ruled known left between given rules read line (inl (inr usage)) = inl (inr usage)
+may-ruled known left between given rules read line (inr named) = inr (record { what = rules; between = between; read = read; does = named })
 
 pub returns-then-gives_none-clause-begins : goal.returns-then-gives_none-clause-begins
 returns-then-gives_none-clause-begins g c = inl (Keeps-refl (g.W.Sink.taken c.args.output.now))
