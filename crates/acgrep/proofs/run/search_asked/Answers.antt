@@ -27,17 +27,17 @@ all-given g c = rw (← c.as_slice-sources.ensures.value) (grind (arith, common_
 
 pub returns-then-not-is_empty-clause-begins : goal.returns-then-not-is_empty-clause-begins
 returns-then-not-is_empty-clause-begins g c =
-    let all = sources_all _ (name_bytes c.args.given.now.operands.items) (all-given g (goal.at.returns-then-not-is_empty-clause-begins g c).After-search) in
+    let all = sources_all c.args.given.now.sources.items (name_bytes c.args.given.now.operands.items) (all-given g (goal.at.returns-then-not-is_empty-clause-begins g c).After-search) in
     rw (all.0, all.1) (rw (c.as_slice-sources.ensures.value, c.as_slice-operands.ensures.value) at c.search.ensures.begins)
 
 pub returns-then-not-is_empty-clause-searches : goal.returns-then-not-is_empty-clause-searches
 returns-then-not-is_empty-clause-searches g c = λ low.
-    let all = sources_all _ (name_bytes c.args.given.now.operands.items) (all-given g (goal.at.returns-then-not-is_empty-clause-searches g c).After-search) in
+    let all = sources_all c.args.given.now.sources.items (name_bytes c.args.given.now.operands.items) (all-given g (goal.at.returns-then-not-is_empty-clause-searches g c).After-search) in
     rw (all.0, all.1) (rw (c.as_slice-sources.ensures.value, c.as_slice-operands.ensures.value) at c.search.ensures.searches low)
 
 pub returns-then-not-is_empty-clause-told : goal.returns-then-not-is_empty-clause-told
 returns-then-not-is_empty-clause-told g c =
-    let all = sources_all _ (name_bytes c.args.given.now.operands.items) (all-given g (goal.at.returns-then-not-is_empty-clause-told g c).After-search) in
+    let all = sources_all c.args.given.now.sources.items (name_bytes c.args.given.now.operands.items) (all-given g (goal.at.returns-then-not-is_empty-clause-told g c).After-search) in
     rw (all.0, all.1) (rw (c.as_slice-sources.ensures.value, c.as_slice-operands.ensures.value) at c.search.ensures.told)
 
 -- where none does the first operand gives them
