@@ -71,13 +71,22 @@ module _ {W : Type 0} (sinks : SinkGhosts W) (searcher : Searcher) (job : Job) (
   SearchesSomeBy text result =
       ForLines job.style.ending (IsBuiltFrom searcher) (λ p. IfOk result (λ left. SearchesTo p job before after (sinks.taken old) (sinks.taken new) text left.now))
 
-  -- of some lines, for patterns of which that holds
-  abbrev pub TellsWhere : {T E : Type 0} → (Patterns → Type 0) → List (List ℕ) → Result T E → Type 0
-  TellsWhere Holds ls result = (p : Patterns) → IsBuiltFrom searcher p → Holds p → OnOk result (TellsLines p job before after (sinks.taken old) (sinks.taken new) ls)
+  -- of a line of which that holds
+  abbrev pub TellsWhere : {T E : Type 0} → (Patterns → List ℕ → Type 0) → List ℕ → Result T E → Type 0
+  TellsWhere Holds line result = (p : Patterns) → IsBuiltFrom searcher p → Holds p line → OnOk result (TellsLines p job before after (sinks.taken old) (sinks.taken new) (line ∷ []))
 
-  abbrev pub BeginsWhere : {T E : Type 0} → (Patterns → Type 0) → List (List ℕ) → Result T E → Type 0
-  BeginsWhere Holds ls result =
-      (p : Patterns) → IsBuiltFrom searcher p → Holds p → OnErr result (BeginsLines p job before after.selected (sinks.taken old) (sinks.taken new) ls)
+  abbrev pub BeginsWhere : {T E : Type 0} → (Patterns → List ℕ → Type 0) → List ℕ → Result T E → Type 0
+  BeginsWhere Holds line result =
+      (p : Patterns) → IsBuiltFrom searcher p → Holds p line → OnErr result (BeginsLines p job before after.selected (sinks.taken old) (sinks.taken new) (line ∷ []))
+
+  -- of lines without a match
+  abbrev pub TellsOthersBy : {T E : Type 0} → List ℕ → Result T E → Type 0
+  TellsOthersBy text result = (p : Patterns) → IsBuiltFrom searcher p → EachLine (HasNone p) (lines job.style.ending text)
+      → OnOk result (TellsLines p job before after (sinks.taken old) (sinks.taken new) (lines job.style.ending text))
+
+  abbrev pub BeginsOthersBy : {T E : Type 0} → List ℕ → Result T E → Type 0
+  BeginsOthersBy text result = (p : Patterns) → IsBuiltFrom searcher p → EachLine (HasNone p) (lines job.style.ending text)
+      → OnErr result (BeginsLines p job before after.selected (sinks.taken old) (sinks.taken new) (lines job.style.ending text))
 
 -- a file was searched, or a beginning of what is asked of it is written
 module _ {W : Type 0} (sinks : SinkGhosts W) (searcher : Searcher) (job : Job) (known : Option (List ℕ)) (old new : W) (outcome : Outcome) where

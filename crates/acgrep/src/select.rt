@@ -1,15 +1,15 @@
 //! Which lines of a text are selected, and what is written of them.
 
-ghost use Rattle.std.specs.Prelude.{◌≡◌, ◌==◌, ◌+◌, ◌%◌, ◌^◌, ◌↔◌, ◌⊎◌, ◌&&◌, ◌≤◌, ◌<◌, ◌∷◌, [], IfOk, IfSome, IsTrue, OnOk, false, true, not, length};
+ghost use Rattle.std.specs.Prelude.{◌≡◌, ◌==◌, ◌+◌, ◌%◌, ◌^◌, ◌↔◌, ◌⊎◌, ◌&&◌, ◌≤◌, ◌<◌, [], IfOk, IfSome, IsTrue, OnOk, false, true, not, length};
 ghost use Rattle.memchr.specs.Find.{is_byte, places};
 ghost use Rattle.aho_core.specs.Patterns.{Patterns};
 ghost use Rattle.aho_core.specs.declared.search.MatchKind.TheVariants.{LeftmostLongest};
 ghost use Rattle.chromesquid.specs.Searcher.{IsBuiltFrom, IsBuiltFromSome};
 ghost use Rattle.acgrep.specs.Alone.{asks_alone};
 ghost use Rattle.acgrep.specs.declared.options.Fit.TheVariants.{AnyPart, WholeLine};
-ghost use Rattle.acgrep.specs.Searched.{BeginsPlainBy, BeginsTextBy, BeginsWhere, SearchesPlainBy, SearchesSomeBy, SearchesTextBy, TellsWhere, WritesLineBy, WritesNextBy};
+ghost use Rattle.acgrep.specs.Searched.{BeginsOthersBy, BeginsPlainBy, BeginsTextBy, BeginsWhere, SearchesPlainBy, SearchesSomeBy, SearchesTextBy, TellsOthersBy, TellsWhere, WritesLineBy, WritesNextBy};
 ghost use Rattle.acgrep.specs.Selected.{EndsBy, FindsNone, ForJob, ForLines, IsLine, IsNextLine, IsNoneSelected, lines_by};
-ghost use Rattle.acgrep.specs.Written.{EachLine, HasMatch, HasNone, IsMatched, IsSelected, NumbersLines, IsSettled, SamePlace, after_line, after_lines, is_full, is_numbered, needs_one, next_count, place_behind, selects};
+ghost use Rattle.acgrep.specs.Written.{HasMatch, IsMatched, IsSelected, NumbersLines, IsSettled, SamePlace, after_line, after_lines, is_full, is_numbered, needs_one, next_count, place_behind, selects};
 
 use crate::alone::has_alone;
 use crate::context::search_around;
@@ -343,9 +343,9 @@ fn pass_matched<W: Sink>(
         → OnOk result (0 < state.new.selected) }
     ensures placed { OnOk result (state.new.place ≡ after_line state.old.place line.now) }
     ensures written { TellsWhere W.Sink searcher.now job.now
-        state.old state.new output.old output.new (λ p. HasMatch p line.now) (line.now ∷ []) result }
+        state.old state.new output.old output.new HasMatch line.now result }
     ensures begun { BeginsWhere W.Sink searcher.now job.now
-        state.old state.new output.old output.new (λ p. HasMatch p line.now) (line.now ∷ []) result }
+        state.old state.new output.old output.new HasMatch line.now result }
 {
     let matched = is_match(searcher, job, line)?;
     pass_line(searcher, job, matched, line, state, page, output)
@@ -411,9 +411,9 @@ fn pass_line<W: Sink>(
         → OnOk result (0 < state.new.selected) }
     ensures placed { OnOk result (state.new.place ≡ after_line state.old.place line.now) }
     ensures written { TellsWhere W.Sink searcher.now job.now
-        state.old state.new output.old output.new (λ p. IsMatched p job.now.fit line.now matched) (line.now ∷ []) result }
+        state.old state.new output.old output.new (λ p line. IsMatched p job.now.fit line matched) line.now result }
     ensures begun { BeginsWhere W.Sink searcher.now job.now
-        state.old state.new output.old output.new (λ p. IsMatched p job.now.fit line.now matched) (line.now ∷ []) result }
+        state.old state.new output.old output.new (λ p line. IsMatched p job.now.fit line matched) line.now result }
 {
     if job.selects(matched) {
         return pass_selected(searcher, job, line, state, page, output);
@@ -439,7 +439,7 @@ fn pass_selected<W: Sink>(
     ensures shown { WritesNextBy (IsBuiltFrom searcher.now) job.now state.old
         (W.taken output.old) (W.taken output.new) line.now result }
     ensures begun { BeginsWhere W.Sink searcher.now job.now
-        state.old state.new output.old output.new (λ p. IsSelected p job.now.fit job.now.invert line.now) (line.now ∷ []) result }
+        state.old state.new output.old output.new (λ p line. IsSelected p job.now.fit job.now.invert line) line.now result }
 {
     if job.is_full(state.selected) {
         state.place = behind_line(state.place, line);
@@ -467,10 +467,10 @@ fn pass_others<W: Sink>(
         → OnOk result (state.new.selected ≡ state.old.selected) }
     ensures placed { EndsBy job.now text.now → OnOk result
         (SamePlace job.now state.new.place (after_lines state.old.place (lines_by job.now text.now))) }
-    ensures written { TellsWhere W.Sink searcher.now job.now
-        state.old state.new output.old output.new (λ p. EachLine (HasNone p) (lines_by job.now text.now)) (lines_by job.now text.now) result }
-    ensures begun { BeginsWhere W.Sink searcher.now job.now
-        state.old state.new output.old output.new (λ p. EachLine (HasNone p) (lines_by job.now text.now)) (lines_by job.now text.now) result }
+    ensures written { TellsOthersBy W.Sink searcher.now job.now
+        state.old state.new output.old output.new text.now result }
+    ensures begun { BeginsOthersBy W.Sink searcher.now job.now
+        state.old state.new output.old output.new text.now result }
 {
     if job.invert {
         return pass_each(searcher, job, text, state, page, output);
@@ -491,10 +491,10 @@ fn pass_each<W: Sink>(
     requires of { IsBuiltFromSome searcher.now }
     requires inverted { job.now.invert ≡ true }
     ensures placed { OnOk result (state.new.place ≡ after_lines state.old.place (lines_by job.now text.now)) }
-    ensures written { TellsWhere W.Sink searcher.now job.now
-        state.old state.new output.old output.new (λ p. EachLine (HasNone p) (lines_by job.now text.now)) (lines_by job.now text.now) result }
-    ensures begun { BeginsWhere W.Sink searcher.now job.now
-        state.old state.new output.old output.new (λ p. EachLine (HasNone p) (lines_by job.now text.now)) (lines_by job.now text.now) result }
+    ensures written { TellsOthersBy W.Sink searcher.now job.now
+        state.old state.new output.old output.new text.now result }
+    ensures begun { BeginsOthersBy W.Sink searcher.now job.now
+        state.old state.new output.old output.new text.now result }
 {
     let mut rest = text;
     while !rest.is_empty() {
