@@ -1,6 +1,7 @@
 -- Lines up to the first that holds a zero byte, and those from it on.
-use Rattle.acgrep.proofs.Words.{Bool, EachLine, IsEnding, IsFirstBinary, IsZeroLine, List, Nowhere, Some, SomeLine, [], and_from, and_parts, and_right, ap, arith, binary_lines, cases_Bool, drop, eq-eqb, eqb-true, false, false_from_ne_true, if◌then◌else◌, inl, inr, is_text, joined_to, length, lines, not, not_from_false, refl, subst, suc, sym, take, take-append-drop, text_lines, true, true≢false, zero, ℕ, ◌++◌, ◌+◌, ◌-◌, ◌<◌, ◌==◌, ◌∙◌, ◌∷◌, ◌≡◌, ◌≤◌}
+use Rattle.acgrep.proofs.Words.{Bool, EachLine, IsEnding, IsFirstBinary, IsZeroLine, List, Nowhere, Some, SomeLine, [], and_from, and_parts, and_right, ap, append-nil, arith, binary_lines, cases_Bool, drop, eq-eqb, eqb-true, false, false_from_ne_true, if◌then◌else◌, inl, inr, is_text, joined_to, length, lines, not, not_from_false, refl, subst, suc, sym, take, take-append-drop, text_lines, true, true≢false, zero, ℕ, ◌++◌, ◌+◌, ◌-◌, ◌<◌, ◌==◌, ◌∙◌, ◌∷◌, ◌≡◌, ◌≤◌}
 use Rattle.std.proofs.Common.{take-take, length-drop}
+use Rattle.std.proofs.Math.Seq.{take-length}
 use Rattle.acgrep.proofs.Around.{behind_newline, front_newline, newline_behind}
 use Rattle.acgrep.proofs.FirstLines.{lines_joined}
 use Rattle.acgrep.proofs.LineLists.{drop_zero}
@@ -86,11 +87,7 @@ module _ (ending : ℕ) where
   zero_none bytes before front none =
       let back : is_text (take (length (drop before bytes)) (drop before bytes)) ≡ true = text_nowhere (drop before bytes) (length (drop before bytes)) (omega arith) none in
       subst (λ (l : List ℕ). is_text l ≡ true) (take-append-drop before bytes)
-      (text_joined (take before bytes) (drop before bytes) front (text_front (drop before bytes) [] (subst (λ (l : List ℕ). is_text l ≡ true) (whole (drop before bytes)) back)))
-    where
-      whole : (xs : List ℕ) → take (length xs) xs ≡ xs ++ []
-      whole [] = refl
-      whole (x ∷ xs) = ap (λ (l : List ℕ). x ∷ l) (whole xs)
+      (text_joined (take before bytes) (drop before bytes) front (text_front (drop before bytes) [] (subst (λ (l : List ℕ). is_text l ≡ true) (take-length (drop before bytes) ∙ sym (append-nil (drop before bytes))) back)))
 
   -- the first of them stands there, and its line begins behind the last that ends before it
   pub zero_some : (bytes : List ℕ) (before at start : ℕ) → before ≤ length bytes → at < length (drop before bytes) → is_text (take before bytes) ≡ true → IsEnding 0 (drop before bytes) at

@@ -1,5 +1,5 @@
 -- Digits among joined letters.
-use Rattle.acgrep.proofs.Words.{AreDigits, AreRefused, Around, IsTold, List, None, Option, OutOfMemory, ReadSoFar, Refusal, Said, Some, Wrong, [], ap, append-nil, append_assoc, arith, cases_Bool, digits_value_of, drop, eqb-true, false, if_none, inl, inr, is_ascii_digit, length, letter_by, letters_by, letters_from, number_by, number_parts, option_and_then, option_map, refl, said_so, suc, switch_by, switched, sym, take, true, valued_letter, valued_name, with_digits, with_number, wrong_digits, wrong_from_digits, wrong_letter, wrong_letters, zero, ℕ, ◌++◌, ◌<◌, ◌==◌, ◌∙◌, ◌∷◌, ◌≡◌, ◌≤◌}
+use Rattle.acgrep.proofs.Words.{AreDigits, AreRefused, Around, IsTold, List, None, Option, OutOfMemory, ReadSoFar, Refusal, Said, Some, Wrong, [], ap, append-nil, append_assoc, arith, cases_Bool, digits_value_of, drop, eqb-true, false, false_from_ne_true, if_none, inl, inr, is_ascii_digit, length, letter_by, letters_by, letters_from, number_by, number_parts, option_and_then, option_map, refl, said_so, suc, switch_by, switched, sym, take, true, valued_letter, valued_name, with_digits, with_number, wrong_digits, wrong_from_digits, wrong_letter, wrong_letters, zero, ℕ, ◌++◌, ◌<◌, ◌==◌, ◌∙◌, ◌∷◌, ◌≡◌, ◌≤◌}
 use Rattle.acgrep.specs.declared.options.Switch.{Switch}
 
 abbrev then_letters : List ℕ → Option Said → Option ReadSoFar
@@ -102,11 +102,7 @@ wrong_first letter rest digits =
     rw other refl
 
 not_equal : (a b : ℕ) → (a ≡ b → ⊥) → (a == b) ≡ false
-not_equal a b differ =
-    elim (cases_Bool (a == b)) [
-      | inl is ↦ absurd (differ (eqb-true a b is))
-      | inr not ↦ not
-    ]
+not_equal a b differ = false_from_ne_true (a == b) (λ is. differ (eqb-true a b is))
 
 -- a letter that turns something on
 pub letter_switch : (letter : ℕ) (rest : List ℕ) (follow : Said → Option ReadSoFar) (s : Said) (switch : Switch) → (letter ≡ 101 → ⊥) → (letter ≡ 102 → ⊥) → valued_letter letter ≡ None

@@ -3,17 +3,13 @@ use Rattle.acgrep.proofs.Words.{Bool, FillsBehind, IsEnding, IsFirstBinary, IsSe
 use Rattle.acgrep.specs.declared.stream.Came.{Came}
 use Rattle.acgrep.specs.declared.stream.Came.TheVariants.{Text, Binary, End}
 use Rattle.acgrep.proofs.BinaryLines.{text_back, text_front, text_joined}
+use Rattle.std.proofs.Math.Seq.{take-append_seam}
 use Rattle.acgrep.proofs.Streams.{reads_none, reads_some, stream_done, stream_end, stream_step, stream_stop, stream_whole_lines, whole_searched}
 
 take_back : (xs ys : List ℕ) → take (length (xs ++ ys) - length ys) (xs ++ ys) ≡ xs
 take_back xs ys =
     let count : length (xs ++ ys) - length ys ≡ length xs = omega (arith, length-append xs ys) in
-    ap (λ (n : ℕ). take n (xs ++ ys)) count ∙ take_seam xs ys
-  where
-    take_seam : (xs ys : List ℕ) → take (length xs) (xs ++ ys) ≡ xs
-    take_seam [] [] = refl
-    take_seam [] (y ∷ ys) = refl
-    take_seam (x ∷ xs) ys = ap (λ (l : List ℕ). x ∷ l) (take_seam xs ys)
+    ap (λ (n : ℕ). take n (xs ++ ys)) count ∙ take-append_seam xs ys
 
 no_bytes : (xs : List ℕ) (count : ℕ) → length xs ≡ count → count ≡ 0 → is_text xs ≡ true
 no_bytes [] count long none = refl

@@ -1,5 +1,5 @@
 -- How a name is read along a glob.
-use Rattle.acgrep.proofs.Words.{Bool, IsCut, List, [], and_parts, any_suffix, ap, arith, closes_at, closing, drop, drop-nil, false, fits, inl, inr, item_len, length, ne_eqb, one_fits, or_right, part_len, refl, stands_for, subst, suc, sym, take, true, zero, ℕ, ◌+◌, ◌-◌, ◌||◌, ◌∙◌, ◌∷◌, ◌≡◌, ◌≤◌, ◌⊎◌}
+use Rattle.acgrep.proofs.Words.{Bool, IsCut, List, [], and_parts, any_suffix, ap, arith, closes_at, closing, drop, drop-drop, drop-nil, false, fits, inl, inr, item_len, length, length-drop, ne_eqb, one_fits, or_right, part_len, refl, stands_for, subst, suc, sym, take, true, zero, ℕ, ◌+◌, ◌-◌, ◌||◌, ◌∙◌, ◌∷◌, ◌≡◌, ◌≤◌, ◌⊎◌}
 use Rattle.std.proofs.Common.{take_all}
 use Rattle.acgrep.proofs.LineLists.{drop_zero}
 
@@ -46,15 +46,10 @@ both_ways false true one other = other refl
 both_ways false false one other = refl
 
 drop_more : (i j : ℕ) (word : List ℕ) → drop (suc i) (drop j word) ≡ drop i (drop (suc j) word)
-drop_more i zero [] = sym (drop-nil i)
-drop_more i (suc j) [] = sym (drop-nil i)
-drop_more i zero (byte ∷ rest) = ap (drop i) (sym (drop_zero rest))
-drop_more i (suc j) (byte ∷ rest) = drop_more i j rest
+drop_more i j word = drop-drop (suc i) j word ∙ ap (λ (n : ℕ). drop n word) (omega arith) ∙ sym (drop-drop i (suc j) word)
 
 drop_drop : (i j : ℕ) (word : List ℕ) → drop i (drop j word) ≡ drop j (drop i word)
-drop_drop zero j word = drop_zero (drop j word) ∙ ap (drop j) (sym (drop_zero word))
-drop_drop (suc i) j [] = ap (drop (suc i)) (drop-nil j) ∙ sym (drop-nil j)
-drop_drop (suc i) j (byte ∷ rest) = drop_more i j (byte ∷ rest) ∙ drop_drop i j rest
+drop_drop i j word = drop-drop i j word ∙ ap (λ (n : ℕ). drop n word) (omega arith) ∙ sym (drop-drop j i word)
 
 -- where a glob fits up to a star, what is left of both decides
 pub cut_same : (glob name rest left : List ℕ) → IsCut glob name rest left → any_suffix (fits 0 glob) name ≡ any_suffix (fits 0 rest) left
@@ -115,10 +110,7 @@ behind_slice k bytes = take_all (length bytes - k) (drop k bytes) (short k bytes
     short (suc k) (x ∷ l) = omega (arith, short k l)
 
 length_behind : (k : ℕ) (l : List ℕ) → k ≤ length l → k + length (drop k l) ≡ length l
-length_behind zero [] within = refl
-length_behind zero (x ∷ l) within = omega arith
-length_behind (suc k) [] within = absurd (omega (arith, within))
-length_behind (suc k) (x ∷ l) within = omega (arith, length_behind k l (omega (arith, within)))
+length_behind k l within = omega (arith, within, length-drop k l)
 
 -- an item more of a set was passed
 pub closes_first : (first : ℕ) (behind : List ℕ) (len : ℕ) → len ≡ item_len first behind → closing (first ∷ behind) ≡ closes_at (1 + len) 0 (take (length behind - len) (drop len behind))

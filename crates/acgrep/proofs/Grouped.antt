@@ -1,20 +1,19 @@
 -- A walk from line to line writes the lines that are near selected ones.
-use Rattle.acgrep.proofs.Words.{Bool, Context, IsNearChosen, IsNotChosen, IsSelected, Job, List, PassesBy, Patterns, Place, ShowsEach, ShowsGroup, ShowsLine, TellsAround, TellsWritten, Walk, WalksOver, [], after_line, after_lines, and-false, ap, append-nil, append_assoc, arith, behind_passed, beside, cases_Bool, cases_lt, eqb-true, false, first_in, get_or, inl, inr, is_full, leb-false, leb-true, length, length-append, lt-leb, ltb-false, ltb-true, nat_le, nat_lt, one_more, refl, separator_if, subst, suc, sym, true, true≢false, zero, ℕ, ◌&&◌, ◌++◌, ◌+◌, ◌-◌, ◌<◌, ◌==◌, ◌∙◌, ◌∷◌, ◌≡◌, ◌≤◌, ◌⊎◌}
+use Rattle.acgrep.proofs.Words.{Bool, Context, IsNearChosen, IsNotChosen, IsSelected, Job, List, PassesBy, Patterns, Place, ShowsEach, ShowsGroup, ShowsLine, TellsAround, TellsWritten, Walk, WalksOver, [], after_line, after_lines, and-false, ap, append-nil, append_assoc, arith, behind_passed, beside, cases_Bool, cases_lt, eqb-true, false, first_in, get_or, inl, inr, is_full, leb-false, leb-true, length, length-append, length-map, lt-leb, ltb-false, ltb-true, map, nat_le, nat_lt, one_more, refl, separator_if, subst, suc, sym, true, true≢false, zero, ℕ, ◌&&◌, ◌++◌, ◌+◌, ◌-◌, ◌<◌, ◌==◌, ◌∙◌, ◌∷◌, ◌≡◌, ◌≤◌, ◌⊎◌}
 use Rattle.acgrep.specs.Contexts.{AreChosen}
+use Rattle.std.proofs.lemmas.List.{get_or-append_right}
 use Rattle.acgrep.proofs.Tellings.{after_append}
+use Rattle.acgrep.proofs.Walking.{moved}
 
 -- one mark for each of some lines
 abbrev pub marks : Bool → List (List ℕ) → List Bool
-marks mark [] = []
-marks mark (line ∷ rest) = mark ∷ marks mark rest
+marks mark ls = map (λ line. mark) ls
 
 length_marks : (mark : Bool) (ls : List (List ℕ)) → length (marks mark ls) ≡ length ls
-length_marks mark [] = refl
-length_marks mark (line ∷ rest) = ap suc (length_marks mark rest)
+length_marks mark ls = length-map ls (λ line. mark)
 
 marks_more : (ls : List (List ℕ)) (line : List ℕ) (chosen : List Bool) → marks false (ls ++ (line ∷ [])) ++ chosen ≡ marks false ls ++ (false ∷ chosen)
-marks_more [] line chosen = refl
-marks_more (first ∷ rest) line chosen = ap (λ (l : List Bool). false ∷ l) (marks_more rest line chosen)
+marks_more ls line chosen = moved (λ line. false) ls line chosen
 
 -- what stands among the marks of some lines, and behind them
 mark_in : (mark : Bool) (ls : List (List ℕ)) (more : List Bool) (i : ℕ) → i < length ls → get_or (marks mark ls ++ more) i false ≡ mark
@@ -23,11 +22,7 @@ mark_in mark (line ∷ rest) more zero within = refl
 mark_in mark (line ∷ rest) more (suc i) within = mark_in mark rest more i (omega (arith, within))
 
 mark_behind : (mark : Bool) (ls : List (List ℕ)) (more : List Bool) (i : ℕ) → length ls ≤ i → get_or (marks mark ls ++ more) i false ≡ get_or more (i - length ls) false
-mark_behind mark [] more i behind = ap (λ (k : ℕ). get_or more k false) (omega arith)
-mark_behind mark (line ∷ rest) more zero behind = absurd (omega (arith, behind))
-mark_behind mark (line ∷ rest) more (suc i) behind =
-    let less : i - length rest ≡ suc i - length (line ∷ rest) = omega arith in
-    mark_behind mark rest more i (omega (arith, behind)) ∙ ap (λ (k : ℕ). get_or more k false) less
+mark_behind mark ls more i behind = get_or-append_right (marks mark ls) more (length ls) i false (length_marks mark ls) behind
 
 -- no line is chosen up to a place
 unmarked : (ls : List (List ℕ)) (more : List Bool) (i : ℕ) → i ≤ length ls → get_or (marks false ls ++ (false ∷ more)) i false ≡ false

@@ -1,15 +1,12 @@
 -- Lines that are held, and one more or one less of them.
 use Rattle.acgrep.proofs.Words.{List, [], ap, arith, at_drop_more, cut_by, drop, drop-append-le, length, length-drop, slice_index_or, sum, sum_by-cons, sum_by-drop_more, sym, take, take-append-le, take_all, ℕ, ◌++◌, ◌+◌, ◌<◌, ◌∙◌, ◌∷◌, ◌≡◌, ◌≤◌}
 
-sum_first : (size : ℕ) (sizes : List ℕ) → sum (size ∷ sizes) ≡ size + sum sizes
-sum_first size sizes = sum_by-cons (λ n. n) size sizes
-
 -- bytes of so many lines, and those of one more behind them
 pub cut_more : (sizes : List ℕ) (bytes line : List ℕ) → sum sizes ≡ length bytes → cut_by (sizes ++ (length line ∷ [])) (bytes ++ line) ≡ cut_by sizes bytes ++ (line ∷ [])
 cut_more [] [] line same = ap (λ (l : List ℕ). l ∷ []) (take_all (length line) line (omega arith))
 cut_more [] (byte ∷ bytes) line same = absurd (omega (arith, same))
 cut_more (size ∷ sizes) bytes line same =
-    let all : size + sum sizes ≡ length bytes = sym (sum_first size sizes) ∙ same in
+    let all : size + sum sizes ≡ length bytes = sym (sum_by-cons (λ n. n) size sizes) ∙ same in
     let within : size ≤ length bytes = omega (arith, all) in
     let left : sum sizes ≡ length (drop size bytes) = omega (arith, all, length-drop size bytes) in
     ap (λ (l : List ℕ). l ∷ cut_by (sizes ++ (length line ∷ [])) (drop size (bytes ++ line))) (take-append-le size bytes line within)

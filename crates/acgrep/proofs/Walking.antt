@@ -169,8 +169,3 @@ put-more spots [] d some = absurd (omega (arith, some))
 put-more spots (name ∷ names) d some =
     append_assoc spots (operand name.now ∷ []) (map operand (name_bytes (take (length (name ∷ names) - 1) names)))
     ∙ ap (λ (l : List (Bor (List ℕ))). spots ++ (operand name.now ∷ map operand (name_bytes l))) (take_all (length (name ∷ names) - 1) names (omega arith))
-
--- where a list has no length it is empty
-pub all-gone : {X : Type 0} (xs : List X) → length xs ≡ 0 → xs ≡ []
-all-gone [] e = refl
-all-gone (x ∷ xs) e = absurd (omega (arith, e))

@@ -1,7 +1,6 @@
 -- Without a pattern nothing is written.
-use Rattle.acgrep.proofs.Words.{BeginsFor, Bor, Keeps-refl, List, MaySay, NoPattern, Origin, SearchesFor, Source, TellsOfSearch, [], arith, common_steps, concat, false, inl, inr, known_by, length, name_bytes, names_by, origins_of, refl, said, shown_by, some-one, sources_by, subst, sym, tree_of, wrong_parts, ℕ, ◌<◌, ◌∙◌, ◌∷◌, ◌≡◌}
+use Rattle.acgrep.proofs.Words.{BeginsFor, Bor, Keeps-refl, List, MaySay, NoPattern, Origin, SearchesFor, Source, TellsOfSearch, [], arith, common_steps, concat, false, inl, inr, known_by, length, name_bytes, names_by, nil_from_length, origins_of, refl, said, shown_by, some-one, sources_by, subst, sym, tree_of, wrong_parts, ℕ, ◌<◌, ◌∙◌, ◌∷◌, ◌≡◌}
 use Rattle.acgrep.proofs.Told.{status-some}
-use Rattle.acgrep.proofs.Walking.{all-gone}
 use Rattle.acgrep.proofs.run.search_asked.Given.{Over}
 use Rattle.acgrep.proofs.run.search_asked.Goals.{After-search}
 use Rattle.acgrep.proofs.run.search_asked.Goals as goal
@@ -47,10 +46,10 @@ as-first P items operands pattern names none cut is = rw (none, cut) is
 
 pub returns-in-Some-clause-told : goal.returns-in-Some-clause-told
 returns-in-Some-clause-told g c =
-    let none : c.args.given.now.sources.items ≡ [] = sym c.as_slice-sources.ensures.value ∙ all-gone c.as_slice-sources.result.now (grind (arith, common_steps, c.is_empty.ensures, c.if-not-is_empty.false)) in
+    let none : c.args.given.now.sources.items ≡ [] = sym c.as_slice-sources.ensures.value ∙ nil_from_length c.as_slice-sources.result.now (grind (arith, common_steps, c.is_empty.ensures, c.if-not-is_empty.false)) in
     as-first (λ sources names. TellsOfSearch g.E.Sink _ _ sources names _ _ _) _ _ _ _ none (sym c.as_slice-operands.ensures.value ∙ c.in-Some.ensures.cases.0) c.search-in-Some.ensures.told
 
 pub returns-in-Some-clause-searches : goal.returns-in-Some-clause-searches
 returns-in-Some-clause-searches g c = λ low.
-    let none : c.args.given.now.sources.items ≡ [] = sym c.as_slice-sources.ensures.value ∙ all-gone c.as_slice-sources.result.now (grind (arith, common_steps, c.is_empty.ensures, c.if-not-is_empty.false)) in
+    let none : c.args.given.now.sources.items ≡ [] = sym c.as_slice-sources.ensures.value ∙ nil_from_length c.as_slice-sources.result.now (grind (arith, common_steps, c.is_empty.ensures, c.if-not-is_empty.false)) in
     as-first (λ sources names. SearchesFor _ _ _ sources names _ _ _ _ _) _ _ _ _ none (sym c.as_slice-operands.ensures.value ∙ c.in-Some.ensures.cases.0) (c.search-in-Some.ensures.searches low)

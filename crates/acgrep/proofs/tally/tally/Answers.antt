@@ -1,8 +1,7 @@
 -- A line more is counted.
-use Rattle.acgrep.proofs.Words.{add-one, ap, arith, common_steps, drop, length, lines, suc, sym, take, ◌<◌, ◌∙◌, ◌∷◌, ◌≡◌}
+use Rattle.acgrep.proofs.Words.{add-one, ap, arith, common_steps, drop, length, lines, nil_from_length, suc, sym, take, ◌<◌, ◌∙◌, ◌∷◌, ◌≡◌}
 use Rattle.acgrep.proofs.FirstLines.{lines_first}
 use Rattle.acgrep.proofs.Tallied.{counted-end, counted-start, counted-step}
-use Rattle.acgrep.proofs.Walking.{all-gone}
 use Rattle.acgrep.proofs.tally.tally.Goals as goal
 
 pub loop-rest-init : goal.loop-rest-init
@@ -22,4 +21,4 @@ pub returns : goal.returns
 returns c =
     let rest = c.loop-rest.rest.now in
     let none : length rest ≡ 0 = grind (arith, common_steps, c.is_empty.ensures, c.loop-rest-test.false) in
-    record { counted = counted-end c.args.ending c.args.numbers.now rest c.args.counts.now c.loop-rest.counts (all-gone rest none) c.loop-rest.invariant }
+    record { counted = counted-end c.args.ending c.args.numbers.now rest c.args.counts.now c.loop-rest.counts (nil_from_length rest none) c.loop-rest.invariant }

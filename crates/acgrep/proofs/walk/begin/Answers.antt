@@ -1,6 +1,6 @@
 -- A walk begins at the operands, or in the working folder.
-use Rattle.acgrep.proofs.Words.{Begins, List, PutsInside, Spot, [], ap, arith, common_steps, length, length-map, listed_bytes, map, missed_of, name_bytes, on_ok_weaker, operand, spots_of, subst, sym, tree_of, ℕ, ◌++◌, ◌<◌, ◌∙◌, ◌∷◌, ◌≡◌}
-use Rattle.acgrep.proofs.Walking.{all-gone, begins-given, begins-here, begins-nowhere}
+use Rattle.acgrep.proofs.Words.{Begins, List, PutsInside, Spot, [], ap, arith, common_steps, length, length-map, listed_bytes, map, missed_of, name_bytes, nil_from_length, on_ok_weaker, operand, spots_of, subst, sym, tree_of, ℕ, ◌++◌, ◌<◌, ◌∙◌, ◌∷◌, ◌≡◌}
+use Rattle.acgrep.proofs.Walking.{begins-given, begins-here, begins-nowhere}
 use Rattle.acgrep.proofs.walk.begin.Goals as goal
 
 pub returns-then-not-is_empty : goal.returns-then-not-is_empty
@@ -22,7 +22,7 @@ returns-in_ok-above-in-Ok g c =
     let tree = tree_of g.F.Folders c.args.files.now in
     let found = c.args.found.now in
     let empty : length c.args.operands.now ≡ 0 = grind (arith, common_steps, c.is_empty.ensures, c.if-not-is_empty.false) in
-    let none : name_bytes c.args.operands.now ≡ [] = ap name_bytes (all-gone c.args.operands.now empty) in
+    let none : name_bytes c.args.operands.now ≡ [] = ap name_bytes (nil_from_length c.args.operands.now empty) in
     let names = listed_bytes c.in-Ok.names.items in
     let after = spots_of c.put_first.new.pending.items in
     record {
@@ -38,7 +38,7 @@ returns-in_ok-from_slice-in-Err g c =
     let tree = tree_of g.F.Folders c.args.files.now in
     let found = c.miss.new.self in
     let empty : length c.args.operands.now ≡ 0 = grind (arith, common_steps, c.is_empty.ensures, c.if-not-is_empty.false) in
-    let none : name_bytes c.args.operands.now ≡ [] = ap name_bytes (all-gone c.args.operands.now empty) in
+    let none : name_bytes c.args.operands.now ≡ [] = ap name_bytes (nil_from_length c.args.operands.now empty) in
     record {
       begun = on_ok_weaker c.miss.result
           (λ grown rules. subst (λ (operands : List (List ℕ)). Begins tree rules c.args.ways operands (spots_of c.args.pending.now.items) found) (sym none)

@@ -1,6 +1,6 @@
 -- The names were sorted, and none of them is left.
-use Rattle.acgrep.proofs.Words.{IsPermutation-map, [], ap, inside, is_lt, length, listed_bytes, map, nat_cmp, rules, slice_cmp, spots_of, sym, ◌++◌, ◌∙◌, ◌≡◌}
-use Rattle.acgrep.proofs.Walking.{all-gone, sorted-map}
+use Rattle.acgrep.proofs.Words.{IsPermutation-map, [], ap, inside, is_lt, length, listed_bytes, map, nat_cmp, nil_from_length, rules, slice_cmp, spots_of, sym, ◌++◌, ◌∙◌, ◌≡◌}
+use Rattle.acgrep.proofs.Walking.{sorted-map}
 use Rattle.acgrep.proofs.walk.put_first.Goals as goal
 
 pub returns : goal.returns
@@ -8,7 +8,7 @@ returns c =
     let ordered = c.sort.new.self.items in
     let folder = c.args.folder.now in
     let gone : length c.loop-last.left.items ≡ 0 = search rules in
-    let none : c.loop-last.left.items ≡ [] = all-gone c.loop-last.left.items gone in
+    let none : c.loop-last.left.items ≡ [] = nil_from_length c.loop-last.left.items gone in
     record {
       put = record {
         ordered = listed_bytes ordered;
